@@ -1,0 +1,96 @@
+//! A reader as a source.
+ghost use Rattle.std.specs.Prelude.{◌≡◌, ◌≤◌, false, ◌||◌, [], IfOk, is_err, length};
+ghost use Rattle.std.specs.Io.KnownBytes.{ReadConsumes};
+
+use super::ends::{EndFault, Source};
+use std::io::Read;
+
+/// A reader as a source. It tells no bytes, and every error of the reader is a failed pull.
+#[derive(Drop)]
+pub struct FromRead<R: Read> {
+    reader: R,
+    failed: bool,
+}
+
+impl<R: Read> FromRead<R> {
+    ghost use Rattle.le_rec.specs.Source.{pull_failed, reader_of};
+
+    /// A source over `reader` that hasn't failed.
+    pub fn new(reader: R) -> Self
+        ensures reader { reader_of result ≡ reader }
+        ensures fresh { pull_failed result ≡ false }
+    {
+        FromRead {
+            reader,
+            failed: false,
+        }
+    }
+}
+
+impl<R: Read> Source for FromRead<R> {
+    ghost use Rattle.le_rec.specs.Source.{pull_failed, reader_of};
+
+    ghost tells = { false };
+
+    ghost left = { λ _. [] };
+
+    ghost has_failed = { pull_failed };
+
+    fn pull(&mut self, buf: &mut [u8]) -> Result<usize, EndFault>
+        ensures bound { IfOk result (λ n. n ≤ length buf.new) }
+        ensures read { ReadConsumes (R.remaining (reader_of self.old)) (R.remaining (reader_of self.new))
+            result buf.new }
+        ensures fault { pull_failed self.new ≡ pull_failed self.old || is_err result }
+    {
+        match self.reader.read(buf) {
+            Ok(count) => Ok(count),
+            Err(_) => {
+                self.failed = true;
+                Err(EndFault)
+            }
+        }
+    }
+
+    fn failed(&self) -> bool {
+        self.failed
+    }
+}
+
+#[cfg(test)]
+mod tests {
+    use super::*;
+    use std::io;
+
+    #[derive(Drop)]
+    struct Broken;
+
+    impl Read for Broken {
+        fn read(&mut self, _buf: &mut [u8]) -> io::Result<usize> {
+            Err(io::Error::from(io::ErrorKind::Other))
+        }
+    }
+
+    // How many bytes two pulls of three give, or None where one fails.
+    fn two_pulls<S: Source>(source: &mut S) -> Option<usize> {
+        let mut buf = [0; 3];
+        let first = source.pull(&mut buf).ok()?;
+        let second = source.pull(&mut buf).ok()?;
+        Some(first + second)
+    }
+
+    #[test]
+    fn a_reader_is_pulled_to_its_end(rt: HostRuntime) {
+        let mut source = FromRead::new(b"0 5\n".as_slice());
+        assert_eq!(rt; two_pulls(&mut source), Some(4));
+        assert_eq!(rt; source.pull(&mut [0; 3]), Ok(0));
+        assert!(rt; !source.failed());
+    }
+
+    #[test]
+    fn a_failed_read_is_a_failed_pull(rt: HostRuntime) {
+        let mut source = FromRead::new(Broken);
+        assert!(rt; !source.failed());
+        assert_eq!(rt; two_pulls(&mut source), None);
+        assert!(rt; source.failed());
+    }
+}

@@ -1,0 +1,95 @@
+//! Numbers and names at an offset of a record's bytes.
+
+ghost use Rattle.std.specs.Prelude.{◌≡◌, ◌+◌, ◌≤◌, ◌++◌, length, take};
+ghost use Rattle.le_rec.specs.Number.{unsigned16_at, signed16_at, signed32_at, name_at, bytes16, signed_bytes16, signed_bytes32};
+ghost use Rattle.le_rec.specs.Record.{box_at};
+ghost use Rattle.le_rec.specs.RecordBytes.{box_bytes, name_bytes};
+
+use byteorder::{ByteOrder, LittleEndian};
+
+#[inline]
+#[tactic(auto, unfolding(crate::specs::Number::unsigned16))]
+pub fn u16_at(bytes: &[u8], at: usize) -> u16
+    requires { at + 2 ≤ length bytes.now }
+    ensures { result ≡ unsigned16_at bytes.now at }
+{
+    LittleEndian::read_u16(&bytes[at..])
+}
+
+#[inline]
+pub fn i16_at(bytes: &[u8], at: usize) -> i16
+    requires { at + 2 ≤ length bytes.now }
+    ensures { result ≡ signed16_at bytes.now at }
+{
+    LittleEndian::read_i16(&bytes[at..])
+}
+
+#[inline]
+pub fn i32_at(bytes: &[u8], at: usize) -> i32
+    requires { at + 4 ≤ length bytes.now }
+    ensures { result ≡ signed32_at bytes.now at }
+{
+    LittleEndian::read_i32(&bytes[at..])
+}
+
+#[inline]
+pub fn name_bytes_at(bytes: &[u8], at: usize) -> [u8; 8]
+    requires { at + 8 ≤ length bytes.now }
+    ensures { result ≡ name_at bytes.now at }
+{
+    let mut name = [0; 8];
+    name.copy_from_slice(&bytes[at..at + 8]);
+    name
+}
+
+pub fn put_u16(bytes: &mut [u8], at: usize, number: u16)
+    requires { at + 2 ≤ length bytes.old }
+    ensures { take (at + 2) bytes.new ≡ take at bytes.old ++ bytes16 number }
+{
+    LittleEndian::write_u16(&mut bytes[at..], number);
+}
+
+pub fn put_i16(bytes: &mut [u8], at: usize, number: i16)
+    requires { at + 2 ≤ length bytes.old }
+    ensures { take (at + 2) bytes.new ≡ take at bytes.old ++ signed_bytes16 number }
+{
+    LittleEndian::write_i16(&mut bytes[at..], number);
+}
+
+pub fn put_i32(bytes: &mut [u8], at: usize, number: i32)
+    requires { at + 4 ≤ length bytes.old }
+    ensures { take (at + 4) bytes.new ≡ take at bytes.old ++ signed_bytes32 number }
+{
+    LittleEndian::write_i32(&mut bytes[at..], number);
+}
+
+pub fn put_name(bytes: &mut [u8], at: usize, name: &[u8; 8])
+    requires { at + 8 ≤ length bytes.old }
+    ensures { take (at + 8) bytes.new ≡ take at bytes.old ++ name_bytes name.now }
+{
+    bytes[at..at + 8].copy_from_slice(name);
+}
+
+/// The bounding box at an offset: top, bottom, left, right.
+#[inline]
+pub fn box_numbers_at(bytes: &[u8], at: usize) -> [i16; 4]
+    requires { at + 8 ≤ length bytes.now }
+    ensures { result ≡ box_at bytes.now at }
+{
+    [
+        i16_at(bytes, at),
+        i16_at(bytes, at + 2),
+        i16_at(bytes, at + 4),
+        i16_at(bytes, at + 6),
+    ]
+}
+
+pub fn put_box(bytes: &mut [u8], at: usize, numbers: &[i16; 4])
+    requires { at + 8 ≤ length bytes.old }
+    ensures { take (at + 8) bytes.new ≡ take at bytes.old ++ box_bytes numbers.now }
+{
+    put_i16(bytes, at, numbers[0]);
+    put_i16(bytes, at + 2, numbers[1]);
+    put_i16(bytes, at + 4, numbers[2]);
+    put_i16(bytes, at + 6, numbers[3]);
+}

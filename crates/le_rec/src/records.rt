@@ -1,0 +1,534 @@
+//! The records of a WAD file's directory and of a level's lumps (Unofficial Doom Specs 1.666).
+
+ghost use Rattle.std.proofs.Common.{lit<};
+
+use crate::number::{
+    box_numbers_at, i16_at, i32_at, name_bytes_at, put_box, put_i16, put_i32, put_name, put_u16,
+    u16_at,
+};
+use crate::record::Record;
+
+/// A directory entry of a WAD file: where a lump lies, its size in bytes and its name.
+#[derive(Clone, Copy, Debug, PartialEq, Eq)]
+pub struct Entry {
+    pub filepos: i32,
+    pub size: i32,
+    pub name: [u8; 8],
+}
+
+impl Record for Entry {
+    ghost use Rattle.le_rec.specs.Record.{entry};
+    ghost use Rattle.le_rec.specs.RecordBytes.{entry_bytes};
+    ghost use Rattle.le_rec.specs.RecordRange.{IsEntryInRange};
+    ghost use Rattle.le_rec.specs.RecordLaws as laws;
+
+    ghost SIZE = { 16 };
+
+    ghost record_of = { entry };
+
+    ghost bytes_of = { entry_bytes };
+
+    ghost is_in_range = { IsEntryInRange };
+
+    const SIZE: usize = 16;
+
+    #[inline]
+    fn read(bytes: &[u8]) -> Entry {
+        Entry {
+            filepos: i32_at(bytes, 0),
+            size: i32_at(bytes, 4),
+            name: name_bytes_at(bytes, 8),
+        }
+    }
+
+    fn write(&self, bytes: &mut [u8]) {
+        put_i32(bytes, 0, self.filepos);
+        put_i32(bytes, 4, self.size);
+        put_name(bytes, 8, &self.name);
+    }
+
+    ghost size_above_zero = { lit< tt };
+
+    ghost read_in_range = { laws.entry-in_range };
+
+    ghost reads_back = { laws.entry-entry_bytes };
+
+    ghost writes_back = { laws.entry_bytes-entry };
+
+    ghost bytes_length = { laws.length-entry_bytes };
+
+    ghost bytes_are_bytes = { laws.AreBytes-entry_bytes };
+}
+
+/// A thing of a level: its place in map units, its angle in degrees, its type and its options.
+#[derive(Clone, Copy, Debug, PartialEq, Eq)]
+pub struct Thing {
+    pub x: i16,
+    pub y: i16,
+    pub angle: i16,
+    pub kind: i16,
+    pub options: i16,
+}
+
+impl Record for Thing {
+    ghost use Rattle.le_rec.specs.Record.{thing};
+    ghost use Rattle.le_rec.specs.RecordBytes.{thing_bytes};
+    ghost use Rattle.le_rec.specs.RecordRange.{IsThingInRange};
+    ghost use Rattle.le_rec.specs.RecordLaws as laws;
+
+    ghost SIZE = { 10 };
+
+    ghost record_of = { thing };
+
+    ghost bytes_of = { thing_bytes };
+
+    ghost is_in_range = { IsThingInRange };
+
+    const SIZE: usize = 10;
+
+    #[inline]
+    fn read(bytes: &[u8]) -> Thing {
+        Thing {
+            x: i16_at(bytes, 0),
+            y: i16_at(bytes, 2),
+            angle: i16_at(bytes, 4),
+            kind: i16_at(bytes, 6),
+            options: i16_at(bytes, 8),
+        }
+    }
+
+    fn write(&self, bytes: &mut [u8]) {
+        put_i16(bytes, 0, self.x);
+        put_i16(bytes, 2, self.y);
+        put_i16(bytes, 4, self.angle);
+        put_i16(bytes, 6, self.kind);
+        put_i16(bytes, 8, self.options);
+    }
+
+    ghost size_above_zero = { lit< tt };
+
+    ghost read_in_range = { laws.thing-in_range };
+
+    ghost reads_back = { laws.thing-thing_bytes };
+
+    ghost writes_back = { laws.thing_bytes-thing };
+
+    ghost bytes_length = { laws.length-thing_bytes };
+
+    ghost bytes_are_bytes = { laws.AreBytes-thing_bytes };
+}
+
+/// A linedef: its two vertexes, flags, special, tag, and its two sidedefs, -1 where there is none.
+#[derive(Clone, Copy, Debug, PartialEq, Eq)]
+pub struct LineDef {
+    pub v1: i16,
+    pub v2: i16,
+    pub flags: i16,
+    pub special: i16,
+    pub tag: i16,
+    pub side0: i16,
+    pub side1: i16,
+}
+
+impl Record for LineDef {
+    ghost use Rattle.le_rec.specs.Record.{linedef};
+    ghost use Rattle.le_rec.specs.RecordBytes.{linedef_bytes};
+    ghost use Rattle.le_rec.specs.RecordRange.{IsLineDefInRange};
+    ghost use Rattle.le_rec.specs.RecordLaws as laws;
+
+    ghost SIZE = { 14 };
+
+    ghost record_of = { linedef };
+
+    ghost bytes_of = { linedef_bytes };
+
+    ghost is_in_range = { IsLineDefInRange };
+
+    const SIZE: usize = 14;
+
+    #[inline]
+    fn read(bytes: &[u8]) -> LineDef {
+        LineDef {
+            v1: i16_at(bytes, 0),
+            v2: i16_at(bytes, 2),
+            flags: i16_at(bytes, 4),
+            special: i16_at(bytes, 6),
+            tag: i16_at(bytes, 8),
+            side0: i16_at(bytes, 10),
+            side1: i16_at(bytes, 12),
+        }
+    }
+
+    fn write(&self, bytes: &mut [u8]) {
+        put_i16(bytes, 0, self.v1);
+        put_i16(bytes, 2, self.v2);
+        put_i16(bytes, 4, self.flags);
+        put_i16(bytes, 6, self.special);
+        put_i16(bytes, 8, self.tag);
+        put_i16(bytes, 10, self.side0);
+        put_i16(bytes, 12, self.side1);
+    }
+
+    ghost size_above_zero = { lit< tt };
+
+    ghost read_in_range = { laws.linedef-in_range };
+
+    ghost reads_back = { laws.linedef-linedef_bytes };
+
+    ghost writes_back = { laws.linedef_bytes-linedef };
+
+    ghost bytes_length = { laws.length-linedef_bytes };
+
+    ghost bytes_are_bytes = { laws.AreBytes-linedef_bytes };
+}
+
+/// A sidedef: the offsets of its textures in map units, their names, and the sector that it faces.
+#[derive(Clone, Copy, Debug, PartialEq, Eq)]
+pub struct SideDef {
+    pub xoff: i16,
+    pub yoff: i16,
+    pub top: [u8; 8],
+    pub bottom: [u8; 8],
+    pub middle: [u8; 8],
+    pub sector: i16,
+}
+
+impl Record for SideDef {
+    ghost use Rattle.le_rec.specs.Record.{sidedef};
+    ghost use Rattle.le_rec.specs.RecordBytes.{sidedef_bytes};
+    ghost use Rattle.le_rec.specs.RecordRange.{IsSideDefInRange};
+    ghost use Rattle.le_rec.specs.RecordLaws as laws;
+
+    ghost SIZE = { 30 };
+
+    ghost record_of = { sidedef };
+
+    ghost bytes_of = { sidedef_bytes };
+
+    ghost is_in_range = { IsSideDefInRange };
+
+    const SIZE: usize = 30;
+
+    #[inline]
+    fn read(bytes: &[u8]) -> SideDef {
+        SideDef {
+            xoff: i16_at(bytes, 0),
+            yoff: i16_at(bytes, 2),
+            top: name_bytes_at(bytes, 4),
+            bottom: name_bytes_at(bytes, 12),
+            middle: name_bytes_at(bytes, 20),
+            sector: i16_at(bytes, 28),
+        }
+    }
+
+    fn write(&self, bytes: &mut [u8]) {
+        put_i16(bytes, 0, self.xoff);
+        put_i16(bytes, 2, self.yoff);
+        put_name(bytes, 4, &self.top);
+        put_name(bytes, 12, &self.bottom);
+        put_name(bytes, 20, &self.middle);
+        put_i16(bytes, 28, self.sector);
+    }
+
+    ghost size_above_zero = { lit< tt };
+
+    ghost read_in_range = { laws.sidedef-in_range };
+
+    ghost reads_back = { laws.sidedef-sidedef_bytes };
+
+    ghost writes_back = { laws.sidedef_bytes-sidedef };
+
+    ghost bytes_length = { laws.length-sidedef_bytes };
+
+    ghost bytes_are_bytes = { laws.AreBytes-sidedef_bytes };
+}
+
+/// A vertex of a level, in map units.
+#[derive(Clone, Copy, Debug, PartialEq, Eq)]
+pub struct Vertex {
+    pub x: i16,
+    pub y: i16,
+}
+
+impl Record for Vertex {
+    ghost use Rattle.le_rec.specs.Record.{vertex};
+    ghost use Rattle.le_rec.specs.RecordBytes.{vertex_bytes};
+    ghost use Rattle.le_rec.specs.RecordRange.{IsVertexInRange};
+    ghost use Rattle.le_rec.specs.RecordLaws as laws;
+
+    ghost SIZE = { 4 };
+
+    ghost record_of = { vertex };
+
+    ghost bytes_of = { vertex_bytes };
+
+    ghost is_in_range = { IsVertexInRange };
+
+    const SIZE: usize = 4;
+
+    #[inline]
+    fn read(bytes: &[u8]) -> Vertex {
+        Vertex {
+            x: i16_at(bytes, 0),
+            y: i16_at(bytes, 2),
+        }
+    }
+
+    fn write(&self, bytes: &mut [u8]) {
+        put_i16(bytes, 0, self.x);
+        put_i16(bytes, 2, self.y);
+    }
+
+    ghost size_above_zero = { lit< tt };
+
+    ghost read_in_range = { laws.vertex-in_range };
+
+    ghost reads_back = { laws.vertex-vertex_bytes };
+
+    ghost writes_back = { laws.vertex_bytes-vertex };
+
+    ghost bytes_length = { laws.length-vertex_bytes };
+
+    ghost bytes_are_bytes = { laws.AreBytes-vertex_bytes };
+}
+
+/// A seg: its two vertexes, its angle in binary degrees (65536 to the circle), its linedef, the side of it (0 or 1), and the distance along it in map units.
+#[derive(Clone, Copy, Debug, PartialEq, Eq)]
+pub struct Seg {
+    pub v1: i16,
+    pub v2: i16,
+    pub angle: i16,
+    pub linedef: i16,
+    pub side: i16,
+    pub offset: i16,
+}
+
+impl Record for Seg {
+    ghost use Rattle.le_rec.specs.Record.{seg};
+    ghost use Rattle.le_rec.specs.RecordBytes.{seg_bytes};
+    ghost use Rattle.le_rec.specs.RecordRange.{IsSegInRange};
+    ghost use Rattle.le_rec.specs.RecordLaws as laws;
+
+    ghost SIZE = { 12 };
+
+    ghost record_of = { seg };
+
+    ghost bytes_of = { seg_bytes };
+
+    ghost is_in_range = { IsSegInRange };
+
+    const SIZE: usize = 12;
+
+    #[inline]
+    fn read(bytes: &[u8]) -> Seg {
+        Seg {
+            v1: i16_at(bytes, 0),
+            v2: i16_at(bytes, 2),
+            angle: i16_at(bytes, 4),
+            linedef: i16_at(bytes, 6),
+            side: i16_at(bytes, 8),
+            offset: i16_at(bytes, 10),
+        }
+    }
+
+    fn write(&self, bytes: &mut [u8]) {
+        put_i16(bytes, 0, self.v1);
+        put_i16(bytes, 2, self.v2);
+        put_i16(bytes, 4, self.angle);
+        put_i16(bytes, 6, self.linedef);
+        put_i16(bytes, 8, self.side);
+        put_i16(bytes, 10, self.offset);
+    }
+
+    ghost size_above_zero = { lit< tt };
+
+    ghost read_in_range = { laws.seg-in_range };
+
+    ghost reads_back = { laws.seg-seg_bytes };
+
+    ghost writes_back = { laws.seg_bytes-seg };
+
+    ghost bytes_length = { laws.length-seg_bytes };
+
+    ghost bytes_are_bytes = { laws.AreBytes-seg_bytes };
+}
+
+/// A subsector: how many segs it has, and the first of them.
+#[derive(Clone, Copy, Debug, PartialEq, Eq)]
+pub struct SSector {
+    pub count: i16,
+    pub first: i16,
+}
+
+impl Record for SSector {
+    ghost use Rattle.le_rec.specs.Record.{ssector};
+    ghost use Rattle.le_rec.specs.RecordBytes.{ssector_bytes};
+    ghost use Rattle.le_rec.specs.RecordRange.{IsSSectorInRange};
+    ghost use Rattle.le_rec.specs.RecordLaws as laws;
+
+    ghost SIZE = { 4 };
+
+    ghost record_of = { ssector };
+
+    ghost bytes_of = { ssector_bytes };
+
+    ghost is_in_range = { IsSSectorInRange };
+
+    const SIZE: usize = 4;
+
+    #[inline]
+    fn read(bytes: &[u8]) -> SSector {
+        SSector {
+            count: i16_at(bytes, 0),
+            first: i16_at(bytes, 2),
+        }
+    }
+
+    fn write(&self, bytes: &mut [u8]) {
+        put_i16(bytes, 0, self.count);
+        put_i16(bytes, 2, self.first);
+    }
+
+    ghost size_above_zero = { lit< tt };
+
+    ghost read_in_range = { laws.ssector-in_range };
+
+    ghost reads_back = { laws.ssector-ssector_bytes };
+
+    ghost writes_back = { laws.ssector_bytes-ssector };
+
+    ghost bytes_length = { laws.length-ssector_bytes };
+
+    ghost bytes_are_bytes = { laws.AreBytes-ssector_bytes };
+}
+
+/// A node: its partition line from (x, y) along (dx, dy), the bounding boxes of its two sides (top, bottom, left, right), and its children: front is 0, back is 1. A child with bit 15 set names an ssector.
+#[derive(Clone, Copy, Debug, PartialEq, Eq)]
+pub struct Node {
+    pub x: i16,
+    pub y: i16,
+    pub dx: i16,
+    pub dy: i16,
+    pub box0: [i16; 4],
+    pub box1: [i16; 4],
+    pub child0: u16,
+    pub child1: u16,
+}
+
+impl Record for Node {
+    ghost use Rattle.le_rec.specs.Record.{node};
+    ghost use Rattle.le_rec.specs.RecordBytes.{node_bytes};
+    ghost use Rattle.le_rec.specs.RecordRange.{IsNodeInRange};
+    ghost use Rattle.le_rec.specs.RecordLaws as laws;
+
+    ghost SIZE = { 28 };
+
+    ghost record_of = { node };
+
+    ghost bytes_of = { node_bytes };
+
+    ghost is_in_range = { IsNodeInRange };
+
+    const SIZE: usize = 28;
+
+    #[inline]
+    fn read(bytes: &[u8]) -> Node {
+        Node {
+            x: i16_at(bytes, 0),
+            y: i16_at(bytes, 2),
+            dx: i16_at(bytes, 4),
+            dy: i16_at(bytes, 6),
+            box0: box_numbers_at(bytes, 8),
+            box1: box_numbers_at(bytes, 16),
+            child0: u16_at(bytes, 24),
+            child1: u16_at(bytes, 26),
+        }
+    }
+
+    fn write(&self, bytes: &mut [u8]) {
+        put_i16(bytes, 0, self.x);
+        put_i16(bytes, 2, self.y);
+        put_i16(bytes, 4, self.dx);
+        put_i16(bytes, 6, self.dy);
+        put_box(bytes, 8, &self.box0);
+        put_box(bytes, 16, &self.box1);
+        put_u16(bytes, 24, self.child0);
+        put_u16(bytes, 26, self.child1);
+    }
+
+    ghost size_above_zero = { lit< tt };
+
+    ghost read_in_range = { laws.node-in_range };
+
+    ghost reads_back = { laws.node-node_bytes };
+
+    ghost writes_back = { laws.node_bytes-node };
+
+    ghost bytes_length = { laws.length-node_bytes };
+
+    ghost bytes_are_bytes = { laws.AreBytes-node_bytes };
+}
+
+/// A sector: the heights of its floor and ceiling in map units, the names of their flats, its light level, special and tag.
+#[derive(Clone, Copy, Debug, PartialEq, Eq)]
+pub struct Sector {
+    pub floor: i16,
+    pub ceiling: i16,
+    pub floor_name: [u8; 8],
+    pub ceiling_name: [u8; 8],
+    pub light: i16,
+    pub special: i16,
+    pub tag: i16,
+}
+
+impl Record for Sector {
+    ghost use Rattle.le_rec.specs.Record.{sector};
+    ghost use Rattle.le_rec.specs.RecordBytes.{sector_bytes};
+    ghost use Rattle.le_rec.specs.RecordRange.{IsSectorInRange};
+    ghost use Rattle.le_rec.specs.RecordLaws as laws;
+
+    ghost SIZE = { 26 };
+
+    ghost record_of = { sector };
+
+    ghost bytes_of = { sector_bytes };
+
+    ghost is_in_range = { IsSectorInRange };
+
+    const SIZE: usize = 26;
+
+    #[inline]
+    fn read(bytes: &[u8]) -> Sector {
+        Sector {
+            floor: i16_at(bytes, 0),
+            ceiling: i16_at(bytes, 2),
+            floor_name: name_bytes_at(bytes, 4),
+            ceiling_name: name_bytes_at(bytes, 12),
+            light: i16_at(bytes, 20),
+            special: i16_at(bytes, 22),
+            tag: i16_at(bytes, 24),
+        }
+    }
+
+    fn write(&self, bytes: &mut [u8]) {
+        put_i16(bytes, 0, self.floor);
+        put_i16(bytes, 2, self.ceiling);
+        put_name(bytes, 4, &self.floor_name);
+        put_name(bytes, 12, &self.ceiling_name);
+        put_i16(bytes, 20, self.light);
+        put_i16(bytes, 22, self.special);
+        put_i16(bytes, 24, self.tag);
+    }
+
+    ghost size_above_zero = { lit< tt };
+
+    ghost read_in_range = { laws.sector-in_range };
+
+    ghost reads_back = { laws.sector-sector_bytes };
+
+    ghost writes_back = { laws.sector_bytes-sector };
+
+    ghost bytes_length = { laws.length-sector_bytes };
+
+    ghost bytes_are_bytes = { laws.AreBytes-sector_bytes };
+}

@@ -1,0 +1,73 @@
+//! Tables of records, which lend their bytes.
+
+ghost use Rattle.std.specs.Prelude.{◌≡◌, length};
+ghost use Rattle.std.specs.List.{slice_get};
+ghost use Rattle.le_rec.specs.Table.{records_of, rows_of};
+
+use crate::record::Record;
+use std::marker::{Model, PhantomData};
+
+/// Records one after another. The table lends the bytes and decodes a record when it is asked for; the bytes
+/// after the last whole record are left over.
+#[derive(Drop)]
+pub struct Table<'a, R: Record> {
+    bytes: &'a [u8],
+    kind: PhantomData<R>,
+}
+
+impl<'a, R: Record> Model for Table<'a, R> {
+    ghost use Rattle.le_rec.specs.Table.{Rows, rows_of};
+
+    ghost Value = { Rows R };
+
+    ghost view = { λ a. rows_of R.SIZE R.record_of a.bytes.now };
+}
+
+impl<'a, R: Record> Table<'a, R> {
+    /// The table that the bytes hold.
+    #[inline]
+    pub fn of(bytes: &'a [u8]) -> Table<'a, R>
+        ensures { result ≡ rows_of R.SIZE R.record_of bytes.now }
+    {
+        Table {
+            bytes,
+            kind: PhantomData,
+        }
+    }
+
+    /// The number of whole records.
+    #[inline]
+    pub fn len(&self) -> usize
+        ensures { result ≡ length self.now.records }
+    {
+        self.bytes.len() / R::SIZE
+    }
+
+    /// The record of a number, counted from 0.
+    #[inline]
+    pub fn get(&self, index: usize) -> Option<R>
+        ensures { result ≡ slice_get self.now.records index }
+    {
+        record_at(self.bytes, index)
+    }
+
+    /// How many bytes are left over.
+    #[inline]
+    pub fn rest(&self) -> usize
+        ensures { result ≡ self.now.rest }
+    {
+        self.bytes.len() % R::SIZE
+    }
+}
+
+#[inline]
+fn record_at<R: Record>(bytes: &[u8], index: usize) -> Option<R>
+    ensures { result ≡ slice_get (records_of R.SIZE R.record_of bytes.now) index }
+{
+    let size = R::SIZE;
+    if index >= bytes.len() / size {
+        return None;
+    }
+    let start = index * size;
+    Some(R::read(&bytes[start..start + size]))
+}

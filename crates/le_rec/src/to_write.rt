@@ -1,0 +1,89 @@
+//! A writer as a sink.
+ghost use Rattle.std.specs.Prelude.{◌≡◌, ◌≤◌, false, ◌||◌, [], IfOk, is_err, length};
+ghost use Rattle.std.specs.Io.KnownBytes.{WriteAppends};
+
+use super::ends::{EndFault, Sink};
+use std::io::Write;
+
+/// A writer as a sink. It tells no bytes. Every error of the writer is a failed put, and so is a
+/// write that takes none of some bytes.
+#[derive(Drop)]
+pub struct ToWrite<W: Write> {
+    writer: W,
+    failed: bool,
+}
+
+impl<W: Write> ToWrite<W> {
+    ghost use Rattle.le_rec.specs.Sink.{put_failed, writer_of};
+
+    /// A sink over `writer` that hasn't failed.
+    pub fn new(writer: W) -> Self
+        ensures writer { writer_of result ≡ writer }
+        ensures fresh { put_failed result ≡ false }
+    {
+        ToWrite {
+            writer,
+            failed: false,
+        }
+    }
+}
+
+impl<W: Write> Sink for ToWrite<W> {
+    ghost use Rattle.le_rec.specs.Sink.{TakesSome, put_failed, writer_of};
+
+    ghost tells = { false };
+
+    ghost taken = { λ _. [] };
+
+    ghost has_failed = { put_failed };
+
+    fn put(&mut self, bytes: &[u8]) -> Result<usize, EndFault>
+        ensures bound { IfOk result (λ n. n ≤ length bytes.now) }
+        ensures some { TakesSome result bytes.now }
+        ensures written { WriteAppends (W.contents (writer_of self.old)) (W.contents (writer_of self.new))
+            result bytes.now }
+        ensures fault { put_failed self.new ≡ put_failed self.old || is_err result }
+    {
+        match self.writer.write(bytes) {
+            Ok(count) if count > 0 || bytes.is_empty() => Ok(count),
+            _ => {
+                self.failed = true;
+                Err(EndFault)
+            }
+        }
+    }
+
+    fn failed(&self) -> bool {
+        self.failed
+    }
+}
+
+#[cfg(test)]
+mod tests {
+    use super::*;
+
+    // How many bytes two puts of `bytes` take, or None where one fails.
+    fn two_puts<W: Sink>(sink: &mut W, bytes: &[u8]) -> Option<usize> {
+        let first = sink.put(bytes).ok()?;
+        let second = sink.put(bytes).ok()?;
+        Some(first + second)
+    }
+
+    #[test]
+    fn a_writer_that_takes_none_has_failed(rt: HostRuntime) {
+        let mut room = [0; 3];
+        let mut sink = ToWrite::new(room.as_mut_slice());
+        assert_eq!(rt; two_puts(&mut sink, b"0 5"), None);
+        assert!(rt; sink.failed());
+        assert_eq!(rt; sink.put(b""), Ok(0));
+        assert!(rt; sink.failed());
+    }
+
+    #[test]
+    fn a_writer_takes_what_it_has_room_for(rt: HostRuntime) {
+        let mut room = [0; 5];
+        let mut sink = ToWrite::new(room.as_mut_slice());
+        assert_eq!(rt; two_puts(&mut sink, b"0 5"), Some(5));
+        assert!(rt; !sink.failed());
+    }
+}

@@ -50,7 +50,8 @@ impl Name8 {
 
     /// The name and NULs after it, as a record holds it.
     pub fn bytes(&self) -> [u8; 8]
-        ensures { result ≡ padded self.now }
+        ensures padded { result ≡ padded self.now }
+        ensures name { name_of result ≡ self.now }
     {
         self.bytes
     }

@@ -1,0 +1,5 @@
+pub mod Products
+pub mod Signs
+pub mod Along
+pub mod Spans
+pub mod Whole

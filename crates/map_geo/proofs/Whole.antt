@@ -1,0 +1,55 @@
+-- Two sides that agree, and the rectangle that they decide.
+use Rattle.std.proofs.Common.{◌≡◌, ◌↔◌, Option, Some, None, IsNone, IfSome, rules, refl, arith}
+use Rattle.std.proofs.lemmas.Int.{ints}
+use Rattle.std.specs.Bool.{then_some}
+use denote.Enum.Bare.{sameb}
+use Rattle.map_geo.specs.contracts.sides.Side.{the_type}
+use Rattle.map_geo.specs.declared.sides.Side.{Side}
+use Rattle.map_geo.specs.declared.sides.Side.TheVariants.{Front, Back}
+use Rattle.map_geo.specs.Side.{Line}
+use Rattle.map_geo.specs.Rect.{Bounds, IsRect, AreCornersOn, IsWholeSide}
+use Rattle.map_geo.proofs.Along.{sides_by_corners}
+
+-- what the code's `(a == b).then_some(a)` gives
+pub some_of_both : (a b s : Side) → (then_some (sameb the_type a b) a ≡ Some s) ↔ (a ≡ s) × (b ≡ s)
+some_of_both Front Front s = (λ h. (cc, cc), λ h. cc)
+some_of_both Front Back s = (λ h. cc, λ h. cc)
+some_of_both Back Front s = (λ h. cc, λ h. cc)
+some_of_both Back Back s = (λ h. (cc, cc), λ h. cc)
+
+none_or_some : (answer : Option Side) → ((s : Side) → ¬ (answer ≡ Some s)) ↔ IsNone answer
+none_or_some None = (λ h. refl, λ e s f. cc)
+none_or_some (Some s) = (λ h. absurd (h s refl), λ e. cc)
+
+if_some : (answer : Option Side) (P : Side → Type 0) → ((s : Side) → answer ≡ Some s → P s) → IfSome answer P
+if_some None P h = search rules
+if_some (Some s) P h = h s refl
+
+-- an answer that is the side of the four corners, and their side that of the whole rectangle
+module _ (bounds : Bounds) (line : Line) (is_rect : IsRect bounds) (answer : Option Side) (corners : (s : Side) → (answer ≡ Some s) ↔ AreCornersOn bounds line s) where
+  corners_from_whole : (s : Side) → IsWholeSide bounds line s → AreCornersOn bounds line s
+  corners_from_whole s whole =
+      let across = is_rect.columns.ordered in
+      let up = is_rect.rows.ordered in
+      record {
+        low_left = whole _ (record { left = omega (arith, ints); right = across; lowest = omega (arith, ints); highest = up });
+        low_right = whole _ (record { left = across; right = omega (arith, ints); lowest = omega (arith, ints); highest = up });
+        high_left = whole _ (record { left = omega (arith, ints); right = across; lowest = up; highest = omega (arith, ints) });
+        high_right = whole _ (record { left = across; right = omega (arith, ints); lowest = up; highest = omega (arith, ints) });
+      }
+
+  some_from_corners : (s : Side) → (answer ≡ Some s) ↔ IsWholeSide bounds line s
+  some_from_corners s =
+      (λ e. sides_by_corners bounds line s ((corners s).0 e), λ whole. (corners s).1 (corners_from_whole s whole))
+
+  pub whole_from_corners : IfSome answer (IsWholeSide bounds line)
+  whole_from_corners = if_some answer _ (λ s e. (some_from_corners s).0 e)
+
+  pub only_from_corners : (s : Side) → IsWholeSide bounds line s → answer ≡ Some s
+  only_from_corners s whole = (some_from_corners s).1 whole
+
+  pub none_from_corners : IsNone answer ↔ ((s : Side) → ¬ IsWholeSide bounds line s)
+  none_from_corners = (
+    λ e s whole. (none_or_some answer).1 e s ((some_from_corners s).1 whole),
+    λ h. (none_or_some answer).0 (λ s e. h s ((some_from_corners s).0 e)),
+  )

@@ -1,0 +1,4 @@
+pub mod Point
+pub mod Side
+pub mod Laws
+pub mod Rect

@@ -1,0 +1,107 @@
+ghost use Rattle.std.specs.Prelude.{◌≡◌, ◌↔◌, IsSome, IfSome, ◌*ℤ◌, ◌-ℤ◌, ◌≤◌, unsigned_abs};
+ghost use Rattle.map_geo.specs.Point.{IsInRange};
+ghost use Rattle.map_geo.specs.Side.{line_of, cross, is_origin, side_on_line, side_of};
+
+use crate::point::{Point, is_in_range};
+use crate::sides::Side;
+use le_rec::Node;
+use std::cmp::Ordering;
+use std::marker::Model;
+
+/// The partition of a node: the line through its origin in its direction.
+#[derive(Clone, Copy, Debug, PartialEq, Eq)]
+pub struct Partition {
+    x: i32,
+    y: i32,
+    dx: i32,
+    dy: i32,
+}
+
+impl Model for Partition {
+    ghost use Rattle.std.specs.Prelude.{◌≤◌, unsigned_abs};
+    ghost use Rattle.map_geo.specs.Point.{IsInRange};
+    ghost use Rattle.map_geo.specs.Side.{Line};
+
+    ghost Value = { Line };
+
+    ghost view = { λ p. record { x = p.x; y = p.y; dx = p.dx; dy = p.dy } };
+
+    ghost invariant = { λ p. IsInRange p.x × IsInRange p.y × (unsigned_abs p.dx ≤ 32768) × (unsigned_abs p.dy ≤ 32768) };
+
+    ghost inverse = { λ line. record { x = line.x; y = line.y; dx = line.dx; dy = line.dy } };
+}
+
+impl Partition {
+    /// The partition of the node, or None if its origin is outside -16384..16383.
+    #[inline]
+    pub fn of(node: &Node) -> Option<Partition>
+        ensures some { IsSome result ↔ (IsInRange node.now.x × IsInRange node.now.y) }
+        ensures value { IfSome result (λ partition. partition ≡ line_of node.now) }
+    {
+        let (x, y) = (i32::from(node.x), i32::from(node.y));
+        let (dx, dy) = (i32::from(node.dx), i32::from(node.dy));
+        if is_in_range(x) && is_in_range(y) {
+            Some(Partition { x, y, dx, dy })
+        } else {
+            None
+        }
+    }
+
+    // At most 2,147,418,112 in size.
+    #[inline]
+    fn cross(self, point: Point) -> i32
+        ensures { result ≡ cross self point }
+    {
+        product(self.dy, self.x, point.x()) - product(self.dx, self.y, point.y())
+    }
+
+    // The side of a point of the line itself, where the cross product is 0.
+    fn side_on_line(self, point: Point) -> Side
+        ensures { result ≡ side_on_line self point }
+    {
+        match (self.dx.cmp(&0), self.dy.cmp(&0)) {
+            (Ordering::Equal, Ordering::Greater) => Side::Back,
+            (Ordering::Equal, _) => Side::Front,
+            (Ordering::Less, Ordering::Equal) => Side::Back,
+            (Ordering::Greater, Ordering::Equal) => Side::Front,
+            (Ordering::Less, Ordering::Greater) if self.is_origin(point) => Side::Front,
+            (Ordering::Less, Ordering::Greater) => Side::Back,
+            (Ordering::Less, Ordering::Less) => Side::Back,
+            (Ordering::Greater, _) => Side::Back,
+        }
+    }
+
+    fn is_origin(self, point: Point) -> bool
+        ensures { result ≡ is_origin self point }
+    {
+        point.x() == self.x && point.y() == self.y
+    }
+}
+
+// A component of a direction by a difference of coordinates: at most 32,768 by 32,767 in size.
+#[inline]
+fn product(step: i32, from: i32, to: i32) -> i32
+    requires step_in { unsigned_abs step ≤ 32768 }
+    requires from_in { IsInRange from }
+    requires to_in { IsInRange to }
+    ensures value { result ≡ step *ℤ (to -ℤ from) }
+    ensures size { unsigned_abs result ≤ 1073709056 }
+{
+    step * (to - from)
+}
+
+/// The side of the partition on which the point lies, as R_PointOnSide of linuxdoom 1.10 gives it
+/// for whole map units.
+#[inline]
+pub fn side(point: Point, partition: Partition) -> Side
+    ensures { result ≡ side_of partition point }
+{
+    let c = partition.cross(point);
+    if c > 0 {
+        Side::Front
+    } else if c < 0 {
+        Side::Back
+    } else {
+        partition.side_on_line(point)
+    }
+}

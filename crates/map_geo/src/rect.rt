@@ -1,0 +1,133 @@
+ghost use Rattle.std.specs.Prelude.{◌≡◌, ◌↔◌, IsSome, IfSome, IsNone, IsTrue};
+ghost use Rattle.map_geo.specs.declared.sides.Side.{Side};
+ghost use Rattle.map_geo.specs.Point.{IsInRange, place_at};
+ghost use Rattle.map_geo.specs.Side.{side_of};
+ghost use Rattle.map_geo.specs.Rect.{bounds_at, span, IsSpan, IsRect, AreCornersOn, IsWholeSide};
+
+use crate::partition::{Partition, side};
+use crate::point::{Point, is_in_range};
+use crate::sides::Side;
+use std::marker::Model;
+
+const MAX_POINTS: i32 = 1_048_576;
+
+/// The points from column x0 to column x1 and from row y0 to row y1, all four included: at least
+/// one and at most 1,048,576.
+#[derive(Clone, Copy, Debug, PartialEq, Eq)]
+pub struct Rect {
+    x0: i32,
+    y0: i32,
+    x1: i32,
+    y1: i32,
+}
+
+impl Model for Rect {
+    ghost use Rattle.map_geo.specs.Rect.{Bounds, bounds_at, IsRect};
+
+    ghost Value = { Bounds };
+
+    ghost view = { λ r. bounds_at r.x0 r.y0 r.x1 r.y1 };
+
+    ghost invariant = { λ r. IsRect (bounds_at r.x0 r.y0 r.x1 r.y1) };
+
+    ghost inverse = { λ bounds. record { x0 = bounds.x0; y0 = bounds.y0; x1 = bounds.x1; y1 = bounds.y1 } };
+}
+
+impl Rect {
+    /// The rectangle with these bounds, or None if a coordinate is outside -16384..16383, a lower
+    /// bound is past its upper one, or there are more than 1,048,576 points.
+    pub fn new(x0: i32, y0: i32, x1: i32, y1: i32) -> Option<Rect>
+        ensures some { IsSome result ↔ IsRect (bounds_at x0 y0 x1 y1) }
+        ensures value { IfSome result (λ rect. rect ≡ bounds_at x0 y0 x1 y1) }
+    {
+        let columns = span(x0, x1)?;
+        let rows = span(y0, y1)?;
+        if columns * rows <= MAX_POINTS {
+            Some(Rect { x0, y0, x1, y1 })
+        } else {
+            None
+        }
+    }
+
+    /// The least column.
+    #[inline]
+    pub fn x0(self) -> i32
+        ensures value { result ≡ self.x0 }
+        ensures valid { IsRect self }
+    {
+        self.x0
+    }
+
+    /// The least row.
+    #[inline]
+    pub fn y0(self) -> i32
+        ensures value { result ≡ self.y0 }
+        ensures valid { IsRect self }
+    {
+        self.y0
+    }
+
+    /// The greatest column.
+    #[inline]
+    pub fn x1(self) -> i32
+        ensures value { result ≡ self.x1 }
+        ensures valid { IsRect self }
+    {
+        self.x1
+    }
+
+    /// The greatest row.
+    #[inline]
+    pub fn y1(self) -> i32
+        ensures value { result ≡ self.y1 }
+        ensures valid { IsRect self }
+    {
+        self.y1
+    }
+}
+
+// How many coordinates there are from the first to the last: at most 32,768.
+fn span(first: i32, last: i32) -> Option<i32>
+    ensures some { IsSome result ↔ IsSpan first last }
+    ensures value { IfSome result (λ n. n ≡ span first last) }
+{
+    if is_in_range(first) && is_in_range(last) && first <= last {
+        Some(last - first + 1)
+    } else {
+        None
+    }
+}
+
+/// The side of the partition on which all points of the rectangle lie, or None if they don't all
+/// lie on one. Its four corners decide it.
+#[inline]
+pub fn whole_side(rect: Rect, partition: Partition) -> Option<Side>
+    ensures whole { IfSome result (IsWholeSide rect partition) }
+    ensures only { (s : Side) → IsWholeSide rect partition s → result ≡ Some s }
+    ensures none { IsNone result ↔ ((s : Side) → ¬ IsWholeSide rect partition s) }
+{
+    corner_side(rect, partition)
+}
+
+// The side that the four corners have.
+#[inline]
+fn corner_side(rect: Rect, partition: Partition) -> Option<Side>
+    ensures corners { (s : Side) → (result ≡ Some s) ↔ AreCornersOn rect partition s }
+    ensures valid { IsRect rect }
+{
+    let low = row_side(rect, rect.y0(), partition)?;
+    let high = row_side(rect, rect.y1(), partition)?;
+    (low == high).then_some(low)
+}
+
+// The side that both ends of a row of the rectangle have.
+#[inline]
+fn row_side(rect: Rect, y: i32, partition: Partition) -> Option<Side>
+    requires { IsInRange y }
+    ensures { (s : Side) → (result ≡ Some s)
+        ↔ (side_of partition (place_at rect.x0 y) ≡ s) × (side_of partition (place_at rect.x1 y) ≡ s) }
+{
+    let left = side(Point::at(rect.x0(), y), partition);
+    let right = side(Point::at(rect.x1(), y), partition);
+    (left == right).then_some(left)
+}

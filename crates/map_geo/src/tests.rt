@@ -1,0 +1,206 @@
+use super::*;
+use le_rec::Node;
+use std::process::Abort;
+
+// A node whose partition goes through (x, y) in the direction (dx, dy).
+fn node(x: i16, y: i16, dx: i16, dy: i16) -> Node {
+    Node {
+        x,
+        y,
+        dx,
+        dy,
+        box0: [0; 4],
+        box1: [0; 4],
+        child0: 0x8000,
+        child1: 0x8001,
+    }
+}
+
+fn partition(rt: &impl Abort, x: i16, y: i16, dx: i16, dy: i16) -> Partition {
+    Partition::of(&node(x, y, dx, dy)).expect(rt, "an origin in range")
+}
+
+fn point(rt: &impl Abort, x: i32, y: i32) -> Point {
+    Point::new(x, y).expect(rt, "a point in range")
+}
+
+fn rect(rt: &impl Abort, x0: i32, y0: i32, x1: i32, y1: i32) -> Rect {
+    Rect::new(x0, y0, x1, y1).expect(rt, "a rectangle")
+}
+
+#[test]
+fn base_points(rt: HostRuntime) {
+    let base = partition(&rt, 0, 0, 0, 64);
+    assert_eq!(rt; side(point(&rt, 1, 5), base), Side::Front);
+    assert_eq!(rt; side(point(&rt, 0, 5), base), Side::Back);
+    assert_eq!(rt; side(point(&rt, -1, 5), base), Side::Back);
+}
+
+#[test]
+fn diagonal_ties(rt: HostRuntime) {
+    let diagonal = partition(&rt, 0, 0, -1, 1);
+    assert_eq!(rt; side(point(&rt, 0, 0), diagonal), Side::Front);
+    assert_eq!(rt; side(point(&rt, 1, -1), diagonal), Side::Back);
+    assert_eq!(rt; side(point(&rt, -1, 1), diagonal), Side::Back);
+}
+
+#[test]
+fn greatest_products(rt: HostRuntime) {
+    let steepest = partition(&rt, -16384, 16383, 32767, -32768);
+    assert_eq!(rt; side(point(&rt, 16383, -16384), steepest), Side::Back);
+}
+
+#[test]
+fn no_direction(rt: HostRuntime) {
+    let nowhere = partition(&rt, 3, 3, 0, 0);
+    for x in 2..5 {
+        for y in 2..5 {
+            assert_eq!(rt; side(point(&rt, x, y), nowhere), Side::Front, "at {x} {y}");
+        }
+    }
+}
+
+// A partition's direction, its side at its origin, and its side at the other points of its line.
+const TIES: [(i16, i16, Side, Side); 9] = [
+    (0, 1, Side::Back, Side::Back),
+    (0, 0, Side::Front, Side::Front),
+    (0, -1, Side::Front, Side::Front),
+    (1, 0, Side::Front, Side::Front),
+    (-1, 0, Side::Back, Side::Back),
+    (1, 1, Side::Back, Side::Back),
+    (1, -1, Side::Back, Side::Back),
+    (-1, 1, Side::Front, Side::Back),
+    (-1, -1, Side::Back, Side::Back),
+];
+
+#[test]
+fn ties(rt: HostRuntime) {
+    for (dx, dy, at_origin, elsewhere) in TIES {
+        let line = partition(&rt, 5, -7, dx, dy);
+        let (right, up) = (i32::from(dx), i32::from(dy));
+        assert_eq!(rt;
+            side(point(&rt, 5, -7), line),
+            at_origin,
+            "direction {dx} {dy}"
+        );
+        for (x, y) in [(5 + right, -7 + up), (5 - right, -7 - up)] {
+            let place = point(&rt, x, y);
+            assert_eq!(rt;
+                side(place, line),
+                elsewhere,
+                "direction {dx} {dy} at {x} {y}"
+            );
+        }
+    }
+}
+
+#[test]
+fn ranges(rt: HostRuntime) {
+    for (z, is_in) in [
+        (-16385, false),
+        (-16384, true),
+        (16383, true),
+        (16384, false),
+    ] {
+        assert_eq!(rt; Point::new(z, 0).is_some(), is_in, "point at {z}");
+        assert_eq!(rt; Point::new(0, z).is_some(), is_in, "point at {z}");
+        assert_eq!(rt; Rect::new(z, 0, z, 0).is_some(), is_in, "rectangle at {z}");
+        assert_eq!(rt; Rect::new(0, z, 0, z).is_some(), is_in, "rectangle at {z}");
+    }
+}
+
+#[test]
+fn partition_ranges(rt: HostRuntime) {
+    for (z, is_in) in [
+        (-16385, false),
+        (-16384, true),
+        (16383, true),
+        (16384, false),
+    ] {
+        assert_eq!(rt;
+            Partition::of(&node(z, 0, 0, 1)).is_some(),
+            is_in,
+            "origin at {z}"
+        );
+        assert_eq!(rt;
+            Partition::of(&node(0, z, 0, 1)).is_some(),
+            is_in,
+            "origin at {z}"
+        );
+    }
+}
+
+#[test]
+fn rectangles(rt: HostRuntime) {
+    let cases = [
+        ((0, 0, 0, 0), true),
+        ((1, 0, 0, 0), false),
+        ((0, 1, 0, 0), false),
+        ((0, 0, 1023, 1023), true),
+        ((0, 0, 1023, 1024), false),
+        ((-16384, -16384, 16383, -16353), true),
+        ((-16384, -16384, 16383, -16352), false),
+    ];
+    for ((x0, y0, x1, y1), is_one) in cases {
+        let made = Rect::new(x0, y0, x1, y1).map(|r| (r.x0(), r.y0(), r.x1(), r.y1()));
+        assert_eq!(rt; made, is_one.then_some((x0, y0, x1, y1)));
+    }
+}
+
+#[test]
+fn whole_sides(rt: HostRuntime) {
+    let base = partition(&rt, 0, 0, 0, 64);
+    let nowhere = partition(&rt, 3, 3, 0, 0);
+    let diagonal = partition(&rt, 0, 0, -1, 1);
+    let cases = [
+        (rect(&rt, 1, 0, 3, 2), base, Some(Side::Front)),
+        (rect(&rt, -3, 0, 0, 2), base, Some(Side::Back)),
+        (rect(&rt, -9, -9, 9, 9), nowhere, Some(Side::Front)),
+        (rect(&rt, 0, 0, 3, 2), base, None),
+        (rect(&rt, -2, -2, 0, 0), diagonal, None),
+        (rect(&rt, 0, 0, 2, 2), diagonal, Some(Side::Front)),
+    ];
+    for (place, line, expected) in cases {
+        assert_eq!(rt; whole_side(place, line), expected, "{place:?} {line:?}");
+    }
+}
+
+// The side that each point of a rectangle has, found point by point.
+fn side_of_each(rt: &impl Abort, bounds: (i32, i32, i32, i32), line: Partition) -> Option<Side> {
+    let (x0, y0, x1, y1) = bounds;
+    let first = side(point(rt, x0, y0), line);
+    for y in y0..=y1 {
+        for x in x0..=x1 {
+            if side(point(rt, x, y), line) != first {
+                return None;
+            }
+        }
+    }
+    Some(first)
+}
+
+// Compares the two for each rectangle within -2 and 2.
+fn compare_in_grid(rt: &impl Abort, line: Partition) {
+    for y0 in -2..3 {
+        for x0 in -2..3 {
+            for y1 in y0..3 {
+                for x1 in x0..3 {
+                    let place = rect(rt, x0, y0, x1, y1);
+                    let expected = side_of_each(rt, (x0, y0, x1, y1), line);
+                    assert_eq!(rt; whole_side(place, line), expected, "{place:?} {line:?}");
+                }
+            }
+        }
+    }
+}
+
+#[test]
+fn whole_sides_in_a_grid(rt: HostRuntime) {
+    for dx in -2..3 {
+        for dy in -2..3 {
+            compare_in_grid(&rt, partition(&rt, 0, 0, dx, dy));
+            compare_in_grid(&rt, partition(&rt, 1, -1, dx, dy));
+        }
+    }
+    compare_in_grid(&rt, partition(&rt, -16384, 16383, 32767, -32768));
+}

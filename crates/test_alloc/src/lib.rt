@@ -1,0 +1,102 @@
+//! An allocator for tests: over another one, it refuses one growth, by its number, and grants the
+//! others. A test runs a call with growth 1 refused, then growth 2, and so on until a run meets no
+//! refusal.
+#![tactic(auto)]
+
+ghost use Rattle.std.specs.Prelude.{◌≡◌, ◌<◌, IsTrue};
+
+use std::alloc::{AllocError, Allocator, Global};
+use std::cell::Cell;
+
+/// Which growth is refused, from 1, and how many were asked for.
+#[derive(Drop)]
+struct Count {
+    refused: u64,
+    growths: Cell<u64>,
+}
+
+fn is_granted(count: &Count) -> bool {
+    let growth = count.growths.get().wrapping_add(1);
+    count.growths.set(growth);
+    growth != count.refused
+}
+
+/// An allocator that refuses one growth. Collections are handed a `&` to it.
+#[derive(Drop)]
+pub struct Refusing<B: Allocator = Global> {
+    inner: B,
+    count: Count,
+}
+
+impl<B: Allocator> Refusing<B> {
+    /// Refuses growth number `refused`, counted from 1; with 0 it refuses none.
+    pub fn new(inner: B, refused: u64) -> Refusing<B>
+        ensures over { result.inner ≡ inner }
+        ensures refuses { result.count.refused ≡ refused }
+    {
+        Refusing {
+            inner,
+            count: Count {
+                refused,
+                growths: Cell::new(0),
+            },
+        }
+    }
+
+    /// Whether the growth that it refuses was asked for.
+    pub fn has_refused(&self) -> bool
+        ensures { IsTrue result → 0 < self.now.count.refused }
+    {
+        self.count.refused > 0 && self.count.growths.get() >= self.count.refused
+    }
+}
+
+unsafe impl<B: Allocator> Allocator for Refusing<B> {
+    ghost dealloc_token = { λ heap ty ptr. B.dealloc_token heap.inner ty ptr };
+
+    fn allocate(&self, size: usize, align: usize) -> Result<*mut u8, AllocError> {
+        if is_granted(&self.count) {
+            return self.inner.allocate(size, align);
+        } else {
+            return Err(AllocError);
+        }
+    }
+
+    unsafe fn deallocate(&self, ptr: *mut u8, size: usize, align: usize) {
+        self.inner.deallocate(ptr, size, align);
+    }
+}
+
+#[cfg(test)]
+mod tests {
+    use super::*;
+    use std::test::Fail;
+
+    #[test]
+    fn one_growth_is_refused(rt: HostRuntime) -> Result<(), Fail> {
+        let alloc = Refusing::new(rt.alloc(), 2);
+        let mut bytes: Vec<u8, &Refusing> = Vec::with_capacity(&alloc, 1)?;
+        bytes.push(1)?;
+        assert!(rt; !alloc.has_refused());
+        assert!(rt; bytes.reserve(99).is_err(), "growth 2");
+        assert!(rt; alloc.has_refused());
+        bytes.reserve(99)?;
+        assert_eq!(rt;
+            bytes.len(),
+            1,
+            "a vector over the allocator keeps its items"
+        );
+        Ok(())
+    }
+
+    #[test]
+    fn no_growth_is_refused(rt: HostRuntime) -> Result<(), Fail> {
+        let alloc = Refusing::new(rt.alloc(), 0);
+        let mut bytes = Vec::new(&alloc);
+        for byte in 0..100u8 {
+            bytes.push(byte)?;
+        }
+        assert!(rt; !alloc.has_refused());
+        Ok(())
+    }
+}

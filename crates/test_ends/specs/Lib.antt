@@ -1,0 +1,2 @@
+pub mod SliceSink
+pub mod SliceSource

@@ -1,0 +1,162 @@
+//! A source over a slice, and one that has no end.
+ghost use Rattle.std.specs.Prelude.{◌≡◌, ◌-◌, ◌<◌, ◌≤◌, Bool, true, false, Ok, [], ◌||◌, IfOk, is_err, length, replicate};
+ghost use Rattle.le_rec.specs.Source.{EndsEmpty, Gives};
+
+use super::countdown::is_failing_call;
+use le_rec::{EndFault, Source};
+
+/// A source over a slice. It gives all that a pull has room for, until `at_most` and `failing_at`
+/// say otherwise.
+#[derive(Drop)]
+pub struct SliceSource<'a> {
+    rest: &'a [u8],
+    most: usize,
+    // The calls up to the one that fails, that one too; 0 where none does.
+    calls: u32,
+    failed: bool,
+    ghost some: { 0 < most },
+}
+
+impl<'a> SliceSource<'a> {
+    ghost use Rattle.test_ends.specs.SliceSource.{bytes_left, failing_pull, most_pulled, pull_failed};
+
+    /// A source of `bytes` that hasn't failed.
+    pub fn new(bytes: &'a [u8]) -> Self
+        ensures left { bytes_left result ≡ bytes.now }
+        ensures most { most_pulled result ≡ usize.MAX }
+        ensures failing { failing_pull result ≡ 0 }
+        ensures fresh { pull_failed result ≡ false }
+    {
+        SliceSource {
+            rest: bytes,
+            most: usize::MAX,
+            calls: 0,
+            failed: false,
+        }
+    }
+
+    /// The same source, giving at most `most` bytes a pull.
+    pub fn at_most(mut self, most: usize) -> Self
+        requires { 0 < most }
+        ensures left { bytes_left result ≡ bytes_left self.entry }
+        ensures most { most_pulled result ≡ most }
+        ensures failing { failing_pull result ≡ failing_pull self.entry }
+        ensures failed { pull_failed result ≡ pull_failed self.entry }
+    {
+        self.most = most;
+        self
+    }
+
+    /// The same source, failing at its pull `call` from here on, counted from 1, and at no other.
+    pub fn failing_at(mut self, call: u32) -> Self
+        ensures left { bytes_left result ≡ bytes_left self.entry }
+        ensures most { most_pulled result ≡ most_pulled self.entry }
+        ensures failing { failing_pull result ≡ call }
+        ensures failed { pull_failed result ≡ pull_failed self.entry }
+    {
+        self.calls = call;
+        self
+    }
+
+    /// The bytes that are still to come.
+    pub fn left(&self) -> &[u8]
+        ensures { result.now ≡ bytes_left self.now }
+    {
+        self.rest
+    }
+}
+
+impl Source for SliceSource<'_> {
+    ghost use Rattle.test_ends.specs.SliceSource.{bytes_left, failing_pull, most_pulled, pull_answer, pull_failed};
+
+    ghost tells = { true };
+
+    ghost left = { bytes_left };
+
+    ghost has_failed = { pull_failed };
+
+    fn pull(&mut self, buf: &mut [u8]) -> Result<usize, EndFault>
+        ensures bound { IfOk result (λ n. n ≤ length buf.new) }
+        ensures moved { Gives (bytes_left self.old) (bytes_left self.new) result buf.new }
+        ensures end { EndsEmpty (bytes_left self.new) result buf.new }
+        ensures fault { pull_failed self.new ≡ pull_failed self.old || is_err result }
+        ensures answer { result ≡ pull_answer self.old (length buf.old) }
+        ensures most { most_pulled self.new ≡ most_pulled self.old }
+        ensures failing { failing_pull self.new ≡ failing_pull self.old - 1 }
+    {
+        if is_failing_call(&mut self.calls) {
+            self.failed = true;
+            return Err(EndFault);
+        }
+        let rest = self.rest;
+        let count = buf.len().min(self.most).min(rest.len());
+        buf[..count].copy_from_slice(&rest[..count]);
+        self.rest = &rest[count..];
+        Ok(count)
+    }
+
+    fn failed(&self) -> bool {
+        self.failed
+    }
+}
+
+/// A source that gives one byte value for ever and never fails. It tells no bytes, as they have no
+/// end.
+#[derive(Clone, Copy)]
+pub struct RepeatSource {
+    pub byte: u8,
+}
+
+impl Source for RepeatSource {
+    ghost tells = { false };
+
+    ghost left = { λ _. [] };
+
+    ghost has_failed = { λ _. false };
+
+    fn pull(&mut self, buf: &mut [u8]) -> Result<usize, EndFault>
+        ensures all { result ≡ Ok (length buf.new) }
+        ensures filled { buf.new ≡ replicate (length buf.old) self.old.byte }
+        ensures unchanged { self.new ≡ self.old }
+    {
+        buf.fill(self.byte);
+        Ok(buf.len())
+    }
+
+    fn failed(&self) -> bool {
+        false
+    }
+}
+
+#[cfg(test)]
+mod tests {
+    use super::*;
+
+    #[test]
+    fn gives_at_most_two_and_fails_at_its_third_call(rt: HostRuntime) {
+        let mut buf = [0; 3];
+        let mut source = SliceSource::new(b"0 5\n").at_most(2).failing_at(3);
+        assert_eq!(rt; source.pull(&mut buf), Ok(2));
+        assert_eq!(rt; &buf[..2], b"0 ".as_slice());
+        assert_eq!(rt; source.pull(&mut buf[..1]), Ok(1));
+        assert_eq!(rt; buf[0], b'5');
+        assert!(rt; !source.failed());
+        assert_eq!(rt; source.pull(&mut buf), Err(EndFault));
+        assert!(rt; source.failed());
+        assert_eq!(rt; source.left(), b"\n".as_slice());
+        assert_eq!(rt; source.pull(&mut buf), Ok(1));
+        assert_eq!(rt; source.pull(&mut buf), Ok(0));
+        assert!(rt; source.failed());
+    }
+
+    #[test]
+    fn repeats_a_byte_for_ever(rt: HostRuntime) {
+        let mut buf = [0; 3];
+        let mut source = RepeatSource { byte: b'1' };
+        for _ in 0..4 {
+            assert_eq!(rt; source.pull(&mut buf), Ok(3));
+            assert_eq!(rt; buf.as_slice(), b"111".as_slice());
+        }
+        assert!(rt; !source.failed());
+    }
+}

@@ -1,0 +1,114 @@
+//! Ends that fail, and an input without an end.
+
+use crate::sample::base;
+use le_rec::{Sink, Source};
+use map_level::Reading;
+use std::alloc::Global;
+use std::process::Abort;
+use std::test::Fail;
+use test_ends::{RepeatSource, SliceSink, SliceSource};
+use wad_look::{LIMIT, RunFault, points, read_all, status};
+
+const INPUT: &[u8] = b"1 5\n0 5\n-1 5\n";
+
+const TEXT: &[u8] = b"1 5 sector 0 ssector 0\n0 5 sector 1 ssector 1\n-1 5 sector 1 ssector 1\n";
+
+// What `points` answers over these ends.
+fn run<S: Source, W: Sink>(
+    rt: &impl Abort,
+    alloc: Global,
+    files: &[Vec<u8>],
+    source: &mut S,
+    limit: u64,
+    out: &mut W,
+) -> Result<(), RunFault> {
+    assert!(rt; files.len() <= 64 && limit <= LIMIT);
+    let fresh = !source.failed() && !out.failed();
+    assert!(rt; fresh);
+    points(alloc, files, b"E1M1", Reading::Signed, source, limit, out)
+}
+
+#[test]
+fn failing_ends(rt: HostRuntime) -> Result<(), Fail> {
+    let files = vec![in rt.alloc(); base(rt.alloc())?]?;
+    let mut ten = [0; 10];
+    let mut out = SliceSink::new(&mut ten);
+    let mut source = SliceSource::new(b"0 5\n");
+    let result = run(&rt, rt.alloc(), &files, &mut source, LIMIT, &mut out);
+    assert_eq!(rt; result, Err(RunFault::Write));
+    assert_eq!(rt; out.taken(), b"0 5 sector".as_slice());
+
+    let mut room = [0; 100];
+    let mut out = SliceSink::new(&mut room);
+    let mut source = SliceSource::new(b"1 5\n").failing_at(2);
+    let result = run(&rt, rt.alloc(), &files, &mut source, LIMIT, &mut out);
+    assert_eq!(rt; result, Err(RunFault::Read));
+    assert_eq!(rt; out.taken(), b"1 5 sector 0 ssector 0\n".as_slice());
+
+    let mut room = [0; 100];
+    let mut out = SliceSink::new(&mut room);
+    let mut source = SliceSource::new(b"1 5\n0 5");
+    let result = run(&rt, rt.alloc(), &files, &mut source, 4, &mut out);
+    assert_eq!(rt; result, Err(RunFault::TooLong));
+    assert_eq!(rt; out.taken(), b"1 5 sector 0 ssector 0\n".as_slice());
+
+    let bytes = read_all(rt.alloc(), &mut SliceSource::new(b"1 5\n"), 4)?;
+    assert_eq!(rt; bytes.as_slice(), b"1 5\n".as_slice());
+    let fault = read_all(rt.alloc(), &mut SliceSource::new(b"1 5\n"), 3).err();
+    assert_eq!(rt; fault, Some(RunFault::TooLong));
+    Ok(())
+}
+
+#[test]
+fn writer_fails(rt: HostRuntime) -> Result<(), Fail> {
+    let files = vec![in rt.alloc(); base(rt.alloc())?]?;
+    for n in 1..71u32 {
+        let mut room = [0; 100];
+        let mut out = SliceSink::new(&mut room).at_most(1).failing_at(n);
+        let mut source = SliceSource::new(INPUT);
+        let result = run(&rt, rt.alloc(), &files, &mut source, LIMIT, &mut out);
+        assert_eq!(rt; result, Err(RunFault::Write));
+        assert_eq!(rt; Some(out.taken()), TEXT.get(..n as usize - 1));
+    }
+    Ok(())
+}
+
+#[test]
+fn reader_fails(rt: HostRuntime) -> Result<(), Fail> {
+    let files = vec![in rt.alloc(); base(rt.alloc())?]?;
+    for n in 1..15u32 {
+        let mut room = [0; 100];
+        let mut out = SliceSink::new(&mut room);
+        let mut source = SliceSource::new(INPUT).at_most(1).failing_at(n);
+        let result = run(&rt, rt.alloc(), &files, &mut source, LIMIT, &mut out);
+        assert_eq!(rt; result, Err(RunFault::Read));
+        let answered = match n {
+            0..5 => 0,
+            5..9 => 23,
+            9..14 => 46,
+            _ => 70,
+        };
+        assert_eq!(rt; Some(out.taken()), TEXT.get(..answered), "call {n}");
+    }
+    Ok(())
+}
+
+#[test]
+fn endless_reader(rt: HostRuntime) -> Result<(), Fail> {
+    let files = vec![in rt.alloc(); base(rt.alloc())?]?;
+    let mut room = [0; 100];
+    let mut out = SliceSink::new(&mut room);
+    let mut source = RepeatSource { byte: b'1' };
+    let result = run(&rt, rt.alloc(), &files, &mut source, 64, &mut out);
+    assert_eq!(rt; result, Err(RunFault::TooLong));
+    assert_eq!(rt; out.taken(), b"".as_slice());
+    Ok(())
+}
+
+#[test]
+fn statuses(rt: HostRuntime) {
+    assert_eq!(rt; status(&Ok(true)), 0);
+    assert_eq!(rt; status(&Ok(false)), 1);
+    assert_eq!(rt; status(&Err(RunFault::Later)), 2);
+    assert_eq!(rt; status(&Err(RunFault::Memory)), 3);
+}

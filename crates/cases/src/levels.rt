@@ -1,0 +1,102 @@
+//! Opening levels.
+
+use crate::sample::{base, lumps, pack};
+use le_rec::{Name8, Seg, Vertex};
+use map_level::{Level, LevelFault, Reading};
+use std::process::Abort;
+use std::test::Fail;
+use wad_dir::Set;
+
+// Why there is no level E1M1.
+fn fault(rt: &HostRuntime, files: &[Vec<u8>]) -> Result<Option<LevelFault>, Fail> {
+    assert!(rt; files.len() <= 64);
+    let set = Set::new(rt.alloc(), files)?;
+    Ok(Level::open(&set, Name8::query(b"E1M1"), Reading::Signed).err())
+}
+
+fn check_tables(rt: &impl Abort, level: &Level<'_>) {
+    assert_eq!(rt; level.things().len(), 1);
+    assert_eq!(rt; level.linedefs().len(), 1);
+    assert_eq!(rt; level.sidedefs().len(), 2);
+    assert_eq!(rt; level.vertexes().get(1), Some(Vertex { x: 0, y: 64 }));
+    assert_eq!(rt; level.segs().len(), 2);
+    assert_eq!(rt; level.ssectors().len(), 2);
+    assert_eq!(rt; level.nodes().len(), 1);
+    assert_eq!(rt; level.sectors().len(), 2);
+    assert_eq!(rt; level.reject(), [0].as_slice());
+    assert_eq!(rt; level.blockmap().len(), 16);
+    let seg = Seg { v1: 1, v2: 0, angle: -16384, linedef: 0, side: 1, offset: 0 };
+    assert_eq!(rt; level.segs().get(1), Some(seg));
+}
+
+#[test]
+fn level_opened(rt: HostRuntime) -> Result<(), Fail> {
+    let files = vec![in rt.alloc(); base(rt.alloc())?]?;
+    let set = Set::new(rt.alloc(), &files)?;
+    let level = Level::open(&set, Name8::query(b"e1m1"), Reading::Wide)?;
+    assert_eq!(rt; level.label(), 0);
+    assert_eq!(rt; level.reading(), Reading::Wide);
+    assert_eq!(rt; level.name(0), Name8::query(b"E1M1"));
+    assert_eq!(rt; level.name(10), Name8::query(b"BLOCKMAP"));
+    check_tables(&rt, &level);
+    Ok(())
+}
+
+#[test]
+fn lumps_missing(rt: HostRuntime) -> Result<(), Fail> {
+    let files = vec![in rt.alloc(); pack(rt.alloc(), &lumps()[..10])?]?;
+    assert_eq!(rt; fault(&rt, &files)?, Some(LevelFault::Missing(10)));
+    let files = vec![in rt.alloc(); pack(rt.alloc(), &lumps()[1..])?]?;
+    assert_eq!(rt; fault(&rt, &files)?, Some(LevelFault::NoLabel));
+    Ok(())
+}
+
+// The sample level's file with filepos -1 in the entry NODES.
+fn nodes_outside(rt: &HostRuntime) -> Result<Vec<u8>, Fail> {
+    let mut file = base(rt.alloc())?;
+    assert_eq!(rt; file.len(), 409);
+    for at in 345..349 {
+        file[at] = 255;
+    }
+    Ok(file)
+}
+
+#[test]
+fn lump_places(rt: HostRuntime) -> Result<(), Fail> {
+    let files = vec![in rt.alloc(); nodes_outside(&rt)?]?;
+    assert_eq!(rt; fault(&rt, &files)?, Some(LevelFault::Outside(7)));
+    Ok(())
+}
+
+#[test]
+fn first_lump_decides(rt: HostRuntime) -> Result<(), Fail> {
+    let mut file = pack(rt.alloc(), &lumps()[..9])?;
+    let entry = file.len() - 16;
+    for at in entry..entry + 4 {
+        file[at] = 255;
+    }
+    let files = vec![in rt.alloc(); file]?;
+    assert_eq!(rt; fault(&rt, &files)?, Some(LevelFault::Outside(8)));
+    Ok(())
+}
+
+#[test]
+fn lumps_in_a_later_file(rt: HostRuntime) -> Result<(), Fail> {
+    let first = pack(rt.alloc(), &lumps()[..6])?;
+    let second = pack(rt.alloc(), &lumps()[6..])?;
+    let files = vec![in rt.alloc(); first, second]?;
+    let set = Set::new(rt.alloc(), &files)?;
+    let level = Level::open(&set, Name8::query(b"E1M1"), Reading::Signed)?;
+    assert_eq!(rt; level.label(), 0);
+    check_tables(&rt, &level);
+    Ok(())
+}
+
+#[test]
+fn lower_case_label(rt: HostRuntime) -> Result<(), Fail> {
+    let mut small = lumps();
+    small[0].0 = b"e1m1";
+    let files = vec![in rt.alloc(); pack(rt.alloc(), &small)?]?;
+    assert_eq!(rt; fault(&rt, &files)?, Some(LevelFault::NoLabel));
+    Ok(())
+}

@@ -1,0 +1,15 @@
+//! Worked cases that cross crates: levels and whole commands over small files. It holds tests alone.
+#![tactic(auto)]
+
+#[cfg(test)]
+mod ends;
+#[cfg(test)]
+mod levels;
+#[cfg(test)]
+mod listing;
+#[cfg(test)]
+mod memory;
+#[cfg(test)]
+mod points;
+#[cfg(test)]
+mod sample;

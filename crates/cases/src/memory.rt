@@ -1,0 +1,71 @@
+//! Each growth refused in turn.
+
+use crate::sample::base;
+use map_level::Reading;
+use std::process::Abort;
+use std::test::Fail;
+use test_alloc::Refusing;
+use test_ends::{SliceSink, SliceSource};
+use wad_look::{LIMIT, RunFault, lumps, points, read_all, status};
+
+const POINT: &[u8] = b"0 5 sector 1 ssector 1\n";
+
+// Whether `lumps` met growth `n` refused; then it has written nothing.
+fn lumps_refused(rt: &HostRuntime, files: &[Vec<u8>], n: u64) -> bool {
+    assert!(rt; files.len() <= 64);
+    let heap = Refusing::new(rt.alloc(), n);
+    let mut room = [0; 1024];
+    let mut out = SliceSink::new(&mut room);
+    let result = lumps(&heap, files, &mut out);
+    if !heap.has_refused() {
+        assert_eq!(rt; result, Ok(()));
+        assert_eq!(rt; out.taken().len(), 189);
+        return false;
+    }
+    assert_eq!(rt; result, Err(RunFault::Memory));
+    assert_eq!(rt; status(&Err(RunFault::Memory)), 3);
+    assert!(rt; out.taken().is_empty());
+    true
+}
+
+// Whether `points` met growth `n` refused; then it has read and written nothing.
+fn points_refused(rt: &HostRuntime, files: &[Vec<u8>], n: u64) -> bool {
+    assert!(rt; files.len() <= 64);
+    let heap = Refusing::new(rt.alloc(), n);
+    let mut room = [0; 100];
+    let mut out = SliceSink::new(&mut room);
+    let mut source = SliceSource::new(b"0 5\n");
+    let result = points(&heap, files, b"E1M1", Reading::Signed, &mut source, LIMIT, &mut out);
+    if !heap.has_refused() {
+        assert_eq!(rt; result, Ok(()));
+        assert_eq!(rt; out.taken(), POINT);
+        return false;
+    }
+    assert_eq!(rt; result, Err(RunFault::Memory));
+    assert!(rt; out.taken().is_empty());
+    assert_eq!(rt; source.left().len(), 4);
+    true
+}
+
+fn read_all_refused(rt: &HostRuntime, n: u64) -> bool {
+    let heap = Refusing::new(rt.alloc(), n);
+    let result = read_all(&heap, &mut SliceSource::new(b"1 5\n").at_most(1), 4);
+    if !heap.has_refused() {
+        assert!(rt; result.is_ok());
+        return false;
+    }
+    assert_eq!(rt; result.err(), Some(RunFault::Memory));
+    true
+}
+
+#[test]
+fn growth_refused(rt: HostRuntime) -> Result<(), Fail> {
+    let files = vec![in rt.alloc(); base(rt.alloc())?]?;
+    assert!(rt; lumps_refused(&rt, &files, 1));
+    assert!(rt; !lumps_refused(&rt, &files, 2));
+    assert!(rt; points_refused(&rt, &files, 1));
+    assert!(rt; !points_refused(&rt, &files, 2));
+    assert!(rt; read_all_refused(&rt, 1));
+    assert!(rt; !read_all_refused(&rt, 2));
+    Ok(())
+}

@@ -1,0 +1,87 @@
+//! The sample level and files made of it.
+
+use le_rec::Name8;
+use std::alloc::Global;
+use std::test::Fail;
+use wad_dir::Packer;
+
+/// A lump under its name.
+pub type Lump<'a> = (&'a [u8], &'a [u8]);
+
+const SIDEDEFS: [u8; 60] = [
+    0, 0, 0, 0, 45, 0, 0, 0, 0, 0, 0, 0, 45, 0, 0, 0, 0, 0, 0, 0, 45, 0, 0, 0, 0, 0, 0, 0, 0, 0, 0,
+    0, 0, 0, 45, 0, 0, 0, 0, 0, 0, 0, 45, 0, 0, 0, 0, 0, 0, 0, 45, 0, 0, 0, 0, 0, 0, 0, 1, 0,
+];
+
+const SEGS: [u8; 24] = [
+    0, 0, 1, 0, 0, 64, 0, 0, 0, 0, 0, 0, 1, 0, 0, 0, 0, 192, 0, 0, 1, 0, 0, 0,
+];
+
+pub const NODES: [u8; 28] = [
+    0, 0, 0, 0, 0, 0, 64, 0, 64, 0, 0, 0, 0, 0, 0, 0, 64, 0, 0, 0, 0, 0, 0, 0, 0, 128, 1, 128,
+];
+
+const SECTORS: [u8; 52] = [
+    0, 0, 128, 0, 70, 76, 65, 84, 49, 0, 0, 0, 70, 76, 65, 84, 49, 0, 0, 0, 160, 0, 0, 0, 0, 0, 0,
+    0, 128, 0, 70, 76, 65, 84, 49, 0, 0, 0, 70, 76, 65, 84, 49, 0, 0, 0, 160, 0, 0, 0, 0, 0,
+];
+
+/// The sample level's label and its ten lumps.
+pub fn lumps() -> [Lump<'static>; 11] {
+    [
+        (b"E1M1", &[]),
+        (b"THINGS", &[8, 0, 8, 0, 0, 0, 1, 0, 7, 0]),
+        (b"LINEDEFS", &[0, 0, 1, 0, 4, 0, 0, 0, 0, 0, 0, 0, 1, 0]),
+        (b"SIDEDEFS", &SIDEDEFS),
+        (b"VERTEXES", &[0, 0, 0, 0, 0, 0, 64, 0]),
+        (b"SEGS", &SEGS),
+        (b"SSECTORS", &[1, 0, 0, 0, 1, 0, 1, 0]),
+        (b"NODES", &NODES),
+        (b"SECTORS", &SECTORS),
+        (b"REJECT", &[0]),
+        (b"BLOCKMAP", &[248, 255, 248, 255, 1, 0, 1, 0, 5, 0, 0, 0, 0, 0, 255, 255]),
+    ]
+}
+
+/// The lumps, packed.
+pub fn pack(alloc: Global, lumps: &[Lump<'_>]) -> Result<Vec<u8>, Fail> {
+    let mut packer = Packer::new(alloc);
+    for (name, bytes) in lumps {
+        packer.add(Name8::stored(name_field(name)), bytes)?;
+    }
+    Ok(packer.pack(alloc)?)
+}
+
+// At most eight bytes as a name field.
+fn name_field(name: &[u8]) -> [u8; 8] {
+    let mut field = [0; 8];
+    for (to, from) in field.iter_mut().zip(name) {
+        *to = *from;
+    }
+    field
+}
+
+/// The sample level's file.
+pub fn base(alloc: Global) -> Result<Vec<u8>, Fail> {
+    pack(alloc, &lumps())
+}
+
+/// The sample level's file with other bytes in lump k, from 1 to 10.
+pub fn base_with(alloc: Global, k: usize, bytes: &[u8]) -> Result<Vec<u8>, Fail> {
+    let mut changed: [Lump<'_>; 11] = lumps();
+    if let Some(lump) = changed.get_mut(k) {
+        lump.1 = bytes;
+    }
+    pack(alloc, &changed)
+}
+
+/// The sample level's file with a node of these first four fields.
+pub fn base_with_node(alloc: Global, x: i16, y: i16, dx: i16, dy: i16) -> Result<Vec<u8>, Fail> {
+    let mut node = NODES;
+    for (i, number) in [x, y, dx, dy].iter().enumerate() {
+        let [low, high] = number.to_le_bytes();
+        node[2 * i] = low;
+        node[2 * i + 1] = high;
+    }
+    base_with(alloc, 7, &node)
+}

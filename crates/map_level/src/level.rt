@@ -1,0 +1,210 @@
+//! A level: a label and the ten lumps after it.
+
+ghost use Rattle.std.specs.Prelude.{◌≡◌, ◌+◌, ◌<◌, ◌≤◌, ◌^◌, length, map, IfOk, IfErr, OnOk, Some};
+ghost use Rattle.std.specs.List.{slice_get};
+ghost use Rattle.wad_dir.specs.Winner.{joined};
+
+use crate::reading::Reading;
+use le_rec::{LineDef, Name8, Node, SSector, Sector, Seg, SideDef, Table, Thing, Vertex};
+use std::alloc::Allocator;
+use std::marker::Model;
+use thiserror::Error;
+use wad_dir::Set;
+
+/// Why there is no level of a name.
+#[derive(Clone, Copy, Debug, PartialEq, Eq, Error)]
+pub enum LevelFault {
+    /// No entry has the name.
+    #[error("8 no label")]
+    NoLabel,
+    /// The list of entries ends before the lump of this number, from 1 to 10.
+    #[error("F1 {0}")]
+    Missing(u32),
+    /// The lump of this number, from 1 to 10, isn't inside its file.
+    #[error("F2 {0}")]
+    Outside(u32),
+}
+
+/// A level of several files. It lends the bytes of its lumps and decodes a record when it is asked for.
+#[derive(Drop)]
+pub struct Level<'a> {
+    label: usize,
+    reading: Reading,
+    names: [Name8; 11],
+    lumps: [&'a [u8]; 10],
+}
+
+impl<'a> Model for Level<'a> {
+    ghost use Rattle.std.specs.Prelude.{◌≡◌, map, length};
+    ghost use Rattle.map_level.specs.Parts.{Parts, parts_of};
+
+    ghost Value = { Parts };
+
+    ghost view = { λ a. parts_of a.label a.reading a.names (map (λ lump. lump.now) a.lumps) };
+
+    ghost invariant = { λ a. (length a.names ≡ 11) × (length a.lumps ≡ 10) };
+}
+
+impl<'a> Level<'a> {
+    ghost use Rattle.map_level.specs.Level.{IsLevel, IsRefused};
+
+    /// The level whose label has the name, of the last entry where there are several: the ten lumps are those
+    /// of the ten entries after it, whatever their names, and may lie in a later file (`P_SetupLevel`).
+    pub fn open<A: Allocator>(
+        set: &Set<'a, A>,
+        name: Name8,
+        reading: Reading,
+    ) -> Result<Level<'a>, LevelFault>
+        ensures level { IfOk result (IsLevel set.now name reading) }
+        ensures refused { IfErr result (IsRefused set.now name) }
+    {
+        let Some(label) = set.find(name) else {
+            return Err(LevelFault::NoLabel);
+        };
+        let Lumps { bytes: lumps } = lumps_after(set, label)?;
+        let names = names_from(set, label, name);
+        Ok(Level {
+            label,
+            reading,
+            names,
+            lumps,
+        })
+    }
+
+    /// The reading under which the level was opened.
+    pub fn reading(&self) -> Reading
+        ensures { result ≡ self.now.reading }
+    {
+        self.reading
+    }
+
+    /// The number of the label's entry.
+    pub fn label(&self) -> usize
+        ensures { result ≡ self.now.label }
+    {
+        self.label
+    }
+
+    /// The name of the label's entry, for 0, or of lump k, from 1 to 10.
+    pub fn name(&self, k: usize) -> Name8
+        requires { k ≤ 10 }
+        ensures { slice_get self.now.names k ≡ Some result }
+    {
+        let all = &self.names;
+        all[k]
+    }
+
+    /// Lump 1, the things.
+    pub fn things(&self) -> Table<'a, Thing>
+        ensures { result ≡ self.now.things }
+    {
+        Table::of(self.lumps[0])
+    }
+
+    /// Lump 2, the linedefs.
+    pub fn linedefs(&self) -> Table<'a, LineDef>
+        ensures { result ≡ self.now.linedefs }
+    {
+        Table::of(self.lumps[1])
+    }
+
+    /// Lump 3, the sidedefs.
+    pub fn sidedefs(&self) -> Table<'a, SideDef>
+        ensures { result ≡ self.now.sidedefs }
+    {
+        Table::of(self.lumps[2])
+    }
+
+    /// Lump 4, the vertexes.
+    pub fn vertexes(&self) -> Table<'a, Vertex>
+        ensures { result ≡ self.now.vertexes }
+    {
+        Table::of(self.lumps[3])
+    }
+
+    /// Lump 5, the segs.
+    pub fn segs(&self) -> Table<'a, Seg>
+        ensures { result ≡ self.now.segs }
+    {
+        Table::of(self.lumps[4])
+    }
+
+    /// Lump 6, the ssectors.
+    pub fn ssectors(&self) -> Table<'a, SSector>
+        ensures { result ≡ self.now.ssectors }
+    {
+        Table::of(self.lumps[5])
+    }
+
+    /// Lump 7, the nodes.
+    pub fn nodes(&self) -> Table<'a, Node>
+        ensures { result ≡ self.now.nodes }
+    {
+        Table::of(self.lumps[6])
+    }
+
+    /// Lump 8, the sectors.
+    pub fn sectors(&self) -> Table<'a, Sector>
+        ensures { result ≡ self.now.sectors }
+    {
+        Table::of(self.lumps[7])
+    }
+
+    /// The bytes of lump 9, the reject table.
+    pub fn reject(&self) -> &'a [u8]
+        ensures { result.now ≡ self.now.reject }
+    {
+        self.lumps[8]
+    }
+
+    /// The bytes of lump 10, the blockmap.
+    pub fn blockmap(&self) -> &'a [u8]
+        ensures { result.now ≡ self.now.blockmap }
+    {
+        self.lumps[9]
+    }
+}
+
+// Ten lumps, in a struct because a result can't hold an array of slices.
+struct Lumps<'a> {
+    bytes: [&'a [u8]; 10],
+}
+
+ghost use Rattle.map_level.specs.Level.{AreLumps, AreNames, AreThereBelow, IsMissing, IsOutside};
+ghost use Rattle.map_level.specs.LumpFault.{RefusesLump};
+
+// The lumps of the ten entries after a label, or the first that isn't there.
+fn lumps_after<'a, A: Allocator>(set: &Set<'a, A>, label: usize) -> Result<Lumps<'a>, LevelFault>
+    requires { label < length (joined set.now) }
+    ensures ok { IfOk result (λ lumps. AreLumps set.now label (map (λ lump. lump.now) lumps.bytes)) }
+    ensures err { IfErr result (RefusesLump set.now label) }
+    ensures listed { OnOk result (label + 10 < length (joined set.now)) }
+    ensures fits { OnOk result (label + 10 < 2 ^ 64) }
+{
+    let mut bytes: [&'a [u8]; 10] = [&[]; 10];
+    let after = set.total() - label;
+    for i in 0..10 {
+        let k = i + 1;
+        if k >= after {
+            return Err(LevelFault::Missing(k as u32));
+        }
+        let Ok(lump) = set.lump(label + k) else {
+            return Err(LevelFault::Outside(k as u32));
+        };
+        bytes[i] = lump;
+    }
+    Ok(Lumps { bytes })
+}
+
+// The names of a label and of the ten entries after it.
+fn names_from<A: Allocator>(set: &Set<'_, A>, label: usize, name: Name8) -> [Name8; 11]
+    requires listed { label + 10 < length (joined set.now) }
+    requires fits { label + 10 < 2 ^ 64 }
+    ensures { AreNames set.now label result }
+{
+    let mut names = [name; 11];
+    for k in 0..11 {
+        names[k] = set.name(label + k).unwrap_or(name);
+    }
+    names
+}

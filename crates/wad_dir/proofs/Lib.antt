@@ -1,0 +1,10 @@
+pub mod PartLemmas
+pub mod DirectoryLemmas
+pub mod ReadingLemmas
+pub mod SetLemmas
+pub mod NameLemmas
+pub mod JoinedLemmas
+pub mod WinnerLemmas
+pub mod LumpLemmas
+pub mod PackingLemmas
+pub mod PackedLemmas

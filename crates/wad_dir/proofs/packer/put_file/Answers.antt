@@ -1,0 +1,14 @@
+use Rattle.std.proofs.Common.{◌*◌, ◌-◌, length, arith}
+use Rattle.wad_dir.proofs.PackingLemmas.{length-packed, packed_put}
+use Rattle.wad_dir.proofs.packer.put_file.Goals as goal
+
+pub overflow_sub-size : goal.overflow_sub-size
+overflow_sub-size g c = omega (arith, length-packed c.args.lumps.now, c.requires.whole)
+
+pub put_header-requires-clause-count_fits : goal.put_header-requires-clause-count_fits
+put_header-requires-clause-count_fits g c = omega (arith, length-packed c.args.lumps.now, c.requires.whole, c.requires.most)
+
+pub returns-clause-ok : goal.returns-clause-ok
+returns-clause-ok g c =
+    packed_put c.args.lumps.now c.args.file.now.items _ _ _ (c.args.size - length c.args.lumps.now * 16) (omega (arith, length-packed c.args.lumps.now, c.requires.whole))
+    c.in_ok-put_header.ensures c.in_ok-put_lumps.ensures c.in_ok-put_entries.ensures.ok

@@ -1,0 +1,33 @@
+-- The file that lumps are packed into (Unofficial Doom Specs 1.666, chapter 2).
+use Rattle.std.specs.Prelude.{◌≡◌, ℕ, ◌+◌, pos, List, [], ◌∷◌, ◌++◌, length, codes}
+use Rattle.std.specs.List.{flat_map}
+use Rattle.le_rec.specs.Name.{name_of, padded}
+use Rattle.le_rec.specs.Number.{signed_bytes32}
+use Rattle.le_rec.specs.RecordBytes.{entry_bytes}
+use Rattle.le_rec.specs.declared.records.Entry.{Entry}
+
+-- a lump under a name
+pub record NamedLump : Type 0 where
+  pub name : List ℕ
+  pub bytes : List ℕ
+
+-- a record holds the name as it is
+pub record IsName (name : List ℕ) : Type 0 where
+  pub eight : length (padded name) ≡ 8
+  pub kept : name_of (padded name) ≡ name
+
+-- the lumps one after another
+abbrev pub lump_bytes : List NamedLump → List ℕ
+lump_bytes lumps = flat_map (λ lump. lump.bytes) lumps
+
+-- their entries, where the first lump stands at a place
+abbrev pub entries_from : ℕ → List NamedLump → List Entry
+entries_from place [] = []
+entries_from place (lump ∷ lumps) =
+    record { filepos = pos place; size = pos (length lump.bytes); name = padded lump.name } ∷ entries_from (place + length lump.bytes) lumps
+
+-- the header, the lumps from byte 12 on, and the directory
+abbrev pub packed : List NamedLump → List ℕ
+packed lumps =
+    codes "PWAD" ++ (signed_bytes32 (pos (length lumps)) ++ (signed_bytes32 (pos (12 + length (lump_bytes lumps)))
+    ++ (lump_bytes lumps ++ flat_map entry_bytes (entries_from 12 lumps))))

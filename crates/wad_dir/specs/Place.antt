@@ -1,0 +1,6 @@
+-- Where an entry says that its lump lies.
+use Rattle.wad_dir.specs.Winner.{Listed}
+use Rattle.wad_dir.specs.declared.set.Place.{Place}
+
+abbrev pub place_of : Listed → Place
+place_of listed = record { file = listed.file; filepos = listed.entry.filepos; size = listed.entry.size }

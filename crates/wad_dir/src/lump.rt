@@ -1,0 +1,35 @@
+//! An entry's lump in its file.
+
+ghost use Rattle.std.specs.Prelude.{ℕ, List, IfSome, IfNone};
+ghost use Rattle.wad_dir.specs.Slice.{IsSlice};
+
+use crate::part::{natural, part_at};
+use le_rec::Entry;
+use std::marker::Model;
+
+/// An entry with its file's number and bytes.
+#[derive(Drop)]
+pub struct Found<'a> {
+    pub file: u32,
+    pub bytes: &'a [u8],
+    pub entry: Entry,
+}
+
+impl<'a> Model for Found<'a> {
+    ghost use Rattle.wad_dir.specs.Winner.{Listed};
+
+    ghost Value = { Listed };
+
+    ghost view = { λ f. record { file = f.file; bytes = f.bytes.now; entry = f.entry } };
+}
+
+/// The bytes of an entry's lump, where they are all in the file.
+pub fn lump_of<'a>(bytes: &'a [u8], entry: &Entry) -> Option<&'a [u8]>
+    ensures some { IfSome result (λ lump. IsSlice bytes.now entry.now lump.now) }
+    ensures none { IfNone result ((lump : List ℕ) → ¬ IsSlice bytes.now entry.now lump) }
+{
+    if entry.size == 0 {
+        return Some(&bytes[..0]);
+    }
+    part_at(bytes, entry.filepos, natural(entry.size)?)
+}

@@ -1,0 +1,186 @@
+//! Several WAD files, whose entries are numbered on in one list.
+
+ghost use Rattle.std.specs.Prelude.{◌≡◌, ℕ, ◌<◌, ◌≤◌, ◌↔◌, ◌≢◌, Some, List, length, map, IfOk, IfSome, IfNone, IsErrOf};
+ghost use Rattle.std.specs.List.{All, slice_get};
+ghost use Rattle.std.specs.Option.{option_map};
+
+use crate::lump::{Found, lump_of};
+use crate::wad::{Wad, WadFault};
+use le_rec::Name8;
+use std::alloc::{Allocator, Global};
+use std::marker::Model;
+use thiserror::Error;
+
+/// Why files are no set.
+#[derive(Clone, Copy, Debug, PartialEq, Eq, Error)]
+pub enum SetFault {
+    /// The file of this number, counted from 1, is the first that has no directory.
+    #[error("file {0}: {1}")]
+    File(u32, WadFault),
+    /// A growth was refused.
+    #[error("memory")]
+    Memory,
+}
+
+/// Where an entry says that its lump lies.
+#[derive(Clone, Copy, Debug, PartialEq, Eq)]
+pub struct Place {
+    /// The file's number, counted from 1.
+    pub file: u32,
+    /// The place in that file, in bytes.
+    pub filepos: i32,
+    /// The number of bytes.
+    pub size: i32,
+}
+
+/// Why an entry's lump can't be read.
+#[derive(Clone, Copy, Debug, PartialEq, Eq, Error)]
+pub enum LumpFault {
+    /// There are not so many entries.
+    #[error("5 no such lump")]
+    NoSuch,
+    /// The lump isn't inside the entry's file.
+    #[error("6 outside file")]
+    Outside,
+}
+
+/// WAD files in order. It lends the files' bytes, and reads an entry when it is asked for.
+#[derive(Drop)]
+pub struct Set<'a, A: Allocator = Global> {
+    wads: Vec<Wad<'a>, A>,
+}
+
+impl<'a, A: Allocator> Model for Set<'a, A> {
+    ghost use Rattle.std.specs.Prelude.{List, ◌≤◌, length};
+    ghost use Rattle.wad_dir.specs.Directory.{WadFile};
+
+    ghost Value = { List WadFile };
+
+    ghost view = { λ s. s.wads.items };
+
+    ghost invariant = { λ s. length s.wads.items ≤ 64 };
+}
+
+impl<'a, A: Allocator> Set<'a, A> {
+    ghost use Rattle.wad_dir.specs.Directory.{IsRead};
+    ghost use Rattle.wad_dir.specs.Refusal.{IsFirstRefused};
+    ghost use Rattle.wad_dir.specs.Winner.{joined, names, listed_name, Wins};
+    ghost use Rattle.wad_dir.specs.Slice.{IsLump};
+    ghost use Rattle.wad_dir.specs.Place.{place_of};
+
+    /// The set of the files. Room for its list is made first; then the files are read in order.
+    pub fn new(alloc: A, files: &'a [Vec<u8>]) -> Result<Set<'a, A>, SetFault>
+        requires { length files.now ≤ 64 }
+        ensures bytes { IfOk result (λ set. map (λ file. file.bytes) set ≡ map (λ file. file.items) files.now) }
+        ensures read { IfOk result (All IsRead) }
+        ensures refused { (n : ℕ) (fault : _) → result ≡ Err (SetFault.File n fault) → IsFirstRefused (map (λ file. file.items) files.now) n fault }
+    {
+        let Ok(mut wads) = Vec::with_capacity(alloc, files.len()) else {
+            return Err(SetFault::Memory);
+        };
+        for (i, file) in files.iter().enumerate() {
+            let wad = match Wad::read(file.as_slice()) {
+                Ok(wad) => wad,
+                Err(fault) => return Err(SetFault::File(i as u32 + 1, fault)),
+            };
+            let Ok(()) = wads.push(wad) else {
+                return Err(SetFault::Memory);
+            };
+        }
+        Ok(Set { wads })
+    }
+
+    /// The number of files.
+    pub fn files(&self) -> usize
+        ensures files { result ≡ length self.now }
+        ensures few { result ≤ 64 }
+    {
+        self.wads.len()
+    }
+
+    /// A file, counted from 0.
+    pub fn file(&self, index: usize) -> Option<Wad<'a>>
+        ensures { result ≡ slice_get self.now index }
+    {
+        if index >= self.wads.len() {
+            return None;
+        }
+        Some(self.wads[index].again())
+    }
+
+    /// The number of entries of all files.
+    pub fn total(&self) -> usize
+        ensures { result ≡ length (joined self.now) }
+    {
+        let mut total = 0;
+        for wad in &self.wads {
+            total += wad.len();
+        }
+        total
+    }
+
+    /// Where the entry of a number says that its lump lies.
+    pub fn place(&self, g: usize) -> Option<Place>
+        ensures { result ≡ option_map place_of (slice_get (joined self.now) g) }
+    {
+        let found = self.listed(g)?;
+        Some(Place {
+            file: found.file,
+            filepos: found.entry.filepos,
+            size: found.entry.size,
+        })
+    }
+
+    /// The name of the entry of a number.
+    pub fn name(&self, g: usize) -> Option<Name8>
+        ensures { result ≡ option_map listed_name (slice_get (joined self.now) g) }
+    {
+        let found = self.listed(g)?;
+        Some(Name8::stored(found.entry.name))
+    }
+
+    /// The number of the last entry of a name.
+    pub fn find(&self, name: Name8) -> Option<usize>
+        ensures some { IfSome result (Wins (names self.now) name) }
+        ensures none { IfNone result ((g : ℕ) → slice_get (names self.now) g ≢ Some name) }
+    {
+        let mut first = self.total();
+        for k in (0..self.wads.len()).rev() {
+            let wad = &self.wads[k];
+            first -= wad.len();
+            if let Some(i) = wad.last_named(name) {
+                return Some(first + i);
+            }
+        }
+        None
+    }
+
+    /// The bytes of the lump of the entry of a number.
+    pub fn lump(&self, g: usize) -> Result<&'a [u8], LumpFault>
+        ensures ok { IfOk result (λ lump. IsLump self.now g lump.now) }
+        ensures no_such { IsErrOf result LumpFault.NoSuch ↔ (length (joined self.now) ≤ g) }
+        ensures outside { IsErrOf result LumpFault.Outside ↔ ((g < length (joined self.now)) × ((lump : List ℕ) → ¬ IsLump self.now g lump)) }
+    {
+        let Some(found) = self.listed(g) else {
+            return Err(LumpFault::NoSuch);
+        };
+        match lump_of(found.bytes, &found.entry) {
+            Some(lump) => Ok(lump),
+            None => Err(LumpFault::Outside),
+        }
+    }
+
+    // The entry of a number.
+    fn listed(&self, g: usize) -> Option<Found<'a>>
+        ensures { result ≡ slice_get (joined self.now) g }
+    {
+        let mut left = g;
+        for (i, wad) in self.wads.iter().enumerate() {
+            if left < wad.len() {
+                return wad.found(i as u32 + 1, left);
+            }
+            left -= wad.len();
+        }
+        None
+    }
+}

@@ -1,0 +1,191 @@
+//! The directory of one WAD file.
+
+ghost use Rattle.std.specs.Prelude.{◌≡◌, ◌≢◌, ℕ, ◌*◌, ◌<◌, ◌≤◌, ◌^◌, ◌↔◌, List, ◌++◌, length, take, slice_get, IfSome, IfNone, Some};
+ghost use Rattle.le_rec.specs.Name.{name_of};
+ghost use Rattle.wad_dir.specs.Directory.{magic_of, offset_of};
+ghost use Rattle.wad_dir.specs.Part.{StandsAt};
+
+use crate::lump::Found;
+use crate::part::{i32_at, natural, part_at};
+use le_rec::{Entry, Name8, Record, Table};
+use std::marker::Model;
+use thiserror::Error;
+
+// The bytes of a file's header: the four that tell its kind, the number of its entries and their place.
+const HEADER: usize = 12;
+
+/// What a file says it is: a whole game's, or a patch's.
+#[derive(Clone, Copy, Debug, PartialEq, Eq)]
+pub enum Kind {
+    Iwad,
+    Pwad,
+}
+
+/// Why a file's bytes have no directory.
+#[derive(Clone, Copy, Debug, PartialEq, Eq, Error)]
+pub enum WadFault {
+    /// There are fewer than 12 bytes.
+    #[error("1 short")]
+    Short,
+    /// They begin with neither `IWAD` nor `PWAD`.
+    #[error("2 magic")]
+    Magic,
+    /// The number of entries is negative.
+    #[error("3 count")]
+    Count,
+    /// There are entries, and their table isn't inside the file.
+    #[error("4 directory")]
+    Directory,
+}
+
+/// A WAD file: its kind and its directory. It lends the file's bytes, and reads an entry when it is asked for.
+#[derive(Drop)]
+pub struct Wad<'a> {
+    bytes: &'a [u8],
+    kind: Kind,
+    table: &'a [u8],
+}
+
+impl<'a> Model for Wad<'a> {
+    ghost use Rattle.std.specs.Prelude.{◌<◌, ◌^◌, length};
+    ghost use Rattle.le_rec.specs.Record.{entry};
+    ghost use Rattle.le_rec.specs.Table.{records_of};
+    ghost use Rattle.wad_dir.specs.Directory.{WadFile};
+
+    ghost Value = { WadFile };
+
+    ghost view = { λ w. record { bytes = w.bytes.now; kind = w.kind; entries = records_of 16 entry w.table.now } };
+
+    ghost invariant = { λ w. length w.table.now < 2 ^ 35 };
+}
+
+impl<'a> Wad<'a> {
+    ghost use Rattle.wad_dir.specs.Directory.{WadFile, IsRead};
+    ghost use Rattle.wad_dir.specs.Refusal.{IsRefused};
+    ghost use Rattle.wad_dir.specs.Winner.{Wins, listed_in, names_in};
+
+    /// The directory of a file's bytes. An offset is not looked at where there are no entries.
+    pub fn read(bytes: &'a [u8]) -> Result<Wad<'a>, WadFault>
+        ensures ok { (file : WadFile) → (result ≡ Ok file) ↔ ((file.bytes ≡ bytes.now) × IsRead file) }
+        ensures refused { (fault : _) → (result ≡ Err fault) ↔ IsRefused bytes.now fault }
+    {
+        if bytes.len() < HEADER {
+            return Err(WadFault::Short);
+        }
+        let Some(kind) = kind_of(bytes) else {
+            return Err(WadFault::Magic);
+        };
+        let Some(count) = natural(i32_at(bytes, 4)) else {
+            return Err(WadFault::Count);
+        };
+        let Some(table) = table_of(bytes, count) else {
+            return Err(WadFault::Directory);
+        };
+        Ok(Wad { bytes, kind, table })
+    }
+
+    /// What the file says it is.
+    pub fn kind(&self) -> Kind
+        ensures { result ≡ self.now.kind }
+    {
+        self.kind
+    }
+
+    /// The number of entries.
+    pub fn len(&self) -> usize
+        ensures entries { result ≡ length self.now.entries }
+        ensures bound { result < 2 ^ 31 }
+    {
+        self.entries().len()
+    }
+
+    // The last entry of a name.
+    pub(crate) fn last_named(&self, name: Name8) -> Option<usize>
+        ensures some { IfSome result (Wins (names_in self.now) name) }
+        ensures none { IfNone result ((i : ℕ) → slice_get (names_in self.now) i ≢ Some name) }
+    {
+        let bytes = name.bytes();
+        let wanted = through_nul(&bytes);
+        let entries = self.entries();
+        for i in (0..entries.len()).rev() {
+            if let Some(entry) = entries.get(i) {
+                if entry.name.starts_with(wanted) {
+                    return Some(i);
+                }
+            }
+        }
+        None
+    }
+
+    // An entry with the file's number and bytes.
+    pub(crate) fn found(&self, file: u32, i: usize) -> Option<Found<'a>>
+        ensures { result ≡ slice_get (listed_in file self.now) i }
+    {
+        let entry = self.entries().get(i)?;
+        Some(Found {
+            file,
+            bytes: self.bytes,
+            entry,
+        })
+    }
+
+    // The same file.
+    pub(crate) fn again(&self) -> Wad<'a>
+        ensures { result ≡ self.now }
+    {
+        Wad {
+            bytes: self.bytes,
+            kind: self.kind,
+            table: self.table,
+        }
+    }
+
+    /// The entries, decoded when they are asked for.
+    pub fn entries(&self) -> Table<'a, Entry>
+        ensures entries { result.records ≡ self.now.entries }
+        ensures bound { length result.records < 2 ^ 31 }
+    {
+        Table::of(self.table)
+    }
+}
+
+// The bytes of a name up to and with the first NUL: a stored name that begins with them is that name.
+fn through_nul(bytes: &[u8; 8]) -> &[u8]
+    ensures { (raw : List ℕ) → length raw ≡ 8 → ((rest : List ℕ) × (raw ≡ result.now ++ rest)) ↔ (name_of raw ≡ name_of bytes.now) }
+{
+    for (i, byte) in bytes.iter().enumerate() {
+        if *byte == 0 {
+            return &bytes[..i + 1];
+        }
+    }
+    bytes
+}
+
+fn kind_of(bytes: &[u8]) -> Option<Kind>
+    requires { 4 ≤ length bytes.now }
+    ensures some { IfSome result (λ kind. take 4 bytes.now ≡ magic_of kind) }
+    ensures none { IfNone result ((kind : _) → take 4 bytes.now ≢ magic_of kind) }
+{
+    let magic = &bytes[..4];
+    if magic == b"IWAD".as_slice() {
+        Some(Kind::Iwad)
+    } else if magic == b"PWAD".as_slice() {
+        Some(Kind::Pwad)
+    } else {
+        None
+    }
+}
+
+// The records of the directory. With no entries the offset is not looked at.
+fn table_of(bytes: &[u8], count: usize) -> Option<&[u8]>
+    requires header { 12 ≤ length bytes.now }
+    requires counted { count < 2 ^ 31 }
+    ensures size { IfSome result (λ table. length table.now ≡ 16 * count) }
+    ensures some { 0 < count → IfSome result (λ table. StandsAt bytes.now (offset_of bytes.now) table.now) }
+    ensures none { IfNone result ((0 < count) × ((table : List ℕ) → length table ≡ 16 * count → ¬ StandsAt bytes.now (offset_of bytes.now) table)) }
+{
+    if count == 0 {
+        return Some(&bytes[..0]);
+    }
+    part_at(bytes, i32_at(bytes, 8), count * Entry::SIZE)
+}

@@ -1,0 +1,15 @@
+pub mod BlockLemmas
+pub mod Digits
+pub mod Forms
+pub mod InputLemmas
+pub mod LineLemmas
+pub mod LinesLaw
+pub mod ListingLemmas
+pub mod Parts
+pub mod PointLemmas
+pub mod ProgressLemmas
+pub mod Readings
+pub mod SmallLemmas
+pub mod Texts
+pub mod WriteLemmas
+pub mod WriteProgress

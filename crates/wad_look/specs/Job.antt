@@ -1,0 +1,37 @@
+-- The forms of a command line (this project's own): a table with a line a command, and what the words of a form ask for.
+use Rattle.std.specs.Prelude.{◌≡◌, ◌≢◌, ℕ, ◌+◌, ◌<◌, ◌≤◌, Bool, true, false, List, [], ◌∷◌, ◌++◌, length, codes, All, IsTrue, slice_index}
+use Rattle.wad_look.specs.declared.command.Cmd.{Cmd}
+use Rattle.wad_look.specs.declared.command.Job.{Job}
+use Rattle.wad_look.specs.declared.command.Cmd.TheVariants.{Lumps, Points}
+use Rattle.wad_look.specs.declared.words.Form.{Form}
+
+-- the word of a command
+abbrev pub word_of : Cmd → List ℕ
+word_of Lumps = codes "lumps"
+word_of Points = codes "points"
+
+-- whether `--wide` may follow the word, how many NAMEs stand before the files, and how many files there may be
+abbrev pub form_of : Cmd → Form
+form_of Lumps = record { wide = false; names = 0; files = 64 }
+form_of Points = record { wide = true; names = 1; files = 64 }
+
+-- `--wide` or nothing
+abbrev pub wide_words : Bool → List (List ℕ)
+wide_words false = []
+wide_words true = codes "--wide" ∷ []
+
+-- a NAME or a FILE doesn't begin with `-`
+abbrev pub IsPlain : List ℕ → Type 0
+IsPlain word = slice_index word 0 ≢ 45
+
+-- the words are the command's, `--wide` where the job says so, the NAMEs of the form, and the files
+pub record IsJob (words : List (List ℕ)) (job : Job) : Type 0 where
+  pub names : List (List ℕ)
+  pub files : List (List ℕ)
+  pub spelled : words ≡ word_of job.command ∷ (wide_words job.wide ++ (names ++ files))
+  pub may_be_wide : IsTrue job.wide → IsTrue (form_of job.command).wide
+  pub all_named : length names ≡ (form_of job.command).names
+  pub some_file : 0 < length files
+  pub few_files : length files ≤ (form_of job.command).files
+  pub plain : All IsPlain (names ++ files)
+  pub first : job.first + length files ≡ length words

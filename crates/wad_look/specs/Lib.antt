@@ -1,0 +1,16 @@
+pub mod AnswersLines
+pub mod Decimal
+pub mod Job
+pub mod LineAnswers
+pub mod Lines
+pub mod Listing
+pub mod Numbers
+pub mod Opening
+pub mod PointAnswers
+pub mod ReadsAll
+pub mod Runs
+pub mod Scan
+pub mod SectorOf
+pub mod SmallLevel
+pub mod Status
+pub mod Writes

@@ -1,0 +1,34 @@
+//! The engines behind the commands of `wadlook`: bytes in, bytes out.
+#![tactic(auto)]
+
+mod command;
+mod content;
+mod engine;
+mod fault;
+mod input;
+pub mod laws;
+mod line;
+mod listing;
+pub mod number_laws;
+mod opening;
+mod outcome;
+mod output;
+mod part;
+mod point_lines;
+mod sector_of;
+mod small;
+mod words;
+
+#[cfg(test)]
+mod tests;
+
+pub use command::{Cmd, Job};
+pub use engine::{LineCommand, answer_lines};
+pub use fault::RunFault;
+pub use input::{LIMIT, read_all};
+pub use outcome::status;
+pub use output::emit;
+pub use listing::lumps;
+pub use point_lines::points;
+pub use small::{Leaf, Small};
+pub use words::job;

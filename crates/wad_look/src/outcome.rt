@@ -1,0 +1,19 @@
+//! The status with which a run ends.
+
+ghost use Rattle.std.specs.Prelude.{◌≡◌};
+ghost use Rattle.wad_look.specs.Status.{status_of};
+
+use crate::fault::RunFault;
+
+/// The program's status for what a run gave: 0 where it was done, 1 where an audit found a fault, 3 where a growth was
+/// refused, and 2 at any other refusal.
+pub fn status(outcome: &Result<bool, RunFault>) -> u8
+    ensures { result ≡ status_of outcome.now }
+{
+    match outcome {
+        Ok(true) => 0,
+        Ok(false) => 1,
+        Err(RunFault::Memory) => 3,
+        Err(_) => 2,
+    }
+}

@@ -1,0 +1,156 @@
+//! The words of a command line.
+
+ghost use Rattle.std.specs.Prelude.{◌≡◌, ◌-◌, ◌<◌, ◌≤◌, ◌↔◌, ◌≢◌, ◌++◌, IsTrue, Some, true, false, length, map, string_bytes, All, codes, slice_index_or, []};
+ghost use Rattle.wad_look.specs.Job.{IsJob, IsPlain, word_of, form_of, wide_words};
+
+use crate::command::{Cmd, Job};
+
+/// What the words after a command's own are.
+#[derive(Clone, Copy)]
+struct Form {
+    /// Whether `--wide` may stand first.
+    wide: bool,
+    /// How many names stand before the files.
+    names: usize,
+    /// How many files there may be.
+    files: usize,
+}
+
+impl Cmd {
+    fn named(word: &str) -> Option<Cmd>
+        ensures { (command : Cmd) → (result ≡ Some command) ↔ (word.now ≡ word_of command) }
+    {
+        match word.as_bytes() {
+            b"lumps" => Some(Cmd::Lumps),
+            b"points" => Some(Cmd::Points),
+            _ => None,
+        }
+    }
+
+    fn form(self) -> Form
+        ensures { result ≡ form_of self }
+    {
+        match self {
+            Cmd::Lumps => Form {
+                wide: false,
+                names: 0,
+                files: 64,
+            },
+            Cmd::Points => Form {
+                wide: true,
+                names: 1,
+                files: 64,
+            },
+        }
+    }
+}
+
+impl Form {
+    // Whether the words can be the names and the files.
+    fn takes(self, operands: &[String]) -> bool
+        ensures { IsTrue result
+            ↔ ((self.names < length operands.now) × (length operands.now - self.names ≤ self.files)
+            × All (λ word. IsPlain (string_bytes word)) operands.now) }
+    {
+        self.names < operands.len()
+            && operands.len() - self.names <= self.files
+            && operands.iter().all(|word| is_plain(word.as_str()))
+    }
+}
+
+fn is_plain(word: &str) -> bool
+    ensures { IsTrue result ↔ IsPlain word.now }
+{
+    word.as_bytes().first() != Some(&b'-')
+}
+
+// Whether `--wide` stands first, and the words after it.
+fn after_wide(allowed: bool, words: &[String]) -> (bool, &[String])
+    ensures spelled { map string_bytes words.now ≡ wide_words result.0 ++ map string_bytes result.1.now }
+    ensures allowed { IsTrue result.0 → IsTrue allowed }
+    ensures absent { result.0 ≡ false → allowed ≡ true → slice_index_or (map string_bytes words.now) 0 [] ≢ codes "--wide" }
+{
+    match words.split_first() {
+        Some((word, rest)) if allowed && word.as_str() == "--wide" => (true, rest),
+        _ => (false, words),
+    }
+}
+
+/// What the words of a command line ask for, without the name of the program: None where they are no form of a command.
+pub fn job(words: &[String]) -> Option<Job>
+    ensures { (job : Job) → (result ≡ Some job) ↔ IsJob (map string_bytes words.now) job }
+{
+    let (word, rest) = words.split_first()?;
+    let command = Cmd::named(word.as_str())?;
+    let form = command.form();
+    let (wide, operands) = after_wide(form.wide, rest);
+    if !form.takes(operands) {
+        return None;
+    }
+    Some(Job {
+        command,
+        first: words.len() - operands.len() + form.names,
+        wide,
+    })
+}
+
+#[cfg(test)]
+mod tests {
+    use super::*;
+    use std::test::Fail;
+
+    fn job_of(rt: &HostRuntime, line: &str) -> Result<Option<Job>, Fail> {
+        let mut words = Vec::new(rt.alloc());
+        for word in line.split(' ') {
+            words.push(String::from_str(rt.alloc(), word)?)?;
+        }
+        Ok(job(&words))
+    }
+
+    #[test]
+    fn jobs(rt: HostRuntime) -> Result<(), Fail> {
+        let points = Job {
+            command: Cmd::Points,
+            first: 2,
+            wide: false,
+        };
+        let lumps = Job {
+            command: Cmd::Lumps,
+            first: 1,
+            wide: false,
+        };
+        let wide_points = Job {
+            command: Cmd::Points,
+            first: 3,
+            wide: true,
+        };
+        assert_eq!(rt; job_of(&rt, "points E1M1 a b")?, Some(points));
+        assert_eq!(rt; job_of(&rt, "lumps a")?, Some(lumps));
+        assert_eq!(rt; job_of(&rt, "points E1M1")?, None);
+        assert_eq!(rt; job_of(&rt, "Points E1M1 a")?, None);
+        assert_eq!(rt; job_of(&rt, "lmp a b")?, None);
+        assert_eq!(rt; job_of(&rt, "lumps -x")?, None);
+        assert_eq!(rt; job_of(&rt, "points --wide E1M1 a")?, Some(wide_points));
+        assert_eq!(rt; job_of(&rt, "sight --wide E1M1 a")?, None);
+        assert_eq!(rt; job_of(&rt, "points E1M1 --wide a")?, None);
+        Ok(())
+    }
+
+    #[test]
+    fn other_words(rt: HostRuntime) -> Result<(), Fail> {
+        assert_eq!(rt; job_of(&rt, "")?, None);
+        assert_eq!(rt; job_of(&rt, "lumps")?, None);
+        assert_eq!(rt; job_of(&rt, "lumps --wide a")?, None);
+        assert_eq!(rt; job_of(&rt, "points --wide E1M1")?, None);
+        assert_eq!(rt; job_of(&rt, "points --wide --wide a")?, None);
+        let mut words = Vec::new(rt.alloc());
+        words.push(String::from_str(rt.alloc(), "lumps")?)?;
+        for _ in 0..64 {
+            words.push(String::from_str(rt.alloc(), "a")?)?;
+        }
+        assert!(rt; job(&words).is_some());
+        words.push(String::from_str(rt.alloc(), "a")?)?;
+        assert!(rt; job(&words).is_none());
+        Ok(())
+    }
+}

@@ -8,7 +8,7 @@ use std::test::Fail;
 use wad_dir::Set;
 
 // Why there is no level E1M1.
-fn fault(rt: &HostRuntime, files: &[Vec<u8>]) -> Result<Option<LevelFault>, Fail> {
+fn fault(rt: &(impl Abort + AllocGlobal), files: &[Vec<u8>]) -> Result<Option<LevelFault>, Fail> {
     assert!(rt; files.len() <= 64);
     let set = Set::new(rt.alloc(), files)?;
     Ok(Level::open(&set, Name8::query(b"E1M1"), Reading::Signed).err())
@@ -25,7 +25,14 @@ fn check_tables(rt: &impl Abort, level: &Level<'_>) {
     assert_eq!(rt; level.sectors().len(), 2);
     assert_eq!(rt; level.reject(), [0].as_slice());
     assert_eq!(rt; level.blockmap().len(), 16);
-    let seg = Seg { v1: 1, v2: 0, angle: -16384, linedef: 0, side: 1, offset: 0 };
+    let seg = Seg {
+        v1: 1,
+        v2: 0,
+        angle: -16384,
+        linedef: 0,
+        side: 1,
+        offset: 0,
+    };
     assert_eq!(rt; level.segs().get(1), Some(seg));
 }
 
@@ -52,7 +59,7 @@ fn lumps_missing(rt: HostRuntime) -> Result<(), Fail> {
 }
 
 // The sample level's file with filepos -1 in the entry NODES.
-fn nodes_outside(rt: &HostRuntime) -> Result<Vec<u8>, Fail> {
+fn nodes_outside(rt: &(impl Abort + AllocGlobal)) -> Result<Vec<u8>, Fail> {
     let mut file = base(rt.alloc())?;
     assert_eq!(rt; file.len(), 409);
     for at in 345..349 {

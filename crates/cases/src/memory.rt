@@ -11,7 +11,7 @@ use wad_look::{LIMIT, RunFault, lumps, points, read_all, status};
 const POINT: &[u8] = b"0 5 sector 1 ssector 1\n";
 
 // Whether `lumps` met growth `n` refused; then it has written nothing.
-fn lumps_refused(rt: &HostRuntime, files: &[Vec<u8>], n: u64) -> bool {
+fn lumps_refused(rt: &(impl Abort + AllocGlobal), files: &[Vec<u8>], n: u64) -> bool {
     assert!(rt; files.len() <= 64);
     let heap = Refusing::new(rt.alloc(), n);
     let mut room = [0; 1024];
@@ -29,13 +29,21 @@ fn lumps_refused(rt: &HostRuntime, files: &[Vec<u8>], n: u64) -> bool {
 }
 
 // Whether `points` met growth `n` refused; then it has read and written nothing.
-fn points_refused(rt: &HostRuntime, files: &[Vec<u8>], n: u64) -> bool {
+fn points_refused(rt: &(impl Abort + AllocGlobal), files: &[Vec<u8>], n: u64) -> bool {
     assert!(rt; files.len() <= 64);
     let heap = Refusing::new(rt.alloc(), n);
     let mut room = [0; 100];
     let mut out = SliceSink::new(&mut room);
     let mut source = SliceSource::new(b"0 5\n");
-    let result = points(&heap, files, b"E1M1", Reading::Signed, &mut source, LIMIT, &mut out);
+    let result = points(
+        &heap,
+        files,
+        b"E1M1",
+        Reading::Signed,
+        &mut source,
+        LIMIT,
+        &mut out,
+    );
     if !heap.has_refused() {
         assert_eq!(rt; result, Ok(()));
         assert_eq!(rt; out.taken(), POINT);
@@ -47,7 +55,7 @@ fn points_refused(rt: &HostRuntime, files: &[Vec<u8>], n: u64) -> bool {
     true
 }
 
-fn read_all_refused(rt: &HostRuntime, n: u64) -> bool {
+fn read_all_refused(rt: &(impl Abort + AllocGlobal), n: u64) -> bool {
     let heap = Refusing::new(rt.alloc(), n);
     let result = read_all(&heap, &mut SliceSource::new(b"1 5\n").at_most(1), 4);
     if !heap.has_refused() {

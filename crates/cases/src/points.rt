@@ -26,13 +26,26 @@ fn run(
     result
 }
 
-fn answers(rt: &HostRuntime, file: Vec<u8>, input: &[u8], text: &[u8]) -> Result<(), Fail> {
+fn answers(
+    rt: &(impl Abort + AllocGlobal),
+    file: Vec<u8>,
+    input: &[u8],
+    text: &[u8],
+) -> Result<(), Fail> {
     let files = vec![in rt.alloc(); file]?;
-    assert_eq!(rt; run(rt, rt.alloc(), &files, Reading::Signed, input, text), Ok(()));
+    assert_eq!(rt;
+        run(rt, rt.alloc(), &files, Reading::Signed, input, text),
+        Ok(())
+    );
     Ok(())
 }
 
-fn refused(rt: &HostRuntime, file: Vec<u8>, fault: RunFault, text: &str) -> Result<(), Fail> {
+fn refused(
+    rt: &(impl Abort + AllocGlobal),
+    file: Vec<u8>,
+    fault: RunFault,
+    text: &str,
+) -> Result<(), Fail> {
     let files = vec![in rt.alloc(); file]?;
     let result = run(rt, rt.alloc(), &files, Reading::Signed, b"0 5\n", b"");
     assert_eq!(rt; result, Err(fault));
@@ -44,7 +57,12 @@ fn refused(rt: &HostRuntime, file: Vec<u8>, fault: RunFault, text: &str) -> Resu
 
 #[test]
 fn first_point(rt: HostRuntime) -> Result<(), Fail> {
-    answers(&rt, base(rt.alloc())?, b"0 5\n", b"0 5 sector 1 ssector 1\n")
+    answers(
+        &rt,
+        base(rt.alloc())?,
+        b"0 5\n",
+        b"0 5 sector 1 ssector 1\n",
+    )
 }
 
 #[test]
@@ -57,7 +75,14 @@ fn base_points(rt: HostRuntime) -> Result<(), Fail> {
 fn wide_points(rt: HostRuntime) -> Result<(), Fail> {
     let text = b"1 5 sector 0 ssector 0\n0 5 sector 1 ssector 1\n-1 5 sector 1 ssector 1\n";
     let files = vec![in rt.alloc(); base(rt.alloc())?]?;
-    let result = run(&rt, rt.alloc(), &files, Reading::Wide, b"1 5\n0 5\n-1 5\n", text);
+    let result = run(
+        &rt,
+        rt.alloc(),
+        &files,
+        Reading::Wide,
+        b"1 5\n0 5\n-1 5\n",
+        text,
+    );
     assert_eq!(rt; result, Ok(()));
     Ok(())
 }
@@ -65,19 +90,34 @@ fn wide_points(rt: HostRuntime) -> Result<(), Fail> {
 #[test]
 fn diagonal_ties(rt: HostRuntime) -> Result<(), Fail> {
     let text = b"0 0 sector 0 ssector 0\n1 -1 sector 1 ssector 1\n-1 1 sector 1 ssector 1\n";
-    answers(&rt, base_with_node(rt.alloc(), 0, 0, -1, 1)?, b"0 0\n1 -1\n-1 1\n", text)
+    answers(
+        &rt,
+        base_with_node(rt.alloc(), 0, 0, -1, 1)?,
+        b"0 0\n1 -1\n-1 1\n",
+        text,
+    )
 }
 
 #[test]
 fn greatest_products(rt: HostRuntime) -> Result<(), Fail> {
     let file = base_with_node(rt.alloc(), -16384, 16383, 32767, -32768)?;
-    answers(&rt, file, b"16383 -16384\n", b"16383 -16384 sector 1 ssector 1\n")
+    answers(
+        &rt,
+        file,
+        b"16383 -16384\n",
+        b"16383 -16384 sector 1 ssector 1\n",
+    )
 }
 
 #[test]
 fn no_direction(rt: HostRuntime) -> Result<(), Fail> {
     let text = b"3 3 sector 0 ssector 0\n-16384 16383 sector 0 ssector 0\n";
-    answers(&rt, base_with_node(rt.alloc(), 3, 3, 0, 0)?, b"3 3\n-16384 16383\n", text)
+    answers(
+        &rt,
+        base_with_node(rt.alloc(), 3, 3, 0, 0)?,
+        b"3 3\n-16384 16383\n",
+        text,
+    )
 }
 
 #[test]
@@ -87,14 +127,22 @@ fn no_nodes(rt: HostRuntime) -> Result<(), Fail> {
     one[7].1 = &[];
     let text = b"0 5 sector 0 ssector 0\n-9 9 sector 0 ssector 0\n";
     answers(&rt, pack(rt.alloc(), &one)?, b"0 5\n-9 9\n", text)?;
-    refused(&rt, base_with(rt.alloc(), 7, &[])?, RunFault::Later, "refused: later")
+    refused(
+        &rt,
+        base_with(rt.alloc(), 7, &[])?,
+        RunFault::Later,
+        "refused: later",
+    )
 }
 
 #[test]
 fn two_files(rt: HostRuntime) -> Result<(), Fail> {
     let files = vec![in rt.alloc(); base(rt.alloc())?, base(rt.alloc())?]?;
     let text = b"0 5 sector 1 ssector 1\n";
-    assert_eq!(rt; run(&rt, rt.alloc(), &files, Reading::Signed, b"0 5\n", text), Ok(()));
+    assert_eq!(rt;
+        run(&rt, rt.alloc(), &files, Reading::Signed, b"0 5\n", text),
+        Ok(())
+    );
     Ok(())
 }
 
@@ -102,10 +150,20 @@ fn two_files(rt: HostRuntime) -> Result<(), Fail> {
 fn later(rt: HostRuntime) -> Result<(), Fail> {
     let mut far = crate::sample::NODES;
     far[1] = 64;
-    refused(&rt, base_with(rt.alloc(), 7, &far)?, RunFault::Later, "refused: later")?;
+    refused(
+        &rt,
+        base_with(rt.alloc(), 7, &far)?,
+        RunFault::Later,
+        "refused: later",
+    )?;
     let mut same = crate::sample::NODES;
     same[26] = 0;
-    refused(&rt, base_with(rt.alloc(), 7, &same)?, RunFault::Later, "refused: later")?;
+    refused(
+        &rt,
+        base_with(rt.alloc(), 7, &same)?,
+        RunFault::Later,
+        "refused: later",
+    )?;
     let no_segs = base_with(rt.alloc(), 5, &[])?;
     refused(&rt, no_segs, RunFault::Later, "refused: later")
 }
@@ -113,15 +171,26 @@ fn later(rt: HostRuntime) -> Result<(), Fail> {
 #[test]
 fn lumps_missing(rt: HostRuntime) -> Result<(), Fail> {
     let nine = pack(rt.alloc(), &lumps()[..10])?;
-    refused(&rt, nine, RunFault::Level(LevelFault::Missing(10)), "refused: F1 10")?;
+    refused(
+        &rt,
+        nine,
+        RunFault::Level(LevelFault::Missing(10)),
+        "refused: F1 10",
+    )?;
     let none = pack(rt.alloc(), &[])?;
-    refused(&rt, none, RunFault::Level(LevelFault::NoLabel), "refused: 8 no label")
+    refused(
+        &rt,
+        none,
+        RunFault::Level(LevelFault::NoLabel),
+        "refused: 8 no label",
+    )
 }
 
 #[test]
 fn line_forms(rt: HostRuntime) -> Result<(), Fail> {
     let input = b"x\n16384 0\n0  5\n1 2 3\n\n007 -0\r\n+1 1\n";
-    let text = b"refused: form\nrefused: range\nrefused: form\nrefused: form\nrefused: form\n7 0 sector 0 ssector 0\nrefused: form\n";
+    let text =
+        b"refused: form\nrefused: range\nrefused: form\nrefused: form\nrefused: form\n7 0 sector 0 ssector 0\nrefused: form\n";
     answers(&rt, base(rt.alloc())?, input, text)?;
     answers(&rt, base(rt.alloc())?, b"", b"")?;
     answers(&rt, base(rt.alloc())?, b"0 5", b"0 5 sector 1 ssector 1\n")?;
@@ -130,9 +199,17 @@ fn line_forms(rt: HostRuntime) -> Result<(), Fail> {
     let mut room = [0; 1024];
     let mut out = SliceSink::new(&mut room);
     let mut source = SliceSource::new(input).at_most(1);
-    let result = points(rt.alloc(), &files, b"E1M1", Reading::Signed, &mut source, LIMIT, &mut out);
+    let result = points(
+        rt.alloc(),
+        &files,
+        b"E1M1",
+        Reading::Signed,
+        &mut source,
+        LIMIT,
+        &mut out,
+    );
     assert_eq!(rt; result, Ok(()));
-    assert_eq!(rt; out.taken(), text);
+    assert_eq!(rt; out.taken(), text.as_slice());
     Ok(())
 }
 

@@ -39,7 +39,10 @@ pub fn lumps() -> [Lump<'static>; 11] {
         (b"NODES", &NODES),
         (b"SECTORS", &SECTORS),
         (b"REJECT", &[0]),
-        (b"BLOCKMAP", &[248, 255, 248, 255, 1, 0, 1, 0, 5, 0, 0, 0, 0, 0, 255, 255]),
+        (
+            b"BLOCKMAP",
+            &[248, 255, 248, 255, 1, 0, 1, 0, 5, 0, 0, 0, 0, 0, 255, 255],
+        ),
     ]
 }
 

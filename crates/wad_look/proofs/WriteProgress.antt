@@ -26,13 +26,13 @@ pub SoFar-stop : {T U : Type 0} {tells failed : Bool} {whole before between afte
 SoFar-stop {before = before} text rest' s cut w = record {
   whole = λ _. tt;
   front = λ h.
-    let front = w.front h in
-    record {
-      front = s.done ++ front.front;
-      rest = front.rest ++ rest';
-      splits = s.splits ∙ ap (λ r. s.done ++ r) (cut ∙ ap (λ t. t ++ rest') front.splits ∙ append_assoc front.front front.rest rest') ∙ sym (append_assoc s.done front.front (front.rest ++ rest'));
-      added = front.added ∙ ap (λ t. t ++ front.front) (s.taken h) ∙ append_assoc before s.done front.front;
-    };
+      let front = w.front h in
+      record {
+        front = s.done ++ front.front;
+        rest = front.rest ++ rest';
+        splits = s.splits ∙ ap (λ r. s.done ++ r) (cut ∙ ap (λ t. t ++ rest') front.splits ∙ append_assoc front.front front.rest rest') ∙ sym (append_assoc s.done front.front (front.rest ++ rest'));
+        added = front.added ∙ ap (λ t. t ++ front.front) (s.taken h) ∙ append_assoc before s.done front.front;
+      };
   sound = tt;
   fault = w.fault;
 }

@@ -17,18 +17,17 @@ mod part;
 mod point_lines;
 mod sector_of;
 mod small;
-mod words;
-
 #[cfg(test)]
 mod tests;
+mod words;
 
 pub use command::{Cmd, Job};
 pub use engine::{LineCommand, answer_lines};
 pub use fault::RunFault;
 pub use input::{LIMIT, read_all};
+pub use listing::lumps;
 pub use outcome::status;
 pub use output::emit;
-pub use listing::lumps;
 pub use point_lines::points;
 pub use small::{Leaf, Small};
 pub use words::job;

@@ -7,8 +7,8 @@ ghost use Rattle.wad_look.specs.Runs.{ListsLumps, ListsNothing};
 ghost use Rattle.wad_look.specs.Writes.{Writes};
 
 use crate::fault::RunFault;
-use crate::opening::open_set;
 use crate::line::Line;
+use crate::opening::open_set;
 use crate::output::emit;
 use le_rec::{Entry, Name8, Sink};
 use std::alloc::Allocator;

@@ -24,7 +24,7 @@ returns-in_err-emit-2 g c =
     let at : slice_get entries i ≡ Some e = rw (← c.entries-entries.ensures.entries) (sym c.get.ensures ∙ c.in-Some.is) in
     let line = c.as_bytes-in-entries.ensures ∙ c.line_of_entry.ensures in
     rw (p.1, p.2) (SoFar-stop (entry_line (c.args.first + i) e.filepos e.size (name_of e.name)) (entries_text (c.args.first + (i + 1)) (drop (i + 1) entries))
-      c.entries.invariant.so_far (entries_text-drop entries c.args.first i e at) (rw line at c.in_err-emit-2.ensures))
+    c.entries.invariant.so_far (entries_text-drop entries c.args.first i e at) (rw line at c.in_err-emit-2.ensures))
 
 pub entries-preserved : goal.entries-preserved
 entries-preserved g c =
@@ -36,7 +36,7 @@ entries-preserved g c =
     record {
       sound = c.in_ok-emit-2.ensures.sound;
       so_far = SoFar-more (entry_line (c.args.first + i) e.filepos e.size (name_of e.name)) (entries_text (c.args.first + (i + 1)) (drop (i + 1) entries)) _
-      c.entries.invariant.so_far (entries_text-drop entries c.args.first i e at) (rw line at c.in_ok-emit-2.ensures.whole);
+          c.entries.invariant.so_far (entries_text-drop entries c.args.first i e at) (rw line at c.in_ok-emit-2.ensures.whole);
     }
 
 pub returns-in_default : goal.returns-in_default

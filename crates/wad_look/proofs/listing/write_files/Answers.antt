@@ -16,7 +16,7 @@ returns-in_err-write_file g c =
     let wad = c.in-Some.wad in
     let at : slice_get c.args.set.now i ≡ Some wad = sym c.file.ensures ∙ c.in-Some.is in
     rw (p.1, p.2) (SoFar-stop (file_text (i + 1) c.files.first wad) (files_text (i + 1 + 1) (c.files.first + length wad.entries) (drop (i + 1) c.args.set.now))
-      c.files.invariant.so_far (files_text-drop c.args.set.now i c.files.first wad at) c.in_err-write_file.ensures)
+    c.files.invariant.so_far (files_text-drop c.args.set.now i c.files.first wad at) c.in_err-write_file.ensures)
 
 pub overflow_add-first : goal.overflow_add-first
 overflow_add-first g c = omega (arith, c.files.invariant.few, c.files-i-end.ensures.few, c.len-first.ensures.bound)
@@ -30,7 +30,7 @@ files-preserved g c =
       sound = c.in_ok-write_file.ensures.sound;
       few = omega (arith, c.files.invariant.few, c.len-first.ensures.bound);
       so_far = rw c.len-first.ensures.entries (SoFar-more (file_text (i + 1) c.files.first wad) (files_text (i + 1 + 1) (c.files.first + length wad.entries) (drop (i + 1) c.args.set.now)) _
-      c.files.invariant.so_far (files_text-drop c.args.set.now i c.files.first wad at) c.in_ok-write_file.ensures.whole);
+          c.files.invariant.so_far (files_text-drop c.args.set.now i c.files.first wad at) c.in_ok-write_file.ensures.whole);
     }
 
 pub returns-in_default : goal.returns-in_default

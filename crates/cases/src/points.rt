@@ -122,14 +122,12 @@ fn no_direction(rt: HostRuntime) -> Result<(), Fail> {
 
 #[test]
 fn no_nodes(rt: HostRuntime) -> Result<(), Fail> {
-    let mut one = lumps();
-    one[6].1 = &[1, 0, 0, 0];
-    one[7].1 = &[];
+    let one = base_with(rt.alloc(), &[(6, &[1, 0, 0, 0]), (7, &[])])?;
     let text = b"0 5 sector 0 ssector 0\n-9 9 sector 0 ssector 0\n";
-    answers(&rt, pack(rt.alloc(), &one)?, b"0 5\n-9 9\n", text)?;
+    answers(&rt, one, b"0 5\n-9 9\n", text)?;
     refused(
         &rt,
-        base_with(rt.alloc(), 7, &[])?,
+        base_with(rt.alloc(), &[(7, &[])])?,
         RunFault::Later,
         "refused: later",
     )
@@ -152,7 +150,7 @@ fn later(rt: HostRuntime) -> Result<(), Fail> {
     far[1] = 64;
     refused(
         &rt,
-        base_with(rt.alloc(), 7, &far)?,
+        base_with(rt.alloc(), &[(7, &far)])?,
         RunFault::Later,
         "refused: later",
     )?;
@@ -160,11 +158,11 @@ fn later(rt: HostRuntime) -> Result<(), Fail> {
     same[26] = 0;
     refused(
         &rt,
-        base_with(rt.alloc(), 7, &same)?,
+        base_with(rt.alloc(), &[(7, &same)])?,
         RunFault::Later,
         "refused: later",
     )?;
-    let no_segs = base_with(rt.alloc(), 5, &[])?;
+    let no_segs = base_with(rt.alloc(), &[(5, &[])])?;
     refused(&rt, no_segs, RunFault::Later, "refused: later")
 }
 

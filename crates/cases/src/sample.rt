@@ -69,13 +69,22 @@ pub fn base(alloc: Global) -> Result<Vec<u8>, Fail> {
     pack(alloc, &lumps())
 }
 
-/// The sample level's file with other bytes in lump k, from 1 to 10.
-pub fn base_with(alloc: Global, k: usize, bytes: &[u8]) -> Result<Vec<u8>, Fail> {
-    let mut changed: [Lump<'_>; 11] = lumps();
-    if let Some(lump) = changed.get_mut(k) {
-        lump.1 = bytes;
+/// The sample level's file with other bytes in lumps, by their numbers from 1 to 10.
+pub fn base_with(alloc: Global, changes: &[(usize, &[u8])]) -> Result<Vec<u8>, Fail> {
+    let mut packer = Packer::new(alloc);
+    for (k, (name, bytes)) in lumps().iter().enumerate() {
+        packer.add(Name8::stored(name_field(name)), changed(changes, k, bytes))?;
     }
-    pack(alloc, &changed)
+    Ok(packer.pack(alloc)?)
+}
+
+fn changed<'a>(changes: &[(usize, &'a [u8])], k: usize, bytes: &'a [u8]) -> &'a [u8] {
+    for (at, other) in changes {
+        if *at == k {
+            return other;
+        }
+    }
+    bytes
 }
 
 /// The sample level's file with a node of these first four fields.
@@ -86,5 +95,5 @@ pub fn base_with_node(alloc: Global, x: i16, y: i16, dx: i16, dy: i16) -> Result
         node[2 * i] = low;
         node[2 * i + 1] = high;
     }
-    base_with(alloc, 7, &node)
+    base_with(alloc, &[(7, &node)])
 }

@@ -1,28 +1,30 @@
 //! The text of an answer line.
 
-ghost use Rattle.std.specs.Prelude.{◌≡◌, ◌+◌, ◌≤◌, [], ◌++◌, length};
+ghost use Rattle.std.specs.Prelude.{◌≡◌, ◌+◌, ◌≤◌, [], ◌++◌, decimal, length};
+ghost use Rattle.std.specs.Fmt.{signed_decimal};
 
-use itoa::{Buffer, Integer};
+use itoa::write_digits;
 use std::marker::Model;
 
 /// The most bytes of a line.
 const ROOM: usize = 128;
 
-/// A line of text in the making, kept on the stack. Contracts see the bytes so far.
+/// A line of text in the making, kept on the stack. It is filled from its end to its start, so that the digits of a
+/// number are written where they stay. Contracts see the bytes so far.
 #[derive(Drop)]
 pub struct Line {
     bytes: [u8; ROOM],
-    len: usize,
+    start: usize,
 }
 
 impl Model for Line {
-    ghost use Rattle.std.specs.Prelude.{◌≤◌, List, ℕ, take};
+    ghost use Rattle.std.specs.Prelude.{◌≡◌, ◌≤◌, List, ℕ, drop, length};
 
     ghost Value = { List ℕ };
 
-    ghost view = { λ line. take line.len line.bytes };
+    ghost view = { λ line. drop line.start line.bytes };
 
-    ghost invariant = { λ line. line.len ≤ 128 };
+    ghost invariant = { λ line. (line.start ≤ 128) × (length line.bytes ≡ 128) };
 }
 
 impl Line {
@@ -33,16 +35,8 @@ impl Line {
     {
         Line {
             bytes: [0; ROOM],
-            len: 0,
+            start: ROOM,
         }
-    }
-
-    /// Begins again with no bytes.
-    #[inline]
-    pub fn clear(&mut self)
-        ensures { self.new ≡ [] }
-    {
-        self.len = 0;
     }
 
     /// The bytes so far.
@@ -50,30 +44,42 @@ impl Line {
     pub fn as_bytes(&self) -> &[u8]
         ensures { result.now ≡ self.now }
     {
-        &self.bytes[..self.len]
+        &self.bytes[self.start..]
     }
 
-    /// Adds bytes.
+    /// Puts bytes before the others.
     #[inline]
-    pub fn push_bytes(&mut self, bytes: &[u8])
+    pub fn put_bytes(&mut self, bytes: &[u8])
         requires { length self.old + length bytes.now ≤ ROOM }
-        ensures text { self.new ≡ self.old ++ bytes.now }
+        ensures text { self.new ≡ bytes.now ++ self.old }
         ensures length { length self.new ≡ length self.old + length bytes.now }
     {
-        let end = self.len + bytes.len();
-        self.bytes[self.len..end].copy_from_slice(bytes);
-        self.len = end;
+        let start = self.start - bytes.len();
+        self.bytes[start..self.start].copy_from_slice(bytes);
+        self.start = start;
     }
 
-    /// Adds the decimal text of a number, with no leading zero and with `-` where it is negative.
+    /// Puts the decimal text of a number before the other bytes, with no leading zero.
     #[inline]
-    pub fn push_number<I: Integer>(&mut self, number: I)
-        requires { length self.old + I.MAX_STR_LEN ≤ ROOM }
-        ensures text { self.new ≡ self.old ++ I.text number }
-        ensures length { length self.new ≤ length self.old + I.MAX_STR_LEN }
+    pub fn put_natural(&mut self, number: u64)
+        requires { length self.old + 20 ≤ ROOM }
+        ensures text { self.new ≡ decimal number ++ self.old }
+        ensures length { length self.new ≤ length self.old + 20 }
     {
-        let mut buffer = Buffer::new();
-        self.push_bytes(buffer.format(number).as_bytes());
+        self.start = write_digits(number, &mut self.bytes, self.start);
+    }
+
+    /// The same of a number that may be negative, with `-` then.
+    #[inline]
+    pub fn put_integer(&mut self, number: i64)
+        requires { length self.old + 21 ≤ ROOM }
+        ensures text { self.new ≡ signed_decimal number ++ self.old }
+        ensures length { length self.new ≤ length self.old + 21 }
+    {
+        self.put_natural(number.unsigned_abs());
+        if number < 0 {
+            self.put_bytes(b"-");
+        }
     }
 }
 
@@ -84,26 +90,17 @@ mod tests {
     #[test]
     fn answers(rt: HostRuntime) {
         let mut line = Line::new();
-        line.push_number(0i32);
-        line.push_bytes(b" ");
-        line.push_number(-5i32);
-        line.push_bytes(b" sector ");
-        line.push_number(65535u16);
-        line.push_bytes(b" ssector ");
-        line.push_number(32768u32);
-        line.push_bytes(b"\n");
+        line.put_bytes(b"\n");
+        line.put_natural(18446744073709551615);
+        line.put_bytes(b" ssector ");
+        line.put_natural(0);
+        line.put_bytes(b" sector ");
+        line.put_integer(-5);
+        line.put_bytes(b" ");
+        line.put_integer(-9223372036854775808);
         assert_eq!(rt;
             line.as_bytes(),
-            b"0 -5 sector 65535 ssector 32768\n".as_slice()
-        );
-        line.clear();
-        assert_eq!(rt; line.as_bytes(), b"".as_slice());
-        line.push_number(-2147483648i32);
-        line.push_bytes(b" ");
-        line.push_number(18446744073709551615u64);
-        assert_eq!(rt;
-            line.as_bytes(),
-            b"-2147483648 18446744073709551615".as_slice()
+            b"-9223372036854775808 -5 sector 0 ssector 18446744073709551615\n".as_slice()
         );
     }
 }

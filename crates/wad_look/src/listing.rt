@@ -1,7 +1,7 @@
 //! The command `lumps`: the files and their entries.
 
-ghost use Rattle.std.specs.Prelude.{◌≡◌, ◌≤◌, ◌<◌, ◌^◌, ◌⊎◌, false, length, map};
-ghost use Rattle.le_rec.specs.Name.{name_of};
+ghost use Rattle.std.specs.Prelude.{◌≡◌, ◌≤◌, ◌<◌, ◌^◌, ◌⊎◌, ◌+◌, ◌++◌, false, length, map};
+ghost use Rattle.le_rec.specs.Name.{name_of, shown_name};
 ghost use Rattle.wad_look.specs.Listing.{entry_line, file_line, file_text, lumps_text};
 ghost use Rattle.wad_look.specs.Runs.{ListsLumps, ListsNothing};
 ghost use Rattle.wad_look.specs.Writes.{Writes};
@@ -65,16 +65,14 @@ fn line_of_entry(g: usize, entry: &Entry) -> Line
     ensures { result ≡ entry_line g entry.now.filepos entry.now.size (name_of entry.now.name) }
 {
     let mut line = Line::new();
-    line.push_number(g);
-    line.push_bytes(b" ");
-    line.push_number(entry.filepos);
-    line.push_bytes(b" ");
-    line.push_number(entry.size);
-    line.push_bytes(b" ");
-    let mut text = [0; 32];
-    let len = Name8::stored(entry.name).shown(&mut text);
-    line.push_bytes(&text[..len]);
-    line.push_bytes(b"\n");
+    line.put_bytes(b"\n");
+    put_name(&mut line, &Name8::stored(entry.name));
+    line.put_bytes(b" ");
+    line.put_integer(i64::from(entry.size));
+    line.put_bytes(b" ");
+    line.put_integer(i64::from(entry.filepos));
+    line.put_bytes(b" ");
+    line.put_natural(g as u64);
     line
 }
 
@@ -84,13 +82,24 @@ fn line_of_file(n: usize, kind: Kind, count: usize) -> Line
     ensures { result ≡ file_line n kind count }
 {
     let mut line = Line::new();
-    line.push_bytes(b"file ");
-    line.push_number(n);
-    line.push_bytes(match kind {
+    line.put_bytes(b"\n");
+    line.put_natural(count as u64);
+    line.put_bytes(match kind {
         Kind::Iwad => b" IWAD ",
         Kind::Pwad => b" PWAD ",
     });
-    line.push_number(count);
-    line.push_bytes(b"\n");
+    line.put_natural(n as u64);
+    line.put_bytes(b"file ");
     line
+}
+
+// Puts a name as it is shown.
+fn put_name(line: &mut Line, name: &Name8)
+    requires { length line.old + 32 ≤ 128 }
+    ensures text { line.new ≡ shown_name name.now ++ line.old }
+    ensures length { length line.new ≤ length line.old + 32 }
+{
+    let mut text = [0; 32];
+    let len = name.shown(&mut text);
+    line.put_bytes(&text[..len]);
 }

@@ -58,14 +58,14 @@ fn point_line(point: Point, leaf: Leaf) -> Line
     ensures { result ≡ point_text point.x point.y leaf }
 {
     let mut line = Line::new();
-    line.push_number(point.x());
-    line.push_bytes(b" ");
-    line.push_number(point.y());
-    line.push_bytes(b" sector ");
-    line.push_number(leaf.sector);
-    line.push_bytes(b" ssector ");
-    line.push_number(leaf.ssector);
-    line.push_bytes(b"\n");
+    line.put_bytes(b"\n");
+    line.put_natural(u64::from(leaf.ssector));
+    line.put_bytes(b" ssector ");
+    line.put_natural(u64::from(leaf.sector));
+    line.put_bytes(b" sector ");
+    line.put_integer(i64::from(point.y()));
+    line.put_bytes(b" ");
+    line.put_integer(i64::from(point.x()));
     line
 }
 

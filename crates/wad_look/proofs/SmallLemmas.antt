@@ -1,12 +1,10 @@
 -- Facts about levels of at most one node.
-use Rattle.std.proofs.Common.{◌≡◌, ◌≢◌, ℕ, suc, ◌+◌, ◌<◌, ◌≤◌, ◌⊎◌, inl, inr, List, [], ◌∷◌, length, Option, Some, None, refl, sym, ap, ◌∙◌, arith}
+use Rattle.std.proofs.Common.{◌≡◌, ◌≢◌, ℕ, ◌⊎◌, inl, inr, List, [], ◌∷◌, length, Some, None, refl, sym, ap, ◌∙◌, arith}
 use Rattle.std.specs.List.{slice_get}
 use Rattle.le_rec.specs.declared.records.Node.{Node}
-use Rattle.map_geo.specs.Point.{IsInRange}
 use Rattle.map_level.specs.Parts.{Parts}
 use Rattle.wad_look.specs.SectorOf.{sector_of}
-use Rattle.wad_look.specs.SmallLevel.{AreChildren, IsLeaf, IsWhole, IsHalved, IsSmall}
-use Rattle.wad_look.specs.declared.small.Leaf.{Leaf}
+use Rattle.wad_look.specs.SmallLevel.{AreChildren, IsSmall}
 use Rattle.wad_look.specs.declared.small.Small.{Small}
 use Rattle.wad_look.specs.declared.small.Small.TheVariants.{Whole, Halved}
 

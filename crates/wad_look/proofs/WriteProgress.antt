@@ -1,7 +1,7 @@
 -- A text that is written part by part.
-use Rattle.std.proofs.Common.{◌≡◌, ℕ, Bool, false, IsTrue, List, [], ◌++◌, Result, Ok, Err, refl, sym, ap, ◌∙◌}
+use Rattle.std.proofs.Common.{◌≡◌, ℕ, Bool, false, IsTrue, List, [], ◌++◌, Ok, Err, refl, sym, ap, ◌∙◌}
 use Rattle.std.proofs.lemmas.List.{append-nil, append_assoc}
-use Rattle.wad_look.specs.Writes.{AddsFront, Writes}
+use Rattle.wad_look.specs.Writes.{Writes}
 use Rattle.wad_look.specs.declared.fault.RunFault.{RunFault}
 
 -- of the whole text the first part was taken, and the rest is still to be written

@@ -1,5 +1,5 @@
 -- What a command finds before it reads its input and writes.
-use Rattle.std.specs.Prelude.{◌≡◌, ℕ, List, All, map, Result, Err}
+use Rattle.std.specs.Prelude.{◌≡◌, ℕ, List, All, map}
 use Rattle.le_rec.specs.Name.{query_of}
 use Rattle.map_level.specs.Level.{IsLevel, IsRefused}
 use Rattle.map_level.specs.Parts.{Parts}

@@ -1,5 +1,5 @@
 -- What `points` answers to a line (ours).
-use Rattle.std.specs.Prelude.{ℕ, ℤ, pos, neg_ℤ, Bool, ◌&&◌, List, [], ◌∷◌, ◌++◌, Option, Some, None, if◌then◌else◌, codes, int_le}
+use Rattle.std.specs.Prelude.{ℕ, ℤ, pos, neg_ℤ, Bool, ◌&&◌, List, [], ◌∷◌, ◌++◌, Option, Some, if◌then◌else◌, codes, int_le}
 use Rattle.std.specs.Fmt.{decimal, signed_decimal}
 use Rattle.map_geo.specs.Point.{place_at}
 use Rattle.wad_look.specs.LineAnswers.{form_refused}

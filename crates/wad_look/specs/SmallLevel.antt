@@ -1,5 +1,5 @@
 -- Levels of at most one node: where their points lie (R_PointInSubsector of r_main.c).
-use Rattle.std.specs.Prelude.{◌≡◌, ℕ, ◌+◌, List, [], ◌∷◌, length, Some}
+use Rattle.std.specs.Prelude.{◌≡◌, ℕ, ◌+◌, [], ◌∷◌, length, Some}
 use Rattle.le_rec.specs.declared.records.Node.{Node}
 use Rattle.map_geo.specs.Point.{Coordinates, IsInRange}
 use Rattle.map_geo.specs.Side.{Line, line_of, side_of}

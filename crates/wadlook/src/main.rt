@@ -2,26 +2,23 @@
 //! that ended.
 #![tactic(auto)]
 
+mod engines;
 mod files;
 mod refusal;
 mod tied;
 
-ghost use Rattle.std.specs.Prelude.{◌≡◌, ◌-◌, ◌≤◌, false, [], length, slice_index_or, drop, map, string_bytes};
+ghost use Rattle.std.specs.Prelude.{◌≡◌, ◌-◌, ◌≤◌, [], length, slice_index_or, drop, map, string_bytes};
 ghost use Rattle.wad_look.specs.Job.{IsJob};
 
+use engines::answer;
 use files::read_files;
-use le_rec::{FromRead, Sink, Source, ToWrite};
-use map_level::Reading;
+use le_rec::{FromRead, ToWrite};
 use refusal::{Refusal, exit_status};
-use std::alloc::Global;
 use std::process::ExitCode;
 use std::rt::{Env, Files};
 use std::{env, io};
 use tied::{TiedReader, TiedWriter};
-use wad_look::{Cmd, Job, RunFault, job, lumps, points};
-
-/// The most bytes of line input.
-const INPUT_LIMIT: u64 = 16_777_216;
+use wad_look::{Job, RunFault, job};
 
 fn main(rt: HostRuntime) -> ExitCode {
     let outcome = run(&rt);
@@ -54,7 +51,8 @@ fn run<R: Env + Files + Input + Print + AllocGlobal>(rt: &R) -> Result<bool, Ref
         &mut input,
         &mut out,
     );
-    Ok(output.close(outcome)?)
+    output.close(outcome)?;
+    Ok(true)
 }
 
 // The words after the program's name.
@@ -75,29 +73,4 @@ fn name_and_paths(words: &[String], job: Job) -> (&str, &[String])
     ensures few { length result.1.now ≤ 64 }
 {
     (words[job.first - 1].as_str(), &words[job.first..])
-}
-
-// Runs the engine of the command.
-fn answer<S: Source, W: Sink>(
-    alloc: Global,
-    job: Job,
-    name: &[u8],
-    files: &[Vec<u8>],
-    input: &mut S,
-    out: &mut W,
-) -> Result<bool, RunFault>
-    requires few { length files.now ≤ 64 }
-    requires input { S.has_failed input.old ≡ false }
-    requires out { W.has_failed out.old ≡ false }
-{
-    let reading = if job.wide {
-        Reading::Wide
-    } else {
-        Reading::Signed
-    };
-    match job.command {
-        Cmd::Lumps => lumps(alloc, files, out)?,
-        Cmd::Points => points(alloc, files, name, reading, input, INPUT_LIMIT, out)?,
-    }
-    Ok(true)
 }

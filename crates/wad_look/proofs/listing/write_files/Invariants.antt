@@ -1,4 +1,4 @@
-use Rattle.std.proofs.Common.{◌≡◌, ◌+◌, ◌*◌, ◌^◌, ◌≤◌, false, drop}
+use Rattle.std.proofs.Common.{◌≡◌, ◌+◌, ◌*◌, ◌≤◌, false, drop}
 use Rattle.wad_look.specs.Listing.{files_text, lumps_text}
 use Rattle.wad_look.proofs.WriteProgress.{SoFar}
 use Rattle.wad_look.proofs.listing.write_files.Given as goal

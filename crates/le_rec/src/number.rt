@@ -7,6 +7,7 @@ ghost use Rattle.le_rec.specs.RecordBytes.{box_bytes, name_bytes};
 
 use byteorder::{ByteOrder, LittleEndian};
 
+/// The unsigned number of the two bytes at `at`.
 #[inline]
 #[tactic(auto, unfolding(crate::specs::Number::unsigned16))]
 pub fn u16_at(bytes: &[u8], at: usize) -> u16
@@ -16,6 +17,7 @@ pub fn u16_at(bytes: &[u8], at: usize) -> u16
     LittleEndian::read_u16(&bytes[at..])
 }
 
+/// The signed number of the two bytes at `at`.
 #[inline]
 pub fn i16_at(bytes: &[u8], at: usize) -> i16
     requires { at + 2 ≤ length bytes.now }
@@ -24,6 +26,7 @@ pub fn i16_at(bytes: &[u8], at: usize) -> i16
     LittleEndian::read_i16(&bytes[at..])
 }
 
+/// The signed number of the four bytes at `at`.
 #[inline]
 pub fn i32_at(bytes: &[u8], at: usize) -> i32
     requires { at + 4 ≤ length bytes.now }
@@ -32,6 +35,7 @@ pub fn i32_at(bytes: &[u8], at: usize) -> i32
     LittleEndian::read_i32(&bytes[at..])
 }
 
+/// The eight bytes of the name at `at`.
 #[inline]
 pub fn name_bytes_at(bytes: &[u8], at: usize) -> [u8; 8]
     requires { at + 8 ≤ length bytes.now }
@@ -42,6 +46,7 @@ pub fn name_bytes_at(bytes: &[u8], at: usize) -> [u8; 8]
     name
 }
 
+/// Writes the two bytes of an unsigned number at `at`.
 pub fn put_u16(bytes: &mut [u8], at: usize, number: u16)
     requires { at + 2 ≤ length bytes.old }
     ensures { take (at + 2) bytes.new ≡ take at bytes.old ++ bytes16 number }
@@ -49,6 +54,7 @@ pub fn put_u16(bytes: &mut [u8], at: usize, number: u16)
     LittleEndian::write_u16(&mut bytes[at..], number);
 }
 
+/// Writes the two bytes of a signed number at `at`.
 pub fn put_i16(bytes: &mut [u8], at: usize, number: i16)
     requires { at + 2 ≤ length bytes.old }
     ensures { take (at + 2) bytes.new ≡ take at bytes.old ++ signed_bytes16 number }
@@ -56,6 +62,7 @@ pub fn put_i16(bytes: &mut [u8], at: usize, number: i16)
     LittleEndian::write_i16(&mut bytes[at..], number);
 }
 
+/// Writes the four bytes of a signed number at `at`.
 pub fn put_i32(bytes: &mut [u8], at: usize, number: i32)
     requires { at + 4 ≤ length bytes.old }
     ensures { take (at + 4) bytes.new ≡ take at bytes.old ++ signed_bytes32 number }
@@ -63,6 +70,7 @@ pub fn put_i32(bytes: &mut [u8], at: usize, number: i32)
     LittleEndian::write_i32(&mut bytes[at..], number);
 }
 
+/// Writes the eight bytes of a name at `at`.
 pub fn put_name(bytes: &mut [u8], at: usize, name: &[u8; 8])
     requires { at + 8 ≤ length bytes.old }
     ensures { take (at + 8) bytes.new ≡ take at bytes.old ++ name_bytes name.now }
@@ -84,6 +92,7 @@ pub fn box_numbers_at(bytes: &[u8], at: usize) -> [i16; 4]
     ]
 }
 
+/// Writes the eight bytes of the four numbers of a bounding box at `at`.
 pub fn put_box(bytes: &mut [u8], at: usize, numbers: &[i16; 4])
     requires { at + 8 ≤ length bytes.old }
     ensures { take (at + 8) bytes.new ≡ take at bytes.old ++ box_bytes numbers.now }

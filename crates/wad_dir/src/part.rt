@@ -6,6 +6,7 @@ ghost use Rattle.wad_dir.specs.Part.{StandsAt};
 
 use byteorder::{ByteOrder, LittleEndian};
 
+/// The signed number of the four bytes at `at`.
 #[inline]
 pub fn i32_at(bytes: &[u8], at: usize) -> i32
     requires { at + 4 ≤ length bytes.now }
@@ -14,7 +15,7 @@ pub fn i32_at(bytes: &[u8], at: usize) -> i32
     LittleEndian::read_i32(&bytes[at..])
 }
 
-// The number, where it is not negative.
+/// The number, where it is not negative.
 #[inline]
 pub fn natural(number: i32) -> Option<usize>
     ensures value { IfSome result (λ n. number ≡ pos n) }
@@ -27,7 +28,7 @@ pub fn natural(number: i32) -> Option<usize>
     Some(number as usize)
 }
 
-// The `size` bytes from `place` on, where they are all there.
+/// The `size` bytes from `place` on, where they are all there.
 pub fn part_at(bytes: &[u8], place: i32, size: usize) -> Option<&[u8]>
     ensures some { IfSome result (λ part. (length part.now ≡ size) × StandsAt bytes.now place part.now) }
     ensures none { IfNone result ((part : List ℕ) → length part ≡ size → ¬ StandsAt bytes.now place part) }

@@ -26,6 +26,7 @@ impl Model for Part {
 }
 
 impl Part {
+    /// A part of no bytes.
     pub fn new() -> Self
         ensures { result ≡ [] }
     {
@@ -35,12 +36,14 @@ impl Part {
         }
     }
 
+    /// The bytes that are kept.
     pub fn bytes(&self) -> &[u8]
         ensures { result.now ≡ self.now }
     {
         &self.bytes[..self.len]
     }
 
+    /// Whether no byte is kept.
     pub fn is_empty(&self) -> bool
         ensures { IsTrue result ↔ (self.now ≡ []) }
     {
@@ -57,6 +60,7 @@ impl Part {
         self.len = end;
     }
 
+    /// Lets go of all bytes.
     pub fn clear(&mut self)
         ensures { self.new ≡ [] }
     {

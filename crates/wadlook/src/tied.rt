@@ -20,6 +20,7 @@ pub struct TiedWriter<W: Write + Drop> {
 }
 
 impl<W: Write + Drop> TiedWriter<W> {
+    /// A writer that gathers its bytes in a buffer; `Memory` where there is none for the buffer.
     pub fn new(alloc: Global, writer: W) -> Result<Self, RunFault> {
         match BufWriter::with_capacity(alloc, BUFFER, writer) {
             Ok(buffer) => Ok(TiedWriter {
@@ -76,6 +77,7 @@ pub struct TiedReader<'a, R: Read, W: Write + Drop> {
 }
 
 impl<'a, R: Read, W: Write + Drop> TiedReader<'a, R, W> {
+    /// A reader that has `writer` write out its buffer before each read.
     pub fn new(reader: R, writer: &'a TiedWriter<W>) -> Self {
         TiedReader { reader, writer }
     }

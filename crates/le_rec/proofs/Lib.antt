@@ -1,1 +1,6 @@
-pub mod Names
+pub mod BytesLemmas
+pub mod FieldLemmas
+pub mod LayoutLemmas
+pub mod NameLemmas
+pub mod NumberLemmas
+pub mod TableLemmas

@@ -1,14 +1,10 @@
 pub mod Bytes
-pub mod BytesLaws
-pub mod FieldLaws
+pub mod FieldBytes
+pub mod FieldRange
+pub mod Layout
 pub mod Name
 pub mod Number
-pub mod NumberLaws
 pub mod Record
-pub mod RecordBytes
-pub mod RecordLaws
-pub mod RecordRange
 pub mod Sink
 pub mod Source
 pub mod Table
-pub mod TableLaws

@@ -1,14 +1,17 @@
--- What a pull does to a `Source`, and what a clause reads of a `FromRead`.
-use Rattle.std.specs.Prelude.{◌≡◌, Bool, ℕ, ◌<◌, List, [], ◌++◌, length, take, Result, MatchResult, IfOk}
+-- What clauses see of a source, and what a pull does to it.
+use Rattle.std.specs.Prelude.{◌≡◌, Bool, ◌||◌, ℕ, List, Option, Result, is_err}
+use Rattle.std.specs.Io.KnownBytes.{ReadConsumes}
 use Rattle.le_rec.specs.declared.from_read.FromRead.{FromRead}
 
--- the bytes left before a pull are those that it gave and those left after it; at an Err none moved
-abbrev pub Gives : {E : Type 0} → List ℕ → List ℕ → Result ℕ E → List ℕ → Type 0
-Gives old new r buf = MatchResult r (λ n. old ≡ take n buf ++ new) (λ _. new ≡ old)
+-- the bytes that are still to come, where they are known, and whether a pull has failed
+pub record SourceState : Type 0 where
+  pub left : Option (List ℕ)
+  pub failed : Bool
 
--- a pull gives no byte only where it has no room or none is left
-abbrev pub EndsEmpty : {E : Type 0} → List ℕ → Result ℕ E → List ℕ → Type 0
-EndsEmpty new r buf = IfOk r (λ n. n ≡ 0 → 0 < length buf → new ≡ [])
+-- a pull gives the next bytes, none only at the end or with no room; at an Err it gives none and has failed
+pub record Gives {E : Type 0} (old new : SourceState) (result : Result ℕ E) (buf : List ℕ) : Type 0 where
+  pub moved : ReadConsumes old.left new.left result buf
+  pub fault : new.failed ≡ old.failed || is_err result
 
 -- the reader inside
 abbrev pub reader_of : {R : Type 0} → FromRead R → R

@@ -1,11 +1,11 @@
 //! A reader as a source.
-ghost use Rattle.std.specs.Prelude.{◌≡◌, ◌≤◌, false, ◌||◌, [], IfOk, is_err, length};
-ghost use Rattle.std.specs.Io.KnownBytes.{ReadConsumes};
+ghost use Rattle.std.specs.Prelude.{◌≡◌, false};
 
 use super::ends::{EndFault, Source};
 use std::io::Read;
 
-/// A reader as a source. It tells no bytes, and every error of the reader is a failed pull.
+/// A reader as a source: the bytes that it tells are those that are known of the reader. Every error of the reader
+/// is a failed pull.
 #[derive(Drop)]
 pub struct FromRead<R: Read> {
     reader: R,
@@ -28,20 +28,11 @@ impl<R: Read> FromRead<R> {
 }
 
 impl<R: Read> Source for FromRead<R> {
-    ghost use Rattle.le_rec.specs.Source.{pull_failed, reader_of};
+    ghost use Rattle.le_rec.specs.Source.{SourceState, pull_failed, reader_of};
 
-    ghost tells = { false };
+    ghost state = { λ s. record { left = R.remaining (reader_of s); failed = pull_failed s } };
 
-    ghost left = { λ _. [] };
-
-    ghost has_failed = { pull_failed };
-
-    fn pull(&mut self, buf: &mut [u8]) -> Result<usize, EndFault>
-        ensures bound { IfOk result (λ n. n ≤ length buf.new) }
-        ensures read { ReadConsumes (R.remaining (reader_of self.old)) (R.remaining (reader_of self.new))
-            result buf.new }
-        ensures fault { pull_failed self.new ≡ pull_failed self.old || is_err result }
-    {
+    fn pull(&mut self, buf: &mut [u8]) -> Result<usize, EndFault> {
         match self.reader.read(buf) {
             Ok(count) => Ok(count),
             Err(_) => {

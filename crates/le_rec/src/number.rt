@@ -2,8 +2,7 @@
 
 ghost use Rattle.std.specs.Prelude.{◌≡◌, ◌+◌, ◌≤◌, ◌++◌, length, take};
 ghost use Rattle.le_rec.specs.Number.{unsigned16_at, signed16_at, signed32_at, name_at, bytes16, signed_bytes16, signed_bytes32};
-ghost use Rattle.le_rec.specs.Record.{box_at};
-ghost use Rattle.le_rec.specs.RecordBytes.{box_bytes, name_bytes};
+ghost use Rattle.le_rec.specs.FieldBytes.{box_at, box_bytes, name_bytes};
 
 use byteorder::{ByteOrder, LittleEndian};
 

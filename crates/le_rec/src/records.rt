@@ -1,6 +1,6 @@
 //! The records of a WAD file's directory and of a level's lumps (Unofficial Doom Specs 1.666).
 
-ghost use Rattle.std.proofs.Common.{lit<};
+ghost use Rattle.std.proofs.Common.{lit<, refl};
 
 use crate::number::{
     box_numbers_at, i16_at, i32_at, name_bytes_at, put_box, put_i16, put_i32, put_name, put_u16,
@@ -17,18 +17,11 @@ pub struct Entry {
 }
 
 impl Record for Entry {
-    ghost use Rattle.le_rec.specs.Record.{entry};
-    ghost use Rattle.le_rec.specs.RecordBytes.{entry_bytes};
-    ghost use Rattle.le_rec.specs.RecordRange.{IsEntryInRange};
-    ghost use Rattle.le_rec.specs.RecordLaws as laws;
+    ghost use Rattle.le_rec.specs.Record.{entry_layout};
 
     ghost SIZE = { 16 };
 
-    ghost record_of = { entry };
-
-    ghost bytes_of = { entry_bytes };
-
-    ghost is_in_range = { IsEntryInRange };
+    ghost layout = { entry_layout };
 
     const SIZE: usize = 16;
 
@@ -49,15 +42,7 @@ impl Record for Entry {
 
     ghost size_above_zero = { lit< tt };
 
-    ghost read_in_range = { laws.entry-in_range };
-
-    ghost reads_back = { laws.entry-entry_bytes };
-
-    ghost writes_back = { laws.entry_bytes-entry };
-
-    ghost bytes_length = { laws.length-entry_bytes };
-
-    ghost bytes_are_bytes = { laws.AreBytes-entry_bytes };
+    ghost sized = { refl };
 }
 
 /// A thing of a level: its place in map units, its angle in degrees, its type and its options.
@@ -71,18 +56,11 @@ pub struct Thing {
 }
 
 impl Record for Thing {
-    ghost use Rattle.le_rec.specs.Record.{thing};
-    ghost use Rattle.le_rec.specs.RecordBytes.{thing_bytes};
-    ghost use Rattle.le_rec.specs.RecordRange.{IsThingInRange};
-    ghost use Rattle.le_rec.specs.RecordLaws as laws;
+    ghost use Rattle.le_rec.specs.Record.{thing_layout};
 
     ghost SIZE = { 10 };
 
-    ghost record_of = { thing };
-
-    ghost bytes_of = { thing_bytes };
-
-    ghost is_in_range = { IsThingInRange };
+    ghost layout = { thing_layout };
 
     const SIZE: usize = 10;
 
@@ -107,15 +85,7 @@ impl Record for Thing {
 
     ghost size_above_zero = { lit< tt };
 
-    ghost read_in_range = { laws.thing-in_range };
-
-    ghost reads_back = { laws.thing-thing_bytes };
-
-    ghost writes_back = { laws.thing_bytes-thing };
-
-    ghost bytes_length = { laws.length-thing_bytes };
-
-    ghost bytes_are_bytes = { laws.AreBytes-thing_bytes };
+    ghost sized = { refl };
 }
 
 /// A linedef: its two vertexes, flags, special, tag, and its two sidedefs, -1 where there is none.
@@ -131,18 +101,11 @@ pub struct LineDef {
 }
 
 impl Record for LineDef {
-    ghost use Rattle.le_rec.specs.Record.{linedef};
-    ghost use Rattle.le_rec.specs.RecordBytes.{linedef_bytes};
-    ghost use Rattle.le_rec.specs.RecordRange.{IsLineDefInRange};
-    ghost use Rattle.le_rec.specs.RecordLaws as laws;
+    ghost use Rattle.le_rec.specs.Record.{linedef_layout};
 
     ghost SIZE = { 14 };
 
-    ghost record_of = { linedef };
-
-    ghost bytes_of = { linedef_bytes };
-
-    ghost is_in_range = { IsLineDefInRange };
+    ghost layout = { linedef_layout };
 
     const SIZE: usize = 14;
 
@@ -171,15 +134,7 @@ impl Record for LineDef {
 
     ghost size_above_zero = { lit< tt };
 
-    ghost read_in_range = { laws.linedef-in_range };
-
-    ghost reads_back = { laws.linedef-linedef_bytes };
-
-    ghost writes_back = { laws.linedef_bytes-linedef };
-
-    ghost bytes_length = { laws.length-linedef_bytes };
-
-    ghost bytes_are_bytes = { laws.AreBytes-linedef_bytes };
+    ghost sized = { refl };
 }
 
 /// A sidedef: the offsets of its textures in map units, their names, and the sector that it faces.
@@ -194,18 +149,11 @@ pub struct SideDef {
 }
 
 impl Record for SideDef {
-    ghost use Rattle.le_rec.specs.Record.{sidedef};
-    ghost use Rattle.le_rec.specs.RecordBytes.{sidedef_bytes};
-    ghost use Rattle.le_rec.specs.RecordRange.{IsSideDefInRange};
-    ghost use Rattle.le_rec.specs.RecordLaws as laws;
+    ghost use Rattle.le_rec.specs.Record.{sidedef_layout};
 
     ghost SIZE = { 30 };
 
-    ghost record_of = { sidedef };
-
-    ghost bytes_of = { sidedef_bytes };
-
-    ghost is_in_range = { IsSideDefInRange };
+    ghost layout = { sidedef_layout };
 
     const SIZE: usize = 30;
 
@@ -232,15 +180,7 @@ impl Record for SideDef {
 
     ghost size_above_zero = { lit< tt };
 
-    ghost read_in_range = { laws.sidedef-in_range };
-
-    ghost reads_back = { laws.sidedef-sidedef_bytes };
-
-    ghost writes_back = { laws.sidedef_bytes-sidedef };
-
-    ghost bytes_length = { laws.length-sidedef_bytes };
-
-    ghost bytes_are_bytes = { laws.AreBytes-sidedef_bytes };
+    ghost sized = { refl };
 }
 
 /// A vertex of a level, in map units.
@@ -251,18 +191,11 @@ pub struct Vertex {
 }
 
 impl Record for Vertex {
-    ghost use Rattle.le_rec.specs.Record.{vertex};
-    ghost use Rattle.le_rec.specs.RecordBytes.{vertex_bytes};
-    ghost use Rattle.le_rec.specs.RecordRange.{IsVertexInRange};
-    ghost use Rattle.le_rec.specs.RecordLaws as laws;
+    ghost use Rattle.le_rec.specs.Record.{vertex_layout};
 
     ghost SIZE = { 4 };
 
-    ghost record_of = { vertex };
-
-    ghost bytes_of = { vertex_bytes };
-
-    ghost is_in_range = { IsVertexInRange };
+    ghost layout = { vertex_layout };
 
     const SIZE: usize = 4;
 
@@ -281,15 +214,7 @@ impl Record for Vertex {
 
     ghost size_above_zero = { lit< tt };
 
-    ghost read_in_range = { laws.vertex-in_range };
-
-    ghost reads_back = { laws.vertex-vertex_bytes };
-
-    ghost writes_back = { laws.vertex_bytes-vertex };
-
-    ghost bytes_length = { laws.length-vertex_bytes };
-
-    ghost bytes_are_bytes = { laws.AreBytes-vertex_bytes };
+    ghost sized = { refl };
 }
 
 /// A seg: its two vertexes, its angle in binary degrees (65536 to the circle), its linedef, the side of it (0 or 1), and the distance along it in map units.
@@ -304,18 +229,11 @@ pub struct Seg {
 }
 
 impl Record for Seg {
-    ghost use Rattle.le_rec.specs.Record.{seg};
-    ghost use Rattle.le_rec.specs.RecordBytes.{seg_bytes};
-    ghost use Rattle.le_rec.specs.RecordRange.{IsSegInRange};
-    ghost use Rattle.le_rec.specs.RecordLaws as laws;
+    ghost use Rattle.le_rec.specs.Record.{seg_layout};
 
     ghost SIZE = { 12 };
 
-    ghost record_of = { seg };
-
-    ghost bytes_of = { seg_bytes };
-
-    ghost is_in_range = { IsSegInRange };
+    ghost layout = { seg_layout };
 
     const SIZE: usize = 12;
 
@@ -342,15 +260,7 @@ impl Record for Seg {
 
     ghost size_above_zero = { lit< tt };
 
-    ghost read_in_range = { laws.seg-in_range };
-
-    ghost reads_back = { laws.seg-seg_bytes };
-
-    ghost writes_back = { laws.seg_bytes-seg };
-
-    ghost bytes_length = { laws.length-seg_bytes };
-
-    ghost bytes_are_bytes = { laws.AreBytes-seg_bytes };
+    ghost sized = { refl };
 }
 
 /// A subsector: how many segs it has, and the first of them.
@@ -361,18 +271,11 @@ pub struct SSector {
 }
 
 impl Record for SSector {
-    ghost use Rattle.le_rec.specs.Record.{ssector};
-    ghost use Rattle.le_rec.specs.RecordBytes.{ssector_bytes};
-    ghost use Rattle.le_rec.specs.RecordRange.{IsSSectorInRange};
-    ghost use Rattle.le_rec.specs.RecordLaws as laws;
+    ghost use Rattle.le_rec.specs.Record.{ssector_layout};
 
     ghost SIZE = { 4 };
 
-    ghost record_of = { ssector };
-
-    ghost bytes_of = { ssector_bytes };
-
-    ghost is_in_range = { IsSSectorInRange };
+    ghost layout = { ssector_layout };
 
     const SIZE: usize = 4;
 
@@ -391,15 +294,7 @@ impl Record for SSector {
 
     ghost size_above_zero = { lit< tt };
 
-    ghost read_in_range = { laws.ssector-in_range };
-
-    ghost reads_back = { laws.ssector-ssector_bytes };
-
-    ghost writes_back = { laws.ssector_bytes-ssector };
-
-    ghost bytes_length = { laws.length-ssector_bytes };
-
-    ghost bytes_are_bytes = { laws.AreBytes-ssector_bytes };
+    ghost sized = { refl };
 }
 
 /// A node: its partition line from (x, y) along (dx, dy), the bounding boxes of its two sides (top, bottom, left, right), and its children: front is 0, back is 1. A child with bit 15 set names an ssector.
@@ -416,18 +311,11 @@ pub struct Node {
 }
 
 impl Record for Node {
-    ghost use Rattle.le_rec.specs.Record.{node};
-    ghost use Rattle.le_rec.specs.RecordBytes.{node_bytes};
-    ghost use Rattle.le_rec.specs.RecordRange.{IsNodeInRange};
-    ghost use Rattle.le_rec.specs.RecordLaws as laws;
+    ghost use Rattle.le_rec.specs.Record.{node_layout};
 
     ghost SIZE = { 28 };
 
-    ghost record_of = { node };
-
-    ghost bytes_of = { node_bytes };
-
-    ghost is_in_range = { IsNodeInRange };
+    ghost layout = { node_layout };
 
     const SIZE: usize = 28;
 
@@ -458,15 +346,7 @@ impl Record for Node {
 
     ghost size_above_zero = { lit< tt };
 
-    ghost read_in_range = { laws.node-in_range };
-
-    ghost reads_back = { laws.node-node_bytes };
-
-    ghost writes_back = { laws.node_bytes-node };
-
-    ghost bytes_length = { laws.length-node_bytes };
-
-    ghost bytes_are_bytes = { laws.AreBytes-node_bytes };
+    ghost sized = { refl };
 }
 
 /// A sector: the heights of its floor and ceiling in map units, the names of their flats, its light level, special and tag.
@@ -482,18 +362,11 @@ pub struct Sector {
 }
 
 impl Record for Sector {
-    ghost use Rattle.le_rec.specs.Record.{sector};
-    ghost use Rattle.le_rec.specs.RecordBytes.{sector_bytes};
-    ghost use Rattle.le_rec.specs.RecordRange.{IsSectorInRange};
-    ghost use Rattle.le_rec.specs.RecordLaws as laws;
+    ghost use Rattle.le_rec.specs.Record.{sector_layout};
 
     ghost SIZE = { 26 };
 
-    ghost record_of = { sector };
-
-    ghost bytes_of = { sector_bytes };
-
-    ghost is_in_range = { IsSectorInRange };
+    ghost layout = { sector_layout };
 
     const SIZE: usize = 26;
 
@@ -522,13 +395,5 @@ impl Record for Sector {
 
     ghost size_above_zero = { lit< tt };
 
-    ghost read_in_range = { laws.sector-in_range };
-
-    ghost reads_back = { laws.sector-sector_bytes };
-
-    ghost writes_back = { laws.sector_bytes-sector };
-
-    ghost bytes_length = { laws.length-sector_bytes };
-
-    ghost bytes_are_bytes = { laws.AreBytes-sector_bytes };
+    ghost sized = { refl };
 }

@@ -2,6 +2,7 @@
 
 ghost use Rattle.std.specs.Prelude.{◌≡◌, length};
 ghost use Rattle.std.specs.List.{slice_get};
+ghost use Rattle.le_rec.specs.Layout.{read_by};
 ghost use Rattle.le_rec.specs.Table.{records_of, rows_of};
 
 use crate::record::Record;
@@ -16,18 +17,19 @@ pub struct Table<'a, R: Record> {
 }
 
 impl<'a, R: Record> Model for Table<'a, R> {
+    ghost use Rattle.le_rec.specs.Layout.{read_by};
     ghost use Rattle.le_rec.specs.Table.{Rows, rows_of};
 
     ghost Value = { Rows R };
 
-    ghost view = { λ a. rows_of R.SIZE R.record_of a.bytes.now };
+    ghost view = { λ a. rows_of R.SIZE (read_by R.layout) a.bytes.now };
 }
 
 impl<'a, R: Record> Table<'a, R> {
     /// The table that the bytes hold.
     #[inline]
     pub fn of(bytes: &'a [u8]) -> Table<'a, R>
-        ensures { result ≡ rows_of R.SIZE R.record_of bytes.now }
+        ensures { result ≡ rows_of R.SIZE (read_by R.layout) bytes.now }
     {
         Table {
             bytes,
@@ -62,7 +64,7 @@ impl<'a, R: Record> Table<'a, R> {
 
 #[inline]
 fn record_at<R: Record>(bytes: &[u8], index: usize) -> Option<R>
-    ensures { result ≡ slice_get (records_of R.SIZE R.record_of bytes.now) index }
+    ensures { result ≡ slice_get (records_of R.SIZE (read_by R.layout) bytes.now) index }
 {
     let size = R::SIZE;
     if index >= bytes.len() / size {

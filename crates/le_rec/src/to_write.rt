@@ -1,12 +1,11 @@
 //! A writer as a sink.
-ghost use Rattle.std.specs.Prelude.{◌≡◌, ◌≤◌, false, ◌||◌, [], IfOk, is_err, length};
-ghost use Rattle.std.specs.Io.KnownBytes.{WriteAppends};
+ghost use Rattle.std.specs.Prelude.{◌≡◌, false};
 
 use super::ends::{EndFault, Sink};
 use std::io::Write;
 
-/// A writer as a sink. It tells no bytes. Every error of the writer is a failed put, and so is a
-/// write that takes none of some bytes.
+/// A writer as a sink: the bytes that it tells are those that are known of the writer. Every error of the writer is
+/// a failed put, and so is a write that takes none of some bytes.
 #[derive(Drop)]
 pub struct ToWrite<W: Write> {
     writer: W,
@@ -29,21 +28,11 @@ impl<W: Write> ToWrite<W> {
 }
 
 impl<W: Write> Sink for ToWrite<W> {
-    ghost use Rattle.le_rec.specs.Sink.{TakesSome, put_failed, writer_of};
+    ghost use Rattle.le_rec.specs.Sink.{SinkState, put_failed, writer_of};
 
-    ghost tells = { false };
+    ghost state = { λ s. record { taken = W.contents (writer_of s); failed = put_failed s } };
 
-    ghost taken = { λ _. [] };
-
-    ghost has_failed = { put_failed };
-
-    fn put(&mut self, bytes: &[u8]) -> Result<usize, EndFault>
-        ensures bound { IfOk result (λ n. n ≤ length bytes.now) }
-        ensures some { TakesSome result bytes.now }
-        ensures written { WriteAppends (W.contents (writer_of self.old)) (W.contents (writer_of self.new))
-            result bytes.now }
-        ensures fault { put_failed self.new ≡ put_failed self.old || is_err result }
-    {
+    fn put(&mut self, bytes: &[u8]) -> Result<usize, EndFault> {
         match self.writer.write(bytes) {
             Ok(count) if count > 0 || bytes.is_empty() => Ok(count),
             _ => {

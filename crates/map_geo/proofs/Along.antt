@@ -7,8 +7,9 @@ use Rattle.std.specs.declared.cmp.Ordering.{Ordering}
 use Rattle.std.specs.declared.cmp.Ordering.TheVariants.{Less, Equal, Greater}
 use Rattle.map_geo.specs.declared.sides.Side.{Side}
 use Rattle.map_geo.specs.declared.sides.Side.TheVariants.{Front, Back}
-use Rattle.map_geo.specs.Point.{Coordinates, place_at}
-use Rattle.map_geo.specs.Side.{Line, cross, is_origin, side_of_tie, side_of}
+use Rattle.map_geo.specs.Point.{Point, point_at}
+use Rattle.map_geo.specs.Partition.{Partition}
+use Rattle.map_geo.specs.Side.{cross, is_origin, side_of_tie, side_of}
 use Rattle.map_geo.specs.Laws.{SidesAlongRows, SidesAlongColumns, SidesByCorners}
 use Rattle.map_geo.proofs.Products.{mul-lt_positive, mul-lt_negative}
 use Rattle.map_geo.proofs.Signs.{side_of-front, side_of-back, cross-front, cross-back, side_of-same}
@@ -26,34 +27,34 @@ below_zero a m b between h k =
     elim between.ways [ inl w ↦ omega (arith, ints) | inr w ↦ omega (arith, ints) ]
 
 -- where the cross product lies strictly between those of two places of one side, so does the place
-side_of_between : (line : Line) (p q r : Coordinates) (side : Side) → IsBetween (cross line p) (cross line q) (cross line r) → side_of line p ≡ side → side_of line r ≡ side → side_of line q ≡ side
-side_of_between line p q r Front between h k =
-    side_of-front line q _ refl (above_zero _ _ _ between (cross-front line p h) (cross-front line r k))
-side_of_between line p q r Back between h k =
-    side_of-back line q _ refl (below_zero _ _ _ between (cross-back line p h) (cross-back line r k))
+side_of_between : (partition : Partition) (p q r : Point) (side : Side) → IsBetween (cross partition p) (cross partition q) (cross partition r) → side_of partition p ≡ side → side_of partition r ≡ side → side_of partition q ≡ side
+side_of_between partition p q r Front between h k =
+    side_of-front partition q _ refl (above_zero _ _ _ between (cross-front partition p h) (cross-front partition r k))
+side_of_between partition p q r Back between h k =
+    side_of-back partition q _ refl (below_zero _ _ _ between (cross-back partition p h) (cross-back partition r k))
 
 -- what a line does along places that are numbered in order
-data Sweep (line : Line) (places : ℤ → Coordinates) : Type 0 where
-  rises : ((a b : ℤ) → a <ℤ b → cross line (places a) <ℤ cross line (places b)) → Sweep line places
-  falls : ((a b : ℤ) → a <ℤ b → cross line (places b) <ℤ cross line (places a)) → Sweep line places
-  stays : ((a b : ℤ) → side_of line (places a) ≡ side_of line (places b)) → Sweep line places
+data Sweep (partition : Partition) (places : ℤ → Point) : Type 0 where
+  rises : ((a b : ℤ) → a <ℤ b → cross partition (places a) <ℤ cross partition (places b)) → Sweep partition places
+  falls : ((a b : ℤ) → a <ℤ b → cross partition (places b) <ℤ cross partition (places a)) → Sweep partition places
+  stays : ((a b : ℤ) → side_of partition (places a) ≡ side_of partition (places b)) → Sweep partition places
 
-side_of_inner : (line : Line) (places : ℤ → Coordinates) → Sweep line places → (a m b : ℤ) (side : Side) → a <ℤ m → m <ℤ b → side_of line (places a) ≡ side → side_of line (places b) ≡ side → side_of line (places m) ≡ side
-side_of_inner line places (rises up) a m b side h k e f =
-    side_of_between line _ _ _ side (record { ways = inl (up a m h, up m b k) }) e f
-side_of_inner line places (falls down) a m b side h k e f =
-    side_of_between line _ _ _ side (record { ways = inr (down m b k, down a m h) }) e f
-side_of_inner line places (stays same) a m b side h k e f = same m a ∙ e
+side_of_inner : (partition : Partition) (places : ℤ → Point) → Sweep partition places → (a m b : ℤ) (side : Side) → a <ℤ m → m <ℤ b → side_of partition (places a) ≡ side → side_of partition (places b) ≡ side → side_of partition (places m) ≡ side
+side_of_inner partition places (rises up) a m b side h k e f =
+    side_of_between partition _ _ _ side (record { ways = inl (up a m h, up m b k) }) e f
+side_of_inner partition places (falls down) a m b side h k e f =
+    side_of_between partition _ _ _ side (record { ways = inr (down m b k, down a m h) }) e f
+side_of_inner partition places (stays same) a m b side h k e f = same m a ∙ e
 
 less_or_same : (a b : ℤ) → a ≤ℤ b → (a <ℤ b) ⊎ (a ≡ b)
 less_or_same a b h = by_lt_z a b (λ k. inl k) (λ k. inr (omega (arith, ints)))
 
-side_of_along : (line : Line) (places : ℤ → Coordinates) → Sweep line places → (a m b : ℤ) → a ≤ℤ m → m ≤ℤ b → side_of line (places a) ≡ side_of line (places b) → side_of line (places m) ≡ side_of line (places a)
-side_of_along line places sweep a m b h k e = elim (less_or_same a m h) [
-  | inr same ↦ ap (λ z. side_of line (places z)) (sym same)
+side_of_along : (partition : Partition) (places : ℤ → Point) → Sweep partition places → (a m b : ℤ) → a ≤ℤ m → m ≤ℤ b → side_of partition (places a) ≡ side_of partition (places b) → side_of partition (places m) ≡ side_of partition (places a)
+side_of_along partition places sweep a m b h k e = elim (less_or_same a m h) [
+  | inr same ↦ ap (λ z. side_of partition (places z)) (sym same)
   | inl after ↦ elim (less_or_same m b k) [
-    | inr same ↦ ap (λ z. side_of line (places z)) same ∙ sym e
-    | inl before ↦ side_of_inner line places sweep a m b _ after before refl (sym e)
+    | inr same ↦ ap (λ z. side_of partition (places z)) same ∙ sym e
+    | inl before ↦ side_of_inner partition places sweep a m b _ after before refl (sym e)
   ]
 ]
 
@@ -72,23 +73,23 @@ side_of_tie-row Greater p q = refl
 zero_product-row : (a b k : ℤ) → pos 0 *ℤ a -ℤ k ≡ pos 0 *ℤ b -ℤ k
 zero_product-row a b k = omega (arith, ints)
 
-row_stays : (line : Line) (y a b : ℤ) → line.dy ≡ pos 0 → side_of line (place_at a y) ≡ side_of line (place_at b y)
-row_stays line y a b flat =
-    let at : ℤ → Line = λ dy. record line { dy = dy } in
-    subst (λ dy. side_of (at dy) (place_at a y) ≡ side_of (at dy) (place_at b y)) (sym flat)
-    (side_of-same (at (pos 0)) (place_at a y) (place_at b y)
-    (zero_product-row (a -ℤ line.x) (b -ℤ line.x) (line.dx *ℤ (y -ℤ line.y)))
-    (side_of_tie-row (int_cmp line.dx (pos 0)) (is_origin line (place_at a y)) (is_origin line (place_at b y))))
+row_stays : (partition : Partition) (y a b : ℤ) → partition.dy ≡ pos 0 → side_of partition (point_at a y) ≡ side_of partition (point_at b y)
+row_stays partition y a b flat =
+    let at : ℤ → Partition = λ dy. record partition { dy = dy } in
+    subst (λ dy. side_of (at dy) (point_at a y) ≡ side_of (at dy) (point_at b y)) (sym flat)
+    (side_of-same (at (pos 0)) (point_at a y) (point_at b y)
+    (zero_product-row (a -ℤ partition.x) (b -ℤ partition.x) (partition.dx *ℤ (y -ℤ partition.y)))
+    (side_of_tie-row (int_cmp partition.dx (pos 0)) (is_origin partition (point_at a y)) (is_origin partition (point_at b y))))
 
-row_sweep : (line : Line) (y : ℤ) (o : Ordering) → MatchOrdering o (line.dy <ℤ pos 0) (line.dy ≡ pos 0) (pos 0 <ℤ line.dy) → Sweep line (λ x. place_at x y)
-row_sweep line y Less down =
-    falls (λ a b h. difference_lt _ _ _ (mul-lt_negative line.dy _ _ down (difference_lt a b line.x h)))
-row_sweep line y Equal flat = stays (λ a b. row_stays line y a b flat)
-row_sweep line y Greater up =
-    rises (λ a b h. difference_lt _ _ _ (mul-lt_positive line.dy _ _ up (difference_lt a b line.x h)))
+row_sweep : (partition : Partition) (y : ℤ) (o : Ordering) → MatchOrdering o (partition.dy <ℤ pos 0) (partition.dy ≡ pos 0) (pos 0 <ℤ partition.dy) → Sweep partition (λ x. point_at x y)
+row_sweep partition y Less down =
+    falls (λ a b h. difference_lt _ _ _ (mul-lt_negative partition.dy _ _ down (difference_lt a b partition.x h)))
+row_sweep partition y Equal flat = stays (λ a b. row_stays partition y a b flat)
+row_sweep partition y Greater up =
+    rises (λ a b h. difference_lt _ _ _ (mul-lt_positive partition.dy _ _ up (difference_lt a b partition.x h)))
 
 pub sides_along_rows : SidesAlongRows
-sides_along_rows line y = side_of_along line _ (row_sweep line y _ (int_ranks line.dy (pos 0)))
+sides_along_rows partition y = side_of_along partition _ (row_sweep partition y _ (int_ranks partition.dy (pos 0)))
 
 -- ---- a column
 side_of_tie-column : (o : Ordering) (p q : Bool) → side_of_tie Equal o p ≡ side_of_tie Equal o q
@@ -99,27 +100,27 @@ side_of_tie-column Greater p q = refl
 zero_product-column : (k a b : ℤ) → k -ℤ pos 0 *ℤ a ≡ k -ℤ pos 0 *ℤ b
 zero_product-column k a b = omega (arith, ints)
 
-column_stays : (line : Line) (x a b : ℤ) → line.dx ≡ pos 0 → side_of line (place_at x a) ≡ side_of line (place_at x b)
-column_stays line x a b upright =
-    let at : ℤ → Line = λ dx. record line { dx = dx } in
-    subst (λ dx. side_of (at dx) (place_at x a) ≡ side_of (at dx) (place_at x b)) (sym upright)
-    (side_of-same (at (pos 0)) (place_at x a) (place_at x b)
-    (zero_product-column (line.dy *ℤ (x -ℤ line.x)) (a -ℤ line.y) (b -ℤ line.y))
-    (side_of_tie-column (int_cmp line.dy (pos 0)) (is_origin line (place_at x a)) (is_origin line (place_at x b))))
+column_stays : (partition : Partition) (x a b : ℤ) → partition.dx ≡ pos 0 → side_of partition (point_at x a) ≡ side_of partition (point_at x b)
+column_stays partition x a b upright =
+    let at : ℤ → Partition = λ dx. record partition { dx = dx } in
+    subst (λ dx. side_of (at dx) (point_at x a) ≡ side_of (at dx) (point_at x b)) (sym upright)
+    (side_of-same (at (pos 0)) (point_at x a) (point_at x b)
+    (zero_product-column (partition.dy *ℤ (x -ℤ partition.x)) (a -ℤ partition.y) (b -ℤ partition.y))
+    (side_of_tie-column (int_cmp partition.dy (pos 0)) (is_origin partition (point_at x a)) (is_origin partition (point_at x b))))
 
-column_sweep : (line : Line) (x : ℤ) (o : Ordering) → MatchOrdering o (line.dx <ℤ pos 0) (line.dx ≡ pos 0) (pos 0 <ℤ line.dx) → Sweep line (λ y. place_at x y)
-column_sweep line x Less left =
-    rises (λ a b h. difference_gt _ _ _ (mul-lt_negative line.dx _ _ left (difference_lt a b line.y h)))
-column_sweep line x Equal upright = stays (λ a b. column_stays line x a b upright)
-column_sweep line x Greater right =
-    falls (λ a b h. difference_gt _ _ _ (mul-lt_positive line.dx _ _ right (difference_lt a b line.y h)))
+column_sweep : (partition : Partition) (x : ℤ) (o : Ordering) → MatchOrdering o (partition.dx <ℤ pos 0) (partition.dx ≡ pos 0) (pos 0 <ℤ partition.dx) → Sweep partition (λ y. point_at x y)
+column_sweep partition x Less left =
+    rises (λ a b h. difference_gt _ _ _ (mul-lt_negative partition.dx _ _ left (difference_lt a b partition.y h)))
+column_sweep partition x Equal upright = stays (λ a b. column_stays partition x a b upright)
+column_sweep partition x Greater right =
+    falls (λ a b h. difference_gt _ _ _ (mul-lt_positive partition.dx _ _ right (difference_lt a b partition.y h)))
 
 pub sides_along_columns : SidesAlongColumns
-sides_along_columns line x = side_of_along line _ (column_sweep line x _ (int_ranks line.dx (pos 0)))
+sides_along_columns partition x = side_of_along partition _ (column_sweep partition x _ (int_ranks partition.dx (pos 0)))
 
 -- ---- a rectangle: its left and right columns, then the row of the place
 pub sides_by_corners : SidesByCorners
-sides_by_corners bounds line side corners place inside =
-    let left : side_of line (place_at bounds.x0 place.y) ≡ side = sides_along_columns line bounds.x0 bounds.y0 place.y bounds.y1 inside.lowest inside.highest (corners.low_left ∙ sym corners.high_left) ∙ corners.low_left in
-    let right : side_of line (place_at bounds.x1 place.y) ≡ side = sides_along_columns line bounds.x1 bounds.y0 place.y bounds.y1 inside.lowest inside.highest (corners.low_right ∙ sym corners.high_right) ∙ corners.low_right in
-    sides_along_rows line place.y bounds.x0 place.x bounds.x1 inside.left inside.right (left ∙ sym right) ∙ left
+sides_by_corners rect partition side corners point inside =
+    let left : side_of partition (point_at rect.x0 point.y) ≡ side = sides_along_columns partition rect.x0 rect.y0 point.y rect.y1 inside.lowest inside.highest (corners.low_left ∙ sym corners.high_left) ∙ corners.low_left in
+    let right : side_of partition (point_at rect.x1 point.y) ≡ side = sides_along_columns partition rect.x1 rect.y0 point.y rect.y1 inside.lowest inside.highest (corners.low_right ∙ sym corners.high_right) ∙ corners.low_right in
+    sides_along_rows partition point.y rect.x0 point.x rect.x1 inside.left inside.right (left ∙ sym right) ∙ left

@@ -8,28 +8,29 @@ use Rattle.std.specs.declared.cmp.Ordering.{Ordering}
 use Rattle.std.specs.declared.cmp.Ordering.TheVariants.{Less, Equal, Greater}
 use Rattle.map_geo.specs.declared.sides.Side.{Side}
 use Rattle.map_geo.specs.declared.sides.Side.TheVariants.{Front, Back}
-use Rattle.map_geo.specs.Point.{Coordinates}
-use Rattle.map_geo.specs.Side.{Line, cross, side_by_cross, side_on_line, side_of}
+use Rattle.map_geo.specs.Point.{Point}
+use Rattle.map_geo.specs.Partition.{Partition}
+use Rattle.map_geo.specs.Side.{cross, side_by_cross, side_on_line, side_of}
 
-pub side_of-front : (line : Line) (place : Coordinates) (c : ℤ) → c ≡ cross line place → pos 0 <ℤ c → side_of line place ≡ Front
+pub side_of-front : (partition : Partition) (point : Point) (c : ℤ) → c ≡ cross partition point → pos 0 <ℤ c → side_of partition point ≡ Front
 unfolding side_of
-side_of-front line place c e h =
-    ap (λ o. side_by_cross o (side_on_line line place)) (sym (int_cmp_is (cross line place) (pos 0) Greater (subst (λ z. pos 0 <ℤ z) e h)))
+side_of-front partition point c e h =
+    ap (λ o. side_by_cross o (side_on_line partition point)) (sym (int_cmp_is (cross partition point) (pos 0) Greater (subst (λ z. pos 0 <ℤ z) e h)))
 
-pub side_of-back : (line : Line) (place : Coordinates) (c : ℤ) → c ≡ cross line place → c <ℤ pos 0 → side_of line place ≡ Back
+pub side_of-back : (partition : Partition) (point : Point) (c : ℤ) → c ≡ cross partition point → c <ℤ pos 0 → side_of partition point ≡ Back
 unfolding side_of
-side_of-back line place c e h =
-    ap (λ o. side_by_cross o (side_on_line line place)) (sym (int_cmp_is (cross line place) (pos 0) Less (subst (λ z. z <ℤ pos 0) e h)))
+side_of-back partition point c e h =
+    ap (λ o. side_by_cross o (side_on_line partition point)) (sym (int_cmp_is (cross partition point) (pos 0) Less (subst (λ z. z <ℤ pos 0) e h)))
 
-pub side_of-tie : (line : Line) (place : Coordinates) (c : ℤ) → c ≡ cross line place → c ≡ pos 0 → side_of line place ≡ side_on_line line place
+pub side_of-tie : (partition : Partition) (point : Point) (c : ℤ) → c ≡ cross partition point → c ≡ pos 0 → side_of partition point ≡ side_on_line partition point
 unfolding side_of
-side_of-tie line place c e h =
-    ap (λ o. side_by_cross o (side_on_line line place)) (sym (int_cmp_is (cross line place) (pos 0) Equal (sym e ∙ h)))
+side_of-tie partition point c e h =
+    ap (λ o. side_by_cross o (side_on_line partition point)) (sym (int_cmp_is (cross partition point) (pos 0) Equal (sym e ∙ h)))
 
-pub side_of-same : (line : Line) (p q : Coordinates) → cross line p ≡ cross line q → side_on_line line p ≡ side_on_line line q → side_of line p ≡ side_of line q
+pub side_of-same : (partition : Partition) (p q : Point) → cross partition p ≡ cross partition q → side_on_line partition p ≡ side_on_line partition q → side_of partition p ≡ side_of partition q
 unfolding side_of
-side_of-same line p q e f =
-    ap (λ c. side_by_cross (int_cmp c (pos 0)) (side_on_line line p)) e ∙ ap (side_by_cross (int_cmp (cross line q) (pos 0))) f
+side_of-same partition p q e f =
+    ap (λ c. side_by_cross (int_cmp c (pos 0)) (side_on_line partition p)) e ∙ ap (side_by_cross (int_cmp (cross partition q) (pos 0))) f
 
 side_by_cross-front : (c : ℤ) (on_line : Side) (o : Ordering) → o ≡ int_cmp c (pos 0) → side_by_cross o on_line ≡ Front → pos 0 ≤ℤ c
 side_by_cross-front c on_line Less e is_front = cc
@@ -41,10 +42,10 @@ side_by_cross-back c on_line Less e is_back = let h = int_ranked c (pos 0) Less 
 side_by_cross-back c on_line Equal e is_back = let h = int_ranked c (pos 0) Equal e in omega (arith, ints, h)
 side_by_cross-back c on_line Greater e is_back = cc
 
-pub cross-front : (line : Line) (place : Coordinates) → side_of line place ≡ Front → pos 0 ≤ℤ cross line place
+pub cross-front : (partition : Partition) (point : Point) → side_of partition point ≡ Front → pos 0 ≤ℤ cross partition point
 unfolding side_of
-cross-front line place is_front = side_by_cross-front (cross line place) _ (int_cmp (cross line place) (pos 0)) refl is_front
+cross-front partition point is_front = side_by_cross-front (cross partition point) _ (int_cmp (cross partition point) (pos 0)) refl is_front
 
-pub cross-back : (line : Line) (place : Coordinates) → side_of line place ≡ Back → cross line place ≤ℤ pos 0
+pub cross-back : (partition : Partition) (point : Point) → side_of partition point ≡ Back → cross partition point ≤ℤ pos 0
 unfolding side_of
-cross-back line place is_back = side_by_cross-back (cross line place) _ (int_cmp (cross line place) (pos 0)) refl is_back
+cross-back partition point is_back = side_by_cross-back (cross partition point) _ (int_cmp (cross partition point) (pos 0)) refl is_back

@@ -2,7 +2,7 @@
 use Rattle.std.proofs.Common.{ℤ, pos, ◌≤ℤ◌, ◌*ℤ◌, ◌≡◌, ◌≤◌, true, false, FitsSigned, to_z, of_z, w32, arith}
 use Rattle.std.proofs.lemmas.Int.{ints, to_z-of_z, fits_signed_mul}
 use Rattle.std.specs.Prelude.{unsigned_abs, int_le}
-use Rattle.map_geo.specs.Rect.{IsSpan, IsRect, bounds_at, span}
+use Rattle.map_geo.specs.Rect.{IsSpan, IsRect, rect_at, span}
 
 -- n whole numbers go from a to b
 pub record HasLength (a b n : ℤ) : Type 0 where
@@ -42,13 +42,13 @@ module _ (x0 y0 x1 y1 columns rows : ℤ) (across : HasLength x0 x1 columns) (up
   area_read : to_z w32 (of_z w32 (to_z w32 (of_z w32 columns) *ℤ to_z w32 (of_z w32 rows))) ≡ columns *ℤ rows
   area_read = let c = columns_fit in let r = rows_fit in let a = area_fits in simp to_z-of_z
 
-  pub IsRect-from_test : int_le (to_z w32 (of_z w32 (to_z w32 (of_z w32 columns) *ℤ to_z w32 (of_z w32 rows)))) (pos 1048576) ≡ true → IsRect (bounds_at x0 y0 x1 y1)
+  pub IsRect-from_test : int_le (to_z w32 (of_z w32 (to_z w32 (of_z w32 columns) *ℤ to_z w32 (of_z w32 rows)))) (pos 1048576) ≡ true → IsRect (rect_at x0 y0 x1 y1)
   IsRect-from_test test = record {
     columns = across.is_span;
     rows = up.is_span;
     places = rw (← across.length, ← up.length, ← area_read) (le_from_test _ _ test);
   }
 
-  pub not_IsRect-from_test : int_le (to_z w32 (of_z w32 (to_z w32 (of_z w32 columns) *ℤ to_z w32 (of_z w32 rows)))) (pos 1048576) ≡ false → IsRect (bounds_at x0 y0 x1 y1) → ⊥
+  pub not_IsRect-from_test : int_le (to_z w32 (of_z w32 (to_z w32 (of_z w32 columns) *ℤ to_z w32 (of_z w32 rows)))) (pos 1048576) ≡ false → IsRect (rect_at x0 y0 x1 y1) → ⊥
   not_IsRect-from_test test is_rect =
       gt_from_test (columns *ℤ rows) (pos 1048576) (rw area_read at test) (rw (across.length, up.length) is_rect.places)

@@ -6,8 +6,8 @@ use denote.Enum.Bare.{sameb}
 use Rattle.map_geo.specs.contracts.sides.Side.{the_type}
 use Rattle.map_geo.specs.declared.sides.Side.{Side}
 use Rattle.map_geo.specs.declared.sides.Side.TheVariants.{Front, Back}
-use Rattle.map_geo.specs.Side.{Line}
-use Rattle.map_geo.specs.Rect.{Bounds, IsRect, AreCornersOn, IsWholeSide}
+use Rattle.map_geo.specs.Partition.{Partition}
+use Rattle.map_geo.specs.Rect.{Rect, IsRect, AreCornersOn, IsWholeSide}
 use Rattle.map_geo.proofs.Along.{sides_by_corners}
 
 -- what the code's `(a == b).then_some(a)` gives
@@ -26,8 +26,8 @@ if_some None P h = search rules
 if_some (Some s) P h = h s refl
 
 -- an answer that is the side of the four corners, and their side that of the whole rectangle
-module _ (bounds : Bounds) (line : Line) (is_rect : IsRect bounds) (answer : Option Side) (corners : (s : Side) → (answer ≡ Some s) ↔ AreCornersOn bounds line s) where
-  corners_from_whole : (s : Side) → IsWholeSide bounds line s → AreCornersOn bounds line s
+module _ (rect : Rect) (partition : Partition) (is_rect : IsRect rect) (answer : Option Side) (corners : (s : Side) → (answer ≡ Some s) ↔ AreCornersOn rect partition s) where
+  corners_from_whole : (s : Side) → IsWholeSide rect partition s → AreCornersOn rect partition s
   corners_from_whole s whole =
       let across = is_rect.columns.ordered in
       let up = is_rect.rows.ordered in
@@ -38,17 +38,17 @@ module _ (bounds : Bounds) (line : Line) (is_rect : IsRect bounds) (answer : Opt
         high_right = whole _ (record { left = across; right = omega (arith, ints); lowest = up; highest = omega (arith, ints) });
       }
 
-  some_from_corners : (s : Side) → (answer ≡ Some s) ↔ IsWholeSide bounds line s
+  some_from_corners : (s : Side) → (answer ≡ Some s) ↔ IsWholeSide rect partition s
   some_from_corners s =
-      (λ e. sides_by_corners bounds line s ((corners s).0 e), λ whole. (corners s).1 (corners_from_whole s whole))
+      (λ e. sides_by_corners rect partition s ((corners s).0 e), λ whole. (corners s).1 (corners_from_whole s whole))
 
-  pub whole_from_corners : IfSome answer (IsWholeSide bounds line)
+  pub whole_from_corners : IfSome answer (IsWholeSide rect partition)
   whole_from_corners = if_some answer _ (λ s e. (some_from_corners s).0 e)
 
-  pub only_from_corners : (s : Side) → IsWholeSide bounds line s → answer ≡ Some s
+  pub only_from_corners : (s : Side) → IsWholeSide rect partition s → answer ≡ Some s
   only_from_corners s whole = (some_from_corners s).1 whole
 
-  pub none_from_corners : IsNone answer ↔ ((s : Side) → ¬ IsWholeSide bounds line s)
+  pub none_from_corners : IsNone answer ↔ ((s : Side) → ¬ IsWholeSide rect partition s)
   none_from_corners = (
     λ e s whole. (none_or_some answer).1 e s ((some_from_corners s).1 whole),
     λ h. (none_or_some answer).0 (λ s e. h s ((some_from_corners s).0 e)),

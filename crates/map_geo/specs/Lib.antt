@@ -1,4 +1,5 @@
 pub mod Point
+pub mod Partition
 pub mod Side
-pub mod Laws
 pub mod Rect
+pub mod Laws

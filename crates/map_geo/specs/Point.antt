@@ -1,13 +1,13 @@
 use Rattle.std.specs.Prelude.{ℤ, pos, neg_ℤ, ◌≤ℤ◌}
 
--- a place on the map, in whole map units
-pub record Coordinates : Type 0 where
+-- a point of the map, in whole map units
+pub record Point : Type 0 where
   pub x : ℤ
   pub y : ℤ
 
--- the place in column x and row y
-abbrev pub place_at : ℤ → ℤ → Coordinates
-place_at x y = record { x = x; y = y }
+-- the point in column x and row y
+abbrev pub point_at : ℤ → ℤ → Point
+point_at x y = record { x = x; y = y }
 
 -- a coordinate for which the arithmetic of R_PointOnSide of r_main.c doesn't wrap
 pub record IsInRange (z : ℤ) : Type 0 where

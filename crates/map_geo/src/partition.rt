@@ -1,6 +1,7 @@
 ghost use Rattle.std.specs.Prelude.{◌≡◌, ◌↔◌, IsSome, IfSome, ◌*ℤ◌, ◌-ℤ◌, ◌≤◌, unsigned_abs};
 ghost use Rattle.map_geo.specs.Point.{IsInRange};
-ghost use Rattle.map_geo.specs.Side.{line_of, cross, is_origin, side_on_line, side_of};
+ghost use Rattle.map_geo.specs.Partition.{partition_of};
+ghost use Rattle.map_geo.specs.Side.{cross, is_origin, side_on_line, side_of};
 
 use crate::point::{Point, is_in_range};
 use crate::sides::Side;
@@ -20,15 +21,15 @@ pub struct Partition {
 impl Model for Partition {
     ghost use Rattle.std.specs.Prelude.{◌≤◌, unsigned_abs};
     ghost use Rattle.map_geo.specs.Point.{IsInRange};
-    ghost use Rattle.map_geo.specs.Side.{Line};
+    ghost use Rattle.map_geo.specs.Partition as partition;
 
-    ghost Value = { Line };
+    ghost Value = { partition.Partition };
 
     ghost view = { λ p. record { x = p.x; y = p.y; dx = p.dx; dy = p.dy } };
 
     ghost invariant = { λ p. IsInRange p.x × IsInRange p.y × (unsigned_abs p.dx ≤ 32768) × (unsigned_abs p.dy ≤ 32768) };
 
-    ghost inverse = { λ line. record { x = line.x; y = line.y; dx = line.dx; dy = line.dy } };
+    ghost inverse = { λ p. record { x = p.x; y = p.y; dx = p.dx; dy = p.dy } };
 }
 
 impl Partition {
@@ -36,7 +37,7 @@ impl Partition {
     #[inline]
     pub fn of(node: &Node) -> Option<Partition>
         ensures some { IsSome result ↔ (IsInRange node.now.x × IsInRange node.now.y) }
-        ensures value { IfSome result (λ partition. partition ≡ line_of node.now) }
+        ensures value { IfSome result (λ partition. partition ≡ partition_of node.now) }
     {
         let (x, y) = (i32::from(node.x), i32::from(node.y));
         let (dx, dy) = (i32::from(node.dx), i32::from(node.dy));

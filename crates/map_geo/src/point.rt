@@ -1,5 +1,5 @@
 ghost use Rattle.std.specs.Prelude.{◌≡◌, ◌↔◌, IsSome, IfSome, IsTrue};
-ghost use Rattle.map_geo.specs.Point.{IsInRange, place_at};
+ghost use Rattle.map_geo.specs.Point.{IsInRange, point_at};
 
 use std::marker::Model;
 
@@ -15,22 +15,23 @@ pub struct Point {
 }
 
 impl Model for Point {
-    ghost use Rattle.map_geo.specs.Point.{Coordinates, IsInRange};
+    ghost use Rattle.map_geo.specs.Point as point;
+    ghost use Rattle.map_geo.specs.Point.{IsInRange};
 
-    ghost Value = { Coordinates };
+    ghost Value = { point.Point };
 
     ghost view = { λ p. record { x = p.x; y = p.y } };
 
     ghost invariant = { λ p. IsInRange p.x × IsInRange p.y };
 
-    ghost inverse = { λ place. record { x = place.x; y = place.y } };
+    ghost inverse = { λ p. record { x = p.x; y = p.y } };
 }
 
 impl Point {
     /// The point (x, y), or None if a coordinate is outside -16384..16383.
     pub fn new(x: i32, y: i32) -> Option<Point>
         ensures some { IsSome result ↔ (IsInRange x × IsInRange y) }
-        ensures value { IfSome result (λ point. point ≡ place_at x y) }
+        ensures value { IfSome result (λ point. point ≡ point_at x y) }
     {
         if is_in_range(x) && is_in_range(y) {
             Some(Point { x, y })
@@ -44,7 +45,7 @@ impl Point {
     pub(crate) fn at(x: i32, y: i32) -> Point
         requires x_in { IsInRange x }
         requires y_in { IsInRange y }
-        ensures { result ≡ place_at x y }
+        ensures { result ≡ point_at x y }
     {
         Point { x, y }
     }

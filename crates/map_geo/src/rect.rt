@@ -1,8 +1,8 @@
 ghost use Rattle.std.specs.Prelude.{◌≡◌, ◌↔◌, IsSome, IfSome, IsNone, IsTrue};
 ghost use Rattle.map_geo.specs.declared.sides.Side.{Side};
-ghost use Rattle.map_geo.specs.Point.{IsInRange, place_at};
+ghost use Rattle.map_geo.specs.Point.{IsInRange, point_at};
 ghost use Rattle.map_geo.specs.Side.{side_of};
-ghost use Rattle.map_geo.specs.Rect.{bounds_at, span, IsSpan, IsRect, AreCornersOn, IsWholeSide};
+ghost use Rattle.map_geo.specs.Rect.{rect_at, span, IsSpan, IsRect, AreCornersOn, IsWholeSide};
 
 use crate::partition::{Partition, side};
 use crate::point::{Point, is_in_range};
@@ -22,23 +22,24 @@ pub struct Rect {
 }
 
 impl Model for Rect {
-    ghost use Rattle.map_geo.specs.Rect.{Bounds, bounds_at, IsRect};
+    ghost use Rattle.map_geo.specs.Rect as rect;
+    ghost use Rattle.map_geo.specs.Rect.{rect_at, IsRect};
 
-    ghost Value = { Bounds };
+    ghost Value = { rect.Rect };
 
-    ghost view = { λ r. bounds_at r.x0 r.y0 r.x1 r.y1 };
+    ghost view = { λ r. rect_at r.x0 r.y0 r.x1 r.y1 };
 
-    ghost invariant = { λ r. IsRect (bounds_at r.x0 r.y0 r.x1 r.y1) };
+    ghost invariant = { λ r. IsRect (rect_at r.x0 r.y0 r.x1 r.y1) };
 
-    ghost inverse = { λ bounds. record { x0 = bounds.x0; y0 = bounds.y0; x1 = bounds.x1; y1 = bounds.y1 } };
+    ghost inverse = { λ r. record { x0 = r.x0; y0 = r.y0; x1 = r.x1; y1 = r.y1 } };
 }
 
 impl Rect {
     /// The rectangle with these bounds, or None if a coordinate is outside -16384..16383, a lower
     /// bound is past its upper one, or there are more than 1,048,576 points.
     pub fn new(x0: i32, y0: i32, x1: i32, y1: i32) -> Option<Rect>
-        ensures some { IsSome result ↔ IsRect (bounds_at x0 y0 x1 y1) }
-        ensures value { IfSome result (λ rect. rect ≡ bounds_at x0 y0 x1 y1) }
+        ensures some { IsSome result ↔ IsRect (rect_at x0 y0 x1 y1) }
+        ensures value { IfSome result (λ rect. rect ≡ rect_at x0 y0 x1 y1) }
     {
         let columns = span(x0, x1)?;
         let rows = span(y0, y1)?;
@@ -125,7 +126,7 @@ fn corner_side(rect: Rect, partition: Partition) -> Option<Side>
 fn row_side(rect: Rect, y: i32, partition: Partition) -> Option<Side>
     requires { IsInRange y }
     ensures { (s : Side) → (result ≡ Some s)
-        ↔ (side_of partition (place_at rect.x0 y) ≡ s) × (side_of partition (place_at rect.x1 y) ≡ s) }
+        ↔ (side_of partition (point_at rect.x0 y) ≡ s) × (side_of partition (point_at rect.x1 y) ≡ s) }
 {
     let left = side(Point::at(rect.x0(), y), partition);
     let right = side(Point::at(rect.x1(), y), partition);

@@ -1,1 +1,3 @@
-pub mod Opening
+pub mod FewLemmas
+pub mod LevelLemmas
+pub mod OpeningLemmas

@@ -1,53 +1,56 @@
--- Which level several files hold under a name, or why there is none (P_SetupLevel of p_setup.c).
-use Rattle.std.specs.Prelude.{◌≡◌, ◌≢◌, ℕ, ◌+◌, ◌<◌, ◌≤◌, List, length, Some}
-use Rattle.std.specs.List.{slice_get}
-use Rattle.wad_dir.specs.Directory.{WadFile}
-use Rattle.wad_dir.specs.Winner.{joined, names, Wins}
-use Rattle.wad_dir.specs.Slice.{IsLump}
-use Rattle.map_level.specs.Parts.{Parts, lump_of, parts_of}
-use Rattle.map_level.specs.declared.level.LevelFault.{LevelFault}
-use Rattle.map_level.specs.declared.level.LevelFault.TheVariants.{NoLabel, Missing, Outside}
+-- A level as contracts see it.
+use Rattle.std.specs.Prelude.{ℕ, ◌-◌, ◌<◌, ◌^◌, List, [], length, slice_index_or, All}
+use Rattle.le_rec.specs.Record.{thing, linedef, sidedef, vertex, seg, ssector, node, sector}
+use Rattle.le_rec.specs.Table.{Rows, rows_of}
+use Rattle.le_rec.specs.declared.records.Thing.{Thing}
+use Rattle.le_rec.specs.declared.records.LineDef.{LineDef}
+use Rattle.le_rec.specs.declared.records.SideDef.{SideDef}
+use Rattle.le_rec.specs.declared.records.Vertex.{Vertex}
+use Rattle.le_rec.specs.declared.records.Seg.{Seg}
+use Rattle.le_rec.specs.declared.records.SSector.{SSector}
+use Rattle.le_rec.specs.declared.records.Node.{Node}
+use Rattle.le_rec.specs.declared.records.Sector.{Sector}
 use Rattle.map_level.specs.declared.reading.Reading.{Reading}
 
--- the names of a label and of the ten entries after it
-pub record AreNames (files : List WadFile) (label : ℕ) (found : List (List ℕ)) : Type 0 where
-  pub eleven : length found ≡ 11
-  pub each : (k : ℕ) → k ≤ 10 → slice_get found k ≡ slice_get (names files) (label + k)
+-- the label's number and reading, the names of the label and the ten lumps, the signed records of the eight tables, and
+-- the bytes of the last two lumps
+pub record Level : Type 0 where
+  pub label : ℕ
+  pub reading : Reading
+  pub names : List (List ℕ)
+  pub things : Rows Thing
+  pub linedefs : Rows LineDef
+  pub sidedefs : Rows SideDef
+  pub vertexes : Rows Vertex
+  pub segs : Rows Seg
+  pub ssectors : Rows SSector
+  pub nodes : Rows Node
+  pub sectors : Rows Sector
+  pub reject : List ℕ
+  pub blockmap : List ℕ
 
--- the lumps of the ten entries after a label
-pub record AreLumps (files : List WadFile) (label : ℕ) (lumps : List (List ℕ)) : Type 0 where
-  pub ten : length lumps ≡ 10
-  pub each : (k : ℕ) → 1 ≤ k → k ≤ 10 → IsLump files (label + k) (lump_of lumps k)
+-- the bytes of lump k, of the ten after a label
+abbrev pub lump_of : List (List ℕ) → ℕ → List ℕ
+lump_of lumps k = slice_index_or lumps (k - 1) []
 
--- the level of files and a name: the winner's, of the ten entries after it
-pub record IsLevel (files : List WadFile) (name : List ℕ) (reading : Reading) (level : Parts) : Type 0 where
-  pub wins : Wins (names files) name level.label
-  pub found : List (List ℕ)
-  pub named : AreNames files level.label found
-  pub lumps : List (List ℕ)
-  pub stand : AreLumps files level.label lumps
-  pub is : level ≡ parts_of level.label reading found lumps
+-- the level that ten lumps hold, by their places after the label (ML_THINGS to ML_BLOCKMAP of doomdata.h)
+abbrev pub level_of : ℕ → Reading → List (List ℕ) → List (List ℕ) → Level
+level_of label reading names lumps = record {
+  label = label;
+  reading = reading;
+  names = names;
+  things = rows_of 10 thing (lump_of lumps 1);
+  linedefs = rows_of 14 linedef (lump_of lumps 2);
+  sidedefs = rows_of 30 sidedef (lump_of lumps 3);
+  vertexes = rows_of 4 vertex (lump_of lumps 4);
+  segs = rows_of 12 seg (lump_of lumps 5);
+  ssectors = rows_of 4 ssector (lump_of lumps 6);
+  nodes = rows_of 28 node (lump_of lumps 7);
+  sectors = rows_of 26 sector (lump_of lumps 8);
+  reject = lump_of lumps 9;
+  blockmap = lump_of lumps 10;
+}
 
--- the lumps before k are there
-abbrev pub AreThereBelow : List WadFile → ℕ → ℕ → Type 0
-AreThereBelow files label k = (j : ℕ) → 1 ≤ j → j < k → (lump : List ℕ) × IsLump files (label + j) lump
-
--- lump k of the ten is the first that isn't there: no entry has its number, or its entry has no lump
-pub record IsMissing (files : List WadFile) (label k : ℕ) : Type 0 where
-  pub from : 1 ≤ k
-  pub to : k ≤ 10
-  pub before : AreThereBelow files label k
-  pub past : length (joined files) ≤ label + k
-
-pub record IsOutside (files : List WadFile) (label k : ℕ) : Type 0 where
-  pub from : 1 ≤ k
-  pub to : k ≤ 10
-  pub before : AreThereBelow files label k
-  pub listed : label + k < length (joined files)
-  pub refused : (lump : List ℕ) → ¬ IsLump files (label + k) lump
-
--- why there is no level of a name
-abbrev pub IsRefused : List WadFile → List ℕ → LevelFault → Type 0
-IsRefused files name NoLabel = (g : ℕ) → slice_get (names files) g ≢ Some name
-IsRefused files name (Missing k) = (label : ℕ) × Wins (names files) name label × IsMissing files label k
-IsRefused files name (Outside k) = (label : ℕ) × Wins (names files) name label × IsOutside files label k
+-- lumps of fewer than 2 to the 31 bytes each, since a size has 31 bits
+abbrev pub AreShort : List (List ℕ) → Type 0
+AreShort lumps = All (λ lump. length lump < 2 ^ 31) lumps

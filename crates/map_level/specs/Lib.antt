@@ -1,5 +1,3 @@
 pub mod Reading
-pub mod Parts
 pub mod Level
-pub mod LevelLaws
-pub mod LumpFault
+pub mod Opening

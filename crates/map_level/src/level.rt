@@ -2,10 +2,10 @@
 
 ghost use Rattle.std.specs.Prelude.{◌≡◌, ◌+◌, ◌<◌, ◌≤◌, ◌^◌, length, map, IfOk, IfErr, OnOk, Some};
 ghost use Rattle.std.specs.List.{slice_get};
-ghost use Rattle.wad_dir.specs.Winner.{joined};
+ghost use Rattle.wad_dir.specs.Entries.{joined};
 
 use crate::reading::Reading;
-use le_rec::{LineDef, Name8, Node, SSector, Sector, Seg, SideDef, Table, Thing, Vertex};
+use le_rec::{LineDef, Name8, Node, Record, SSector, Sector, Seg, SideDef, Table, Thing, Vertex};
 use std::alloc::Allocator;
 use std::marker::Model;
 use thiserror::Error;
@@ -36,17 +36,18 @@ pub struct Level<'a> {
 
 impl<'a> Model for Level<'a> {
     ghost use Rattle.std.specs.Prelude.{◌≡◌, map, length};
-    ghost use Rattle.map_level.specs.Parts.{Parts, parts_of};
+    ghost use Rattle.map_level.specs.Level as level;
+    ghost use Rattle.map_level.specs.Level.{level_of, AreShort};
 
-    ghost Value = { Parts };
+    ghost Value = { level.Level };
 
-    ghost view = { λ a. parts_of a.label a.reading a.names (map (λ lump. lump.now) a.lumps) };
+    ghost view = { λ a. level_of a.label a.reading a.names (map (λ lump. lump.now) a.lumps) };
 
-    ghost invariant = { λ a. (length a.names ≡ 11) × (length a.lumps ≡ 10) };
+    ghost invariant = { λ a. (length a.names ≡ 11) × (length a.lumps ≡ 10) × AreShort (map (λ lump. lump.now) a.lumps) };
 }
 
 impl<'a> Level<'a> {
-    ghost use Rattle.map_level.specs.Level.{IsLevel, IsRefused};
+    ghost use Rattle.map_level.specs.Opening.{IsLevel, RefusesLevel};
 
     /// The level whose label has the name, of the last entry where there are several: the ten lumps are those
     /// of the ten entries after it, whatever their names, and may lie in a later file (`P_SetupLevel`).
@@ -56,7 +57,7 @@ impl<'a> Level<'a> {
         reading: Reading,
     ) -> Result<Level<'a>, LevelFault>
         ensures level { IfOk result (IsLevel set.now name reading) }
-        ensures refused { IfErr result (IsRefused set.now name) }
+        ensures refused { IfErr result (RefusesLevel set.now name) }
     {
         let Some(label) = set.find(name) else {
             return Err(LevelFault::NoLabel);
@@ -96,73 +97,92 @@ impl<'a> Level<'a> {
 
     /// Lump 1, the things.
     pub fn things(&self) -> Table<'a, Thing>
-        ensures { result ≡ self.now.things }
+        ensures is { result ≡ self.now.things }
+        ensures few { length result.records < 2 ^ 31 }
     {
-        Table::of(self.lumps[0])
+        table_of(self.lumps[0])
     }
 
     /// Lump 2, the linedefs.
     pub fn linedefs(&self) -> Table<'a, LineDef>
-        ensures { result ≡ self.now.linedefs }
+        ensures is { result ≡ self.now.linedefs }
+        ensures few { length result.records < 2 ^ 31 }
     {
-        Table::of(self.lumps[1])
+        table_of(self.lumps[1])
     }
 
     /// Lump 3, the sidedefs.
     pub fn sidedefs(&self) -> Table<'a, SideDef>
-        ensures { result ≡ self.now.sidedefs }
+        ensures is { result ≡ self.now.sidedefs }
+        ensures few { length result.records < 2 ^ 31 }
     {
-        Table::of(self.lumps[2])
+        table_of(self.lumps[2])
     }
 
     /// Lump 4, the vertexes.
     pub fn vertexes(&self) -> Table<'a, Vertex>
-        ensures { result ≡ self.now.vertexes }
+        ensures is { result ≡ self.now.vertexes }
+        ensures few { length result.records < 2 ^ 31 }
     {
-        Table::of(self.lumps[3])
+        table_of(self.lumps[3])
     }
 
     /// Lump 5, the segs.
     pub fn segs(&self) -> Table<'a, Seg>
-        ensures { result ≡ self.now.segs }
+        ensures is { result ≡ self.now.segs }
+        ensures few { length result.records < 2 ^ 31 }
     {
-        Table::of(self.lumps[4])
+        table_of(self.lumps[4])
     }
 
     /// Lump 6, the ssectors.
     pub fn ssectors(&self) -> Table<'a, SSector>
-        ensures { result ≡ self.now.ssectors }
+        ensures is { result ≡ self.now.ssectors }
+        ensures few { length result.records < 2 ^ 31 }
     {
-        Table::of(self.lumps[5])
+        table_of(self.lumps[5])
     }
 
     /// Lump 7, the nodes.
     pub fn nodes(&self) -> Table<'a, Node>
-        ensures { result ≡ self.now.nodes }
+        ensures is { result ≡ self.now.nodes }
+        ensures few { length result.records < 2 ^ 31 }
     {
-        Table::of(self.lumps[6])
+        table_of(self.lumps[6])
     }
 
     /// Lump 8, the sectors.
     pub fn sectors(&self) -> Table<'a, Sector>
-        ensures { result ≡ self.now.sectors }
+        ensures is { result ≡ self.now.sectors }
+        ensures few { length result.records < 2 ^ 31 }
     {
-        Table::of(self.lumps[7])
+        table_of(self.lumps[7])
     }
 
     /// The bytes of lump 9, the reject table.
     pub fn reject(&self) -> &'a [u8]
-        ensures { result.now ≡ self.now.reject }
+        ensures is { result.now ≡ self.now.reject }
+        ensures few { length result.now < 2 ^ 31 }
     {
         self.lumps[8]
     }
 
     /// The bytes of lump 10, the blockmap.
     pub fn blockmap(&self) -> &'a [u8]
-        ensures { result.now ≡ self.now.blockmap }
+        ensures is { result.now ≡ self.now.blockmap }
+        ensures few { length result.now < 2 ^ 31 }
     {
         self.lumps[9]
     }
+}
+
+// The table of a lump.
+fn table_of<'a, R: Record>(lump: &'a [u8]) -> Table<'a, R>
+    requires { length lump.now < 2 ^ 31 }
+    ensures is { result ≡ rows_of R.SIZE (read_by R.layout) lump.now }
+    ensures few { length result.records < 2 ^ 31 }
+{
+    Table::of(lump)
 }
 
 // Ten lumps, in a struct because a result can't hold an array of slices.
@@ -170,14 +190,18 @@ struct Lumps<'a> {
     bytes: [&'a [u8]; 10],
 }
 
-ghost use Rattle.map_level.specs.Level.{AreLumps, AreNames, AreThereBelow, IsMissing, IsOutside};
-ghost use Rattle.map_level.specs.LumpFault.{RefusesLump};
+ghost use Rattle.map_level.specs.Level.{AreShort};
+ghost use Rattle.le_rec.specs.Layout.{read_by};
+ghost use Rattle.le_rec.specs.Table.{rows_of};
+ghost use Rattle.map_level.specs.Opening.{AreLumps, AreNames, AreThereBelow, IsMissing, IsOutsideFile};
+ghost use Rattle.map_level.specs.Opening.{RefusesLump};
 
 // The lumps of the ten entries after a label, or the first that isn't there.
 fn lumps_after<'a, A: Allocator>(set: &Set<'a, A>, label: usize) -> Result<Lumps<'a>, LevelFault>
     requires { label < length (joined set.now) }
     ensures ok { IfOk result (λ lumps. AreLumps set.now label (map (λ lump. lump.now) lumps.bytes)) }
     ensures err { IfErr result (RefusesLump set.now label) }
+    ensures short { IfOk result (λ lumps. AreShort (map (λ lump. lump.now) lumps.bytes)) }
     ensures listed { OnOk result (label + 10 < length (joined set.now)) }
     ensures fits { OnOk result (label + 10 < 2 ^ 64) }
 {

@@ -2,8 +2,8 @@
 use Rattle.std.proofs.Common.{◌≡◌, ℕ, zero, suc, ◌+◌, ◌<◌, List, [], ◌∷◌, ◌++◌, length, take, drop, get_or, refl, sym, ap, ◌∙◌, arith}
 use Rattle.std.specs.List.{slice_get}
 use Rattle.std.proofs.lemmas.List.{append_assoc, length-append, length-map, length-take-le, take-append-drop, drop_more, take_more}
-use Rattle.wad_dir.specs.Directory.{WadFile}
-use Rattle.wad_dir.specs.Winner.{listed_in, joined_from, joined}
+use Rattle.wad_dir.specs.Wad.{Wad}
+use Rattle.wad_dir.specs.Entries.{listed_in, joined_from, joined}
 
 -- an item of two joined lists
 pub slice_get-append_left : {X : Type 0} (xs ys : List X) (i : ℕ) → i < length xs → slice_get (xs ++ ys) i ≡ slice_get xs i
@@ -17,14 +17,14 @@ slice_get-append_right (x ∷ xs) ys i =
     let next : suc (length xs) + i ≡ suc (length xs + i) = omega arith in
     ap (slice_get (x ∷ (xs ++ ys))) next ∙ slice_get-append_right xs ys i
 
-pub joined_from-append : (n : ℕ) (front back : List WadFile) → joined_from n (front ++ back) ≡ joined_from n front ++ joined_from (n + length front) back
+pub joined_from-append : (n : ℕ) (front back : List Wad) → joined_from n (front ++ back) ≡ joined_from n front ++ joined_from (n + length front) back
 joined_from-append n [] back = let none : n ≡ n + 0 = omega arith in ap (λ k. joined_from k back) none
 joined_from-append n (file ∷ front) back =
     let next : n + 1 + length front ≡ n + suc (length front) = omega arith in
     ap (λ xs. listed_in n file ++ xs) (joined_from-append (n + 1) front back ∙ ap (λ k. joined_from (n + 1) front ++ joined_from k back) next)
     ∙ sym (append_assoc (listed_in n file) (joined_from (n + 1) front) (joined_from (n + suc (length front)) back))
 
-module _ (files : List WadFile) (file : WadFile) (i : ℕ) (within : i < length files) (at : file ≡ get_or files i file) where
+module _ (files : List Wad) (file : Wad) (i : ℕ) (within : i < length files) (at : file ≡ get_or files i file) where
   -- the list is that of the files before, the entries of the file, and those of the files after
   joined_around : joined files ≡ joined (take i files) ++ (listed_in (i + 1) file ++ joined_from (i + 1 + 1) (drop (i + 1) files))
   joined_around =

@@ -2,15 +2,15 @@
 use Rattle.std.proofs.Common.{◌≡◌, ℕ, ◌<◌, List, [], ◌∷◌, length, Some, refl, sym, ◌∙◌, subst, arith}
 use Rattle.std.proofs.lemmas.Int.{ints}
 use Rattle.le_rec.specs.declared.records.Entry.{Entry}
-use Rattle.wad_dir.specs.Part.{StandsAt}
+use Rattle.wad_dir.specs.Standing.{StandsAt}
 use Rattle.wad_dir.proofs.PartLemmas.{StandsAt-one}
 use Rattle.std.specs.List.{slice_get}
 use Rattle.std.proofs.lemmas.Option.{same_Some}
-use Rattle.wad_dir.specs.Directory.{WadFile}
-use Rattle.wad_dir.specs.Winner.{Listed, joined}
+use Rattle.wad_dir.specs.Wad.{Wad}
+use Rattle.wad_dir.specs.Entries.{Listed, joined}
 use Rattle.wad_dir.specs.Slice.{IsSlice, IsLump}
 
-module _ (files : List WadFile) (g : ℕ) (listed : Listed) (at : slice_get (joined files) g ≡ Some listed) where
+module _ (files : List Wad) (g : ℕ) (listed : Listed) (at : slice_get (joined files) g ≡ Some listed) where
   pub lump_is : (lump : List ℕ) → IsSlice listed.bytes listed.entry lump → IsLump files g lump
   lump_is lump slice = record { listed = listed; numbered = at; slice = slice }
 

@@ -7,7 +7,7 @@ use Rattle.std.specs.List.{starts_with}
 use Rattle.std.proofs.lemmas.Slice.Eq.{starts_is}
 use Rattle.std.proofs.lemmas.Bool.Decides.{Decides-eqb}
 use Rattle.le_rec.specs.Name.{name_of}
-use Rattle.le_rec.proofs.Names.{name_of-cons}
+use Rattle.le_rec.proofs.NameLemmas.{name_of-cons}
 
 -- none of the bytes is NUL
 abbrev pub HasNoNul : List ℕ → Type 0

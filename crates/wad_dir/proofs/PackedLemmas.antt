@@ -6,10 +6,10 @@ use Rattle.std.proofs.lemmas.List.{append-nil, append_assoc, length-append}
 use Rattle.std.proofs.lemmas.List.Elements.{All-head, All-tail}
 use Rattle.le_rec.specs.Name.{name_of, padded}
 use Rattle.le_rec.specs.Number.{bytes32}
-use Rattle.le_rec.specs.NumberLaws.{signed32-bytes32}
-use Rattle.le_rec.specs.FieldLaws.{name_bytes-is}
+use Rattle.le_rec.proofs.NumberLemmas.{signed32-bytes32}
+use Rattle.le_rec.proofs.FieldLemmas.{name_bytes-is}
 use Rattle.le_rec.specs.Record.{entry}
-use Rattle.le_rec.specs.RecordBytes.{entry_bytes}
+use Rattle.le_rec.specs.Record.{entry_bytes}
 use Rattle.le_rec.specs.declared.records.Entry.{Entry}
 use Rattle.wad_dir.specs.declared.wad.Kind.TheVariants.{Pwad}
 use Rattle.wad_dir.specs.Directory.{AreRecords, IsDirectory}

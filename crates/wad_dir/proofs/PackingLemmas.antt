@@ -10,7 +10,8 @@ use Rattle.std.proofs.lemmas.List.{append-nil, append_assoc, length-append, take
 use Rattle.std.proofs.lemmas.List.Folds.{length-flat_map-take}
 use Rattle.le_rec.specs.Name.{padded}
 use Rattle.le_rec.specs.Number.{bytes32}
-use Rattle.le_rec.specs.RecordBytes.{entry_bytes, name_bytes}
+use Rattle.le_rec.specs.FieldBytes.{name_bytes}
+use Rattle.le_rec.specs.Record.{entry_bytes}
 use Rattle.le_rec.specs.declared.records.Entry.{Entry}
 use Rattle.wad_dir.specs.Packing.{NamedLump, lump_bytes, entries_from, packed}
 

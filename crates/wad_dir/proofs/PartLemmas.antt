@@ -4,7 +4,7 @@ use Rattle.std.proofs.lemmas.List.{length-take-le, length-drop, take-append-drop
 use Rattle.std.proofs.lemmas.Int.{to_z-of_z}
 use Rattle.std.specs.Prelude.{FitsSigned}
 use Rattle.std.specs.Int.{w32}
-use Rattle.wad_dir.specs.Part.{StandsAt}
+use Rattle.wad_dir.specs.Standing.{StandsAt}
 
 -- what a call says of a signed argument, read as that argument
 pub read_number : (z : ℤ) (n : ℕ) → FitsSigned w32 z → to_z w32 (of_z w32 z) ≡ pos n → z ≡ pos n

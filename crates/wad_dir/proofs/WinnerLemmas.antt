@@ -7,8 +7,9 @@ use Rattle.std.proofs.lemmas.Option.{slice_get-map, slice_get_past, slice_get_wi
 use Rattle.std.proofs.lemmas.List.{length-map}
 use Rattle.le_rec.specs.Name.{name_of}
 use Rattle.le_rec.specs.declared.records.Entry.{Entry}
-use Rattle.wad_dir.specs.Directory.{WadFile}
-use Rattle.wad_dir.specs.Winner.{Listed, joined, names, names_in, listed_name, Wins}
+use Rattle.wad_dir.specs.Wad.{Wad}
+use Rattle.wad_dir.specs.Entries.{Listed, joined, names, names_in, listed_name}
+use Rattle.wad_dir.specs.Winner.{Wins}
 use Rattle.wad_dir.proofs.JoinedLemmas.{listed_at, length-joined_to}
 
 -- no entry from a number on has the name
@@ -26,26 +27,26 @@ module _ (all : List (List ℕ)) (name : List ℕ) (i n : ℕ) (next : n ≡ i +
   ]
 
 -- the name of a file's entry
-pub named_at : (file : WadFile) (i : ℕ) (entry : Entry) → slice_get file.entries i ≡ Some entry → slice_get (names_in file) i ≡ Some (name_of entry.name)
+pub named_at : (file : Wad) (i : ℕ) (entry : Entry) → slice_get file.entries i ≡ Some entry → slice_get (names_in file) i ≡ Some (name_of entry.name)
 named_at file i entry at = slice_get-map (λ (e : Entry). name_of e.name) file.entries i ∙ ap (option_map (λ (e : Entry). name_of e.name)) at
 
-pub same_name : (file : WadFile) (i : ℕ) (entry : Entry) (name : List ℕ) → slice_get file.entries i ≡ Some entry → slice_get (names_in file) i ≡ Some name → name_of entry.name ≡ name
+pub same_name : (file : Wad) (i : ℕ) (entry : Entry) (name : List ℕ) → slice_get file.entries i ≡ Some entry → slice_get (names_in file) i ≡ Some name → name_of entry.name ≡ name
 same_name file i entry name at has = let both : Some (name_of entry.name) ≡ Some name = sym (named_at file i entry at) ∙ has in cc
 
 pub within_some : {X : Type 0} (xs : List X) (i : ℕ) (o : Option X) → i < length xs → o ≡ slice_get xs i → o ≡ None → ⊥
 within_some [] i o within is none = omega arith
 within_some (x ∷ xs) i o within is none = none-some (get_or (x ∷ xs) i x) (sym none ∙ is ∙ slice_get-get_or (x ∷ xs) i x within)
 
-pub Wins-within : (file : WadFile) (name : List ℕ) (j : ℕ) → Wins (names_in file) name j → j < length file.entries
+pub Wins-within : (file : Wad) (name : List ℕ) (j : ℕ) → Wins (names_in file) name j → j < length file.entries
 Wins-within file name j w = omega (arith, slice_get_within (names_in file) j name w.named, length-map file.entries (λ (e : Entry). name_of e.name))
 
-listed_name-in : (n : ℕ) (file : WadFile) (o : Option Entry)
+listed_name-in : (n : ℕ) (file : Wad) (o : Option Entry)
     → option_map listed_name (option_map (λ (e : Entry). let l : Listed = record { file = n; bytes = file.bytes; entry = e } in l) o) ≡ option_map (λ (e : Entry). name_of e.name) o
 listed_name-in n file (Some e) = refl
 listed_name-in n file None = refl
 
 -- in several files
-module _ (files : List WadFile) (file : WadFile) (i : ℕ) (within : i < length files) (at : file ≡ get_or files i file) (name : List ℕ) where
+module _ (files : List Wad) (file : Wad) (i : ℕ) (within : i < length files) (at : file ≡ get_or files i file) (name : List ℕ) where
   -- the name of an entry of the file, by its number in the list
   names_at : (j : ℕ) → j < length file.entries → slice_get (names files) (length (joined (take i files)) + j) ≡ slice_get (names_in file) j
   names_at j below =
@@ -80,7 +81,7 @@ module _ (files : List WadFile) (file : WadFile) (i : ℕ) (within : i < length 
     ]
 
 -- past the end there is no name
-pub none_past : (files : List WadFile) (name : List ℕ) (n : ℕ) → length (joined files) ≤ n → NoneFrom (names files) name n
+pub none_past : (files : List Wad) (name : List ℕ) (n : ℕ) → length (joined files) ≤ n → NoneFrom (names files) name n
 none_past files name n past = λ h from same.
     none-some name (sym (slice_get_past (names files) h (omega (arith, length-map (joined files) listed_name))) ∙ same)
 

@@ -4,7 +4,7 @@ use Rattle.std.specs.Prelude.{◌≡◌, ℕ, ◌<◌, ◌≤◌, ℤ, pos, List
 use Rattle.le_rec.specs.Number.{signed32_at}
 use Rattle.le_rec.specs.Record.{entry}
 use Rattle.le_rec.specs.declared.records.Entry.{Entry}
-use Rattle.wad_dir.specs.Part.{StandsAt}
+use Rattle.wad_dir.specs.Standing.{StandsAt}
 use Rattle.wad_dir.specs.declared.wad.Kind.{Kind}
 use Rattle.wad_dir.specs.declared.wad.Kind.TheVariants.{Iwad, Pwad}
 
@@ -46,13 +46,3 @@ pub record IsDirectory (bytes : List ℕ) (kind : Kind) (entries : List Entry) :
 
 abbrev pub HasDirectory : List ℕ → Type 0
 HasDirectory bytes = (kind : Kind) × (entries : List Entry) × IsDirectory bytes kind entries
-
--- a file as it was read
-pub record WadFile : Type 0 where
-  pub bytes : List ℕ
-  pub kind : Kind
-  pub entries : List Entry
-
--- the kind and the entries are those of the bytes
-abbrev pub IsRead : WadFile → Type 0
-IsRead file = IsDirectory file.bytes file.kind file.entries

@@ -1,6 +1,8 @@
-pub mod Part
+pub mod Standing
 pub mod Directory
+pub mod Wad
 pub mod Refusal
+pub mod Entries
 pub mod Winner
 pub mod Slice
 pub mod Place

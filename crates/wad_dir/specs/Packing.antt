@@ -3,7 +3,7 @@ use Rattle.std.specs.Prelude.{◌≡◌, ℕ, ◌+◌, pos, List, [], ◌∷◌,
 use Rattle.std.specs.List.{flat_map}
 use Rattle.le_rec.specs.Name.{name_of, padded}
 use Rattle.le_rec.specs.Number.{signed_bytes32}
-use Rattle.le_rec.specs.RecordBytes.{entry_bytes}
+use Rattle.le_rec.specs.Record.{entry_bytes}
 use Rattle.le_rec.specs.declared.records.Entry.{Entry}
 
 -- a lump under a name

@@ -1,5 +1,5 @@
 -- Where an entry says that its lump lies.
-use Rattle.wad_dir.specs.Winner.{Listed}
+use Rattle.wad_dir.specs.Entries.{Listed}
 use Rattle.wad_dir.specs.declared.set.Place.{Place}
 
 abbrev pub place_of : Listed → Place

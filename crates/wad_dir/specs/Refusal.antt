@@ -12,11 +12,11 @@ abbrev pub HasKind : List ℕ → Type 0
 HasKind bytes = (12 ≤ length bytes) × ((kind : Kind) × (take 4 bytes ≡ magic_of kind))
 
 -- the fault that refuses the bytes
-abbrev pub IsRefused : List ℕ → WadFault → Type 0
-IsRefused bytes Short = length bytes < 12
-IsRefused bytes Magic = (12 ≤ length bytes) × ((kind : Kind) → take 4 bytes ≢ magic_of kind)
-IsRefused bytes Count = HasKind bytes × (count_of bytes <ℤ pos 0)
-IsRefused bytes Directory =
+abbrev pub RefusesWad : List ℕ → WadFault → Type 0
+RefusesWad bytes Short = length bytes < 12
+RefusesWad bytes Magic = (12 ≤ length bytes) × ((kind : Kind) → take 4 bytes ≢ magic_of kind)
+RefusesWad bytes Count = HasKind bytes × (count_of bytes <ℤ pos 0)
+RefusesWad bytes Directory =
     HasKind bytes × ((n : ℕ) × (0 < n) × (count_of bytes ≡ pos n) × ((entries : List Entry) → length entries ≡ n → ¬ HasTable bytes entries))
 
 -- the files before a number, counted from 1, have a directory, and a fault refuses the file of that number
@@ -27,4 +27,4 @@ pub record IsFirstRefused (files : List (List ℕ)) (n : ℕ) (fault : WadFault)
   pub joined : files ≡ earlier ++ bytes ∷ later
   pub number : n ≡ length earlier + 1
   pub read : All HasDirectory earlier
-  pub refused : IsRefused bytes fault
+  pub refused : RefusesWad bytes fault

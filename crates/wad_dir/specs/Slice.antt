@@ -2,9 +2,9 @@
 use Rattle.std.specs.Prelude.{◌≡◌, ℕ, ◌<◌, pos, List, length, Some}
 use Rattle.std.specs.List.{slice_get}
 use Rattle.le_rec.specs.declared.records.Entry.{Entry}
-use Rattle.wad_dir.specs.Directory.{WadFile}
-use Rattle.wad_dir.specs.Part.{StandsAt}
-use Rattle.wad_dir.specs.Winner.{Listed, joined}
+use Rattle.wad_dir.specs.Wad.{Wad}
+use Rattle.wad_dir.specs.Standing.{StandsAt}
+use Rattle.wad_dir.specs.Entries.{Listed, joined}
 
 -- as many bytes as the entry's size, which stand at its place unless there are none
 pub record IsSlice (bytes : List ℕ) (entry : Entry) (lump : List ℕ) : Type 0 where
@@ -12,7 +12,7 @@ pub record IsSlice (bytes : List ℕ) (entry : Entry) (lump : List ℕ) : Type 0
   pub stands : 0 < length lump → StandsAt bytes entry.filepos lump
 
 -- the lump of an entry of the files' one list
-pub record IsLump (files : List WadFile) (g : ℕ) (lump : List ℕ) : Type 0 where
+pub record IsLump (files : List Wad) (g : ℕ) (lump : List ℕ) : Type 0 where
   pub listed : Listed
   pub numbered : slice_get (joined files) g ≡ Some listed
   pub slice : IsSlice listed.bytes listed.entry lump

@@ -6,7 +6,7 @@ ghost use Rattle.le_rec.specs.declared.records.Entry.{Entry};
 ghost use Rattle.wad_dir.specs.declared.wad.Kind.{Kind};
 ghost use Rattle.wad_dir.specs.declared.wad.WadFault.{WadFault};
 ghost use Rattle.wad_dir.specs.Directory.{IsDirectory};
-ghost use Rattle.wad_dir.specs.Refusal.{IsRefused};
+ghost use Rattle.wad_dir.specs.Refusal.{RefusesWad};
 ghost use Rattle.wad_dir.specs.Slice.{IsSlice};
 ghost use Rattle.wad_dir.specs.Winner.{Wins};
 
@@ -18,9 +18,9 @@ pub fn one_directory()
 
 /// One fault at most refuses bytes, and none refuses those that have a directory.
 pub fn one_refusal()
-    ensures one { (bytes : List ℕ) (fault other : WadFault) → IsRefused bytes fault → IsRefused bytes other → fault ≡ other }
+    ensures one { (bytes : List ℕ) (fault other : WadFault) → RefusesWad bytes fault → RefusesWad bytes other → fault ≡ other }
     ensures not_read { (bytes : List ℕ) (kind : Kind) (entries : List Entry) (fault : WadFault)
-        → IsDirectory bytes kind entries → ¬ IsRefused bytes fault }
+        → IsDirectory bytes kind entries → ¬ RefusesWad bytes fault }
 {}
 
 /// An entry has at most one lump in a file.

@@ -1,6 +1,6 @@
 //! An entry's lump in its file.
 
-ghost use Rattle.std.specs.Prelude.{ℕ, List, IfSome, IfNone};
+ghost use Rattle.std.specs.Prelude.{ℕ, List, IfSome, IfNone, length, ◌<◌, ◌^◌};
 ghost use Rattle.wad_dir.specs.Slice.{IsSlice};
 
 use crate::part::{natural, part_at};
@@ -16,7 +16,7 @@ pub struct Found<'a> {
 }
 
 impl<'a> Model for Found<'a> {
-    ghost use Rattle.wad_dir.specs.Winner.{Listed};
+    ghost use Rattle.wad_dir.specs.Entries.{Listed};
 
     ghost Value = { Listed };
 
@@ -27,6 +27,7 @@ impl<'a> Model for Found<'a> {
 pub fn lump_of<'a>(bytes: &'a [u8], entry: &Entry) -> Option<&'a [u8]>
     ensures some { IfSome result (λ lump. IsSlice bytes.now entry.now lump.now) }
     ensures none { IfNone result ((lump : List ℕ) → ¬ IsSlice bytes.now entry.now lump) }
+    ensures short { IfSome result (λ lump. length lump.now < 2 ^ 31) }
 {
     if entry.size == 0 {
         return Some(&bytes[..0]);

@@ -4,7 +4,7 @@ ghost use Rattle.std.specs.Prelude.{◌≡◌, ◌+◌, ◌^◌, ◌<◌, ◌≤
 ghost use Rattle.std.specs.List.{All, AllZip, flat_map};
 ghost use Rattle.le_rec.specs.Name.{name_of};
 ghost use Rattle.le_rec.specs.Number.{signed_bytes32};
-ghost use Rattle.le_rec.specs.RecordBytes.{entry_bytes};
+ghost use Rattle.le_rec.specs.Record.{entry_bytes};
 ghost use Rattle.wad_dir.specs.Directory.{IsDirectory};
 ghost use Rattle.wad_dir.specs.Slice.{IsSlice};
 ghost use Rattle.wad_dir.specs.Packing.{IsName, lump_bytes, entries_from, packed};

@@ -2,7 +2,7 @@
 
 ghost use Rattle.std.specs.Prelude.{◌≡◌, ℕ, ◌+◌, ◌^◌, ◌<◌, ◌≤◌, pos, ◌<ℤ◌, List, length, IfSome, IfNone};
 ghost use Rattle.le_rec.specs.Number.{signed32_at};
-ghost use Rattle.wad_dir.specs.Part.{StandsAt};
+ghost use Rattle.wad_dir.specs.Standing.{StandsAt};
 
 use byteorder::{ByteOrder, LittleEndian};
 

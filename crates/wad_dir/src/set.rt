@@ -1,6 +1,6 @@
 //! Several WAD files, whose entries are numbered on in one list.
 
-ghost use Rattle.std.specs.Prelude.{◌≡◌, ℕ, ◌<◌, ◌≤◌, ◌↔◌, ◌≢◌, Some, List, length, map, IfOk, IfSome, IfNone, IsErrOf};
+ghost use Rattle.std.specs.Prelude.{◌≡◌, ℕ, ◌<◌, ◌^◌, ◌≤◌, ◌↔◌, ◌≢◌, Some, List, length, map, IfOk, IfSome, IfNone, IsErrOf};
 ghost use Rattle.std.specs.List.{All, slice_get};
 ghost use Rattle.std.specs.Option.{option_map};
 
@@ -52,9 +52,9 @@ pub struct Set<'a, A: Allocator = Global> {
 
 impl<'a, A: Allocator> Model for Set<'a, A> {
     ghost use Rattle.std.specs.Prelude.{List, ◌≤◌, length};
-    ghost use Rattle.wad_dir.specs.Directory.{WadFile};
+    ghost use Rattle.wad_dir.specs.Wad as wad;
 
-    ghost Value = { List WadFile };
+    ghost Value = { List wad.Wad };
 
     ghost view = { λ s. s.wads.items };
 
@@ -62,9 +62,10 @@ impl<'a, A: Allocator> Model for Set<'a, A> {
 }
 
 impl<'a, A: Allocator> Set<'a, A> {
-    ghost use Rattle.wad_dir.specs.Directory.{IsRead};
+    ghost use Rattle.wad_dir.specs.Wad.{IsRead};
     ghost use Rattle.wad_dir.specs.Refusal.{IsFirstRefused};
-    ghost use Rattle.wad_dir.specs.Winner.{joined, names, listed_name, Wins};
+    ghost use Rattle.wad_dir.specs.Entries.{joined, names, listed_name};
+    ghost use Rattle.wad_dir.specs.Winner.{Wins};
     ghost use Rattle.wad_dir.specs.Slice.{IsLump};
     ghost use Rattle.wad_dir.specs.Place.{place_of};
 
@@ -158,6 +159,7 @@ impl<'a, A: Allocator> Set<'a, A> {
     /// The bytes of the lump of the entry of a number.
     pub fn lump(&self, g: usize) -> Result<&'a [u8], LumpFault>
         ensures ok { IfOk result (λ lump. IsLump self.now g lump.now) }
+        ensures short { IfOk result (λ lump. length lump.now < 2 ^ 31) }
         ensures no_such { IsErrOf result LumpFault.NoSuch ↔ (length (joined self.now) ≤ g) }
         ensures outside { IsErrOf result LumpFault.Outside ↔ ((g < length (joined self.now)) × ((lump : List ℕ) → ¬ IsLump self.now g lump)) }
     {

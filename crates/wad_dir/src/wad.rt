@@ -3,7 +3,7 @@
 ghost use Rattle.std.specs.Prelude.{◌≡◌, ◌≢◌, ℕ, ◌*◌, ◌<◌, ◌≤◌, ◌^◌, ◌↔◌, List, ◌++◌, length, take, slice_get, IfSome, IfNone, Some};
 ghost use Rattle.le_rec.specs.Name.{name_of};
 ghost use Rattle.wad_dir.specs.Directory.{magic_of, offset_of};
-ghost use Rattle.wad_dir.specs.Part.{StandsAt};
+ghost use Rattle.wad_dir.specs.Standing.{StandsAt};
 
 use crate::lump::Found;
 use crate::part::{i32_at, natural, part_at};
@@ -50,9 +50,9 @@ impl<'a> Model for Wad<'a> {
     ghost use Rattle.std.specs.Prelude.{◌<◌, ◌^◌, length};
     ghost use Rattle.le_rec.specs.Record.{entry};
     ghost use Rattle.le_rec.specs.Table.{records_of};
-    ghost use Rattle.wad_dir.specs.Directory.{WadFile};
+    ghost use Rattle.wad_dir.specs.Wad as wad;
 
-    ghost Value = { WadFile };
+    ghost Value = { wad.Wad };
 
     ghost view = { λ w. record { bytes = w.bytes.now; kind = w.kind; entries = records_of 16 entry w.table.now } };
 
@@ -60,14 +60,16 @@ impl<'a> Model for Wad<'a> {
 }
 
 impl<'a> Wad<'a> {
-    ghost use Rattle.wad_dir.specs.Directory.{WadFile, IsRead};
-    ghost use Rattle.wad_dir.specs.Refusal.{IsRefused};
-    ghost use Rattle.wad_dir.specs.Winner.{Wins, listed_in, names_in};
+    ghost use Rattle.wad_dir.specs.Wad as wad;
+    ghost use Rattle.wad_dir.specs.Wad.{IsRead};
+    ghost use Rattle.wad_dir.specs.Refusal.{RefusesWad};
+    ghost use Rattle.wad_dir.specs.Winner.{Wins};
+    ghost use Rattle.wad_dir.specs.Entries.{listed_in, names_in};
 
     /// The directory of a file's bytes. An offset is not looked at where there are no entries.
     pub fn read(bytes: &'a [u8]) -> Result<Wad<'a>, WadFault>
-        ensures ok { (file : WadFile) → (result ≡ Ok file) ↔ ((file.bytes ≡ bytes.now) × IsRead file) }
-        ensures refused { (fault : _) → (result ≡ Err fault) ↔ IsRefused bytes.now fault }
+        ensures ok { (file : wad.Wad) → (result ≡ Ok file) ↔ ((file.bytes ≡ bytes.now) × IsRead file) }
+        ensures refused { (fault : _) → (result ≡ Err fault) ↔ RefusesWad bytes.now fault }
     {
         if bytes.len() < HEADER {
             return Err(WadFault::Short);

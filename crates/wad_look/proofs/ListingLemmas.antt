@@ -3,7 +3,7 @@ use Rattle.std.proofs.Common.{◌≡◌, ℕ, zero, suc, ◌+◌, List, [], ◌�
 use Rattle.std.specs.List.{slice_get}
 use Rattle.le_rec.specs.Name.{name_of}
 use Rattle.le_rec.specs.declared.records.Entry.{Entry}
-use Rattle.wad_dir.specs.Directory.{WadFile}
+use Rattle.wad_dir.specs.Wad.{Wad}
 use Rattle.wad_look.specs.Listing.{entry_line, entries_text, file_text, files_text}
 
 -- the rest of a list begins with the item at its place
@@ -20,7 +20,7 @@ entries_text-drop entries first i e at =
     rw (drop-at entries i e at, next) refl
 
 -- the text of the files from a place on
-pub files_text-drop : (files : List WadFile) (i first : ℕ) (file : WadFile) → slice_get files i ≡ Some file
+pub files_text-drop : (files : List Wad) (i first : ℕ) (file : Wad) → slice_get files i ≡ Some file
     → files_text (i + 1) first (drop i files) ≡ file_text (i + 1) first file ++ files_text (i + 1 + 1) (first + length file.entries) (drop (i + 1) files)
 files_text-drop files i first file at = rw (drop-at files i file at) refl
 

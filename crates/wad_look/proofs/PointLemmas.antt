@@ -2,7 +2,7 @@
 use Rattle.std.proofs.Common.{◌≡◌, ℕ, zero, suc, ◌<◌, ◌≤◌, ℤ, pos, neg_ℤ, ◌⊎◌, inl, inr, Bool, true, false, ◌&&◌, List, [], ◌∷◌, length, get_or, Option, Some, None, Result, Err, refl, arith}
 use Rattle.std.specs.Prelude.{All, Any}
 use Rattle.std.proofs.lemmas.Int.{ints}
-use Rattle.map_geo.specs.Point.{place_at}
+use Rattle.map_geo.specs.Point.{point_at}
 use Rattle.wad_look.specs.LineAnswers.{form_refused}
 use Rattle.wad_look.specs.Numbers.{AreNumbers, HasForm, IsOutside, IsWithin, numbers_of}
 use Rattle.wad_look.specs.PointAnswers.{answer_to, refusal_text, is_allowed, point_answer, point_text, range_refused}
@@ -22,7 +22,7 @@ outside_is_not z h = grind (arith, ints)
 -- two allowed numbers are answered by their point
 pub allowed_answer : (small : Small) (content : List ℕ) (x y : ℤ) → AreNumbers content (x ∷ y ∷ [])
     → IsWithin (neg_ℤ (pos 16384)) (pos 16383) x → IsWithin (neg_ℤ (pos 16384)) (pos 16383) y
-    → point_answer small content ≡ point_text x y (leaf_at small (place_at x y))
+    → point_answer small content ≡ point_text x y (leaf_at small (point_at x y))
 allowed_answer small content x y spelled x_in y_in =
     let read : numbers_of content ≡ Some (x ∷ y ∷ []) = (by_parts content (x ∷ y ∷ [])).0 spelled in
     rw (read, within_is_allowed x x_in, within_is_allowed y y_in) refl
@@ -48,7 +48,7 @@ either_outside small x y (inr out) = rw (outside_is_not y out, and-false (is_all
 
 -- the same of a list of them
 pub allowed_point : (small : Small) (content : List ℕ) (numbers : List ℤ) → HasForm 2 content numbers → All (IsWithin (neg_ℤ (pos 16384)) (pos 16383)) numbers
-    → point_answer small content ≡ point_text (get_or numbers 0 (pos 0)) (get_or numbers 1 (pos 0)) (leaf_at small (place_at (get_or numbers 0 (pos 0)) (get_or numbers 1 (pos 0))))
+    → point_answer small content ≡ point_text (get_or numbers 0 (pos 0)) (get_or numbers 1 (pos 0)) (leaf_at small (point_at (get_or numbers 0 (pos 0)) (get_or numbers 1 (pos 0))))
 allowed_point small content [] form within = absurd (omega (arith, form.counted))
 allowed_point small content (x ∷ []) form within = absurd (omega (arith, form.counted))
 allowed_point small content (x ∷ y ∷ []) form within =

@@ -2,7 +2,7 @@
 use Rattle.std.proofs.Common.{◌≡◌, ◌≢◌, ℕ, ◌⊎◌, inl, inr, List, [], ◌∷◌, length, Some, None, refl, sym, ap, ◌∙◌, arith}
 use Rattle.std.specs.List.{slice_get}
 use Rattle.le_rec.specs.declared.records.Node.{Node}
-use Rattle.map_level.specs.Parts.{Parts}
+use Rattle.map_level.specs.Level.{Level}
 use Rattle.wad_look.specs.SectorOf.{sector_of}
 use Rattle.wad_look.specs.SmallLevel.{AreChildren, IsSmall}
 use Rattle.wad_look.specs.declared.small.Small.{Small}
@@ -19,7 +19,7 @@ no_item [] at = refl
 no_item (x ∷ xs) at = cc
 
 -- with no node there is no level of two halves, and the leaf is that of ssector 0
-pub not_whole : (level : Parts) → level.nodes.records ≡ [] → (length level.ssectors.records ≢ 1) ⊎ (sector_of level 0 ≡ None) → (small : Small) → ¬ IsSmall level small
+pub not_whole : (level : Level) → level.nodes.records ≡ [] → (length level.ssectors.records ≢ 1) ⊎ (sector_of level 0 ≡ None) → (small : Small) → ¬ IsSmall level small
 not_whole level none why (Whole leaf) is =
     elim why [
       | inl other ↦ other is.one
@@ -28,7 +28,7 @@ not_whole level none why (Whole leaf) is =
 not_whole level none why (Halved line front back) is = cc
 
 -- children that aren't the ssectors 0 and 1
-pub lost_children : (level : Parts) (node : Node) → level.nodes.records ≡ node ∷ [] → ((front back : ℕ) → ¬ AreChildren node front back) → (small : Small) → ¬ IsSmall level small
+pub lost_children : (level : Level) (node : Node) → level.nodes.records ≡ node ∷ [] → ((front back : ℕ) → ¬ AreChildren node front back) → (small : Small) → ¬ IsSmall level small
 lost_children level node one lost (Whole leaf) is = let none : length level.nodes.records ≡ 0 = is.no_node in absurd (omega (arith, ap length one))
 lost_children level node one lost (Halved line f b) is =
     let equal : node ∷ [] ≡ is.node ∷ [] = sym one ∙ is.one_node in

@@ -3,7 +3,8 @@ use Rattle.std.specs.Prelude.{ℕ, ◌+◌, ℤ, List, [], ◌∷◌, ◌++◌, 
 use Rattle.std.specs.Fmt.{decimal, signed_decimal}
 use Rattle.le_rec.specs.Name.{name_of, shown_name}
 use Rattle.le_rec.specs.declared.records.Entry.{Entry}
-use Rattle.wad_dir.specs.Directory.{WadFile, magic_of}
+use Rattle.wad_dir.specs.Wad.{Wad}
+use Rattle.wad_dir.specs.Directory.{magic_of}
 use Rattle.wad_dir.specs.declared.wad.Kind.{Kind}
 
 -- `<g> <filepos> <size> <name>`
@@ -21,13 +22,13 @@ unfoldable pub file_line : ℕ → Kind → ℕ → List ℕ
 file_line n kind count = codes "file " ++ (decimal n ++ (codes " " ++ (magic_of kind ++ (codes " " ++ (decimal count ++ (10 ∷ []))))))
 
 -- the text of file n, whose entries are numbered on from g
-abbrev pub file_text : ℕ → ℕ → WadFile → List ℕ
+abbrev pub file_text : ℕ → ℕ → Wad → List ℕ
 file_text n g file = file_line n file.kind (length file.entries) ++ entries_text g file.entries
 
-abbrev pub files_text : ℕ → ℕ → List WadFile → List ℕ
+abbrev pub files_text : ℕ → ℕ → List Wad → List ℕ
 files_text n g [] = []
 files_text n g (file ∷ files) = file_text n g file ++ files_text (n + 1) (g + length file.entries) files
 
 -- the text of `lumps`: files are numbered from 1, and entries from 0 through all files
-abbrev pub lumps_text : List WadFile → List ℕ
+abbrev pub lumps_text : List Wad → List ℕ
 lumps_text files = files_text 1 0 files

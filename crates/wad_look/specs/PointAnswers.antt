@@ -1,7 +1,7 @@
 -- What `points` answers to a line (ours).
 use Rattle.std.specs.Prelude.{ℕ, ℤ, pos, neg_ℤ, Bool, ◌&&◌, List, [], ◌∷◌, ◌++◌, Option, Some, if◌then◌else◌, codes, int_le}
 use Rattle.std.specs.Fmt.{decimal, signed_decimal}
-use Rattle.map_geo.specs.Point.{place_at}
+use Rattle.map_geo.specs.Point.{point_at}
 use Rattle.wad_look.specs.LineAnswers.{form_refused}
 use Rattle.wad_look.specs.Numbers.{numbers_of}
 use Rattle.wad_look.specs.SmallLevel.{leaf_at}
@@ -30,7 +30,7 @@ is_allowed z = int_le (neg_ℤ (pos 16384)) z && int_le z (pos 16383)
 
 -- the answer to the numbers of a line
 abbrev pub answer_to : Small → Option (List ℤ) → List ℕ
-answer_to small (Some (x ∷ y ∷ [])) = if is_allowed x && is_allowed y then point_text x y (leaf_at small (place_at x y)) else range_refused
+answer_to small (Some (x ∷ y ∷ [])) = if is_allowed x && is_allowed y then point_text x y (leaf_at small (point_at x y)) else range_refused
 answer_to small _ = form_refused
 
 -- the answer to a line's content

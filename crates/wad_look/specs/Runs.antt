@@ -1,7 +1,7 @@
 -- What a run of a command does.
 use Rattle.std.specs.Prelude.{◌≡◌, ℕ, Bool, false, List, Result, Err}
 use Rattle.map_level.specs.declared.reading.Reading.{Reading}
-use Rattle.wad_dir.specs.Directory.{WadFile}
+use Rattle.wad_dir.specs.Wad.{Wad}
 use Rattle.wad_look.specs.AnswersLines.{AnswersLines}
 use Rattle.wad_look.specs.Listing.{lumps_text}
 use Rattle.wad_look.specs.Opening.{AreRead, AreUnread, IsAnswered, IsUnanswered}
@@ -18,7 +18,7 @@ pub record ListsNothing {W : Type 0} (bytes : List (List ℕ)) (out out' : W) (r
   pub unwritten : out' ≡ out
 
 pub record ListsLumps (bytes : List (List ℕ)) (tells : Bool) (before after : List ℕ) (failed : Bool) (result : Result (Unit {0}) RunFault) : Type 0 where
-  pub files : List WadFile
+  pub files : List Wad
   pub read : AreRead bytes files
   pub writes : Writes tells before after failed false (lumps_text files) result
 

@@ -6,7 +6,7 @@ use Rattle.std.specs.List.{slice_get}
 use Rattle.le_rec.specs.declared.records.LineDef.{LineDef}
 use Rattle.le_rec.specs.declared.records.Seg.{Seg}
 use Rattle.le_rec.specs.declared.records.SideDef.{SideDef}
-use Rattle.map_level.specs.Parts.{Parts}
+use Rattle.map_level.specs.Level.{Level}
 use Rattle.map_level.specs.Reading.{number_of}
 
 infixl 10 ◌>>=◌
@@ -33,26 +33,26 @@ abbrev pub unless_none : ℤ → Option ℤ
 unless_none word = if int_eq word (negsuc 0) then None else Some word
 
 -- the first seg of an ssector
-abbrev pub first_seg : Parts → ℕ → Option Seg
+abbrev pub first_seg : Level → ℕ → Option Seg
 first_seg level t = do
   ssector ← slice_get level.ssectors.records t
   named level.segs.records (number_of level.reading ssector.first)
 
 -- the word of a seg's side of its linedef
-abbrev pub seg_side : Parts → Seg → Option ℤ
+abbrev pub seg_side : Level → Seg → Option ℤ
 seg_side level seg = do
   linedef ← named level.linedefs.records (number_of level.reading seg.linedef)
   side ← side_word linedef seg.side
   unless_none side
 
 -- the sidedef of a seg, at its side of its linedef
-abbrev pub seg_sidedef : Parts → Seg → Option SideDef
+abbrev pub seg_sidedef : Level → Seg → Option SideDef
 seg_sidedef level seg = do
   word ← seg_side level seg
   named level.sidedefs.records (number_of level.reading word)
 
 -- the number of the sector of an ssector
-abbrev pub sector_of : Parts → ℕ → Option ℕ
+abbrev pub sector_of : Level → ℕ → Option ℕ
 sector_of level t = do
   seg ← first_seg level t
   sidedef ← seg_sidedef level seg

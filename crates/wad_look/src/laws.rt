@@ -1,6 +1,6 @@
 //! Laws of the definitions alone, each the contract of a function that does nothing.
 ghost use Rattle.std.specs.Prelude.{◌≡◌, ◌⊎◌, ℕ, ℤ, pos, neg_ℤ, List, [], ◌∷◌, take};
-ghost use Rattle.map_geo.specs.Point.{place_at};
+ghost use Rattle.map_geo.specs.Point.{point_at};
 ghost use Rattle.wad_look.specs.LineAnswers.{form_refused, line_answer};
 ghost use Rattle.wad_look.specs.Lines.{AreLines, IsContent, content, lines};
 ghost use Rattle.wad_look.specs.Numbers.{AreNumbers, IsOutside, IsWithin};
@@ -32,7 +32,7 @@ pub fn first_bytes_decide_an_answer()
 pub fn points_are_answered()
     ensures point { (small : Small) (content : List ℕ) (x y : ℤ) → AreNumbers content (x ∷ y ∷ [])
         → IsWithin (neg_ℤ (pos 16384)) (pos 16383) x → IsWithin (neg_ℤ (pos 16384)) (pos 16383) y
-        → point_answer small content ≡ point_text x y (leaf_at small (place_at x y)) }
+        → point_answer small content ≡ point_text x y (leaf_at small (point_at x y)) }
     ensures range { (small : Small) (content : List ℕ) (x y : ℤ) → AreNumbers content (x ∷ y ∷ [])
         → IsOutside (neg_ℤ (pos 16384)) (pos 16383) x ⊎ IsOutside (neg_ℤ (pos 16384)) (pos 16383) y
         → point_answer small content ≡ range_refused }

@@ -2,7 +2,7 @@ use Rattle.std.proofs.Common.{◌<◌, ◌+◌, ℕ, ◌∙◌, ap, arith, rules
 use Rattle.std.proofs.lemmas.Int.{to_z-of_z}
 use Rattle.std.specs.Prelude.{FitsSigned}
 use Rattle.std.specs.Int.{w32, cast_signed}
-use Rattle.le_rec.specs.NumberLaws.{cast_signed-unsigned32, little_number4-slice}
+use Rattle.le_rec.proofs.NumberLemmas.{cast_signed-unsigned32, little_number4-slice}
 use Rattle.le_rec.proofs.number.i32_at.Goals as goal
 
 pub returns : goal.returns

@@ -1,6 +1,6 @@
 use Rattle.std.proofs.Common.{◌≡◌, length, arith, rules}
 use Rattle.std.proofs.lemmas.Grind.{common_steps}
-use Rattle.le_rec.specs.FieldLaws.{name_bytes-is}
+use Rattle.le_rec.proofs.FieldLemmas.{name_bytes-is}
 use Rattle.le_rec.proofs.number.put_name.Goals as goal
 
 pub returns : goal.returns

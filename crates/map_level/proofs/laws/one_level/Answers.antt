@@ -1,4 +1,4 @@
-use Rattle.map_level.specs.LevelLaws.{IsLevel-one}
+use Rattle.map_level.proofs.LevelLemmas.{IsLevel-one}
 use Rattle.map_level.proofs.laws.one_level.Goals as goal
 
 pub returns : goal.returns

@@ -1,6 +1,6 @@
 use Rattle.std.proofs.Common.{◌∙◌, arith}
 use Rattle.std.proofs.lemmas.List.{length-set}
-use Rattle.map_level.proofs.Opening.{named_more}
+use Rattle.map_level.proofs.OpeningLemmas.{named_more}
 use Rattle.map_level.proofs.level.names_from.Goals as goal
 
 pub loop-k-preserved : goal.loop-k-preserved

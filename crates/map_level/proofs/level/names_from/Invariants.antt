@@ -1,6 +1,6 @@
 use Rattle.std.proofs.Common.{◌≡◌, ℕ, ◌+◌, ◌<◌, length}
 use Rattle.std.specs.List.{slice_get}
-use Rattle.wad_dir.specs.Winner.{names}
+use Rattle.wad_dir.specs.Entries.{names}
 use Rattle.map_level.proofs.level.names_from.Given as goal
 
 abbrev pub invariant-loop-k : goal.invariant-loop-k

@@ -1,6 +1,6 @@
 use Rattle.std.proofs.Common.{◌≡◌, ◌+◌, ◌++◌, length, take}
 use Rattle.std.specs.List.{All, flat_map}
-use Rattle.le_rec.specs.RecordBytes.{entry_bytes}
+use Rattle.le_rec.specs.Record.{entry_bytes}
 use Rattle.wad_dir.specs.Packing.{IsName, lump_bytes, entries_from}
 use Rattle.wad_dir.proofs.packer.put_entries.Given as goal
 

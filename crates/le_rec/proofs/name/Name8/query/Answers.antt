@@ -1,7 +1,7 @@
 use Rattle.std.proofs.Common.{◌≡◌, ◌∙◌, ap, map, take}
 use Rattle.std.specs.Char.{to_ascii_uppercase}
 use Rattle.le_rec.specs.Name.{name_of, padded}
-use Rattle.le_rec.proofs.Names.{name_of-uppercase-padded, padded-uppercase-padded, take-min-length}
+use Rattle.le_rec.proofs.NameLemmas.{name_of-uppercase-padded, padded-uppercase-padded, take-min-length}
 use Rattle.le_rec.proofs.name.Name8.query.Goals as goal
 
 -- the bytes that are made are those of the query, in capital letters

@@ -1,6 +1,6 @@
 use Rattle.std.proofs.Common.{◌∙◌, ap}
 use Rattle.le_rec.specs.Name.{name_of}
-use Rattle.le_rec.proofs.Names.{name_of-padded, padded-name_of-padded}
+use Rattle.le_rec.proofs.NameLemmas.{name_of-padded, padded-name_of-padded}
 use Rattle.le_rec.proofs.name.Name8.stored.Goals as goal
 
 pub invariant_of-result : goal.invariant_of-result

@@ -1,6 +1,7 @@
 use Rattle.std.proofs.Common.{◌≡◌, ℕ, ◌+◌, ◌-◌, List, length, take, subst, arith}
-use Rattle.wad_dir.specs.Directory.{WadFile}
-use Rattle.wad_dir.specs.Winner.{joined, names, Wins}
+use Rattle.wad_dir.specs.Wad.{Wad}
+use Rattle.wad_dir.specs.Entries.{joined, names}
+use Rattle.wad_dir.specs.Winner.{Wins}
 use Rattle.wad_dir.proofs.JoinedLemmas.{length-joined_to}
 use Rattle.wad_dir.proofs.WinnerLemmas.{Wins-within, wins_in_file, none_in_file}
 use Rattle.wad_dir.proofs.set.Set.find.Goals as goal
@@ -24,7 +25,7 @@ returns-in-Some-clause-some g c =
     let wad = c.index-wad.result.now in
     let k : ℕ = c.loop-k.k - 1 in
     let sums = length-joined_to files wad k (omega arith) c.index-wad.ensures c.loop-k.k (omega arith) in
-    subst (λ (fs : List WadFile). Wins (names fs) c.args.name (c.loop-k.first - c.len-first.result + c.in-Some.i)) c.self.view_is
+    subst (λ (fs : List Wad). Wins (names fs) c.args.name (c.loop-k.first - c.len-first.result + c.in-Some.i)) c.self.view_is
     (wins_in_file files wad k (omega arith) c.index-wad.ensures c.args.name (c.loop-k.first - c.len-first.result) c.loop-k.first c.loop-k.k
     (omega (arith, c.loop-k.invariant.0, sums)) c.loop-k.invariant.0 (omega arith) c.loop-k.invariant.1 c.in-Some.i c.in-Some.ensures.some)
 

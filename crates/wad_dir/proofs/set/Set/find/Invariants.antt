@@ -1,5 +1,5 @@
 use Rattle.std.proofs.Common.{◌≡◌, length, take}
-use Rattle.wad_dir.specs.Winner.{joined, names}
+use Rattle.wad_dir.specs.Entries.{joined, names}
 use Rattle.wad_dir.proofs.WinnerLemmas.{NoneFrom}
 use Rattle.wad_dir.proofs.set.Set.find.Given as goal
 

@@ -2,7 +2,7 @@ use Rattle.std.proofs.Common.{◌∙◌, length, sym, ap, arith}
 use Rattle.std.specs.List.{slice_get}
 use Rattle.std.proofs.lemmas.List.{take_all}
 use Rattle.std.proofs.lemmas.Option.{slice_get_past}
-use Rattle.wad_dir.specs.Winner.{joined}
+use Rattle.wad_dir.specs.Entries.{joined}
 use Rattle.wad_dir.proofs.JoinedLemmas.{listed_at, length-joined_more}
 use Rattle.wad_dir.proofs.set.Set.listed.Goals as goal
 

@@ -1,6 +1,6 @@
 use Rattle.std.proofs.Common.{◌∙◌, Some, refl, sym, ap, arith}
 use Rattle.std.proofs.lemmas.Option.{slice_get_within}
-use Rattle.wad_dir.specs.Winner.{joined}
+use Rattle.wad_dir.specs.Entries.{joined}
 use Rattle.wad_dir.proofs.LumpLemmas.{lump_is, no_lump}
 use Rattle.wad_dir.proofs.set.Set.lump.Goals as goal
 

@@ -1,19 +1,19 @@
 use Rattle.std.proofs.Common.{◌≡◌, ℕ, ◌+◌, List, ◌∷◌, [], ◌++◌, map, refl, ap, ◌∙◌, arith, subst}
 use Rattle.std.proofs.lemmas.List.Elements.{All-push}
-use Rattle.wad_dir.specs.Directory.{WadFile, IsRead}
-use Rattle.wad_dir.specs.Refusal.{IsRefused}
+use Rattle.wad_dir.specs.Wad.{Wad, IsRead}
+use Rattle.wad_dir.specs.Refusal.{RefusesWad}
 use Rattle.wad_dir.proofs.SetLemmas.{files_push, first_refused}
 use Rattle.wad_dir.proofs.set.Set.new.Goals as goal
 
 pub returns-in-Err-clause-refused : goal.returns-in-Err-clause-refused
 returns-in-Err-clause-refused g c = λ n fault e.
-    let refused : IsRefused c.as_slice.result.now c.in-Err.fault = (c.in-Err.ensures.refused c.in-Err.fault).0 refl in
+    let refused : RefusesWad c.as_slice.result.now c.in-Err.fault = (c.in-Err.ensures.refused c.in-Err.fault).0 refl in
     let number : c.loop-i.i + 1 ≡ n = cc in
     let same : c.in-Err.fault ≡ fault = cc in
     rw (← number, ← same)
     (first_refused (λ file. file.items) c.args.files.now c.index-files-i.result c.loop-i.i (omega arith) c.index-files-i.is
     c.loop-i.wads.items c.in-Err.fault c.loop-i.invariant.0 c.loop-i.invariant.1
-    (subst (λ (b : List ℕ). IsRefused b c.in-Err.fault) c.as_slice.ensures.value refused))
+    (subst (λ (b : List ℕ). RefusesWad b c.in-Err.fault) c.as_slice.ensures.value refused))
 
 pub loop-i-preserved : goal.loop-i-preserved
 loop-i-preserved g c =
@@ -21,7 +21,7 @@ loop-i-preserved g c =
     let wad = c.in-Ok-read.wad in
     let read = (c.in-Ok-read.ensures.ok wad).0 refl in
     let items : c.push.new.self.items ≡ c.loop-i.wads.items ++ wad ∷ [] = c.in-Ok-push.ensures.items in (
-      ap (map (λ (f : WadFile). f.bytes)) items
+      ap (map (λ (f : Wad). f.bytes)) items
           ∙ files_push (λ file. file.items) c.args.files.now file c.loop-i.i (omega arith) c.index-files-i.is c.loop-i.wads.items wad c.loop-i.invariant.0
           (read.0 ∙ c.as_slice.ensures.value),
       rw items (All-push IsRead c.loop-i.wads.items wad c.loop-i.invariant.1 read.1),

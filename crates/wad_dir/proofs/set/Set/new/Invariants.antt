@@ -1,6 +1,6 @@
 use Rattle.std.proofs.Common.{◌≡◌, ◌≤◌, length, map, take}
 use Rattle.std.specs.List.{All}
-use Rattle.wad_dir.specs.Directory.{IsRead}
+use Rattle.wad_dir.specs.Wad.{IsRead}
 use Rattle.wad_dir.proofs.set.Set.new.Given as goal
 
 abbrev pub invariant-loop-i : goal.invariant-loop-i

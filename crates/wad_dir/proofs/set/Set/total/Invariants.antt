@@ -1,5 +1,5 @@
 use Rattle.std.proofs.Common.{◌≡◌, ◌*◌, ◌≤◌, ◌^◌, length, take}
-use Rattle.wad_dir.specs.Winner.{joined}
+use Rattle.wad_dir.specs.Entries.{joined}
 use Rattle.wad_dir.proofs.set.Set.total.Given as goal
 
 abbrev pub invariant-loop-wad : goal.invariant-loop-wad

@@ -1,6 +1,6 @@
 use Rattle.std.proofs.Common.{arith}
 use Rattle.le_rec.specs.Record.{entry}
-use Rattle.le_rec.specs.TableLaws.{length-records_of}
+use Rattle.le_rec.proofs.TableLemmas.{length-records_of}
 use Rattle.wad_dir.proofs.wad.Wad.entries.Goals as goal
 
 pub returns-clause-bound : goal.returns-clause-bound

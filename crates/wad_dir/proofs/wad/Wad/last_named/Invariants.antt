@@ -1,6 +1,6 @@
 use Rattle.std.proofs.Common.{◌≢◌, ℕ, ◌≤◌, Some}
 use Rattle.std.specs.List.{slice_get}
-use Rattle.wad_dir.specs.Winner.{names_in}
+use Rattle.wad_dir.specs.Entries.{names_in}
 use Rattle.wad_dir.proofs.wad.Wad.last_named.Given as goal
 
 abbrev pub invariant-loop-i : goal.invariant-loop-i

@@ -1,10 +1,11 @@
 use Rattle.std.proofs.Common.{◌≡◌, ◌∙◌, sym, refl, arith, pos, rules}
 use Rattle.std.specs.Prelude.{FitsSigned}
 use Rattle.std.specs.Int.{w32}
-use Rattle.wad_dir.specs.Directory.{count_of, IsRead}
+use Rattle.wad_dir.specs.Directory.{count_of}
+use Rattle.wad_dir.specs.Wad.{IsRead}
 use Rattle.le_rec.specs.Record.{entry}
 use Rattle.le_rec.specs.Table.{records_of}
-use Rattle.wad_dir.specs.Refusal.{IsRefused}
+use Rattle.wad_dir.specs.Refusal.{RefusesWad}
 use Rattle.wad_dir.specs.declared.wad.WadFault.TheVariants.{Directory}
 use Rattle.wad_dir.proofs.PartLemmas.{read_number}
 use Rattle.wad_dir.proofs.ReadingLemmas.{IsRead-from_table, refused_by_table, only_file, no_fault, no_file, only_fault}
@@ -16,7 +17,7 @@ counted c =
     let fits : FitsSigned w32 c.i32_at.result = search rules in
     sym c.i32_at.ensures ∙ read_number c.i32_at.result c.in-Some-natural.count fits c.in-Some-natural.ensures.value
 
-refused : (c : In_default-table_of) → count_of c.args.bytes.now ≡ pos c.in-Some-natural.count → IsRefused c.args.bytes.now Directory
+refused : (c : In_default-table_of) → count_of c.args.bytes.now ≡ pos c.in-Some-natural.count → RefusesWad c.args.bytes.now Directory
 refused c counted_is =
     refused_by_table c.args.bytes.now c.in-Some-natural.count (omega arith, (c.in-Some.kind, c.in-Some.ensures.some)) counted_is
     c.in_default-table_of.ensures.none

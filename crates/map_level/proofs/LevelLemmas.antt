@@ -5,49 +5,22 @@ use Rattle.std.proofs.lemmas.Bool.{cases_lt}
 use Rattle.std.proofs.lemmas.Option.{unwrap_or-slice_get, slice_get_past}
 use Rattle.std.specs.Prelude.{unwrap_or}
 use Rattle.std.proofs.lemmas.List.{take_at, drop_at, ext_get_or}
-use Rattle.wad_dir.specs.Directory.{WadFile}
-use Rattle.wad_dir.specs.Part.{StandsAt}
-use Rattle.wad_dir.specs.Winner.{joined, names, Wins, Listed}
+use Rattle.wad_dir.specs.Wad.{Wad}
+use Rattle.wad_dir.specs.Standing.{StandsAt}
+use Rattle.wad_dir.specs.Entries.{joined, names, Listed}
+use Rattle.wad_dir.specs.Winner.{Wins}
 use Rattle.wad_dir.specs.Slice.{IsLump, IsSlice}
-use Rattle.map_level.specs.Parts.{Parts, lump_of}
-use Rattle.map_level.specs.Level.{AreNames, AreLumps, AreThereBelow, IsLevel, IsRefused}
+use Rattle.wad_dir.proofs.LumpLemmas.{IsSlice-one}
+use Rattle.wad_dir.proofs.WinnerLemmas.{Wins-one}
+use Rattle.map_level.specs.Level.{Level, lump_of}
+use Rattle.map_level.specs.Opening.{AreNames, AreLumps, AreThereBelow, IsLevel, RefusesLevel}
 use Rattle.le_rec.specs.declared.records.Entry.{Entry}
 use Rattle.map_level.specs.declared.level.LevelFault.{LevelFault}
 use Rattle.map_level.specs.declared.level.LevelFault.TheVariants.{NoLabel, Missing, Outside}
 use Rattle.map_level.specs.declared.reading.Reading.{Reading}
 
--- a name has one winner
-Wins-one : (all : List (List ℕ)) (name : List ℕ) (g h : ℕ) → Wins all name g → Wins all name h → g ≡ h
-Wins-one all name g h a b =
-    elim (cases_lt g h) [
-      | inl below ↦ absurd (a.last h below b.named)
-      | inr above ↦ elim (cases_lt h g) [
-        | inl less ↦ absurd (b.last g less a.named)
-        | inr same ↦ omega arith
-      ]
-    ]
-
--- a part of known length and place is one
-StandsAt-one : (bytes : List ℕ) (place : ℤ) (a b : List ℕ) → length a ≡ length b → StandsAt bytes place a → StandsAt bytes place b → a ≡ b
-StandsAt-one bytes place a b same s t =
-    let equal : pos (length s.before) ≡ pos (length t.before) = s.placed ∙ sym t.placed in
-    let placed : length s.before ≡ length t.before = cc in
-    let one : drop (length s.before) bytes ≡ a ++ s.after = ap (drop (length s.before)) s.joined ∙ drop_at s.before (a ++ s.after) (length s.before) refl in
-    let other : drop (length s.before) bytes ≡ b ++ t.after = rw placed (ap (drop (length t.before)) t.joined ∙ drop_at t.before (b ++ t.after) (length t.before) refl) in
-    sym (take_at a s.after (length a) refl) ∙ ap (take (length a)) (sym one ∙ other) ∙ take_at b t.after (length a) (sym same)
-
-IsSlice-one : (bytes : List ℕ) (entry : Entry) (a b : List ℕ) → IsSlice bytes entry a → IsSlice bytes entry b → a ≡ b
-IsSlice-one bytes entry [] [] p q = refl
-IsSlice-one bytes entry [] (y ∷ b) p q =
-    let equal : pos 0 ≡ pos (length (y ∷ b)) = p.sized ∙ sym q.sized in
-    let long : 0 ≡ length (y ∷ b) = cc in
-    absurd (omega arith)
-IsSlice-one bytes entry (x ∷ a) b p q =
-    let equal : pos (length (x ∷ a)) ≡ pos (length b) = p.sized ∙ sym q.sized in
-    let same : length (x ∷ a) ≡ length b = cc in
-    StandsAt-one bytes entry.filepos (x ∷ a) b same (p.stands (omega arith)) (q.stands (omega arith))
-
-pub IsLump-one : (files : List WadFile) (g : ℕ) (a b : List ℕ) → IsLump files g a → IsLump files g b → a ≡ b
+-- the lump of an entry of the one list is one
+pub IsLump-one : (files : List Wad) (g : ℕ) (a b : List ℕ) → IsLump files g a → IsLump files g b → a ≡ b
 IsLump-one files g a b p q =
     let equal : Some p.listed ≡ Some q.listed = sym p.numbered ∙ q.numbered in
     let same : p.listed ≡ q.listed = cc in
@@ -58,7 +31,7 @@ IsLump-one files g a b p q =
 lump-at : (lumps : List (List ℕ)) (i : ℕ) → get_or lumps i [] ≡ lump_of lumps (i + 1)
 lump-at lumps i = let e : i + 1 - 1 ≡ i = omega arith in rw e refl
 
-AreLumps-one : (files : List WadFile) (label : ℕ) (a b : List (List ℕ)) → AreLumps files label a → AreLumps files label b → a ≡ b
+AreLumps-one : (files : List Wad) (label : ℕ) (a b : List (List ℕ)) → AreLumps files label a → AreLumps files label b → a ≡ b
 AreLumps-one files label a b p q =
     ext_get_or [] a b (p.ten ∙ sym q.ten) (λ i h.
     let below : i < 10 = rw p.ten at h in
@@ -66,7 +39,7 @@ AreLumps-one files label a b p q =
     ∙ IsLump-one files (label + (i + 1)) (lump_of a (i + 1)) (lump_of b (i + 1)) (p.each (i + 1) (omega arith) (omega arith)) (q.each (i + 1) (omega arith) (omega arith))
     ∙ sym (lump-at b i))
 
-AreNames-one : (files : List WadFile) (label : ℕ) (a b : List (List ℕ)) → AreNames files label a → AreNames files label b → a ≡ b
+AreNames-one : (files : List Wad) (label : ℕ) (a b : List (List ℕ)) → AreNames files label a → AreNames files label b → a ≡ b
 AreNames-one files label a b p q =
     ext_get_or [] a b (p.eleven ∙ sym q.eleven) (λ i h.
     let below : i < 11 = rw p.eleven at h in
@@ -74,7 +47,7 @@ AreNames-one files label a b p q =
     sym (unwrap_or-slice_get a i []) ∙ ap (λ o. unwrap_or o []) both ∙ unwrap_or-slice_get b i [])
 
 -- files and a name have at most one level under a reading
-pub IsLevel-one : (files : List WadFile) (name : List ℕ) (reading : Reading) (a b : Parts) → IsLevel files name reading a → IsLevel files name reading b → a ≡ b
+pub IsLevel-one : (files : List Wad) (name : List ℕ) (reading : Reading) (a b : Level) → IsLevel files name reading a → IsLevel files name reading b → a ≡ b
 IsLevel-one files name reading a b p q =
     let label = Wins-one (names files) name a.label b.label p.wins q.wins in
     let found = AreNames-one files b.label p.found q.found (rw label at p.named) q.named in
@@ -82,29 +55,29 @@ IsLevel-one files name reading a b p q =
     p.is ∙ rw (label, found, lumps) (sym q.is)
 
 -- where they are refused they have none
-there_and_missing : (files : List WadFile) (g : ℕ) (lump : List ℕ) → IsLump files g lump → length (joined files) ≤ g → ⊥
+there_and_missing : (files : List Wad) (g : ℕ) (lump : List ℕ) → IsLump files g lump → length (joined files) ≤ g → ⊥
 there_and_missing files g lump there past =
     let none : None ≡ Some there.listed = sym (slice_get_past (joined files) g past) ∙ there.numbered in
     cc
 
-pub IsRefused-no_level : (files : List WadFile) (name : List ℕ) (reading : Reading) (fault : LevelFault) (level : Parts)
-    → IsRefused files name fault → IsLevel files name reading level → ⊥
-IsRefused-no_level files name reading NoLabel level r p = r level.label p.wins.named
-IsRefused-no_level files name reading (Missing k) level r p =
+pub RefusesLevel-no_level : (files : List Wad) (name : List ℕ) (reading : Reading) (fault : LevelFault) (level : Level)
+    → RefusesLevel files name fault → IsLevel files name reading level → ⊥
+RefusesLevel-no_level files name reading NoLabel level r p = r level.label p.wins.named
+RefusesLevel-no_level files name reading (Missing k) level r p =
     let label = Wins-one (names files) name r.0 level.label r.1 p.wins in
     let missing = rw label at r.2 in
     there_and_missing files (level.label + k) (lump_of p.lumps k) (p.stand.each k missing.from missing.to) missing.past
-IsRefused-no_level files name reading (Outside k) level r p =
+RefusesLevel-no_level files name reading (Outside k) level r p =
     let label = Wins-one (names files) name r.0 level.label r.1 p.wins in
     let outside = rw label at r.2 in
     outside.refused (lump_of p.lumps k) (p.stand.each k outside.from outside.to)
 
 -- a missing entry has no lump
-no_lump_past : (files : List WadFile) (g : ℕ) → length (joined files) ≤ g → (lump : List ℕ) → ¬ IsLump files g lump
+no_lump_past : (files : List Wad) (g : ℕ) → length (joined files) ≤ g → (lump : List ℕ) → ¬ IsLump files g lump
 no_lump_past files g past lump there = there_and_missing files g lump there past
 
 -- the first lump that isn't there is one
-one_first : (files : List WadFile) (label k j : ℕ) → AreThereBelow files label k → AreThereBelow files label j → 1 ≤ k → 1 ≤ j
+one_first : (files : List Wad) (label k j : ℕ) → AreThereBelow files label k → AreThereBelow files label j → 1 ≤ k → 1 ≤ j
     → ((lump : List ℕ) → ¬ IsLump files (label + k) lump) → ((lump : List ℕ) → ¬ IsLump files (label + j) lump) → k ≡ j
 one_first files label k j before_k before_j from_k from_j none_k none_j =
     elim (cases_lt k j) [
@@ -115,31 +88,31 @@ one_first files label k j before_k before_j from_k from_j none_k none_j =
       ]
     ]
 
-no_winner : {A : Type 0} (files : List WadFile) (name : List ℕ) (label : ℕ) → ((g : ℕ) → slice_get (names files) g ≢ Some name) → Wins (names files) name label → A
+no_winner : {A : Type 0} (files : List Wad) (name : List ℕ) (label : ℕ) → ((g : ℕ) → slice_get (names files) g ≢ Some name) → Wins (names files) name label → A
 no_winner files name label none wins = absurd (none label wins.named)
 
 -- files and a name are refused for one reason
-pub IsRefused-one : (files : List WadFile) (name : List ℕ) (a b : LevelFault) → IsRefused files name a → IsRefused files name b → a ≡ b
-IsRefused-one files name NoLabel NoLabel r s = refl
-IsRefused-one files name NoLabel (Missing j) r s = no_winner files name s.0 r s.1
-IsRefused-one files name NoLabel (Outside j) r s = no_winner files name s.0 r s.1
-IsRefused-one files name (Missing k) NoLabel r s = no_winner files name r.0 s r.1
-IsRefused-one files name (Outside k) NoLabel r s = no_winner files name r.0 s r.1
-IsRefused-one files name (Missing k) (Missing j) r s =
+pub RefusesLevel-one : (files : List Wad) (name : List ℕ) (a b : LevelFault) → RefusesLevel files name a → RefusesLevel files name b → a ≡ b
+RefusesLevel-one files name NoLabel NoLabel r s = refl
+RefusesLevel-one files name NoLabel (Missing j) r s = no_winner files name s.0 r s.1
+RefusesLevel-one files name NoLabel (Outside j) r s = no_winner files name s.0 r s.1
+RefusesLevel-one files name (Missing k) NoLabel r s = no_winner files name r.0 s r.1
+RefusesLevel-one files name (Outside k) NoLabel r s = no_winner files name r.0 s r.1
+RefusesLevel-one files name (Missing k) (Missing j) r s =
     let label = Wins-one (names files) name r.0 s.0 r.1 s.1 in
     let first = rw label at r.2 in
     ap Missing (one_first files s.0 k j first.before s.2.before first.from s.2.from (no_lump_past files (s.0 + k) first.past) (no_lump_past files (s.0 + j) s.2.past))
-IsRefused-one files name (Missing k) (Outside j) r s =
+RefusesLevel-one files name (Missing k) (Outside j) r s =
     let label = Wins-one (names files) name r.0 s.0 r.1 s.1 in
     let first = rw label at r.2 in
     let same = one_first files s.0 k j first.before s.2.before first.from s.2.from (no_lump_past files (s.0 + k) first.past) s.2.refused in
     absurd (omega (arith, same, first.past, s.2.listed))
-IsRefused-one files name (Outside k) (Missing j) r s =
+RefusesLevel-one files name (Outside k) (Missing j) r s =
     let label = Wins-one (names files) name r.0 s.0 r.1 s.1 in
     let first = rw label at r.2 in
     let same = one_first files s.0 k j first.before s.2.before first.from s.2.from first.refused (no_lump_past files (s.0 + j) s.2.past) in
     absurd (omega (arith, same, first.listed, s.2.past))
-IsRefused-one files name (Outside k) (Outside j) r s =
+RefusesLevel-one files name (Outside k) (Outside j) r s =
     let label = Wins-one (names files) name r.0 s.0 r.1 s.1 in
     let first = rw label at r.2 in
     ap Outside (one_first files s.0 k j first.before s.2.before first.from s.2.from first.refused s.2.refused)

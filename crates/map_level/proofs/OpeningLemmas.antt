@@ -5,22 +5,22 @@ use Rattle.std.specs.Option.{option_map}
 use Rattle.std.proofs.lemmas.Option.{slice_get-map, slice_get-get_or}
 use Rattle.std.specs.List.{slice_get}
 use Rattle.std.proofs.lemmas.List.{map-set, length-map, length-set, get_or-set_other, get_or-set_same}
-use Rattle.wad_dir.specs.Directory.{WadFile}
-use Rattle.wad_dir.specs.Winner.{joined, names, listed_name}
+use Rattle.wad_dir.specs.Wad.{Wad}
+use Rattle.wad_dir.specs.Entries.{joined, names, listed_name}
 use Rattle.wad_dir.specs.Slice.{IsLump}
 use Rattle.wad_dir.specs.declared.set.LumpFault.{LumpFault}
 use Rattle.wad_dir.specs.declared.set.LumpFault.TheVariants.{NoSuch, Outside}
-use Rattle.map_level.specs.Level.{AreThereBelow}
+use Rattle.map_level.specs.Opening.{AreThereBelow}
 
 -- the lumps found so far are those before the next
-pub found_below : (files : List WadFile) (label i : ℕ) (lumps : List (List ℕ))
+pub found_below : (files : List Wad) (label i : ℕ) (lumps : List (List ℕ))
     → ((j : ℕ) → j < i → IsLump files (label + (j + 1)) (get_or lumps j [])) → AreThereBelow files label (i + 1)
 found_below files label i lumps found = λ j one below.
     let again : j - 1 + 1 ≡ j = omega arith in
     (get_or lumps (j - 1) [], rw again at (found (j - 1) (omega arith)))
 
 -- a refused lump of a listed entry is outside its file
-pub refused_outside : (files : List WadFile) (g : ℕ) (fault : LumpFault)
+pub refused_outside : (files : List Wad) (g : ℕ) (fault : LumpFault)
     → (IsErrOf {T = Bor (List ℕ)} (Err fault) NoSuch ↔ (length (joined files) ≤ g))
     → (IsErrOf {T = Bor (List ℕ)} (Err fault) Outside ↔ ((g < length (joined files)) × ((lump : List ℕ) → ¬ IsLump files g lump)))
     → g < length (joined files) → (lump : List ℕ) → ¬ IsLump files g lump
@@ -28,7 +28,7 @@ refused_outside files g NoSuch no_such outside within = absurd (omega (arith, no
 refused_outside files g Outside no_such outside within = (outside.0 refl).1
 
 -- one lump more was found
-pub found_more : (files : List WadFile) (label i : ℕ) (bytes : List (Bor (List ℕ))) (lump : Bor (List ℕ)) → i < length bytes
+pub found_more : (files : List Wad) (label i : ℕ) (bytes : List (Bor (List ℕ))) (lump : Bor (List ℕ)) → i < length bytes
     → ((j : ℕ) → j < i → IsLump files (label + (j + 1)) (get_or (map (λ b. b.now) bytes) j []))
     → IsLump files (label + (i + 1)) lump.now
     → (j : ℕ) → j < i + 1 → IsLump files (label + (j + 1)) (get_or (map (λ b. b.now) (set bytes i lump)) j [])
@@ -41,7 +41,7 @@ found_more files label i bytes lump within found here =
     (rw (get_or-set_same lumps i lump.now [] long) here))
 
 -- one name more was found
-pub named_more : (files : List WadFile) (label k : ℕ) (found : List (List ℕ)) (name : List ℕ) (o : Option (List ℕ)) → length found ≡ 11 → k < 11
+pub named_more : (files : List Wad) (label k : ℕ) (found : List (List ℕ)) (name : List ℕ) (o : Option (List ℕ)) → length found ≡ 11 → k < 11
     → label + 10 < length (joined files) → o ≡ option_map listed_name (slice_get (joined files) (label + k))
     → ((j : ℕ) → j < k → slice_get found j ≡ slice_get (names files) (label + j))
     → (j : ℕ) → j < k + 1 → slice_get (set found k (unwrap_or o name)) j ≡ slice_get (names files) (label + j)

@@ -3,12 +3,11 @@ use Rattle.std.proofs.Common.{◌≡◌, ℕ, zero, suc, ◌+◌, ◌≤◌, Lis
 use Rattle.std.proofs.lemmas.List.{drop_more, drop-drop, take-append-drop, length-take, length-drop}
 use Rattle.std.proofs.lemmas.List.Elements.{All-cons, All-nil}
 use Rattle.le_rec.specs.Bytes.{AreBytes}
-use Rattle.le_rec.specs.BytesLaws.{AreBytes-take, AreBytes-drop, AreBytes-append, AreBytes-bytes16}
+use Rattle.le_rec.proofs.BytesLemmas.{AreBytes-take, AreBytes-drop, AreBytes-append, AreBytes-bytes16}
 use Rattle.le_rec.specs.Number.{unsigned16_at, signed16_at, signed32_at, name_at, bytes16, signed_bytes16, signed_bytes32}
-use Rattle.le_rec.specs.Record.{box_at}
-use Rattle.le_rec.specs.RecordBytes.{box_bytes, name_bytes}
-use Rattle.le_rec.specs.RecordRange.{IsNameField, IsBox, IsSigned16}
-use Rattle.le_rec.specs.NumberLaws.{signed16-bytes16, FitsSigned-signed16, bytes16-unsigned16, signed_bytes16-signed16, signed_bytes32-signed32}
+use Rattle.le_rec.specs.FieldBytes.{box_at, box_bytes, name_bytes}
+use Rattle.le_rec.specs.FieldRange.{IsNameField, IsBox, IsSigned16}
+use Rattle.le_rec.proofs.NumberLemmas.{signed16-bytes16, FitsSigned-signed16, bytes16-unsigned16, signed_bytes16-signed16, signed_bytes32-signed32}
 
 -- two and four items at an offset, and what follows them
 module _ {X : Type 0} (d : X) (xs : List X) (at : ℕ) where
@@ -99,6 +98,19 @@ module _ (bytes rest : List ℕ) (at : ℕ) (bs : AreBytes bytes) where
       ap (λ front. front ++ rest) (name_bytes-is (name_at bytes at) (IsNameField-name_at bytes at bs h).length_is)
       ∙ ap (λ back. name_at bytes at ++ back) (e ∙ sym (drop-drop 8 at bytes))
       ∙ take-append-drop 8 (drop at bytes)
+
+pub box-field : (bytes rest : List ℕ) (at : ℕ) → AreBytes bytes → at + 8 ≤ length bytes → rest ≡ drop (at + 8) bytes
+    → box_bytes (box_at bytes at) ++ rest ≡ drop at bytes
+box-field bytes rest at bs h e =
+    let two : at + 4 ≡ at + 2 + 2 = omega arith in
+    let four : at + 6 ≡ at + 4 + 2 = omega arith in
+    let six : at + 8 ≡ at + 6 + 2 = omega arith in
+    let skip : ℕ → List ℕ = λ n. drop n bytes in
+    signed16-field bytes _ at bs (omega arith)
+    (signed16-field bytes _ (at + 2) bs (omega arith)
+    (signed16-field bytes _ (at + 4) bs (omega arith)
+    (signed16-field bytes rest (at + 6) bs (omega arith) (e ∙ ap skip six) ∙ ap skip four)
+    ∙ ap skip two))
 
 -- the bytes of fields are bytes
 pub AreBytes-name_bytes : (name : List ℕ) → IsNameField name → AreBytes (name_bytes name)

@@ -6,7 +6,7 @@ use Rattle.std.proofs.lemmas.List.{length-map, length-take, length-drop, drop-dr
 use Rattle.std.proofs.lemmas.List.FromFn.{length-range_with_len, get_or-map-range_with_len}
 use Rattle.std.proofs.lemmas.Option.{slice_get-get_or}
 use Rattle.le_rec.specs.Bytes.{AreBytes}
-use Rattle.le_rec.specs.BytesLaws.{AreBytes-take, AreBytes-drop}
+use Rattle.le_rec.proofs.BytesLemmas.{AreBytes-take, AreBytes-drop}
 use Rattle.le_rec.specs.Table.{piece, records_of}
 
 module _ {R : Type 0} (size : ℕ) (read : List ℕ → R) (bytes : List ℕ) where

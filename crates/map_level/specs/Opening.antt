@@ -1,0 +1,60 @@
+-- Which level several files hold under a name, or why there is none (P_SetupLevel of p_setup.c).
+use Rattle.std.specs.Prelude.{◌≡◌, ◌≢◌, ℕ, ◌+◌, ◌<◌, ◌≤◌, List, length, Some}
+use Rattle.std.specs.List.{slice_get}
+use Rattle.wad_dir.specs.Wad.{Wad}
+use Rattle.wad_dir.specs.Entries.{joined, names}
+use Rattle.wad_dir.specs.Winner.{Wins}
+use Rattle.wad_dir.specs.Slice.{IsLump}
+use Rattle.map_level.specs.Level.{Level, lump_of, level_of}
+use Rattle.map_level.specs.declared.level.LevelFault.{LevelFault}
+use Rattle.map_level.specs.declared.level.LevelFault.TheVariants.{NoLabel, Missing, Outside}
+use Rattle.map_level.specs.declared.reading.Reading.{Reading}
+
+-- the names of a label and of the ten entries after it
+pub record AreNames (files : List Wad) (label : ℕ) (found : List (List ℕ)) : Type 0 where
+  pub eleven : length found ≡ 11
+  pub each : (k : ℕ) → k ≤ 10 → slice_get found k ≡ slice_get (names files) (label + k)
+
+-- the lumps of the ten entries after a label
+pub record AreLumps (files : List Wad) (label : ℕ) (lumps : List (List ℕ)) : Type 0 where
+  pub ten : length lumps ≡ 10
+  pub each : (k : ℕ) → 1 ≤ k → k ≤ 10 → IsLump files (label + k) (lump_of lumps k)
+
+-- the level of files and a name: the winner's, of the ten entries after it
+pub record IsLevel (files : List Wad) (name : List ℕ) (reading : Reading) (level : Level) : Type 0 where
+  pub wins : Wins (names files) name level.label
+  pub found : List (List ℕ)
+  pub named : AreNames files level.label found
+  pub lumps : List (List ℕ)
+  pub stand : AreLumps files level.label lumps
+  pub is : level ≡ level_of level.label reading found lumps
+
+-- the lumps before k are there
+abbrev pub AreThereBelow : List Wad → ℕ → ℕ → Type 0
+AreThereBelow files label k = (j : ℕ) → 1 ≤ j → j < k → (lump : List ℕ) × IsLump files (label + j) lump
+
+-- lump k of the ten is the first that isn't there: no entry has its number, or its entry has no lump
+pub record IsMissing (files : List Wad) (label k : ℕ) : Type 0 where
+  pub from : 1 ≤ k
+  pub to : k ≤ 10
+  pub before : AreThereBelow files label k
+  pub past : length (joined files) ≤ label + k
+
+pub record IsOutsideFile (files : List Wad) (label k : ℕ) : Type 0 where
+  pub from : 1 ≤ k
+  pub to : k ≤ 10
+  pub before : AreThereBelow files label k
+  pub listed : label + k < length (joined files)
+  pub refused : (lump : List ℕ) → ¬ IsLump files (label + k) lump
+
+-- why there is no level of a name
+abbrev pub RefusesLevel : List Wad → List ℕ → LevelFault → Type 0
+RefusesLevel files name NoLabel = (g : ℕ) → slice_get (names files) g ≢ Some name
+RefusesLevel files name (Missing k) = (label : ℕ) × Wins (names files) name label × IsMissing files label k
+RefusesLevel files name (Outside k) = (label : ℕ) × Wins (names files) name label × IsOutsideFile files label k
+
+-- the first lump after a label that isn't there, and why
+abbrev pub RefusesLump : List Wad → ℕ → LevelFault → Type 0
+RefusesLump files label NoLabel = ⊥
+RefusesLump files label (Missing k) = IsMissing files label k
+RefusesLump files label (Outside k) = IsOutsideFile files label k

@@ -14,6 +14,7 @@ use Rattle.le_rec.specs.declared.records.Seg.{Seg}
 use Rattle.le_rec.specs.declared.records.SSector.{SSector}
 use Rattle.le_rec.specs.declared.records.Node.{Node}
 use Rattle.le_rec.specs.declared.records.Sector.{Sector}
+use Rattle.le_rec.specs.declared.records.Word.{Word}
 
 -- filelump_t of w_wad.h
 abbrev pub entry : List ℕ → Entry
@@ -197,5 +198,19 @@ sector_layout = record {
   values = λ r. (r.floor, (r.ceiling, (r.floor_name, (r.ceiling_name, (r.light, (r.special, (r.tag, tt)))))));
   reads = λ bytes. refl;
   make = λ vs. record { floor = vs.0; ceiling = vs.1.0; floor_name = vs.1.1.0; ceiling_name = vs.1.1.1.0; light = vs.1.1.1.1.0; special = vs.1.1.1.1.1.0; tag = vs.1.1.1.1.1.1.0 };
+  made = λ r. refl;
+}
+
+-- a short of the BLOCKMAP lump (P_LoadBlockMap of p_setup.c)
+abbrev pub word : List ℕ → Word
+word bytes = record { number = signed16_at bytes 0 }
+
+abbrev pub word_layout : Layout Word
+word_layout = record {
+  fields = i16 ∷ [];
+  read = word;
+  values = λ r. (r.number, tt);
+  reads = λ bytes. refl;
+  make = λ vs. record { number = vs.0 };
   made = λ r. refl;
 }

@@ -397,3 +397,34 @@ impl Record for Sector {
 
     ghost sized = { refl };
 }
+
+/// A word: a signed number of two bytes, of which a BLOCKMAP lump is a table.
+#[derive(Clone, Copy, Debug, PartialEq, Eq)]
+pub struct Word {
+    pub number: i16,
+}
+
+impl Record for Word {
+    ghost use Rattle.le_rec.specs.Record.{word_layout};
+
+    ghost SIZE = { 2 };
+
+    ghost layout = { word_layout };
+
+    const SIZE: usize = 2;
+
+    #[inline]
+    fn read(bytes: &[u8]) -> Word {
+        Word {
+            number: i16_at(bytes, 0),
+        }
+    }
+
+    fn write(&self, bytes: &mut [u8]) {
+        put_i16(bytes, 0, self.number);
+    }
+
+    ghost size_above_zero = { lit< tt };
+
+    ghost sized = { refl };
+}

@@ -1,12 +1,12 @@
 -- A field's bytes at its offset, before the bytes that follow it.
-use Rattle.std.proofs.Common.{◌≡◌, ℕ, zero, suc, ◌+◌, ◌≤◌, List, [], ◌∷◌, ◌++◌, drop, length, slice_index, slice_index_or, refl, subst, pos, sym, ap, ◌∙◌, arith, ℤ}
+use Rattle.std.proofs.Common.{◌≡◌, ℕ, zero, suc, ◌+◌, ◌≤◌, List, [], ◌∷◌, ◌++◌, take, drop, length, slice_index, slice_index_or, refl, subst, pos, sym, ap, ◌∙◌, arith, ℤ}
 use Rattle.std.proofs.lemmas.List.{drop_more, drop-drop, take-append-drop, length-take, length-drop}
 use Rattle.std.proofs.lemmas.List.Elements.{All-cons, All-nil}
 use Rattle.le_rec.specs.Bytes.{AreBytes}
 use Rattle.le_rec.proofs.BytesLemmas.{AreBytes-take, AreBytes-drop, AreBytes-append, AreBytes-bytes16}
-use Rattle.le_rec.specs.Number.{unsigned16_at, signed16_at, signed32_at, name_at, bytes16, signed_bytes16, signed_bytes32}
-use Rattle.le_rec.specs.FieldBytes.{box_at, box_bytes, name_bytes}
-use Rattle.le_rec.specs.FieldRange.{IsNameField, IsBox, IsSigned16}
+use Rattle.le_rec.specs.Number.{unsigned16_at, signed16_at, signed32_at, magic_at, name_at, bytes16, signed_bytes16, signed_bytes32}
+use Rattle.le_rec.specs.FieldBytes.{box_at, box_bytes, magic_bytes, name_bytes}
+use Rattle.le_rec.specs.FieldRange.{IsByteField, IsBox, IsSigned16}
 use Rattle.le_rec.proofs.NumberLemmas.{signed16-bytes16, FitsSigned-signed16, bytes16-unsigned16, signed_bytes16-signed16, signed_bytes32-signed32}
 
 -- two and four items at an offset, and what follows them
@@ -35,7 +35,12 @@ past_last [] (suc n) h = refl
 past_last (x ∷ xs) zero h = absurd (omega arith)
 past_last (x ∷ xs) (suc n) h = past_last xs n (omega arith)
 
--- a name field is its eight bytes
+-- a magic is its four bytes, and a name its eight
+pub magic_bytes-is : (magic : List ℕ) → length magic ≡ 4 → magic_bytes magic ≡ magic
+magic_bytes-is magic h =
+    sym (drop-four 0 magic 0 (omega arith)
+    ∙ ap (λ rest. slice_index magic 0 ∷ slice_index magic 1 ∷ slice_index magic 2 ∷ slice_index magic 3 ∷ rest) (sym (past_last magic 4 h)))
+
 pub name_bytes-is : (name : List ℕ) → length name ≡ 8 → name_bytes name ≡ name
 name_bytes-is name h =
     sym (drop-four 0 name 0 (omega arith)
@@ -43,10 +48,10 @@ name_bytes-is name h =
     (drop-four 0 name 4 (omega arith)
     ∙ ap (λ rest. slice_index name 4 ∷ slice_index name 5 ∷ slice_index name 6 ∷ slice_index name 7 ∷ rest) (sym (past_last name 8 h))))
 
-pub IsNameField-name_at : (bytes : List ℕ) (at : ℕ) → AreBytes bytes → at + 8 ≤ length bytes → IsNameField (name_at bytes at)
-IsNameField-name_at bytes at bs h = record {
+pub IsByteField-take : (n : ℕ) (bytes : List ℕ) (at : ℕ) → AreBytes bytes → at + n ≤ length bytes → IsByteField n (take n (drop at bytes))
+IsByteField-take n bytes at bs h = record {
   length_is = simp (length-take, length-drop) (omega arith);
-  bytes = AreBytes-take 8 (drop at bytes) (AreBytes-drop at bytes bs);
+  are_bytes = AreBytes-take n (drop at bytes) (AreBytes-drop at bytes bs);
 }
 
 -- a bounding box is its four numbers, and they read back
@@ -93,11 +98,17 @@ module _ (bytes rest : List ℕ) (at : ℕ) (bs : AreBytes bytes) where
       ∙ ap (λ back. slice_index bytes at ∷ slice_index bytes (at + 1) ∷ slice_index bytes (at + 2) ∷ slice_index bytes (at + 3) ∷ back) e
       ∙ sym (drop-four 0 bytes at h)
 
+  byte-field : (n : ℕ) (front : List ℕ) → front ≡ take n (drop at bytes) → rest ≡ drop (at + n) bytes → front ++ rest ≡ drop at bytes
+  byte-field n front is e =
+      ap (λ bs. bs ++ rest) is
+      ∙ ap (λ back. take n (drop at bytes) ++ back) (e ∙ sym (drop-drop n at bytes))
+      ∙ take-append-drop n (drop at bytes)
+
+  pub magic-field : at + 4 ≤ length bytes → rest ≡ drop (at + 4) bytes → magic_bytes (magic_at bytes at) ++ rest ≡ drop at bytes
+  magic-field h e = byte-field 4 _ (magic_bytes-is (magic_at bytes at) (IsByteField-take 4 bytes at bs h).length_is) e
+
   pub name-field : at + 8 ≤ length bytes → rest ≡ drop (at + 8) bytes → name_bytes (name_at bytes at) ++ rest ≡ drop at bytes
-  name-field h e =
-      ap (λ front. front ++ rest) (name_bytes-is (name_at bytes at) (IsNameField-name_at bytes at bs h).length_is)
-      ∙ ap (λ back. name_at bytes at ++ back) (e ∙ sym (drop-drop 8 at bytes))
-      ∙ take-append-drop 8 (drop at bytes)
+  name-field h e = byte-field 8 _ (name_bytes-is (name_at bytes at) (IsByteField-take 8 bytes at bs h).length_is) e
 
 pub box-field : (bytes rest : List ℕ) (at : ℕ) → AreBytes bytes → at + 8 ≤ length bytes → rest ≡ drop (at + 8) bytes
     → box_bytes (box_at bytes at) ++ rest ≡ drop at bytes
@@ -113,8 +124,11 @@ box-field bytes rest at bs h e =
     ∙ ap skip two))
 
 -- the bytes of fields are bytes
-pub AreBytes-name_bytes : (name : List ℕ) → IsNameField name → AreBytes (name_bytes name)
-AreBytes-name_bytes name h = subst AreBytes (sym (name_bytes-is name h.length_is)) h.bytes
+pub AreBytes-magic_bytes : (magic : List ℕ) → IsByteField 4 magic → AreBytes (magic_bytes magic)
+AreBytes-magic_bytes magic h = subst AreBytes (sym (magic_bytes-is magic h.length_is)) h.are_bytes
+
+pub AreBytes-name_bytes : (name : List ℕ) → IsByteField 8 name → AreBytes (name_bytes name)
+AreBytes-name_bytes name h = subst AreBytes (sym (name_bytes-is name h.length_is)) h.are_bytes
 
 pub AreBytes-box_bytes : (box : List ℤ) → AreBytes (box_bytes box)
 AreBytes-box_bytes box =

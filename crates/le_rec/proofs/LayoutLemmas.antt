@@ -3,8 +3,8 @@ use Rattle.std.proofs.Common.{◌≡◌, ℕ, ◌+◌, ◌≤◌, List, [], ◌�
 use Rattle.std.proofs.lemmas.List.{get_or-drop, drop-drop, drop_at}
 use Rattle.le_rec.specs.Bytes.{AreBytes}
 use Rattle.le_rec.proofs.BytesLemmas.{AreBytes-append, AreBytes-nil, AreBytes-bytes16, AreBytes-bytes32}
-use Rattle.le_rec.proofs.FieldLemmas.{unsigned16-field, signed16-field, signed32-field, name-field, box-field, past_last, name_bytes-is, box-box_bytes, IsNameField-name_at, IsBox-box_at, AreBytes-name_bytes, AreBytes-box_bytes}
-use Rattle.le_rec.specs.Layout.{Field, i16, u16, i32, name, bounds, Value, width, value_at, value_bytes, IsValue, Values, total_width, values_at, values_bytes, AreValues, Layout, size_of, read_by, bytes_by, IsInRange}
+use Rattle.le_rec.proofs.FieldLemmas.{unsigned16-field, signed16-field, signed32-field, magic-field, name-field, box-field, past_last, magic_bytes-is, name_bytes-is, box-box_bytes, IsByteField-take, IsBox-box_at, AreBytes-magic_bytes, AreBytes-name_bytes, AreBytes-box_bytes}
+use Rattle.le_rec.specs.Layout.{Field, i16, u16, i32, magic, name, bounds, Value, width, value_at, value_bytes, IsValue, Values, total_width, values_at, values_bytes, AreValues, Layout, size_of, read_by, bytes_by, IsInRange}
 use Rattle.le_rec.specs.Number.{signed16_at}
 use Rattle.le_rec.proofs.NumberLemmas.{unsigned16-lt, unsigned16-bytes16, signed16-bytes16, signed32-bytes32, FitsSigned-signed16, FitsSigned-signed32}
 
@@ -14,13 +14,15 @@ IsValue-value_at : (field : Field) (bytes : List ℕ) (at : ℕ) → AreBytes by
 IsValue-value_at i16 bytes at bs h = FitsSigned-signed16 _ _ (bs.each at) (bs.each (at + 1))
 IsValue-value_at u16 bytes at bs h = unsigned16-lt _ _ (bs.each at) (bs.each (at + 1))
 IsValue-value_at i32 bytes at bs h = FitsSigned-signed32 _ _ _ _ (bs.each at) (bs.each (at + 1)) (bs.each (at + 2)) (bs.each (at + 3))
-IsValue-value_at name bytes at bs h = IsNameField-name_at bytes at bs h
+IsValue-value_at magic bytes at bs h = IsByteField-take 4 bytes at bs h
+IsValue-value_at name bytes at bs h = IsByteField-take 8 bytes at bs h
 IsValue-value_at bounds bytes at bs h = IsBox-box_at bytes at bs
 
 length-value_bytes : (field : Field) (value : Value field) → length (value_bytes field value) ≡ width field
 length-value_bytes i16 value = refl
 length-value_bytes u16 value = refl
 length-value_bytes i32 value = refl
+length-value_bytes magic value = refl
 length-value_bytes name value = refl
 length-value_bytes bounds value = refl
 
@@ -28,6 +30,7 @@ AreBytes-value_bytes : (field : Field) (value : Value field) → IsValue field v
 AreBytes-value_bytes i16 value h = AreBytes-bytes16 _
 AreBytes-value_bytes u16 value h = AreBytes-bytes16 _
 AreBytes-value_bytes i32 value h = AreBytes-bytes32 _
+AreBytes-value_bytes magic value h = AreBytes-magic_bytes value h
 AreBytes-value_bytes name value h = AreBytes-name_bytes value h
 AreBytes-value_bytes bounds value h = AreBytes-box_bytes value
 
@@ -37,6 +40,7 @@ field_back : (field : Field) (bytes rest : List ℕ) (at : ℕ) → AreBytes byt
 field_back i16 bytes rest at bs h e = signed16-field bytes rest at bs h e
 field_back u16 bytes rest at bs h e = unsigned16-field bytes rest at bs h e
 field_back i32 bytes rest at bs h e = signed32-field bytes rest at bs h e
+field_back magic bytes rest at bs h e = magic-field bytes rest at bs h e
 field_back name bytes rest at bs h e = name-field bytes rest at bs h e
 field_back bounds bytes rest at bs h e = box-field bytes rest at bs h e
 
@@ -56,6 +60,7 @@ value_at-drop : (field : Field) (bytes : List ℕ) (at : ℕ) → value_at field
 value_at-drop i16 bytes at = rw (first_at-drop bytes at, byte_at-drop bytes at 1) refl
 value_at-drop u16 bytes at = rw (first_at-drop bytes at, byte_at-drop bytes at 1) refl
 value_at-drop i32 bytes at = rw (first_at-drop bytes at, byte_at-drop bytes at 1, byte_at-drop bytes at 2, byte_at-drop bytes at 3) refl
+value_at-drop magic bytes at = refl
 value_at-drop name bytes at = refl
 value_at-drop bounds bytes at =
     let first : at ≡ at + 0 = omega arith in
@@ -66,6 +71,7 @@ value_again : (field : Field) (value : Value field) (rest : List ℕ) → IsValu
 value_again i16 value rest h = signed16-bytes16 value h
 value_again u16 value rest h = unsigned16-bytes16 value h
 value_again i32 value rest h = signed32-bytes32 value h
+value_again magic value rest h = magic_bytes-is value h.length_is
 value_again name value rest h = name_bytes-is value h.length_is
 value_again bounds value rest h = box-box_bytes value h
 

@@ -1,4 +1,4 @@
--- Names and boxes in a record's bytes.
+-- Magics, names and boxes in a record's bytes.
 use Rattle.std.specs.Prelude.{ℕ, ◌+◌, ℤ, pos, List, [], ◌∷◌, ◌++◌, slice_index, slice_index_or}
 use Rattle.le_rec.specs.Number.{signed16_at, signed_bytes16}
 
@@ -7,11 +7,15 @@ abbrev pub box_at : List ℕ → ℕ → List ℤ
 box_at bytes at =
     signed16_at bytes at ∷ signed16_at bytes (at + 2) ∷ signed16_at bytes (at + 4) ∷ signed16_at bytes (at + 6) ∷ []
 
+-- the four bytes of a magic
+abbrev pub magic_bytes : List ℕ → List ℕ
+magic_bytes magic = slice_index magic 0 ∷ slice_index magic 1 ∷ slice_index magic 2 ∷ slice_index magic 3 ∷ []
+
 -- the eight bytes of a name
 abbrev pub name_bytes : List ℕ → List ℕ
 name_bytes name =
-    slice_index name 0 ∷ slice_index name 1 ∷ slice_index name 2 ∷ slice_index name 3 ∷ slice_index name 4 ∷ slice_index name 5
-    ∷ slice_index name 6 ∷ slice_index name 7 ∷ []
+    slice_index name 0 ∷ slice_index name 1 ∷ slice_index name 2 ∷ slice_index name 3
+    ∷ slice_index name 4 ∷ slice_index name 5 ∷ slice_index name 6 ∷ slice_index name 7 ∷ []
 
 -- the bytes of a bounding box
 abbrev pub box_bytes : List ℤ → List ℕ

@@ -10,10 +10,10 @@ IsSigned16 z = FitsSigned w16 z
 abbrev pub IsSigned32 : ℤ → Type 0
 IsSigned32 z = FitsSigned w32 z
 
--- a name as a record holds it: eight bytes
-pub record IsNameField (name : List ℕ) : Type 0 where
-  pub length_is : length name ≡ 8
-  pub bytes : AreBytes name
+-- so many bytes, as a record holds a magic or a name
+pub record IsByteField (width : ℕ) (bytes : List ℕ) : Type 0 where
+  pub length_is : length bytes ≡ width
+  pub are_bytes : AreBytes bytes
 
 -- a bounding box: four numbers
 pub record IsBox (box : List ℤ) : Type 0 where

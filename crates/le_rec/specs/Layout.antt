@@ -1,18 +1,20 @@
 -- A record of a fixed number of bytes, as a list of fields: each stands where the one before it ends.
 use Rattle.std.specs.Prelude.{◌≡◌, ℕ, ◌+◌, ◌<◌, ℤ, List, [], ◌∷◌, ◌++◌}
-use Rattle.le_rec.specs.Number.{unsigned16_at, signed16_at, signed32_at, name_at, bytes16, signed_bytes16, signed_bytes32}
-use Rattle.le_rec.specs.FieldBytes.{box_at, box_bytes, name_bytes}
-use Rattle.le_rec.specs.FieldRange.{IsSigned16, IsSigned32, IsNameField, IsBox}
+use Rattle.le_rec.specs.Number.{unsigned16_at, signed16_at, signed32_at, magic_at, name_at, bytes16, signed_bytes16, signed_bytes32}
+use Rattle.le_rec.specs.FieldBytes.{box_at, box_bytes, magic_bytes, name_bytes}
+use Rattle.le_rec.specs.FieldRange.{IsSigned16, IsSigned32, IsByteField, IsBox}
 
--- a signed number of two bytes, an unsigned one, a signed one of four, a name of eight, and a box of four signed numbers
+-- a signed number of two bytes, an unsigned one, a signed one of four, a magic of four bytes, a name of eight, and a box
+-- of four signed numbers
 pub data Field : Type 0 where
-  i16 u16 i32 name bounds : Field
+  i16 u16 i32 magic name bounds : Field
 
 -- what a field holds
 abbrev pub Value : Field → Type 0
 Value i16 = ℤ
 Value u16 = ℕ
 Value i32 = ℤ
+Value magic = List ℕ
 Value name = List ℕ
 Value bounds = List ℤ
 
@@ -21,6 +23,7 @@ abbrev pub width : Field → ℕ
 width i16 = 2
 width u16 = 2
 width i32 = 4
+width magic = 4
 width name = 8
 width bounds = 8
 
@@ -29,6 +32,7 @@ abbrev pub value_at : (field : Field) → List ℕ → ℕ → Value field
 value_at i16 bytes at = signed16_at bytes at
 value_at u16 bytes at = unsigned16_at bytes at
 value_at i32 bytes at = signed32_at bytes at
+value_at magic bytes at = magic_at bytes at
 value_at name bytes at = name_at bytes at
 value_at bounds bytes at = box_at bytes at
 
@@ -37,6 +41,7 @@ abbrev pub value_bytes : (field : Field) → Value field → List ℕ
 value_bytes i16 value = signed_bytes16 value
 value_bytes u16 value = bytes16 value
 value_bytes i32 value = signed_bytes32 value
+value_bytes magic value = magic_bytes value
 value_bytes name value = name_bytes value
 value_bytes bounds value = box_bytes value
 
@@ -45,7 +50,8 @@ abbrev pub IsValue : (field : Field) → Value field → Type 0
 IsValue i16 value = IsSigned16 value
 IsValue u16 value = value < 65536
 IsValue i32 value = IsSigned32 value
-IsValue name value = IsNameField value
+IsValue magic value = IsByteField 4 value
+IsValue name value = IsByteField 8 value
 IsValue bounds value = IsBox value
 
 -- the same of fields one after another

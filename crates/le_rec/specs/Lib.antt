@@ -1,6 +1,7 @@
 pub mod Bytes
 pub mod FieldBytes
 pub mod FieldRange
+pub mod Laws
 pub mod Layout
 pub mod Name
 pub mod Number

@@ -42,6 +42,10 @@ bytes32 n = n % 256 ∷ n / 256 % 256 ∷ n / 65536 % 256 ∷ n / 16777216 % 256
 abbrev pub signed_bytes32 : ℤ → List ℕ
 signed_bytes32 z = bytes32 (cast_unsigned w32 z)
 
+-- the four bytes of a magic that stand at an offset
+abbrev pub magic_at : List ℕ → ℕ → List ℕ
+magic_at bytes at = take 4 (drop at bytes)
+
 -- the eight bytes of a name that stand at an offset
 abbrev pub name_at : List ℕ → ℕ → List ℕ
 name_at bytes at = take 8 (drop at bytes)

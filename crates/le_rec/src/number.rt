@@ -1,8 +1,9 @@
-//! Numbers and names at an offset of a record's bytes.
+//! Numbers, magics and names at an offset of a record's bytes.
 
 ghost use Rattle.std.specs.Prelude.{◌≡◌, ◌+◌, ◌≤◌, ◌++◌, length, take};
-ghost use Rattle.le_rec.specs.Number.{unsigned16_at, signed16_at, signed32_at, name_at, bytes16, signed_bytes16, signed_bytes32};
-ghost use Rattle.le_rec.specs.FieldBytes.{box_at, box_bytes, name_bytes};
+ghost use Rattle.le_rec.specs.Number.{unsigned16_at, signed16_at, signed32_at, magic_at, name_at};
+ghost use Rattle.le_rec.specs.Number.{bytes16, signed_bytes16, signed_bytes32};
+ghost use Rattle.le_rec.specs.FieldBytes.{box_at, box_bytes, magic_bytes, name_bytes};
 
 use byteorder::{ByteOrder, LittleEndian};
 
@@ -32,6 +33,17 @@ pub fn i32_at(bytes: &[u8], at: usize) -> i32
     ensures { result ≡ signed32_at bytes.now at }
 {
     LittleEndian::read_i32(&bytes[at..])
+}
+
+/// The four bytes of the magic at `at`, by which a file tells what it is.
+#[inline]
+pub fn magic_bytes_at(bytes: &[u8], at: usize) -> [u8; 4]
+    requires { at + 4 ≤ length bytes.now }
+    ensures { result ≡ magic_at bytes.now at }
+{
+    let mut magic = [0; 4];
+    magic.copy_from_slice(&bytes[at..at + 4]);
+    magic
 }
 
 /// The eight bytes of the name at `at`.
@@ -69,6 +81,14 @@ pub fn put_i32(bytes: &mut [u8], at: usize, number: i32)
     LittleEndian::write_i32(&mut bytes[at..], number);
 }
 
+/// Writes the four bytes of a magic at `at`.
+pub fn put_magic(bytes: &mut [u8], at: usize, magic: &[u8; 4])
+    requires { at + 4 ≤ length bytes.old }
+    ensures { take (at + 4) bytes.new ≡ take at bytes.old ++ magic_bytes magic.now }
+{
+    bytes[at..at + 4].copy_from_slice(magic);
+}
+
 /// Writes the eight bytes of a name at `at`.
 pub fn put_name(bytes: &mut [u8], at: usize, name: &[u8; 8])
     requires { at + 8 ≤ length bytes.old }
@@ -77,7 +97,7 @@ pub fn put_name(bytes: &mut [u8], at: usize, name: &[u8; 8])
     bytes[at..at + 8].copy_from_slice(name);
 }
 
-/// The bounding box at an offset: top, bottom, left, right.
+/// The four numbers of the bounding box at `at`: top, bottom, left, right.
 #[inline]
 pub fn box_numbers_at(bytes: &[u8], at: usize) -> [i16; 4]
     requires { at + 8 ≤ length bytes.now }

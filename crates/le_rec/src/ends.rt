@@ -1,4 +1,5 @@
-//! Ends of streams: a `Source` gives bytes, a `Sink` takes them, and each says whether it has failed.
+//! Ends of streams: a `Source` gives bytes, a `Sink` takes them, and each says whether it has
+//! failed.
 
 /// A pull or a put that failed. The end's `failed` tells so too, from then on.
 #[derive(Clone, Copy, Debug, PartialEq, Eq)]
@@ -9,15 +10,17 @@ pub trait Source {
     ghost use Rattle.std.specs.Prelude.{◌≡◌, ◌≤◌, IfOk, length};
     ghost use Rattle.le_rec.specs.Source.{SourceState, Gives};
 
-    /// What clauses see of it: the bytes that are still to come, where they are known, and whether a pull has failed.
+    /// What clauses see of it: the bytes that are still to come, where they are known, and whether
+    /// a pull has failed.
     ghost state: { Self → SourceState };
 
-    /// Moves the next bytes to the front of `buf` and answers how many: 0 only for an empty `buf` or at the end.
+    /// Moves the next bytes to the front of `buf` and answers how many: 0 only for an empty `buf`
+    /// or at the end. At an Err it moves none.
     fn pull(&mut self, buf: &mut [u8]) -> Result<usize, EndFault>
         ensures bound { IfOk result (λ n. n ≤ length buf.new) }
         ensures gives { Gives (state self.old) (state self.new) result buf.new };
 
-    /// Whether a pull has failed.
+    /// Whether a pull has failed, now or earlier.
     fn failed(&self) -> bool
         ensures { result ≡ (state self.now).failed };
 }
@@ -27,15 +30,17 @@ pub trait Sink {
     ghost use Rattle.std.specs.Prelude.{◌≡◌, ◌≤◌, IfOk, length};
     ghost use Rattle.le_rec.specs.Sink.{SinkState, Takes};
 
-    /// What clauses see of it: the bytes that it has taken, where they are known, and whether a put has failed.
+    /// What clauses see of it: the bytes that it has taken, where they are known, and whether a put
+    /// has failed.
     ghost state: { Self → SinkState };
 
-    /// Takes a front of `bytes` and answers its length, 0 only for empty `bytes`.
+    /// Takes a front of `bytes` and answers its length, 0 only for empty `bytes`. At an Err it
+    /// takes none.
     fn put(&mut self, bytes: &[u8]) -> Result<usize, EndFault>
         ensures bound { IfOk result (λ n. n ≤ length bytes.now) }
         ensures takes { Takes (state self.old) (state self.new) result bytes.now };
 
-    /// Whether a put has failed.
+    /// Whether a put has failed, now or earlier.
     fn failed(&self) -> bool
         ensures { result ≡ (state self.now).failed };
 }

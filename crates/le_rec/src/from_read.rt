@@ -4,8 +4,8 @@ ghost use Rattle.std.specs.Prelude.{◌≡◌, false};
 use super::ends::{EndFault, Source};
 use std::io::Read;
 
-/// A reader as a source: the bytes that it tells are those that are known of the reader. Every error of the reader
-/// is a failed pull.
+/// A reader as a source. A pull is one read, and an error of the reader, of whatever kind, is a
+/// failed pull.
 #[derive(Drop)]
 pub struct FromRead<R: Read> {
     reader: R,
@@ -52,11 +52,18 @@ mod tests {
     use super::*;
     use std::io;
 
+    // Its first read fails, and each later one gives what there is room for.
     #[derive(Drop)]
-    struct Broken;
+    struct FailsOnce {
+        has_failed: bool,
+    }
 
-    impl Read for Broken {
-        fn read(&mut self, _buf: &mut [u8]) -> io::Result<usize> {
+    impl Read for FailsOnce {
+        fn read(&mut self, buf: &mut [u8]) -> io::Result<usize> {
+            if self.has_failed {
+                return Ok(buf.len());
+            }
+            self.has_failed = true;
             Err(io::Error::from(io::ErrorKind::Other))
         }
     }
@@ -79,9 +86,11 @@ mod tests {
 
     #[test]
     fn a_failed_read_is_a_failed_pull(rt: HostRuntime) {
-        let mut source = FromRead::new(Broken);
+        let mut source = FromRead::new(FailsOnce { has_failed: false });
         assert!(rt; !source.failed());
-        assert_eq!(rt; two_pulls(&mut source), None);
+        assert_eq!(rt; source.pull(&mut [0; 3]), Err(EndFault));
+        assert!(rt; source.failed());
+        assert_eq!(rt; two_pulls(&mut source), Some(6));
         assert!(rt; source.failed());
     }
 }

@@ -1,6 +1,8 @@
-//! Laws of records, each the contract of a function that does nothing: a caller gets the law from a call.
+//! Laws of records, each the contract of a function that does nothing: a caller gets the law from a
+//! call.
 
-ghost use Rattle.le_rec.specs.Laws.{RecordsAreInRange, RecordsReadBack, EqualRecordsHaveEqualBytes, RecordsAreJoined};
+ghost use Rattle.le_rec.specs.Laws.{RecordsAreInRange, RecordsReadBack};
+ghost use Rattle.le_rec.specs.Laws.{EqualRecordsHaveEqualBytes, RecordsAreJoined};
 
 use crate::record::Record;
 

@@ -1,4 +1,5 @@
-//! Little-endian records of Doom's WAD files and levels, names and tables of them, and the ends of streams.
+//! Little-endian records of Doom's WAD files and levels, names and tables of them, and the ends of
+//! streams.
 #![tactic(auto)]
 
 mod ends;

@@ -2,7 +2,8 @@
 
 ghost use Rattle.std.specs.Prelude.{◌≡◌, ◌<◌, ◌≤◌, ◌++◌, ◌==◌, length, drop, take};
 ghost use Rattle.std.specs.List.{position_or_len};
-ghost use Rattle.le_rec.specs.Name.{name_of, padded, query_of, hex_digit as digit_of, shown_byte, shown_name};
+ghost use Rattle.le_rec.specs.Name.{name_of, padded, query_of};
+ghost use Rattle.le_rec.specs.Name.{hex_digit as digit_of, shown_byte, shown_name};
 
 use std::marker::Model;
 
@@ -38,8 +39,8 @@ impl Name8 {
         }
     }
 
-    /// The name to look up for what was asked: at most its first eight bytes, up to the first NUL, with
-    /// ASCII small letters as capital ones (`W_CheckNumForName`).
+    /// The name to look up for what was asked: at most its first eight bytes, up to the first NUL,
+    /// with ASCII small letters as capital ones (`W_CheckNumForName`).
     pub fn query(asked: &[u8]) -> Name8
         ensures { result ≡ query_of asked.now }
     {
@@ -56,8 +57,9 @@ impl Name8 {
         self.bytes
     }
 
-    /// Writes the name as it is shown to the front of `text`, and answers how many bytes that takes: visible
-    /// ASCII characters but `\\` as they are, the others as `\\x` and two hexadecimal digits.
+    /// Writes the name as it is shown to the front of `text`, and answers how many bytes that
+    /// takes: visible ASCII characters but `\\` as they are, the others as `\\x` and two
+    /// hexadecimal digits.
     pub fn shown(&self, text: &mut [u8; 32]) -> usize
         ensures len { result ≡ length (shown_name self.now) }
         ensures text { text.new ≡ shown_name self.now ++ drop result text.old }

@@ -10,7 +10,7 @@ pub trait Record: Copy {
     /// The record's fields, in order and without gaps.
     ghost layout: { Layout Self };
 
-    /// The number of bytes of a record.
+    /// The number of bytes of a record, above 0.
     const SIZE: usize;
 
     /// The record that the bytes hold.
@@ -18,7 +18,7 @@ pub trait Record: Copy {
         requires { length bytes.now ≡ SIZE }
         ensures { result ≡ read_by layout bytes.now };
 
-    /// Leaves the record's bytes.
+    /// Writes the record's bytes over all of `bytes`.
     fn write(&self, bytes: &mut [u8])
         requires { length bytes.old ≡ SIZE }
         ensures { bytes.new ≡ bytes_by layout self.now };

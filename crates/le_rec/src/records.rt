@@ -8,7 +8,9 @@ use crate::number::{
 };
 use crate::record::Record;
 
-/// A directory entry of a WAD file: where a lump lies, its size in bytes and its name.
+/// An entry of a WAD file's directory (`filelump_t` of w_wad.h): the place of a lump in the file
+/// and its size, both in bytes, and its name, with NULs after it where it has fewer than eight
+/// bytes.
 #[derive(Clone, Copy, Debug, PartialEq, Eq)]
 pub struct Entry {
     pub filepos: i32,
@@ -45,7 +47,8 @@ impl Record for Entry {
     ghost sized = { refl };
 }
 
-/// A thing of a level: its place in map units, its angle in degrees, its type and its options.
+/// A thing (`mapthing_t` of doomdata.h): its place in map units, its angle in degrees, its type and
+/// its options.
 #[derive(Clone, Copy, Debug, PartialEq, Eq)]
 pub struct Thing {
     pub x: i16,
@@ -88,7 +91,8 @@ impl Record for Thing {
     ghost sized = { refl };
 }
 
-/// A linedef: its two vertexes, flags, special, tag, and its two sidedefs, -1 where there is none.
+/// A linedef (`maplinedef_t` of doomdata.h): its two vertexes, flags, special, tag, and its two
+/// sidedefs, -1 where there is none.
 #[derive(Clone, Copy, Debug, PartialEq, Eq)]
 pub struct LineDef {
     pub v1: i16,
@@ -137,7 +141,8 @@ impl Record for LineDef {
     ghost sized = { refl };
 }
 
-/// A sidedef: the offsets of its textures in map units, their names, and the sector that it faces.
+/// A sidedef (`mapsidedef_t` of doomdata.h): the offsets of its textures in map units, their names,
+/// and the sector that it faces.
 #[derive(Clone, Copy, Debug, PartialEq, Eq)]
 pub struct SideDef {
     pub xoff: i16,
@@ -183,7 +188,7 @@ impl Record for SideDef {
     ghost sized = { refl };
 }
 
-/// A vertex of a level, in map units.
+/// A vertex (`mapvertex_t` of doomdata.h): its place in map units.
 #[derive(Clone, Copy, Debug, PartialEq, Eq)]
 pub struct Vertex {
     pub x: i16,
@@ -201,10 +206,8 @@ impl Record for Vertex {
 
     #[inline]
     fn read(bytes: &[u8]) -> Vertex {
-        Vertex {
-            x: i16_at(bytes, 0),
-            y: i16_at(bytes, 2),
-        }
+        let (x, y) = (i16_at(bytes, 0), i16_at(bytes, 2));
+        Vertex { x, y }
     }
 
     fn write(&self, bytes: &mut [u8]) {
@@ -217,7 +220,8 @@ impl Record for Vertex {
     ghost sized = { refl };
 }
 
-/// A seg: its two vertexes, its angle in binary degrees (65536 to the circle), its linedef, the side of it (0 or 1), and the distance along it in map units.
+/// A seg (`mapseg_t` of doomdata.h): its two vertexes, its angle in binary degrees (65,536 to the
+/// circle), its linedef, the side of that (0 or 1), and the distance along it in map units.
 #[derive(Clone, Copy, Debug, PartialEq, Eq)]
 pub struct Seg {
     pub v1: i16,
@@ -263,7 +267,7 @@ impl Record for Seg {
     ghost sized = { refl };
 }
 
-/// A subsector: how many segs it has, and the first of them.
+/// An ssector (`mapsubsector_t` of doomdata.h): how many segs it has, and the first of them.
 #[derive(Clone, Copy, Debug, PartialEq, Eq)]
 pub struct SSector {
     pub count: i16,
@@ -297,7 +301,9 @@ impl Record for SSector {
     ghost sized = { refl };
 }
 
-/// A node: its partition line from (x, y) along (dx, dy), the bounding boxes of its two sides (top, bottom, left, right), and its children: front is 0, back is 1. A child with bit 15 set names an ssector.
+/// A node (`mapnode_t` of doomdata.h): its partition from (x, y) along (dx, dy) in map units, the
+/// bounding boxes of its two sides (top, bottom, left, right), and its children, 0 in front and 1
+/// behind. A child with bit 15 set names an ssector by its other bits.
 #[derive(Clone, Copy, Debug, PartialEq, Eq)]
 pub struct Node {
     pub x: i16,
@@ -349,7 +355,8 @@ impl Record for Node {
     ghost sized = { refl };
 }
 
-/// A sector: the heights of its floor and ceiling in map units, the names of their flats, its light level, special and tag.
+/// A sector (`mapsector_t` of doomdata.h): the heights of its floor and ceiling in map units, the
+/// names of their flats, its light level, special and tag.
 #[derive(Clone, Copy, Debug, PartialEq, Eq)]
 pub struct Sector {
     pub floor: i16,
@@ -398,7 +405,8 @@ impl Record for Sector {
     ghost sized = { refl };
 }
 
-/// A word: a signed number of two bytes, of which a BLOCKMAP lump is a table.
+/// A word: a signed number of two bytes, of which a BLOCKMAP lump is a table (`P_LoadBlockMap` of
+/// p_setup.c).
 #[derive(Clone, Copy, Debug, PartialEq, Eq)]
 pub struct Word {
     pub number: i16,

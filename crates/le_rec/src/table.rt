@@ -8,8 +8,8 @@ ghost use Rattle.le_rec.specs.Table.{records_of, rows_of};
 use crate::record::Record;
 use std::marker::{Model, PhantomData};
 
-/// Records one after another. The table lends the bytes and decodes a record when it is asked for; the bytes
-/// after the last whole record are left over.
+/// Records one after another. The table lends the bytes and decodes a record when it is asked for.
+/// The bytes after the last whole record are left over.
 #[derive(Drop)]
 pub struct Table<'a, R: Record> {
     bytes: &'a [u8],
@@ -45,7 +45,7 @@ impl<'a, R: Record> Table<'a, R> {
         self.bytes.len() / R::SIZE
     }
 
-    /// The record of a number, counted from 0.
+    /// The record of a number, counted from 0, or None where there are not so many.
     #[inline]
     pub fn get(&self, index: usize) -> Option<R>
         ensures { result ≡ slice_get self.now.records index }

@@ -4,8 +4,8 @@ ghost use Rattle.std.specs.Prelude.{◌≡◌, false};
 use super::ends::{EndFault, Sink};
 use std::io::Write;
 
-/// A writer as a sink: the bytes that it tells are those that are known of the writer. Every error of the writer is
-/// a failed put, and so is a write that takes none of some bytes.
+/// A writer as a sink. A put is one write. An error of the writer, of whatever kind, is a failed
+/// put, and so is a write that takes none of some bytes.
 #[derive(Drop)]
 pub struct ToWrite<W: Write> {
     writer: W,
@@ -50,6 +50,27 @@ impl<W: Write> Sink for ToWrite<W> {
 #[cfg(test)]
 mod tests {
     use super::*;
+    use std::io;
+
+    // Its first write fails, and each later one takes all.
+    #[derive(Drop)]
+    struct FailsOnce {
+        has_failed: bool,
+    }
+
+    impl Write for FailsOnce {
+        fn write(&mut self, bytes: &[u8]) -> io::Result<usize> {
+            if self.has_failed {
+                return Ok(bytes.len());
+            }
+            self.has_failed = true;
+            Err(io::Error::from(io::ErrorKind::Other))
+        }
+
+        fn flush(&mut self) -> io::Result<()> {
+            Ok(())
+        }
+    }
 
     // How many bytes two puts of `bytes` take, or None where one fails.
     fn two_puts<W: Sink>(sink: &mut W, bytes: &[u8]) -> Option<usize> {
@@ -65,6 +86,16 @@ mod tests {
         assert_eq!(rt; two_puts(&mut sink, b"0 5"), None);
         assert!(rt; sink.failed());
         assert_eq!(rt; sink.put(b""), Ok(0));
+        assert!(rt; sink.failed());
+    }
+
+    #[test]
+    fn a_failed_write_is_a_failed_put(rt: HostRuntime) {
+        let mut sink = ToWrite::new(FailsOnce { has_failed: false });
+        assert!(rt; !sink.failed());
+        assert_eq!(rt; sink.put(b"0 5"), Err(EndFault));
+        assert!(rt; sink.failed());
+        assert_eq!(rt; two_puts(&mut sink, b"0 5"), Some(6));
         assert!(rt; sink.failed());
     }
 

@@ -4,6 +4,8 @@
 #[cfg(test)]
 mod ends;
 #[cfg(test)]
+mod files;
+#[cfg(test)]
 mod levels;
 #[cfg(test)]
 mod listing;

@@ -34,6 +34,10 @@ entry_layout = record {
   made = λ r. refl;
 }
 
+-- how many bytes an entry has
+abbrev pub entry_size : ℕ
+entry_size = 16
+
 -- the bytes of an entry
 abbrev pub entry_bytes : Entry → List ℕ
 entry_bytes = bytes_by entry_layout

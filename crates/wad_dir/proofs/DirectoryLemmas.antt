@@ -6,7 +6,7 @@ use Rattle.le_rec.specs.Record.{entry}
 use Rattle.le_rec.specs.declared.records.Entry.{Entry}
 use Rattle.wad_dir.specs.Directory.{AreRecords, HasTable}
 use Rattle.le_rec.specs.Table.{piece, records_of}
-use Rattle.wad_dir.proofs.PartLemmas.{StandsAt-one}
+use Rattle.wad_dir.proofs.StandingLemmas.{StandsAt-one}
 
 -- behind a first piece the pieces are those of the rest
 piece-behind : (front rest : List ℕ) (i : ℕ) → length front ≡ 16 → piece 16 (front ++ rest) (i + 1) ≡ piece 16 rest i

@@ -1,4 +1,4 @@
-pub mod PartLemmas
+pub mod StandingLemmas
 pub mod DirectoryLemmas
 pub mod ReadingLemmas
 pub mod SetLemmas

@@ -3,7 +3,7 @@ use Rattle.std.proofs.Common.{◌≡◌, ℕ, ◌<◌, List, [], ◌∷◌, leng
 use Rattle.std.proofs.lemmas.Int.{ints}
 use Rattle.le_rec.specs.declared.records.Entry.{Entry}
 use Rattle.wad_dir.specs.Standing.{StandsAt}
-use Rattle.wad_dir.proofs.PartLemmas.{StandsAt-one}
+use Rattle.wad_dir.proofs.StandingLemmas.{StandsAt-one}
 use Rattle.std.specs.List.{slice_get}
 use Rattle.std.proofs.lemmas.Option.{same_Some}
 use Rattle.wad_dir.specs.Wad.{Wad}

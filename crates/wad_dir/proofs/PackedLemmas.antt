@@ -1,20 +1,19 @@
 -- What a packed file reads as: its directory, the names and the lumps.
 use Rattle.std.proofs.Common.{◌≡◌, ℕ, suc, ◌+◌, ◌<◌, ◌≤◌, pos, List, [], ◌∷◌, ◌++◌, length, map, refl, sym, ap, ◌∙◌, arith}
-use Rattle.std.specs.Prelude.{codes}
 use Rattle.std.specs.List.{All, AllZip, flat_map}
 use Rattle.std.proofs.lemmas.List.{append-nil, append_assoc, length-append}
 use Rattle.std.proofs.lemmas.List.Elements.{All-head, All-tail}
 use Rattle.le_rec.specs.Name.{name_of, padded}
-use Rattle.le_rec.specs.Number.{bytes32}
 use Rattle.le_rec.proofs.NumberLemmas.{signed32-bytes32}
 use Rattle.le_rec.proofs.FieldLemmas.{name_bytes-is}
 use Rattle.le_rec.specs.Record.{entry}
 use Rattle.le_rec.specs.Record.{entry_bytes}
 use Rattle.le_rec.specs.declared.records.Entry.{Entry}
-use Rattle.wad_dir.specs.declared.wad.Kind.TheVariants.{Pwad}
+use Rattle.wad_dir.specs.Header.{header_bytes}
+use Rattle.wad_dir.specs.declared.header.Kind.TheVariants.{Pwad}
 use Rattle.wad_dir.specs.Directory.{AreRecords, IsDirectory}
 use Rattle.wad_dir.specs.Slice.{IsSlice}
-use Rattle.wad_dir.specs.Packing.{NamedLump, IsName, lump_bytes, entries_from, packed}
+use Rattle.wad_dir.specs.Packing.{NamedLump, IsName, lump_bytes, entries_from, packed_entries, packed_header, packed}
 use Rattle.wad_dir.proofs.PackingLemmas.{FitsSigned-pos, length-packed}
 
 abbrev AllNames : List NamedLump → Type 0
@@ -43,13 +42,13 @@ AreRecords-packed place (l ∷ lumps) fits named =
       AreRecords-packed (place + length l.bytes) lumps (omega (arith, sums)) (All-tail (λ (k : NamedLump). IsName k.name) l lumps named),
     )
 
-pub packed-directory : (lumps : List NamedLump) → AllNames lumps → length (packed lumps) ≤ 2147483647 → IsDirectory (packed lumps) Pwad (entries_from 12 lumps)
+pub packed-directory : (lumps : List NamedLump) → AllNames lumps → length (packed lumps) ≤ 2147483647 → IsDirectory (packed lumps) Pwad (packed_entries lumps)
 packed-directory lumps named most =
     let whole = length-packed lumps in
     let n : ℕ = length lumps in
     let at : ℕ = 12 + length (lump_bytes lumps) in
-    let table = flat_map entry_bytes (entries_from 12 lumps) in
-    let head : List ℕ = codes "PWAD" ++ (bytes32 n ++ bytes32 at) in
+    let table = flat_map entry_bytes (packed_entries lumps) in
+    let head : List ℕ = header_bytes (packed_header lumps) in
     let behind : length (head ++ lump_bytes lumps) ≡ at = omega arith in
     record {
       header = omega (arith, whole);
@@ -86,6 +85,6 @@ slices_from bytes front after place (l ∷ lumps) whole at =
           (here ∙ sym (append_assoc front l.bytes (lump_bytes lumps ++ after))) (length-append front l.bytes ∙ ap (λ n. n + length l.bytes) at),
     )
 
-pub packed-slices : (lumps : List NamedLump) → AllZip (λ (e : Entry) (l : NamedLump). IsSlice (packed lumps) e l.bytes) (entries_from 12 lumps) lumps
+pub packed-slices : (lumps : List NamedLump) → AllZip (λ (e : Entry) (l : NamedLump). IsSlice (packed lumps) e l.bytes) (packed_entries lumps) lumps
 packed-slices lumps =
-    slices_from (packed lumps) (codes "PWAD" ++ (bytes32 (length lumps) ++ bytes32 (12 + length (lump_bytes lumps)))) (flat_map entry_bytes (entries_from 12 lumps)) 12 lumps refl refl
+    slices_from (packed lumps) (header_bytes (packed_header lumps)) (flat_map entry_bytes (packed_entries lumps)) 12 lumps refl refl

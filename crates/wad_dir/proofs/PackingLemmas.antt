@@ -1,7 +1,7 @@
 -- The bytes that lumps are packed into, and their number.
 use Rattle.std.proofs.Common.{◌≡◌, ℕ, ◌+◌, ◌*◌, ◌<◌, ◌≤◌, pos, List, [], ◌∷◌, ◌++◌, length, take, get_or, refl, sym, ap, ◌∙◌, arith}
 use Rattle.std.specs.List.{flat_map}
-use Rattle.std.specs.Prelude.{FitsSigned, codes}
+use Rattle.std.specs.Prelude.{FitsSigned}
 use Rattle.std.proofs.Common.{to_z, of_z}
 use Rattle.std.specs.Int.{w32}
 use Rattle.std.proofs.lemmas.Int.{ints, of_z-to_z}
@@ -13,7 +13,9 @@ use Rattle.le_rec.specs.Number.{bytes32}
 use Rattle.le_rec.specs.FieldBytes.{name_bytes}
 use Rattle.le_rec.specs.Record.{entry_bytes}
 use Rattle.le_rec.specs.declared.records.Entry.{Entry}
-use Rattle.wad_dir.specs.Packing.{NamedLump, lump_bytes, entries_from, packed}
+use Rattle.wad_dir.specs.Header.{header_size, header_bytes, magic_of}
+use Rattle.wad_dir.specs.declared.header.Kind.TheVariants.{Pwad}
+use Rattle.wad_dir.specs.Packing.{NamedLump, lump_bytes, entries_from, packed_entries, packed}
 
 pub FitsSigned-pos : (n : ℕ) → n < 2147483648 → FitsSigned w32 (pos n)
 FitsSigned-pos n h = grind (arith, ints)
@@ -87,14 +89,14 @@ put_more old now new written added front all put is had more =
     put ∙ ap (λ bs. now ++ bs) is ∙ ap (λ bs. bs ++ added) had ∙ append_assoc old front added ∙ ap (λ bs. old ++ bs) (sym more)
 
 -- the file is the header, the lumps and the directory
-pub packed_put : (lumps : List NamedLump) (old header filled whole : List ℕ) (offset : ℕ) → offset ≡ 12 + length (lump_bytes lumps)
-    → header ≡ old ++ (codes "PWAD" ++ (bytes32 (length lumps) ++ bytes32 offset)) → filled ≡ header ++ lump_bytes lumps
-    → whole ≡ filled ++ flat_map entry_bytes (entries_from 12 lumps) → whole ≡ old ++ packed lumps
+pub packed_put : (lumps : List NamedLump) (old header filled whole : List ℕ) (offset : ℕ) → offset ≡ header_size + length (lump_bytes lumps)
+    → header ≡ old ++ header_bytes (record { magic = magic_of Pwad; count = pos (length lumps); offset = pos offset }) → filled ≡ header ++ lump_bytes lumps
+    → whole ≡ filled ++ flat_map entry_bytes (packed_entries lumps) → whole ≡ old ++ packed lumps
 packed_put lumps old header filled whole offset at h f w =
-    let directory = flat_map entry_bytes (entries_from 12 lumps) in
-    let front = codes "PWAD" ++ (bytes32 (length lumps) ++ bytes32 offset) in
+    let directory = flat_map entry_bytes (packed_entries lumps) in
+    let front : ℕ → List ℕ = λ n. header_bytes (record { magic = magic_of Pwad; count = pos (length lumps); offset = pos n }) in
     w
     ∙ ap (λ bs. bs ++ directory) (f ∙ ap (λ bs. bs ++ lump_bytes lumps) h)
-    ∙ append_assoc (old ++ front) (lump_bytes lumps) directory
-    ∙ append_assoc old front (lump_bytes lumps ++ directory)
-    ∙ ap (λ n. old ++ (codes "PWAD" ++ (bytes32 (length lumps) ++ (bytes32 n ++ (lump_bytes lumps ++ directory))))) at
+    ∙ append_assoc (old ++ front offset) (lump_bytes lumps) directory
+    ∙ append_assoc old (front offset) (lump_bytes lumps ++ directory)
+    ∙ ap (λ n. old ++ (front n ++ (lump_bytes lumps ++ directory))) at

@@ -1,12 +1,13 @@
 -- Bytes have one directory, or one fault refuses them, and not both.
-use Rattle.std.proofs.Common.{◌≡◌, ◌≢◌, ℕ, ◌*◌, ◌<◌, ◌≤◌, ◌↔◌, pos, List, [], ◌∷◌, length, take, slice_index, Result, Ok, Err, refl, sym, ap, ◌∙◌, arith, subst}
+use Rattle.std.proofs.Common.{◌≡◌, ◌≢◌, ℕ, ◌*◌, ◌<◌, ◌≤◌, ◌↔◌, pos, List, [], ◌∷◌, length, slice_index, Result, Ok, Err, refl, sym, ap, ◌∙◌, arith, subst}
 use Rattle.std.proofs.lemmas.Int.{ints}
 use Rattle.le_rec.specs.declared.records.Entry.{Entry}
-use Rattle.wad_dir.specs.declared.wad.Kind.{Kind}
-use Rattle.wad_dir.specs.declared.wad.Kind.TheVariants.{Iwad, Pwad}
+use Rattle.wad_dir.specs.declared.header.Kind.{Kind}
+use Rattle.wad_dir.specs.declared.header.Kind.TheVariants.{Iwad, Pwad}
 use Rattle.wad_dir.specs.declared.wad.WadFault.{WadFault}
 use Rattle.wad_dir.specs.declared.wad.WadFault.TheVariants.{Short, Magic, Count, Directory}
-use Rattle.wad_dir.specs.Directory.{HasTable, IsDirectory, magic_of, count_of, offset_of}
+use Rattle.wad_dir.specs.Directory.{HasTable, IsDirectory}
+use Rattle.wad_dir.specs.Header.{header_of, magic_of}
 use Rattle.wad_dir.specs.Wad.{Wad, IsRead}
 use Rattle.wad_dir.specs.Refusal.{RefusesWad, HasKind}
 use Rattle.le_rec.specs.Record.{entry}
@@ -65,8 +66,8 @@ RefusesWad-one bytes Directory Count r s = absurd (omega (arith, ints, s.1, r.1.
 RefusesWad-one bytes Directory Directory r s = refl
 
 -- the file that was read from bytes whose conditions all hold
-pub IsRead-from_table : (bytes table : List ℕ) (kind : Kind) (count : ℕ) → 12 ≤ length bytes → take 4 bytes ≡ magic_of kind → count_of bytes ≡ pos count
-    → length table ≡ 16 * count → (0 < count → StandsAt bytes (offset_of bytes) table)
+pub IsRead-from_table : (bytes table : List ℕ) (kind : Kind) (count : ℕ) → 12 ≤ length bytes → (header_of bytes).magic ≡ magic_of kind → (header_of bytes).count ≡ pos count
+    → length table ≡ 16 * count → (0 < count → StandsAt bytes (header_of bytes).offset table)
     → IsRead (record { bytes = bytes; kind = kind; entries = records_of 16 entry table })
 IsRead-from_table bytes table kind count header begins counted long stands =
     let records = AreRecords-records_of count table long in
@@ -78,8 +79,8 @@ IsRead-from_table bytes table kind count header begins counted long stands =
       listed = λ some. record { table = table; records = records; stands = stands (omega arith) };
     }
 
-pub refused_by_table : (bytes : List ℕ) (count : ℕ) → HasKind bytes → count_of bytes ≡ pos count
-    → (0 < count) × ((table : List ℕ) → length table ≡ 16 * count → StandsAt bytes (offset_of bytes) table → ⊥)
+pub refused_by_table : (bytes : List ℕ) (count : ℕ) → HasKind bytes → (header_of bytes).count ≡ pos count
+    → (0 < count) × ((table : List ℕ) → length table ≡ 16 * count → StandsAt bytes (header_of bytes).offset table → ⊥)
     → RefusesWad bytes Directory
 refused_by_table bytes count kind counted h = (
   kind,

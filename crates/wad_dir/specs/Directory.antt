@@ -1,28 +1,15 @@
 -- What the bytes of a WAD file hold: a kind and a directory of entries (W_AddFile of w_wad.c; Unofficial
 -- Doom Specs 1.666, chapter 2).
-use Rattle.std.specs.Prelude.{◌≡◌, ℕ, ◌<◌, ◌≤◌, ℤ, pos, List, [], ◌∷◌, ◌++◌, length, take, codes}
-use Rattle.le_rec.specs.Number.{signed32_at}
-use Rattle.le_rec.specs.Record.{entry}
+use Rattle.std.specs.Prelude.{◌≡◌, ℕ, ◌<◌, ◌≤◌, pos, List, [], ◌∷◌, ◌++◌, length}
+use Rattle.le_rec.specs.Record.{entry, entry_size}
 use Rattle.le_rec.specs.declared.records.Entry.{Entry}
+use Rattle.wad_dir.specs.Header.{header_of, header_size, magic_of}
 use Rattle.wad_dir.specs.Standing.{StandsAt}
-use Rattle.wad_dir.specs.declared.wad.Kind.{Kind}
-use Rattle.wad_dir.specs.declared.wad.Kind.TheVariants.{Iwad, Pwad}
+use Rattle.wad_dir.specs.declared.header.Kind.{Kind}
 
--- the bytes with which a file of a kind begins
-abbrev pub magic_of : Kind → List ℕ
-magic_of Iwad = codes "IWAD"
-magic_of Pwad = codes "PWAD"
-
--- the number of entries that the header gives, and the place of their table
-abbrev pub count_of : List ℕ → ℤ
-count_of bytes = signed32_at bytes 4
-
-abbrev pub offset_of : List ℕ → ℤ
-offset_of bytes = signed32_at bytes 8
-
--- sixteen bytes that are the record of an entry
+-- as many bytes as a record has, which are the record of an entry
 pub record IsRecord (bytes : List ℕ) (e : Entry) : Type 0 where
-  pub long : length bytes ≡ 16
+  pub long : length bytes ≡ entry_size
   pub reads : entry bytes ≡ e
 
 -- the joined records of entries
@@ -35,13 +22,13 @@ AreRecords bytes (e ∷ entries) =
 pub record HasTable (bytes : List ℕ) (entries : List Entry) : Type 0 where
   pub table : List ℕ
   pub records : AreRecords table entries
-  pub stands : StandsAt bytes (offset_of bytes) table
+  pub stands : StandsAt bytes (header_of bytes).offset table
 
 -- the kind and the entries of a file's bytes
 pub record IsDirectory (bytes : List ℕ) (kind : Kind) (entries : List Entry) : Type 0 where
-  pub header : 12 ≤ length bytes
-  pub begins : take 4 bytes ≡ magic_of kind
-  pub counted : count_of bytes ≡ pos (length entries)
+  pub header : header_size ≤ length bytes
+  pub begins : (header_of bytes).magic ≡ magic_of kind
+  pub counted : (header_of bytes).count ≡ pos (length entries)
   pub listed : 0 < length entries → HasTable bytes entries
 
 abbrev pub HasDirectory : List ℕ → Type 0

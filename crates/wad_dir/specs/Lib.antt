@@ -1,3 +1,4 @@
+pub mod Header
 pub mod Standing
 pub mod Directory
 pub mod Wad
@@ -7,3 +8,4 @@ pub mod Winner
 pub mod Slice
 pub mod Place
 pub mod Packing
+pub mod Laws

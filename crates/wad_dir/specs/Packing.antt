@@ -1,10 +1,12 @@
 -- The file that lumps are packed into (Unofficial Doom Specs 1.666, chapter 2).
-use Rattle.std.specs.Prelude.{◌≡◌, ℕ, ◌+◌, pos, List, [], ◌∷◌, ◌++◌, length, codes}
+use Rattle.std.specs.Prelude.{◌≡◌, ℕ, ◌+◌, pos, List, [], ◌∷◌, ◌++◌, length}
 use Rattle.std.specs.List.{flat_map}
 use Rattle.le_rec.specs.Name.{name_of, padded}
-use Rattle.le_rec.specs.Number.{signed_bytes32}
 use Rattle.le_rec.specs.Record.{entry_bytes}
 use Rattle.le_rec.specs.declared.records.Entry.{Entry}
+use Rattle.wad_dir.specs.Header.{header_bytes, header_size, magic_of}
+use Rattle.wad_dir.specs.declared.header.Header.{Header}
+use Rattle.wad_dir.specs.declared.header.Kind.TheVariants.{Pwad}
 
 -- a lump under a name
 pub record NamedLump : Type 0 where
@@ -24,10 +26,21 @@ lump_bytes lumps = flat_map (λ lump. lump.bytes) lumps
 abbrev pub entries_from : ℕ → List NamedLump → List Entry
 entries_from place [] = []
 entries_from place (lump ∷ lumps) =
-    record { filepos = pos place; size = pos (length lump.bytes); name = padded lump.name } ∷ entries_from (place + length lump.bytes) lumps
+    record { filepos = pos place; size = pos (length lump.bytes); name = padded lump.name }
+    ∷ entries_from (place + length lump.bytes) lumps
 
--- the header, the lumps from byte 12 on, and the directory
+-- their entries in the packed file, where the first lump stands behind the header
+abbrev pub packed_entries : List NamedLump → List Entry
+packed_entries lumps = entries_from header_size lumps
+
+-- its header: the directory stands behind the lumps
+abbrev pub packed_header : List NamedLump → Header
+packed_header lumps = record {
+  magic = magic_of Pwad;
+  count = pos (length lumps);
+  offset = pos (header_size + length (lump_bytes lumps));
+}
+
+-- the header, the lumps and the directory
 abbrev pub packed : List NamedLump → List ℕ
-packed lumps =
-    codes "PWAD" ++ (signed_bytes32 (pos (length lumps)) ++ (signed_bytes32 (pos (12 + length (lump_bytes lumps)))
-    ++ (lump_bytes lumps ++ flat_map entry_bytes (entries_from 12 lumps))))
+packed lumps = header_bytes (packed_header lumps) ++ (lump_bytes lumps ++ flat_map entry_bytes (packed_entries lumps))

@@ -1,9 +1,9 @@
--- Where a part stands in bytes.
+-- Where a stretch of bytes stands.
 use Rattle.std.specs.Prelude.{◌≡◌, ℕ, ℤ, pos, List, ◌++◌, length}
 
--- the bytes are some bytes, as many as the place says, then the part, then others
-pub record StandsAt (bytes : List ℕ) (place : ℤ) (part : List ℕ) : Type 0 where
+-- the bytes are some bytes, as many as the place says, then the stretch, then others
+pub record StandsAt (bytes : List ℕ) (place : ℤ) (stretch : List ℕ) : Type 0 where
   pub before : List ℕ
   pub after : List ℕ
-  pub joined : bytes ≡ before ++ (part ++ after)
+  pub joined : bytes ≡ before ++ (stretch ++ after)
   pub placed : pos (length before) ≡ place

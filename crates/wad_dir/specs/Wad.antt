@@ -2,7 +2,7 @@
 use Rattle.std.specs.Prelude.{ℕ, List}
 use Rattle.le_rec.specs.declared.records.Entry.{Entry}
 use Rattle.wad_dir.specs.Directory.{IsDirectory}
-use Rattle.wad_dir.specs.declared.wad.Kind.{Kind}
+use Rattle.wad_dir.specs.declared.header.Kind.{Kind}
 
 -- its bytes, its kind and its entries
 pub record Wad : Type 0 where

@@ -3,9 +3,21 @@
 ghost use Rattle.std.specs.Prelude.{ℕ, List, IfSome, IfNone, length, ◌<◌, ◌^◌};
 ghost use Rattle.wad_dir.specs.Slice.{IsSlice};
 
-use crate::part::{natural, part_at};
+use crate::standing::{natural, standing_at};
 use le_rec::Entry;
 use std::marker::Model;
+use thiserror::Error;
+
+/// Why an entry's lump can't be read.
+#[derive(Clone, Copy, Debug, PartialEq, Eq, Error)]
+pub enum LumpFault {
+    /// There are not so many entries.
+    #[error("5 no such lump")]
+    NoSuch,
+    /// The lump isn't all inside the entry's file.
+    #[error("6 outside file")]
+    Outside,
+}
 
 /// An entry with its file's number and bytes.
 #[derive(Drop)]
@@ -23,7 +35,8 @@ impl<'a> Model for Found<'a> {
     ghost view = { λ f. record { file = f.file; bytes = f.bytes.now; entry = f.entry } };
 }
 
-/// The bytes of an entry's lump, where they are all in the file.
+/// The bytes of an entry's lump, where they are all in the file (`W_ReadLump` of w_wad.c). The
+/// place of an empty lump is not looked at.
 pub fn lump_of<'a>(bytes: &'a [u8], entry: &Entry) -> Option<&'a [u8]>
     ensures some { IfSome result (λ lump. IsSlice bytes.now entry.now lump.now) }
     ensures none { IfNone result ((lump : List ℕ) → ¬ IsSlice bytes.now entry.now lump) }
@@ -32,5 +45,5 @@ pub fn lump_of<'a>(bytes: &'a [u8], entry: &Entry) -> Option<&'a [u8]>
     if entry.size == 0 {
         return Some(&bytes[..0]);
     }
-    part_at(bytes, entry.filepos, natural(entry.size)?)
+    standing_at(bytes, entry.filepos, natural(entry.size)?)
 }

@@ -1,23 +1,23 @@
 //! Lumps packed into a new WAD file.
 
-ghost use Rattle.std.specs.Prelude.{◌≡◌, ◌+◌, ◌^◌, ◌<◌, ◌≤◌, ◌↔◌, pos, List, ◌∷◌, [], ◌++◌, length, map, codes, IfOk, IfSome, IfNone, OnOk, OnErr, IsErrOf, IsOkUnless};
+ghost use Rattle.std.specs.Prelude.{◌≡◌, ◌+◌, ◌*◌, ◌^◌, ◌<◌, ◌≤◌, ◌↔◌, pos, List, ◌∷◌, [], ◌++◌};
+ghost use Rattle.std.specs.Prelude.{length, map, vec_len, vec_capacity};
+ghost use Rattle.std.specs.Prelude.{IfOk, IfSome, IfNone, OnOk, OnErr, IsErrOf, IsOkUnless};
 ghost use Rattle.std.specs.List.{All, AllZip, flat_map};
 ghost use Rattle.le_rec.specs.Name.{name_of};
-ghost use Rattle.le_rec.specs.Number.{signed_bytes32};
-ghost use Rattle.le_rec.specs.Record.{entry_bytes};
+ghost use Rattle.le_rec.specs.Record.{entry_bytes, entry_size};
+ghost use Rattle.wad_dir.specs.Header.{header_size, header_bytes, magic_of};
 ghost use Rattle.wad_dir.specs.Directory.{IsDirectory};
 ghost use Rattle.wad_dir.specs.Slice.{IsSlice};
-ghost use Rattle.wad_dir.specs.Packing.{IsName, lump_bytes, entries_from, packed};
+ghost use Rattle.wad_dir.specs.Packing.{IsName, lump_bytes, packed_entries, packed};
 
-use crate::wad::Kind;
+use crate::header::{Header, Kind};
 use le_rec::{Entry, Name8, Record};
-use std::alloc::{AllocError, Allocator, Global};
+use std::alloc::{Allocator, Global};
 use std::marker::Model;
 use thiserror::Error;
 
-// The bytes of a file's header, and the most that a file may have.
-const HEADER: usize = 12;
-
+// The most bytes of a file, so that each place and size in it is a signed number of four bytes.
 const MOST: usize = 2_147_483_647;
 
 /// Why lumps can't be packed.
@@ -70,9 +70,10 @@ impl<'a, A: Allocator> Packer<'a, A> {
         }
     }
 
-    /// Puts a lump under a name last.
+    /// Puts a lump under a name last, or answers `Memory` and leaves all as it was.
     pub fn add(&mut self, name: Name8, bytes: &'a [u8]) -> Result<(), PackFault>
-        ensures ok { OnOk result (self.new ≡ self.old ++ (record { name = name; bytes = bytes.now }) ∷ []) }
+        ensures ok { OnOk result (
+            self.new ≡ self.old ++ (record { name = name; bytes = bytes.now }) ∷ []) }
         ensures memory { IsOkUnless result PackFault.Memory }
         ensures err { OnErr result (self.new ≡ self.old) }
     {
@@ -82,16 +83,20 @@ impl<'a, A: Allocator> Packer<'a, A> {
         }
     }
 
-    /// The bytes of a PWAD of the lumps: after its header they stand from byte 12 on without gaps, an empty one
-    /// where it would stand, and then the directory.
+    /// The bytes of a PWAD of the lumps, or `TooLarge` past 2,147,483,647 of them. After its header
+    /// the lumps stand without gaps, an empty one where it would stand, and then the directory.
+    /// Room for the whole file is made first, which alone can answer `Memory`.
     pub fn pack<B: Allocator>(&self, alloc: B) -> Result<Vec<u8, B>, PackFault>
         ensures ok { IfOk result (λ file. file.items ≡ packed self.now) }
-        ensures too_large { IsErrOf result PackFault.TooLarge ↔ (2147483647 < length (packed self.now)) }
+        ensures too_large { IsErrOf result PackFault.TooLarge ↔ (MOST < length (packed self.now)) }
 
         // What the file reads as: each entry has its lump's name and its lump's bytes.
-        ensures directory { IfOk result (λ file. IsDirectory file.items Kind.Pwad (entries_from 12 self.now)) }
-        ensures names { OnOk result (map (λ entry. name_of entry.name) (entries_from 12 self.now) ≡ map (λ lump. lump.name) self.now) }
-        ensures slices { IfOk result (λ file. AllZip (λ entry lump. IsSlice file.items entry lump.bytes) (entries_from 12 self.now) self.now) }
+        ensures directory { IfOk result (λ file.
+            IsDirectory file.items Kind.Pwad (packed_entries self.now)) }
+        ensures names { OnOk result (map (λ entry. name_of entry.name) (packed_entries self.now)
+            ≡ map (λ lump. lump.name) self.now) }
+        ensures slices { IfOk result (λ file. AllZip
+            (λ entry lump. IsSlice file.items entry lump.bytes) (packed_entries self.now) self.now) }
     {
         let Some(size) = file_size(&self.lumps) else {
             return Err(PackFault::TooLarge);
@@ -99,20 +104,18 @@ impl<'a, A: Allocator> Packer<'a, A> {
         let Ok(mut file) = Vec::with_capacity(alloc, size) else {
             return Err(PackFault::Memory);
         };
-        match put_file(&mut file, &self.lumps, size) {
-            Ok(()) => Ok(file),
-            Err(_) => Err(PackFault::Memory),
-        }
+        put_file(&mut file, &self.lumps, size);
+        Ok(file)
     }
 }
 
 // The number of bytes of the packed file, unless it would have too many.
 fn file_size(lumps: &[NamedLump]) -> Option<usize>
     ensures some { IfSome result (λ size. size ≡ length (packed lumps.now)) }
-    ensures most { IfSome result (λ size. size ≤ 2147483647) }
-    ensures none { IfNone result (2147483647 < length (packed lumps.now)) }
+    ensures most { IfSome result (λ size. size ≤ MOST) }
+    ensures none { IfNone result (MOST < length (packed lumps.now)) }
 {
-    let mut size = HEADER;
+    let mut size = Header::SIZE;
     for lump in lumps {
         let more = lump.bytes.len();
         if more > MOST || size + more + Entry::SIZE > MOST {
@@ -123,53 +126,61 @@ fn file_size(lumps: &[NamedLump]) -> Option<usize>
     Some(size)
 }
 
-fn put_file<B: Allocator>(
-    file: &mut Vec<u8, B>,
-    lumps: &[NamedLump],
-    size: usize,
-) -> Result<(), AllocError>
+// What follows takes no memory: there is room for the whole file.
+
+fn put_file<B: Allocator>(file: &mut Vec<u8, B>, lumps: &[NamedLump], size: usize)
     requires whole { size ≡ length (packed lumps.now) }
-    requires most { size ≤ 2147483647 }
-    ensures ok { OnOk result (file.new.items ≡ file.old.items ++ packed lumps.now) }
-    ensures names { OnOk result (All (λ lump. IsName lump.name) lumps.now) }
+    requires most { size ≤ MOST }
+    requires room { vec_len file.old + size ≤ vec_capacity file.old }
+    ensures file { file.new.items ≡ file.old.items ++ packed lumps.now }
+    ensures names { All (λ lump. IsName lump.name) lumps.now }
 {
-    put_header(file, lumps.len(), size - lumps.len() * Entry::SIZE)?;
-    put_lumps(file, lumps)?;
-    put_entries(file, lumps)?;
-    Ok(())
+    put_header(file, lumps.len(), size - lumps.len() * Entry::SIZE);
+    put_lumps(file, lumps);
+    put_entries(file, lumps);
 }
 
-fn put_header<B: Allocator>(
-    file: &mut Vec<u8, B>,
-    count: usize,
-    offset: usize,
-) -> Result<(), AllocError>
+fn put_header<B: Allocator>(file: &mut Vec<u8, B>, count: usize, offset: usize)
     requires count_fits { count < 2 ^ 31 }
     requires offset_fits { offset < 2 ^ 31 }
-    ensures { OnOk result (file.new.items
-        ≡ file.old.items ++ (codes "PWAD" ++ (signed_bytes32 (pos count) ++ signed_bytes32 (pos offset)))) }
+    requires room { vec_len file.old + header_size ≤ vec_capacity file.old }
+    ensures header { file.new.items ≡ file.old.items ++ header_bytes (record {
+      magic = magic_of Kind.Pwad;
+      count = pos count;
+      offset = pos offset;
+    }) }
+    ensures len { vec_len file.new ≡ vec_len file.old + header_size }
+    ensures capacity { vec_capacity file.old ≤ vec_capacity file.new }
 {
-    file.extend_from_slice(b"PWAD")?;
-    file.extend_from_slice(&(count as u32).to_le_bytes())?;
-    file.extend_from_slice(&(offset as u32).to_le_bytes())?;
-    Ok(())
+    let header = Header {
+        magic: *b"PWAD",
+        count: count as i32,
+        offset: offset as i32,
+    };
+    let mut bytes = [0; Header::SIZE];
+    header.write(&mut bytes);
+    put_bytes(file, &bytes);
 }
 
-fn put_lumps<B: Allocator>(file: &mut Vec<u8, B>, lumps: &[NamedLump]) -> Result<(), AllocError>
-    ensures { OnOk result (file.new.items ≡ file.old.items ++ lump_bytes lumps.now) }
+fn put_lumps<B: Allocator>(file: &mut Vec<u8, B>, lumps: &[NamedLump])
+    requires room { vec_len file.old + length (lump_bytes lumps.now) ≤ vec_capacity file.old }
+    ensures lumps { file.new.items ≡ file.old.items ++ lump_bytes lumps.now }
+    ensures len { vec_len file.new ≡ vec_len file.old + length (lump_bytes lumps.now) }
+    ensures capacity { vec_capacity file.old ≤ vec_capacity file.new }
 {
     for lump in lumps {
-        file.extend_from_slice(lump.bytes)?;
+        put_bytes(file, lump.bytes);
     }
-    Ok(())
 }
 
-fn put_entries<B: Allocator>(file: &mut Vec<u8, B>, lumps: &[NamedLump]) -> Result<(), AllocError>
-    requires { 12 + length (lump_bytes lumps.now) < 2 ^ 31 }
-    ensures ok { OnOk result (file.new.items ≡ file.old.items ++ flat_map entry_bytes (entries_from 12 lumps.now)) }
-    ensures names { OnOk result (All (λ lump. IsName lump.name) lumps.now) }
+fn put_entries<B: Allocator>(file: &mut Vec<u8, B>, lumps: &[NamedLump])
+    requires places { header_size + length (lump_bytes lumps.now) < 2 ^ 31 }
+    requires room { vec_len file.old + entry_size * length lumps.now ≤ vec_capacity file.old }
+    ensures entries { file.new.items
+        ≡ file.old.items ++ flat_map entry_bytes (packed_entries lumps.now) }
+    ensures names { All (λ lump. IsName lump.name) lumps.now }
 {
-    let mut place = HEADER;
+    let mut place = Header::SIZE;
     for lump in lumps {
         let entry = Entry {
             filepos: place as i32,
@@ -178,8 +189,17 @@ fn put_entries<B: Allocator>(file: &mut Vec<u8, B>, lumps: &[NamedLump]) -> Resu
         };
         let mut record = [0; Entry::SIZE];
         entry.write(&mut record);
-        file.extend_from_slice(&record)?;
+        put_bytes(file, &record);
         place += lump.bytes.len();
     }
-    Ok(())
+}
+
+// Puts bytes last, for which there is room.
+fn put_bytes<B: Allocator>(file: &mut Vec<u8, B>, bytes: &[u8])
+    requires room { vec_len file.old + length bytes.now ≤ vec_capacity file.old }
+    ensures items { file.new.items ≡ file.old.items ++ bytes.now }
+    ensures len { vec_len file.new ≡ vec_len file.old + length bytes.now }
+    ensures capacity { vec_capacity file.old ≤ vec_capacity file.new }
+{
+    let _ = file.extend_from_slice(bytes);
 }

@@ -1,15 +1,21 @@
 //! Several WAD files, whose entries are numbered on in one list.
 
-ghost use Rattle.std.specs.Prelude.{◌≡◌, ℕ, ◌<◌, ◌^◌, ◌≤◌, ◌↔◌, ◌≢◌, Some, List, length, map, IfOk, IfSome, IfNone, IsErrOf};
+ghost use Rattle.std.specs.Prelude.{◌≡◌, ◌≢◌, ℕ, ◌<◌, ◌^◌, ◌≤◌, ◌↔◌, Some, List, [], length, map};
+ghost use Rattle.std.specs.Prelude.{IfOk, IfErr, IsOk, IfSome, IfNone, IsErrOf, vec_capacity};
 ghost use Rattle.std.specs.List.{All, slice_get};
 ghost use Rattle.std.specs.Option.{option_map};
+ghost use Rattle.wad_dir.specs.Wad.{IsRead};
+ghost use Rattle.wad_dir.specs.Refusal.{IsFirstRefused};
 
-use crate::lump::{Found, lump_of};
+use crate::lump::{Found, LumpFault, lump_of};
 use crate::wad::{Wad, WadFault};
 use le_rec::Name8;
 use std::alloc::{Allocator, Global};
 use std::marker::Model;
 use thiserror::Error;
+
+/// The most files of a set.
+pub const MAX_FILES: usize = 64;
 
 /// Why files are no set.
 #[derive(Clone, Copy, Debug, PartialEq, Eq, Error)]
@@ -22,26 +28,15 @@ pub enum SetFault {
     Memory,
 }
 
-/// Where an entry says that its lump lies.
+/// Where an entry says that its lump lies. It may lie elsewhere than in its file.
 #[derive(Clone, Copy, Debug, PartialEq, Eq)]
 pub struct Place {
     /// The file's number, counted from 1.
     pub file: u32,
-    /// The place in that file, in bytes.
+    /// The place in that file, in bytes from its start.
     pub filepos: i32,
-    /// The number of bytes.
+    /// The lump's number of bytes.
     pub size: i32,
-}
-
-/// Why an entry's lump can't be read.
-#[derive(Clone, Copy, Debug, PartialEq, Eq, Error)]
-pub enum LumpFault {
-    /// There are not so many entries.
-    #[error("5 no such lump")]
-    NoSuch,
-    /// The lump isn't inside the entry's file.
-    #[error("6 outside file")]
-    Outside,
 }
 
 /// WAD files in order. It lends the files' bytes, and reads an entry when it is asked for.
@@ -52,54 +47,52 @@ pub struct Set<'a, A: Allocator = Global> {
 
 impl<'a, A: Allocator> Model for Set<'a, A> {
     ghost use Rattle.std.specs.Prelude.{List, ◌≤◌, length};
+    ghost use Rattle.wad_dir.specs.declared.set.TheConstants.{MAX_FILES};
     ghost use Rattle.wad_dir.specs.Wad as wad;
 
     ghost Value = { List wad.Wad };
 
     ghost view = { λ s. s.wads.items };
 
-    ghost invariant = { λ s. length s.wads.items ≤ 64 };
+    ghost invariant = { λ s. length s.wads.items ≤ MAX_FILES };
 }
 
 impl<'a, A: Allocator> Set<'a, A> {
-    ghost use Rattle.wad_dir.specs.Wad.{IsRead};
-    ghost use Rattle.wad_dir.specs.Refusal.{IsFirstRefused};
     ghost use Rattle.wad_dir.specs.Entries.{joined, names, listed_name};
     ghost use Rattle.wad_dir.specs.Winner.{Wins};
     ghost use Rattle.wad_dir.specs.Slice.{IsLump};
     ghost use Rattle.wad_dir.specs.Place.{place_of};
 
-    /// The set of the files. Room for its list is made first; then the files are read in order.
+    /// The set of the files, at most 64 of them. Room for its list is made first, which alone can
+    /// answer `Memory`; then the files are read in order, and the first that is refused is
+    /// answered.
     pub fn new(alloc: A, files: &'a [Vec<u8>]) -> Result<Set<'a, A>, SetFault>
-        requires { length files.now ≤ 64 }
-        ensures bytes { IfOk result (λ set. map (λ file. file.bytes) set ≡ map (λ file. file.items) files.now) }
+        requires { length files.now ≤ MAX_FILES }
+        ensures bytes { IfOk result (λ set.
+            map (λ file. file.bytes) set ≡ map (λ file. file.items) files.now) }
         ensures read { IfOk result (All IsRead) }
-        ensures refused { (n : ℕ) (fault : _) → result ≡ Err (SetFault.File n fault) → IsFirstRefused (map (λ file. file.items) files.now) n fault }
+        ensures refused { (n : ℕ) (fault : _) → result ≡ Err (SetFault.File n fault)
+            → IsFirstRefused (map (λ file. file.items) files.now) n fault }
+        ensures no_files { files.now ≡ [] → IsOk result }
     {
-        let Ok(mut wads) = Vec::with_capacity(alloc, files.len()) else {
+        let Ok(room) = Vec::with_capacity(alloc, files.len()) else {
             return Err(SetFault::Memory);
         };
-        for (i, file) in files.iter().enumerate() {
-            let wad = match Wad::read(file.as_slice()) {
-                Ok(wad) => wad,
-                Err(fault) => return Err(SetFault::File(i as u32 + 1, fault)),
-            };
-            let Ok(()) = wads.push(wad) else {
-                return Err(SetFault::Memory);
-            };
+        match read_files(room, files) {
+            Ok(wads) => Ok(Set { wads }),
+            Err((number, fault)) => Err(SetFault::File(number, fault)),
         }
-        Ok(Set { wads })
     }
 
-    /// The number of files.
+    /// The number of files, at most 64.
     pub fn files(&self) -> usize
         ensures files { result ≡ length self.now }
-        ensures few { result ≤ 64 }
+        ensures few { result ≤ MAX_FILES }
     {
         self.wads.len()
     }
 
-    /// A file, counted from 0.
+    /// A file, counted from 0, or None where there are not so many.
     pub fn file(&self, index: usize) -> Option<Wad<'a>>
         ensures { result ≡ slice_get self.now index }
     {
@@ -120,7 +113,8 @@ impl<'a, A: Allocator> Set<'a, A> {
         total
     }
 
-    /// Where the entry of a number says that its lump lies.
+    /// Where the entry of a number says that its lump lies, or None where there are not so many
+    /// entries. Entries are numbered on over the files, from 0.
     pub fn place(&self, g: usize) -> Option<Place>
         ensures { result ≡ option_map place_of (slice_get (joined self.now) g) }
     {
@@ -132,7 +126,7 @@ impl<'a, A: Allocator> Set<'a, A> {
         })
     }
 
-    /// The name of the entry of a number.
+    /// The name of the entry of a number, or None where there are not so many entries.
     pub fn name(&self, g: usize) -> Option<Name8>
         ensures { result ≡ option_map listed_name (slice_get (joined self.now) g) }
     {
@@ -140,7 +134,8 @@ impl<'a, A: Allocator> Set<'a, A> {
         Some(Name8::stored(found.entry.name))
     }
 
-    /// The number of the last entry of a name.
+    /// The number of the last entry of a name over all files, or None where no entry has it
+    /// (`W_CheckNumForName` of w_wad.c). Names in the directory are compared as they stand.
     pub fn find(&self, name: Name8) -> Option<usize>
         ensures some { IfSome result (Wins (names self.now) name) }
         ensures none { IfNone result ((g : ℕ) → slice_get (names self.now) g ≢ Some name) }
@@ -156,12 +151,13 @@ impl<'a, A: Allocator> Set<'a, A> {
         None
     }
 
-    /// The bytes of the lump of the entry of a number.
+    /// The bytes of the lump of the entry of a number, below 2^31 of them, or why there are none.
     pub fn lump(&self, g: usize) -> Result<&'a [u8], LumpFault>
         ensures ok { IfOk result (λ lump. IsLump self.now g lump.now) }
         ensures short { IfOk result (λ lump. length lump.now < 2 ^ 31) }
         ensures no_such { IsErrOf result LumpFault.NoSuch ↔ (length (joined self.now) ≤ g) }
-        ensures outside { IsErrOf result LumpFault.Outside ↔ ((g < length (joined self.now)) × ((lump : List ℕ) → ¬ IsLump self.now g lump)) }
+        ensures outside { IsErrOf result LumpFault.Outside
+            ↔ ((g < length (joined self.now)) × ((lump : List ℕ) → ¬ IsLump self.now g lump)) }
     {
         let Some(found) = self.listed(g) else {
             return Err(LumpFault::NoSuch);
@@ -185,4 +181,29 @@ impl<'a, A: Allocator> Set<'a, A> {
         }
         None
     }
+}
+
+// The files' directories in order, put into a list that has room for them; or the number, counted
+// from 1, of the first file that has none, and why.
+fn read_files<'a, A: Allocator>(
+    room: Vec<Wad<'a>, A>,
+    files: &'a [Vec<u8>],
+) -> Result<Vec<Wad<'a>, A>, (u32, WadFault)>
+    requires empty { room.items ≡ [] }
+    requires enough { length files.now ≤ vec_capacity room }
+    requires few { length files.now ≤ MAX_FILES }
+    ensures bytes { IfOk result (λ wads.
+        map (λ file. file.bytes) wads.items ≡ map (λ file. file.items) files.now) }
+    ensures read { IfOk result (λ wads. All IsRead wads.items) }
+    ensures refused { IfErr result (λ e.
+        IsFirstRefused (map (λ file. file.items) files.now) e.0 e.1) }
+{
+    let mut wads = room;
+    for (i, file) in files.iter().enumerate() {
+        match Wad::read(file.as_slice()) {
+            Ok(wad) => wads.push_reserved(wad),
+            Err(fault) => return Err((i as u32 + 1, fault)),
+        }
+    }
+    Ok(wads)
 }

@@ -1,54 +1,25 @@
-//! Worked cases over the sample level of one room.
+//! Worked cases over files of a few bytes.
 
 use super::*;
 use le_rec::Name8;
 use std::alloc::Allocator;
+use std::fmt::Display;
+use std::process::Abort;
 use std::test::Fail;
 use test_alloc::Refusing;
 
-const SIDES: [u8; 60] = [
-    0, 0, 0, 0, 45, 0, 0, 0, 0, 0, 0, 0, 45, 0, 0, 0, 0, 0, 0, 0, 45, 0, 0, 0, 0, 0, 0, 0, 0, 0, 0,
-    0, 0, 0, 45, 0, 0, 0, 0, 0, 0, 0, 45, 0, 0, 0, 0, 0, 0, 0, 45, 0, 0, 0, 0, 0, 0, 0, 1, 0,
+// A name, and a lump under it.
+type Lump = (&'static [u8], &'static [u8]);
+
+const TWO: [Lump; 2] = [(b"A", b"xyz"), (b"B", b"")];
+
+// The file of these lumps: a header, `xyz` from byte 12 on, and the directory from byte 15 on.
+const TWO_PACKED: [u8; 47] = [
+    80, 87, 65, 68, 2, 0, 0, 0, 15, 0, 0, 0, 120, 121, 122, 12, 0, 0, 0, 3, 0, 0, 0, 65, 0, 0, 0,
+    0, 0, 0, 0, 15, 0, 0, 0, 0, 0, 0, 0, 66, 0, 0, 0, 0, 0, 0, 0,
 ];
 
-const NODE: [u8; 28] = [
-    0, 0, 0, 0, 0, 0, 64, 0, 64, 0, 0, 0, 0, 0, 0, 0, 64, 0, 0, 0, 0, 0, 0, 0, 0, 128, 1, 128,
-];
-
-const SECTORS: [u8; 52] = [
-    0, 0, 128, 0, 70, 76, 65, 84, 49, 0, 0, 0, 70, 76, 65, 84, 49, 0, 0, 0, 160, 0, 0, 0, 0, 0, 0,
-    0, 128, 0, 70, 76, 65, 84, 49, 0, 0, 0, 70, 76, 65, 84, 49, 0, 0, 0, 160, 0, 0, 0, 0, 0,
-];
-
-// The sample level's label and its ten lumps.
-fn lumps() -> [(&'static [u8], &'static [u8]); 11] {
-    [
-        (b"E1M1", &[]),
-        (b"THINGS", &[8, 0, 8, 0, 0, 0, 1, 0, 7, 0]),
-        (b"LINEDEFS", &[0, 0, 1, 0, 4, 0, 0, 0, 0, 0, 0, 0, 1, 0]),
-        (b"SIDEDEFS", &SIDES),
-        (b"VERTEXES", &[0, 0, 0, 0, 0, 0, 64, 0]),
-        (
-            b"SEGS",
-            &[
-                0, 0, 1, 0, 0, 64, 0, 0, 0, 0, 0, 0, 1, 0, 0, 0, 0, 192, 0, 0, 1, 0, 0, 0,
-            ],
-        ),
-        (b"SSECTORS", &[1, 0, 0, 0, 1, 0, 1, 0]),
-        (b"NODES", &NODE),
-        (b"SECTORS", &SECTORS),
-        (b"REJECT", &[0]),
-        (
-            b"BLOCKMAP",
-            &[248, 255, 248, 255, 1, 0, 1, 0, 5, 0, 0, 0, 0, 0, 255, 255],
-        ),
-    ]
-}
-
-fn packer_of<'a, A: Allocator>(
-    alloc: A,
-    lumps: &[(&'a [u8], &'a [u8])],
-) -> Result<Packer<'a, A>, PackFault> {
+fn packer_of<A: Allocator>(alloc: A, lumps: &[Lump]) -> Result<Packer<'static, A>, PackFault> {
     let mut packer = Packer::new(alloc);
     for (name, lump) in lumps {
         packer.add(Name8::query(name), lump)?;
@@ -58,15 +29,8 @@ fn packer_of<'a, A: Allocator>(
 
 #[test]
 fn packed(rt: HostRuntime) -> Result<(), Fail> {
-    let file = packer_of(rt.alloc(), &lumps())?.pack(rt.alloc())?;
-    assert_eq!(rt; file.len(), 409);
-    let start = [80u8, 87, 65, 68, 11, 0, 0, 0, 233, 0, 0, 0];
-    assert!(rt; file.starts_with(&start));
-    let first = [12u8, 0, 0, 0, 0, 0, 0, 0, 69, 49, 77, 49, 0, 0, 0, 0];
-    let second = [12u8, 0, 0, 0, 10, 0, 0, 0, 84, 72, 73, 78, 71, 83, 0, 0];
-    assert!(rt; file[233..].starts_with(&first));
-    assert!(rt; file[249..].starts_with(&second));
-
+    let file = packer_of(rt.alloc(), &TWO)?.pack(rt.alloc())?;
+    assert_eq!(rt; file.as_slice(), TWO_PACKED.as_slice());
     let none = Packer::new(rt.alloc()).pack(rt.alloc())?;
     assert_eq!(rt;
         none.as_slice(),
@@ -87,14 +51,27 @@ fn pack_is_too_large(rt: HostRuntime) -> Result<(), Fail> {
 }
 
 #[test]
+fn files_read(rt: HostRuntime) -> Result<(), Fail> {
+    let wad = Wad::read(&TWO_PACKED)?;
+    assert_eq!(rt; wad.kind(), Kind::Pwad);
+    assert_eq!(rt; wad.len(), 2);
+    let mut whole_game = TWO_PACKED;
+    whole_game[0] = b'I';
+    assert_eq!(rt; Wad::read(&whole_game)?.kind(), Kind::Iwad);
+    for n in 12..TWO_PACKED.len() {
+        let fault = Wad::read(&TWO_PACKED[..n]).err();
+        assert_eq!(rt; fault, Some(WadFault::Directory), "{n} bytes");
+    }
+    Ok(())
+}
+
+#[test]
 fn empty_directory(rt: HostRuntime) -> Result<(), Fail> {
     let header = [80u8, 87, 65, 68, 0, 0, 0, 0, 15, 39, 0, 0];
     let files = vec![in rt.alloc(); header.to_vec(rt.alloc())?]?;
     let set = Set::new(rt.alloc(), &files)?;
     assert_eq!(rt; set.files(), 1);
     assert_eq!(rt; set.total(), 0);
-    let none = Set::new(rt.alloc(), &[])?;
-    assert_eq!(rt; none.total(), 0);
     Ok(())
 }
 
@@ -107,31 +84,31 @@ fn refused_directories(rt: HostRuntime) -> Result<(), Fail> {
     assert_eq!(rt; Wad::read(&[]).err(), Some(WadFault::Short));
     assert_eq!(rt; Wad::read(&other).err(), Some(WadFault::Magic));
     assert_eq!(rt; Wad::read(&negative).err(), Some(WadFault::Count));
+    Ok(())
+}
 
-    let file = packer_of(rt.alloc(), &lumps())?.pack(rt.alloc())?;
-    let files = vec![in rt.alloc(); file, short.to_vec(rt.alloc())?]?;
-    let fault = Set::new(rt.alloc(), &files).err();
-    assert_eq!(rt; fault, Some(SetFault::File(2, WadFault::Short)));
-    let text = format!(in rt.alloc(); "{}", SetFault::File(2, WadFault::Short))?;
-    assert_eq!(rt; text.as_str(), "file 2: 1 short");
+fn check_text(
+    rt: &(impl Abort + AllocGlobal),
+    fault: impl Display + Drop,
+    text: &str,
+) -> Result<(), Fail> {
+    let shown = format!(in rt.alloc(); "{fault}")?;
+    assert_eq!(rt; shown.as_str(), text);
     Ok(())
 }
 
 #[test]
-fn wad_cut(rt: HostRuntime) -> Result<(), Fail> {
-    let file = packer_of(rt.alloc(), &lumps())?.pack(rt.alloc())?;
-    for n in 0..file.len() {
-        let fault = if n < 12 {
-            WadFault::Short
-        } else {
-            WadFault::Directory
-        };
-        assert_eq!(rt; Wad::read(&file[..n]).err(), Some(fault), "{n} bytes");
-    }
-    let wad = Wad::read(&file)?;
-    assert_eq!(rt; wad.kind(), Kind::Pwad);
-    assert_eq!(rt; wad.len(), 11);
-    Ok(())
+fn fault_texts(rt: HostRuntime) -> Result<(), Fail> {
+    check_text(&rt, WadFault::Short, "1 short")?;
+    check_text(&rt, WadFault::Magic, "2 magic")?;
+    check_text(&rt, WadFault::Count, "3 count")?;
+    check_text(&rt, WadFault::Directory, "4 directory")?;
+    check_text(&rt, LumpFault::NoSuch, "5 no such lump")?;
+    check_text(&rt, LumpFault::Outside, "6 outside file")?;
+    check_text(&rt, PackFault::TooLarge, "7 too large")?;
+    check_text(&rt, PackFault::Memory, "memory")?;
+    check_text(&rt, SetFault::Memory, "memory")?;
+    check_text(&rt, SetFault::File(2, WadFault::Short), "file 2: 1 short")
 }
 
 #[test]
@@ -161,13 +138,14 @@ fn last_label_wins(rt: HostRuntime) -> Result<(), Fail> {
         set.name(3).ok_or("no entry 3")?.bytes(),
         [101u8, 49, 109, 49, 0, 0, 0, 0]
     );
-    assert_eq!(rt; set.name(4).is_none(), true);
+    assert!(rt; set.name(4).is_none());
     Ok(())
 }
 
 #[test]
 fn lump_places(rt: HostRuntime) -> Result<(), Fail> {
-    // Three entries at byte 12 of a file of 60 bytes: filepos -5 and size 0, filepos 60 and size 1, and size -1.
+    // Three entries at byte 12 of a file of 60 bytes: filepos -5 and size 0, filepos 60 and size 1,
+    // and size -1.
     let bytes = [
         80u8, 87, 65, 68, 3, 0, 0, 0, 12, 0, 0, 0, 251, 255, 255, 255, 0, 0, 0, 0, 65, 0, 0, 0, 0,
         0, 0, 0, 60, 0, 0, 0, 1, 0, 0, 0, 66, 0, 0, 0, 0, 0, 0, 0, 12, 0, 0, 0, 255, 255, 255, 255,
@@ -180,33 +158,57 @@ fn lump_places(rt: HostRuntime) -> Result<(), Fail> {
     assert_eq!(rt; set.lump(1).err(), Some(LumpFault::Outside));
     assert_eq!(rt; set.lump(2).err(), Some(LumpFault::Outside));
     assert_eq!(rt; set.lump(set.total()).err(), Some(LumpFault::NoSuch));
+    Ok(())
+}
 
-    let file = packer_of(rt.alloc(), &lumps())?.pack(rt.alloc())?;
-    let files = vec![in rt.alloc(); bytes.to_vec(rt.alloc())?, file]?;
-    let set = Set::new(rt.alloc(), &files)?;
-    assert_eq!(rt; set.lump(7)?, [0u8, 0, 0, 0, 0, 0, 64, 0].as_slice());
+// With memory enough, none of these calls answers `Memory`, however much it is asked for.
+#[test]
+fn many_files(rt: HostRuntime) -> Result<(), Fail> {
+    let none = Set::new(rt.alloc(), &[])?;
+    assert_eq!(rt; none.total(), 0);
+    let mut files = vec![in rt.alloc()]?;
+    for _ in 0..MAX_FILES {
+        files.push(TWO_PACKED.to_vec(rt.alloc())?)?;
+    }
+    assert_eq!(rt; files.len(), 64);
+    let heap = Refusing::new(rt.alloc(), 0);
+    let set = Set::new(&heap, &files)?;
+    assert_eq!(rt; set.files(), 64);
+    assert_eq!(rt; set.total(), 128);
+    assert_eq!(rt; set.lump(126)?, b"xyz".as_slice());
+    Ok(())
+}
+
+#[test]
+fn many_lumps(rt: HostRuntime) -> Result<(), Fail> {
+    let heap = Refusing::new(rt.alloc(), 0);
+    let mut packer = Packer::new(&heap);
+    for _ in 0..1000 {
+        packer.add(Name8::query(b"LUMP"), b"xyz")?;
+    }
+    assert_eq!(rt; packer.pack(&heap)?.len(), 19_012);
     Ok(())
 }
 
 #[test]
 fn growth_refused_in_new(rt: HostRuntime) -> Result<(), Fail> {
-    let file = packer_of(rt.alloc(), &lumps())?.pack(rt.alloc())?;
-    let files = vec![in rt.alloc(); file]?;
+    let files = vec![in rt.alloc(); TWO_PACKED.to_vec(rt.alloc())?]?;
     let refusing = Refusing::new(rt.alloc(), 1);
     assert_eq!(rt; Set::new(&refusing, &files).err(), Some(SetFault::Memory));
     let refusing = Refusing::new(rt.alloc(), 2);
-    assert_eq!(rt; Set::new(&refusing, &files)?.total(), 11);
+    assert_eq!(rt; Set::new(&refusing, &files)?.total(), 2);
     assert!(rt; !refusing.has_refused());
-    assert_eq!(rt; Set::new(rt.alloc(), &files)?.total(), 11);
+    assert_eq!(rt; Set::new(rt.alloc(), &files)?.total(), 2);
     Ok(())
 }
 
 #[test]
 fn growth_refused_in_add(rt: HostRuntime) -> Result<(), Fail> {
+    let many = [(b"LUMP".as_slice(), b"x".as_slice()); 12];
     let mut growths = 0;
     for n in 1..12 {
         let refusing = Refusing::new(rt.alloc(), n);
-        let packer = packer_of(&refusing, &lumps());
+        let packer = packer_of(&refusing, &many);
         if !refusing.has_refused() {
             break;
         }
@@ -228,12 +230,12 @@ fn growth_refused_in_add(rt: HostRuntime) -> Result<(), Fail> {
 
 #[test]
 fn growth_refused_in_pack(rt: HostRuntime) -> Result<(), Fail> {
-    let packer = packer_of(rt.alloc(), &lumps())?;
+    let packer = packer_of(rt.alloc(), &TWO)?;
     let refusing = Refusing::new(rt.alloc(), 1);
     assert_eq!(rt; packer.pack(&refusing).err(), Some(PackFault::Memory));
     let refusing = Refusing::new(rt.alloc(), 2);
-    assert_eq!(rt; packer.pack(&refusing)?.len(), 409);
+    assert_eq!(rt; packer.pack(&refusing)?.as_slice(), TWO_PACKED.as_slice());
     assert!(rt; !refusing.has_refused());
-    assert_eq!(rt; packer.pack(rt.alloc())?.len(), 409);
+    assert_eq!(rt; packer.pack(rt.alloc())?.len(), 47);
     Ok(())
 }

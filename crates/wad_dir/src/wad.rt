@@ -1,30 +1,22 @@
 //! The directory of one WAD file.
 
-ghost use Rattle.std.specs.Prelude.{◌≡◌, ◌≢◌, ℕ, ◌*◌, ◌<◌, ◌≤◌, ◌^◌, ◌↔◌, List, ◌++◌, length, take, slice_get, IfSome, IfNone, Some};
+ghost use Rattle.std.specs.Prelude.{◌≡◌, ◌≢◌, ℕ, ◌*◌, ◌<◌, ◌^◌, ◌↔◌, IfSome, IfNone, Some};
+ghost use Rattle.std.specs.Prelude.{List, ◌++◌, length, slice_get};
 ghost use Rattle.le_rec.specs.Name.{name_of};
-ghost use Rattle.wad_dir.specs.Directory.{magic_of, offset_of};
+ghost use Rattle.le_rec.specs.Record.{entry_size};
 ghost use Rattle.wad_dir.specs.Standing.{StandsAt};
 
+use crate::header::{Header, Kind, kind_of};
 use crate::lump::Found;
-use crate::part::{i32_at, natural, part_at};
+use crate::standing::{natural, standing_at};
 use le_rec::{Entry, Name8, Record, Table};
 use std::marker::Model;
 use thiserror::Error;
 
-// The bytes of a file's header: the four that tell its kind, the number of its entries and their place.
-const HEADER: usize = 12;
-
-/// What a file says it is: a whole game's, or a patch's.
-#[derive(Clone, Copy, Debug, PartialEq, Eq)]
-pub enum Kind {
-    Iwad,
-    Pwad,
-}
-
 /// Why a file's bytes have no directory.
 #[derive(Clone, Copy, Debug, PartialEq, Eq, Error)]
 pub enum WadFault {
-    /// There are fewer than 12 bytes.
+    /// There are fewer bytes than a header has, which is 12.
     #[error("1 short")]
     Short,
     /// They begin with neither `IWAD` nor `PWAD`.
@@ -33,12 +25,13 @@ pub enum WadFault {
     /// The number of entries is negative.
     #[error("3 count")]
     Count,
-    /// There are entries, and their table isn't inside the file.
+    /// There are entries, and their table isn't all inside the file.
     #[error("4 directory")]
     Directory,
 }
 
-/// A WAD file: its kind and its directory. It lends the file's bytes, and reads an entry when it is asked for.
+/// A WAD file: its kind and its directory. It lends the file's bytes, and reads an entry when it is
+/// asked for.
 #[derive(Drop)]
 pub struct Wad<'a> {
     bytes: &'a [u8],
@@ -48,13 +41,17 @@ pub struct Wad<'a> {
 
 impl<'a> Model for Wad<'a> {
     ghost use Rattle.std.specs.Prelude.{◌<◌, ◌^◌, length};
-    ghost use Rattle.le_rec.specs.Record.{entry};
+    ghost use Rattle.le_rec.specs.Record.{entry, entry_size};
     ghost use Rattle.le_rec.specs.Table.{records_of};
     ghost use Rattle.wad_dir.specs.Wad as wad;
 
     ghost Value = { wad.Wad };
 
-    ghost view = { λ w. record { bytes = w.bytes.now; kind = w.kind; entries = records_of 16 entry w.table.now } };
+    ghost view = { λ w. record {
+      bytes = w.bytes.now;
+      kind = w.kind;
+      entries = records_of entry_size entry w.table.now;
+    } };
 
     ghost invariant = { λ w. length w.table.now < 2 ^ 35 };
 }
@@ -66,21 +63,25 @@ impl<'a> Wad<'a> {
     ghost use Rattle.wad_dir.specs.Winner.{Wins};
     ghost use Rattle.wad_dir.specs.Entries.{listed_in, names_in};
 
-    /// The directory of a file's bytes. An offset is not looked at where there are no entries.
+    /// The file that bytes hold, or the first of the faults that refuses them, in the order of
+    /// `WadFault` (`W_AddFile` of w_wad.c). The table's place is not looked at where there are no
+    /// entries.
     pub fn read(bytes: &'a [u8]) -> Result<Wad<'a>, WadFault>
-        ensures ok { (file : wad.Wad) → (result ≡ Ok file) ↔ ((file.bytes ≡ bytes.now) × IsRead file) }
+        ensures ok { (file : wad.Wad)
+            → (result ≡ Ok file) ↔ ((file.bytes ≡ bytes.now) × IsRead file) }
         ensures refused { (fault : _) → (result ≡ Err fault) ↔ RefusesWad bytes.now fault }
     {
-        if bytes.len() < HEADER {
+        if bytes.len() < Header::SIZE {
             return Err(WadFault::Short);
         }
-        let Some(kind) = kind_of(bytes) else {
+        let header = Header::read(&bytes[..Header::SIZE]);
+        let Some(kind) = kind_of(&header.magic) else {
             return Err(WadFault::Magic);
         };
-        let Some(count) = natural(i32_at(bytes, 4)) else {
+        let Some(count) = natural(header.count) else {
             return Err(WadFault::Count);
         };
-        let Some(table) = table_of(bytes, count) else {
+        let Some(table) = table_of(bytes, header.offset, count) else {
             return Err(WadFault::Directory);
         };
         Ok(Wad { bytes, kind, table })
@@ -93,7 +94,7 @@ impl<'a> Wad<'a> {
         self.kind
     }
 
-    /// The number of entries.
+    /// The number of entries, below 2^31.
     pub fn len(&self) -> usize
         ensures entries { result ≡ length self.now.entries }
         ensures bound { result < 2 ^ 31 }
@@ -151,9 +152,11 @@ impl<'a> Wad<'a> {
     }
 }
 
-// The bytes of a name up to and with the first NUL: a stored name that begins with them is that name.
+// The bytes of a name up to and with the first NUL: a stored name that begins with them is that
+// name, so a look-up compares no more.
 fn through_nul(bytes: &[u8; 8]) -> &[u8]
-    ensures { (raw : List ℕ) → length raw ≡ 8 → ((rest : List ℕ) × (raw ≡ result.now ++ rest)) ↔ (name_of raw ≡ name_of bytes.now) }
+    ensures { (raw : List ℕ) → length raw ≡ 8
+        → ((rest : List ℕ) × (raw ≡ result.now ++ rest)) ↔ (name_of raw ≡ name_of bytes.now) }
 {
     for (i, byte) in bytes.iter().enumerate() {
         if *byte == 0 {
@@ -163,31 +166,17 @@ fn through_nul(bytes: &[u8; 8]) -> &[u8]
     bytes
 }
 
-fn kind_of(bytes: &[u8]) -> Option<Kind>
-    requires { 4 ≤ length bytes.now }
-    ensures some { IfSome result (λ kind. take 4 bytes.now ≡ magic_of kind) }
-    ensures none { IfNone result ((kind : _) → take 4 bytes.now ≢ magic_of kind) }
-{
-    let magic = &bytes[..4];
-    if magic == b"IWAD".as_slice() {
-        Some(Kind::Iwad)
-    } else if magic == b"PWAD".as_slice() {
-        Some(Kind::Pwad)
-    } else {
-        None
-    }
-}
-
-// The records of the directory. With no entries the offset is not looked at.
-fn table_of(bytes: &[u8], count: usize) -> Option<&[u8]>
-    requires header { 12 ≤ length bytes.now }
-    requires counted { count < 2 ^ 31 }
-    ensures size { IfSome result (λ table. length table.now ≡ 16 * count) }
-    ensures some { 0 < count → IfSome result (λ table. StandsAt bytes.now (offset_of bytes.now) table.now) }
-    ensures none { IfNone result ((0 < count) × ((table : List ℕ) → length table ≡ 16 * count → ¬ StandsAt bytes.now (offset_of bytes.now) table)) }
+// The records of a directory of so many entries that says where it stands. With no entries its
+// place is not looked at.
+fn table_of(bytes: &[u8], offset: i32, count: usize) -> Option<&[u8]>
+    requires { count < 2 ^ 31 }
+    ensures size { IfSome result (λ table. length table.now ≡ entry_size * count) }
+    ensures some { 0 < count → IfSome result (λ table. StandsAt bytes.now offset table.now) }
+    ensures none { IfNone result ((0 < count) × ((table : List ℕ)
+        → length table ≡ entry_size * count → ¬ StandsAt bytes.now offset table)) }
 {
     if count == 0 {
         return Some(&bytes[..0]);
     }
-    part_at(bytes, i32_at(bytes, 8), count * Entry::SIZE)
+    standing_at(bytes, offset, count * Entry::SIZE)
 }

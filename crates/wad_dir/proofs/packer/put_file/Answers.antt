@@ -8,7 +8,10 @@ overflow_sub-size g c = omega (arith, length-packed c.args.lumps.now, c.requires
 pub put_header-requires-clause-count_fits : goal.put_header-requires-clause-count_fits
 put_header-requires-clause-count_fits g c = omega (arith, length-packed c.args.lumps.now, c.requires.whole, c.requires.most)
 
-pub returns-clause-ok : goal.returns-clause-ok
-returns-clause-ok g c =
+pub returns-clause-file : goal.returns-clause-file
+returns-clause-file g c =
     packed_put c.args.lumps.now c.args.file.now.items _ _ _ (c.args.size - length c.args.lumps.now * 16) (omega (arith, length-packed c.args.lumps.now, c.requires.whole))
-    c.in_ok-put_header.ensures c.in_ok-put_lumps.ensures c.in_ok-put_entries.ensures.ok
+    c.put_header.ensures.header c.put_lumps.ensures.lumps c.put_entries.ensures.entries
+
+pub put_entries-requires-clause-room : goal.put_entries-requires-clause-room
+put_entries-requires-clause-room g c = omega (arith, length-packed c.args.lumps.now, c.requires.whole)

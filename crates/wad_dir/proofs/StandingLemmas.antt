@@ -1,4 +1,4 @@
--- Parts of bytes at a place.
+-- Stretches of bytes at a place.
 use Rattle.std.proofs.Common.{◌≡◌, ℕ, ◌+◌, ◌≤◌, ℤ, pos, List, ◌++◌, length, take, drop, to_z, of_z, refl, sym, ap, ◌∙◌, arith}
 use Rattle.std.proofs.lemmas.List.{length-take-le, length-drop, take-append-drop, take_at, drop_at}
 use Rattle.std.proofs.lemmas.Int.{to_z-of_z}
@@ -11,9 +11,9 @@ pub read_number : (z : ℤ) (n : ℕ) → FitsSigned w32 z → to_z w32 (of_z w3
 read_number z n fits h = sym (to_z-of_z w32 z fits) ∙ h
 
 -- what a range of indices reads stands where the range begins
-pub part_stands : (bytes : List ℕ) (start size n : ℕ) (place : ℤ) → n ≡ size → start + size ≤ length bytes → place ≡ pos start
+pub range_stands : (bytes : List ℕ) (start size n : ℕ) (place : ℤ) → n ≡ size → start + size ≤ length bytes → place ≡ pos start
     → (length (take n (drop start bytes)) ≡ size) × StandsAt bytes place (take n (drop start bytes))
-part_stands bytes start size n place same within at = (
+range_stands bytes start size n place same within at = (
   length-take-le n (drop start bytes) (rw (length-drop start bytes) (omega arith)) ∙ same,
   record {
     before = take start bytes;
@@ -23,16 +23,16 @@ part_stands bytes start size n place same within at = (
   },
 )
 
--- a part is what the range of its place and length reads
-pub StandsAt-is : (bytes part : List ℕ) (start : ℕ) → StandsAt bytes (pos start) part → part ≡ take (length part) (drop start bytes)
-StandsAt-is bytes part start s =
+-- a stretch is what the range of its place and length reads
+pub StandsAt-is : (bytes stretch : List ℕ) (start : ℕ) → StandsAt bytes (pos start) stretch → stretch ≡ take (length stretch) (drop start bytes)
+StandsAt-is bytes stretch start s =
     let at : length s.before ≡ start = cc in
-    let behind : drop start bytes ≡ part ++ s.after = ap (drop start) s.joined ∙ drop_at s.before (part ++ s.after) start at in
-    sym (ap (take (length part)) behind ∙ take_at part s.after (length part) refl)
+    let behind : drop start bytes ≡ stretch ++ s.after = ap (drop start) s.joined ∙ drop_at s.before (stretch ++ s.after) start at in
+    sym (ap (take (length stretch)) behind ∙ take_at stretch s.after (length stretch) refl)
 
--- at one place there is one part of a length
-pub StandsAt-one : (bytes part other : List ℕ) (place : ℤ) → StandsAt bytes place part → StandsAt bytes place other → length part ≡ length other → part ≡ other
-StandsAt-one bytes part other place s t same =
+-- at one place there is one stretch of a length
+pub StandsAt-one : (bytes stretch other : List ℕ) (place : ℤ) → StandsAt bytes place stretch → StandsAt bytes place other → length stretch ≡ length other → stretch ≡ other
+StandsAt-one bytes stretch other place s t same =
     let n : ℕ = length s.before in
     let here : place ≡ pos n = sym s.placed in
-    StandsAt-is bytes part n (rw here at s) ∙ ap (λ k. take k (drop n bytes)) same ∙ sym (StandsAt-is bytes other n (rw here at t))
+    StandsAt-is bytes stretch n (rw here at s) ∙ ap (λ k. take k (drop n bytes)) same ∙ sym (StandsAt-is bytes other n (rw here at t))

@@ -1,5 +1,5 @@
 use Rattle.wad_dir.proofs.ReadingLemmas.{RefusesWad-one, IsDirectory-not_refused}
-use Rattle.wad_dir.proofs.laws.one_refusal.Goals as goal
+use Rattle.wad_dir.proofs.laws.one_wad_fault.Goals as goal
 
 pub returns-clause-one : goal.returns-clause-one
 returns-clause-one c = RefusesWad-one

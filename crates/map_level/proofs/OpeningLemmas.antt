@@ -8,8 +8,8 @@ use Rattle.std.proofs.lemmas.List.{map-set, length-map, length-set, get_or-set_o
 use Rattle.wad_dir.specs.Wad.{Wad}
 use Rattle.wad_dir.specs.Entries.{joined, names, listed_name}
 use Rattle.wad_dir.specs.Slice.{IsLump}
-use Rattle.wad_dir.specs.declared.set.LumpFault.{LumpFault}
-use Rattle.wad_dir.specs.declared.set.LumpFault.TheVariants.{NoSuch, Outside}
+use Rattle.wad_dir.specs.declared.lump.LumpFault.{LumpFault}
+use Rattle.wad_dir.specs.declared.lump.LumpFault.TheVariants.{NoSuch, Outside}
 use Rattle.map_level.specs.Opening.{AreThereBelow}
 
 -- the lumps found so far are those before the next

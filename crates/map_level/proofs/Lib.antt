@@ -1,3 +1,6 @@
 pub mod FewLemmas
+pub mod FindingLemmas
 pub mod LevelLemmas
+pub mod LinkedLemmas
+pub mod OneListLemmas
 pub mod OpeningLemmas

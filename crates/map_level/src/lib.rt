@@ -1,9 +1,17 @@
 //! Levels of WAD files: opening one, and the links between its records.
 #![tactic(auto)]
 
+pub mod finding;
 pub mod laws;
 mod level;
+mod link_codes;
+mod link_faults;
+mod links;
 mod reading;
+pub mod search;
+pub mod sector_of;
 
+pub use finding::{Code, Finding, Findings};
 pub use level::{Level, LevelFault};
+pub use link_codes::link_findings;
 pub use reading::{Reading, number};

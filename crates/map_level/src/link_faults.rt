@@ -1,0 +1,351 @@
+//! Tests of a level's links: one for each code, at an index.
+
+ghost use Rattle.std.specs.Prelude.{◌≡◌, ◌-◌, ◌≤◌, ◌↔◌, ◌⊎◌, ℕ, pos, length, Some, IsTrue, IsSomeAnd};
+ghost use Rattle.std.specs.Option.{option_map};
+ghost use Rattle.std.specs.List.{slice_get};
+ghost use Rattle.map_level.specs.Reading.{number_of, linedef_under, sidedef_under, seg_under, ssector_under};
+ghost use Rattle.map_level.specs.Links.{things_of, linedefs_of, sidedefs_of, vertexes_of, segs_of, ssectors_of};
+ghost use Rattle.map_level.specs.Links.{sectors_of, named, Names, NamesNone, no_side, side_at, side_of};
+ghost use Rattle.map_level.specs.LinkFaults.{LinedefVertexNamesNone, SideNamesNone, LinedefSideNamesNone};
+ghost use Rattle.map_level.specs.LinkFaults.{SidedefSectorNamesNone, SegVertexNamesNone, SegLinedefNamesNone};
+ghost use Rattle.map_level.specs.LinkFaults.{SegSideOther, SegWithoutSide, GoesPast, SsectorOutOfRange};
+ghost use Rattle.map_level.specs.LinkFaults.{NoSsector, TooManyNodes, usual_names, LumpNameDiffers};
+ghost use Rattle.map_level.specs.LinkFaults.{BytesLeftOver, IsTwoSided, TwoSidedWithoutSide, NoSide0};
+ghost use Rattle.map_level.specs.LinkFaults.{IsOfNoLength, LinedefOfNoLength, SsectorWithoutSegs, IsStart};
+ghost use Rattle.map_level.specs.LinkFaults.{NoStart, IsOutside, VertexOutside};
+
+use crate::level::Level;
+use crate::links::{
+    is_no_side, linedef_at, linedef_count, named, names_none, no_side, seg_at, seg_count, side_of,
+    sidedef_at, sidedef_count, ssector_at, ssector_count, vertex,
+};
+use crate::reading::number;
+use le_rec::{LineDef, Name8, SSector, Seg, Table, Thing, Vertex};
+
+// Whether one of two words names no vertex.
+#[inline]
+fn names_no_vertex(level: &Level<'_>, v1: i16, v2: i16) -> bool
+    ensures { IsTrue result ↔ (NamesNone (vertexes_of level.now) (number_of level.now.reading v1) ⊎ NamesNone (vertexes_of level.now) (number_of level.now.reading v2)) }
+{
+    let (reading, count) = (level.reading(), level.vertexes().len());
+    names_none(number(v1, reading), count) || names_none(number(v2, reading), count)
+}
+
+// F3
+#[inline]
+pub fn linedef_vertex_names_none(level: &Level<'_>, i: usize) -> bool
+    ensures { IsTrue result ↔ LinedefVertexNamesNone level.now i }
+{
+    match linedef_at(level, i) {
+        Some(linedef) => names_no_vertex(level, linedef.v1, linedef.v2),
+        None => false,
+    }
+}
+
+// F7
+#[inline]
+pub fn seg_linedef_names_none(level: &Level<'_>, i: usize) -> bool
+    ensures { IsTrue result ↔ SegLinedefNamesNone level.now i }
+{
+    match seg_at(level, i) {
+        Some(seg) => names_none(number(seg.linedef, level.reading()), linedef_count(level)),
+        None => false,
+    }
+}
+
+// F4
+#[inline]
+pub fn linedef_side_names_none(level: &Level<'_>, i: usize) -> bool
+    ensures { IsTrue result ↔ LinedefSideNamesNone level.now i }
+{
+    match linedef_at(level, i) {
+        Some(linedef) => side_names_none(level, linedef.side0)
+            || side_names_none(level, linedef.side1),
+        None => false,
+    }
+}
+
+#[inline]
+fn side_names_none(level: &Level<'_>, word: i16) -> bool
+    ensures { IsTrue result ↔ SideNamesNone level.now (number_of level.now.reading word) }
+{
+    let side = number(word, level.reading());
+    side != no_side(level.reading()) && names_none(side, sidedef_count(level))
+}
+
+// F5
+#[inline]
+pub fn sidedef_sector_names_none(level: &Level<'_>, i: usize) -> bool
+    ensures { IsTrue result ↔ SidedefSectorNamesNone level.now i }
+{
+    match sidedef_at(level, i) {
+        Some(sidedef) => names_none(
+            number(sidedef.sector, level.reading()),
+            level.sectors().len(),
+        ),
+        None => false,
+    }
+}
+
+// F6
+#[inline]
+pub fn seg_vertex_names_none(level: &Level<'_>, i: usize) -> bool
+    ensures { IsTrue result ↔ SegVertexNamesNone level.now i }
+{
+    match seg_at(level, i) {
+        Some(seg) => names_no_vertex(level, seg.v1, seg.v2),
+        None => false,
+    }
+}
+
+// F8
+#[inline]
+pub fn seg_side_other(level: &Level<'_>, i: usize) -> bool
+    ensures { IsTrue result ↔ SegSideOther level.now i }
+{
+    match seg_at(level, i) {
+        Some(seg) => seg.side != 0 && seg.side != 1,
+        None => false,
+    }
+}
+
+// F9
+#[inline]
+pub fn seg_without_side(level: &Level<'_>, i: usize) -> bool
+    ensures { IsTrue result ↔ SegWithoutSide level.now i }
+{
+    match seg_at(level, i) {
+        Some(seg) => has_no_side(level, &seg),
+        None => false,
+    }
+}
+
+#[inline]
+fn has_no_side(level: &Level<'_>, seg: &Seg) -> bool
+    ensures { IsTrue result ↔ (side_of level.now (seg_under level.now.reading seg.now) ≡ Some (no_side level.now.reading)) }
+{
+    match side_of(level, seg) {
+        Some(side) => side == no_side(level.reading()),
+        None => false,
+    }
+}
+
+// F10
+#[inline]
+pub fn ssector_out_of_range(level: &Level<'_>, i: usize) -> bool
+    ensures { IsTrue result ↔ SsectorOutOfRange level.now i }
+{
+    match ssector_at(level, i) {
+        Some(ssector) => is_out_of_range(level, &ssector),
+        None => false,
+    }
+}
+
+#[inline]
+fn is_out_of_range(level: &Level<'_>, ssector: &SSector) -> bool
+    ensures { IsTrue result ↔ GoesPast (length (segs_of level.now)) (number_of level.now.reading ssector.now.count) (number_of level.now.reading ssector.now.first) }
+{
+    let reading = level.reading();
+    goes_past(
+        number(ssector.count, reading),
+        number(ssector.first, reading),
+        seg_count(level),
+    )
+}
+
+#[inline]
+fn goes_past(count: i32, first: i32, segs: usize) -> bool
+    ensures { IsTrue result ↔ GoesPast segs count first }
+{
+    if count < 0 || names_none(first, segs) {
+        return true;
+    }
+    count as usize > segs - first as usize
+}
+
+// F17
+#[inline]
+pub fn no_ssector(level: &Level<'_>, i: usize) -> bool
+    ensures { IsTrue result ↔ NoSsector level.now i }
+{
+    i == 0 && ssector_count(level) == 0
+}
+
+// F18
+#[inline]
+pub fn too_many_nodes(level: &Level<'_>, i: usize) -> bool
+    ensures { IsTrue result ↔ TooManyNodes level.now i }
+{
+    i == 0 && level.nodes().len() > 32767
+}
+
+// N1
+pub fn lump_name_differs(level: &Level<'_>, k: usize) -> bool
+    ensures { IsTrue result ↔ LumpNameDiffers level.now k }
+{
+    if k < 1 || k > 10 {
+        return false;
+    }
+    level.name(k) != usual_name(k)
+}
+
+// The usual name of lump k.
+fn usual_name(k: usize) -> Name8
+    requires from { 1 ≤ k }
+    requires to { k ≤ 10 }
+    ensures { slice_get usual_names (k - 1) ≡ Some result }
+{
+    match k {
+        1 => Name8::query(b"THINGS"),
+        2 => Name8::query(b"LINEDEFS"),
+        3 => Name8::query(b"SIDEDEFS"),
+        4 => Name8::query(b"VERTEXES"),
+        5 => Name8::query(b"SEGS"),
+        6 => Name8::query(b"SSECTORS"),
+        7 => Name8::query(b"NODES"),
+        8 => Name8::query(b"SECTORS"),
+        9 => Name8::query(b"REJECT"),
+        _ => Name8::query(b"BLOCKMAP"),
+    }
+}
+
+// N2
+pub fn bytes_left_over(level: &Level<'_>, k: usize) -> bool
+    ensures { IsTrue result ↔ BytesLeftOver level.now k }
+{
+    match k {
+        1 => level.things().rest() > 0,
+        2 => level.linedefs().rest() > 0,
+        3 => level.sidedefs().rest() > 0,
+        4 => level.vertexes().rest() > 0,
+        5 => level.segs().rest() > 0,
+        6 => level.ssectors().rest() > 0,
+        7 => level.nodes().rest() > 0,
+        8 => level.sectors().rest() > 0,
+        _ => false,
+    }
+}
+
+// N3
+#[inline]
+pub fn two_sided_without_side(level: &Level<'_>, i: usize) -> bool
+    ensures { IsTrue result ↔ TwoSidedWithoutSide level.now i }
+{
+    match linedef_at(level, i) {
+        Some(linedef) => is_two_sided(linedef.flags) && is_no_side(level, linedef.side1),
+        None => false,
+    }
+}
+
+#[inline]
+fn is_two_sided(flags: i16) -> bool
+    ensures { IsTrue result ↔ IsTwoSided flags }
+{
+    flags & 4 != 0
+}
+
+// N4
+#[inline]
+pub fn no_side0(level: &Level<'_>, i: usize) -> bool
+    ensures { IsTrue result ↔ NoSide0 level.now i }
+{
+    match linedef_at(level, i) {
+        Some(linedef) => is_no_side(level, linedef.side0),
+        None => false,
+    }
+}
+
+// N5
+#[inline]
+pub fn linedef_of_no_length(level: &Level<'_>, i: usize) -> bool
+    ensures { IsTrue result ↔ LinedefOfNoLength level.now i }
+{
+    match linedef_at(level, i) {
+        Some(linedef) => is_of_no_length(level, &linedef),
+        None => false,
+    }
+}
+
+#[inline]
+fn is_of_no_length(level: &Level<'_>, linedef: &LineDef) -> bool
+    ensures { IsTrue result ↔ IsOfNoLength level.now (linedef_under level.now.reading linedef.now) }
+{
+    are_at_one_place(vertex(level, linedef.v1), vertex(level, linedef.v2))
+}
+
+#[inline]
+fn are_at_one_place(a: Option<Vertex>, b: Option<Vertex>) -> bool
+    ensures { IsTrue result ↔ IsSomeAnd a (λ from. IsSomeAnd b (λ to. (from.x ≡ to.x) × (from.y ≡ to.y))) }
+{
+    match (a, b) {
+        (Some(a), Some(b)) => is_one_place(&a, &b),
+        _ => false,
+    }
+}
+
+#[inline]
+fn is_one_place(a: &Vertex, b: &Vertex) -> bool
+    ensures { IsTrue result ↔ ((a.now.x ≡ b.now.x) × (a.now.y ≡ b.now.y)) }
+{
+    a.x == b.x && a.y == b.y
+}
+
+// N6
+#[inline]
+pub fn ssector_without_segs(level: &Level<'_>, i: usize) -> bool
+    ensures { IsTrue result ↔ SsectorWithoutSegs level.now i }
+{
+    match ssector_at(level, i) {
+        Some(ssector) => number(ssector.count, level.reading()) == 0,
+        None => false,
+    }
+}
+
+// N11
+#[inline]
+pub fn no_start(level: &Level<'_>, i: usize) -> bool
+    ensures { IsTrue result ↔ NoStart level.now i }
+{
+    i == 0 && !has_start(level)
+}
+
+// Whether some thing is a start of player 1.
+fn has_start(level: &Level<'_>) -> bool
+    ensures { IsTrue result ↔ ((k : ℕ) × IsStart level.now k) }
+{
+    let things = level.things();
+    for k in 0..things.len() {
+        if is_start(&things, k) {
+            return true;
+        }
+    }
+    false
+}
+
+#[inline]
+fn is_start(things: &Table<'_, Thing>, k: usize) -> bool
+    ensures { IsTrue result ↔ IsSomeAnd (slice_get things.now.records k) (λ (thing : Thing). thing.kind ≡ pos 1) }
+{
+    match things.get(k) {
+        Some(thing) => thing.kind == 1,
+        None => false,
+    }
+}
+
+// N12
+#[inline]
+pub fn vertex_outside(level: &Level<'_>, i: usize) -> bool
+    ensures { IsTrue result ↔ VertexOutside level.now i }
+{
+    match level.vertexes().get(i) {
+        Some(vertex) => is_outside(vertex.x) || is_outside(vertex.y),
+        None => false,
+    }
+}
+
+#[inline]
+fn is_outside(z: i16) -> bool
+    ensures { IsTrue result ↔ IsOutside z }
+{
+    z < -16384 || z > 16383
+}

@@ -1,0 +1,83 @@
+//! The sector of an ssector, by its links.
+
+ghost use Rattle.std.specs.Prelude.{◌≡◌, ◌<◌, ◌<ℤ◌, pos, length, Some};
+ghost use Rattle.std.specs.Option.{option_map};
+ghost use Rattle.map_level.specs.Reading.{seg_under, sidedef_under};
+ghost use Rattle.map_level.specs.Links.{segs_of, sidedefs_of, ssectors_of, named};
+ghost use Rattle.map_level.specs.SectorOf.{IsLinked, first_seg, number_named, sector_of, sidedef_named, sidedef_of};
+
+use crate::level::Level;
+use crate::links::{no_side, seg_at, side_of, sidedef_at, ssector_at};
+use crate::reading::number;
+use le_rec::{Seg, SideDef};
+
+impl<'a> Level<'a> {
+    /// The number of the sector of ssector `i`: that of its first seg's sidedef (`P_GroupLines`).
+    pub fn ssector_sector(&self, i: u32) -> u16
+        requires linked { IsLinked self.now }
+        requires within { i < length (ssectors_of self.now) }
+        ensures { sector_of self.now i ≡ Some result }
+    {
+        sector_of(self, i as usize).unwrap_or(0)
+    }
+}
+
+/// The number of the sector of ssector `t`, or None where a link on the way names nothing.
+pub fn sector_of(level: &Level<'_>, t: usize) -> Option<u16>
+    ensures { result ≡ sector_of level.now t }
+{
+    let seg = first_seg(level, t)?;
+    let sidedef = sidedef_of(level, &seg)?;
+    number_named(
+        number(sidedef.sector, level.reading()),
+        level.sectors().len(),
+    )
+}
+
+// The first seg of an ssector.
+fn first_seg(level: &Level<'_>, t: usize) -> Option<Seg>
+    ensures { option_map (seg_under level.now.reading) result ≡ first_seg level.now t }
+{
+    let ssector = ssector_at(level, t)?;
+    seg_named(level, number(ssector.first, level.reading()))
+}
+
+// The seg that an index names.
+fn seg_named(level: &Level<'_>, index: i32) -> Option<Seg>
+    ensures { option_map (seg_under level.now.reading) result ≡ named (segs_of level.now) index }
+{
+    if index < 0 {
+        return None;
+    }
+    seg_at(level, index as usize)
+}
+
+// The sidedef of a seg.
+fn sidedef_of(level: &Level<'_>, seg: &Seg) -> Option<SideDef>
+    ensures { option_map (sidedef_under level.now.reading) result
+        ≡ sidedef_of level.now (seg_under level.now.reading seg.now) }
+{
+    let side = side_of(level, seg)?;
+    sidedef_named(level, side)
+}
+
+// The sidedef that an index names, where it doesn't say that there is no side.
+fn sidedef_named(level: &Level<'_>, side: i32) -> Option<SideDef>
+    ensures { option_map (sidedef_under level.now.reading) result ≡ sidedef_named level.now side }
+{
+    if side < 0 || side == no_side(level.reading()) {
+        return None;
+    }
+    sidedef_at(level, side as usize)
+}
+
+// The number that an index names one of so many records by.
+fn number_named(index: i32, count: usize) -> Option<u16>
+    requires { index <ℤ pos 65536 }
+    ensures { result ≡ number_named count index }
+{
+    if index < 0 || index as usize >= count {
+        return None;
+    }
+    Some(index as u16)
+}

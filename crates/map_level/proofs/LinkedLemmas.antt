@@ -1,9 +1,10 @@
 -- In a level without faults F3 to F10 each ssector has a sector.
-use Rattle.std.proofs.Common.{◌≡◌, ◌≢◌, ℕ, suc, zero, ◌+◌, ◌<◌, ◌≤◌, ◌⊎◌, inl, inr, ℤ, pos, negsuc, List, [], ◌∷◌, length, Option, Some, None, refl, sym, ap, ◌∙◌, subst, arith}
-use Rattle.std.specs.Prelude.{IsSomeAnd, nat_lt, true, false, option_and_then}
+use Rattle.std.proofs.Common.{◌≡◌, ◌≢◌, ℕ, suc, zero, ◌+◌, ◌<◌, ◌≤◌, ◌⊎◌, inl, inr, ℤ, pos, negsuc, List, [], ◌∷◌, length, get_or, Option, Some, None, refl, sym, ap, ◌∙◌, subst, arith}
+use Rattle.std.specs.Prelude.{◌↔◌, All, IsSomeAnd, nat_lt, true, false, option_and_then}
 use Rattle.std.specs.List.{slice_get}
 use Rattle.std.specs.Ordering.{int_eq}
 use Rattle.std.specs.Bool.{Decides}
+use Rattle.std.proofs.lemmas.List.Elements.{All-contains, Contains-get_or}
 use Rattle.std.proofs.lemmas.Bool.{cases_lt, cases_Bool, false≢true, lt-ltb, false_from_ne_true}
 use Rattle.std.proofs.lemmas.Bool.Decides.{Decides-int_eq}
 use Rattle.le_rec.specs.declared.records.LineDef.{LineDef}
@@ -13,7 +14,9 @@ use Rattle.le_rec.specs.declared.records.SSector.{SSector}
 use Rattle.map_level.specs.Level.{Level}
 use Rattle.map_level.specs.Links.{linedefs_of, sidedefs_of, segs_of, ssectors_of, sectors_of, Names, named, no_side, side_at, side_of}
 use Rattle.map_level.specs.LinkFaults.{LinkHolds, SideNamesNone}
-use Rattle.map_level.specs.SectorOf.{number_named, first_seg, sidedef_of, sidedef_named, sector_of, IsLinked}
+use Rattle.map_level.specs.Findings.{AreFindings}
+use Rattle.map_level.specs.declared.finding.Finding.{Finding}
+use Rattle.map_level.specs.SectorOf.{IsLinkFault, number_named, first_seg, sidedef_of, sidedef_named, sector_of, IsLinked}
 use Rattle.map_level.specs.declared.finding.Code.TheVariants.{F4, F5, F7, F8, F9, F10}
 
 -- a record that is there
@@ -103,3 +106,12 @@ module _ (level : Level) (linked : IsLinked level) where
         | inl first_side ↦ go line.1.side0 first_side (λ none. sides (inl none))
         | inr second_side ↦ go line.1.side1 second_side (λ none. sides (inr none))
       ]
+
+-- a level has no fault F3 to F10 exactly where its findings have none
+pub IsLinked-by_findings : (level : Level) (found : List Finding) → AreFindings (LinkHolds level) found → (IsLinked level ↔ All (λ f. ¬ IsLinkFault f.code) found)
+IsLinked-by_findings level found p = (
+    (λ linked. λ k d below fault. let f = get_or found k d in linked f.code f.index fault ((p.exact f).0 (Contains-get_or found k d below))),
+    (λ none. λ code i fault holds.
+        let f : Finding = record { code = code; index = i } in
+        All-contains (λ g. ¬ IsLinkFault g.code) found f none ((p.exact f).1 holds) fault),
+)

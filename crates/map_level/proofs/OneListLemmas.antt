@@ -5,8 +5,6 @@ use Rattle.std.proofs.lemmas.List.Elements.{Contains-append_right, Contains-appe
 use Rattle.map_level.specs.declared.finding.Finding.{Finding}
 use Rattle.map_level.specs.Findings.{place, StandsBefore, AreFindings}
 use Rattle.map_level.specs.declared.finding.Code.{Code}
-use Rattle.map_level.specs.Level.{Level}
-use Rattle.map_level.specs.LinkFaults.{LinkHolds}
 
 head_before : {X : Type 0} (R : X → X → Type 0) (x : X) (xs : List X) (z : X) → AllPairs R (x ∷ xs) → Contains xs z → R x z
 head_before R x xs z p c = subst (λ y. R x y) c.2 (p 0 (suc c.0) z (omega arith) (omega (arith, c.1)))
@@ -68,8 +66,5 @@ not_both_before a b (inr p) (inl q) = omega (arith, q, ap place p.0)
 not_both_before a b (inr p) (inr q) = omega (arith, p.1, q.1)
 
 -- there is at most one list of the findings
-pub one_report : (holds : Code → ℕ → Type 0) (a b : List Finding) → AreFindings holds a → AreFindings holds b → a ≡ b
-one_report holds a b p q = one_list StandsBefore not_both_before a b p.ascending q.ascending (λ f c. (q.exact f).1 ((p.exact f).0 c)) (λ f c. (p.exact f).1 ((q.exact f).0 c))
-
-pub one_link_list : (level : Level) (a b : List Finding) → AreFindings (LinkHolds level) a → AreFindings (LinkHolds level) b → a ≡ b
-one_link_list level a b p q = one_report (LinkHolds level) a b p q
+pub AreFindings-one : (holds : Code → ℕ → Type 0) (a b : List Finding) → AreFindings holds a → AreFindings holds b → a ≡ b
+AreFindings-one holds a b p q = one_list StandsBefore not_both_before a b p.ascending q.ascending (λ f c. (q.exact f).1 ((p.exact f).0 c)) (λ f c. (p.exact f).1 ((q.exact f).0 c))

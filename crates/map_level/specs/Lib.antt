@@ -5,3 +5,4 @@ pub mod Findings
 pub mod Links
 pub mod LinkFaults
 pub mod SectorOf
+pub mod Laws

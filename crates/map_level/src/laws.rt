@@ -1,27 +1,31 @@
-//! Laws of levels, each the contract of a function that does nothing.
+//! Laws of levels and of findings, each the contract of a function that does nothing: a caller gets the
+//! law from a call.
 
-ghost use Rattle.std.specs.Prelude.{◌≡◌, List, ℕ};
-ghost use Rattle.wad_dir.specs.Wad.{Wad};
-ghost use Rattle.map_level.specs.Opening.{IsLevel, RefusesLevel};
-ghost use Rattle.map_level.specs.Level.{Level};
+ghost use Rattle.map_level.specs.Laws.{OneLevel, RefusedHaveNoLevel, OneLevelFault, OneList, LinkedByFindings};
 
-use crate::level::LevelFault;
-use crate::reading::Reading;
+use crate::search::Searched;
 
 /// Files and a name have at most one level under a reading.
 pub fn one_level()
-    ensures { (files : List Wad) (name : List ℕ) (reading : Reading) (a b : Level)
-        → IsLevel files name reading a → IsLevel files name reading b → a ≡ b }
+    ensures { OneLevel }
 {}
 
-/// Files that are refused have no level.
+/// Files that are refused under a name have no level of it.
 pub fn refused_have_no_level()
-    ensures { (files : List Wad) (name : List ℕ) (reading : Reading) (fault : LevelFault) (level : Level)
-        → RefusesLevel files name fault → IsLevel files name reading level → ⊥ }
+    ensures { RefusedHaveNoLevel }
 {}
 
-/// Files and a name are refused for one reason at most.
-pub fn one_refusal()
-    ensures { (files : List Wad) (name : List ℕ) (a b : LevelFault)
-        → RefusesLevel files name a → RefusesLevel files name b → a ≡ b }
+/// At most one fault refuses files under a name.
+pub fn one_level_fault()
+    ensures { OneLevelFault }
+{}
+
+/// What is searched has at most one list of findings, whatever the codes that are looked for.
+pub fn one_list<T: Searched>()
+    ensures { (searched : T) → OneList (T.holds searched) }
+{}
+
+/// A level has no fault F3 to F10, as the sector of an ssector asks, exactly where `link_findings` has none.
+pub fn linked_by_findings()
+    ensures { LinkedByFindings }
 {}

@@ -8,6 +8,8 @@ mod files;
 #[cfg(test)]
 mod levels;
 #[cfg(test)]
+mod link_cases;
+#[cfg(test)]
 mod listing;
 #[cfg(test)]
 mod memory;

@@ -110,8 +110,8 @@ module _ (level : Level) (linked : IsLinked level) where
 -- a level has no fault F3 to F10 exactly where its findings have none
 pub IsLinked-by_findings : (level : Level) (found : List Finding) → AreFindings (LinkHolds level) found → (IsLinked level ↔ All (λ f. ¬ IsLinkFault f.code) found)
 IsLinked-by_findings level found p = (
-    (λ linked. λ k d below fault. let f = get_or found k d in linked f.code f.index fault ((p.exact f).0 (Contains-get_or found k d below))),
-    (λ none. λ code i fault holds.
-        let f : Finding = record { code = code; index = i } in
-        All-contains (λ g. ¬ IsLinkFault g.code) found f none ((p.exact f).1 holds) fault),
+  (λ linked. λ k d below fault. let f = get_or found k d in linked f.code f.index fault ((p.exact f).0 (Contains-get_or found k d below))),
+  (λ none. λ code i fault holds.
+      let f : Finding = record { code = code; index = i } in
+      All-contains (λ g. ¬ IsLinkFault g.code) found f none ((p.exact f).1 holds) fault),
 )

@@ -1,11 +1,9 @@
 -- Laws of levels and of findings.
-use Rattle.std.specs.Prelude.{◌≡◌, ◌↔◌, ℕ, List, All}
+use Rattle.std.specs.Prelude.{◌≡◌, ℕ, List}
 use Rattle.wad_dir.specs.Wad.{Wad}
 use Rattle.map_level.specs.Level.{Level}
 use Rattle.map_level.specs.Opening.{IsLevel, RefusesLevel}
 use Rattle.map_level.specs.Findings.{AreFindings}
-use Rattle.map_level.specs.LinkFaults.{LinkHolds}
-use Rattle.map_level.specs.SectorOf.{IsLinkFault, IsLinked}
 use Rattle.map_level.specs.declared.level.LevelFault.{LevelFault}
 use Rattle.map_level.specs.declared.reading.Reading.{Reading}
 use Rattle.map_level.specs.declared.finding.Code.{Code}
@@ -32,9 +30,3 @@ OneLevelFault =
 -- at most one list is that of the findings
 abbrev pub OneList : (Code → ℕ → Type 0) → Type 0
 OneList holds = (found other : List Finding) → AreFindings holds found → AreFindings holds other → found ≡ other
-
--- a level has no fault F3 to F10 exactly where its link findings have none
-abbrev pub LinkedByFindings : Type 0
-LinkedByFindings =
-    (level : Level) (found : List Finding) →
-    AreFindings (LinkHolds level) found → (IsLinked level ↔ All (λ f. ¬ IsLinkFault f.code) found)

@@ -1,7 +1,7 @@
 //! Laws of levels and of findings, each the contract of a function that does nothing: a caller gets the
 //! law from a call.
 
-ghost use Rattle.map_level.specs.Laws.{OneLevel, RefusedHaveNoLevel, OneLevelFault, OneList, LinkedByFindings};
+ghost use Rattle.map_level.specs.Laws.{OneLevel, RefusedHaveNoLevel, OneLevelFault, OneList};
 
 use crate::search::Searched;
 
@@ -23,9 +23,4 @@ pub fn one_level_fault()
 /// What is searched has at most one list of findings, whatever the codes that are looked for.
 pub fn one_list<T: Searched>()
     ensures { (searched : T) → OneList (T.holds searched) }
-{}
-
-/// A level has no fault F3 to F10, as the sector of an ssector asks, exactly where `link_findings` has none.
-pub fn linked_by_findings()
-    ensures { LinkedByFindings }
 {}

@@ -1,17 +1,29 @@
 //! The sector of an ssector, by its links.
 
-ghost use Rattle.std.specs.Prelude.{◌≡◌, ◌<◌, ◌<ℤ◌, pos, length, Some};
+ghost use Rattle.std.specs.Prelude.{◌≡◌, ◌<◌, ◌<ℤ◌, ◌↔◌, pos, length, Some, All, IsTrue};
 ghost use Rattle.std.specs.Option.{option_map};
 ghost use Rattle.map_level.specs.Reading.{seg_under, sidedef_under};
 ghost use Rattle.map_level.specs.Links.{segs_of, sidedefs_of, ssectors_of, named};
-ghost use Rattle.map_level.specs.SectorOf.{IsLinked, first_seg, number_named, sector_of, sidedef_named, sidedef_of};
+ghost use Rattle.map_level.specs.Findings.{AreFindings};
+ghost use Rattle.map_level.specs.LinkFaults.{LinkHolds};
+ghost use Rattle.map_level.specs.SectorOf.{IsLinkFault, IsLinked, first_seg, number_named, sector_of, sidedef_named, sidedef_of};
 
+use crate::finding::{Code, Finding, Findings};
 use crate::level::Level;
 use crate::links::{no_side, seg_at, side_of, sidedef_at, ssector_at};
 use crate::reading::number;
 use le_rec::{Seg, SideDef};
+use std::alloc::Allocator;
 
 impl<'a> Level<'a> {
+    /// Whether the level has no fault F3 to F10, by its `link_findings`: what `ssector_sector` asks for.
+    pub fn is_linked<A: Allocator>(&self, found: &Findings<A>) -> bool
+        requires { AreFindings (LinkHolds self.now) found.now }
+        ensures { IsTrue result ↔ IsLinked self.now }
+    {
+        has_no_link_fault(found.as_slice())
+    }
+
     /// The number of the sector of ssector `i`: that of its first seg's sidedef (`P_GroupLines`).
     pub fn ssector_sector(&self, i: u32) -> u16
         requires linked { IsLinked self.now }
@@ -32,6 +44,19 @@ pub fn sector_of(level: &Level<'_>, t: usize) -> Option<u16>
         number(sidedef.sector, level.reading()),
         level.sectors().len(),
     )
+}
+
+// Whether no finding is a fault F3 to F10.
+fn has_no_link_fault(found: &[Finding]) -> bool
+    ensures { IsTrue result ↔ All (λ f. ¬ IsLinkFault f.code) found.now }
+{
+    found.iter().all(|f| is_no_link_fault(f.code))
+}
+
+fn is_no_link_fault(code: Code) -> bool
+    ensures { IsTrue result ↔ (¬ IsLinkFault code) }
+{
+    code.place() < Code::F3.place() || code.place() > Code::F10.place()
 }
 
 // The first seg of an ssector.

@@ -1,5 +1,6 @@
 -- What a clause reads of a `SliceSink`.
-use Rattle.std.specs.Prelude.{ℕ, ◌-◌, Bool, ◌||◌, ◌&&◌, nat_lt, List, Result, Ok, Err, length, take, min, ◌==◌, if◌then◌else◌}
+use Rattle.std.specs.Prelude.{ℕ, ◌-◌, Bool, Some, ◌||◌, ◌&&◌, nat_lt, List, Result, Ok, Err, length, take, min, ◌==◌, if◌then◌else◌}
+use Rattle.le_rec.specs.Sink.{SinkState}
 use Rattle.le_rec.specs.declared.ends.EndFault.{EndFault}
 use Rattle.test_ends.specs.declared.sink.SliceSink.{SliceSink}
 
@@ -22,6 +23,10 @@ failing_put s = s.calls
 -- whether a put has failed
 abbrev pub put_failed : SliceSink → Bool
 put_failed s = s.failed
+
+-- what every sink tells of itself
+abbrev pub state_of : SliceSink → SinkState
+state_of s = record { taken = Some (bytes_taken s); failed = put_failed s }
 
 -- what a put of this many bytes answers
 abbrev pub put_answer : SliceSink → ℕ → Result ℕ EndFault

@@ -1,5 +1,6 @@
 -- What a clause reads of a `SliceSource`.
-use Rattle.std.specs.Prelude.{ℕ, Bool, List, Result, Ok, Err, length, min, ◌==◌, if◌then◌else◌}
+use Rattle.std.specs.Prelude.{ℕ, Bool, Some, List, Result, Ok, Err, length, min, ◌==◌, if◌then◌else◌}
+use Rattle.le_rec.specs.Source.{SourceState}
 use Rattle.le_rec.specs.declared.ends.EndFault.{EndFault}
 use Rattle.test_ends.specs.declared.source.SliceSource.{SliceSource}
 
@@ -18,6 +19,10 @@ failing_pull s = s.calls
 -- whether a pull has failed
 abbrev pub pull_failed : SliceSource → Bool
 pull_failed s = s.failed
+
+-- what every source tells of itself
+abbrev pub state_of : SliceSource → SourceState
+state_of s = record { left = Some (bytes_left s); failed = pull_failed s }
 
 -- what a pull answers that has this much room
 abbrev pub pull_answer : SliceSource → ℕ → Result ℕ EndFault

@@ -1,6 +1,6 @@
 //! A sink over a borrowed buffer.
-ghost use Rattle.std.specs.Prelude.{◌≡◌, ◌+◌, ◌-◌, ◌<◌, ◌≤◌, Bool, true, false, [], ◌||◌, IfOk, OnErr, is_err, length};
-ghost use Rattle.le_rec.specs.Sink.{Takes, TakesSome};
+ghost use Rattle.std.specs.Prelude.{◌≡◌, ◌+◌, ◌-◌, ◌<◌, ◌≤◌, false, [], IfOk, OnErr, length};
+ghost use Rattle.le_rec.specs.Sink.{Takes};
 
 use super::countdown::is_failing_call;
 use le_rec::{EndFault, Sink};
@@ -75,19 +75,13 @@ impl<'a> SliceSink<'a> {
 }
 
 impl Sink for SliceSink<'_> {
-    ghost use Rattle.test_ends.specs.SliceSink.{bytes_taken, failing_put, most_put, put_answer, put_failed, room_left};
+    ghost use Rattle.test_ends.specs.SliceSink.{failing_put, most_put, put_answer, room_left, state_of};
 
-    ghost tells = { true };
-
-    ghost taken = { bytes_taken };
-
-    ghost has_failed = { put_failed };
+    ghost state = { state_of };
 
     fn put(&mut self, bytes: &[u8]) -> Result<usize, EndFault>
         ensures bound { IfOk result (λ n. n ≤ length bytes.now) }
-        ensures some { TakesSome result bytes.now }
-        ensures moved { Takes (bytes_taken self.old) (bytes_taken self.new) result bytes.now }
-        ensures fault { put_failed self.new ≡ put_failed self.old || is_err result }
+        ensures takes { Takes (state_of self.old) (state_of self.new) result bytes.now }
         ensures answer { result ≡ put_answer self.old (length bytes.now) }
         ensures room { IfOk result (λ n. room_left self.new + n ≡ room_left self.old) }
         ensures room_at_fault { OnErr result (room_left self.new ≡ room_left self.old) }

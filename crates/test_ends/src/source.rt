@@ -1,6 +1,6 @@
 //! A source over a slice, and one that has no end.
-ghost use Rattle.std.specs.Prelude.{◌≡◌, ◌-◌, ◌<◌, ◌≤◌, Bool, true, false, Ok, [], ◌||◌, IfOk, is_err, length, replicate};
-ghost use Rattle.le_rec.specs.Source.{EndsEmpty, Gives};
+ghost use Rattle.std.specs.Prelude.{◌≡◌, ◌-◌, ◌<◌, ◌≤◌, false, None, Ok, IfOk, length, replicate};
+ghost use Rattle.le_rec.specs.Source.{Gives};
 
 use super::countdown::is_failing_call;
 use le_rec::{EndFault, Source};
@@ -67,19 +67,13 @@ impl<'a> SliceSource<'a> {
 }
 
 impl Source for SliceSource<'_> {
-    ghost use Rattle.test_ends.specs.SliceSource.{bytes_left, failing_pull, most_pulled, pull_answer, pull_failed};
+    ghost use Rattle.test_ends.specs.SliceSource.{failing_pull, most_pulled, pull_answer, state_of};
 
-    ghost tells = { true };
-
-    ghost left = { bytes_left };
-
-    ghost has_failed = { pull_failed };
+    ghost state = { state_of };
 
     fn pull(&mut self, buf: &mut [u8]) -> Result<usize, EndFault>
         ensures bound { IfOk result (λ n. n ≤ length buf.new) }
-        ensures moved { Gives (bytes_left self.old) (bytes_left self.new) result buf.new }
-        ensures end { EndsEmpty (bytes_left self.new) result buf.new }
-        ensures fault { pull_failed self.new ≡ pull_failed self.old || is_err result }
+        ensures gives { Gives (state_of self.old) (state_of self.new) result buf.new }
         ensures answer { result ≡ pull_answer self.old (length buf.old) }
         ensures most { most_pulled self.new ≡ most_pulled self.old }
         ensures failing { failing_pull self.new ≡ failing_pull self.old - 1 }
@@ -100,19 +94,15 @@ impl Source for SliceSource<'_> {
     }
 }
 
-/// A source that gives one byte value for ever and never fails. It tells no bytes, as they have no
-/// end.
+/// A source that gives one byte value for ever and never fails. Its bytes have no end, so they are
+/// no list that a clause could see.
 #[derive(Clone, Copy)]
 pub struct RepeatSource {
     pub byte: u8,
 }
 
 impl Source for RepeatSource {
-    ghost tells = { false };
-
-    ghost left = { λ _. [] };
-
-    ghost has_failed = { λ _. false };
+    ghost state = { λ _. record { left = None; failed = false } };
 
     fn pull(&mut self, buf: &mut [u8]) -> Result<usize, EndFault>
         ensures all { result ≡ Ok (length buf.new) }

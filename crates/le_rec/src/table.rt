@@ -1,6 +1,6 @@
 //! Tables of records, which lend their bytes.
 
-ghost use Rattle.std.specs.Prelude.{◌≡◌, length};
+ghost use Rattle.std.specs.Prelude.{◌≡◌, ◌<◌, ◌/◌, Some, length};
 ghost use Rattle.std.specs.List.{slice_get};
 ghost use Rattle.le_rec.specs.Layout.{read_by};
 ghost use Rattle.le_rec.specs.Table.{records_of, rows_of};
@@ -53,6 +53,15 @@ impl<'a, R: Record> Table<'a, R> {
         record_at(self.bytes, index)
     }
 
+    /// The record of a number that is known to be below the length.
+    #[inline]
+    pub fn at(&self, index: usize) -> R
+        requires { index < length self.now.records }
+        ensures { slice_get self.now.records index ≡ Some result }
+    {
+        record_within(self.bytes, index)
+    }
+
     /// How many bytes are left over.
     #[inline]
     pub fn rest(&self) -> usize
@@ -66,10 +75,18 @@ impl<'a, R: Record> Table<'a, R> {
 fn record_at<R: Record>(bytes: &[u8], index: usize) -> Option<R>
     ensures { result ≡ slice_get (records_of R.SIZE (read_by R.layout) bytes.now) index }
 {
-    let size = R::SIZE;
-    if index >= bytes.len() / size {
+    if index >= bytes.len() / R::SIZE {
         return None;
     }
+    Some(record_within(bytes, index))
+}
+
+#[inline]
+fn record_within<R: Record>(bytes: &[u8], index: usize) -> R
+    requires { index < length bytes.now / R.SIZE }
+    ensures { slice_get (records_of R.SIZE (read_by R.layout) bytes.now) index ≡ Some result }
+{
+    let size = R::SIZE;
     let start = index * size;
-    Some(R::read(&bytes[start..start + size]))
+    R::read(&bytes[start..start + size])
 }

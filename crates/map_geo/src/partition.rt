@@ -40,12 +40,23 @@ impl Partition {
         ensures value { IfSome result (λ partition. partition ≡ partition_of node.now) }
     {
         let (x, y) = (i32::from(node.x), i32::from(node.y));
-        let (dx, dy) = (i32::from(node.dx), i32::from(node.dy));
         if is_in_range(x) && is_in_range(y) {
-            Some(Partition { x, y, dx, dy })
+            Some(Partition::at(node))
         } else {
             None
         }
+    }
+
+    /// The partition of a node whose origin is known to be in range.
+    #[inline]
+    pub fn at(node: &Node) -> Partition
+        requires x_in { IsInRange node.now.x }
+        requires y_in { IsInRange node.now.y }
+        ensures { result ≡ partition_of node.now }
+    {
+        let (x, y) = (i32::from(node.x), i32::from(node.y));
+        let (dx, dy) = (i32::from(node.dx), i32::from(node.dy));
+        Partition { x, y, dx, dy }
     }
 
     // At most 2,147,418,112 in size.

@@ -1,0 +1,97 @@
+-- The loop of the descent, whose word names a place on the way of the point.
+use Rattle.std.proofs.Common.{◌≡◌, ℕ, ◌+◌, ◌-◌, ◌<◌, ◌≤◌, refl, sym, ap, ◌∙◌, subst, Option, Some, None, arith}
+use Rattle.std.specs.Prelude.{IsSome, IsSomeAnd}
+use Rattle.std.specs.Option.{option_and_then}
+use Rattle.le_rec.specs.Table.{Rows}
+use Rattle.std.specs.List.{slice_get}
+use Rattle.std.proofs.lemmas.Bool.{lt-ltb, le-ltb, ltb-true, cond-true, cond-false}
+use Rattle.std.proofs.lemmas.Option.{cond_some}
+use Rattle.le_rec.specs.declared.records.Node.{Node}
+use Rattle.map_geo.specs.declared.sides.Side.{Side}
+use Rattle.map_geo.specs.Point.{Point, IsInRange}
+use Rattle.map_geo.specs.Partition.{partition_of}
+use Rattle.map_geo.specs.Side.{side_of}
+use Rattle.map_level.specs.Level.{Level}
+use Rattle.map_tree.specs.Paths.{node, ssector}
+use Rattle.map_tree.specs.Child.{node_count, ssector_count, has, place_of, word_at, child, where_there, root_of, side_at}
+use Rattle.map_tree.specs.Leaf.{IsLeaf, CountsAncestors}
+use Rattle.map_tree.specs.Sound.{IsSound}
+use Rattle.map_tree.proofs.SoundLemmas.{tree_from_sound, some_ssector, few_nodes}
+use Rattle.map_tree.proofs.ReachLemmas.{reached_there}
+use Rattle.map_tree.proofs.LeafLemmas.{OnWay, way_start, way_down, way_short, way_deep, way_leaf, way_tests, one_leaf, some_from_is_some}
+
+-- the word names the place to which so many sides of the point lead
+pub record IsAt (level : Level) (point : Point) (word tests : ℕ) : Type 0 where
+  pub sound : IsSound level
+  pub way : OnWay level point tests (place_of word)
+
+pub place_below : (word : ℕ) → word < 32768 → place_of word ≡ node word
+place_below word h = cond-true _ (node word) (ssector (word - 32768)) (lt-ltb word 32768 h)
+
+pub place_above : (word : ℕ) → 32768 ≤ word → place_of word ≡ ssector (word - 32768)
+place_above word h = cond-false _ (node word) (ssector (word - 32768)) (le-ltb word 32768 h)
+
+pub at_start : (level : Level) (point : Point) (word : ℕ) → IsSound level → place_of word ≡ root_of (node_count level) → IsAt level point word 0
+at_start level point word sound e = record { sound = sound; way = subst (λ p. OnWay level point 0 p) (sym e) (way_start level point (some_ssector level sound)) }
+
+at_node : (level : Level) (point : Point) (word tests : ℕ) → word < 32768 → IsAt level point word tests → OnWay level point tests (node word)
+at_node level point word tests below at = subst (λ p. OnWay level point tests p) (place_below word below) at.way
+
+at_ssector : (level : Level) (point : Point) (word tests : ℕ) → 32768 ≤ word → IsAt level point word tests → OnWay level point tests (ssector (word - 32768))
+at_ssector level point word tests above at = subst (λ p. OnWay level point tests p) (place_above word above) at.way
+
+pub at_deep : (level : Level) (point : Point) (word tests : ℕ) → word < 32768 → IsAt level point word tests → tests < node_count level
+at_deep level point word tests below at = way_deep level point tests word (tree_from_sound level at.sound) (at_node level point word tests below at)
+
+pub at_short : (level : Level) (point : Point) (word tests : ℕ) → IsAt level point word tests → tests ≤ node_count level
+at_short level point word tests at = way_short level point tests (place_of word) (tree_from_sound level at.sound) at.way
+
+pub at_origin : (level : Level) (point : Point) (word tests : ℕ) → word < 32768 → IsAt level point word tests
+    → IsSomeAnd (slice_get level.nodes.records word) (λ found. IsInRange found.x × IsInRange found.y)
+at_origin level point word tests below at =
+    (tree_from_sound level at.sound).origins word (ltb-true word (node_count level) (at_node level point word tests below at).there)
+
+-- the next word is that of the child at the point's side
+child_word : (level : Level) (point : Point) (n next : ℕ) (o : Option Node) → slice_get level.nodes.records n ≡ o
+    → IsSomeAnd o (λ found. next ≡ word_at found (side_of (partition_of found) point)) → ((s : Side) → IsSome (child level n s))
+    → (s : Side) × (side_at level n point ≡ Some s) × (child level n s ≡ Some (place_of next))
+child_word level point n next None e h some = elim h [ ]
+child_word level point n next (Some found) e h some =
+    let s = side_of (partition_of found) point in
+    let there = some_from_is_some (child level n s) (some s) in
+    let opened : where_there level (place_of (word_at found s)) ≡ Some there.0 =
+    sym (ap (λ (o : Option Node). option_and_then (λ found. where_there level (place_of (word_at found s))) o) e) ∙ there.1 in
+    let is = (cond_some (has level (place_of (word_at found s))) (place_of (word_at found s)) there.0 opened).1 in
+    (s, rw e refl, there.1 ∙ ap Some (sym is ∙ ap place_of (sym h)))
+
+pub at_next : (level : Level) (point : Point) (word next tests : ℕ) (nodes : Rows Node) → word < 32768 → IsAt level point word tests → nodes ≡ level.nodes
+    → IsSomeAnd (slice_get nodes.records word) (λ found. next ≡ word_at found (side_of (partition_of found) point)) → IsAt level point next (tests + 1)
+at_next level point word next tests nodes below at e h =
+    let way = at_node level point word tests below at in
+    let tree = tree_from_sound level at.sound in
+    let here : IsSomeAnd (slice_get level.nodes.records word) (λ found. next ≡ word_at found (side_of (partition_of found) point)) =
+    subst (λ (rows : Rows Node). IsSomeAnd (slice_get rows.records word) (λ found. next ≡ word_at found (side_of (partition_of found) point))) e h in
+    let r = child_word level point word next (slice_get level.nodes.records word) refl here (λ s. tree.words word s (ltb-true word (node_count level) way.there)) in
+    record { sound = at.sound; way = way_down level point tests word r.0 (place_of next) way r.1 r.2 }
+
+pub at_within : (level : Level) (point : Point) (word tests : ℕ) → 32768 ≤ word → IsAt level point word tests → word - 32768 < ssector_count level
+at_within level point word tests above at = ltb-true (word - 32768) (ssector_count level) (at_ssector level point word tests above at).there
+
+pub at_leaf : (level : Level) (point : Point) (word tests : ℕ) → 32768 ≤ word → IsAt level point word tests → IsLeaf level point (word - 32768)
+at_leaf level point word tests above at = way_leaf level point tests (word - 32768) (tree_from_sound level at.sound) (at_ssector level point word tests above at)
+
+pub at_tests : (level : Level) (point : Point) (word tests : ℕ) → 32768 ≤ word → IsAt level point word tests → CountsAncestors level (word - 32768) tests
+at_tests level point word tests above at = way_tests level point tests (word - 32768) (tree_from_sound level at.sound) (at_ssector level point word tests above at)
+
+pub at_only : (level : Level) (point : Point) (word tests : ℕ) → 32768 ≤ word → IsAt level point word tests → (t : ℕ) → IsLeaf level point t → t ≡ word - 32768
+at_only level point word tests above at t leaf = one_leaf level point t (word - 32768) leaf (at_leaf level point word tests above at)
+
+pub at_fits : (level : Level) (point : Point) (word tests : ℕ) → word < 32768 → IsAt level point word tests → tests + 1 < 4294967296
+at_fits level point word tests below at = omega (arith, at_deep level point word tests below at, few_nodes level at.sound)
+
+pub at_smaller : (level : Level) (point : Point) (word tests : ℕ) → word < 32768 → IsAt level point word tests → node_count level - (tests + 1) < node_count level - tests
+at_smaller level point word tests below at = omega (arith, at_deep level point word tests below at)
+
+-- a leaf is an ssector that is there
+pub leaf_within : (level : Level) (point : Point) (t : ℕ) → IsSound level → IsLeaf level point t → t < ssector_count level
+leaf_within level point t sound leaf = ltb-true t (ssector_count level) (reached_there level (ssector t) (some_ssector level sound) leaf.reached)

@@ -1,0 +1,11 @@
+pub mod ChainLemmas
+pub mod TreeLemmas
+pub mod SoundLemmas
+pub mod ReachLemmas
+pub mod LeafLemmas
+pub mod DescentLemmas
+pub mod FaultLemmas
+pub mod LawLemmas
+pub mod SlotLemmas
+pub mod UseLemmas
+pub mod MarkLemmas

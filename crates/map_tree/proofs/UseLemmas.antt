@@ -1,0 +1,202 @@
+-- The loop that counts child words.
+use Rattle.std.proofs.Common.{◌≡◌, ◌≢◌, ℕ, ◌+◌, ◌<◌, ◌⊎◌, ◌↔◌, inl, inr, refl, sym, ap, ◌∙◌, List, length, Some, None, IsTrue, arith}
+use Rattle.std.specs.Prelude.{slice_index}
+use Rattle.std.proofs.lemmas.Bool.{lt-ltb, le-ltb, cond-true, cond-false, cases_lt, cases_eq}
+use Rattle.map_geo.specs.declared.sides.Side.{Side}
+use Rattle.map_geo.specs.declared.sides.Side.TheVariants.{Front, Back}
+use Rattle.map_level.specs.Level.{Level}
+use Rattle.map_tree.specs.Paths.{Place, node}
+use Rattle.map_tree.specs.Child.{node_count, has, child}
+use Rattle.map_tree.specs.Slots.{slot, slot_count, child_slot}
+use Rattle.map_tree.specs.TreeFaults.{IsNamedTwice, NodeNamedTwice}
+use Rattle.map_tree.specs.Uses.{once_more, IsUsed, AreUses}
+use Rattle.map_tree.proofs.SoundLemmas.{parent_in, child_there, root_node}
+use Rattle.map_tree.proofs.ReachLemmas.{decide_place, none_or_some}
+use Rattle.map_tree.proofs.SlotLemmas.{slot_once, child_slot_of, child_at_slot}
+
+-- a child word that was seen names the place
+abbrev pub IsNamedBy : (ℕ → Side → Type 0) → Level → Place → Type 0
+IsNamedBy Seen level place = (n : ℕ) × (s : Side) × Seen n s × (child level n s ≡ Some place)
+
+-- two child words that were seen do
+pub record IsTwiceBy (Seen : ℕ → Side → Type 0) (level : Level) (place : Place) : Type 0 where
+  pub twice : IsNamedTwice level place
+  pub one : Seen twice.n twice.s
+  pub other : Seen twice.m twice.u
+
+pub record AreUsesBy (Seen : ℕ → Side → Type 0) (level : Level) (uses : List ℕ) : Type 0 where
+  pub long : length uses ≡ slot_count level
+  pub named : (place : Place) → IsTrue (has level place) → (0 < slice_index uses (slot level place)) ↔ IsNamedBy Seen level place
+  pub twice : (place : Place) → IsTrue (has level place) → (1 < slice_index uses (slot level place)) ↔ IsTwiceBy Seen level place
+
+-- the words of the nodes below n, and these with one of node n
+abbrev pub Below : ℕ → ℕ → Side → Type 0
+Below n m u = m < n
+
+abbrev pub BelowAndFront : ℕ → ℕ → Side → Type 0
+BelowAndFront n m u = (m < n) ⊎ ((m ≡ n) × (u ≡ Front))
+
+once_more_some : (c : ℕ) → 0 < once_more c
+once_more_some c = elim (cases_lt c 2) [
+  | inl few ↦ rw (cond-true _ (c + 1) c (lt-ltb c 2 few)) (omega arith)
+  | inr many ↦ rw (cond-false _ (c + 1) c (le-ltb c 2 many)) (omega arith)
+]
+
+once_more_twice : (c : ℕ) → (1 < once_more c) ↔ (0 < c)
+once_more_twice c = elim (cases_lt c 2) [
+  | inl few ↦ rw (cond-true _ (c + 1) c (lt-ltb c 2 few)) ((λ h. omega arith), (λ h. omega arith))
+  | inr many ↦ rw (cond-false _ (c + 1) c (le-ltb c 2 many)) ((λ h. omega arith), (λ h. omega arith))
+]
+
+-- one child word more is seen
+pub record IsOneMore (Seen After : ℕ → Side → Type 0) (n : ℕ) (s : Side) : Type 0 where
+  pub old : (m : ℕ) (u : Side) → Seen m u → After m u
+  pub new : After n s
+  pub only : (m : ℕ) (u : Side) → After m u → Seen m u ⊎ ((m ≡ n) × (u ≡ s))
+  pub fresh : Seen n s → ⊥
+
+module _ (Seen After : ℕ → Side → Type 0) (level : Level) (n : ℕ) (s : Side) (more : IsOneMore Seen After n s) where
+  -- a place that the new word doesn't name
+  old_named : (p : Place) → (child level n s ≡ Some p → ⊥) → IsNamedBy After level p ↔ IsNamedBy Seen level p
+  old_named p not_here = (
+    (λ h. elim (more.only h.0 h.1 h.2) [
+      | inl seen ↦ (h.0, h.1, seen, h.3)
+      | inr here ↦ absurd (not_here (rw (← here.0, ← here.1) h.3))
+    ]),
+    (λ h. (h.0, h.1, more.old h.0 h.1 h.2, h.3)),
+  )
+
+  seen_here : (p : Place) → (child level n s ≡ Some p → ⊥) → (m : ℕ) (u : Side) → After m u → child level m u ≡ Some p → Seen m u
+  seen_here p not_here m u after e = elim (more.only m u after) [ inl seen ↦ seen | inr here ↦ absurd (not_here (rw (← here.0, ← here.1) e)) ]
+
+  old_twice : (p : Place) → (child level n s ≡ Some p → ⊥) → IsTwiceBy After level p ↔ IsTwiceBy Seen level p
+  old_twice p not_here = (
+    (λ h. record {
+      twice = h.twice;
+      one = seen_here p not_here h.twice.n h.twice.s h.one h.twice.names;
+      other = seen_here p not_here h.twice.m h.twice.u h.other h.twice.names_too;
+    }),
+    (λ h. record { twice = h.twice; one = more.old h.twice.n h.twice.s h.one; other = more.old h.twice.m h.twice.u h.other }),
+  )
+
+  -- the place that it names
+  new_twice : (p : Place) → child level n s ≡ Some p → IsTwiceBy After level p ↔ IsNamedBy Seen level p
+  new_twice p here = (
+    (λ h. elim (more.only h.twice.n h.twice.s h.one) [
+      | inl seen ↦ (h.twice.n, h.twice.s, seen, h.twice.names)
+      | inr is_new ↦ elim (more.only h.twice.m h.twice.u h.other) [
+        | inl seen ↦ (h.twice.m, h.twice.u, seen, h.twice.names_too)
+        | inr too ↦ absurd (h.twice.apart (is_new.0 ∙ sym too.0) (is_new.1 ∙ sym too.1))
+      ]
+    ]),
+    (λ h. record {
+      twice = record {
+        n = h.0;
+        s = h.1;
+        names = h.3;
+        m = n;
+        u = s;
+        names_too = here;
+        apart = λ same sides. more.fresh (rw (← same, ← sides) h.2);
+      };
+      one = more.old h.0 h.1 h.2;
+      other = more.new;
+    }),
+  )
+
+  here_or_not : (p : Place) → IsTrue (has level p) → (child level n s ≡ Some p) ⊎ (child level n s ≡ Some p → ⊥)
+  here_or_not p there = elim (none_or_some (child level n s)) [
+    | inl none ↦ inr (λ e. let f : None ≡ Some p = sym none ∙ e in cc)
+    | inr some ↦ elim (decide_place some.0 p) [
+      | inl same ↦ inl (some.1 ∙ ap Some same)
+      | inr other ↦ inr (λ e. let f : Some some.0 ≡ Some p = sym some.1 ∙ e in let same : some.0 ≡ p = cc in other same)
+    ]
+  ]
+
+  other_slot : (p : Place) → IsTrue (has level p) → (child level n s ≡ Some p → ⊥) → child_slot level n s ≢ Some (slot level p)
+  other_slot p there not_here e =
+      let r = child_at_slot level n s (slot level p) e in
+      not_here (r.1 ∙ ap Some (slot_once level r.0 p (child_there level n s r.0 r.1) there r.2))
+
+  pub uses_more : (before after : List ℕ) → AreUsesBy Seen level before → IsUsed before after (child_slot level n s) → AreUsesBy After level after
+  uses_more before after uses used = record {
+    long = used.long ∙ uses.long;
+    named = λ p there. elim (here_or_not p there) [
+      | inl here ↦
+          rw (used.named (slot level p) (child_slot_of level n s p here)) ((λ h. (n, s, more.new, here)), (λ h. once_more_some (slice_index before (slot level p))))
+      | inr not_here ↦
+          let old = uses.named p there in
+          let both = old_named p not_here in
+          rw (used.others (slot level p) (other_slot p there not_here)) ((λ h. both.1 (old.0 h)), (λ h. old.1 (both.0 h)))
+    ];
+    twice = λ p there. elim (here_or_not p there) [
+      | inl here ↦
+          let old = uses.named p there in
+          let both = new_twice p here in
+          let count = once_more_twice (slice_index before (slot level p)) in
+          rw (used.named (slot level p) (child_slot_of level n s p here)) ((λ h. both.1 (old.0 (count.0 h))), (λ h. count.1 (old.1 (both.0 h))))
+      | inr not_here ↦
+          let old = uses.twice p there in
+          let both = old_twice p not_here in
+          rw (used.others (slot level p) (other_slot p there not_here)) ((λ h. both.1 (old.0 h)), (λ h. old.1 (both.0 h)))
+    ];
+  }
+
+-- the two words of a node
+front_more : (n : ℕ) → IsOneMore (Below n) (BelowAndFront n) n Front
+front_more n = record {
+  old = λ m u h. inl h;
+  new = inr (refl, refl);
+  only = λ m u h. h;
+  fresh = λ h. omega (arith, h);
+}
+
+front_or_back : (n m : ℕ) (u : Side) → m < n + 1 → BelowAndFront n m u ⊎ ((m ≡ n) × (u ≡ Back))
+front_or_back n m Front h = elim (cases_eq m n) [ inl same ↦ inl (inr (same, refl)) | inr other ↦ inl (inl (omega arith)) ]
+front_or_back n m Back h = elim (cases_eq m n) [ inl same ↦ inr (same, refl) | inr other ↦ inl (inl (omega arith)) ]
+
+back_more : (n : ℕ) → IsOneMore (BelowAndFront n) (Below (n + 1)) n Back
+back_more n = record {
+  old = λ m u h. elim h [ inl less ↦ omega (arith, less) | inr same ↦ omega (arith, same.0) ];
+  new = omega arith;
+  only = front_or_back n;
+  fresh = λ h. elim h [ inl less ↦ omega (arith, less) | inr same ↦ let e = same.1 in cc ];
+}
+
+pub uses_start : (level : Level) (uses : List ℕ) → length uses ≡ slot_count level → ((k : ℕ) → slice_index uses k ≡ 0) → AreUsesBy (Below 0) level uses
+uses_start level uses long zeros = record {
+  long = long;
+  named = λ p there. rw (zeros (slot level p)) ((λ h. absurd (omega (arith, h))), (λ h. absurd (omega (arith, h.2))));
+  twice = λ p there. rw (zeros (slot level p)) ((λ h. absurd (omega (arith, h))), (λ h. absurd (omega (arith, h.one))));
+}
+
+pub uses_node : (level : Level) (n : ℕ) (before between after : List ℕ) → AreUsesBy (Below n) level before → IsUsed before between (child_slot level n Front)
+    → IsUsed between after (child_slot level n Back) → AreUsesBy (Below (n + 1)) level after
+uses_node level n before between after uses front back =
+    uses_more (BelowAndFront n) (Below (n + 1)) level n Back (back_more n) between after
+    (uses_more (Below n) (BelowAndFront n) level n Front (front_more n) before between uses front) back
+
+pub uses_end : (level : Level) (uses : List ℕ) → AreUsesBy (Below (node_count level)) level uses → AreUses level uses
+uses_end level uses all = record {
+  long = all.long;
+  named = λ p there. (
+    (λ h. let r = (all.named p there).0 h in (r.0, r.1, r.3)),
+    (λ h. (all.named p there).1 (h.0, h.1, parent_in level h.0 h.1 p h.2, h.2)),
+  );
+  twice = λ p there. (
+    (λ h. ((all.twice p there).0 h).twice),
+    (λ h. (all.twice p there).1 (record { twice = h; one = parent_in level h.n h.s p h.names; other = parent_in level h.m h.u p h.names_too })),
+  );
+}
+
+-- the root, as the last node
+pub last_named : (level : Level) (uses : List ℕ) (n : ℕ) → AreUses level uses → n + 1 ≡ node_count level → (0 < slice_index uses n) ↔ NodeNamedTwice level n
+last_named level uses n are e =
+    let there : IsTrue (has level (node n)) = lt-ltb n (node_count level) (omega arith) in
+    let is_root = root_node level n (omega arith) in (
+      (λ h. inr (is_root, (are.named (node n) there).0 h)),
+      (λ h. elim h [
+        | inl twice ↦ let more = (are.twice (node n) there).1 twice in omega (arith, more)
+        | inr named ↦ (are.named (node n) there).1 named.1
+      ]),
+    )

@@ -1,0 +1,9 @@
+pub mod Paths
+pub mod Child
+pub mod TreeFaults
+pub mod Sound
+pub mod Leaf
+pub mod Laws
+pub mod Slots
+pub mod Uses
+pub mod Marks

@@ -1,0 +1,64 @@
+//! Which places are reached from the root.
+
+ghost use Rattle.std.specs.Prelude.{◌≡◌, ◌<◌, ◌^◌, ℕ, [], false, length, slice_index_or, IfOk, IfSome, OnOk};
+ghost use Rattle.map_tree.specs.Slots.{slot_count};
+ghost use Rattle.map_tree.specs.Marks.{IsMarking, AreReached};
+
+use crate::places::{Children, Places};
+use std::alloc::{AllocError, Allocator};
+
+/// A mark for each place that is reached.
+pub fn reached_of<A: Allocator + Copy>(
+    alloc: A,
+    places: &Places<'_, '_>,
+) -> Result<Vec<bool, A>, AllocError>
+    ensures { IfOk result (λ marks. AreReached places.now marks.items) }
+{
+    let count = places.nodes() + places.ssectors();
+    let mut marks = vec![in alloc; false; count]?;
+    mark_reached(&mut marks, Vec::new(alloc), places)?;
+    Ok(marks)
+}
+
+// Marks each place that is reached, by a list of places still to visit.
+fn mark_reached<A: Allocator>(
+    marks: &mut [bool],
+    mut waits: Vec<u32, A>,
+    places: &Places<'_, '_>,
+) -> Result<(), AllocError>
+    requires long { length marks.old ≡ slot_count places.now }
+    requires few { length marks.old < 2 ^ 32 }
+    requires off { (k : ℕ) → slice_index_or marks.old k false ≡ false }
+    requires none { waits.items ≡ [] }
+    ensures { OnOk result (AreReached places.now marks.new) }
+{
+    mark(marks, &mut waits, places.root())?;
+    while let Some(k) = waits.pop() {
+        let Children { front, back } = places.children(k as usize);
+        mark(marks, &mut waits, front)?;
+        mark(marks, &mut waits, back)?;
+    }
+    Ok(())
+}
+
+// Marks a place, which then waits where it wasn't marked.
+#[inline]
+fn mark<A: Allocator>(
+    marks: &mut [bool],
+    waits: &mut Vec<u32, A>,
+    place: Option<usize>,
+) -> Result<(), AllocError>
+    requires within { IfSome place (λ k. k < length marks.old) }
+    requires few { length marks.old < 2 ^ 32 }
+    ensures { OnOk result (IsMarking place marks.old marks.new waits.old.items waits.new.items) }
+{
+    let Some(k) = place else {
+        return Ok(());
+    };
+    if marks[k] {
+        return Ok(());
+    }
+    waits.push(k as u32)?;
+    marks[k] = true;
+    Ok(())
+}

@@ -7,5 +7,5 @@ pub mod DescentLemmas
 pub mod FaultLemmas
 pub mod LawLemmas
 pub mod SlotLemmas
-pub mod UseLemmas
+pub mod WordLemmas
 pub mod MarkLemmas

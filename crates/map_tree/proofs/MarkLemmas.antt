@@ -14,7 +14,7 @@ use Rattle.map_tree.specs.Paths.{Place, node, ssector, LeadsIn}
 use Rattle.map_tree.specs.Child.{node_count, ssector_count, has, where_there, child, root, IsReached}
 use Rattle.map_tree.specs.TreeFaults.{NodeNotReached, SsectorNotReached}
 use Rattle.map_tree.specs.Slots.{slot, slot_count, child_slot, root_slot}
-use Rattle.map_tree.specs.Marks.{IsMarked, unmarked, IsMarking, AreReached}
+use Rattle.map_tree.specs.Marks.{IsMarked, unmarked, IsMarking, AreMarking, AreReached}
 use Rattle.map_tree.proofs.ChainLemmas.{leads_more}
 use Rattle.map_tree.proofs.SoundLemmas.{parent_in, child_there}
 use Rattle.map_tree.proofs.ReachLemmas.{none_or_some}
@@ -61,25 +61,21 @@ marking_new marks k waits after within off more = record {
   same = let e = ap length more in omega (arith, fewer marks k within off, e, length-append waits (k ∷ []));
 }
 
--- what the tests of marks tell
-unmarked_tells : (level : Level) (marks : List Bool) (p : Place) → AreReached level marks → IsTrue (has level p)
-    → IsTrue (not (slice_index_or marks (slot level p) false)) ↔ (IsReached level p → ⊥)
-unmarked_tells level marks p are there = (
-  (λ off up. let h = (are.exact p there).1 up in false≢true (sym (not-true _ off) ∙ h.1)),
-  (λ none. not_from_false _ (false_from_ne_true _ (λ on. none ((are.exact p there).0 (rw are.long (slot_within level p there), on))))),
+-- what a mark tells
+marked_tells : (level : Level) (marks : List Bool) (p : Place) → AreReached level marks → IsTrue (has level p)
+    → IsTrue (slice_index_or marks (slot level p) false) ↔ IsReached level p
+marked_tells level marks p are there = (
+  (λ on. (are.exact p there).0 (rw are.long (slot_within level p there), on)),
+  (λ up. ((are.exact p there).1 up).1),
 )
 
-pub node_unmarked : (level : Level) (marks : List Bool) (n : ℕ) → AreReached level marks → n < node_count level
-    → IsTrue (not (slice_index_or marks n false)) ↔ NodeNotReached level n
-node_unmarked level marks n are within =
-    let told = unmarked_tells level marks (node n) are (lt-ltb n (node_count level) within) in
-    ((λ h. (within, told.0 h)), (λ h. told.1 h.1))
+pub node_marked : (level : Level) (marks : List Bool) (n : ℕ) → AreReached level marks → n < node_count level
+    → IsTrue (slice_index_or marks n false) ↔ IsReached level (node n)
+node_marked level marks n are within = marked_tells level marks (node n) are (lt-ltb n (node_count level) within)
 
-pub ssector_unmarked : (level : Level) (marks : List Bool) (t : ℕ) → AreReached level marks → t < ssector_count level
-    → IsTrue (not (slice_index_or marks (node_count level + t) false)) ↔ SsectorNotReached level t
-ssector_unmarked level marks t are within =
-    let told = unmarked_tells level marks (ssector t) are (lt-ltb t (ssector_count level) within) in
-    ((λ h. (within, told.0 h)), (λ h. told.1 h.1))
+pub ssector_marked : (level : Level) (marks : List Bool) (t : ℕ) → AreReached level marks → t < ssector_count level
+    → IsTrue (slice_index_or marks (node_count level + t) false) ↔ IsReached level (ssector t)
+ssector_marked level marks t are within = marked_tells level marks (ssector t) are (lt-ltb t (ssector_count level) within)
 
 -- the children of a node that are there are marked
 abbrev pub AreChildrenMarked : Level → List Bool → ℕ → Type 0
@@ -146,11 +142,25 @@ both_marked : (level : Level) (n : ℕ) (before between after : List Bool) (wait
 both_marked level n before between after waits_before waits_between waits_after front back Front k e = back.kept k (front.marked k e)
 both_marked level n before between after waits_before waits_between waits_after front back Back k e = back.marked k e
 
-pub visit : (level : Level) (n : ℕ) (before between after : List Bool) (waits rest waits_between waits_after : List ℕ) → waits ≡ rest ++ n ∷ []
+pub both_marking : (front back : Option ℕ) (before between after : List Bool) (waits_before waits_between waits_after : List ℕ)
+    → IsMarking front before between waits_before waits_between → IsMarking back between after waits_between waits_after
+    → AreMarking front back before after waits_before waits_after
+both_marking front back before between after waits_before waits_between waits_after first second = record {
+  between = between;
+  waits_between = waits_between;
+  first = first;
+  second = second;
+}
+
+pub visit : (level : Level) (n : ℕ) (before after : List Bool) (waits rest waits_after : List ℕ) → waits ≡ rest ++ n ∷ []
     → Visiting level before waits NoneInHand
-    → IsMarking (child_slot level n Front) before between rest waits_between → IsMarking (child_slot level n Back) between after waits_between waits_after
+    → AreMarking (child_slot level n Front) (child_slot level n Back) before after rest waits_after
     → Visiting level after waits_after NoneInHand
-visit level n before between after waits rest waits_between waits_after popped visiting front back =
+visit level n before after waits rest waits_after popped visiting both =
+    let between = both.between in
+    let waits_between = both.waits_between in
+    let front = both.first in
+    let back = both.second in
     let here : IsMarked before n = visiting.waiting n (rw popped (Contains-push rest n)) in
     let start : Visiting level before rest (λ m. m ≡ n) = record {
       long = visiting.long;
@@ -223,9 +233,8 @@ visit_end level marks [] none visiting = record {
   );
 }
 
-pub visit_smaller : (n : ℕ) (before between after : List Bool) (waits rest waits_between waits_after : List ℕ) (front back : Option ℕ) → waits ≡ rest ++ n ∷ []
-    → IsMarking front before between rest waits_between → IsMarking back between after waits_between waits_after
-    → length waits_after + unmarked after < length waits + unmarked before
-visit_smaller n before between after waits rest waits_between waits_after front back popped one two =
+pub visit_smaller : (n : ℕ) (before after : List Bool) (waits rest waits_after : List ℕ) (front back : Option ℕ) → waits ≡ rest ++ n ∷ []
+    → AreMarking front back before after rest waits_after → length waits_after + unmarked after < length waits + unmarked before
+visit_smaller n before after waits rest waits_after front back popped both =
     let e = ap length popped in
-    omega (arith, e, length-append rest (n ∷ []), one.same, two.same)
+    omega (arith, e, length-append rest (n ∷ []), both.first.same, both.second.same)

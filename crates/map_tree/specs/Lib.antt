@@ -5,5 +5,5 @@ pub mod Sound
 pub mod Leaf
 pub mod Laws
 pub mod Slots
-pub mod Uses
+pub mod WordCounts
 pub mod Marks

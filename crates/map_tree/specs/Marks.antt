@@ -24,6 +24,13 @@ pub record IsMarking (slot : Option ℕ) (before after : List Bool) (waits_befor
   pub added : (k : ℕ) → Contains waits_after k → (slot ≡ Some k) ⊎ Contains waits_before k
   pub same : length waits_after + unmarked after ≡ length waits_before + unmarked before
 
+-- the same of a node's two children
+pub record AreMarking (front back : Option ℕ) (before after : List Bool) (waits_before waits_after : List ℕ) : Type 0 where
+  pub between : List Bool
+  pub waits_between : List ℕ
+  pub first : IsMarking front before between waits_before waits_between
+  pub second : IsMarking back between after waits_between waits_after
+
 -- the places that are reached are marked, and no others
 pub record AreReached (level : Level) (marks : List Bool) : Type 0 where
   pub long : length marks ≡ slot_count level

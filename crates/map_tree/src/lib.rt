@@ -1,12 +1,13 @@
 //! The nodes of a level as a tree: what is wrong with them, and the ssector of each point.
 #![tactic(auto)]
 
-mod findings;
 pub mod laws;
 mod marks;
 mod places;
 mod tree;
-mod uses;
+mod tree_codes;
+mod tree_faults;
+mod words;
 
-pub use findings::tree_findings;
 pub use tree::Tree;
+pub use tree_codes::tree_findings;

@@ -2,13 +2,13 @@
 
 ghost use Rattle.std.specs.Prelude.{◌≡◌, ◌<◌, ◌^◌, ℕ, [], false, length, slice_index_or, IfOk, IfSome, OnOk};
 ghost use Rattle.map_tree.specs.Slots.{slot_count};
-ghost use Rattle.map_tree.specs.Marks.{IsMarking, AreReached};
+ghost use Rattle.map_tree.specs.Marks.{IsMarking, AreMarking, AreReached};
 
 use crate::places::{Children, Places};
 use std::alloc::{AllocError, Allocator};
 
 /// A mark for each place that is reached.
-pub fn reached_of<A: Allocator + Copy>(
+pub fn reached_places<A: Allocator + Copy>(
     alloc: A,
     places: &Places<'_, '_>,
 ) -> Result<Vec<bool, A>, AllocError>
@@ -34,10 +34,27 @@ fn mark_reached<A: Allocator>(
 {
     mark(marks, &mut waits, places.root())?;
     while let Some(k) = waits.pop() {
-        let Children { front, back } = places.children(k as usize);
-        mark(marks, &mut waits, front)?;
-        mark(marks, &mut waits, back)?;
+        mark_children(marks, &mut waits, places.children(k as usize))?;
     }
+    Ok(())
+}
+
+// Marks the two children of a node.
+#[inline]
+#[tactic(auto, using(crate::proofs::MarkLemmas::both_marking))]
+fn mark_children<A: Allocator>(
+    marks: &mut [bool],
+    waits: &mut Vec<u32, A>,
+    children: Children,
+) -> Result<(), AllocError>
+    requires front { IfSome children.front (λ k. k < length marks.old) }
+    requires back { IfSome children.back (λ k. k < length marks.old) }
+    requires few { length marks.old < 2 ^ 32 }
+    ensures { OnOk result (AreMarking children.front children.back
+        marks.old marks.new waits.old.items waits.new.items) }
+{
+    mark(marks, waits, children.front)?;
+    mark(marks, waits, children.back)?;
     Ok(())
 }
 

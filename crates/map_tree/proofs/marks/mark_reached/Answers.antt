@@ -8,13 +8,13 @@ loop-k-init g c =
 
 pub loop-k-preserved : goal.loop-k-preserved
 loop-k-preserved g c =
-    visit c.args.places.now c.in-Some.k c.loop-k.marks c.mark-in-Some.new.marks c.mark-in-Some-2.new.marks c.loop-k.waits.items c.pop.new.self.items c.mark-in-Some.new.waits.items c.mark-in-Some-2.new.waits.items
-    c.in-Some.ensures.items c.loop-k.invariant (rw c.children-front.ensures.front at c.in_ok-mark-2.ensures) (rw c.children-front.ensures.back at c.in_ok-mark-3.ensures)
+    visit c.args.places.now c.in-Some.k c.loop-k.marks c.mark_children.new.marks c.loop-k.waits.items c.pop.new.self.items c.mark_children.new.waits.items
+    c.in-Some.ensures.items c.loop-k.invariant (rw (c.children.ensures.front, c.children.ensures.back) at c.in_ok-mark_children.ensures)
 
 pub loop-k-smaller : goal.loop-k-smaller
 loop-k-smaller g c =
-    visit_smaller c.in-Some.k c.loop-k.marks c.mark-in-Some.new.marks c.mark-in-Some-2.new.marks c.loop-k.waits.items c.pop.new.self.items c.mark-in-Some.new.waits.items c.mark-in-Some-2.new.waits.items
-    _ _ c.in-Some.ensures.items c.in_ok-mark-2.ensures c.in_ok-mark-3.ensures
+    visit_smaller c.in-Some.k c.loop-k.marks c.mark_children.new.marks c.loop-k.waits.items c.pop.new.self.items c.mark_children.new.waits.items
+    _ _ c.in-Some.ensures.items c.in_ok-mark_children.ensures
 
 pub returns : goal.returns
 returns g c = visit_end c.args.places.now c.loop-k.marks c.loop-k.waits.items (sym c.loop-k.waits.ok.0 ∙ c.in_default.ensures.cases.0) c.loop-k.invariant

@@ -1,15 +1,15 @@
 -- The loop that counts child words.
-use Rattle.std.proofs.Common.{◌≡◌, ◌≢◌, ℕ, ◌+◌, ◌<◌, ◌⊎◌, ◌↔◌, inl, inr, refl, sym, ap, ◌∙◌, List, length, Some, None, IsTrue, arith}
-use Rattle.std.specs.Prelude.{slice_index}
-use Rattle.std.proofs.lemmas.Bool.{lt-ltb, le-ltb, cond-true, cond-false, cases_lt, cases_eq}
+use Rattle.std.proofs.Common.{◌≡◌, ◌≢◌, ℕ, ◌+◌, ◌<◌, ◌⊎◌, ◌↔◌, inl, inr, refl, sym, ap, ◌∙◌, List, length, Option, Some, None, IsTrue, arith}
+use Rattle.std.specs.Prelude.{slice_index, nat_lt}
+use Rattle.std.proofs.lemmas.Bool.{lt-ltb, ltb-true, le-ltb, cond-true, cond-false, cases_lt, cases_eq}
 use Rattle.map_geo.specs.declared.sides.Side.{Side}
 use Rattle.map_geo.specs.declared.sides.Side.TheVariants.{Front, Back}
 use Rattle.map_level.specs.Level.{Level}
 use Rattle.map_tree.specs.Paths.{Place, node}
 use Rattle.map_tree.specs.Child.{node_count, has, child}
 use Rattle.map_tree.specs.Slots.{slot, slot_count, child_slot}
-use Rattle.map_tree.specs.TreeFaults.{IsNamedTwice, NodeNamedTwice}
-use Rattle.map_tree.specs.Uses.{once_more, IsUsed, AreUses}
+use Rattle.map_tree.specs.TreeFaults.{IsNamed, IsNamedTwice}
+use Rattle.map_tree.specs.WordCounts.{once_more, IsCounted, AreCounted, AreWordCounts}
 use Rattle.map_tree.proofs.SoundLemmas.{parent_in, child_there, root_node}
 use Rattle.map_tree.proofs.ReachLemmas.{decide_place, none_or_some}
 use Rattle.map_tree.proofs.SlotLemmas.{slot_once, child_slot_of, child_at_slot}
@@ -24,10 +24,10 @@ pub record IsTwiceBy (Seen : ℕ → Side → Type 0) (level : Level) (place : P
   pub one : Seen twice.n twice.s
   pub other : Seen twice.m twice.u
 
-pub record AreUsesBy (Seen : ℕ → Side → Type 0) (level : Level) (uses : List ℕ) : Type 0 where
-  pub long : length uses ≡ slot_count level
-  pub named : (place : Place) → IsTrue (has level place) → (0 < slice_index uses (slot level place)) ↔ IsNamedBy Seen level place
-  pub twice : (place : Place) → IsTrue (has level place) → (1 < slice_index uses (slot level place)) ↔ IsTwiceBy Seen level place
+pub record AreCountsBy (Seen : ℕ → Side → Type 0) (level : Level) (counts : List ℕ) : Type 0 where
+  pub long : length counts ≡ slot_count level
+  pub named : (place : Place) → IsTrue (has level place) → (0 < slice_index counts (slot level place)) ↔ IsNamedBy Seen level place
+  pub twice : (place : Place) → IsTrue (has level place) → (1 < slice_index counts (slot level place)) ↔ IsTwiceBy Seen level place
 
 -- the words of the nodes below n, and these with one of node n
 abbrev pub Below : ℕ → ℕ → Side → Type 0
@@ -118,27 +118,27 @@ module _ (Seen After : ℕ → Side → Type 0) (level : Level) (n : ℕ) (s : S
       let r = child_at_slot level n s (slot level p) e in
       not_here (r.1 ∙ ap Some (slot_once level r.0 p (child_there level n s r.0 r.1) there r.2))
 
-  pub uses_more : (before after : List ℕ) → AreUsesBy Seen level before → IsUsed before after (child_slot level n s) → AreUsesBy After level after
-  uses_more before after uses used = record {
-    long = used.long ∙ uses.long;
+  pub counts_more : (before after : List ℕ) → AreCountsBy Seen level before → IsCounted before after (child_slot level n s) → AreCountsBy After level after
+  counts_more before after counts counted = record {
+    long = counted.long ∙ counts.long;
     named = λ p there. elim (here_or_not p there) [
       | inl here ↦
-          rw (used.named (slot level p) (child_slot_of level n s p here)) ((λ h. (n, s, more.new, here)), (λ h. once_more_some (slice_index before (slot level p))))
+          rw (counted.named (slot level p) (child_slot_of level n s p here)) ((λ h. (n, s, more.new, here)), (λ h. once_more_some (slice_index before (slot level p))))
       | inr not_here ↦
-          let old = uses.named p there in
+          let old = counts.named p there in
           let both = old_named p not_here in
-          rw (used.others (slot level p) (other_slot p there not_here)) ((λ h. both.1 (old.0 h)), (λ h. old.1 (both.0 h)))
+          rw (counted.others (slot level p) (other_slot p there not_here)) ((λ h. both.1 (old.0 h)), (λ h. old.1 (both.0 h)))
     ];
     twice = λ p there. elim (here_or_not p there) [
       | inl here ↦
-          let old = uses.named p there in
+          let old = counts.named p there in
           let both = new_twice p here in
           let count = once_more_twice (slice_index before (slot level p)) in
-          rw (used.named (slot level p) (child_slot_of level n s p here)) ((λ h. both.1 (old.0 (count.0 h))), (λ h. count.1 (old.1 (both.0 h))))
+          rw (counted.named (slot level p) (child_slot_of level n s p here)) ((λ h. both.1 (old.0 (count.0 h))), (λ h. count.1 (old.1 (both.0 h))))
       | inr not_here ↦
-          let old = uses.twice p there in
+          let old = counts.twice p there in
           let both = old_twice p not_here in
-          rw (used.others (slot level p) (other_slot p there not_here)) ((λ h. both.1 (old.0 h)), (λ h. old.1 (both.0 h)))
+          rw (counted.others (slot level p) (other_slot p there not_here)) ((λ h. both.1 (old.0 h)), (λ h. old.1 (both.0 h)))
     ];
   }
 
@@ -163,21 +163,24 @@ back_more n = record {
   fresh = λ h. elim h [ inl less ↦ omega (arith, less) | inr same ↦ let e = same.1 in cc ];
 }
 
-pub uses_start : (level : Level) (uses : List ℕ) → length uses ≡ slot_count level → ((k : ℕ) → slice_index uses k ≡ 0) → AreUsesBy (Below 0) level uses
-uses_start level uses long zeros = record {
+pub counts_start : (level : Level) (counts : List ℕ) → length counts ≡ slot_count level → ((k : ℕ) → slice_index counts k ≡ 0) → AreCountsBy (Below 0) level counts
+counts_start level counts long zeros = record {
   long = long;
   named = λ p there. rw (zeros (slot level p)) ((λ h. absurd (omega (arith, h))), (λ h. absurd (omega (arith, h.2))));
   twice = λ p there. rw (zeros (slot level p)) ((λ h. absurd (omega (arith, h))), (λ h. absurd (omega (arith, h.one))));
 }
 
-pub uses_node : (level : Level) (n : ℕ) (before between after : List ℕ) → AreUsesBy (Below n) level before → IsUsed before between (child_slot level n Front)
-    → IsUsed between after (child_slot level n Back) → AreUsesBy (Below (n + 1)) level after
-uses_node level n before between after uses front back =
-    uses_more (BelowAndFront n) (Below (n + 1)) level n Back (back_more n) between after
-    (uses_more (Below n) (BelowAndFront n) level n Front (front_more n) before between uses front) back
+pub both_counted : (before between after : List ℕ) (front back : Option ℕ) → IsCounted before between front → IsCounted between after back → AreCounted before after front back
+both_counted before between after front back first second = record { between = between; first = first; second = second }
 
-pub uses_end : (level : Level) (uses : List ℕ) → AreUsesBy (Below (node_count level)) level uses → AreUses level uses
-uses_end level uses all = record {
+pub counts_node : (level : Level) (n : ℕ) (before after : List ℕ) → AreCountsBy (Below n) level before
+    → AreCounted before after (child_slot level n Front) (child_slot level n Back) → AreCountsBy (Below (n + 1)) level after
+counts_node level n before after counts both =
+    counts_more (BelowAndFront n) (Below (n + 1)) level n Back (back_more n) both.between after
+    (counts_more (Below n) (BelowAndFront n) level n Front (front_more n) before both.between counts both.first) both.second
+
+pub counts_end : (level : Level) (counts : List ℕ) → AreCountsBy (Below (node_count level)) level counts → AreWordCounts level counts
+counts_end level counts all = record {
   long = all.long;
   named = λ p there. (
     (λ h. let r = (all.named p there).0 h in (r.0, r.1, r.3)),
@@ -189,14 +192,12 @@ uses_end level uses all = record {
   );
 }
 
--- the root, as the last node
-pub last_named : (level : Level) (uses : List ℕ) (n : ℕ) → AreUses level uses → n + 1 ≡ node_count level → (0 < slice_index uses n) ↔ NodeNamedTwice level n
-last_named level uses n are e =
-    let there : IsTrue (has level (node n)) = lt-ltb n (node_count level) (omega arith) in
-    let is_root = root_node level n (omega arith) in (
-      (λ h. inr (is_root, (are.named (node n) there).0 h)),
-      (λ h. elim h [
-        | inl twice ↦ let more = (are.twice (node n) there).1 twice in omega (arith, more)
-        | inr named ↦ (are.named (node n) there).1 named.1
-      ]),
-    )
+-- a place that two child words name is named by one
+pub named_from_twice : (level : Level) (place : Place) → IsNamedTwice level place → IsNamed level place
+named_from_twice level place twice = (twice.n, twice.s, twice.names)
+
+pub node_counted : (level : Level) (counts : List ℕ) (n : ℕ) → AreWordCounts level counts → n < node_count level
+    → IsTrue (nat_lt 0 (slice_index counts n)) ↔ IsNamed level (node n)
+node_counted level counts n are within =
+    let told = are.named (node n) (lt-ltb n (node_count level) within) in
+    ((λ h. told.0 (ltb-true 0 (slice_index counts n) h)), (λ h. lt-ltb 0 (slice_index counts n) (told.1 h)))

@@ -7,16 +7,22 @@ use Rattle.map_tree.specs.Slots.{slot, slot_count}
 use Rattle.map_tree.specs.TreeFaults.{IsNamed, IsNamedTwice}
 
 abbrev pub once_more : ℕ → ℕ
-once_more uses = if nat_lt uses 2 then uses + 1 else uses
+once_more count = if nat_lt count 2 then count + 1 else count
 
 -- one place, or none, is named once more
-pub record IsUsed (before after : List ℕ) (place : Option ℕ) : Type 0 where
+pub record IsCounted (before after : List ℕ) (place : Option ℕ) : Type 0 where
   pub long : length after ≡ length before
   pub named : (k : ℕ) → place ≡ Some k → slice_index after k ≡ once_more (slice_index before k)
   pub others : (k : ℕ) → place ≢ Some k → slice_index after k ≡ slice_index before k
 
+-- the places of a node's children, each or none, are named once more
+pub record AreCounted (before after : List ℕ) (front back : Option ℕ) : Type 0 where
+  pub between : List ℕ
+  pub first : IsCounted before between front
+  pub second : IsCounted between after back
+
 -- which places are named, and which twice
-pub record AreUses (level : Level) (uses : List ℕ) : Type 0 where
-  pub long : length uses ≡ slot_count level
-  pub named : (place : Place) → IsTrue (has level place) → (0 < slice_index uses (slot level place)) ↔ IsNamed level place
-  pub twice : (place : Place) → IsTrue (has level place) → (1 < slice_index uses (slot level place)) ↔ IsNamedTwice level place
+pub record AreWordCounts (level : Level) (counts : List ℕ) : Type 0 where
+  pub long : length counts ≡ slot_count level
+  pub named : (place : Place) → IsTrue (has level place) → (0 < slice_index counts (slot level place)) ↔ IsNamed level place
+  pub twice : (place : Place) → IsTrue (has level place) → (1 < slice_index counts (slot level place)) ↔ IsNamedTwice level place

@@ -1,0 +1,134 @@
+//! Tests of each fault and note on a level's nodes.
+
+ghost use Rattle.std.specs.Prelude.{◌≡◌, ◌<◌, ◌↔◌, IsTrue};
+ghost use Rattle.map_tree.specs.Paths.{node, ssector};
+ghost use Rattle.map_tree.specs.Child.{node_count, ssector_count, root, IsReached};
+ghost use Rattle.map_tree.specs.TreeFaults.{ChildNamesNothing, OriginOutside, NodeNamedTwice};
+ghost use Rattle.map_tree.specs.TreeFaults.{NodeNotReached, SsectorNamedTwice, SsectorNotReached};
+ghost use Rattle.map_tree.specs.TreeFaults.{NoDirection, IsNamed};
+ghost use Rattle.map_tree.specs.WordCounts.{AreWordCounts};
+ghost use Rattle.map_tree.specs.Marks.{AreReached};
+
+use crate::places::Places;
+use map_geo::Partition;
+
+// F11
+#[inline]
+pub fn child_names_nothing(places: &Places<'_, '_>, n: usize) -> bool
+    ensures { IsTrue result ↔ ChildNamesNothing places.now n }
+{
+    if n >= places.nodes() {
+        return false;
+    }
+    let children = places.children(n);
+    children.front.is_none() || children.back.is_none()
+}
+
+// F12
+#[inline]
+pub fn origin_outside(places: &Places<'_, '_>, n: usize) -> bool
+    ensures { IsTrue result ↔ OriginOutside places.now n }
+{
+    match places.table().get(n) {
+        Some(node) => Partition::of(&node).is_none(),
+        None => false,
+    }
+}
+
+// F13
+#[inline]
+#[tactic(auto, using(crate::proofs::WordLemmas::named_from_twice))]
+pub fn node_named_twice(places: &Places<'_, '_>, counts: &[u8], n: usize) -> bool
+    requires { AreWordCounts places.now counts.now }
+    ensures { IsTrue result ↔ NodeNamedTwice places.now n }
+{
+    if n >= places.nodes() {
+        return false;
+    }
+    if is_root(places, n) {
+        return is_node_named(places, counts, n);
+    }
+    counts[n] > 1
+}
+
+// Whether node n, which is there, is the root.
+#[inline]
+fn is_root(places: &Places<'_, '_>, n: usize) -> bool
+    requires { n < node_count places.now }
+    ensures { IsTrue result ↔ (root places.now ≡ node n) }
+{
+    places.nodes() - n == 1
+}
+
+// Whether a child word names node n, which is there.
+#[inline]
+fn is_node_named(places: &Places<'_, '_>, counts: &[u8], n: usize) -> bool
+    requires counts { AreWordCounts places.now counts.now }
+    requires there { n < node_count places.now }
+    ensures { IsTrue result ↔ IsNamed places.now (node n) }
+{
+    let _places = places;
+    counts[n] > 0
+}
+
+// F14
+#[inline]
+pub fn node_not_reached(places: &Places<'_, '_>, reached: &[bool], n: usize) -> bool
+    requires { AreReached places.now reached.now }
+    ensures { IsTrue result ↔ NodeNotReached places.now n }
+{
+    n < places.nodes() && !is_node_reached(places, reached, n)
+}
+
+// Whether node n, which is there, is reached.
+#[inline]
+fn is_node_reached(places: &Places<'_, '_>, reached: &[bool], n: usize) -> bool
+    requires reached { AreReached places.now reached.now }
+    requires there { n < node_count places.now }
+    ensures { IsTrue result ↔ IsReached places.now (node n) }
+{
+    let _places = places;
+    reached[n]
+}
+
+// F15
+#[inline]
+pub fn ssector_named_twice(places: &Places<'_, '_>, counts: &[u8], t: usize) -> bool
+    requires { AreWordCounts places.now counts.now }
+    ensures { IsTrue result ↔ SsectorNamedTwice places.now t }
+{
+    if t >= places.ssectors() {
+        return false;
+    }
+    counts[places.nodes() + t] > 1
+}
+
+// F16
+#[inline]
+pub fn ssector_not_reached(places: &Places<'_, '_>, reached: &[bool], t: usize) -> bool
+    requires { AreReached places.now reached.now }
+    ensures { IsTrue result ↔ SsectorNotReached places.now t }
+{
+    t < places.ssectors() && !is_ssector_reached(places, reached, t)
+}
+
+// Whether ssector t, which is there, is reached.
+#[inline]
+fn is_ssector_reached(places: &Places<'_, '_>, reached: &[bool], t: usize) -> bool
+    requires reached { AreReached places.now reached.now }
+    requires there { t < ssector_count places.now }
+    ensures { IsTrue result ↔ IsReached places.now (ssector t) }
+{
+    reached[places.nodes() + t]
+}
+
+// N7
+#[inline]
+pub fn no_direction(places: &Places<'_, '_>, n: usize) -> bool
+    ensures { IsTrue result ↔ NoDirection places.now n }
+{
+    match places.table().get(n) {
+        Some(node) => node.dx == 0 && node.dy == 0,
+        None => false,
+    }
+}

@@ -4,10 +4,12 @@
 pub mod laws;
 mod marks;
 mod places;
+mod soundness;
 mod tree;
 mod tree_codes;
 mod tree_faults;
 mod words;
 
+pub use soundness::is_sound;
 pub use tree::Tree;
 pub use tree_codes::tree_findings;

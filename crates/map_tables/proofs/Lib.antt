@@ -1,0 +1,4 @@
+pub mod BitLemmas
+pub mod WordLemmas
+pub mod ListLemmas
+pub mod FloorLemmas

@@ -1,0 +1,4 @@
+pub mod Reject
+pub mod Words
+pub mod BlockMap
+pub mod Laws

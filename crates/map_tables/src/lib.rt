@@ -1,0 +1,13 @@
+//! The two lumps of a level that aren't tables of records, and what can be found at them: REJECT,
+//! which refuses sight between sectors, and BLOCKMAP, which lists linedefs by square blocks.
+#![tactic(auto)]
+
+mod block_lines;
+mod block_map;
+pub mod laws;
+mod reject;
+mod words;
+
+pub use block_lines::BlockLines;
+pub use block_map::{BlockFault, BlockMap};
+pub use reject::Reject;

@@ -2,3 +2,4 @@ pub mod BitLemmas
 pub mod WordLemmas
 pub mod ListLemmas
 pub mod FloorLemmas
+pub mod TableLemmas

@@ -1,5 +1,5 @@
 -- Where a list begins and where it ends.
-use Rattle.std.proofs.Common.{◌≡◌, ◌≢◌, ℕ, zero, suc, ◌+◌, ◌-◌, ◌<◌, ◌≤◌, inl, inr, ℤ, pos, ◌↔◌, List, [], ◌∷◌, ◌++◌, length, take, drop, get_or, Some, sym, ap, ◌∙◌, refl, arith}
+use Rattle.std.proofs.Common.{◌≡◌, ◌≢◌, ℕ, zero, suc, ◌+◌, ◌-◌, ◌<◌, ◌≤◌, ◌⊎◌, inl, inr, ℤ, pos, ◌↔◌, List, [], ◌∷◌, ◌++◌, length, take, drop, get_or, Some, sym, ap, ◌∙◌, refl, arith}
 use Rattle.std.specs.Prelude.{true, false, Contains}
 use Rattle.std.specs.List.{slice_get}
 use Rattle.std.specs.Bool.{Decides}
@@ -8,7 +8,7 @@ use Rattle.std.proofs.lemmas.Bool.{cases_lt, cases_Bool, false≢true}
 use Rattle.std.proofs.lemmas.Bool.Decides.{Decides-int_eq}
 use Rattle.std.proofs.lemmas.List.{take-append-drop, drop-drop, drop_more, get_or-take, get_or-drop, length-take, length-drop, length-append, get_or_at}
 use Rattle.std.proofs.lemmas.Option.{slice_get-get_or, slice_get_within, get_or_from_slice_get, same_Some}
-use Rattle.map_tables.specs.Words.{Words, IsListAt, IsBlockList}
+use Rattle.map_tables.specs.Words.{Words, IsListAt, ListsBeginBelow, IsBlockList, HasOffset, IsOffsetOutside, HasNoEnd}
 
 module _ (words : Words) where
   -- no word from a place on, and before another, ends a list
@@ -106,3 +106,26 @@ one_block_list words n a b p q =
     let place : p.place ≡ q.place = cc in
     same_to_end words.end a b p.list_at.after q.list_at.after
     (sym p.list_at.stands ∙ ap (λ n. drop n words.numbers) place ∙ q.list_at.stands) p.list_at.endless q.list_at.endless
+
+-- a block whose offset is a word has no list exactly where no list begins at the offset
+pub offset_past_reach : (words : Words) (reach n place : ℕ) → ListsBeginBelow words reach → HasOffset words n place → place < length words.numbers
+    → (reach ≤ place) ↔ (IsOffsetOutside words n ⊎ HasNoEnd words n)
+offset_past_reach words reach n place lists offset inside = (
+    (λ past. inr (record {
+      place = place;
+      offset = offset;
+      inside = inside;
+      no_list = λ list is. let below = (lists place).1 (list, is) in omega (arith, below);
+    })),
+    (λ fault. elim fault [
+      | inl outside ↦ absurd (omega (arith, outside place offset))
+      | inr none ↦
+        let here : pos place ≡ pos none.place = same_Some _ _ (sym offset ∙ none.offset) in
+        let same : place ≡ none.place = cc in
+        elim (cases_lt place reach) [
+          | inl below ↦
+            let list : (list : List ℤ) × IsListAt words none.place list = (lists none.place).0 (omega (arith, same, below)) in
+            absurd (none.no_list list.0 list.1)
+          | inr past ↦ past
+        ]
+    ]))

@@ -1,4 +1,5 @@
 pub mod Reject
 pub mod Words
 pub mod BlockMap
+pub mod TableFaults
 pub mod Laws

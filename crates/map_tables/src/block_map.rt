@@ -1,7 +1,8 @@
-ghost use Rattle.std.specs.Prelude.{◌≡◌, ◌↔◌, ℕ, ◌<◌, ◌≤◌, length, IfSome, IfNone, IsNone, IfOk, IsErrOf, IsTrue};
+ghost use Rattle.std.specs.Prelude.{◌≡◌, ◌↔◌, ◌⊎◌, ℕ, ◌^◌, ◌+◌, ◌<◌, ◌≤◌, length, IfSome, IfNone, IsNone, IfOk, IsErrOf, IsTrue};
 ghost use Rattle.map_geo.specs.Point.{IsInRange};
 ghost use Rattle.map_tables.specs.Words.{ListsBeginBelow, IsBlockList, IsOffsetOutside, HasNoEnd};
-ghost use Rattle.map_tables.specs.BlockMap.{head, block_map_of, count_of, block_number, IsBlockAlong, IsBlockOf};
+ghost use Rattle.map_tables.specs.TableFaults.{LacksOffsets, IsFaultyBlock};
+ghost use Rattle.map_tables.specs.BlockMap.{head, block_map_of, count_of, block_count, block_number, IsBlockAlong, IsBlockOf};
 
 use crate::block_lines::BlockLines;
 use crate::words::Words;
@@ -103,6 +104,56 @@ impl<'a> BlockMap<'a> {
     {
         let n = u32::from(by) * u32::from(count(self.width)) + u32::from(bx);
         list_of(&self.words, self.reach, n)
+    }
+
+    // How many blocks there are.
+    fn block_count(&self) -> u32
+        ensures value { result ≡ block_count self.now }
+        ensures below { result < 2 ^ 30 }
+    {
+        u32::from(count(self.width)) * u32::from(count(self.height))
+    }
+
+    // Whether some block has no word for its offset.
+    pub(crate) fn lacks_offsets(&self) -> bool
+        ensures { IsTrue result ↔ LacksOffsets self.now }
+    {
+        let blocks = self.block_count();
+        0 < blocks && self.words.len() < 4 + blocks as usize
+    }
+
+    // How many blocks have a word for their offset.
+    pub(crate) fn offset_count(&self) -> u32
+        ensures { (n : ℕ) → IsFaultyBlock self.now n → n < result }
+    {
+        let blocks = self.block_count();
+        let offsets = self.words.len().saturating_sub(4);
+        if offsets < blocks as usize {
+            return offsets as u32;
+        }
+        blocks
+    }
+
+    // Whether block n has a word for its offset and no list.
+    pub(crate) fn is_faulty_block(&self, n: u32) -> bool
+        ensures { IsTrue result ↔ IsFaultyBlock self.now n }
+    {
+        if n >= self.block_count() || 4 + n as usize >= self.words.len() {
+            return false;
+        }
+        has_no_list(&self.words, self.reach, n)
+    }
+}
+
+// Whether block n has no list.
+#[inline]
+fn has_no_list(words: &Words<'_>, reach: usize, n: u32) -> bool
+    requires { ListsBeginBelow words.now reach }
+    ensures { IsTrue result ↔ (IsOffsetOutside words.now n ⊎ HasNoEnd words.now n) }
+{
+    match words.offset(n) {
+        Some(place) => place >= reach,
+        None => true,
     }
 }
 

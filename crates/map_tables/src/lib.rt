@@ -4,10 +4,12 @@
 
 mod block_lines;
 mod block_map;
+mod findings;
 pub mod laws;
 mod reject;
 mod words;
 
 pub use block_lines::BlockLines;
 pub use block_map::{BlockFault, BlockMap};
+pub use findings::table_findings;
 pub use reject::Reject;

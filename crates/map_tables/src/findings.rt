@@ -1,0 +1,100 @@
+//! The table part of a report.
+
+ghost use Rattle.std.specs.Prelude.{◌≡◌, ◌↔◌, ℕ, ◌<◌, IfOk, IsTrue};
+ghost use Rattle.map_level.specs.Findings.{AreFindings};
+ghost use Rattle.map_tables.specs.TableFaults.{TableHolds, RejectSizeDiffers, BlockMapShort, BlockFaulty};
+
+use crate::block_map::BlockMap;
+use map_level::search::{Searched, add_where};
+use map_level::{Code, Findings, Level};
+use std::alloc::{AllocError, Allocator};
+use std::marker::Model;
+
+/// The findings on a level's REJECT and BLOCKMAP, N8 to N10, by code and then by index.
+pub fn table_findings<A: Allocator>(
+    alloc: A,
+    level: &Level<'_>,
+) -> Result<Findings<A>, AllocError>
+    ensures { IfOk result (AreFindings (TableHolds level.now)) }
+{
+    let tables = Tables::of(level);
+    let offsets = tables.offset_count();
+    let mut found = Findings::new(alloc);
+    add_where(&mut found, &tables, Code::N8, 1, |i| tables.reject_size_differs(i))?;
+    add_where(&mut found, &tables, Code::N9, 1, |i| tables.is_short(i))?;
+    add_where(&mut found, &tables, Code::N10, offsets, |n| tables.is_faulty_block(n))?;
+    Ok(found)
+}
+
+// A level, and its blockmap if it has one.
+#[derive(Drop)]
+struct Tables<'l, 'a> {
+    level: &'l Level<'a>,
+    map: Option<BlockMap<'a>>,
+}
+
+impl<'l, 'a> Model for Tables<'l, 'a> {
+    ghost use Rattle.std.specs.Prelude.{◌≡◌, ◌<◌, ◌≤◌, length, MatchOption};
+    ghost use Rattle.map_level.specs.Level.{Level};
+    ghost use Rattle.map_tables.specs.TableFaults.{map_of};
+
+    ghost Value = { Level };
+
+    ghost view = { λ t. t.level.now };
+
+    ghost invariant = { λ t. MatchOption t.map (length t.level.now.blockmap < 8)
+        (λ map. (8 ≤ length t.level.now.blockmap) × (map ≡ map_of t.level.now)) };
+}
+
+impl<'l, 'a> Searched for Tables<'l, 'a> {
+    ghost use Rattle.map_tables.specs.TableFaults.{TableHolds};
+
+    ghost holds = { TableHolds };
+}
+
+impl<'l, 'a> Tables<'l, 'a> {
+    fn of(level: &'l Level<'a>) -> Tables<'l, 'a>
+        ensures { result ≡ level.now }
+    {
+        let map = BlockMap::of(level.blockmap(), level.reading());
+        Tables { level, map }
+    }
+
+    // N8
+    fn reject_size_differs(&self, i: u32) -> bool
+        ensures { IsTrue result ↔ RejectSizeDiffers self.now i }
+    {
+        let sectors = self.level.sectors().len();
+        i == 0 && self.level.reject().len() != (sectors * sectors).div_ceil(8)
+    }
+
+    // N9
+    fn is_short(&self, i: u32) -> bool
+        ensures { IsTrue result ↔ BlockMapShort self.now i }
+    {
+        match &self.map {
+            Some(map) => i == 0 && map.lacks_offsets(),
+            None => i == 0,
+        }
+    }
+
+    // N10
+    fn is_faulty_block(&self, n: u32) -> bool
+        ensures { IsTrue result ↔ BlockFaulty self.now n }
+    {
+        match &self.map {
+            Some(map) => map.is_faulty_block(n),
+            None => false,
+        }
+    }
+
+    // Above the number of each block with a word for its offset.
+    fn offset_count(&self) -> u32
+        ensures { (n : ℕ) → BlockFaulty self.now n → n < result }
+    {
+        match &self.map {
+            Some(map) => map.offset_count(),
+            None => 0,
+        }
+    }
+}

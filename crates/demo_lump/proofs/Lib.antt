@@ -1,0 +1,5 @@
+pub mod CommandLemmas
+pub mod DemoLemmas
+pub mod LawLemmas
+pub mod PieceLemmas
+pub mod ReadingLemmas

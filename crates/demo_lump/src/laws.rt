@@ -1,0 +1,27 @@
+//! Laws over the definitions alone, each the contract of a function that does nothing: a caller gets the law
+//! from a call.
+
+ghost use Rattle.demo_lump.specs.Laws.{NeverBoth, OneReading, OneRefusal, PiecesAreDemo, PiecesAreRefused, ReadOrRefused, ReadsAs109};
+
+/// Bytes have at most one reading as a demo.
+pub fn one_reading()
+    ensures { OneReading }
+{}
+
+/// They have one reading or one refusal, and never both.
+pub fn read_or_refused()
+    ensures either { ReadOrRefused }
+    ensures never_both { NeverBoth }
+    ensures one_refusal { OneRefusal }
+{}
+
+/// A demo that is taken piece by piece is the demo that the bytes are.
+pub fn pieces_are_the_demo()
+    ensures demo { PiecesAreDemo }
+    ensures refused { PiecesAreRefused }
+{}
+
+/// A demo of version 109 is read as if there were no other version.
+pub fn reads_as_109_alone()
+    ensures { ReadsAs109 }
+{}

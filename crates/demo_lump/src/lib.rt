@@ -1,0 +1,14 @@
+//! Doom's demos of versions 109, 110 and 111: read where they stand, written, and read piece by piece from a
+//! source (`g_game.c` of linuxdoom 1.10).
+#![tactic(auto)]
+
+mod command;
+mod demo;
+mod fault;
+mod header;
+pub mod laws;
+
+pub use command::Command;
+pub use demo::Demo;
+pub use fault::DemoFault;
+pub use header::Header;

@@ -1,5 +1,7 @@
 pub mod CommandLemmas
 pub mod DemoLemmas
+pub mod FillingLemmas
 pub mod LawLemmas
 pub mod PieceLemmas
 pub mod ReadingLemmas
+pub mod ReadsLemmas

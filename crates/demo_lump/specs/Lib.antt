@@ -4,4 +4,7 @@ pub mod Command
 pub mod Demo
 pub mod Scanning
 pub mod NextPiece
+pub mod Takes
+pub mod Reads
+pub mod DemoReader
 pub mod Laws

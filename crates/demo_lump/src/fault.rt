@@ -1,4 +1,4 @@
-//! Why bytes are no demo.
+//! Why bytes are no demo, and why a source gave none.
 
 use thiserror::Error;
 
@@ -21,4 +21,15 @@ pub enum DemoFault {
     /// first byte.
     #[error("5 at {0}")]
     NoMarker(u64),
+}
+
+/// Why a source gave no further piece of a demo.
+#[derive(Clone, Copy, Debug, PartialEq, Eq)]
+pub enum StreamFault {
+    /// What came is no demo.
+    Demo(DemoFault),
+    /// The source failed.
+    Read,
+    /// The source gave a byte past the limit.
+    TooLong,
 }

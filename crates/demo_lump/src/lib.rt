@@ -6,9 +6,13 @@ mod command;
 mod demo;
 mod fault;
 mod header;
+mod intake;
 pub mod laws;
+mod piece;
+mod reader;
 
 pub use command::Command;
 pub use demo::Demo;
-pub use fault::DemoFault;
+pub use fault::{DemoFault, StreamFault};
 pub use header::Header;
+pub use reader::DemoReader;

@@ -1,0 +1,143 @@
+//! A demo read from a source, piece by piece.
+
+ghost use Rattle.std.specs.Prelude.{◌≡◌, ◌≤◌, true, false, Option, Some, None, Ok, Err, IfSome};
+ghost use Rattle.demo_lump.specs.DemoReader.{ReadsBoth, ReadsHeader, ReadsNext, ReadsRest};
+
+use crate::command::Command;
+use crate::fault::StreamFault;
+use crate::header::Header;
+use crate::intake::{Intake, LIMIT};
+use crate::piece::{read_command, read_header};
+use le_rec::Source;
+use std::marker::Model;
+
+/// Reads a demo from a source, and asks it only for bytes that are needed.
+#[derive(Drop)]
+pub struct DemoReader {
+    intake: Intake,
+    header: Option<Header>,
+    ended: bool,
+    counted: Option<u64>,
+    fault: Option<StreamFault>,
+}
+
+impl Model for DemoReader {
+    ghost use Rattle.std.specs.Prelude.{◌≡◌, ◌≤◌, None};
+    ghost use Rattle.demo_lump.specs.DemoReader as reader;
+
+    ghost Value = { reader.DemoReader };
+
+    ghost view = { λ r. record { limit = r.intake.limit; taken = r.intake.taken; header = r.header; ended = r.ended; counted = r.counted; fault = r.fault } };
+
+    ghost invariant = { λ r. r.fault ≡ None → r.intake.taken ≤ r.intake.limit };
+}
+
+impl DemoReader {
+    /// A reader that takes at most `limit` bytes.
+    pub fn new(limit: u64) -> DemoReader
+        requires { limit ≤ LIMIT }
+        ensures { result ≡ record { limit = limit; taken = 0; header = None; ended = false; counted = None; fault = None } }
+    {
+        DemoReader {
+            intake: Intake { limit, taken: 0 },
+            header: None,
+            ended: false,
+            counted: None,
+            fault: None,
+        }
+    }
+
+    /// Whether the marker was read.
+    pub fn ended(&self) -> bool
+        ensures { result ≡ self.now.ended }
+    {
+        self.ended
+    }
+
+    /// The header, read at the first call.
+    pub fn header<S: Source>(&mut self, source: &mut S) -> Result<Header, StreamFault>
+        requires { self.old.fault ≡ None → (S.state source.old).failed ≡ false }
+        ensures again { IfSome self.old.fault (λ fault. (result ≡ Err fault) × (self.new ≡ self.old) × (source.new ≡ source.old)) }
+        ensures known { self.old.fault ≡ None → IfSome self.old.header (λ header. (result ≡ Ok header) × (self.new ≡ self.old) × (source.new ≡ source.old)) }
+        ensures first { self.old.fault ≡ None → self.old.header ≡ None
+            → ReadsHeader (S.state source.old) (S.state source.new) self.old self.new result }
+    {
+        if let Some(fault) = self.fault {
+            return Err(fault);
+        }
+        if let Some(header) = self.header {
+            return Ok(header);
+        }
+        let read = read_header(&mut self.intake, source);
+        match read {
+            Ok(header) => self.header = Some(header),
+            Err(fault) => self.fault = Some(fault),
+        }
+        read
+    }
+
+    // The next command, or None for the marker.
+    fn command<S: Source>(
+        &mut self,
+        version: u8,
+        source: &mut S,
+    ) -> Result<Option<Command>, StreamFault>
+        requires going { self.old.fault ≡ None }
+        requires sound { (S.state source.old).failed ≡ false }
+        ensures { ReadsNext version (S.state source.old) (S.state source.new) self.old self.new result }
+    {
+        let read = read_command(version, &mut self.intake, source);
+        match read {
+            Ok(None) => self.ended = true,
+            Ok(Some(_)) => {}
+            Err(fault) => self.fault = Some(fault),
+        }
+        read
+    }
+
+    /// The next command, or None where the marker was read. It reads the header first where that wasn't done.
+    pub fn next<S: Source>(&mut self, source: &mut S) -> Result<Option<Command>, StreamFault>
+        requires { self.old.fault ≡ None → (S.state source.old).failed ≡ false }
+        ensures again { IfSome self.old.fault (λ fault. (result ≡ Err fault) × (self.new ≡ self.old) × (source.new ≡ source.old)) }
+        ensures over { self.old.fault ≡ None → self.old.ended ≡ true → (result ≡ Ok None) × (self.new ≡ self.old) × (source.new ≡ source.old) }
+        ensures known { self.old.fault ≡ None → self.old.ended ≡ false → IfSome self.old.header (λ header.
+            ReadsNext header.version (S.state source.old) (S.state source.new) self.old self.new result) }
+        ensures first { self.old.fault ≡ None → self.old.ended ≡ false → self.old.header ≡ None
+            → ReadsBoth (S.state source.old) (S.state source.new) self.old self.new result }
+    {
+        if let Some(fault) = self.fault {
+            return Err(fault);
+        }
+        if self.ended {
+            return Ok(None);
+        }
+        let version = match self.header {
+            Some(header) => header.version,
+            None => self.header(source)?.version,
+        };
+        self.command(version, source)
+    }
+
+    /// How many bytes follow the marker, counted at the first call.
+    pub fn after<S: Source>(&mut self, source: &mut S) -> Result<u64, StreamFault>
+        requires ended { self.old.ended ≡ true }
+        requires sound { self.old.fault ≡ None → (S.state source.old).failed ≡ false }
+        ensures again { IfSome self.old.fault (λ fault. (result ≡ Err fault) × (self.new ≡ self.old) × (source.new ≡ source.old)) }
+        ensures known { self.old.fault ≡ None → IfSome self.old.counted (λ n. (result ≡ Ok n) × (self.new ≡ self.old) × (source.new ≡ source.old)) }
+        ensures first { self.old.fault ≡ None → self.old.counted ≡ None
+            → ReadsRest (S.state source.old) (S.state source.new) self.old self.new result }
+    {
+        if let Some(fault) = self.fault {
+            return Err(fault);
+        }
+        if let Some(count) = self.counted {
+            return Ok(count);
+        }
+        let read = self.intake.rest(source);
+        match read {
+            Ok(count) => self.counted = Some(count),
+            Err(fault) => self.fault = Some(fault),
+        }
+        read
+    }
+}

@@ -5,3 +5,4 @@ pub mod LawLemmas
 pub mod PieceLemmas
 pub mod ReadingLemmas
 pub mod ReadsLemmas
+pub mod WritingLemmas

@@ -7,4 +7,5 @@ pub mod NextPiece
 pub mod Takes
 pub mod Reads
 pub mod DemoReader
+pub mod Writable
 pub mod Laws

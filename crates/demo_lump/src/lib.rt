@@ -10,9 +10,11 @@ mod intake;
 pub mod laws;
 mod piece;
 mod reader;
+mod write;
 
 pub use command::Command;
 pub use demo::Demo;
 pub use fault::{DemoFault, StreamFault};
 pub use header::Header;
 pub use reader::DemoReader;
+pub use write::write_demo;

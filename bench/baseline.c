@@ -675,7 +675,8 @@ static int ans_census(const i32 *v) {
                 r.x1 = (i16)l; b.x0 = (i16)e;
                 r.w = q->kid[a]; b.w = q->kid[a ^ 1];
             }
-            todo[top++] = b;
+            todo[top++] = r;           /* the second piece is taken first */
+            r = b;
             if (top + 1 > deepest) deepest = top + 1;
         }
         add(ssec[r.w - 32768], (u32)(r.x1 - r.x0 + 1) * (u32)(r.y1 - r.y0 + 1));

@@ -1,5 +1,6 @@
-pub mod Products
-pub mod Signs
-pub mod Along
-pub mod Spans
-pub mod Whole
+pub mod ProductLemmas
+pub mod SignLemmas
+pub mod AlongLemmas
+pub mod SpanLemmas
+pub mod WholeLemmas
+pub mod CutLemmas

@@ -1,3 +1,4 @@
+-- Partitions.
 use Rattle.std.specs.Prelude.{ℤ}
 use Rattle.le_rec.specs.declared.records.Node.{Node}
 

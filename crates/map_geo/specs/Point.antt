@@ -1,3 +1,4 @@
+-- Points and their range.
 use Rattle.std.specs.Prelude.{ℤ, pos, neg_ℤ, ◌≤ℤ◌}
 
 -- a point of the map, in whole map units

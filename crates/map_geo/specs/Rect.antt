@@ -1,3 +1,4 @@
+-- Rectangles, and the side that all their points have.
 use Rattle.std.specs.Prelude.{ℤ, pos, ◌+ℤ◌, ◌-ℤ◌, ◌*ℤ◌, ◌≤ℤ◌, ◌≡◌}
 use Rattle.map_geo.specs.declared.sides.Side.{Side}
 use Rattle.map_geo.specs.Point.{Point, IsInRange, point_at}

@@ -1,3 +1,5 @@
+//! Partitions of nodes, and on which side of one a point lies.
+
 ghost use Rattle.std.specs.Prelude.{◌≡◌, ◌↔◌, IsSome, IfSome, ◌*ℤ◌, ◌-ℤ◌, ◌≤◌, unsigned_abs};
 ghost use Rattle.map_geo.specs.Point.{IsInRange};
 ghost use Rattle.map_geo.specs.Partition.{partition_of};
@@ -27,7 +29,8 @@ impl Model for Partition {
 
     ghost view = { λ p. record { x = p.x; y = p.y; dx = p.dx; dy = p.dy } };
 
-    ghost invariant = { λ p. IsInRange p.x × IsInRange p.y × (unsigned_abs p.dx ≤ 32768) × (unsigned_abs p.dy ≤ 32768) };
+    ghost invariant = { λ p. IsInRange p.x × IsInRange p.y
+        × (unsigned_abs p.dx ≤ 32768) × (unsigned_abs p.dy ≤ 32768) };
 
     ghost inverse = { λ p. record { x = p.x; y = p.y; dx = p.dx; dy = p.dy } };
 }
@@ -68,6 +71,7 @@ impl Partition {
     }
 
     // The side of a point of the line itself, where the cross product is 0.
+    #[cold]
     fn side_on_line(self, point: Point) -> Side
         ensures { result ≡ side_on_line self point }
     {
@@ -109,11 +113,9 @@ pub fn side(point: Point, partition: Partition) -> Side
     ensures { result ≡ side_of partition point }
 {
     let c = partition.cross(point);
-    if c > 0 {
-        Side::Front
-    } else if c < 0 {
-        Side::Back
-    } else {
-        partition.side_on_line(point)
+    if c == 0 {
+        return partition.side_on_line(point);
     }
+    // Either side is as likely, so that this is to be chosen and not branched on.
+    if c < 0 { Side::Back } else { Side::Front }
 }

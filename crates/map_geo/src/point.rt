@@ -1,3 +1,5 @@
+//! Points of a map.
+
 ghost use Rattle.std.specs.Prelude.{◌≡◌, ◌↔◌, IsSome, IfSome, IsTrue};
 ghost use Rattle.map_geo.specs.Point.{IsInRange, point_at};
 
@@ -40,9 +42,9 @@ impl Point {
         }
     }
 
-    // The point (x, y), whose coordinates are known to be in range.
+    /// The point (x, y), where the coordinates are known to be in range.
     #[inline]
-    pub(crate) fn at(x: i32, y: i32) -> Point
+    pub fn at(x: i32, y: i32) -> Point
         requires x_in { IsInRange x }
         requires y_in { IsInRange y }
         ensures { result ≡ point_at x y }

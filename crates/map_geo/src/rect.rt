@@ -1,4 +1,6 @@
-ghost use Rattle.std.specs.Prelude.{◌≡◌, ◌↔◌, IsSome, IfSome, IsNone, IsTrue};
+//! Rectangles of a map, and on which side of a partition all their points lie.
+
+ghost use Rattle.std.specs.Prelude.{◌≡◌, ◌↔◌, ◌≤ℤ◌, IsSome, IfSome, IsNone, IsTrue};
 ghost use Rattle.map_geo.specs.declared.sides.Side.{Side};
 ghost use Rattle.map_geo.specs.Point.{IsInRange, point_at};
 ghost use Rattle.map_geo.specs.Side.{side_of};
@@ -85,6 +87,46 @@ impl Rect {
     {
         self.y1
     }
+
+    /// Its rows up to y.
+    #[inline]
+    pub fn rows_to(self, y: i32) -> Rect
+        requires from { self.y0 ≤ℤ y }
+        requires to { y ≤ℤ self.y1 }
+        ensures { result ≡ record self { y1 = y } }
+    {
+        Rect { y1: y, ..self }
+    }
+
+    /// Its rows from y on.
+    #[inline]
+    pub fn rows_from(self, y: i32) -> Rect
+        requires from { self.y0 ≤ℤ y }
+        requires to { y ≤ℤ self.y1 }
+        ensures { result ≡ record self { y0 = y } }
+    {
+        Rect { y0: y, ..self }
+    }
+
+    /// Its columns up to x.
+    #[inline]
+    pub fn columns_to(self, x: i32) -> Rect
+        requires from { self.x0 ≤ℤ x }
+        requires to { x ≤ℤ self.x1 }
+        ensures { result ≡ record self { x1 = x } }
+    {
+        Rect { x1: x, ..self }
+    }
+
+    /// Its columns from x on.
+    #[inline]
+    pub fn columns_from(self, x: i32) -> Rect
+        requires from { self.x0 ≤ℤ x }
+        requires to { x ≤ℤ self.x1 }
+        ensures { result ≡ record self { x0 = x } }
+    {
+        Rect { x0: x, ..self }
+    }
 }
 
 // How many coordinates there are from the first to the last: at most 32,768.
@@ -126,7 +168,8 @@ fn corner_side(rect: Rect, partition: Partition) -> Option<Side>
 fn row_side(rect: Rect, y: i32, partition: Partition) -> Option<Side>
     requires { IsInRange y }
     ensures { (s : Side) → (result ≡ Some s)
-        ↔ (side_of partition (point_at rect.x0 y) ≡ s) × (side_of partition (point_at rect.x1 y) ≡ s) }
+        ↔ (side_of partition (point_at rect.x0 y) ≡ s)
+        × (side_of partition (point_at rect.x1 y) ≡ s) }
 {
     let left = side(Point::at(rect.x0(), y), partition);
     let right = side(Point::at(rect.x1(), y), partition);

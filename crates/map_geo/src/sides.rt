@@ -1,3 +1,5 @@
+//! The two sides of a partition.
+
 /// A side of a partition.
 #[derive(Clone, Copy, Debug, PartialEq, Eq)]
 pub enum Side {

@@ -148,6 +148,16 @@ fn rectangles(rt: HostRuntime) {
 }
 
 #[test]
+fn rectangles_cut(rt: HostRuntime) {
+    let whole = rect(&rt, -3, 10, 5, 20);
+    assert!(rt; whole.x0() <= 2 && 2 <= whole.x1() && whole.y0() <= 12 && 12 <= whole.y1());
+    assert_eq!(rt; Some(whole.rows_to(12)), Rect::new(-3, 10, 5, 12));
+    assert_eq!(rt; Some(whole.rows_from(12)), Rect::new(-3, 12, 5, 20));
+    assert_eq!(rt; Some(whole.columns_to(2)), Rect::new(-3, 10, 2, 20));
+    assert_eq!(rt; Some(whole.columns_from(2)), Rect::new(2, 10, 5, 20));
+}
+
+#[test]
 fn whole_sides(rt: HostRuntime) {
     let base = partition(&rt, 0, 0, 0, 64);
     let nowhere = partition(&rt, 3, 3, 0, 0);

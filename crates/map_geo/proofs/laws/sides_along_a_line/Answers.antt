@@ -1,4 +1,4 @@
-use Rattle.map_geo.proofs.Along.{sides_along_rows, sides_along_columns, sides_by_corners}
+use Rattle.map_geo.proofs.AlongLemmas.{sides_along_rows, sides_along_columns, sides_by_corners}
 use Rattle.map_geo.proofs.laws.sides_along_a_line.Goals as goal
 
 pub returns-clause-rows : goal.returns-clause-rows

@@ -1,5 +1,5 @@
 use Rattle.std.proofs.lemmas.Int.{to_z-of_z}
-use Rattle.map_geo.proofs.Products.{product_read, product_fits, unsigned_abs-product}
+use Rattle.map_geo.proofs.ProductLemmas.{product_read, product_fits, unsigned_abs-product}
 use Rattle.map_geo.proofs.partition.product.Goals as goal
 
 pub overflow_mul-result : goal.overflow_mul-result

@@ -1,6 +1,6 @@
 use Rattle.std.proofs.Common.{FitsSigned, w32, Some, ◌∙◌, ap, rules}
 use Rattle.std.proofs.lemmas.Int.{to_z-of_z}
-use Rattle.map_geo.proofs.Whole.{some_of_both}
+use Rattle.map_geo.proofs.WholeLemmas.{some_of_both}
 use Rattle.map_geo.proofs.rect.corner_side.Goals as goal
 
 pub returns-in_err-low-clause-corners : goal.returns-in_err-low-clause-corners

@@ -1,6 +1,6 @@
 use Rattle.std.proofs.Common.{FitsSigned, w32, rules}
 use Rattle.std.proofs.lemmas.Int.{to_z-of_z}
-use Rattle.map_geo.proofs.Whole.{some_of_both}
+use Rattle.map_geo.proofs.WholeLemmas.{some_of_both}
 use Rattle.map_geo.proofs.rect.row_side.Goals as goal
 
 pub returns : goal.returns

@@ -1,4 +1,4 @@
-use Rattle.map_geo.proofs.Whole.{whole_from_corners, only_from_corners, none_from_corners}
+use Rattle.map_geo.proofs.WholeLemmas.{whole_from_corners, only_from_corners, none_from_corners}
 use Rattle.map_geo.proofs.rect.whole_side.Goals as goal
 
 pub returns-clause-whole : goal.returns-clause-whole

@@ -1,6 +1,6 @@
 use Rattle.std.proofs.Common.{refl}
 use Rattle.std.proofs.lemmas.Int.{to_z-of_z}
-use Rattle.map_geo.proofs.Spans.{HasLength-read, area_read_fits, IsRect-from_test, not_IsRect-from_test}
+use Rattle.map_geo.proofs.SpanLemmas.{HasLength-read, area_read_fits, IsRect-from_test, not_IsRect-from_test}
 use Rattle.map_geo.proofs.rect.Rect.new.Goals as goal
 
 pub overflow_mul-columns : goal.overflow_mul-columns

@@ -11,8 +11,8 @@ use Rattle.map_geo.specs.Point.{Point, point_at}
 use Rattle.map_geo.specs.Partition.{Partition}
 use Rattle.map_geo.specs.Side.{cross, is_origin, side_of_tie, side_of}
 use Rattle.map_geo.specs.Laws.{SidesAlongRows, SidesAlongColumns, SidesByCorners}
-use Rattle.map_geo.proofs.Products.{mul-lt_positive, mul-lt_negative}
-use Rattle.map_geo.proofs.Signs.{side_of-front, side_of-back, cross-front, cross-back, side_of-same}
+use Rattle.map_geo.proofs.ProductLemmas.{mul-lt_positive, mul-lt_negative}
+use Rattle.map_geo.proofs.SignLemmas.{side_of-front, side_of-back, cross-front, cross-back, side_of-same}
 
 -- m lies strictly between a and b
 record IsBetween (a m b : ℤ) : Type 0 where

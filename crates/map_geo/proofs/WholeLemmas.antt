@@ -8,7 +8,7 @@ use Rattle.map_geo.specs.declared.sides.Side.{Side}
 use Rattle.map_geo.specs.declared.sides.Side.TheVariants.{Front, Back}
 use Rattle.map_geo.specs.Partition.{Partition}
 use Rattle.map_geo.specs.Rect.{Rect, IsRect, AreCornersOn, IsWholeSide}
-use Rattle.map_geo.proofs.Along.{sides_by_corners}
+use Rattle.map_geo.proofs.AlongLemmas.{sides_by_corners}
 
 -- what the code's `(a == b).then_some(a)` gives
 pub some_of_both : (a b s : Side) → (then_some (sameb the_type a b) a ≡ Some s) ↔ (a ≡ s) × (b ≡ s)

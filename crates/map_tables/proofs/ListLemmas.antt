@@ -111,21 +111,22 @@ one_block_list words n a b p q =
 pub offset_past_reach : (words : Words) (reach n place : ℕ) → ListsBeginBelow words reach → HasOffset words n place → place < length words.numbers
     → (reach ≤ place) ↔ (IsOffsetOutside words n ⊎ HasNoEnd words n)
 offset_past_reach words reach n place lists offset inside = (
-    (λ past. inr (record {
-      place = place;
-      offset = offset;
-      inside = inside;
-      no_list = λ list is. let below = (lists place).1 (list, is) in omega (arith, below);
-    })),
-    (λ fault. elim fault [
-      | inl outside ↦ absurd (omega (arith, outside place offset))
-      | inr none ↦
+  (λ past. inr (record {
+    place = place;
+    offset = offset;
+    inside = inside;
+    no_list = λ list is. let below = (lists place).1 (list, is) in omega (arith, below);
+  })),
+  (λ fault. elim fault [
+    | inl outside ↦ absurd (omega (arith, outside place offset))
+    | inr none ↦
         let here : pos place ≡ pos none.place = same_Some _ _ (sym offset ∙ none.offset) in
         let same : place ≡ none.place = cc in
         elim (cases_lt place reach) [
           | inl below ↦
-            let list : (list : List ℤ) × IsListAt words none.place list = (lists none.place).0 (omega (arith, same, below)) in
-            absurd (none.no_list list.0 list.1)
+              let list : (list : List ℤ) × IsListAt words none.place list = (lists none.place).0 (omega (arith, same, below)) in
+              absurd (none.no_list list.0 list.1)
           | inr past ↦ past
         ]
-    ]))
+  ]),
+)

@@ -1,4 +1,5 @@
-ghost use Rattle.std.specs.Prelude.{◌≡◌, ◌↔◌, ◌⊎◌, ℕ, ◌^◌, ◌+◌, ◌<◌, ◌≤◌, length, IfSome, IfNone, IsNone, IfOk, IsErrOf, IsTrue};
+ghost use Rattle.std.specs.Prelude.{◌≡◌, ◌↔◌, ◌⊎◌, ℕ, ◌^◌, ◌+◌, ◌<◌, ◌≤◌, pos, length, IfSome, IfNone, IsNone, IfOk, IsErrOf, IsTrue};
+ghost use Rattle.std.specs.Int.{int_div_euclid};
 ghost use Rattle.map_geo.specs.Point.{IsInRange};
 ghost use Rattle.map_tables.specs.Words.{ListsBeginBelow, IsBlockList, IsOffsetOutside, HasNoEnd};
 ghost use Rattle.map_tables.specs.TableFaults.{LacksOffsets, IsFaultyBlock};
@@ -204,9 +205,17 @@ fn block_along(origin: i16, blocks: i16, z: i32) -> Option<u16>
     ensures inside { IfSome result (λ k. k < count_of blocks) }
     ensures none { IfNone result ((k : ℕ) → IsBlockAlong origin z k → count_of blocks ≤ k) }
 {
-    let block = (z - i32::from(origin)).div_euclid(128);
+    let block = floor_blocks(z - i32::from(origin));
     if block < 0 || block >= i32::from(blocks) {
         return None;
     }
     Some(block as u16)
+}
+
+// So many whole blocks of 128 map units lie in a distance: rounded down where it is negative too.
+#[inline]
+fn floor_blocks(distance: i32) -> i32
+    ensures { result ≡ int_div_euclid distance (pos 128) }
+{
+    distance.div_euclid(128)
 }

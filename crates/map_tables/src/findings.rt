@@ -11,18 +11,27 @@ use std::alloc::{AllocError, Allocator};
 use std::marker::Model;
 
 /// The findings on a level's REJECT and BLOCKMAP, N8 to N10, by code and then by index.
-pub fn table_findings<A: Allocator>(
-    alloc: A,
-    level: &Level<'_>,
-) -> Result<Findings<A>, AllocError>
+pub fn table_findings<A: Allocator>(alloc: A, level: &Level<'_>) -> Result<Findings<A>, AllocError>
     ensures { IfOk result (AreFindings (TableHolds level.now)) }
 {
     let tables = Tables::of(level);
     let offsets = tables.offset_count();
     let mut found = Findings::new(alloc);
-    add_where(&mut found, &tables, Code::N8, 1, |i| tables.reject_size_differs(i))?;
+    add_where(
+        &mut found,
+        &tables,
+        Code::N8,
+        1,
+        |i| tables.reject_size_differs(i),
+    )?;
     add_where(&mut found, &tables, Code::N9, 1, |i| tables.is_short(i))?;
-    add_where(&mut found, &tables, Code::N10, offsets, |n| tables.is_faulty_block(n))?;
+    add_where(
+        &mut found,
+        &tables,
+        Code::N10,
+        offsets,
+        |n| tables.is_faulty_block(n),
+    )?;
     Ok(found)
 }
 

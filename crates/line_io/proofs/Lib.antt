@@ -1,0 +1,11 @@
+pub mod BlockLemmas
+pub mod DigitLemmas
+pub mod InputLemmas
+pub mod LineLemmas
+pub mod LinesLemmas
+pub mod PartsLemmas
+pub mod ProgressLemmas
+pub mod ReadingLemmas
+pub mod TextLemmas
+pub mod WriteLemmas
+pub mod WriteProgressLemmas

@@ -1,0 +1,9 @@
+pub mod AnswersLines
+pub mod Decimal
+pub mod Laws
+pub mod LineAnswers
+pub mod Lines
+pub mod Numbers
+pub mod ReadsAll
+pub mod Scan
+pub mod Writes

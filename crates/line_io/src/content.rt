@@ -1,0 +1,207 @@
+//! The numbers of an input line.
+
+ghost use Rattle.std.specs.Prelude.{◌≡◌, ℕ, ℤ, ◌+◌, ◌^◌, ◌≤◌, ◌<◌, ◌≢◌, ◌++◌, All, IfSome, IfNone, IsTrue, MatchOption, List, length, map, take, min, slice_index, false};
+ghost use Rattle.line_io.specs.Numbers.{HasForm, IsDigit, nearest, printed, value_of, sign_text, signed};
+ghost use Rattle.line_io.specs.Scan.{StartsWith, LacksNumber};
+
+use super::lines::CONTENT;
+
+/// The numbers that stand in a line's content.
+#[derive(Clone, Copy, Debug, PartialEq, Eq)]
+pub struct Numbers<const N: usize> {
+    /// The numbers, each as the `i32` that is nearest to it.
+    pub values: [i32; N],
+    /// Whether the content is known to be their text as they are printed, so that it can stand in an answer.
+    pub is_printed: bool,
+}
+
+/// Where a magnitude stops to grow.
+const CAP: u64 = 2_147_483_648;
+
+/// The numbers of an input line's content: texts of an optional `-` and digits, with one space between two, in 64 bytes
+/// at most. None where it isn't so many numbers.
+///
+/// A number may have more digits than any integer type holds: whether it is allowed is told by the type that is made of
+/// it.
+pub fn read_numbers<const N: usize>(content: &[u8]) -> Option<Numbers<N>>
+    ensures some { IfSome result (λ found.
+        (exact : List ℤ) × HasForm N content.now exact × (found.values ≡ map nearest exact)) }
+    ensures printed { IfSome result (λ found. IsTrue found.is_printed → content.now ≡ printed found.values) }
+    ensures none { IfNone result ((exact : List ℤ) → HasForm N content.now exact → ⊥) }
+{
+    if content.len() > CONTENT {
+        return None;
+    }
+    let mut values = [0; N];
+    let mut is_printed = true;
+    let mut rest = content;
+    for i in 0..N {
+        let (value, plain, after) = item(i > 0, rest)?;
+        values[i] = value;
+        is_printed &= plain;
+        rest = after;
+    }
+    if !rest.is_empty() {
+        return None;
+    }
+    Some(Numbers { values, is_printed })
+}
+
+// The number that the bytes begin with, behind a space where it is separated from one before, whether it stands there
+// as it is printed, and what follows it.
+#[inline]
+fn item(separated: bool, bytes: &[u8]) -> Option<(i32, bool, &[u8])>
+    ensures { MatchOption result (LacksNumber separated bytes.now)
+        (λ found. StartsWith separated bytes.now found.0 found.1 found.2.now) }
+{
+    if !separated {
+        return number(bytes);
+    }
+    match bytes.split_first() {
+        Some((b' ', rest)) => number(rest),
+        _ => None,
+    }
+}
+
+#[inline]
+fn number(bytes: &[u8]) -> Option<(i32, bool, &[u8])>
+    ensures { MatchOption result (LacksNumber false bytes.now)
+        (λ found. StartsWith false bytes.now found.0 found.1 found.2.now) }
+{
+    let (negative, unsigned) = after_sign(bytes);
+    let (count, magnitude) = digits(unsigned);
+    if count == 0 {
+        return None;
+    }
+    let plain = is_plain(negative, &unsigned[..count], magnitude);
+    Some((signed(negative, magnitude), plain, &unsigned[count..]))
+}
+
+// Whether a sign and digits stand there as their number is printed: without a leading zero, and with no `-` before 0.
+#[inline]
+fn is_plain(negative: bool, digits: &[u8], magnitude: u64) -> bool
+    requires { 0 < length digits.now }
+    ensures { IsTrue result → (magnitude < CAP)
+        × (slice_index digits.now 0 ≡ 48 → (negative ≡ false) × (length digits.now ≡ 1)) }
+{
+    magnitude < CAP && (digits[0] != b'0' || (!negative && digits.len() == 1))
+}
+
+// Whether the bytes begin with `-`, and what follows it.
+#[inline]
+fn after_sign(bytes: &[u8]) -> (bool, &[u8])
+    ensures spelled { bytes.now ≡ sign_text result.0 ++ result.1.now }
+    ensures absent { result.0 ≡ false → slice_index bytes.now 0 ≢ 45 }
+{
+    match bytes.split_first() {
+        Some((b'-', rest)) => (true, rest),
+        _ => (false, bytes),
+    }
+}
+
+#[inline]
+fn signed(negative: bool, magnitude: u64) -> i32
+    requires { magnitude ≤ CAP }
+    ensures { result ≡ nearest (signed negative magnitude) }
+{
+    if negative {
+        (-(magnitude as i64)) as i32
+    } else {
+        magnitude.min(CAP - 1) as i32
+    }
+}
+
+// How many digits the bytes begin with, and the number that they stand for, or the cap where that is less.
+#[inline]
+fn digits(bytes: &[u8]) -> (usize, u64)
+    ensures within { result.0 ≤ length bytes.now }
+    ensures each { All IsDigit (take result.0 bytes.now) }
+    ensures end { result.0 < length bytes.now → IsDigit (slice_index bytes.now result.0) → ⊥ }
+    ensures value { result.1 ≡ min (value_of (take result.0 bytes.now)) CAP }
+{
+    let mut value = 0;
+    for (count, byte) in bytes.iter().enumerate() {
+        if !byte.is_ascii_digit() {
+            return (count, value);
+        }
+        value = (value * 10 + u64::from(*byte - b'0')).min(CAP);
+    }
+    (bytes.len(), value)
+}
+
+#[cfg(test)]
+mod tests {
+    use super::*;
+    use std::test::Fail;
+
+    fn pair(x: i32, y: i32, is_printed: bool) -> Option<Numbers<2>> {
+        Some(Numbers {
+            values: [x, y],
+            is_printed,
+        })
+    }
+
+    #[test]
+    fn line_forms(rt: HostRuntime) {
+        assert_eq!(rt; read_numbers::<2>(b"x"), None);
+        assert_eq!(rt; read_numbers(b"16384 0"), pair(16384, 0, true));
+        assert_eq!(rt; read_numbers::<2>(b"0  5"), None);
+        assert_eq!(rt; read_numbers::<2>(b"1 2 3"), None);
+        assert_eq!(rt; read_numbers::<2>(b""), None);
+        assert_eq!(rt; read_numbers(b"007 -0"), pair(7, 0, false));
+        assert_eq!(rt; read_numbers::<2>(b"+1 1"), None);
+        assert_eq!(rt; read_numbers::<2>(b"1 2 "), None);
+        assert_eq!(rt; read_numbers::<2>(b"1 -"), None);
+    }
+
+    #[test]
+    fn line_lengths(rt: HostRuntime) -> Result<(), Fail> {
+        let mut line = Vec::from_slice(rt.alloc(), &[b'0'; 62])?;
+        line.extend_from_slice(b" 5")?;
+        assert_eq!(rt; read_numbers(&line), pair(0, 5, false));
+        let mut line = Vec::from_slice(rt.alloc(), &[b'0'; 63])?;
+        line.extend_from_slice(b" 5")?;
+        assert_eq!(rt; read_numbers::<2>(&line), None);
+        let mut line = Vec::from_slice(rt.alloc(), &[b'9'; 62])?;
+        line.extend_from_slice(b" 5")?;
+        assert_eq!(rt; read_numbers(&line), pair(i32::MAX, 5, false));
+        Ok(())
+    }
+
+    #[test]
+    fn numbers_past_every_type(rt: HostRuntime) {
+        assert_eq!(rt;
+            read_numbers(b"2147483647 -2147483647"),
+            pair(i32::MAX, -2147483647, true)
+        );
+        assert_eq!(rt; read_numbers(b"2147483648 0"), pair(i32::MAX, 0, false));
+        assert_eq!(rt;
+            read_numbers(b"-4294967296 -2147483649"),
+            pair(i32::MIN, i32::MIN, false)
+        );
+    }
+
+    #[test]
+    fn printed_numbers(rt: HostRuntime) {
+        assert_eq!(rt; read_numbers(b"10 -1"), pair(10, -1, true));
+        assert_eq!(rt; read_numbers(b"0 0"), pair(0, 0, true));
+        assert_eq!(rt; read_numbers(b"00 1"), pair(0, 1, false));
+        assert_eq!(rt; read_numbers(b"1 -01"), pair(1, -1, false));
+        assert_eq!(rt; read_numbers(b"1 -0"), pair(1, 0, false));
+    }
+
+    #[test]
+    fn other_counts(rt: HostRuntime) {
+        let none = Numbers {
+            values: [],
+            is_printed: true,
+        };
+        let four = Numbers {
+            values: [1, -2, 3, -4],
+            is_printed: true,
+        };
+        assert_eq!(rt; read_numbers(b""), Some(none));
+        assert_eq!(rt; read_numbers(b"1 -2 3 -4"), Some(four));
+        assert_eq!(rt; read_numbers::<3>(b"1 -2 3 -4"), None);
+    }
+}

@@ -1,0 +1,170 @@
+//! The engine of lines, on which every command over lines of input stands.
+ghost use Rattle.std.specs.Prelude.{◌≡◌, ◌≢◌, ℕ, ◌≤◌, Bool, false, List, [], ◌∷◌, ◌++◌, length, take, OnOk, MatchOption};
+ghost use Rattle.std.specs.List.{All};
+ghost use Rattle.line_io.specs.AnswersLines.{AnswersLines};
+ghost use Rattle.line_io.specs.LineAnswers.{answers_from, last_answer, line_answer};
+ghost use Rattle.line_io.specs.Lines.{content, last_from};
+ghost use Rattle.line_io.specs.Writes.{EndsWriting, TakesText};
+
+use super::fault::IoFault;
+use super::input::{LIMIT, next_block};
+use super::line_part::{KEPT, LinePart};
+use super::output::emit;
+use le_rec::{Sink, Source};
+use memchr::memchr;
+
+/// The most bytes that are pulled at once.
+const BLOCK: usize = 8192;
+
+/// The most bytes of a line's content.
+pub const CONTENT: usize = 64;
+
+/// A command that answers each line of its input by itself.
+pub trait LineCommand {
+    // Whether its answers are told by a function of a line's content, its byte 10 too.
+    ghost Answers: { Self → (List ℕ → List ℕ) → Type 0 };
+
+    // Whether an answer takes memory.
+    ghost takes_memory: { Bool };
+
+    /// Writes the answer to a line with that content.
+    fn reply<W: Sink>(&self, content: &[u8], out: &mut W) -> Result<(), IoFault>
+        requires short { length content.now ≤ CONTENT }
+        requires sound { (W.state out.old).failed ≡ false }
+        ensures takes { (answer : List ℕ → List ℕ) → Answers self.now answer
+            → TakesText (W.state out.old) (W.state out.new) (answer content.now) result }
+        ensures ends { EndsWriting takes_memory (W.state out.new) result };
+}
+
+fn content_of(line: &[u8]) -> &[u8]
+    ensures { result.now ≡ content line.now }
+{
+    if line.last() == Some(&13) {
+        &line[..line.len() - 1]
+    } else {
+        line
+    }
+}
+
+fn answer_line<C: LineCommand, W: Sink>(
+    command: &C,
+    line: &[u8],
+    out: &mut W,
+) -> Result<(), IoFault>
+    requires { (W.state out.old).failed ≡ false }
+    ensures takes { (answer : List ℕ → List ℕ) → C.Answers command.now answer
+        → TakesText (W.state out.old) (W.state out.new) (line_answer answer line.now) result }
+    ensures ends { EndsWriting C.takes_memory (W.state out.new) result }
+{
+    let content = content_of(line);
+    if content.len() > CONTENT {
+        emit(out, b"refused: form\n")
+    } else {
+        command.reply(content, out)
+    }
+}
+
+// Answers the line that `part` begins and `line` ends.
+fn answer_ended<C: LineCommand, W: Sink>(
+    command: &C,
+    part: &mut LinePart,
+    line: &[u8],
+    out: &mut W,
+) -> Result<(), IoFault>
+    requires { (W.state out.old).failed ≡ false }
+    ensures takes { (answer : List ℕ → List ℕ) → C.Answers command.now answer
+        → TakesText (W.state out.old) (W.state out.new) (line_answer answer (part.old ++ line.now)) result }
+    ensures ends { EndsWriting C.takes_memory (W.state out.new) result }
+    ensures cleared { part.new ≡ [] }
+{
+    if part.is_empty() {
+        return answer_line(command, line, out);
+    }
+    part.keep(line);
+    let answered = answer_line(command, part.bytes(), out);
+    part.clear();
+    answered
+}
+
+// The bytes before the first byte 10 and those behind it.
+fn split_line(bytes: &[u8]) -> Option<(&[u8], &[u8])>
+    ensures { MatchOption result (All (λ b. b ≢ 10) bytes.now) (λ p.
+        (bytes.now ≡ p.0.now ++ 10 ∷ p.1.now) × All (λ b. b ≢ 10) p.0.now) }
+{
+    let end = memchr(10, bytes)?;
+    Some((&bytes[..end], &bytes[end + 1..]))
+}
+
+// Answers the lines that end in `block`, the first of them begun by `part`, and keeps the part after
+// them.
+fn answer_block<C: LineCommand, W: Sink>(
+    command: &C,
+    part: &mut LinePart,
+    block: &[u8],
+    out: &mut W,
+) -> Result<(), IoFault>
+    requires { (W.state out.old).failed ≡ false }
+    ensures takes { (answer : List ℕ → List ℕ) → C.Answers command.now answer
+        → TakesText (W.state out.old) (W.state out.new) (answers_from answer part.old block.now) result }
+    ensures ends { EndsWriting C.takes_memory (W.state out.new) result }
+    ensures kept { OnOk result (part.new ≡ take KEPT (last_from part.old block.now)) }
+{
+    let mut rest = block;
+    'lines: while let Some((line, after)) = split_line(rest) {
+        answer_ended(command, part, line, out)?;
+        rest = after;
+    }
+    part.keep(rest);
+    Ok(())
+}
+
+// Answers the last part of the input, if there is one.
+fn answer_last<C: LineCommand, W: Sink>(
+    command: &C,
+    part: &LinePart,
+    out: &mut W,
+) -> Result<(), IoFault>
+    requires { (W.state out.old).failed ≡ false }
+    ensures takes { (answer : List ℕ → List ℕ) → C.Answers command.now answer
+        → TakesText (W.state out.old) (W.state out.new) (last_answer answer part.now) result }
+    ensures ends { EndsWriting C.takes_memory (W.state out.new) result }
+{
+    if part.is_empty() {
+        Ok(())
+    } else {
+        answer_line(command, part.bytes(), out)
+    }
+}
+
+/// Reads `input` to its end and writes the answer to each of its lines, as soon as the line has
+/// ended. It pulls at most one byte past `limit`.
+pub fn answer_lines<C: LineCommand, S: Source, W: Sink>(
+    command: &C,
+    input: &mut S,
+    limit: u64,
+    out: &mut W,
+) -> Result<(), IoFault>
+    requires limit { limit ≤ LIMIT }
+    requires input { (S.state input.old).failed ≡ false }
+    requires out { (W.state out.old).failed ≡ false }
+    ensures { AnswersLines (C.Answers command.now) C.takes_memory limit
+        (S.state input.old) (S.state input.new) (W.state out.old) (W.state out.new) result }
+{
+    let mut block = [0; BLOCK];
+    let mut part = LinePart::new();
+    let mut read = 0;
+    'turns: for _turn in 0..limit + 1 {
+        let room = (limit + 1 - read).min(BLOCK as u64) as usize;
+        let bytes = next_block(input, &mut block[..room])?;
+        if bytes.is_empty() {
+            return answer_last(command, &part, out);
+        }
+        read += bytes.len() as u64;
+        let within = bytes.len() - usize::from(read > limit);
+        answer_block(command, &mut part, &bytes[..within], out)?;
+        if read > limit {
+            return Err(IoFault::TooLong);
+        }
+    }
+    unreachable!()
+}

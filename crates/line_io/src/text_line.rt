@@ -1,0 +1,106 @@
+//! The text of an answer line.
+
+ghost use Rattle.std.specs.Prelude.{◌≡◌, ◌+◌, ◌≤◌, [], ◌++◌, decimal, length};
+ghost use Rattle.std.specs.Fmt.{signed_decimal};
+
+use itoa::write_digits;
+use std::marker::Model;
+
+/// The most bytes of a line.
+const ROOM: usize = 128;
+
+/// A line of text in the making, kept on the stack. It is filled from its end to its start, so that the digits of a
+/// number are written where they stay. Contracts see the bytes so far.
+#[derive(Drop)]
+pub struct TextLine {
+    bytes: [u8; ROOM],
+    start: usize,
+}
+
+impl Model for TextLine {
+    ghost use Rattle.std.specs.Prelude.{◌≡◌, ◌≤◌, List, ℕ, drop, length};
+
+    ghost Value = { List ℕ };
+
+    ghost view = { λ line. drop line.start line.bytes };
+
+    ghost invariant = { λ line. (line.start ≤ 128) × (length line.bytes ≡ 128) };
+}
+
+impl TextLine {
+    /// The empty line.
+    #[inline]
+    pub fn new() -> Self
+        ensures { result ≡ [] }
+    {
+        TextLine {
+            bytes: [0; ROOM],
+            start: ROOM,
+        }
+    }
+
+    /// The bytes so far.
+    #[inline]
+    pub fn as_bytes(&self) -> &[u8]
+        ensures { result.now ≡ self.now }
+    {
+        &self.bytes[self.start..]
+    }
+
+    /// Puts bytes before the others.
+    #[inline]
+    pub fn put_bytes(&mut self, bytes: &[u8])
+        requires { length self.old + length bytes.now ≤ ROOM }
+        ensures text { self.new ≡ bytes.now ++ self.old }
+        ensures length { length self.new ≡ length self.old + length bytes.now }
+    {
+        let start = self.start - bytes.len();
+        self.bytes[start..self.start].copy_from_slice(bytes);
+        self.start = start;
+    }
+
+    /// Puts the decimal text of a number before the other bytes, with no leading zero.
+    #[inline]
+    pub fn put_natural(&mut self, number: u64)
+        requires { length self.old + 20 ≤ ROOM }
+        ensures text { self.new ≡ decimal number ++ self.old }
+        ensures length { length self.new ≤ length self.old + 20 }
+    {
+        self.start = write_digits(number, &mut self.bytes, self.start);
+    }
+
+    /// The same of a number that may be negative, with `-` then.
+    #[inline]
+    pub fn put_integer(&mut self, number: i64)
+        requires { length self.old + 21 ≤ ROOM }
+        ensures text { self.new ≡ signed_decimal number ++ self.old }
+        ensures length { length self.new ≤ length self.old + 21 }
+    {
+        self.put_natural(number.unsigned_abs());
+        if number < 0 {
+            self.put_bytes(b"-");
+        }
+    }
+}
+
+#[cfg(test)]
+mod tests {
+    use super::*;
+
+    #[test]
+    fn answers(rt: HostRuntime) {
+        let mut line = TextLine::new();
+        line.put_bytes(b"\n");
+        line.put_natural(18446744073709551615);
+        line.put_bytes(b" ssector ");
+        line.put_natural(0);
+        line.put_bytes(b" sector ");
+        line.put_integer(-5);
+        line.put_bytes(b" ");
+        line.put_integer(-9223372036854775808);
+        assert_eq!(rt;
+            line.as_bytes(),
+            b"-9223372036854775808 -5 sector 0 ssector 18446744073709551615\n".as_slice()
+        );
+    }
+}

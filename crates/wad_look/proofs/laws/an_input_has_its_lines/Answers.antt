@@ -1,8 +1,0 @@
-use Rattle.wad_look.proofs.LinesLaw.{AreLines-lines, lines_only}
-use Rattle.wad_look.proofs.laws.an_input_has_its_lines.Goals as goal
-
-pub returns-clause-cut : goal.returns-clause-cut
-returns-clause-cut c = AreLines-lines
-
-pub returns-clause-only : goal.returns-clause-only
-returns-clause-only c = lines_only

@@ -1,5 +1,0 @@
-use Rattle.wad_look.proofs.LineLemmas.{line_answer-take}
-use Rattle.wad_look.proofs.laws.first_bytes_decide_an_answer.Goals as goal
-
-pub returns : goal.returns
-returns c = line_answer-take

@@ -1,5 +1,6 @@
 -- A field's bytes at its offset, before the bytes that follow it.
-use Rattle.std.proofs.Common.{◌≡◌, ℕ, zero, suc, ◌+◌, ◌≤◌, List, [], ◌∷◌, ◌++◌, take, drop, length, slice_index, slice_index_or, refl, subst, pos, sym, ap, ◌∙◌, arith, ℤ}
+use Rattle.std.proofs.Common.{◌≡◌, ℕ, ◌+◌, ◌≤◌, List, [], ◌∷◌, ◌++◌, take, drop, length, slice_index, slice_index_or, refl, subst, pos, sym, ap, ◌∙◌, arith, ℤ}
+use Rattle.std.proofs.Math.ListN.{drop_of_length-le}
 use Rattle.std.proofs.lemmas.List.{drop_more, drop-drop, take-append-drop, length-take, length-drop}
 use Rattle.std.proofs.lemmas.List.Elements.{All-cons, All-nil}
 use Rattle.le_rec.specs.Bytes.{AreBytes}
@@ -28,25 +29,18 @@ drop-four d xs at h =
     ∙ ap (λ n. slice_index_or xs at d ∷ slice_index_or xs (at + 1) d ∷ slice_index_or xs (at + 2) d ∷ slice_index_or xs n d ∷ drop (at + 2 + 2) xs) third
     ∙ ap (λ n. slice_index_or xs at d ∷ slice_index_or xs (at + 1) d ∷ slice_index_or xs (at + 2) d ∷ slice_index_or xs (at + 3) d ∷ drop n xs) last
 
--- nothing follows the last item
-pub past_last : {X : Type 0} (xs : List X) (n : ℕ) → length xs ≡ n → [] ≡ drop n xs
-past_last [] zero h = refl
-past_last [] (suc n) h = refl
-past_last (x ∷ xs) zero h = absurd (omega arith)
-past_last (x ∷ xs) (suc n) h = past_last xs n (omega arith)
-
 -- a magic is its four bytes, and a name its eight
 pub magic_bytes-is : (magic : List ℕ) → length magic ≡ 4 → magic_bytes magic ≡ magic
 magic_bytes-is magic h =
     sym (drop-four 0 magic 0 (omega arith)
-    ∙ ap (λ rest. slice_index magic 0 ∷ slice_index magic 1 ∷ slice_index magic 2 ∷ slice_index magic 3 ∷ rest) (sym (past_last magic 4 h)))
+    ∙ ap (λ rest. slice_index magic 0 ∷ slice_index magic 1 ∷ slice_index magic 2 ∷ slice_index magic 3 ∷ rest) (drop_of_length-le magic {i = 4} (omega arith)))
 
 pub name_bytes-is : (name : List ℕ) → length name ≡ 8 → name_bytes name ≡ name
 name_bytes-is name h =
     sym (drop-four 0 name 0 (omega arith)
     ∙ ap (λ rest. slice_index name 0 ∷ slice_index name 1 ∷ slice_index name 2 ∷ slice_index name 3 ∷ rest)
     (drop-four 0 name 4 (omega arith)
-    ∙ ap (λ rest. slice_index name 4 ∷ slice_index name 5 ∷ slice_index name 6 ∷ slice_index name 7 ∷ rest) (sym (past_last name 8 h))))
+    ∙ ap (λ rest. slice_index name 4 ∷ slice_index name 5 ∷ slice_index name 6 ∷ slice_index name 7 ∷ rest) (drop_of_length-le name {i = 8} (omega arith))))
 
 pub IsByteField-take : (n : ℕ) (bytes : List ℕ) (at : ℕ) → AreBytes bytes → at + n ≤ length bytes → IsByteField n (take n (drop at bytes))
 IsByteField-take n bytes at bs h = record {
@@ -65,7 +59,7 @@ box-box_bytes box h =
       signed16-bytes16 (number 3) (h.fits 3 (pos 0) (omega (arith, h.length_is))),
     )
     (sym (drop-four (pos 0) box 0 (omega (arith, h.length_is))
-    ∙ ap (λ rest. number 0 ∷ number 1 ∷ number 2 ∷ number 3 ∷ rest) (sym (past_last box 4 h.length_is))))
+    ∙ ap (λ rest. number 0 ∷ number 1 ∷ number 2 ∷ number 3 ∷ rest) (drop_of_length-le box {i = 4} (omega (arith, h.length_is)))))
 
 pub IsBox-box_at : (bytes : List ℕ) (at : ℕ) → AreBytes bytes → IsBox (box_at bytes at)
 IsBox-box_at bytes at bs =

@@ -1,9 +1,10 @@
 -- The laws of every record, from its fields.
-use Rattle.std.proofs.Common.{◌≡◌, ℕ, ◌+◌, ◌≤◌, List, [], ◌∷◌, ◌++◌, drop, length, slice_index, refl, sym, ap, ◌∙◌, arith, length-append, length-drop}
+use Rattle.std.proofs.Common.{◌≡◌, ℕ, ◌+◌, ◌≤◌, List, [], ◌∷◌, ◌++◌, drop, length, slice_index, refl, sym, ap, ◌∙◌, arith, length-append}
+use Rattle.std.proofs.Math.ListN.{drop_of_length-le}
 use Rattle.std.proofs.lemmas.List.{get_or-drop, drop-drop, drop_at}
 use Rattle.le_rec.specs.Bytes.{AreBytes}
 use Rattle.le_rec.proofs.BytesLemmas.{AreBytes-append, AreBytes-nil, AreBytes-bytes16, AreBytes-bytes32}
-use Rattle.le_rec.proofs.FieldLemmas.{unsigned16-field, signed16-field, signed32-field, magic-field, name-field, box-field, past_last, magic_bytes-is, name_bytes-is, box-box_bytes, IsByteField-take, IsBox-box_at, AreBytes-magic_bytes, AreBytes-name_bytes, AreBytes-box_bytes}
+use Rattle.le_rec.proofs.FieldLemmas.{unsigned16-field, signed16-field, signed32-field, magic-field, name-field, box-field, magic_bytes-is, name_bytes-is, box-box_bytes, IsByteField-take, IsBox-box_at, AreBytes-magic_bytes, AreBytes-name_bytes, AreBytes-box_bytes}
 use Rattle.le_rec.specs.Layout.{Field, i16, u16, i32, magic, name, bounds, Value, width, value_at, value_bytes, IsValue, Values, total_width, values_at, values_bytes, AreValues, Layout, size_of, read_by, bytes_by, IsInRange}
 use Rattle.le_rec.specs.Number.{signed16_at}
 use Rattle.le_rec.proofs.NumberLemmas.{unsigned16-lt, unsigned16-bytes16, signed16-bytes16, signed32-bytes32, FitsSigned-signed16, FitsSigned-signed32}
@@ -93,7 +94,7 @@ AreBytes-values_bytes (field ∷ fields) (value, values) (v, vs) =
     AreBytes-append _ _ (AreBytes-value_bytes field value v) (AreBytes-values_bytes fields values vs)
 
 bytes_back : (fields : List Field) (bytes : List ℕ) (at : ℕ) → AreBytes bytes → length bytes ≡ at + total_width fields → values_bytes fields (values_at fields bytes at) ≡ drop at bytes
-bytes_back [] bytes at bs h = past_last bytes at (omega arith)
+bytes_back [] bytes at bs h = sym (drop_of_length-le bytes (omega arith))
 bytes_back (field ∷ fields) bytes at bs h =
     field_back field bytes _ at bs (omega arith) (bytes_back fields bytes (at + width field) bs (omega arith))
 

@@ -1,8 +1,9 @@
 -- Facts about tables.
-use Rattle.std.proofs.Common.{◌≡◌, ℕ, zero, suc, ◌+◌, ◌*◌, ◌/◌, ◌<◌, ◌≤◌, List, [], ◌++◌, length, take, drop, map, Some, refl, ap, ◌∙◌, arith, rules}
+use Rattle.std.proofs.Common.{◌≡◌, ℕ, zero, suc, ◌+◌, ◌*◌, ◌/◌, ◌<◌, ◌≤◌, List, [], length, take, drop, map, Some, refl, sym, ap, ◌∙◌, arith}
 use Rattle.std.specs.List.{range_with_len, slice_get, flat_map}
 use Rattle.std.proofs.Math.Nat.{div-add-mod'}
-use Rattle.std.proofs.lemmas.List.{length-map, length-take, length-drop, drop-drop, same_lists, places}
+use Rattle.std.proofs.Math.Seq.{take-add}
+use Rattle.std.proofs.lemmas.List.{length-map, length-take, length-drop, drop-drop}
 use Rattle.std.proofs.lemmas.List.FromFn.{length-range_with_len, get_or-map-range_with_len}
 use Rattle.std.proofs.lemmas.Option.{slice_get-get_or}
 use Rattle.le_rec.specs.Bytes.{AreBytes}
@@ -21,10 +22,6 @@ module _ {R : Type 0} (size : ℕ) (read : List ℕ → R) (bytes : List ℕ) wh
       slice_get-get_or (records_of size read bytes) index (read []) within
       ∙ ap Some (get_or-map-range_with_len (λ index. read (piece size bytes index)) 0 (length bytes / size) index index (read []) h (omega arith))
 
--- a front of size + n items is one of size and the n after them
-take-add : {X : Type 0} (size n : ℕ) (xs : List X) → take size xs ++ take n (drop size xs) ≡ take (size + n) xs
-take-add size n xs = same_lists _ _ (search (rules, places)) (λ k d h. grind (arith, places))
-
 -- the bytes of the records from a number on, joined, are the pieces joined
 joined_from : {R : Type 0} (size : ℕ) (read : List ℕ → R) (write : R → List ℕ) (bytes : List ℕ)
     → ((piece : List ℕ) → length piece ≡ size → AreBytes piece → write (read piece) ≡ piece) → AreBytes bytes
@@ -40,7 +37,7 @@ joined_from size read write bytes back bs (suc count) start h =
     let whole : length (piece size bytes start) ≡ size = simp (length-take, length-drop) (omega arith) in
     let first = back (piece size bytes start) whole (AreBytes-take size after (AreBytes-drop (start * size) bytes bs)) in
     let rest = joined_from size read write bytes back bs count (start + 1) (omega arith) in
-    rw (first, rest, ← next, ← drop-drop size (start * size) bytes, ← all) (take-add size (count * size) after)
+    rw (first, rest, ← next, ← drop-drop size (start * size) bytes, ← all) (sym (take-add size (count * size) after))
 
 -- the bytes of the records, joined, are all the bytes but those left over
 pub joined-records_of : {R : Type 0} (size : ℕ) (read : List ℕ → R) (write : R → List ℕ) (bytes : List ℕ) → 0 < size

@@ -15,14 +15,11 @@ use Rattle.le_rec.specs.Table.{records_of}
 use Rattle.wad_dir.specs.Standing.{StandsAt}
 use Rattle.wad_dir.proofs.DirectoryLemmas.{AreRecords-records_of, AreRecords-length, HasTable-one}
 
-apart : (m n : ℕ) → m ≡ n → m ≢ n → ⊥
-apart m n same other = other same
-
 magic_of-one : (kind other : Kind) → magic_of kind ≡ magic_of other → kind ≡ other
 magic_of-one Iwad Iwad h = refl
 magic_of-one Pwad Pwad h = refl
-magic_of-one Iwad Pwad h = absurd (apart 73 80 (ap (λ xs. slice_index xs 0) h) (omega arith))
-magic_of-one Pwad Iwad h = absurd (apart 80 73 (ap (λ xs. slice_index xs 0) h) (omega arith))
+magic_of-one Iwad Pwad h = absurd (let first : ◌≡◌ {A = ℕ} 73 80 = ap (λ xs. slice_index xs 0) h in omega arith)
+magic_of-one Pwad Iwad h = absurd (let first : ◌≡◌ {A = ℕ} 80 73 = ap (λ xs. slice_index xs 0) h in omega arith)
 
 same_entries : (bytes : List ℕ) (entries others : List Entry) → length entries ≡ length others
     → (0 < length entries → HasTable bytes entries) → (0 < length others → HasTable bytes others) → entries ≡ others

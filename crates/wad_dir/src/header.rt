@@ -26,9 +26,9 @@ pub struct Header {
 }
 
 impl Record for Header {
-    ghost use Rattle.wad_dir.specs.Header.{header_layout};
+    ghost use Rattle.wad_dir.specs.Header.{header_layout, header_size};
 
-    ghost SIZE = { 12 };
+    ghost SIZE = { header_size };
 
     ghost layout = { header_layout };
 

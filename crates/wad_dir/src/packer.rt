@@ -95,8 +95,9 @@ impl<'a, A: Allocator> Packer<'a, A> {
             IsDirectory file.items Kind.Pwad (packed_entries self.now)) }
         ensures names { OnOk result (map (λ entry. name_of entry.name) (packed_entries self.now)
             ≡ map (λ lump. lump.name) self.now) }
-        ensures slices { IfOk result (λ file. AllZip
-            (λ entry lump. IsSlice file.items entry lump.bytes) (packed_entries self.now) self.now) }
+        ensures slices { IfOk result (λ file.
+            AllZip (λ entry lump. IsSlice file.items entry lump.bytes)
+            (packed_entries self.now) self.now) }
     {
         let Some(size) = file_size(&self.lumps) else {
             return Err(PackFault::TooLarge);

@@ -1,9 +1,11 @@
 -- Faults and notes on the links of a level, each at an index (P_SetupLevel of p_setup.c follows links without a test).
-use Rattle.std.specs.Prelude.{◌≡◌, ◌≢◌, ℕ, ◌<◌, ◌≤◌, ◌-◌, ◌+ℤ◌, ◌<ℤ◌, ◌⊎◌, ℤ, pos, negsuc, List, [], ◌∷◌, length, codes, Some, IsSomeAnd}
+use Rattle.std.specs.Prelude.{◌≡◌, ◌≢◌, ℕ, ◌<◌, ◌≤◌, ◌-◌, ◌+ℤ◌, ◌<ℤ◌, ◌⊎◌, ℤ, pos, negsuc, List, [], ◌∷◌, length, codes, Option, Some, IsSomeAnd}
 use Rattle.std.specs.Int.{w16, int_bit_and}
 use Rattle.std.specs.List.{slice_get}
 use Rattle.le_rec.specs.declared.records.Thing.{Thing}
 use Rattle.le_rec.specs.declared.records.LineDef.{LineDef}
+use Rattle.le_rec.specs.declared.records.SSector.{SSector}
+use Rattle.le_rec.specs.declared.records.Vertex.{Vertex}
 use Rattle.map_level.specs.Level.{Level}
 use Rattle.map_level.specs.Links.{things_of, linedefs_of, sidedefs_of, vertexes_of, segs_of, ssectors_of, nodes_of, sectors_of, named, Names, NamesNone, no_side, side_of}
 use Rattle.map_level.specs.declared.finding.Code.{Code}
@@ -48,9 +50,12 @@ SegWithoutSide level i = IsSomeAnd (slice_get (segs_of level) i) (λ seg. side_o
 abbrev pub GoesPast : ℕ → ℤ → ℤ → Type 0
 GoesPast segs count first = (count <ℤ pos 0) ⊎ ((¬ Names segs first) ⊎ (pos segs <ℤ (first +ℤ count)))
 
+abbrev pub IsOutOfRange : ℕ → SSector → Type 0
+IsOutOfRange segs ssector = GoesPast segs ssector.count ssector.first
+
 -- F10: an ssector's segs are not all there
 abbrev pub SsectorOutOfRange : Level → ℕ → Type 0
-SsectorOutOfRange level i = IsSomeAnd (slice_get (ssectors_of level) i) (λ ssector. GoesPast (length (segs_of level)) ssector.count ssector.first)
+SsectorOutOfRange level i = IsSomeAnd (slice_get (ssectors_of level) i) (IsOutOfRange (length (segs_of level)))
 
 -- F17: there is no ssector
 abbrev pub NoSsector : Level → ℕ → Type 0
@@ -93,12 +98,14 @@ TwoSidedWithoutSide level i =
 abbrev pub NoSide0 : Level → ℕ → Type 0
 NoSide0 level i = IsSomeAnd (slice_get (linedefs_of level) i) (λ linedef. linedef.side0 ≡ no_side level.reading)
 
--- both vertexes of a linedef exist and have the same x and y
-abbrev pub IsOfNoLength : Level → LineDef → Type 0
-IsOfNoLength level linedef =
-    IsSomeAnd (named (vertexes_of level) linedef.v1) (λ from. IsSomeAnd (named (vertexes_of level) linedef.v2) (λ to. (from.x ≡ to.x) × (from.y ≡ to.y)))
+-- two vertexes exist and have the same x and y
+abbrev pub AreAtOnePlace : Option Vertex → Option Vertex → Type 0
+AreAtOnePlace a b = IsSomeAnd a (λ from. IsSomeAnd b (λ to. (from.x ≡ to.x) × (from.y ≡ to.y)))
 
--- N5: a linedef has no length
+abbrev pub IsOfNoLength : Level → LineDef → Type 0
+IsOfNoLength level linedef = AreAtOnePlace (named (vertexes_of level) linedef.v1) (named (vertexes_of level) linedef.v2)
+
+-- N5: a linedef's vertexes exist and have the same x and y
 abbrev pub LinedefOfNoLength : Level → ℕ → Type 0
 LinedefOfNoLength level i = IsSomeAnd (slice_get (linedefs_of level) i) (IsOfNoLength level)
 

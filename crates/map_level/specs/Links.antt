@@ -63,7 +63,7 @@ no_side Wide = pos 65535
 abbrev pub linedef_of : Level → Seg → Option LineDef
 linedef_of level seg = named (linedefs_of level) seg.linedef
 
--- the index that a linedef has at a side number, which is 0 or 1
+-- the index that a linedef has at a side number, where that is 0 or 1
 abbrev pub side_at : LineDef → ℤ → Option ℤ
 side_at linedef side = if int_eq side (pos 0) then Some linedef.side0 else (if int_eq side (pos 1) then Some linedef.side1 else None)
 

@@ -7,7 +7,7 @@ use Rattle.le_rec.specs.declared.records.SSector.{SSector}
 use Rattle.map_level.specs.declared.reading.Reading.{Reading}
 use Rattle.map_level.specs.declared.reading.Reading.TheVariants.{Signed, Wide}
 
--- a word as an index: under the wide reading negative ones are raised by 65536
+-- a word as an index under a reading: the wide one raises negative words by 65536
 abbrev pub number_of : Reading → ℤ → ℤ
 number_of Signed word = word
 number_of Wide word = if int_lt word (pos 0) then word +ℤ pos 65536 else word

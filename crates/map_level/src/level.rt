@@ -1,6 +1,7 @@
 //! A level: a label and the ten lumps after it.
 
-ghost use Rattle.std.specs.Prelude.{◌≡◌, ◌+◌, ◌<◌, ◌≤◌, ◌^◌, length, map, IfOk, IfErr, OnOk, Some};
+ghost use Rattle.std.specs.Prelude.{◌≡◌, ◌+◌, ◌<◌, ◌≤◌, ◌^◌, length, map, IfOk, IfErr, OnOk};
+ghost use Rattle.std.specs.Prelude.{Some};
 ghost use Rattle.std.specs.List.{slice_get};
 ghost use Rattle.wad_dir.specs.Entries.{joined};
 
@@ -25,7 +26,8 @@ pub enum LevelFault {
     Outside(u32),
 }
 
-/// A level of several files. It lends the bytes of its lumps and decodes a record when it is asked for.
+/// A level of several files. It lends the bytes of its lumps and decodes a record when it is asked
+/// for.
 #[derive(Drop)]
 pub struct Level<'a> {
     label: usize,
@@ -43,14 +45,16 @@ impl<'a> Model for Level<'a> {
 
     ghost view = { λ a. level_of a.label a.reading a.names (map (λ lump. lump.now) a.lumps) };
 
-    ghost invariant = { λ a. (length a.names ≡ 11) × (length a.lumps ≡ 10) × AreShort (map (λ lump. lump.now) a.lumps) };
+    ghost invariant = { λ a. (length a.names ≡ 11) × (length a.lumps ≡ 10)
+        × AreShort (map (λ lump. lump.now) a.lumps) };
 }
 
 impl<'a> Level<'a> {
     ghost use Rattle.map_level.specs.Opening.{IsLevel, RefusesLevel};
 
-    /// The level whose label has the name, of the last entry where there are several: the ten lumps are those
-    /// of the ten entries after it, whatever their names, and may lie in a later file (`P_SetupLevel`).
+    /// The level whose label has the name, of the last entry where there are several: the ten lumps
+    /// are those of the ten entries after it, whatever their names, and may lie in a later file
+    /// (`P_SetupLevel`).
     pub fn open<A: Allocator>(
         set: &Set<'a, A>,
         name: Name8,

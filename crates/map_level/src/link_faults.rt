@@ -1,18 +1,19 @@
 //! Tests of a level's links: one for each code, at an index.
 
-ghost use Rattle.std.specs.Prelude.{◌≡◌, ◌-◌, ◌≤◌, ◌↔◌, ◌⊎◌, ℕ, pos, length, Some, IsTrue, IsSomeAnd};
-ghost use Rattle.std.specs.Option.{option_map};
+ghost use Rattle.std.specs.Prelude.{◌≡◌, ◌-◌, ◌≤◌, ◌↔◌, ℕ, length, Some, IsTrue};
 ghost use Rattle.std.specs.List.{slice_get};
-ghost use Rattle.map_level.specs.Reading.{number_of, linedef_under, sidedef_under, seg_under, ssector_under};
-ghost use Rattle.map_level.specs.Links.{things_of, linedefs_of, sidedefs_of, vertexes_of, segs_of, ssectors_of};
-ghost use Rattle.map_level.specs.Links.{sectors_of, named, Names, NamesNone, no_side, side_at, side_of};
-ghost use Rattle.map_level.specs.LinkFaults.{LinedefVertexNamesNone, SideNamesNone, LinedefSideNamesNone};
-ghost use Rattle.map_level.specs.LinkFaults.{SidedefSectorNamesNone, SegVertexNamesNone, SegLinedefNamesNone};
-ghost use Rattle.map_level.specs.LinkFaults.{SegSideOther, SegWithoutSide, GoesPast, SsectorOutOfRange};
-ghost use Rattle.map_level.specs.LinkFaults.{NoSsector, TooManyNodes, usual_names, LumpNameDiffers};
+ghost use Rattle.map_level.specs.Reading.{number_of, linedef_under, seg_under, ssector_under};
+ghost use Rattle.map_level.specs.Links.{vertexes_of, segs_of, NamesNone, no_side, side_of};
+ghost use Rattle.map_level.specs.LinkFaults.{LinedefVertexNamesNone, SideNamesNone};
+ghost use Rattle.map_level.specs.LinkFaults.{LinedefSideNamesNone, SidedefSectorNamesNone};
+ghost use Rattle.map_level.specs.LinkFaults.{SegVertexNamesNone, SegLinedefNamesNone, SegSideOther};
+ghost use Rattle.map_level.specs.LinkFaults.{SegWithoutSide, GoesPast, IsOutOfRange};
+ghost use Rattle.map_level.specs.LinkFaults.{SsectorOutOfRange, NoSsector};
+ghost use Rattle.map_level.specs.LinkFaults.{TooManyNodes, usual_names, LumpNameDiffers};
 ghost use Rattle.map_level.specs.LinkFaults.{BytesLeftOver, IsTwoSided, TwoSidedWithoutSide, NoSide0};
-ghost use Rattle.map_level.specs.LinkFaults.{IsOfNoLength, LinedefOfNoLength, SsectorWithoutSegs, IsStart};
-ghost use Rattle.map_level.specs.LinkFaults.{NoStart, IsOutside, VertexOutside};
+ghost use Rattle.map_level.specs.LinkFaults.{AreAtOnePlace, IsOfNoLength, LinedefOfNoLength};
+ghost use Rattle.map_level.specs.LinkFaults.{SsectorWithoutSegs, IsStart, NoStart};
+ghost use Rattle.map_level.specs.LinkFaults.{IsOutside, VertexOutside};
 
 use crate::level::Level;
 use crate::links::{
@@ -20,15 +21,14 @@ use crate::links::{
     sidedef_at, sidedef_count, ssector_at, ssector_count, vertex,
 };
 use crate::reading::number;
-use le_rec::{LineDef, Name8, SSector, Seg, Table, Thing, Vertex};
+use le_rec::{LineDef, Name8, SSector, Seg, Vertex};
 
-// Whether one of two words names no vertex.
+// Whether a word names no vertex.
 #[inline]
-fn names_no_vertex(level: &Level<'_>, v1: i16, v2: i16) -> bool
-    ensures { IsTrue result ↔ (NamesNone (vertexes_of level.now) (number_of level.now.reading v1) ⊎ NamesNone (vertexes_of level.now) (number_of level.now.reading v2)) }
+fn names_no_vertex(level: &Level<'_>, word: i16) -> bool
+    ensures { IsTrue result ↔ NamesNone (vertexes_of level.now) (number_of level.now.reading word) }
 {
-    let (reading, count) = (level.reading(), level.vertexes().len());
-    names_none(number(v1, reading), count) || names_none(number(v2, reading), count)
+    names_none(number(word, level.reading()), level.vertexes().len())
 }
 
 // F3
@@ -37,7 +37,7 @@ pub fn linedef_vertex_names_none(level: &Level<'_>, i: usize) -> bool
     ensures { IsTrue result ↔ LinedefVertexNamesNone level.now i }
 {
     match linedef_at(level, i) {
-        Some(linedef) => names_no_vertex(level, linedef.v1, linedef.v2),
+        Some(linedef) => names_no_vertex(level, linedef.v1) || names_no_vertex(level, linedef.v2),
         None => false,
     }
 }
@@ -93,7 +93,7 @@ pub fn seg_vertex_names_none(level: &Level<'_>, i: usize) -> bool
     ensures { IsTrue result ↔ SegVertexNamesNone level.now i }
 {
     match seg_at(level, i) {
-        Some(seg) => names_no_vertex(level, seg.v1, seg.v2),
+        Some(seg) => names_no_vertex(level, seg.v1) || names_no_vertex(level, seg.v2),
         None => false,
     }
 }
@@ -122,7 +122,9 @@ pub fn seg_without_side(level: &Level<'_>, i: usize) -> bool
 
 #[inline]
 fn has_no_side(level: &Level<'_>, seg: &Seg) -> bool
-    ensures { IsTrue result ↔ (side_of level.now (seg_under level.now.reading seg.now) ≡ Some (no_side level.now.reading)) }
+    ensures { IsTrue result
+        ↔ (side_of level.now (seg_under level.now.reading seg.now)
+            ≡ Some (no_side level.now.reading)) }
 {
     match side_of(level, seg) {
         Some(side) => side == no_side(level.reading()),
@@ -143,7 +145,8 @@ pub fn ssector_out_of_range(level: &Level<'_>, i: usize) -> bool
 
 #[inline]
 fn is_out_of_range(level: &Level<'_>, ssector: &SSector) -> bool
-    ensures { IsTrue result ↔ GoesPast (length (segs_of level.now)) (number_of level.now.reading ssector.now.count) (number_of level.now.reading ssector.now.first) }
+    ensures { IsTrue result
+        ↔ IsOutOfRange (length (segs_of level.now)) (ssector_under level.now.reading ssector.now) }
 {
     let reading = level.reading();
     goes_past(
@@ -275,7 +278,7 @@ fn is_of_no_length(level: &Level<'_>, linedef: &LineDef) -> bool
 
 #[inline]
 fn are_at_one_place(a: Option<Vertex>, b: Option<Vertex>) -> bool
-    ensures { IsTrue result ↔ IsSomeAnd a (λ from. IsSomeAnd b (λ to. (from.x ≡ to.x) × (from.y ≡ to.y))) }
+    ensures { IsTrue result ↔ AreAtOnePlace a b }
 {
     match (a, b) {
         (Some(a), Some(b)) => is_one_place(&a, &b),
@@ -313,9 +316,8 @@ pub fn no_start(level: &Level<'_>, i: usize) -> bool
 fn has_start(level: &Level<'_>) -> bool
     ensures { IsTrue result ↔ ((k : ℕ) × IsStart level.now k) }
 {
-    let things = level.things();
-    for k in 0..things.len() {
-        if is_start(&things, k) {
+    for k in 0..level.things().len() {
+        if is_start(level, k) {
             return true;
         }
     }
@@ -323,10 +325,10 @@ fn has_start(level: &Level<'_>) -> bool
 }
 
 #[inline]
-fn is_start(things: &Table<'_, Thing>, k: usize) -> bool
-    ensures { IsTrue result ↔ IsSomeAnd (slice_get things.now.records k) (λ (thing : Thing). thing.kind ≡ pos 1) }
+fn is_start(level: &Level<'_>, k: usize) -> bool
+    ensures { IsTrue result ↔ IsStart level.now k }
 {
-    match things.get(k) {
+    match level.things().get(k) {
         Some(thing) => thing.kind == 1,
         None => false,
     }

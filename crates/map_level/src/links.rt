@@ -3,9 +3,11 @@
 ghost use Rattle.std.specs.Prelude.{◌≡◌, ◌↔◌, length, IsTrue};
 ghost use Rattle.std.specs.Option.{option_map};
 ghost use Rattle.std.specs.List.{slice_get};
-ghost use Rattle.map_level.specs.Reading.{number_of, linedef_under, sidedef_under, seg_under, ssector_under};
-ghost use Rattle.map_level.specs.Links.{linedefs_of, sidedefs_of, vertexes_of, segs_of, ssectors_of};
-ghost use Rattle.map_level.specs.Links.{named, Names, no_side, linedef_of, side_at, side_of};
+ghost use Rattle.map_level.specs.Reading.{number_of, linedef_under, sidedef_under};
+ghost use Rattle.map_level.specs.Reading.{seg_under, ssector_under};
+ghost use Rattle.map_level.specs.Links.{linedefs_of, sidedefs_of, vertexes_of, segs_of};
+ghost use Rattle.map_level.specs.Links.{ssectors_of, named, Names, no_side, linedef_of, side_at};
+ghost use Rattle.map_level.specs.Links.{side_of};
 
 use crate::level::Level;
 use crate::reading::{Reading, number};
@@ -14,7 +16,8 @@ use le_rec::{LineDef, Record, SSector, Seg, SideDef, Table, Vertex};
 /// The linedef of a number.
 #[inline]
 pub fn linedef_at(level: &Level<'_>, i: usize) -> Option<LineDef>
-    ensures { option_map (linedef_under level.now.reading) result ≡ slice_get (linedefs_of level.now) i }
+    ensures { option_map (linedef_under level.now.reading) result
+        ≡ slice_get (linedefs_of level.now) i }
 {
     level.linedefs().get(i)
 }
@@ -22,7 +25,8 @@ pub fn linedef_at(level: &Level<'_>, i: usize) -> Option<LineDef>
 /// The sidedef of a number.
 #[inline]
 pub fn sidedef_at(level: &Level<'_>, i: usize) -> Option<SideDef>
-    ensures { option_map (sidedef_under level.now.reading) result ≡ slice_get (sidedefs_of level.now) i }
+    ensures { option_map (sidedef_under level.now.reading) result
+        ≡ slice_get (sidedefs_of level.now) i }
 {
     level.sidedefs().get(i)
 }
@@ -38,7 +42,8 @@ pub fn seg_at(level: &Level<'_>, i: usize) -> Option<Seg>
 /// The ssector of a number.
 #[inline]
 pub fn ssector_at(level: &Level<'_>, i: usize) -> Option<SSector>
-    ensures { option_map (ssector_under level.now.reading) result ≡ slice_get (ssectors_of level.now) i }
+    ensures { option_map (ssector_under level.now.reading) result
+        ≡ slice_get (ssectors_of level.now) i }
 {
     level.ssectors().get(i)
 }
@@ -123,7 +128,8 @@ pub fn vertex(level: &Level<'_>, word: i16) -> Option<Vertex>
 /// The linedef of a seg.
 #[inline]
 pub fn linedef_of(level: &Level<'_>, seg: &Seg) -> Option<LineDef>
-    ensures { option_map (linedef_under level.now.reading) result ≡ linedef_of level.now (seg_under level.now.reading seg.now) }
+    ensures { option_map (linedef_under level.now.reading) result
+        ≡ linedef_of level.now (seg_under level.now.reading seg.now) }
 {
     let index = number(seg.linedef, level.reading());
     if index < 0 {

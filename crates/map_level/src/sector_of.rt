@@ -6,7 +6,8 @@ ghost use Rattle.map_level.specs.Reading.{seg_under, sidedef_under};
 ghost use Rattle.map_level.specs.Links.{segs_of, sidedefs_of, ssectors_of, named};
 ghost use Rattle.map_level.specs.Findings.{AreFindings};
 ghost use Rattle.map_level.specs.LinkFaults.{LinkHolds};
-ghost use Rattle.map_level.specs.SectorOf.{IsLinkFault, IsLinked, first_seg, number_named, sector_of, sidedef_named, sidedef_of};
+ghost use Rattle.map_level.specs.SectorOf.{IsLinkFault, IsLinked, first_seg, number_named};
+ghost use Rattle.map_level.specs.SectorOf.{sector_of, sidedef_named, sidedef_of};
 
 use crate::finding::{Code, Finding, Findings};
 use crate::level::Level;
@@ -16,7 +17,8 @@ use le_rec::{Seg, SideDef};
 use std::alloc::Allocator;
 
 impl<'a> Level<'a> {
-    /// Whether the level has no fault F3 to F10, by its `link_findings`: what `ssector_sector` asks for.
+    /// Whether the level has no fault F3 to F10, by what `link_findings` gave for it:
+    /// `ssector_sector` asks for that.
     pub fn is_linked<A: Allocator>(&self, found: &Findings<A>) -> bool
         requires { AreFindings (LinkHolds self.now) found.now }
         ensures { IsTrue result ↔ IsLinked self.now }

@@ -1,6 +1,7 @@
 //! Which places are reached from the root.
 
-ghost use Rattle.std.specs.Prelude.{◌≡◌, ◌<◌, ◌^◌, ℕ, [], false, length, slice_index_or, IfOk, IfSome, OnOk};
+ghost use Rattle.std.specs.Prelude.{◌≡◌, ◌<◌, ◌^◌, ℕ, [], false, length, slice_index_or};
+ghost use Rattle.std.specs.Prelude.{IfOk, IfSome, OnOk};
 ghost use Rattle.map_tree.specs.Slots.{slot_count};
 ghost use Rattle.map_tree.specs.Marks.{IsMarking, AreMarking, AreReached};
 
@@ -20,7 +21,7 @@ pub fn reached_places<A: Allocator + Copy>(
     Ok(marks)
 }
 
-// Marks each place that is reached, by a list of places still to visit.
+// Marks each place that is reached, by a list of places still to visit, which is empty.
 fn mark_reached<A: Allocator>(
     marks: &mut [bool],
     mut waits: Vec<u32, A>,
@@ -58,7 +59,7 @@ fn mark_children<A: Allocator>(
     Ok(())
 }
 
-// Marks a place, which then waits where it wasn't marked.
+// Marks a place, or none; it then waits to be visited unless it was marked before.
 #[inline]
 fn mark<A: Allocator>(
     marks: &mut [bool],

@@ -12,7 +12,10 @@ use map_level::Level;
 use map_level::search::Searched;
 use std::marker::Model;
 
-/// A level with the numbers of its nodes and ssectors.
+/// The bit of a child word that says that it names an ssector (doomdata.h).
+pub const NF_SUBSECTOR: u16 = 0x8000;
+
+/// A level whose nodes and ssectors stand in one row, the nodes first: each place has a number there.
 #[derive(Drop)]
 pub struct Places<'l, 'a> {
     level: &'l Level<'a>,
@@ -29,7 +32,11 @@ impl<'l, 'a> Model for Places<'l, 'a> {
 
     ghost view = { λ places. places.level.now };
 
-    ghost invariant = { λ places. (places.nodes ≡ node_count places.level.now) × (places.ssectors ≡ ssector_count places.level.now) × (places.nodes < 2 ^ 31) × (places.ssectors < 2 ^ 31) };
+    ghost invariant = { λ places.
+        (places.nodes ≡ node_count places.level.now)
+        × (places.ssectors ≡ ssector_count places.level.now)
+        × (places.nodes < 2 ^ 31)
+        × (places.ssectors < 2 ^ 31) };
 }
 
 impl<'l, 'a> Searched for Places<'l, 'a> {
@@ -76,17 +83,18 @@ impl<'l, 'a> Places<'l, 'a> {
         self.level.nodes()
     }
 
-    /// The number of the place that a child word names.
+    /// The number of the place that a child word names, or None where there is none.
     #[inline]
     pub fn slot(&self, word: u16) -> Option<usize>
-        ensures is { result ≡ option_map (slot self.now) (where_there self.now (place_of word)) }
+        ensures is { result
+            ≡ option_map (slot self.now) (where_there self.now (place_of word)) }
         ensures within { IfSome result (λ k. k < slot_count self.now) }
     {
-        if word < 32768 {
-            let n = word as usize;
+        if word < NF_SUBSECTOR {
+            let n = usize::from(word);
             if n < self.nodes { Some(n) } else { None }
         } else {
-            let t = (word - 32768) as usize;
+            let t = usize::from(word - NF_SUBSECTOR);
             if t < self.ssectors {
                 Some(self.nodes + t)
             } else {
@@ -95,7 +103,7 @@ impl<'l, 'a> Places<'l, 'a> {
         }
     }
 
-    /// The numbers of the two children of a node.
+    /// The numbers of the two children of node n.
     #[inline]
     pub fn children(&self, n: usize) -> Children
         ensures front { result.front ≡ child_slot self.now n Front }
@@ -114,8 +122,10 @@ impl<'l, 'a> Places<'l, 'a> {
 
     #[inline]
     fn children_of(&self, node: &Node) -> Children
-        ensures front { result.front ≡ option_map (slot self.now) (where_there self.now (place_of node.now.child0)) }
-        ensures back { result.back ≡ option_map (slot self.now) (where_there self.now (place_of node.now.child1)) }
+        ensures front { result.front
+            ≡ option_map (slot self.now) (where_there self.now (place_of node.now.child0)) }
+        ensures back { result.back
+            ≡ option_map (slot self.now) (where_there self.now (place_of node.now.child1)) }
         ensures front_in { IfSome result.front (λ k. k < slot_count self.now) }
         ensures back_in { IfSome result.back (λ k. k < slot_count self.now) }
     {
@@ -125,7 +135,7 @@ impl<'l, 'a> Places<'l, 'a> {
         }
     }
 
-    /// The number of the root.
+    /// The number of the root, or None in a level with neither nodes nor ssectors.
     pub fn root(&self) -> Option<usize>
         ensures is { result ≡ root_slot self.now }
         ensures within { IfSome result (λ k. k < slot_count self.now) }
@@ -140,7 +150,7 @@ impl<'l, 'a> Places<'l, 'a> {
     }
 }
 
-/// The children of a node, where they are there.
+/// The numbers of a node's two children, each None where its word names nothing.
 #[derive(Clone, Copy)]
 pub struct Children {
     pub front: Option<usize>,

@@ -1,4 +1,4 @@
-//! The descent of a point through the nodes of a sound level.
+//! The descent of a point through the nodes of a sound level (`R_PointInSubsector` of linuxdoom 1.10).
 
 ghost use Rattle.std.specs.Prelude.{◌≡◌, ◌<◌, ◌≤◌, ℕ, Some, IsSomeAnd, length};
 ghost use Rattle.std.specs.List.{slice_get};
@@ -10,12 +10,13 @@ ghost use Rattle.map_tree.specs.Child.{node_count, ssector_count, place_of, word
 ghost use Rattle.map_tree.specs.Sound.{IsSound};
 ghost use Rattle.map_tree.specs.Leaf.{IsLeaf, CountsAncestors};
 
+use crate::places::NF_SUBSECTOR;
 use le_rec::{Node, Table};
 use map_geo::{Partition, Point, Side, side};
 use map_level::Level;
 use std::marker::Model;
 
-/// A sound level, whose nodes are decoded when they are met.
+/// The tree of a sound level. It lends the level and decodes a node when a descent meets it.
 #[derive(Drop)]
 pub struct Tree<'l, 'a> {
     level: &'l Level<'a>,
@@ -33,7 +34,7 @@ impl<'l, 'a> Model for Tree<'l, 'a> {
 }
 
 impl<'l, 'a> Tree<'l, 'a> {
-    /// The tree of a sound level.
+    /// The tree of a level with no fault F3 to F18, as `is_sound` tells by its findings.
     pub fn of(level: &'l Level<'a>) -> Tree<'l, 'a>
         requires { IsSound level.now }
         ensures { result ≡ level.now }
@@ -41,7 +42,8 @@ impl<'l, 'a> Tree<'l, 'a> {
         Tree { level }
     }
 
-    /// The ssector of a point, and how many nodes tested its side.
+    /// The number of the ssector in which the point lies, and how many tests of its side it took: one
+    /// for each node above that ssector.
     pub fn leaf(&self, point: Point) -> (u16, u32)
         ensures leaf { IsLeaf self.now point result.0 }
         ensures only { (t : ℕ) → IsLeaf self.now point t → t ≡ result.0 }
@@ -52,14 +54,14 @@ impl<'l, 'a> Tree<'l, 'a> {
         let nodes = self.level.nodes();
         let mut word = root_word(nodes.len());
         let mut tests = 0;
-        while word < 32768 {
+        while word < NF_SUBSECTOR {
             word = next_word(&nodes, word, point);
             tests += 1;
         }
-        (word - 32768, tests)
+        (word - NF_SUBSECTOR, tests)
     }
 
-    /// The sector of a point.
+    /// The number of the sector in which the point lies: that of its ssector.
     pub fn sector(&self, point: Point) -> u16
         ensures { (t : ℕ) → IsLeaf self.now point t → sector_of self.now t ≡ Some result }
     {
@@ -68,18 +70,18 @@ impl<'l, 'a> Tree<'l, 'a> {
     }
 }
 
-// The word for the last of so many nodes, or for ssector 0.
+// The word that names the root: the last of so many nodes, or ssector 0 where there are none.
 fn root_word(nodes: usize) -> u16
     requires { nodes ≤ 32767 }
     ensures { place_of result ≡ root_of nodes }
 {
     if nodes == 0 {
-        return 32768;
+        return NF_SUBSECTOR;
     }
     (nodes - 1) as u16
 }
 
-// The child word of a node at the side of a point.
+// The child word of node n at the side of a point.
 #[inline]
 fn next_word(nodes: &Table<'_, Node>, n: u16, point: Point) -> u16
     requires there { n < length nodes.now.records }
@@ -88,7 +90,7 @@ fn next_word(nodes: &Table<'_, Node>, n: u16, point: Point) -> u16
     ensures { IsSomeAnd (slice_get nodes.now.records n)
         (λ found. result ≡ word_at found (side_of (partition_of found) point)) }
 {
-    word_beside(&nodes.at(n as usize), point)
+    word_beside(&nodes.at(usize::from(n)), point)
 }
 
 // Both words are loaded before the test, and one is selected after it.

@@ -7,7 +7,7 @@ ghost use Rattle.map_tree.specs.WordCounts.{IsCounted, AreCounted, AreWordCounts
 use crate::places::{Children, Places};
 use std::alloc::{AllocError, Allocator};
 
-/// For each place 0, 1, or 2 where more than one child word names it.
+/// For each place the number of child words that name it, and 2 where there are more.
 pub fn word_counts<A: Allocator>(alloc: A, places: &Places<'_, '_>) -> Result<Vec<u8, A>, AllocError>
     ensures { IfOk result (λ counts. AreWordCounts places.now counts.items) }
 {

@@ -1,0 +1,372 @@
+//! Trees of levels: findings on nodes, leaves, and each growth refused in turn.
+
+use crate::sample::{base_with, base_with_node};
+use le_rec::{Name8, Node, Record};
+use map_geo::Point;
+use map_level::{Code, Finding, Findings, Level, Reading, link_findings};
+use map_tree::{Tree, is_sound, tree_findings};
+use std::alloc::{AllocError, Allocator, Global};
+use std::process::Abort;
+use std::test::Fail;
+use test_alloc::Refusing;
+use wad_dir::Set;
+
+// The sample level's partition.
+const BASE: [i16; 4] = [0, 0, 0, 64];
+
+// A node of these first four fields and children.
+fn node(line: [i16; 4], children: [u16; 2]) -> Node {
+    let [x, y, dx, dy] = line;
+    let [child0, child1] = children;
+    Node {
+        x,
+        y,
+        dx,
+        dy,
+        box0: [0; 4],
+        box1: [0; 4],
+        child0,
+        child1,
+    }
+}
+
+// The bytes of nodes.
+fn nodes(alloc: Global, all: &[Node]) -> Result<Vec<u8>, Fail> {
+    let mut lump = Vec::new(alloc);
+    for node in all {
+        let mut bytes = [0; 28];
+        node.write(&mut bytes);
+        lump.extend_from_slice(&bytes)?;
+    }
+    Ok(lump)
+}
+
+// The bytes of so many ssectors (1, 0).
+fn ssectors(alloc: Global, count: usize) -> Result<Vec<u8>, Fail> {
+    let mut lump = Vec::new(alloc);
+    for _ in 0..count {
+        lump.extend_from_slice(&[1, 0, 0, 0])?;
+    }
+    Ok(lump)
+}
+
+fn check_list<A: Allocator>(rt: &impl Abort, found: &Findings<A>, expected: &[(Code, u32)]) {
+    assert_eq!(rt; found.len(), expected.len());
+    for (i, (code, index)) in expected.iter().enumerate() {
+        let finding = Finding {
+            code: *code,
+            index: *index,
+        };
+        assert_eq!(rt; found.get(i), Some(finding), "finding {i}");
+    }
+}
+
+// Opens the level of a file and compares the findings on its nodes.
+fn check_findings(
+    rt: &(impl Abort + AllocGlobal),
+    file: Vec<u8>,
+    expected: &[(Code, u32)],
+) -> Result<(), Fail> {
+    let files = vec![in rt.alloc(); file]?;
+    let set = Set::new(rt.alloc(), &files)?;
+    let level = Level::open(&set, Name8::query(b"E1M1"), Reading::Signed)?;
+    check_list(rt, &tree_findings(rt.alloc(), &level)?, expected);
+    Ok(())
+}
+
+// A point, its ssector and the number of side tests, and its sector.
+type Case = ([i32; 2], (u16, u32), u16);
+
+// Opens the level of a file and compares the leaves and sectors of points.
+fn check_leaves(
+    rt: &(impl Abort + AllocGlobal),
+    file: Vec<u8>,
+    expected: &[Case],
+) -> Result<(), Fail> {
+    let files = vec![in rt.alloc(); file]?;
+    let set = Set::new(rt.alloc(), &files)?;
+    let level = Level::open(&set, Name8::query(b"E1M1"), Reading::Signed)?;
+    let links = link_findings(rt.alloc(), &level)?;
+    let nodes = tree_findings(rt.alloc(), &level)?;
+    assert!(rt; is_sound(&level, &links, &nodes));
+    let tree = Tree::of(&level);
+    for ([x, y], leaf, sector) in expected {
+        let point = Point::new(*x, *y).expect(rt, "a point in range");
+        assert_eq!(rt; tree.leaf(point), *leaf, "leaf of {x} {y}");
+        assert_eq!(rt; tree.sector(point), *sector, "sector of {x} {y}");
+    }
+    Ok(())
+}
+
+#[test]
+fn base_points(rt: HostRuntime) -> Result<(), Fail> {
+    check_leaves(
+        &rt,
+        base_with(rt.alloc(), &[])?,
+        &[
+            ([1, 5], (0, 1), 0),
+            ([0, 5], (1, 1), 1),
+            ([-1, 5], (1, 1), 1),
+        ],
+    )
+}
+
+#[test]
+fn diagonal_ties(rt: HostRuntime) -> Result<(), Fail> {
+    check_leaves(
+        &rt,
+        base_with_node(rt.alloc(), 0, 0, -1, 1)?,
+        &[
+            ([0, 0], (0, 1), 0),
+            ([1, -1], (1, 1), 1),
+            ([-1, 1], (1, 1), 1),
+        ],
+    )
+}
+
+#[test]
+fn greatest_products(rt: HostRuntime) -> Result<(), Fail> {
+    check_leaves(
+        &rt,
+        base_with_node(rt.alloc(), -16384, 16383, 32767, -32768)?,
+        &[([16383, -16384], (1, 1), 1)],
+    )
+}
+
+#[test]
+fn no_direction(rt: HostRuntime) -> Result<(), Fail> {
+    let file = base_with_node(rt.alloc(), 3, 3, 0, 0)?;
+    check_findings(&rt, file.clone()?, &[(Code::N7, 0)])?;
+    check_leaves(
+        &rt,
+        file,
+        &[
+            ([3, 3], (0, 1), 0),
+            ([3, 4], (0, 1), 0),
+            ([2, 3], (0, 1), 0),
+            ([-16384, -16384], (0, 1), 0),
+            ([16383, 16383], (0, 1), 0),
+        ],
+    )
+}
+
+#[test]
+fn no_nodes(rt: HostRuntime) -> Result<(), Fail> {
+    check_findings(
+        &rt,
+        base_with(rt.alloc(), &[(7, &[])])?,
+        &[(Code::F16, 1)],
+    )?;
+    let alone = base_with(rt.alloc(), &[(6, &[1, 0, 0, 0]), (7, &[])])?;
+    check_findings(&rt, alone.clone()?, &[])?;
+    check_leaves(
+        &rt,
+        alone,
+        &[
+            ([0, 5], (0, 0), 0),
+            ([-16384, 16383], (0, 0), 0),
+        ],
+    )?;
+    check_findings(&rt, base_with(rt.alloc(), &[(6, &[]), (7, &[])])?, &[])
+}
+
+#[test]
+fn two_nodes(rt: HostRuntime) -> Result<(), Fail> {
+    let all = nodes(
+        rt.alloc(),
+        &[
+            node(BASE, [32768, 32769]),
+            node([0, 10, 64, 0], [0, 32770]),
+        ],
+    )?;
+    let three = [1, 0, 0, 0, 1, 0, 1, 0, 1, 0, 1, 0];
+    check_leaves(
+        &rt,
+        base_with(rt.alloc(), &[(6, &three), (7, &all)])?,
+        &[
+            ([1, 5], (0, 2), 0),
+            ([1, 10], (0, 2), 0),
+            ([0, 5], (1, 2), 1),
+            ([1, 11], (2, 1), 1),
+        ],
+    )
+}
+
+// The sample level's file with other children of its node.
+fn base_with_children(alloc: Global, children: [u16; 2]) -> Result<Vec<u8>, Fail> {
+    base_with(alloc, &[(7, &nodes(alloc, &[node(BASE, children)])?)])
+}
+
+#[test]
+fn children(rt: HostRuntime) -> Result<(), Fail> {
+    check_findings(
+        &rt,
+        base_with_children(rt.alloc(), [32768, 32768])?,
+        &[(Code::F15, 0), (Code::F16, 1)],
+    )?;
+    check_findings(
+        &rt,
+        base_with_children(rt.alloc(), [0, 32769])?,
+        &[(Code::F13, 0), (Code::F16, 0)],
+    )?;
+    check_findings(
+        &rt,
+        base_with_children(rt.alloc(), [32770, 32769])?,
+        &[(Code::F11, 0), (Code::F16, 0)],
+    )?;
+    check_findings(
+        &rt,
+        base_with_node(rt.alloc(), 16384, 0, 0, 64)?,
+        &[(Code::F12, 0)],
+    )
+}
+
+#[test]
+fn origins(rt: HostRuntime) -> Result<(), Fail> {
+    for z in [-16384, 16383] {
+        check_findings(&rt, base_with_node(rt.alloc(), z, 0, 0, 64)?, &[])?;
+        check_findings(&rt, base_with_node(rt.alloc(), 0, z, 0, 64)?, &[])?;
+    }
+    for z in [-32768, -16385, 16384, 32767] {
+        let outside = [(Code::F12, 0)];
+        check_findings(&rt, base_with_node(rt.alloc(), z, 0, 0, 64)?, &outside)?;
+        check_findings(&rt, base_with_node(rt.alloc(), 0, z, 0, 64)?, &outside)?;
+    }
+    Ok(())
+}
+
+// A level with two nodes and two ssectors that the root doesn't lead to.
+fn not_reached(alloc: Global) -> Result<Vec<u8>, Fail> {
+    let three = [
+        node(BASE, [1, 32770]),
+        node(BASE, [0, 32771]),
+        node(BASE, [32768, 32769]),
+    ];
+    base_with(
+        alloc,
+        &[(6, &ssectors(alloc, 4)?), (7, &nodes(alloc, &three)?)],
+    )
+}
+
+const NOT_REACHED: [(Code, u32); 4] = [
+    (Code::F14, 0),
+    (Code::F14, 1),
+    (Code::F16, 2),
+    (Code::F16, 3),
+];
+
+#[test]
+fn nodes_not_reached(rt: HostRuntime) -> Result<(), Fail> {
+    check_findings(&rt, not_reached(rt.alloc())?, &NOT_REACHED)
+}
+
+#[test]
+fn too_many_nodes(rt: HostRuntime) -> Result<(), Fail> {
+    check_findings(&rt, base_with(rt.alloc(), &[])?, &[])
+}
+
+#[test]
+fn chain(rt: HostRuntime) -> Result<(), Fail> {
+    let mut lump = nodes(rt.alloc(), &[node(BASE, [32768, 32769])])?;
+    for i in 1..32767u16 {
+        let mut bytes = [0; 28];
+        node(BASE, [i - 1, 32769 + i]).write(&mut bytes);
+        lump.extend_from_slice(&bytes)?;
+    }
+    check_leaves(
+        &rt,
+        base_with(
+            rt.alloc(),
+            &[(6, &ssectors(rt.alloc(), 32768)?), (7, &lump)],
+        )?,
+        &[
+            ([1, 5], (0, 32767), 0),
+            ([0, 5], (32767, 1), 0),
+        ],
+    )
+}
+
+// Each ssector is met, at depths 2 to 6, by points of both sides and of the lines.
+#[test]
+fn depths(rt: HostRuntime) -> Result<(), Fail> {
+    let all = nodes(
+        rt.alloc(),
+        &[
+            node([60, 0, 0, 64], [32774, 32775]),
+            node([0, 300, -64, 0], [32773, 0]),
+            node([0, 0, 64, 64], [32772, 1]),
+            node([50, 0, 0, -64], [32771, 2]),
+            node([0, 100, 64, 0], [32770, 3]),
+            node([0, 0, 64, 0], [32768, 32769]),
+            node([0, 0, 0, 64], [4, 5]),
+        ],
+    )?;
+    let pair = [1, 0, 0, 0, 1, 0, 1, 0];
+    let mut eight = Vec::new(rt.alloc());
+    for _ in 0..4 {
+        eight.extend_from_slice(&pair)?;
+    }
+    check_leaves(
+        &rt,
+        base_with(rt.alloc(), &[(6, &eight), (7, &all)])?,
+        &[
+            ([0, 0], (0, 2), 0),
+            ([-5, 1], (1, 2), 1),
+            ([1, 100], (2, 2), 0),
+            ([50, 101], (3, 3), 1),
+            ([200, 101], (4, 4), 0),
+            ([51, 301], (5, 5), 1),
+            ([61, 300], (6, 6), 0),
+            ([101, 101], (6, 6), 0),
+            ([60, 200], (7, 6), 1),
+        ],
+    )
+}
+
+// Whether `tree_findings` met growth `n` refused.
+fn is_refused(
+    rt: &(impl Abort + AllocGlobal),
+    level: &Level<'_>,
+    n: u64,
+    expected: &[(Code, u32)],
+) -> bool {
+    let heap = Refusing::new(rt.alloc(), n);
+    let result = tree_findings(&heap, level);
+    assert_eq!(rt; result.is_err(), heap.has_refused());
+    if let Ok(found) = result {
+        check_list(rt, &found, expected);
+    }
+    heap.has_refused()
+}
+
+// Refuses growth 1, 2, .. in turn, and then answers as if nothing had been.
+fn check_growths(
+    rt: &(impl Abort + AllocGlobal),
+    file: Vec<u8>,
+    growths: u8,
+    expected: &[(Code, u32)],
+) -> Result<(), Fail> {
+    let files = vec![in rt.alloc(); file]?;
+    let set = Set::new(rt.alloc(), &files)?;
+    let level = Level::open(&set, Name8::query(b"E1M1"), Reading::Signed)?;
+    let last = u64::from(growths);
+    for n in 1..last + 1 {
+        assert!(rt; is_refused(rt, &level, n, expected), "growth {n}");
+        check_list(rt, &tree_findings(rt.alloc(), &level)?, expected);
+    }
+    assert!(rt; !is_refused(rt, &level, last + 1, expected));
+    assert!(rt; !is_refused(rt, &level, 0, expected));
+    Ok(())
+}
+
+#[test]
+fn growth_refused(rt: HostRuntime) -> Result<(), Fail> {
+    let base = base_with(rt.alloc(), &[])?;
+    check_growths(&rt, base, 3, &[])?;
+    check_growths(&rt, not_reached(rt.alloc())?, 4, &NOT_REACHED)?;
+    let linedef = [0, 0, 1, 0, 4, 0, 0, 0, 0, 0, 0, 0, 255, 255];
+    let side_missing = base_with(rt.alloc(), &[(2, &linedef)])?;
+    check_growths(&rt, side_missing, 3, &[])?;
+    let sight_bits = base_with(rt.alloc(), &[(9, &[])])?;
+    check_growths(&rt, sight_bits, 3, &[])
+}

@@ -4,7 +4,7 @@ use Rattle.std.specs.Prelude.{IsSome, IsSomeAnd}
 use Rattle.std.specs.Option.{option_and_then}
 use Rattle.le_rec.specs.Table.{Rows}
 use Rattle.std.specs.List.{slice_get}
-use Rattle.std.proofs.lemmas.Bool.{lt-ltb, le-ltb, ltb-true, cond-true, cond-false}
+use Rattle.std.proofs.lemmas.Bool.{lt-ltb, ltb-true, cond-true}
 use Rattle.std.proofs.lemmas.Option.{cond_some}
 use Rattle.le_rec.specs.declared.records.Node.{Node}
 use Rattle.map_geo.specs.declared.sides.Side.{Side}
@@ -28,17 +28,14 @@ pub record IsAt (level : Level) (point : Point) (word tests : ℕ) : Type 0 wher
 pub place_below : (word : ℕ) → word < 32768 → place_of word ≡ node word
 place_below word h = cond-true _ (node word) (ssector (word - 32768)) (lt-ltb word 32768 h)
 
-pub place_above : (word : ℕ) → 32768 ≤ word → place_of word ≡ ssector (word - 32768)
-place_above word h = cond-false _ (node word) (ssector (word - 32768)) (le-ltb word 32768 h)
-
 pub at_start : (level : Level) (point : Point) (word : ℕ) → IsSound level → place_of word ≡ root_of (node_count level) → IsAt level point word 0
 at_start level point word sound e = record { sound = sound; way = subst (λ p. OnWay level point 0 p) (sym e) (way_start level point (some_ssector level sound)) }
 
 at_node : (level : Level) (point : Point) (word tests : ℕ) → word < 32768 → IsAt level point word tests → OnWay level point tests (node word)
 at_node level point word tests below at = subst (λ p. OnWay level point tests p) (place_below word below) at.way
 
-at_ssector : (level : Level) (point : Point) (word tests : ℕ) → 32768 ≤ word → IsAt level point word tests → OnWay level point tests (ssector (word - 32768))
-at_ssector level point word tests above at = subst (λ p. OnWay level point tests p) (place_above word above) at.way
+at_ssector : (level : Level) (point : Point) (word tests t : ℕ) → place_of word ≡ ssector t → IsAt level point word tests → OnWay level point tests (ssector t)
+at_ssector level point word tests t e at = subst (λ p. OnWay level point tests p) e at.way
 
 pub at_deep : (level : Level) (point : Point) (word tests : ℕ) → word < 32768 → IsAt level point word tests → tests < node_count level
 at_deep level point word tests below at = way_deep level point tests word (tree_from_sound level at.sound) (at_node level point word tests below at)
@@ -74,17 +71,17 @@ at_next level point word next tests nodes below at e h =
     let r = child_word level point word next (slice_get level.nodes.records word) refl here (λ s. tree.words word s (ltb-true word (node_count level) way.there)) in
     record { sound = at.sound; way = way_down level point tests word r.0 (place_of next) way r.1 r.2 }
 
-pub at_within : (level : Level) (point : Point) (word tests : ℕ) → 32768 ≤ word → IsAt level point word tests → word - 32768 < ssector_count level
-at_within level point word tests above at = ltb-true (word - 32768) (ssector_count level) (at_ssector level point word tests above at).there
+pub at_within : (level : Level) (point : Point) (word tests t : ℕ) → place_of word ≡ ssector t → IsAt level point word tests → t < ssector_count level
+at_within level point word tests t e at = ltb-true t (ssector_count level) (at_ssector level point word tests t e at).there
 
-pub at_leaf : (level : Level) (point : Point) (word tests : ℕ) → 32768 ≤ word → IsAt level point word tests → IsLeaf level point (word - 32768)
-at_leaf level point word tests above at = way_leaf level point tests (word - 32768) (tree_from_sound level at.sound) (at_ssector level point word tests above at)
+pub at_leaf : (level : Level) (point : Point) (word tests t : ℕ) → place_of word ≡ ssector t → IsAt level point word tests → IsLeaf level point t
+at_leaf level point word tests t e at = way_leaf level point tests t (tree_from_sound level at.sound) (at_ssector level point word tests t e at)
 
-pub at_tests : (level : Level) (point : Point) (word tests : ℕ) → 32768 ≤ word → IsAt level point word tests → CountsAncestors level (word - 32768) tests
-at_tests level point word tests above at = way_tests level point tests (word - 32768) (tree_from_sound level at.sound) (at_ssector level point word tests above at)
+pub at_tests : (level : Level) (point : Point) (word tests t : ℕ) → place_of word ≡ ssector t → IsAt level point word tests → CountsAncestors level t tests
+at_tests level point word tests t e at = way_tests level point tests t (tree_from_sound level at.sound) (at_ssector level point word tests t e at)
 
-pub at_only : (level : Level) (point : Point) (word tests : ℕ) → 32768 ≤ word → IsAt level point word tests → (t : ℕ) → IsLeaf level point t → t ≡ word - 32768
-at_only level point word tests above at t leaf = one_leaf level point t (word - 32768) leaf (at_leaf level point word tests above at)
+pub at_only : (level : Level) (point : Point) (word tests t : ℕ) → place_of word ≡ ssector t → IsAt level point word tests → (u : ℕ) → IsLeaf level point u → u ≡ t
+at_only level point word tests t e at u leaf = one_leaf level point u t leaf (at_leaf level point word tests t e at)
 
 pub at_fits : (level : Level) (point : Point) (word tests : ℕ) → word < 32768 → IsAt level point word tests → tests + 1 < 4294967296
 at_fits level point word tests below at = omega (arith, at_deep level point word tests below at, few_nodes level at.sound)

@@ -13,9 +13,8 @@ use Rattle.map_geo.specs.declared.sides.Side.TheVariants.{Front, Back}
 use Rattle.map_geo.specs.Point.{IsInRange}
 use Rattle.map_level.specs.Level.{Level}
 use Rattle.map_level.specs.declared.finding.Code.{Code}
-use Rattle.map_level.specs.declared.finding.Code.TheVariants.{F1, F2, F3, F4, F5, F6, F7, F8, F9, F10, F11, F12, F13, F14, F15, F16, F17, F18, N1, N2, N3, N4, N5, N6, N7, N8, N9, N10, N11, N12}
+use Rattle.map_level.specs.declared.finding.Code.TheVariants.{F11, F12, F13, F14, F15, F16, F17, N7}
 use Rattle.map_level.specs.Findings.{is_fault}
-use Rattle.map_level.specs.LinkFaults.{LinkHolds}
 use Rattle.map_tree.specs.Paths.{Place, node, ssector, LeadsIn}
 use Rattle.map_tree.specs.Child.{node_count, ssector_count, has, child, root, IsReached}
 use Rattle.map_tree.specs.TreeFaults.{TreeHolds, IsNamedTwice}

@@ -1,5 +1,5 @@
 -- The laws of sound levels.
-use Rattle.std.proofs.Common.{◌≡◌, ℕ, List, [], length, get_or, refl, sym, ◌∙◌, subst, inl, inr, IsTrue, true, false, arith}
+use Rattle.std.proofs.Common.{◌≡◌, ℕ, List, [], length, get_or, refl, sym, ◌∙◌, subst, inl, inr, IsTrue, false, arith}
 use Rattle.std.specs.Prelude.{◌↔◌, All}
 use Rattle.std.proofs.lemmas.Bool.{false≢true, false_from_ne_true}
 use Rattle.std.proofs.lemmas.List.Elements.{All-contains, Contains-get_or}

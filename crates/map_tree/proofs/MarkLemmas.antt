@@ -2,7 +2,7 @@
 use Rattle.std.proofs.Common.{◌≡◌, ℕ, zero, suc, ◌+◌, ◌<◌, ◌⊎◌, ◌↔◌, inl, inr, sym, ap, ◌∙◌, subst, List, [], ◌∷◌, ◌++◌, length, length-append, get_or, set, Option, Some, None, Bool, true, false, not, cond, IsTrue, arith}
 use Rattle.std.specs.Prelude.{slice_index_or, Contains}
 use Rattle.std.specs.Option.{option_map}
-use Rattle.std.proofs.lemmas.Bool.{lt-ltb, ltb-true, cases_eq, not-true, not_from_false, false_from_ne_true, false≢true}
+use Rattle.std.proofs.lemmas.Bool.{lt-ltb, ltb-true, cases_eq, false≢true}
 use Rattle.std.proofs.lemmas.List.{length-set, get_or-set_same, get_or-set_other}
 use Rattle.std.proofs.lemmas.List.Sums.{sum_by-set}
 use Rattle.std.proofs.lemmas.List.Elements.{Contains-push, Contains-push_cases, Contains-append_left}
@@ -12,7 +12,6 @@ use Rattle.map_geo.specs.declared.sides.Side.TheVariants.{Front, Back}
 use Rattle.map_level.specs.Level.{Level}
 use Rattle.map_tree.specs.Paths.{Place, node, ssector, LeadsIn}
 use Rattle.map_tree.specs.Child.{node_count, ssector_count, has, where_there, child, root, IsReached}
-use Rattle.map_tree.specs.TreeFaults.{NodeNotReached, SsectorNotReached}
 use Rattle.map_tree.specs.Slots.{slot, slot_count, child_slot, root_slot}
 use Rattle.map_tree.specs.Marks.{IsMarked, unmarked, IsMarking, AreMarking, AreReached}
 use Rattle.map_tree.proofs.ChainLemmas.{leads_more}

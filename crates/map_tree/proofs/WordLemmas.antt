@@ -10,7 +10,7 @@ use Rattle.map_tree.specs.Child.{node_count, has, child}
 use Rattle.map_tree.specs.Slots.{slot, slot_count, child_slot}
 use Rattle.map_tree.specs.TreeFaults.{IsNamed, IsNamedTwice}
 use Rattle.map_tree.specs.WordCounts.{once_more, IsCounted, AreCounted, AreWordCounts}
-use Rattle.map_tree.proofs.SoundLemmas.{parent_in, child_there, root_node}
+use Rattle.map_tree.proofs.SoundLemmas.{parent_in, child_there}
 use Rattle.map_tree.proofs.ReachLemmas.{decide_place, none_or_some}
 use Rattle.map_tree.proofs.SlotLemmas.{slot_once, child_slot_of, child_at_slot}
 

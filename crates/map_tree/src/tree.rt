@@ -6,6 +6,7 @@ ghost use Rattle.map_geo.specs.Point.{IsInRange};
 ghost use Rattle.map_geo.specs.Partition.{partition_of};
 ghost use Rattle.map_geo.specs.Side.{side_of};
 ghost use Rattle.map_level.specs.SectorOf.{sector_of};
+ghost use Rattle.map_tree.specs.Paths.{ssector};
 ghost use Rattle.map_tree.specs.Child.{node_count, ssector_count, place_of, word_at, root_of};
 ghost use Rattle.map_tree.specs.Sound.{IsSound};
 ghost use Rattle.map_tree.specs.Leaf.{IsLeaf, CountsAncestors};
@@ -58,7 +59,7 @@ impl<'l, 'a> Tree<'l, 'a> {
             word = next_word(&nodes, word, point);
             tests += 1;
         }
-        (word - NF_SUBSECTOR, tests)
+        (ssector_of(word), tests)
     }
 
     /// The number of the sector in which the point lies: that of its ssector.
@@ -79,6 +80,15 @@ fn root_word(nodes: usize) -> u16
         return NF_SUBSECTOR;
     }
     (nodes - 1) as u16
+}
+
+// The ssector that a word names.
+#[inline]
+fn ssector_of(word: u16) -> u16
+    requires { 32768 ≤ word }
+    ensures { place_of word ≡ ssector result }
+{
+    word - NF_SUBSECTOR
 }
 
 // The child word of node n at the side of a point.

@@ -8,7 +8,10 @@ use crate::places::{Children, Places};
 use std::alloc::{AllocError, Allocator};
 
 /// For each place the number of child words that name it, and 2 where there are more.
-pub fn word_counts<A: Allocator>(alloc: A, places: &Places<'_, '_>) -> Result<Vec<u8, A>, AllocError>
+pub fn word_counts<A: Allocator>(
+    alloc: A,
+    places: &Places<'_, '_>,
+) -> Result<Vec<u8, A>, AllocError>
     ensures { IfOk result (λ counts. AreWordCounts places.now counts.items) }
 {
     let count = places.nodes() + places.ssectors();

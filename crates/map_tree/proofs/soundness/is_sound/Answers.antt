@@ -1,4 +1,4 @@
-use Rattle.std.proofs.Common.{rules, arith}
+use Rattle.std.proofs.Common.{rules}
 use Rattle.map_tree.proofs.LawLemmas.{sound_by_findings}
 use Rattle.map_tree.proofs.soundness.is_sound.Goals as goal
 

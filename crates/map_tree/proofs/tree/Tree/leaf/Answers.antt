@@ -17,16 +17,16 @@ loop-word-preserved c =
     at_next _ _ _ _ _ c.nodes-nodes.result c.loop-word-test.true c.loop-word.invariant (c.nodes-nodes.ensures.is ∙ ap (λ (level : Level). level.nodes) c.self.view_is) c.next_word-word.ensures
 
 pub returns-clause-leaf : goal.returns-clause-leaf
-returns-clause-leaf c = at_leaf _ _ _ _ c.loop-word-test.false c.loop-word.invariant
+returns-clause-leaf c = at_leaf _ _ _ _ c.ssector_of.result c.ssector_of.ensures c.loop-word.invariant
 
 pub returns-clause-only : goal.returns-clause-only
-returns-clause-only c = at_only _ _ _ _ c.loop-word-test.false c.loop-word.invariant
+returns-clause-only c = at_only _ _ _ _ c.ssector_of.result c.ssector_of.ensures c.loop-word.invariant
 
 pub returns-clause-tests : goal.returns-clause-tests
-returns-clause-tests c = at_tests _ _ _ _ c.loop-word-test.false c.loop-word.invariant
+returns-clause-tests c = at_tests _ _ _ _ c.ssector_of.result c.ssector_of.ensures c.loop-word.invariant
 
 pub returns-clause-within : goal.returns-clause-within
-returns-clause-within c = at_within _ _ _ _ c.loop-word-test.false c.loop-word.invariant
+returns-clause-within c = at_within _ _ _ _ c.ssector_of.result c.ssector_of.ensures c.loop-word.invariant
 
 pub returns-clause-few : goal.returns-clause-few
 returns-clause-few c = at_short _ _ _ _ c.loop-word.invariant

@@ -1,4 +1,3 @@
-use Rattle.std.proofs.Common.{rules}
 use Rattle.map_tree.proofs.tree.Tree.sector.Goals as goal
 
 pub returns : goal.returns

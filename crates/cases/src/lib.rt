@@ -17,3 +17,7 @@ mod memory;
 mod points;
 #[cfg(test)]
 mod sample;
+#[cfg(test)]
+mod table_cases;
+#[cfg(test)]
+mod tree_cases;

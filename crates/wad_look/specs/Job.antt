@@ -1,5 +1,7 @@
 -- The forms of a command line (this project's own): a table with a line a command, and what the words of a form ask for.
-use Rattle.std.specs.Prelude.{◌≡◌, ◌≢◌, ℕ, ◌+◌, ◌<◌, ◌≤◌, Bool, true, false, List, [], ◌∷◌, ◌++◌, length, codes, All, IsTrue, slice_index}
+use Rattle.std.specs.Prelude.{◌≡◌, ◌≢◌, ℕ, ◌+◌, ◌-◌, ◌<◌, ◌≤◌, Bool, true, false, List, [], ◌∷◌, ◌++◌, length, codes, All, IsTrue, slice_index, slice_index_or, if◌then◌else◌}
+use Rattle.map_level.specs.declared.reading.Reading.{Reading}
+use Rattle.map_level.specs.declared.reading.Reading.TheVariants.{Signed, Wide}
 use Rattle.wad_look.specs.declared.command.Cmd.{Cmd}
 use Rattle.wad_look.specs.declared.command.Job.{Job}
 use Rattle.wad_look.specs.declared.command.Cmd.TheVariants.{Lumps, Points}
@@ -35,3 +37,11 @@ pub record IsJob (words : List (List ℕ)) (job : Job) : Type 0 where
   pub few_files : length files ≤ (form_of job.command).files
   pub plain : All IsPlain (names ++ files)
   pub first : job.first + length files ≡ length words
+
+-- the word before the first file: the NAME, where the command takes one
+abbrev pub name_in : List (List ℕ) → Job → List ℕ
+name_in words job = slice_index_or words (job.first - 1) []
+
+-- the reading that the job asks for
+abbrev pub reading_of : Job → Reading
+reading_of job = if job.wide then Wide else Signed

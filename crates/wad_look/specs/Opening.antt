@@ -1,5 +1,7 @@
--- What a command finds before it reads its input and writes.
+-- What a command finds before it reads its input and writes, and why it doesn't. The reasons are a chain: each stage has
+-- those of the one before it and its own.
 use Rattle.std.specs.Prelude.{◌≡◌, ℕ, List, All, map}
+use Rattle.std.specs.declared.vec.Vec.{Vec}
 use Rattle.le_rec.specs.Name.{query_of}
 use Rattle.map_level.specs.Opening.{IsLevel, RefusesLevel}
 use Rattle.map_level.specs.Level.{Level}
@@ -11,30 +13,39 @@ use Rattle.wad_look.specs.declared.fault.RunFault.{RunFault}
 use Rattle.wad_look.specs.declared.fault.RunFault.TheVariants as fault
 use Rattle.wad_look.specs.declared.small.Small.{Small}
 
+-- what the files hold
+abbrev pub bytes_of : {A : Type 0} → List (Vec ℕ A) → List (List ℕ)
+bytes_of files = map (λ file. file.items) files
+
 -- the files' bytes, read as directories
 pub record AreRead (bytes : List (List ℕ)) (files : List Wad) : Type 0 where
   pub of_bytes : map (λ file. file.bytes) files ≡ bytes
   pub each : All IsRead files
 
 -- why files aren't read: the first that has no directory, or a growth was refused
-abbrev pub AreUnread : List (List ℕ) → RunFault → Type 0
-AreUnread bytes (fault.Set n why) = IsFirstRefused bytes n why
-AreUnread bytes fault.Memory = Unit {0}
-AreUnread bytes _ = ⊥
+abbrev pub RefusesFiles : List (List ℕ) → RunFault → Type 0
+RefusesFiles bytes (fault.Set n why) = IsFirstRefused bytes n why
+RefusesFiles bytes fault.Memory = Unit {0}
+RefusesFiles bytes _ = ⊥
 
--- why a level isn't answered for: its files aren't read, there is no level of the name, or it isn't small
-abbrev pub IsUnanswered : List (List ℕ) → List ℕ → Reading → RunFault → Type 0
-IsUnanswered bytes name reading (fault.Set n why) = IsFirstRefused bytes n why
-IsUnanswered bytes name reading fault.Memory = Unit {0}
-IsUnanswered bytes name reading (fault.Level why) = (files : List Wad) × AreRead bytes files × RefusesLevel files (query_of name) why
-IsUnanswered bytes name reading fault.Later =
-    (files : List Wad) × (level : Level) × AreRead bytes files × IsLevel files (query_of name) reading level × ((small : Small) → ¬ IsSmall level small)
-IsUnanswered bytes name reading _ = ⊥
-
--- the small level of files and a name
-pub record IsAnswered (bytes : List (List ℕ)) (name : List ℕ) (reading : Reading) (small : Small) : Type 0 where
+-- the level of the files' name
+pub record IsOpened (bytes : List (List ℕ)) (name : List ℕ) (reading : Reading) (level : Level) : Type 0 where
   pub files : List Wad
-  pub level : Level
   pub read : AreRead bytes files
   pub opened : IsLevel files (query_of name) reading level
+
+-- why it isn't opened: there is none of the name
+abbrev pub RefusesName : List (List ℕ) → List ℕ → RunFault → Type 0
+RefusesName bytes name (fault.Level why) = (files : List Wad) × AreRead bytes files × RefusesLevel files (query_of name) why
+RefusesName bytes name fault = RefusesFiles bytes fault
+
+-- the small level of the files' name
+pub record IsAnswered (bytes : List (List ℕ)) (name : List ℕ) (reading : Reading) (small : Small) : Type 0 where
+  pub level : Level
+  pub opened : IsOpened bytes name reading level
   pub is_small : IsSmall level small
+
+-- why its points aren't answered: it isn't small
+abbrev pub RefusesPoints : List (List ℕ) → List ℕ → Reading → RunFault → Type 0
+RefusesPoints bytes name reading fault.Later = (level : Level) × IsOpened bytes name reading level × ((small : Small) → ¬ IsSmall level small)
+RefusesPoints bytes name reading fault = RefusesName bytes name fault

@@ -1,36 +1,44 @@
 -- What a run of a command does.
-use Rattle.std.specs.Prelude.{◌≡◌, ℕ, Bool, false, List, Result, Err}
-use Rattle.map_level.specs.declared.reading.Reading.{Reading}
-use Rattle.wad_dir.specs.Wad.{Wad}
-use Rattle.wad_look.specs.AnswersLines.{AnswersLines}
-use Rattle.wad_look.specs.Listing.{lumps_text}
-use Rattle.wad_look.specs.Opening.{AreRead, AreUnread, IsAnswered, IsUnanswered}
-use Rattle.wad_look.specs.PointAnswers.{point_answer}
-use Rattle.wad_look.specs.Writes.{Writes}
+use Rattle.std.specs.Prelude.{◌≡◌, ◌⊎◌, ℕ, Bool, true, Result, Ok, Err}
+use Rattle.std.specs.declared.vec.Vec.{Vec}
+use Rattle.le_rec.specs.Source.{SourceState}
+use Rattle.line_io.specs.ReadsAll.{ReadsAll}
+use Rattle.line_io.specs.declared.fault.IoFault.{IoFault}
+use Rattle.wad_look.specs.Faults.{run_end}
 use Rattle.wad_look.specs.declared.fault.RunFault.{RunFault}
-use Rattle.wad_look.specs.declared.small.Small.{Small}
 
--- a run of `lumps` that ends before it writes, and one that writes the text of the files
-pub record ListsNothing {W : Type 0} (bytes : List (List ℕ)) (out out' : W) (result : Result (Unit {0}) RunFault) : Type 0 where
+-- it ended before anything was read or written, for a reason that holds
+pub record Refused {T : Type 0} (Reason : RunFault → Type 0) (Untouched : Type 0) (result : Result T RunFault) : Type 0 where
   pub fault : RunFault
   pub ended : result ≡ Err fault
-  pub why : AreUnread bytes fault
-  pub unwritten : out' ≡ out
+  pub holds : Reason fault
+  pub untouched : Untouched
 
-pub record ListsLumps (bytes : List (List ℕ)) (tells : Bool) (before after : List ℕ) (failed : Bool) (result : Result (Unit {0}) RunFault) : Type 0 where
-  pub files : List Wad
-  pub read : AreRead bytes files
-  pub writes : Writes tells before after failed false (lumps_text files) result
+-- it went on with what was found, and ended as reading and writing did
+pub record WentOn {T X : Type 0} (Found : X → Type 0) (Does : X → Result T IoFault → Type 0) (result : Result T RunFault) : Type 0 where
+  pub what : X
+  pub found : Found what
+  pub outcome : Result T IoFault
+  pub ended : result ≡ run_end outcome
+  pub does : Does what outcome
 
--- a run of `points` that ends before it reads and writes, and one that answers the lines of its input
-pub record AnswersNothing {S W : Type 0} (bytes : List (List ℕ)) (name : List ℕ) (reading : Reading) (input input' : S) (out out' : W) (result : Result (Unit {0}) RunFault) : Type 0 where
-  pub fault : RunFault
-  pub ended : result ≡ Err fault
-  pub why : IsUnanswered bytes name reading fault
-  pub unread : input' ≡ input
-  pub unwritten : out' ≡ out
+-- one of the two
+abbrev pub Runs : {T X : Type 0} → (RunFault → Type 0) → Type 0 → (X → Type 0) → (X → Result T IoFault → Type 0) → Result T RunFault → Type 0
+Runs Reason Untouched Found Does result = Refused Reason Untouched result ⊎ WentOn Found Does result
 
-pub record AnswersPoints (bytes : List (List ℕ)) (name : List ℕ) (reading : Reading) (limit : ℕ) (source_tells : Bool) (left rest : List ℕ) (source_failed : Bool) (sink_tells : Bool) (before after : List ℕ) (sink_failed : Bool) (result : Result (Unit {0}) RunFault) : Type 0 where
-  pub small : Small
-  pub level : IsAnswered bytes name reading small
-  pub answers : AnswersLines (point_answer small) false limit source_tells left rest source_failed sink_tells before after sink_failed result
+-- the run of a command that finds no faults
+abbrev pub done : Result (Unit {0}) RunFault → Result Bool RunFault
+done (Ok x) = Ok true
+done (Err fault) = Err fault
+
+-- a command ends as its engine does
+pub record EndsAs (Engine : Result (Unit {0}) RunFault → Type 0) (result : Result Bool RunFault) : Type 0 where
+  pub outcome : Result (Unit {0}) RunFault
+  pub runs : Engine outcome
+  pub ended : result ≡ done outcome
+
+-- reading a whole input, with the faults of a run
+pub record ReadsWhole {A : Type 0} (limit : ℕ) (before after : SourceState) (result : Result (Vec ℕ A) RunFault) : Type 0 where
+  pub outcome : Result (Vec ℕ A) IoFault
+  pub reads : ReadsAll limit before after outcome
+  pub ended : result ≡ run_end outcome

@@ -1,10 +1,13 @@
 -- The status with which the program ends (ours).
 use Rattle.std.specs.Prelude.{ℕ, Bool, true, false, Result, Ok, Err}
+use Rattle.wad_dir.specs.declared.packer.PackFault.{PackFault}
+use Rattle.wad_dir.specs.declared.packer.PackFault.TheVariants as pack
 use Rattle.wad_look.specs.declared.fault.RunFault.{RunFault}
-use Rattle.wad_look.specs.declared.fault.RunFault.TheVariants.{Memory}
+use Rattle.wad_look.specs.declared.fault.RunFault.TheVariants as fault
 
 abbrev pub status_of_fault : RunFault → ℕ
-status_of_fault Memory = 3
+status_of_fault fault.Memory = 3
+status_of_fault (fault.Pack pack.Memory) = 3
 status_of_fault _ = 2
 
 abbrev pub status_of : Result Bool RunFault → ℕ

@@ -1,4 +1,7 @@
 //! What a command line asks for.
+ghost use Rattle.std.specs.Prelude.{◌≡◌};
+
+use map_level::Reading;
 
 /// A command.
 #[derive(Clone, Copy, Debug, PartialEq, Eq)]
@@ -18,4 +21,19 @@ pub struct Job {
     pub first: usize,
     /// Whether `--wide` stood after the command.
     pub wide: bool,
+}
+
+impl Job {
+    ghost use Rattle.wad_look.specs.Job.{reading_of};
+
+    /// The reading under which the command opens a level.
+    pub fn reading(self) -> Reading
+        ensures { result ≡ reading_of self }
+    {
+        if self.wide {
+            Reading::Wide
+        } else {
+            Reading::Signed
+        }
+    }
 }

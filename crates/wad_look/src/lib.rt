@@ -1,33 +1,24 @@
-//! The engines behind the commands of `wadlook`: bytes in, bytes out.
+//! The engines behind the commands of `wadlook`: bytes in, bytes out. An engine is one file of code in `engines`, one of
+//! definitions in `specs/Engines` and one of lemmas, under its command's name.
 #![tactic(auto)]
 
 mod command;
-mod content;
-mod engine;
+mod engines;
 mod fault;
 mod input;
 pub mod laws;
-mod line;
-mod listing;
-pub mod number_laws;
 mod opening;
 mod outcome;
-mod output;
-mod part;
-mod point_lines;
 mod sector_of;
 mod small;
-#[cfg(test)]
-mod tests;
 mod words;
 
 pub use command::{Cmd, Job};
-pub use engine::{LineCommand, answer_lines};
+pub use engines::lumps::lumps;
+pub use engines::points::points;
+pub use engines::{INPUT_LIMIT, run};
 pub use fault::RunFault;
-pub use input::{LIMIT, read_all};
-pub use listing::lumps;
+pub use input::read_all;
+pub use line_io::LIMIT;
 pub use outcome::status;
-pub use output::emit;
-pub use point_lines::points;
-pub use small::{Leaf, Small};
 pub use words::job;

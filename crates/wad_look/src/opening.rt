@@ -1,21 +1,44 @@
-//! Opening the files of a command.
+//! Opening what a command is over. What takes memory is the set alone.
 
-ghost use Rattle.std.specs.Prelude.{◌≤◌, IfErr, IfOk, length, map};
-ghost use Rattle.wad_look.specs.Opening.{AreRead, AreUnread};
+ghost use Rattle.std.specs.Prelude.{◌≡◌, ◌≤◌, Err, IfErr, IfOk, IfSome, IfNone, length};
+ghost use Rattle.le_rec.specs.Name.{query_of};
+ghost use Rattle.map_level.specs.Opening.{IsLevel, RefusesLevel};
+ghost use Rattle.wad_look.specs.Opening.{AreRead, IsOpened, RefusesFiles, RefusesName, bytes_of};
+ghost use Rattle.wad_look.specs.declared.fault.RunFault.TheVariants as fault;
 
 use crate::fault::RunFault;
+use le_rec::Name8;
+use map_level::{Level, LevelFault, Reading};
 use std::alloc::Allocator;
 use wad_dir::{Set, SetFault};
 
 /// The directories of the files.
 pub fn open_set<'a, A: Allocator>(alloc: A, files: &'a [Vec<u8>]) -> Result<Set<'a, A>, RunFault>
     requires { length files.now ≤ 64 }
-    ensures ok { IfOk result (AreRead (map (λ file. file.items) files.now)) }
-    ensures err { IfErr result (AreUnread (map (λ file. file.items) files.now)) }
+    ensures ok { IfOk result (AreRead (bytes_of files.now)) }
+    ensures err { IfErr result (RefusesFiles (bytes_of files.now)) }
 {
     match Set::new(alloc, files) {
         Ok(set) => Ok(set),
         Err(SetFault::File(n, fault)) => Err(RunFault::Set(n, fault)),
         Err(SetFault::Memory) => Err(RunFault::Memory),
+    }
+}
+
+/// The level of a name, of the files.
+pub fn open_level<'a, A: Allocator>(
+    alloc: A,
+    files: &'a [Vec<u8>],
+    name: &[u8],
+    reading: Reading,
+) -> Result<Level<'a>, RunFault>
+    requires { length files.now ≤ 64 }
+    ensures ok { IfOk result (IsOpened (bytes_of files.now) name.now reading) }
+    ensures err { IfErr result (RefusesName (bytes_of files.now) name.now) }
+{
+    let set = open_set(alloc, files)?;
+    match Level::open(&set, Name8::query(name), reading) {
+        Ok(level) => Ok(level),
+        Err(fault) => Err(RunFault::Level(fault)),
     }
 }

@@ -4,6 +4,7 @@ ghost use Rattle.std.specs.Prelude.{◌≡◌};
 ghost use Rattle.wad_look.specs.Status.{status_of};
 
 use crate::fault::RunFault;
+use wad_dir::PackFault;
 
 /// The program's status for what a run gave: 0 where it was done, 1 where an audit found a fault, 3 where a growth was
 /// refused, and 2 at any other refusal.
@@ -13,7 +14,7 @@ pub fn status(outcome: &Result<bool, RunFault>) -> u8
     match outcome {
         Ok(true) => 0,
         Ok(false) => 1,
-        Err(RunFault::Memory) => 3,
+        Err(RunFault::Memory | RunFault::Pack(PackFault::Memory)) => 3,
         Err(_) => 2,
     }
 }

@@ -48,7 +48,7 @@ fn whole(level: &Level<'_>) -> Option<Small>
     if level.ssectors().len() != 1 {
         return None;
     }
-    let leaf = leaf_of(level, 0)?;
+    let leaf = leaf_under(level, 0)?;
     Some(Small::Whole(leaf))
 }
 
@@ -63,8 +63,8 @@ fn halved(level: &Level<'_>, node: &Node) -> Option<Small>
     }
     let partition = Partition::of(node)?;
     let (front, back) = children(node)?;
-    let front = leaf_of(level, front)?;
-    let back = leaf_of(level, back)?;
+    let front = leaf_under(level, front)?;
+    let back = leaf_under(level, back)?;
     Some(Small::Halved(partition, front, back))
 }
 
@@ -81,7 +81,7 @@ fn children(node: &Node) -> Option<(u16, u16)>
 }
 
 // An ssector with its sector, where it has one.
-fn leaf_of(level: &Level<'_>, ssector: u16) -> Option<Leaf>
+fn leaf_under(level: &Level<'_>, ssector: u16) -> Option<Leaf>
     ensures { MatchOption result (sector_of level.now ssector ≡ None) (λ leaf. (leaf.ssector ≡ ssector) × IsLeaf level.now leaf) }
 {
     let sector = sector_of(level, ssector as usize)?;
@@ -91,7 +91,7 @@ fn leaf_of(level: &Level<'_>, ssector: u16) -> Option<Leaf>
 impl Small {
     /// Where the point lies.
     #[inline]
-    pub fn leaf(&self, point: Point) -> Leaf
+    pub fn leaf_of(&self, point: Point) -> Leaf
         ensures { result ≡ leaf_at self.now point }
     {
         match self {

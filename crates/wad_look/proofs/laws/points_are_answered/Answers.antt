@@ -1,5 +1,5 @@
-use Rattle.wad_look.proofs.PointLemmas.{allowed_answer, outside_answer, other_answer}
+use Rattle.wad_look.proofs.PointsLemmas.{points_are_answered}
 use Rattle.wad_look.proofs.laws.points_are_answered.Goals as goal
 
 pub returns : goal.returns
-returns c = record { point = allowed_answer; range = outside_answer; form = other_answer }
+returns c = points_are_answered

@@ -2,7 +2,7 @@ use Rattle.std.proofs.Common.{Some, map, string_bytes, length, ◌≡◌, ◌+�
 use Rattle.std.proofs.lemmas.List.{length-map}
 use Rattle.std.proofs.lemmas.List.Elements.{All-map}
 use Rattle.wad_look.specs.Job.{IsJob, IsPlain}
-use Rattle.wad_look.proofs.Forms.{IsRead, IsTaken, job_of, only_job, is_job, All-unmap}
+use Rattle.wad_look.proofs.JobLemmas.{IsRead, IsTaken, job_of, only_job, is_job, All-unmap}
 use Rattle.wad_look.proofs.words.job.Goals as goal
 
 pub returns-then-not-takes : goal.returns-then-not-takes

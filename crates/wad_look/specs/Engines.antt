@@ -1,0 +1,3 @@
+-- What each command writes, and what its run does.
+pub mod Lumps
+pub mod Points

@@ -1,0 +1,68 @@
+//! The engine of each command.
+
+pub mod lumps;
+pub mod points;
+
+ghost use Rattle.std.specs.Prelude.{◌≡◌, ◌+◌, ◌-◌, ◌≤◌, [], false, length, map, slice_index_or, string_bytes};
+ghost use Rattle.wad_look.specs.Engines.Lumps.{RunsLumps};
+ghost use Rattle.wad_look.specs.Engines.Points.{RunsPoints};
+ghost use Rattle.wad_look.specs.Job.{IsJob, name_in, reading_of};
+ghost use Rattle.wad_look.specs.Opening.{bytes_of};
+ghost use Rattle.wad_look.specs.Runs.{EndsAs, done};
+
+use crate::command::{Cmd, Job};
+use crate::fault::RunFault;
+use le_rec::{Sink, Source};
+use lumps::lumps;
+use points::points;
+use std::alloc::Allocator;
+
+/// The most bytes of line input.
+pub const INPUT_LIMIT: u64 = 16_777_216;
+
+/// Runs the command of the words, which are those of `job`, over what their files hold: whether it was done without a
+/// fault found.
+pub fn run<A: Allocator, S: Source, W: Sink>(
+    alloc: A,
+    words: &[String],
+    job: Job,
+    files: &[Vec<u8>],
+    input: &mut S,
+    out: &mut W,
+) -> Result<bool, RunFault>
+    requires job { IsJob (map string_bytes words.now) job }
+    requires files { job.first + length files.now ≡ length words.now }
+    requires input { (S.state input.old).failed ≡ false }
+    requires out { (W.state out.old).failed ≡ false }
+    ensures lumps { job.command ≡ Cmd.Lumps → (input.new ≡ input.old)
+        × EndsAs (RunsLumps W.state (bytes_of files.now) out.old out.new) result }
+    ensures points { job.command ≡ Cmd.Points
+        → EndsAs (RunsPoints S.state W.state (bytes_of files.now) (name_in (map string_bytes words.now) job)
+        (reading_of job) INPUT_LIMIT input.old input.new out.old out.new) result }
+{
+    match job.command {
+        Cmd::Lumps => done(lumps(alloc, files, out)),
+        Cmd::Points => {
+            let name = name_of(words, job).as_bytes();
+            done(points(alloc, files, name, job.reading(), input, INPUT_LIMIT, out))
+        }
+    }
+}
+
+// The end of a command that finds no faults.
+fn done(ended: Result<(), RunFault>) -> Result<bool, RunFault>
+    ensures { result ≡ done ended }
+{
+    match ended {
+        Ok(()) => Ok(true),
+        Err(fault) => Err(fault),
+    }
+}
+
+// The word before the first file.
+fn name_of(words: &[String], job: Job) -> &str
+    requires { IsJob (map string_bytes words.now) job }
+    ensures { result.now ≡ name_in (map string_bytes words.now) job }
+{
+    words[job.first - 1].as_str()
+}

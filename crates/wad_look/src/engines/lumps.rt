@@ -1,0 +1,117 @@
+//! The command `lumps`: the files and their entries.
+
+ghost use Rattle.std.specs.Prelude.{◌≡◌, ◌≤◌, ◌<◌, ◌^◌, ◌+◌, ◌++◌, [], false, length};
+ghost use Rattle.le_rec.specs.Name.{name_of, shown_name};
+ghost use Rattle.line_io.specs.Writes.{Writes};
+ghost use Rattle.wad_look.specs.Engines.Lumps.{RunsLumps, entry_line, file_line, file_text, lumps_text};
+ghost use Rattle.wad_look.specs.Opening.{bytes_of};
+
+use crate::fault::RunFault;
+use crate::opening::open_set;
+use le_rec::{Entry, Name8, Sink};
+use line_io::{IoFault, TextLine, emit};
+use std::alloc::Allocator;
+use wad_dir::{Kind, Set, Wad};
+
+/// Writes the files, each with its kind and number of entries, and their entries, each with its number, place, size and
+/// name. `Set` and `Memory` come before anything is written.
+pub fn lumps<A: Allocator, W: Sink>(
+    alloc: A,
+    files: &[Vec<u8>],
+    out: &mut W,
+) -> Result<(), RunFault>
+    requires few { length files.now ≤ 64 }
+    requires sound { (W.state out.old).failed ≡ false }
+    ensures { RunsLumps W.state (bytes_of files.now) out.old out.new result }
+{
+    let set = open_set(alloc, files)?;
+    match write_files(&set, out) {
+        Ok(()) => Ok(()),
+        Err(fault) => Err(RunFault::from(fault)),
+    }
+}
+
+// Writes the lines of all files.
+fn write_files<A: Allocator, W: Sink>(set: &Set<'_, A>, out: &mut W) -> Result<(), IoFault>
+    requires { (W.state out.old).failed ≡ false }
+    ensures { Writes (W.state out.old) (W.state out.new) (lumps_text set.now) result }
+{
+    let mut first = 0;
+    'files: for i in 0..set.files() {
+        let Some(wad) = set.file(i) else { break };
+        write_file(i + 1, first, &wad, out)?;
+        first += wad.len();
+    }
+    Ok(())
+}
+
+// Writes the lines of file `n`, whose entries are numbered on from `first`.
+fn write_file<W: Sink>(n: usize, first: usize, wad: &Wad<'_>, out: &mut W) -> Result<(), IoFault>
+    requires sound { (W.state out.old).failed ≡ false }
+    requires fits { first < 2 ^ 38 }
+    ensures { Writes (W.state out.old) (W.state out.new) (file_text n first wad.now) result }
+{
+    let mut line = TextLine::new();
+    put_file(&mut line, n, wad.kind(), wad.len());
+    emit(out, line.as_bytes())?;
+    let entries = wad.entries();
+    'entries: for i in 0..entries.len() {
+        let Some(entry) = entries.get(i) else { break };
+        write_entry(first + i, &entry, out)?;
+    }
+    Ok(())
+}
+
+// Writes the line of an entry of that number.
+fn write_entry<W: Sink>(g: usize, entry: &Entry, out: &mut W) -> Result<(), IoFault>
+    requires { (W.state out.old).failed ≡ false }
+    ensures { Writes (W.state out.old) (W.state out.new)
+        (entry_line g entry.now.filepos entry.now.size (name_of entry.now.name)) result }
+{
+    let mut line = TextLine::new();
+    put_entry(&mut line, g, entry);
+    emit(out, line.as_bytes())
+}
+
+// `<g> <filepos> <size> <name>`
+#[tactic(auto, unfolding(crate::specs::Engines::Lumps::entry_line))]
+fn put_entry(line: &mut TextLine, g: usize, entry: &Entry)
+    requires { line.old ≡ [] }
+    ensures { line.new ≡ entry_line g entry.now.filepos entry.now.size (name_of entry.now.name) }
+{
+    line.put_bytes(b"\n");
+    put_name(line, &Name8::stored(entry.name));
+    line.put_bytes(b" ");
+    line.put_integer(i64::from(entry.size));
+    line.put_bytes(b" ");
+    line.put_integer(i64::from(entry.filepos));
+    line.put_bytes(b" ");
+    line.put_natural(g as u64);
+}
+
+// `file <n> <IWAD or PWAD> <count>`
+#[tactic(auto, unfolding(crate::specs::Engines::Lumps::file_line))]
+fn put_file(line: &mut TextLine, n: usize, kind: Kind, count: usize)
+    requires { line.old ≡ [] }
+    ensures { line.new ≡ file_line n kind count }
+{
+    line.put_bytes(b"\n");
+    line.put_natural(count as u64);
+    line.put_bytes(match kind {
+        Kind::Iwad => b" IWAD ",
+        Kind::Pwad => b" PWAD ",
+    });
+    line.put_natural(n as u64);
+    line.put_bytes(b"file ");
+}
+
+// Puts a name as it is shown.
+fn put_name(line: &mut TextLine, name: &Name8)
+    requires { length line.old + 32 ≤ 128 }
+    ensures text { line.new ≡ shown_name name.now ++ line.old }
+    ensures length { length line.new ≤ length line.old + 32 }
+{
+    let mut text = [0; 32];
+    let len = name.shown(&mut text);
+    line.put_bytes(&text[..len]);
+}

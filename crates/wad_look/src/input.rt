@@ -1,0 +1,25 @@
+//! Reading a whole input.
+ghost use Rattle.std.specs.Prelude.{◌≡◌, ◌≤◌, false};
+ghost use Rattle.wad_look.specs.Runs.{ReadsWhole};
+
+use crate::fault::RunFault;
+use le_rec::Source;
+use line_io::LIMIT;
+use std::alloc::Allocator;
+
+/// Reads `input` to its end, at most one byte past `limit`. `TooLong` where it has more than `limit` bytes, `Memory`
+/// where there is no room for those read so far.
+pub fn read_all<S: Source, A: Allocator>(
+    alloc: A,
+    input: &mut S,
+    limit: u64,
+) -> Result<Vec<u8, A>, RunFault>
+    requires limit { limit ≤ LIMIT }
+    requires input { (S.state input.old).failed ≡ false }
+    ensures { ReadsWhole limit (S.state input.old) (S.state input.new) result }
+{
+    match line_io::read_all(alloc, input, limit) {
+        Ok(bytes) => Ok(bytes),
+        Err(fault) => Err(RunFault::from(fault)),
+    }
+}

@@ -1,12 +1,11 @@
 -- Facts about levels: that files and a name have at most one, and none where they are refused.
-use Rattle.std.proofs.Common.{◌≡◌, ◌≢◌, ℕ, ◌+◌, ◌-◌, ◌<◌, ◌≤◌, inl, inr, List, [], ◌∷◌, ◌++◌, length, take, drop, get_or, Some, None, ℤ, pos, refl, sym, ap, ◌∙◌, subst, arith}
+use Rattle.std.proofs.Common.{◌≡◌, ◌≢◌, ℕ, ◌+◌, ◌-◌, ◌<◌, ◌≤◌, inl, inr, List, [], length, get_or, Some, None, refl, sym, ap, ◌∙◌, subst, arith}
 use Rattle.std.specs.List.{slice_get}
 use Rattle.std.proofs.lemmas.Bool.{cases_lt}
 use Rattle.std.proofs.lemmas.Option.{unwrap_or-slice_get, slice_get_past}
 use Rattle.std.specs.Prelude.{unwrap_or}
-use Rattle.std.proofs.lemmas.List.{take_at, drop_at, ext_get_or}
+use Rattle.std.proofs.lemmas.List.{ext_get_or}
 use Rattle.wad_dir.specs.Wad.{Wad}
-use Rattle.wad_dir.specs.Standing.{StandsAt}
 use Rattle.wad_dir.specs.Entries.{joined, names, Listed}
 use Rattle.wad_dir.specs.Winner.{Wins}
 use Rattle.wad_dir.specs.Slice.{IsLump, IsSlice}
@@ -14,7 +13,6 @@ use Rattle.wad_dir.proofs.LumpLemmas.{IsSlice-one}
 use Rattle.wad_dir.proofs.WinnerLemmas.{Wins-one}
 use Rattle.map_level.specs.Level.{Level, lump_of}
 use Rattle.map_level.specs.Opening.{AreNames, AreLumps, AreThereBelow, IsLevel, RefusesLevel}
-use Rattle.le_rec.specs.declared.records.Entry.{Entry}
 use Rattle.map_level.specs.declared.level.LevelFault.{LevelFault}
 use Rattle.map_level.specs.declared.level.LevelFault.TheVariants.{NoLabel, Missing, Outside}
 use Rattle.map_level.specs.declared.reading.Reading.{Reading}

@@ -2,7 +2,6 @@
 use Rattle.std.specs.Prelude.{◌≡◌, ◌≢◌, ℕ, ◌<◌, ◌≤◌, ◌-◌, ◌+ℤ◌, ◌<ℤ◌, ◌⊎◌, ℤ, pos, negsuc, List, [], ◌∷◌, length, codes, Option, Some, IsSomeAnd}
 use Rattle.std.specs.Int.{w16, int_bit_and}
 use Rattle.std.specs.List.{slice_get}
-use Rattle.le_rec.specs.declared.records.Thing.{Thing}
 use Rattle.le_rec.specs.declared.records.LineDef.{LineDef}
 use Rattle.le_rec.specs.declared.records.SSector.{SSector}
 use Rattle.le_rec.specs.declared.records.Vertex.{Vertex}

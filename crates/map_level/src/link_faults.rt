@@ -124,7 +124,7 @@ pub fn seg_without_side(level: &Level<'_>, i: usize) -> bool
 fn has_no_side(level: &Level<'_>, seg: &Seg) -> bool
     ensures { IsTrue result
         ↔ (side_of level.now (seg_under level.now.reading seg.now)
-            ≡ Some (no_side level.now.reading)) }
+        ≡ Some (no_side level.now.reading)) }
 {
     match side_of(level, seg) {
         Some(side) => side == no_side(level.reading()),

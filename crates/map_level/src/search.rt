@@ -64,6 +64,7 @@ pub fn add_where<T: Searched, A: Allocator, F: Fn(u32) -> bool>(
     requires before { AreFindingsBelow (T.holds searched.now) (place code) 0 found.old }
     ensures { OnOk result (AreFindingsBelow (T.holds searched.now) (place code + 1) 0 found.new) }
 {
+    // Only the clauses speak of what is searched.
     let _searched = searched;
     for index in 0..count {
         if test(index) {

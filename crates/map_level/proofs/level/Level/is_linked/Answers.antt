@@ -1,4 +1,3 @@
-use Rattle.std.proofs.Common.{◌≡◌}
 use Rattle.map_level.proofs.LinkedLemmas.{IsLinked-by_findings}
 use Rattle.map_level.proofs.level.Level.is_linked.Goals as goal
 

@@ -1,4 +1,4 @@
-use Rattle.std.proofs.Common.{◌≡◌, Some, sym, ap, ◌∙◌}
+use Rattle.std.proofs.Common.{Some, sym, ap, ◌∙◌}
 use Rattle.std.specs.Prelude.{unwrap_or}
 use Rattle.map_level.proofs.LinkedLemmas.{linked_sector}
 use Rattle.map_level.proofs.level.Level.ssector_sector.Goals as goal

@@ -1,4 +1,3 @@
 pub mod JobLemmas
 pub mod LumpsLemmas
 pub mod PointsLemmas
-pub mod SmallLemmas

@@ -8,8 +8,23 @@ use Rattle.line_io.specs.LineAnswers.{form_refused}
 use Rattle.line_io.specs.Numbers.{AreNumbers, HasForm, nearest, numbers_of, printed}
 use Rattle.line_io.proofs.PartsLemmas.{by_parts}
 use Rattle.map_geo.specs.Point.{Point, IsInRange, point_at}
-use Rattle.wad_look.specs.Engines.Points.{AnswersPoints, point_text, range_refused}
-use Rattle.wad_look.specs.declared.small.Leaf.{Leaf}
+use Rattle.map_level.specs.Level.{Level}
+use Rattle.map_level.specs.Links.{ssectors_of}
+use Rattle.map_level.specs.SectorOf.{sector_of}
+use Rattle.map_level.proofs.LinkedLemmas.{linked_sector}
+use Rattle.map_tree.specs.Child.{ssector_count}
+use Rattle.map_tree.specs.Leaf.{IsLeaf}
+use Rattle.map_tree.specs.Sound.{IsSound}
+use Rattle.map_tree.proofs.DescentLemmas.{leaf_within}
+use Rattle.map_tree.proofs.LeafLemmas.{one_leaf, some_leaf}
+use Rattle.map_tree.proofs.SoundLemmas.{linked_from_sound}
+use Rattle.std.specs.Prelude.{◌<◌, slice_index}
+use Rattle.std.specs.List.{slice_get}
+use Rattle.std.proofs.lemmas.List.{length-map}
+use Rattle.std.proofs.lemmas.Option.{get_or_from_slice_get}
+use Rattle.wad_look.specs.Laws.{LinesNameTheLeaf}
+use Rattle.wad_look.specs.Engines.Points.{AnswersPoints, ListsSectors, PlacesPoints, TellsPoints, point_text, range_refused}
+use Rattle.wad_look.specs.declared.engines.points.Leaf.{Leaf}
 
 -- whether a coordinate is in range
 is_in_range : ℤ → Bool
@@ -49,9 +64,9 @@ other_answer place content (Some (x ∷ [])) read none = refl
 other_answer place content (Some (x ∷ y ∷ [])) read none = absurd (none x y ((by_parts content (x ∷ y ∷ [])).1 read))
 other_answer place content (Some (x ∷ y ∷ z ∷ more)) read none = refl
 
-pub points_are_answered : (place : Point → Leaf) → (answer : List ℕ → List ℕ) × AnswersPoints place answer
+answered_at : (place : Point → Leaf) → (answer : List ℕ → List ℕ) × AnswersPoints place answer
 unfolding answer_to
-points_are_answered place = (λ content. answer_to place (numbers_of content), record {
+answered_at place = (λ content. answer_to place (numbers_of content), record {
   point = λ content x y are x_in y_in. rw ((by_parts content (x ∷ y ∷ [])).0 are, in_range x x_in, in_range y y_in) refl;
   range = λ content x y are out. rw ((by_parts content (x ∷ y ∷ [])).0 are, out_of_range x y out) refl;
   form = λ content none. other_answer place content (numbers_of content) refl none;
@@ -116,3 +131,41 @@ printed_front content rest values pair is =
     let y = nearest pair.y in
     let whole : content ≡ signed_decimal x ++ (32 ∷ signed_decimal y) = is ∙ ap printed pair.values_are in
     rw (whole, pair.values_are) (append_assoc (signed_decimal x) (32 ∷ signed_decimal y) rest)
+
+-- the leaf of a point of a sound level, with its sector
+module _ (level : Level) (sound : IsSound level) where
+  leaf_at : (point : Point) → (leaf : Leaf) × IsLeaf level point leaf.ssector × (sector_of level leaf.ssector ≡ Some leaf.sector)
+  leaf_at point =
+      let some = some_leaf level point sound in
+      let there : some.0 < length (ssectors_of level) = rw length-map (leaf_within level point some.0 sound some.1) in
+      let sector = linked_sector level (linked_from_sound level sound) some.0 there in
+      (record { ssector = some.0; sector = sector.0 }, some.1, sector.1)
+
+  pub points_are_answered : (answer : List ℕ → List ℕ) × TellsPoints level answer
+  points_are_answered =
+      let place : Point → Leaf = λ point. (leaf_at point).0 in
+      let told = answered_at place in
+      (told.0, record { place = place; places = λ point. ((leaf_at point).1, (leaf_at point).2); answers = told.1 })
+
+pub lines_name_the_leaf : LinesNameTheLeaf
+lines_name_the_leaf level answer sound told content x y are x_in y_in =
+    let point = point_at x y in
+    let leaf = told.place point in
+    let lies = told.places point in
+    (leaf.ssector, leaf.sector, told.answers.point content x y are x_in y_in, lies.0, (λ u other. one_leaf level point u leaf.ssector other lies.0), lies.1)
+
+same_leaf : {t s : ℕ} {leaf : Leaf} → t ≡ leaf.ssector → s ≡ leaf.sector → (record { ssector = t; sector = s }) ≡ leaf
+same_leaf {s = s} {leaf = leaf} e f =
+    let by_ssector : ℕ → Leaf = λ n. record { ssector = n; sector = s } in
+    let by_sector : ℕ → Leaf = λ m. record { ssector = leaf.ssector; sector = m } in
+    ap by_ssector e ∙ ap by_sector f
+
+-- in a sound level the leaf that was found, with its listed sector, is that of each way to place points
+pub placed_at : (level : Level) (sectors : List ℕ) (place : Point → Leaf) (point : Point) (t s : ℕ) → IsSound level → ListsSectors level sectors → PlacesPoints level place
+    → IsLeaf level point t → s ≡ get_or sectors t s → (record { ssector = t; sector = s }) ≡ place point
+placed_at level sectors place point t s sound lists places leaf at =
+    let lies = places point in
+    let same : t ≡ (place point).ssector = one_leaf level point t (place point).ssector leaf lies.0 in
+    let there : t < ssector_count level = leaf_within level point t sound leaf in
+    let listed : slice_get sectors t ≡ Some (place point).sector = sym (lists.each t there) ∙ ap (sector_of level) same ∙ lies.1 in
+    same_leaf same (at ∙ get_or_from_slice_get sectors t (place point).sector s listed)

@@ -1,8 +1,22 @@
 -- The laws of this crate's definitions.
-use Rattle.std.specs.Prelude.{List, ℕ}
-use Rattle.map_geo.specs.Point.{Point}
-use Rattle.wad_look.specs.Engines.Points.{AnswersPoints}
-use Rattle.wad_look.specs.declared.small.Leaf.{Leaf}
+use Rattle.std.specs.Prelude.{◌≡◌, ℕ, ℤ, List, [], ◌∷◌, Some}
+use Rattle.line_io.specs.Numbers.{AreNumbers}
+use Rattle.map_geo.specs.Point.{IsInRange, point_at}
+use Rattle.map_level.specs.Level.{Level}
+use Rattle.map_level.specs.SectorOf.{sector_of}
+use Rattle.map_tree.specs.Leaf.{IsLeaf}
+use Rattle.map_tree.specs.Sound.{IsSound}
+use Rattle.wad_look.specs.Engines.Points.{TellsPoints, point_text}
 
+-- over a sound level every content is told an answer
 abbrev pub PointsAreAnswered : Type 0
-PointsAreAnswered = (place : Point → Leaf) → (answer : List ℕ → List ℕ) × AnswersPoints place answer
+PointsAreAnswered = (level : Level) → IsSound level → (answer : List ℕ → List ℕ) × TellsPoints level answer
+
+-- over a sound level a content of two coordinates is answered by the line that names an ssector and a sector: the ssector
+-- is the point's leaf, the only one, and the sector is that ssector's
+abbrev pub LinesNameTheLeaf : Type 0
+LinesNameTheLeaf =
+    (level : Level) (answer : List ℕ → List ℕ) → IsSound level → TellsPoints level answer
+    → (content : List ℕ) (x y : ℤ) → AreNumbers content (x ∷ y ∷ []) → IsInRange x → IsInRange y
+    → (t : ℕ) × (s : ℕ) × (answer content ≡ point_text x y (record { ssector = t; sector = s }))
+    × IsLeaf level (point_at x y) t × ((u : ℕ) → IsLeaf level (point_at x y) u → u ≡ t) × (sector_of level t ≡ Some s)

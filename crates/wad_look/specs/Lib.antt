@@ -4,6 +4,4 @@ pub mod Job
 pub mod Laws
 pub mod Opening
 pub mod Runs
-pub mod SectorOf
-pub mod SmallLevel
 pub mod Status

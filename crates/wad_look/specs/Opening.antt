@@ -6,12 +6,11 @@ use Rattle.le_rec.specs.Name.{query_of}
 use Rattle.map_level.specs.Opening.{IsLevel, RefusesLevel}
 use Rattle.map_level.specs.Level.{Level}
 use Rattle.map_level.specs.declared.reading.Reading.{Reading}
+use Rattle.map_tree.specs.Sound.{IsSound}
 use Rattle.wad_dir.specs.Wad.{Wad, IsRead}
 use Rattle.wad_dir.specs.Refusal.{IsFirstRefused}
-use Rattle.wad_look.specs.SmallLevel.{IsSmall}
 use Rattle.wad_look.specs.declared.fault.RunFault.{RunFault}
 use Rattle.wad_look.specs.declared.fault.RunFault.TheVariants as fault
-use Rattle.wad_look.specs.declared.small.Small.{Small}
 
 -- what the files hold
 abbrev pub bytes_of : {A : Type 0} → List (Vec ℕ A) → List (List ℕ)
@@ -39,13 +38,18 @@ abbrev pub RefusesName : List (List ℕ) → List ℕ → RunFault → Type 0
 RefusesName bytes name (fault.Level why) = (files : List Wad) × AreRead bytes files × RefusesLevel files (query_of name) why
 RefusesName bytes name fault = RefusesFiles bytes fault
 
--- the small level of the files' name
-pub record IsAnswered (bytes : List (List ℕ)) (name : List ℕ) (reading : Reading) (small : Small) : Type 0 where
-  pub level : Level
+-- the level of the files' name, which is sound
+pub record IsAccepted (bytes : List (List ℕ)) (name : List ℕ) (reading : Reading) (level : Level) : Type 0 where
   pub opened : IsOpened bytes name reading level
-  pub is_small : IsSmall level small
+  pub sound : IsSound level
 
--- why its points aren't answered: it isn't small
-abbrev pub RefusesPoints : List (List ℕ) → List ℕ → Reading → RunFault → Type 0
-RefusesPoints bytes name reading fault.Later = (level : Level) × IsOpened bytes name reading level × ((small : Small) → ¬ IsSmall level small)
-RefusesPoints bytes name reading fault = RefusesName bytes name fault
+-- why a level isn't accepted: it isn't sound, or a growth was refused
+abbrev pub RefusesAudit : Level → RunFault → Type 0
+RefusesAudit level fault.Audit = ¬ IsSound level
+RefusesAudit level fault.Memory = Unit {0}
+RefusesAudit level _ = ⊥
+
+-- why the level of the files' name isn't: there is none, or it isn't sound
+abbrev pub RefusesAccepted : List (List ℕ) → List ℕ → Reading → RunFault → Type 0
+RefusesAccepted bytes name reading fault.Audit = (level : Level) × IsOpened bytes name reading level × (¬ IsSound level)
+RefusesAccepted bytes name reading fault = RefusesName bytes name fault

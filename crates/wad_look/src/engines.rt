@@ -22,7 +22,7 @@ pub const INPUT_LIMIT: u64 = 16_777_216;
 
 /// Runs the command of the words, which are those of `job`, over what their files hold: whether it was done without a
 /// fault found.
-pub fn run<A: Allocator, S: Source, W: Sink>(
+pub fn run<A: Allocator + Copy, S: Source, W: Sink>(
     alloc: A,
     words: &[String],
     job: Job,

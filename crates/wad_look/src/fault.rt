@@ -25,9 +25,6 @@ pub enum RunFault {
     /// The level's BLOCKMAP has fewer than 8 bytes.
     #[error("no blockmap")]
     NoBlockMap,
-    /// The level has more than one node, or a form for which its audit is needed.
-    #[error("later")]
-    Later,
     /// The lumps make no file.
     #[error("{0}")]
     Pack(PackFault),

@@ -1,7 +1,13 @@
 //! Laws of the definitions alone, each the contract of a function that does nothing.
 ghost use Rattle.wad_look.specs.Laws as law;
 
-/// Wherever points lie, there are answers of `points`: every content is told one.
+/// Over a sound level there are answers of `points`: every content is told one.
 pub fn points_are_answered()
     ensures { law.PointsAreAnswered }
+{}
+
+/// Over a sound level the line that answers a point in range names the sector of the only ssector on whose side every
+/// partition above it puts the point.
+pub fn lines_name_the_leaf()
+    ensures { law.LinesNameTheLeaf }
 {}

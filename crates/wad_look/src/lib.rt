@@ -9,8 +9,6 @@ mod input;
 pub mod laws;
 mod opening;
 mod outcome;
-mod sector_of;
-mod small;
 mod words;
 
 pub use command::{Cmd, Job};

@@ -6,8 +6,8 @@ use Rattle.le_rec.specs.declared.records.Entry.{Entry}
 use Rattle.le_rec.specs.Sink.{SinkState}
 use Rattle.line_io.specs.Writes.{Writes}
 use Rattle.wad_dir.specs.Wad.{Wad}
-use Rattle.wad_dir.specs.Directory.{magic_of}
-use Rattle.wad_dir.specs.declared.wad.Kind.{Kind}
+use Rattle.wad_dir.specs.Header.{magic_of}
+use Rattle.wad_dir.specs.declared.header.Kind.{Kind}
 use Rattle.wad_look.specs.Opening.{AreRead, RefusesFiles}
 use Rattle.wad_look.specs.Runs.{Runs}
 use Rattle.wad_look.specs.declared.fault.RunFault.{RunFault}

@@ -1,5 +1,6 @@
 -- The command `points`: its answers (ours), and what its run does.
-use Rattle.std.specs.Prelude.{◌≡◌, ℕ, ℤ, false, List, [], ◌∷◌, ◌++◌, Result, codes}
+use Rattle.std.specs.Prelude.{◌≡◌, ℕ, ◌<◌, ℤ, false, List, [], ◌∷◌, ◌++◌, length, Some, Result, codes}
+use Rattle.std.specs.List.{slice_get}
 use Rattle.std.specs.Fmt.{decimal, signed_decimal}
 use Rattle.le_rec.specs.Sink.{SinkState}
 use Rattle.le_rec.specs.Source.{SourceState}
@@ -7,13 +8,15 @@ use Rattle.line_io.specs.AnswersLines.{AnswersLines}
 use Rattle.line_io.specs.LineAnswers.{form_refused}
 use Rattle.line_io.specs.Numbers.{AreNumbers}
 use Rattle.map_geo.specs.Point.{Point, IsInRange, point_at}
+use Rattle.map_level.specs.Level.{Level}
+use Rattle.map_level.specs.SectorOf.{sector_of}
+use Rattle.map_tree.specs.Child.{ssector_count}
+use Rattle.map_tree.specs.Leaf.{IsLeaf}
 use Rattle.map_level.specs.declared.reading.Reading.{Reading}
-use Rattle.wad_look.specs.Opening.{IsAnswered, RefusesPoints}
+use Rattle.wad_look.specs.Opening.{IsAccepted, RefusesAccepted}
 use Rattle.wad_look.specs.Runs.{Runs}
-use Rattle.wad_look.specs.SmallLevel.{leaf_at}
 use Rattle.wad_look.specs.declared.fault.RunFault.{RunFault}
-use Rattle.wad_look.specs.declared.small.Leaf.{Leaf}
-use Rattle.wad_look.specs.declared.small.Small.{Small}
+use Rattle.wad_look.specs.declared.engines.points.Leaf.{Leaf}
 
 -- what a line is answered with a number that isn't allowed
 abbrev pub range_refused : List ℕ
@@ -36,18 +39,24 @@ pub record AnswersPoints (place : Point → Leaf) (answer : List ℕ → List �
       → answer content ≡ range_refused
   pub form : (content : List ℕ) → ((x y : ℤ) → ¬ AreNumbers content (x ∷ y ∷ [])) → answer content ≡ form_refused
 
--- the same, where `Places` tells in which leaf each point lies
-pub record TellsPoints (Places : (Point → Leaf) → Type 0) (answer : List ℕ → List ℕ) : Type 0 where
+-- where the points of a level lie: each in its leaf, and in that leaf's sector
+abbrev pub PlacesPoints : Level → (Point → Leaf) → Type 0
+PlacesPoints level place =
+    (point : Point) → IsLeaf level point (place point).ssector × (sector_of level (place point).ssector ≡ Some (place point).sector)
+
+-- the answers to contents over a level
+pub record TellsPoints (level : Level) (answer : List ℕ → List ℕ) : Type 0 where
   pub place : Point → Leaf
-  pub places : Places place
+  pub places : PlacesPoints level place
   pub answers : AnswersPoints place answer
 
--- in which leaves a small level puts its points
-abbrev pub PlacesSmall : Small → (Point → Leaf) → Type 0
-PlacesSmall small place = (point : Point) → place point ≡ leaf_at small point
+-- the sector of each ssector of a level, in order
+pub record ListsSectors (level : Level) (sectors : List ℕ) : Type 0 where
+  pub long : length sectors ≡ ssector_count level
+  pub each : (t : ℕ) → t < ssector_count level → sector_of level t ≡ slice_get sectors t
 
 -- over files of these bytes, a source and a sink, of which clauses see their states
 abbrev pub RunsPoints : {S W : Type 0} → (S → SourceState) → (W → SinkState) → List (List ℕ) → List ℕ → Reading → ℕ → S → S → W → W → Result (Unit {0}) RunFault → Type 0
 RunsPoints source sink bytes name reading limit input input' out out' result =
-    Runs (RefusesPoints bytes name reading) ((input' ≡ input) × (out' ≡ out)) (IsAnswered bytes name reading)
-    (λ small outcome. AnswersLines (TellsPoints (PlacesSmall small)) false limit (source input) (source input') (sink out) (sink out') outcome) result
+    Runs (RefusesAccepted bytes name reading) ((input' ≡ input) × (out' ≡ out)) (IsAccepted bytes name reading)
+    (λ level outcome. AnswersLines (TellsPoints level) false limit (source input) (source input') (sink out) (sink out') outcome) result

@@ -2,49 +2,76 @@
 
 ghost use Rattle.std.specs.Prelude.{◌≡◌, ◌+◌, ◌≤◌, ◌++◌, ℕ, List, [], false, length, IfOk, IfErr, codes};
 ghost use Rattle.std.specs.Fmt.{signed_decimal};
-ghost use Rattle.wad_look.specs.Engines.Points.{PlacesSmall, RunsPoints, TellsPoints, leaf_text, point_text};
-ghost use Rattle.wad_look.specs.Opening.{IsAnswered, RefusesPoints, bytes_of};
+ghost use Rattle.map_level.specs.SectorOf.{sector_of};
+ghost use Rattle.map_tree.specs.Child.{ssector_count};
+ghost use Rattle.map_tree.specs.Sound.{IsSound};
+ghost use Rattle.wad_look.specs.Engines.Points.{ListsSectors, RunsPoints, leaf_text};
+ghost use Rattle.wad_look.specs.Opening.{RefusesAudit, bytes_of};
 
 use crate::fault::RunFault;
 use crate::opening::open_level;
-use crate::small::{Leaf, Small, small_level};
 use le_rec::{Sink, Source};
 use line_io::{IoFault, LIMIT, LineCommand, TextLine, answer_lines, emit, read_numbers};
 use map_geo::Point;
-use map_level::Reading;
-use std::alloc::Allocator;
+use map_audit::{Refused, accept};
+use map_level::{Level, Reading};
+use map_tree::Tree;
+use std::alloc::{AllocError, Allocator};
+use std::marker::Model;
 
-/// Where the points of a level lie.
-pub trait Places {
-    ghost use Rattle.std.specs.Prelude.{◌≡◌};
-    ghost use Rattle.map_geo.specs.Point as geo;
-    ghost use Rattle.wad_look.specs.declared.small.Leaf as small;
-
-    // Whether that is the leaf of each point.
-    ghost Tells: { Self → (geo.Point → small.Leaf) → Type 0 };
-
-    /// The leaf of a point.
-    fn leaf(&self, point: Point) -> Leaf
-        ensures { (place : geo.Point → small.Leaf) → Tells self.now place → result ≡ place point };
+/// Where a point lies: an ssector and its sector.
+#[derive(Clone, Copy, Debug, PartialEq, Eq)]
+pub struct Leaf {
+    pub ssector: u16,
+    pub sector: u16,
 }
 
-impl Places for Small {
-    ghost Tells = { PlacesSmall };
+/// The tree of a sound level, with the sector of each ssector, so that no link is followed once the input is read.
+#[derive(Drop)]
+struct Sited<'l, 'a, A: Allocator> {
+    tree: Tree<'l, 'a>,
+    sectors: Vec<u16, A>,
+}
 
-    #[inline]
-    fn leaf(&self, point: Point) -> Leaf {
-        self.leaf_of(point)
+impl<'l, 'a, A: Allocator> Model for Sited<'l, 'a, A> {
+    ghost use Rattle.map_level.specs.Level.{Level};
+    ghost use Rattle.map_tree.specs.Sound.{IsSound};
+    ghost use Rattle.wad_look.specs.Engines.Points.{ListsSectors};
+
+    ghost Value = { Level };
+
+    ghost view = { λ sited. sited.tree };
+
+    ghost invariant = { λ sited. IsSound sited.tree × ListsSectors sited.tree sited.sectors.items };
+}
+
+impl<A: Allocator> Sited<'_, '_, A> {
+    ghost use Rattle.wad_look.specs.Engines.Points.{PlacesPoints};
+    ghost use Rattle.map_geo.specs.Point as geo;
+    ghost use Rattle.wad_look.specs.declared.engines.points.Leaf as placed;
+
+    // The leaf of a point.
+    fn leaf(&self, point: Point) -> Leaf
+        ensures { (place : geo.Point → placed.Leaf) → PlacesPoints self.now place → result ≡ place point }
+    {
+        let (ssector, _tests) = self.tree.leaf(point);
+        Leaf {
+            ssector,
+            sector: self.sectors[usize::from(ssector)],
+        }
     }
 }
 
 /// Answers points.
 #[derive(Drop)]
-struct PointCommand<P: Places> {
-    places: P,
+struct PointCommand<'l, 'a, A: Allocator> {
+    sited: Sited<'l, 'a, A>,
 }
 
-impl<P: Places> LineCommand for PointCommand<P> {
-    ghost Answers = { λ command. TellsPoints (P.Tells command.places) };
+impl<A: Allocator> LineCommand for PointCommand<'_, '_, A> {
+    ghost use Rattle.wad_look.specs.Engines.Points.{TellsPoints};
+
+    ghost Answers = { λ command. TellsPoints command.sited };
 
     ghost takes_memory = { false };
 
@@ -57,7 +84,7 @@ impl<P: Places> LineCommand for PointCommand<P> {
             return emit(out, b"refused: range\n");
         };
         let mut line = TextLine::new();
-        put_leaf(&mut line, self.places.leaf(point));
+        put_leaf(&mut line, self.sited.leaf(point));
         if found.is_printed {
             line.put_bytes(content);
         } else {
@@ -93,9 +120,9 @@ fn put_point(line: &mut TextLine, point: Point)
 
 /// Writes to each line `x y` of the input the sector and the ssector of that point, in map units from -16384 to 16383.
 ///
-/// In the order in which they are tested, `Set`, `Memory`, `Level` and `Later` come before anything is read or written,
-/// `Later` where the level has more than one node or an ssector without a sector; then `Read`, `Write` and `TooLong`.
-pub fn points<A: Allocator, S: Source, W: Sink>(
+/// In the order in which they are tested, `Set`, `Level` and `Audit` come before anything is read or written, as does
+/// `Memory`; then `Read`, `Write` and `TooLong`.
+pub fn points<A: Allocator + Copy, S: Source, W: Sink>(
     alloc: A,
     files: &[Vec<u8>],
     name: &[u8],
@@ -110,27 +137,39 @@ pub fn points<A: Allocator, S: Source, W: Sink>(
     requires out { (W.state out.old).failed ≡ false }
     ensures { RunsPoints S.state W.state (bytes_of files.now) name.now reading limit input.old input.new out.old out.new result }
 {
-    let places = open_small(alloc, files, name, reading)?;
-    match answer_lines(&PointCommand { places }, input, limit, out) {
+    let level = open_level(alloc, files, name, reading)?;
+    let sited = site(alloc, &level)?;
+    match answer_lines(&PointCommand { sited }, input, limit, out) {
         Ok(()) => Ok(()),
         Err(fault) => Err(RunFault::from(fault)),
     }
 }
 
-// The small level of the files and the name.
-fn open_small<A: Allocator>(
-    alloc: A,
-    files: &[Vec<u8>],
-    name: &[u8],
-    reading: Reading,
-) -> Result<Small, RunFault>
-    requires { length files.now ≤ 64 }
-    ensures ok { IfOk result (IsAnswered (bytes_of files.now) name.now reading) }
-    ensures err { IfErr result (RefusesPoints (bytes_of files.now) name.now reading) }
+// The tree of the level with its ssectors' sectors.
+fn site<'l, 'a, A: Allocator + Copy>(alloc: A, level: &'l Level<'a>) -> Result<Sited<'l, 'a, A>, RunFault>
+    ensures ok { IfOk result (λ sited. (sited ≡ level.now) × IsSound level.now) }
+    ensures err { IfErr result (RefusesAudit level.now) }
 {
-    let level = open_level(alloc, files, name, reading)?;
-    match small_level(&level) {
-        Some(small) => Ok(small),
-        None => Err(RunFault::Later),
+    let tree = match accept(alloc, level) {
+        Ok(tree) => tree,
+        Err(Refused::Faults(_report)) => return Err(RunFault::Audit),
+        Err(Refused::Memory) => return Err(RunFault::Memory),
+    };
+    match ssector_sectors(alloc, level) {
+        Ok(sectors) => Ok(Sited { tree, sectors }),
+        Err(_) => Err(RunFault::Memory),
     }
+}
+
+// The sector of each ssector.
+fn ssector_sectors<A: Allocator>(alloc: A, level: &Level<'_>) -> Result<Vec<u16, A>, AllocError>
+    requires { IsSound level.now }
+    ensures { IfOk result (λ sectors. ListsSectors level.now sectors.items) }
+{
+    let count = level.ssectors().len();
+    let mut sectors = Vec::with_capacity(alloc, count)?;
+    for t in 0..count {
+        sectors.push(level.ssector_sector(t as u32))?;
+    }
+    Ok(sectors)
 }

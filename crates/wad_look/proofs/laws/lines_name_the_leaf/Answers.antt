@@ -1,0 +1,5 @@
+use Rattle.wad_look.proofs.PointsLemmas.{lines_name_the_leaf}
+use Rattle.wad_look.proofs.laws.lines_name_the_leaf.Goals as goal
+
+pub returns : goal.returns
+returns c = lines_name_the_leaf

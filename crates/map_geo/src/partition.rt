@@ -2,7 +2,7 @@
 
 ghost use Rattle.std.specs.Prelude.{◌≡◌, ◌↔◌, IsSome, IfSome, ◌*ℤ◌, ◌-ℤ◌, ◌≤◌, unsigned_abs};
 ghost use Rattle.map_geo.specs.Point.{IsInRange};
-ghost use Rattle.map_geo.specs.Partition.{partition_of};
+ghost use Rattle.map_geo.specs.Partition.{IsStep, partition_of};
 ghost use Rattle.map_geo.specs.Side.{cross, is_origin, side_on_line, side_of};
 
 use crate::point::{Point, is_in_range};
@@ -21,16 +21,15 @@ pub struct Partition {
 }
 
 impl Model for Partition {
-    ghost use Rattle.std.specs.Prelude.{◌≤◌, unsigned_abs};
     ghost use Rattle.map_geo.specs.Point.{IsInRange};
     ghost use Rattle.map_geo.specs.Partition as partition;
+    ghost use Rattle.map_geo.specs.Partition.{IsStep};
 
     ghost Value = { partition.Partition };
 
     ghost view = { λ p. record { x = p.x; y = p.y; dx = p.dx; dy = p.dy } };
 
-    ghost invariant = { λ p. IsInRange p.x × IsInRange p.y
-        × (unsigned_abs p.dx ≤ 32768) × (unsigned_abs p.dy ≤ 32768) };
+    ghost invariant = { λ p. IsInRange p.x × IsInRange p.y × IsStep p.dx × IsStep p.dy };
 
     ghost inverse = { λ p. record { x = p.x; y = p.y; dx = p.dx; dy = p.dy } };
 }
@@ -97,7 +96,7 @@ impl Partition {
 // A component of a direction by a difference of coordinates: at most 32,768 by 32,767 in size.
 #[inline]
 fn product(step: i32, from: i32, to: i32) -> i32
-    requires step_in { unsigned_abs step ≤ 32768 }
+    requires step_in { IsStep step }
     requires from_in { IsInRange from }
     requires to_in { IsInRange to }
     ensures value { result ≡ step *ℤ (to -ℤ from) }

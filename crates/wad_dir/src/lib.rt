@@ -12,7 +12,7 @@ mod wad;
 
 pub use header::Kind;
 pub use lump::LumpFault;
-pub use packer::{PackFault, Packer};
+pub use packer::{MAX_BYTES, PackFault, Packer};
 pub use set::{MAX_FILES, Place, Set, SetFault};
 pub use wad::{Wad, WadFault};
 

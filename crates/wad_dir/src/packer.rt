@@ -17,8 +17,9 @@ use std::alloc::{Allocator, Global};
 use std::marker::Model;
 use thiserror::Error;
 
-// The most bytes of a file, so that each place and size in it is a signed number of four bytes.
-const MOST: usize = 2_147_483_647;
+/// The most bytes of a packed file, so that each place and size in it is a signed number of four
+/// bytes.
+pub const MAX_BYTES: usize = 2_147_483_647;
 
 /// Why lumps can't be packed.
 #[derive(Clone, Copy, Debug, PartialEq, Eq, Error)]
@@ -88,7 +89,8 @@ impl<'a, A: Allocator> Packer<'a, A> {
     /// Room for the whole file is made first, which alone can answer `Memory`.
     pub fn pack<B: Allocator>(&self, alloc: B) -> Result<Vec<u8, B>, PackFault>
         ensures ok { IfOk result (λ file. file.items ≡ packed self.now) }
-        ensures too_large { IsErrOf result PackFault.TooLarge ↔ (MOST < length (packed self.now)) }
+        ensures too_large { IsErrOf result PackFault.TooLarge
+            ↔ (MAX_BYTES < length (packed self.now)) }
 
         // What the file reads as: each entry has its lump's name and its lump's bytes.
         ensures directory { IfOk result (λ file.
@@ -113,13 +115,13 @@ impl<'a, A: Allocator> Packer<'a, A> {
 // The number of bytes of the packed file, unless it would have too many.
 fn file_size(lumps: &[NamedLump]) -> Option<usize>
     ensures some { IfSome result (λ size. size ≡ length (packed lumps.now)) }
-    ensures most { IfSome result (λ size. size ≤ MOST) }
-    ensures none { IfNone result (MOST < length (packed lumps.now)) }
+    ensures most { IfSome result (λ size. size ≤ MAX_BYTES) }
+    ensures none { IfNone result (MAX_BYTES < length (packed lumps.now)) }
 {
     let mut size = Header::SIZE;
     for lump in lumps {
         let more = lump.bytes.len();
-        if more > MOST || size + more + Entry::SIZE > MOST {
+        if more > MAX_BYTES || size + more + Entry::SIZE > MAX_BYTES {
             return None;
         }
         size += more + Entry::SIZE;
@@ -131,7 +133,7 @@ fn file_size(lumps: &[NamedLump]) -> Option<usize>
 
 fn put_file<B: Allocator>(file: &mut Vec<u8, B>, lumps: &[NamedLump], size: usize)
     requires whole { size ≡ length (packed lumps.now) }
-    requires most { size ≤ MOST }
+    requires most { size ≤ MAX_BYTES }
     requires room { vec_len file.old + size ≤ vec_capacity file.old }
     ensures file { file.new.items ≡ file.old.items ++ packed lumps.now }
     ensures names { All (λ lump. IsName lump.name) lumps.now }

@@ -3,17 +3,17 @@ use Rattle.std.proofs.lemmas.List.{take_all}
 use Rattle.wad_dir.specs.Packing.{NamedLump, lump_bytes}
 use Rattle.wad_dir.proofs.PackingLemmas.{length-packed, length-lump_bytes_upto}
 use Rattle.wad_dir.proofs.packer.file_size.Goals as goal
-use Rattle.wad_dir.proofs.packer.file_size.Goals.{then-more-gt-MOST-via-then-more-gt-MOST, then-more-gt-MOST-via-else-more-gt-MOST+then-size-more-gt-MOST}
+use Rattle.wad_dir.proofs.packer.file_size.Goals.{then-more-gt-MAX_BYTES-via-then-more-gt-MAX_BYTES, then-more-gt-MAX_BYTES-via-else-more-gt-MAX_BYTES+then-size-more-gt-MAX_BYTES}
 
-pub returns-then-more-gt-MOST-clause-none : goal.returns-then-more-gt-MOST-clause-none
-returns-then-more-gt-MOST-clause-none c =
+pub returns-then-more-gt-MAX_BYTES-clause-none : goal.returns-then-more-gt-MAX_BYTES-clause-none
+returns-then-more-gt-MAX_BYTES-clause-none c =
     let lumps = c.args.lumps.now in
     let whole = length-packed lumps in
     let upto = length-lump_bytes_upto lumps c.lump-item.result c.loop-lump.lump-index (omega arith) c.lump-item.is in
     let same = ap (λ (l : NamedLump). length l.bytes) c.lump.view_is in
-    elim c.then-more-gt-MOST.branch [
-      | then-more-gt-MOST-via-then-more-gt-MOST w ↦ omega (arith, whole, upto, same, c.loop-lump.invariant.0)
-      | then-more-gt-MOST-via-else-more-gt-MOST+then-size-more-gt-MOST w ↦ omega (arith, whole, upto, same, c.loop-lump.invariant.0)
+    elim c.then-more-gt-MAX_BYTES.branch [
+      | then-more-gt-MAX_BYTES-via-then-more-gt-MAX_BYTES w ↦ omega (arith, whole, upto, same, c.loop-lump.invariant.0)
+      | then-more-gt-MAX_BYTES-via-else-more-gt-MAX_BYTES+then-size-more-gt-MAX_BYTES w ↦ omega (arith, whole, upto, same, c.loop-lump.invariant.0)
     ]
 
 pub returns-clause-some : goal.returns-clause-some

@@ -1,12 +1,10 @@
 -- What a reading or a refusal says of each demo and each fault.
-use Rattle.std.proofs.Common.{◌≡◌, ◌≢◌, ℕ, ◌+◌, ◌-◌, ◌*◌, ◌<◌, ◌≤◌, ◌↔◌, List, [], ◌∷◌, ◌++◌, length, take, drop, slice_index, Result, Ok, Err, refl, sym, ap, ◌∙◌, arith, subst, length-append}
-use Rattle.std.proofs.lemmas.List.{append_assoc, take-append-drop, length-take-le}
+use Rattle.std.proofs.Common.{◌≡◌, ◌≢◌, ℕ, ◌-◌, ◌↔◌, List, ◌∷◌, ◌++◌, length, take, drop, Result, Ok, Err, refl, sym, ap, ◌∙◌, arith, subst, length-append}
+use Rattle.std.proofs.lemmas.List.{take-append-drop}
 use Rattle.demo_lump.specs.Header.{IsHeader, RefusesHeader}
-use Rattle.demo_lump.specs.Command.{IsCommand, command_size}
-use Rattle.demo_lump.specs.Demo.{AreCommands, IsDemo, IsCutAt, RefusesDemo, Demo, IsRead}
+use Rattle.demo_lump.specs.Demo.{AreCommands, RefusesDemo, Demo, IsRead}
 use Rattle.demo_lump.specs.Scanning.{commands_of}
-use Rattle.demo_lump.specs.Pieces.{NoneBegins}
-use Rattle.demo_lump.specs.Scanning.{Follows, Scans}
+use Rattle.demo_lump.specs.Scanning.{Scans}
 use Rattle.demo_lump.specs.declared.command.Command.{Command}
 use Rattle.demo_lump.specs.declared.header.Header.{Header}
 use Rattle.demo_lump.specs.declared.fault.DemoFault.{DemoFault}
@@ -66,7 +64,7 @@ module _ (bytes : List ℕ) where
     IsRead-scan more marked =
         let f = scan.so_far in
         let is : f.commands ≡ commands_of header.version count (drop 13 bytes) =
-            AreCommands-is header.version f.body rest f.commands f.follow ∙ ap (λ b. commands_of header.version (length f.commands) b) (sym f.joined) ∙ ap (λ n. commands_of header.version n (drop 13 bytes)) f.counted in
+        AreCommands-is header.version f.body rest f.commands f.follow ∙ ap (λ b. commands_of header.version (length f.commands) b) (sym f.joined) ∙ ap (λ n. commands_of header.version n (drop 13 bytes)) f.counted in
         record {
           rest = more;
           reads = record {

@@ -1,10 +1,10 @@
 -- A demo that is taken piece by piece is the demo that its bytes are.
-use Rattle.std.proofs.Common.{◌≡◌, ◌≢◌, ℕ, ◌+◌, Option, Some, None, List, [], ◌∷◌, ◌++◌, length, length-append, refl, ap, sym, ◌∙◌, arith, subst, inl, inr, ◌⊎◌}
+use Rattle.std.proofs.Common.{◌≡◌, ◌≢◌, ℕ, ◌+◌, Some, None, List, [], ◌∷◌, ◌++◌, length, length-append, refl, ap, sym, ◌∙◌, arith, subst, inl, inr, ◌⊎◌}
 use Rattle.std.proofs.lemmas.List.{append_assoc}
 use Rattle.demo_lump.specs.Pieces.{AreJoined, NoneBegins}
-use Rattle.demo_lump.specs.Header.{IsHeader, RefusesHeader}
+use Rattle.demo_lump.specs.Header.{RefusesHeader}
 use Rattle.demo_lump.specs.Command.{IsCommand, command_of, command_size}
-use Rattle.demo_lump.specs.Demo.{AreCommands, IsCutAt, IsDemo, RefusesDemo}
+use Rattle.demo_lump.specs.Demo.{AreCommands, IsCutAt, RefusesDemo}
 use Rattle.demo_lump.specs.Laws.{IsCommand109, PiecesAreDemo, PiecesAreRefused, ReadsAs109}
 use Rattle.demo_lump.specs.NextPiece.{AreNext, AreNextUntil, Begins, IsNext, RefusesNext, header_piece}
 use Rattle.demo_lump.specs.declared.command.Command.{Command}
@@ -34,9 +34,11 @@ module _ (version : ℕ) where
       let same : taken + length body ≡ taken = omega (arith, ap length h) in
       subst (λ (xs : List ℕ). RefusesNext version taken (xs ++ rest) fault) (sym h) (subst (λ (n : ℕ). RefusesNext version n rest fault) same r)
   until_of_commands taken body rest (c ∷ commands) fault h r =
-      let same : taken + length body ≡ taken + command_size version + length h.1 = omega (arith, ap length h.2, length-append h.0 h.1, h.3.long) in
-      (h.1 ++ rest, (h.0, ap (λ t. t ++ rest) h.2 ∙ append_assoc h.0 h.1 rest, h.3),
-      until_of_commands (taken + command_size version) h.1 rest commands fault h.4 (subst (λ (n : ℕ). RefusesNext version n rest fault) same r))
+      let same : taken + length body ≡ taken + command_size version + length h.1 = omega (arith, ap length h.2, length-append h.0 h.1, h.3.long) in (
+        h.1 ++ rest,
+        (h.0, ap (λ t. t ++ rest) h.2 ∙ append_assoc h.0 h.1 rest, h.3),
+        until_of_commands (taken + command_size version) h.1 rest commands fault h.4 (subst (λ (n : ℕ). RefusesNext version n rest fault) same r),
+      )
 
   commands_of_until : (taken : ℕ) (bytes : List ℕ) (commands : List Command) (fault : DemoFault) → AreNextUntil version taken bytes commands fault
       → (body : List ℕ) × (rest : List ℕ) × (bytes ≡ body ++ rest) × AreCommands version body commands × RefusesNext version (taken + length body) rest fault
@@ -46,9 +48,13 @@ module _ (version : ℕ) where
   commands_of_until taken bytes (c ∷ commands) fault n =
       let front = n.1.0 in
       let more = commands_of_until (taken + command_size version) n.0 commands fault n.2 in
-      let same : taken + command_size version + length more.0 ≡ taken + length (front ++ more.0) = omega (arith, length-append front more.0, n.1.2.long) in
-      (front ++ more.0, more.1, n.1.1 ∙ ap (λ t. front ++ t) more.2 ∙ sym (append_assoc front more.0 more.1), (front, more.0, refl, n.1.2, more.3),
-      subst (λ (n : ℕ). RefusesNext version n more.1 fault) same more.4)
+      let same : taken + command_size version + length more.0 ≡ taken + length (front ++ more.0) = omega (arith, length-append front more.0, n.1.2.long) in (
+        front ++ more.0,
+        more.1,
+        n.1.1 ∙ ap (λ t. front ++ t) more.2 ∙ sym (append_assoc front more.0 more.1),
+        (front, more.0, refl, n.1.2, more.3),
+        subst (λ (n : ℕ). RefusesNext version n more.1 fault) same more.4,
+      )
 
   -- where no command and no marker stands
   none_next : (rest : List ℕ) → NoneBegins (IsCommand version) rest → ((more : List ℕ) → rest ≢ 128 ∷ more) → NoneBegins (IsNext version) rest
@@ -57,17 +63,17 @@ module _ (version : ℕ) where
 
 pub pieces_are_demo : PiecesAreDemo
 pieces_are_demo bytes header commands rest = (
-    λ d. (d.body ++ 128 ∷ rest, (d.front, d.joined, d.begins), next_of_commands header.version 13 d.body rest commands d.follow),
-    λ p.
-    let more = commands_of_next header.version 13 p.0 rest commands p.2 in
-    record {
-      front = p.1.0;
-      body = more.0;
-      joined = p.1.1 ∙ ap (λ t. p.1.0 ++ t) more.1;
-      begins = p.1.2;
-      follow = more.2;
-    },
-  )
+  λ d. (d.body ++ 128 ∷ rest, (d.front, d.joined, d.begins), next_of_commands header.version 13 d.body rest commands d.follow),
+  λ p.
+      let more = commands_of_next header.version 13 p.0 rest commands p.2 in
+      record {
+        front = p.1.0;
+        body = more.0;
+        joined = p.1.1 ∙ ap (λ t. p.1.0 ++ t) more.1;
+        begins = p.1.2;
+        follow = more.2;
+      },
+)
 
 -- the pieces up to one that is refused
 abbrev Until : List ℕ → DemoFault → Type 0
@@ -76,9 +82,13 @@ Until bytes fault =
 
 cut_until : (bytes : List ℕ) (place : ℕ) → IsCutAt bytes place → Until bytes (NoMarker place)
 cut_until bytes place cut =
-    let placed : place ≡ 13 + length cut.body = omega (arith, cut.placed, cut.begins.long) in
-    (cut.header, cut.commands, cut.body ++ cut.rest, (cut.front, cut.joined, cut.begins),
-    until_of_commands cut.header.version 13 cut.body cut.rest cut.commands (NoMarker place) cut.follow (placed, none_next cut.header.version cut.rest cut.most cut.unmarked))
+    let placed : place ≡ 13 + length cut.body = omega (arith, cut.placed, cut.begins.long) in (
+      cut.header,
+      cut.commands,
+      cut.body ++ cut.rest,
+      (cut.front, cut.joined, cut.begins),
+      until_of_commands cut.header.version 13 cut.body cut.rest cut.commands (NoMarker place) cut.follow (placed, none_next cut.header.version cut.rest cut.most cut.unmarked),
+    )
 
 refused_until : (bytes : List ℕ) (fault : DemoFault) → RefusesDemo bytes fault → RefusesHeader bytes fault ⊎ Until bytes fault
 refused_until bytes Empty r = inl r
@@ -111,9 +121,9 @@ until_refused bytes (NoMarker place) u =
 
 pub pieces_are_refused : PiecesAreRefused
 pieces_are_refused bytes fault = (
-    refused_until bytes fault,
-    λ either. elim either [ inl r ↦ RefusesDemo-header bytes fault r | inr u ↦ until_refused bytes fault u ],
-  )
+  refused_until bytes fault,
+  λ either. elim either [ inl r ↦ RefusesDemo-header bytes fault r | inr u ↦ until_refused bytes fault u ],
+)
 
 -- bytes that are pieces of one kind are pieces of another
 AreJoined-map : {A : Type 0} (P Q : List ℕ → A → Type 0) → ((bytes : List ℕ) (x : A) → P bytes x → Q bytes x) → (bytes : List ℕ) (xs : List A) → AreJoined P bytes xs → AreJoined Q bytes xs
@@ -134,21 +144,24 @@ from_109 version e bytes c h =
 
 pub reads_as_109 : ReadsAs109
 reads_as_109 bytes header commands rest = (
-    λ (d, version). record {
-      front = d.front;
-      body = d.body;
-      joined = d.joined;
-      long = d.begins.long;
-      reads = d.begins.reads;
-      version = version;
-      players = d.begins.players;
-      follow = AreJoined-map (IsCommand header.version) IsCommand109 (to_109 header.version version) d.body commands d.follow;
-    },
-    λ d. (record {
+  λ (d, version). record {
+    front = d.front;
+    body = d.body;
+    joined = d.joined;
+    long = d.begins.long;
+    reads = d.begins.reads;
+    version = version;
+    players = d.begins.players;
+    follow = AreJoined-map (IsCommand header.version) IsCommand109 (to_109 header.version version) d.body commands d.follow;
+  },
+  λ d. (
+    record {
       front = d.front;
       body = d.body;
       joined = d.joined;
       begins = record { long = d.long; reads = d.reads; version = (omega (arith, d.version), omega (arith, d.version)); players = d.players };
       follow = AreJoined-map IsCommand109 (IsCommand header.version) (from_109 header.version d.version) d.body commands d.follow;
-    }, d.version),
-  )
+    },
+    d.version,
+  ),
+)

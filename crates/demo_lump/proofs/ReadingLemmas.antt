@@ -1,8 +1,8 @@
 -- Bytes have one reading as a demo, or one fault refuses them, and not both.
-use Rattle.std.proofs.Common.{◌≡◌, ◌≢◌, ℕ, zero, suc, ◌+◌, ◌*◌, ◌<◌, ◌≤◌, List, [], ◌∷◌, ◌++◌, length, take, drop, slice_index, refl, sym, ap, ◌∙◌, arith, subst, length-append}
+use Rattle.std.proofs.Common.{◌≡◌, ℕ, ◌<◌, ◌≤◌, List, [], ◌∷◌, ◌++◌, length, take, drop, slice_index, refl, sym, ap, ◌∙◌, arith, subst, length-append}
 use Rattle.std.proofs.Math.Seq.{take-append_seam, drop-append_seam}
 use Rattle.std.proofs.lemmas.Bool.Decides.{nat_tests}
-use Rattle.std.proofs.lemmas.List.{append_assoc, append-nil, take_at}
+use Rattle.std.proofs.lemmas.List.{append_assoc, take_at}
 use Rattle.demo_lump.specs.Header.{IsVersion, IsHeader, header_of, players_in}
 use Rattle.demo_lump.specs.Command.{IsCommand, command_size, command_of}
 use Rattle.demo_lump.specs.Demo.{AreCommands, IsDemo, IsCutAt, RefusesDemo}
@@ -50,7 +50,7 @@ AreCommands-one version body other rest more (c ∷ commands) [] h k same stops 
     absurd (ends c h.0 (h.1 ++ rest) (sym (ap (λ t. t ++ more) k) ∙ sym same ∙ ap (λ t. t ++ rest) h.2 ∙ append_assoc h.0 h.1 rest) h.3)
 AreCommands-one version body other rest more (c ∷ commands) (d ∷ others) h k same stops ends =
     let joined : h.0 ++ (h.1 ++ rest) ≡ k.0 ++ (k.1 ++ more) =
-        sym (append_assoc h.0 h.1 rest) ∙ ap (λ t. t ++ rest) (sym h.2) ∙ same ∙ ap (λ t. t ++ more) k.2 ∙ append_assoc k.0 k.1 more in
+    sym (append_assoc h.0 h.1 rest) ∙ ap (λ t. t ++ rest) (sym h.2) ∙ same ∙ ap (λ t. t ++ more) k.2 ∙ append_assoc k.0 k.1 more in
     let long : length h.0 ≡ length k.0 = h.3.long ∙ sym k.3.long in
     let first : h.0 ≡ k.0 = same_front _ _ _ _ joined long in
     let one : c ≡ d = sym h.3.reads ∙ ap (command_of version) first ∙ k.3.reads in
@@ -80,7 +80,7 @@ pub IsDemo-one : (bytes : List ℕ) (header other : Header) (commands others : L
     → IsDemo bytes header commands rest → IsDemo bytes other others more → (header ≡ other) × (commands ≡ others) × (rest ≡ more)
 IsDemo-one bytes header other commands others rest more d e =
     let one = most_one header other d.front e.front d.body e.body (128 ∷ rest) (128 ∷ more) commands others d.begins e.begins (sym d.joined ∙ e.joined)
-        d.follow e.follow (marker_stops header.version rest) (marker_stops other.version more) in
+    d.follow e.follow (marker_stops header.version rest) (marker_stops other.version more) in
     let after : rest ≡ more = let e = one.3 in cc in
     (one.0, one.1, after)
 
@@ -102,14 +102,14 @@ pub IsDemo-not_refused : (bytes : List ℕ) (header : Header) (commands : List C
 IsDemo-not_refused bytes header commands rest fault d r =
     let cut = (not_refused_before d.front (d.body ++ 128 ∷ rest) header fault d.begins (subst (λ (b : List ℕ). RefusesDemo b fault) d.joined r)).2 in
     let one = most_one header cut.header d.front cut.front d.body cut.body (128 ∷ rest) cut.rest commands cut.commands d.begins cut.begins cut.joined
-        d.follow cut.follow (marker_stops header.version rest) cut.most in
+    d.follow cut.follow (marker_stops header.version rest) cut.most in
     cut.unmarked rest (sym one.3)
 
 -- one place where bytes are cut
 IsCutAt-one : (bytes : List ℕ) (place other : ℕ) → IsCutAt bytes place → IsCutAt bytes other → place ≡ other
 IsCutAt-one bytes place other r s =
     let one = most_one r.header s.header r.front s.front r.body s.body r.rest s.rest r.commands s.commands r.begins s.begins (sym r.joined ∙ s.joined)
-        r.follow s.follow r.most s.most in
+    r.follow s.follow r.most s.most in
     omega (arith, r.placed, s.placed, ap length one.2, r.begins.long, s.begins.long)
 
 -- a fault that isn't the last, of bytes that are cut

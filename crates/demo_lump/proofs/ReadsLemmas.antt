@@ -1,10 +1,10 @@
 -- A piece is read as one byte and then the bytes behind it.
-use Rattle.std.proofs.Common.{◌≡◌, ◌≢◌, ℕ, zero, suc, ◌+◌, ◌-◌, ◌<◌, ◌≤◌, Bool, true, false, Option, Some, None, IfSome, List, [], ◌∷◌, ◌++◌, length, take, drop, slice_index, Result, Ok, Err, refl, sym, ap, ◌∙◌, arith, subst, length-append, length-take}
+use Rattle.std.proofs.Common.{◌≡◌, ◌≢◌, ℕ, zero, suc, ◌+◌, ◌-◌, ◌<◌, ◌≤◌, Bool, true, false, Option, Some, None, IfSome, List, [], ◌∷◌, ◌++◌, length, take, slice_index, Ok, Err, refl, sym, ap, ◌∙◌, arith, subst, length-append, length-take}
 use Rattle.std.proofs.KnownBytes.{Consumes-trans, Consumes-whole}
-use Rattle.std.proofs.lemmas.List.{append_assoc, take_all, take_at}
-use Rattle.std.specs.Io.KnownBytes.{Consumes, IsAtEnd}
+use Rattle.std.proofs.lemmas.List.{take_all, take_at}
+use Rattle.std.specs.Io.KnownBytes.{Consumes}
 use Rattle.le_rec.specs.Source.{SourceState}
-use Rattle.demo_lump.specs.Command.{IsCommand, command_size}
+use Rattle.demo_lump.specs.Command.{command_size}
 use Rattle.demo_lump.specs.Header.{IsHeader, IsVersion, RefusesHeader, header_of, players_in}
 use Rattle.demo_lump.specs.NextPiece.{IsNext, Piece, RefusesNext, header_piece, next_piece}
 use Rattle.demo_lump.specs.Pieces.{NoneBegins}
@@ -13,7 +13,7 @@ use Rattle.demo_lump.specs.Takes.{Fills, IsByte, TakeFault, Takes}
 use Rattle.demo_lump.specs.declared.command.Command.{Command}
 use Rattle.demo_lump.specs.declared.header.Header.{Header}
 use Rattle.demo_lump.specs.declared.fault.DemoFault.{DemoFault}
-use Rattle.demo_lump.specs.declared.fault.DemoFault.TheVariants.{Empty, Version, ShortHeader, NoPlayers, NoMarker}
+use Rattle.demo_lump.specs.declared.fault.DemoFault.TheVariants.{Version, ShortHeader, NoPlayers, NoMarker}
 use Rattle.demo_lump.specs.declared.fault.StreamFault.{StreamFault}
 use Rattle.demo_lump.specs.declared.fault.StreamFault.TheVariants.{Demo, Read, TooLong}
 use Rattle.demo_lump.proofs.ReadingLemmas.{command_size-some, first-append}
@@ -238,18 +238,18 @@ module _ (version taken : ℕ) where
     some = is_some;
     first = λ read few. (λ more. absurd (omega arith), omega (arith, (command_size-some version).0));
   } where
-      is_some : (x : Option Command) (front : List ℕ) → IsNext version front x → 0 < length front
-      is_some (Some c) front is = omega (arith, is.long, (command_size-some version).0)
-      is_some None front is = omega (arith, ap length is)
+    is_some : (x : Option Command) (front : List ℕ) → IsNext version front x → 0 < length front
+    is_some (Some c) front is = omega (arith, is.long, (command_size-some version).0)
+    is_some None front is = omega (arith, ap length is)
 
   pub next_goes_on : (n b : ℕ) → n + 1 ≡ command_size version → b ≢ 128 → GoesOn (next_piece version taken) b n
   next_goes_on n b size unmarked = record {
     more = is_long;
     others = λ read few. (λ more. unmarked, omega (arith, size));
   } where
-      is_long : (x : Option Command) (front : List ℕ) → IsNext version front x → slice_index front 0 ≡ b → n < length front
-      is_long (Some c) front is first = omega (arith, is.long, size)
-      is_long None front is first = absurd (unmarked (sym first ∙ ap (λ t. slice_index t 0) is))
+    is_long : (x : Option Command) (front : List ℕ) → IsNext version front x → slice_index front 0 ≡ b → n < length front
+    is_long (Some c) front is first = omega (arith, is.long, size)
+    is_long None front is first = absurd (unmarked (sym first ∙ ap (λ t. slice_index t 0) is))
 
   -- no byte at all
   pub no_next : RefusesNext version taken [] (NoMarker taken)

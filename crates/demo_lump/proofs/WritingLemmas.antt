@@ -1,6 +1,6 @@
 -- What is written is read.
-use Rattle.std.proofs.Common.{◌≡◌, ◌≢◌, ℕ, ◌+◌, ◌*◌, ◌/◌, ◌%◌, ◌<◌, ◌^◌, ℤ, pos, negsuc, Bool, cond, List, [], ◌∷◌, ◌++◌, length, get_or, Result, Ok, Err, refl, sym, ap, ◌∙◌, arith, subst, ◌-◌, take, drop, length-append, length-drop}
-use Rattle.std.specs.Prelude.{FitsSigned, OnOk, is_ok, ◌==◌, false}
+use Rattle.std.proofs.Common.{◌≡◌, ◌≢◌, ℕ, ◌+◌, ◌/◌, ◌%◌, ◌<◌, ◌^◌, ℤ, negsuc, List, [], ◌∷◌, ◌++◌, length, get_or, refl, sym, ap, ◌∙◌, arith, ◌-◌, drop, length-append, length-drop}
+use Rattle.std.specs.Prelude.{FitsSigned, ◌==◌, false}
 use Rattle.std.specs.Int.{w8, cast_unsigned}
 use Rattle.std.proofs.Math.ListN.{set}
 use Rattle.std.proofs.Math.Seq.{set-append_seam}
@@ -11,7 +11,7 @@ use Rattle.std.proofs.lemmas.Int.{ints}
 use Rattle.le_rec.specs.Number.{unsigned16}
 use Rattle.demo_lump.proofs.FillingLemmas.{length-post_of}
 use Rattle.demo_lump.specs.Command.{IsCommand, command_of, command_size, signed8}
-use Rattle.demo_lump.specs.Header.{IsHeader, IsVersion, header_of, players_in}
+use Rattle.demo_lump.specs.Header.{IsHeader, IsVersion, players_in}
 use Rattle.demo_lump.specs.Writable.{IsWritable}
 use Rattle.demo_lump.specs.declared.command.Command.{Command}
 use Rattle.demo_lump.specs.declared.header.Header.{Header}

@@ -32,6 +32,12 @@ abbrev pub after_rest : DemoReader → ℕ → Result ℕ StreamFault → DemoRe
 after_rest r taken (Ok n) = record r { taken = taken; counted = Some n }
 after_rest r taken (Err fault) = record r { taken = taken; fault = Some fault }
 
+-- a call that reads nothing, since its answer is known
+pub record Repeats {S A : Type 0} (answer : A) (source source' : S) (old new : DemoReader) (result : A) : Type 0 where
+  pub answered : result ≡ answer
+  pub unread : source' ≡ source
+  pub unchanged : new ≡ old
+
 -- a reading of the header
 pub record ReadsHeader (source source' : SourceState) (old new : DemoReader) (result : Result Header StreamFault) : Type 0 where
   pub reads : Reads header_piece old.limit source source' old.taken new.taken result

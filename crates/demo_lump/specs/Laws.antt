@@ -33,16 +33,16 @@ abbrev pub PiecesAreDemo : Type 0
 PiecesAreDemo =
     (bytes : List ℕ) (header : Header) (commands : List Command) (rest : List ℕ)
     → IsDemo bytes header commands rest
-        ↔ ((left : List ℕ) × Begins header_piece bytes header left × AreNext header.version 13 left commands rest)
+    ↔ ((left : List ℕ) × Begins header_piece bytes header left × AreNext header.version 13 left commands rest)
 
 -- and where one is refused, so is the demo, with the same fault
 abbrev pub PiecesAreRefused : Type 0
 PiecesAreRefused =
     (bytes : List ℕ) (fault : DemoFault)
     → RefusesDemo bytes fault
-        ↔ (RefusesHeader bytes fault
-        ⊎ ((header : Header) × (commands : List Command) × (left : List ℕ)
-          × Begins header_piece bytes header left × AreNextUntil header.version 13 left commands fault))
+    ↔ (RefusesHeader bytes fault
+    ⊎ ((header : Header) × (commands : List Command) × (left : List ℕ)
+    × Begins header_piece bytes header left × AreNextUntil header.version 13 left commands fault))
 
 -- four bytes that are a command of version 109
 pub record IsCommand109 (bytes : List ℕ) (command : Command) : Type 0 where

@@ -1,6 +1,6 @@
 //! A demo whose bytes are there.
 
-ghost use Rattle.std.specs.Prelude.{◌≡◌, ◌≢◌, ℕ, ◌/◌, ◌%◌, ◌<◌, ◌^◌, ◌↔◌, List, ◌∷◌, length, take, slice_get, IfOk, IfErr, MatchOption};
+ghost use Rattle.std.specs.Prelude.{◌≡◌, ◌≢◌, ℕ, ◌/◌, ◌%◌, ◌<◌, ◌≤◌, ◌^◌, ◌↔◌, List, ◌∷◌, length, take, slice_get, slice_index, IfOk, IfErr, IsTrue, MatchOption};
 ghost use Rattle.demo_lump.specs.Header.{IsHeader, RefusesHeader, players_in};
 ghost use Rattle.demo_lump.specs.Scanning.{Scans};
 
@@ -134,6 +134,14 @@ fn read_header(bytes: &[u8]) -> Result<Header, DemoFault>
     Ok(header)
 }
 
+// Whether the bytes begin with a command.
+fn begins_command(size: usize, bytes: &[u8]) -> bool
+    requires { 0 < size }
+    ensures { IsTrue result ↔ ((size ≤ length bytes.now) × (slice_index bytes.now 0 ≢ MARKER)) }
+{
+    size <= bytes.len() && bytes[0] != MARKER
+}
+
 // How many commands the bytes begin with, and the bytes behind these.
 fn scan(version: u8, bytes: &[u8]) -> (usize, &[u8])
     ensures { Scans version bytes.now result.0 result.1.now }
@@ -141,7 +149,7 @@ fn scan(version: u8, bytes: &[u8]) -> (usize, &[u8])
     let size = size_of_command(version);
     let mut count = 0;
     let mut rest = bytes;
-    'commands: while size <= rest.len() && rest[0] != MARKER {
+    'commands: while begins_command(size, rest) {
         rest = &rest[size..];
         count += 1;
     }

@@ -10,6 +10,8 @@ mod intake;
 pub mod laws;
 mod piece;
 mod reader;
+#[cfg(test)]
+mod tests;
 mod write;
 
 pub use command::Command;

@@ -11,7 +11,10 @@ use crate::intake::Intake;
 use le_rec::Source;
 
 /// Reads the header.
-pub(crate) fn read_header<S: Source>(intake: &mut Intake, source: &mut S) -> Result<Header, StreamFault>
+pub(crate) fn read_header<S: Source>(
+    intake: &mut Intake,
+    source: &mut S,
+) -> Result<Header, StreamFault>
     requires sound { (S.state source.old).failed ≡ false }
     requires within { intake.old.taken ≤ intake.old.limit }
     ensures limit { intake.new.limit ≡ intake.old.limit }

@@ -1,7 +1,7 @@
 //! A demo read from a source, piece by piece.
 
 ghost use Rattle.std.specs.Prelude.{◌≡◌, ◌≤◌, true, false, Option, Some, None, Ok, Err, IfSome};
-ghost use Rattle.demo_lump.specs.DemoReader.{ReadsBoth, ReadsHeader, ReadsNext, ReadsRest};
+ghost use Rattle.demo_lump.specs.DemoReader.{ReadsBoth, ReadsHeader, ReadsNext, ReadsRest, Repeats};
 
 use crate::command::Command;
 use crate::fault::StreamFault;
@@ -11,7 +11,11 @@ use crate::piece::{read_command, read_header};
 use le_rec::Source;
 use std::marker::Model;
 
-/// Reads a demo from a source, and asks it only for bytes that are needed.
+/// Reads a demo from a source piece by piece, up to a limit. It asks the source only for bytes that the header or the
+/// next command still needs, and leaves those after the marker unread until `after`. Once a call of `header`, `next`
+/// or `after` answered a fault, each later one answers that fault.
+///
+/// One source serves all calls. Before the first fault it hasn't failed.
 #[derive(Drop)]
 pub struct DemoReader {
     intake: Intake,
@@ -27,7 +31,14 @@ impl Model for DemoReader {
 
     ghost Value = { reader.DemoReader };
 
-    ghost view = { λ r. record { limit = r.intake.limit; taken = r.intake.taken; header = r.header; ended = r.ended; counted = r.counted; fault = r.fault } };
+    ghost view = { λ r. record {
+      limit = r.intake.limit;
+      taken = r.intake.taken;
+      header = r.header;
+      ended = r.ended;
+      counted = r.counted;
+      fault = r.fault;
+    } };
 
     ghost invariant = { λ r. r.fault ≡ None → r.intake.taken ≤ r.intake.limit };
 }
@@ -36,7 +47,14 @@ impl DemoReader {
     /// A reader that takes at most `limit` bytes.
     pub fn new(limit: u64) -> DemoReader
         requires { limit ≤ LIMIT }
-        ensures { result ≡ record { limit = limit; taken = 0; header = None; ended = false; counted = None; fault = None } }
+        ensures { result ≡ record {
+          limit = limit;
+          taken = 0;
+          header = None;
+          ended = false;
+          counted = None;
+          fault = None;
+        } }
     {
         DemoReader {
             intake: Intake { limit, taken: 0 },
@@ -54,13 +72,16 @@ impl DemoReader {
         self.ended
     }
 
-    /// The header, read at the first call.
+    /// The header, which is read once.
     pub fn header<S: Source>(&mut self, source: &mut S) -> Result<Header, StreamFault>
         requires { self.old.fault ≡ None → (S.state source.old).failed ≡ false }
-        ensures again { IfSome self.old.fault (λ fault. (result ≡ Err fault) × (self.new ≡ self.old) × (source.new ≡ source.old)) }
-        ensures known { self.old.fault ≡ None → IfSome self.old.header (λ header. (result ≡ Ok header) × (self.new ≡ self.old) × (source.new ≡ source.old)) }
+        ensures again { IfSome self.old.fault (λ fault.
+            Repeats (Err fault) source.old source.new self.old self.new result) }
+        ensures known { self.old.fault ≡ None → IfSome self.old.header (λ header.
+            Repeats (Ok header) source.old source.new self.old self.new result) }
         ensures first { self.old.fault ≡ None → self.old.header ≡ None
             → ReadsHeader (S.state source.old) (S.state source.new) self.old self.new result }
+        ensures sound { self.new.fault ≡ None → (S.state source.new).failed ≡ false }
     {
         if let Some(fault) = self.fault {
             return Err(fault);
@@ -95,15 +116,19 @@ impl DemoReader {
         read
     }
 
-    /// The next command, or None where the marker was read. It reads the header first where that wasn't done.
+    /// The next command, or None at the marker and from then on. The header is read first where that wasn't done.
     pub fn next<S: Source>(&mut self, source: &mut S) -> Result<Option<Command>, StreamFault>
         requires { self.old.fault ≡ None → (S.state source.old).failed ≡ false }
-        ensures again { IfSome self.old.fault (λ fault. (result ≡ Err fault) × (self.new ≡ self.old) × (source.new ≡ source.old)) }
-        ensures over { self.old.fault ≡ None → self.old.ended ≡ true → (result ≡ Ok None) × (self.new ≡ self.old) × (source.new ≡ source.old) }
-        ensures known { self.old.fault ≡ None → self.old.ended ≡ false → IfSome self.old.header (λ header.
+        ensures again { IfSome self.old.fault (λ fault.
+            Repeats (Err fault) source.old source.new self.old self.new result) }
+        ensures over { self.old.fault ≡ None → self.old.ended ≡ true
+            → Repeats (Ok None) source.old source.new self.old self.new result }
+        ensures known { self.old.fault ≡ None → self.old.ended ≡ false
+            → IfSome self.old.header (λ header.
             ReadsNext header.version (S.state source.old) (S.state source.new) self.old self.new result) }
         ensures first { self.old.fault ≡ None → self.old.ended ≡ false → self.old.header ≡ None
             → ReadsBoth (S.state source.old) (S.state source.new) self.old self.new result }
+        ensures sound { self.new.fault ≡ None → (S.state source.new).failed ≡ false }
     {
         if let Some(fault) = self.fault {
             return Err(fault);
@@ -118,14 +143,17 @@ impl DemoReader {
         self.command(version, source)
     }
 
-    /// How many bytes follow the marker, counted at the first call.
+    /// How many bytes follow the marker: the first call reads to the end of the input and counts.
     pub fn after<S: Source>(&mut self, source: &mut S) -> Result<u64, StreamFault>
         requires ended { self.old.ended ≡ true }
         requires sound { self.old.fault ≡ None → (S.state source.old).failed ≡ false }
-        ensures again { IfSome self.old.fault (λ fault. (result ≡ Err fault) × (self.new ≡ self.old) × (source.new ≡ source.old)) }
-        ensures known { self.old.fault ≡ None → IfSome self.old.counted (λ n. (result ≡ Ok n) × (self.new ≡ self.old) × (source.new ≡ source.old)) }
+        ensures again { IfSome self.old.fault (λ fault.
+            Repeats (Err fault) source.old source.new self.old self.new result) }
+        ensures known { self.old.fault ≡ None → IfSome self.old.counted (λ n.
+            Repeats (Ok n) source.old source.new self.old self.new result) }
         ensures first { self.old.fault ≡ None → self.old.counted ≡ None
             → ReadsRest (S.state source.old) (S.state source.new) self.old self.new result }
+        ensures sound { self.new.fault ≡ None → (S.state source.new).failed ≡ false }
     {
         if let Some(fault) = self.fault {
             return Err(fault);
@@ -141,3 +169,6 @@ impl DemoReader {
         read
     }
 }
+
+#[cfg(test)]
+mod tests;

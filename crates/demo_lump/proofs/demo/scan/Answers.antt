@@ -1,9 +1,9 @@
-use Rattle.std.proofs.Common.{◌≡◌, ◌+◌, ◌*◌, ◌≤◌, ◌<◌, length, inl, inr, sym, ◌∙◌, ap, arith, drop, rules, subst}
+use Rattle.std.proofs.Common.{IsTrue, slice_index, true≢false, ◌+◌, length, inl, inr, sym, ◌∙◌, arith, drop, rules, subst}
 use Rattle.demo_lump.specs.Scanning.{Follows}
+use Rattle.std.proofs.lemmas.Bool.{cases_eq, cases_lt}
 use Rattle.std.proofs.lemmas.List.{take_rest}
 use Rattle.demo_lump.proofs.CommandLemmas.{Follows-none, Follows-more, Scans-of, room_for_one}
 use Rattle.demo_lump.proofs.demo.scan.Goals as goal
-use Rattle.demo_lump.proofs.demo.scan.Goals.{then-commands-test+else-rest, else-commands-test}
 
 pub commands-init : goal.commands-init
 commands-init c = Follows-none _ _
@@ -15,10 +15,20 @@ overflow_add-count c =
 
 pub commands-preserved : goal.commands-preserved
 commands-preserved c =
-    rw take_rest (subst (λ n. Follows c.args.version c.args.bytes.now (c.commands.count + 1) (drop n c.commands.rest.now)) (sym c.size_of_command-size.ensures.size) (Follows-more _ _ _ _ c.commands.invariant (omega (arith, c.commands-test.true, c.size_of_command-size.ensures.size)) c.if-rest.true))
+    let begins : IsTrue c.begins_command.result = search rules in
+    let is = c.begins_command.ensures.0 begins in
+    let more = Follows-more _ _ _ _ c.commands.invariant (omega (arith, is.0, c.size_of_command-size.ensures.size)) is.1 in
+    rw take_rest (subst (λ n. Follows c.args.version c.args.bytes.now (c.commands.count + 1) (drop n c.commands.rest.now)) (sym c.size_of_command-size.ensures.size) more)
 
 pub returns : goal.returns
-returns c = elim c.commands-test.branch [
-    then-commands-test+else-rest w ↦ Scans-of _ _ _ _ c.commands.invariant (inr w.if-rest.false)
-  | else-commands-test w ↦ Scans-of _ _ _ _ c.commands.invariant (inl (omega (arith, w.commands-test.false, c.size_of_command-size.ensures.size)))
-  ]
+returns c =
+    let scanned = Scans-of _ _ _ _ c.commands.invariant in
+    elim (cases_lt (length c.commands.rest.now) c.size_of_command-size.result) [
+      | inl short ↦ scanned (inl (omega (arith, short, c.size_of_command-size.ensures.size)))
+      | inr fits ↦ elim (cases_eq (slice_index c.commands.rest.now 0) 128) [
+        | inl marked ↦ scanned (inr marked)
+        | inr unmarked ↦
+            let begins = c.begins_command.ensures.1 (fits, unmarked) in
+            absurd (true≢false (sym begins ∙ c.commands-test.false))
+      ]
+    ]

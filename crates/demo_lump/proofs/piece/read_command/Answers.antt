@@ -1,6 +1,5 @@
-use Rattle.std.proofs.Common.{◌≡◌, ℕ, ◌+◌, arith, length, length-take, refl}
+use Rattle.std.proofs.Common.{ℕ, arith, length-take, refl}
 use Rattle.std.proofs.lemmas.Result.{err_from_is_err_and}
-use Rattle.demo_lump.specs.Command.{command_size}
 use Rattle.demo_lump.specs.NextPiece.{next_piece}
 use Rattle.demo_lump.proofs.ReadsLemmas.{Reads-byte, Reads-empty, Reads-no_byte, Reads-no_rest, Reads-short, next_goes_on, next_has_byte, no_next, short_next}
 use Rattle.demo_lump.proofs.piece.read_command.Goals as goal

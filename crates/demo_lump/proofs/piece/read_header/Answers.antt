@@ -28,7 +28,7 @@ returns-then-count_players-eq0-clause-reads g c =
     let fill = rw (c.byte.ensures.limit, c.if-not-branch.false) at c.in_ok-fill.ensures.takes in
     let version : IsVersion c.in-Some.version = search rules in
     let none : players_in (header_of (c.in-Some.version ∷ c.fill.new.buf)).players ≡ 0 =
-        ap (λ (h : Header). players_in h.players) (sym c.header_from-header.ensures) ∙ sym c.count_players.ensures ∙ c.if-count_players-eq0.true in
+    ap (λ (h : Header). players_in h.players) (sym c.header_from-header.ensures) ∙ sym c.count_players.ensures ∙ c.if-count_players-eq0.true in
     Reads-bad header_piece header_has_byte 12 c.in-Some.version (header_goes_on c.in-Some.version version) byte
     _ _ (no_players c.in-Some.version c.fill.new.buf c.fill.auto.buf none) (no_players_refused c.in-Some.version c.fill.new.buf c.fill.auto.buf version none) fill
 

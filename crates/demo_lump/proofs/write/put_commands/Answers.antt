@@ -1,8 +1,7 @@
-use Rattle.std.proofs.Common.{◌≡◌, ◌+◌, ◌-◌, ◌*◌, ◌≤◌, ◌<◌, ◌++◌, List, ℕ, ap, arith, length, subst, sym, take, ◌∙◌}
+use Rattle.std.proofs.Common.{◌≡◌, ◌+◌, ◌-◌, ◌*◌, ◌≤◌, ◌++◌, List, ℕ, ap, arith, length, subst, sym, take, ◌∙◌}
 use Rattle.std.proofs.Math.Nat.{mul-le-mul_right}
 use Rattle.std.proofs.lemmas.List.{take_all, take_more}
 use Rattle.demo_lump.specs.Demo.{AreCommands}
-use Rattle.demo_lump.specs.declared.command.Command.{Command}
 use Rattle.demo_lump.proofs.CommandLemmas.{AreCommands-last}
 use Rattle.demo_lump.proofs.FillingLemmas.{filled_more}
 use Rattle.demo_lump.proofs.write.put_commands.Goals as goal
@@ -23,6 +22,6 @@ loop-command-preserved c =
     record {
       place = omega (arith, i.place);
       so_far =
-        subst (λ (xs : List ℕ). AreCommands c.args.version xs (take (n + 1) commands)) (sym front)
-        (subst (AreCommands c.args.version (take at c.loop-command.bytes ++ part)) (sym (take_more commands n _ c.loop-command-test.true)) (AreCommands-last c.args.version (take at c.loop-command.bytes) part (take n commands) _ i.so_far c.put_command.ensures));
+          subst (λ (xs : List ℕ). AreCommands c.args.version xs (take (n + 1) commands)) (sym front)
+          (subst (AreCommands c.args.version (take at c.loop-command.bytes ++ part)) (sym (take_more commands n _ c.loop-command-test.true)) (AreCommands-last c.args.version (take at c.loop-command.bytes) part (take n commands) _ i.so_far c.put_command.ensures));
     }

@@ -1,7 +1,6 @@
-use Rattle.std.proofs.Common.{◌≡◌, ◌+◌, ◌*◌, ◌∙◌, length, refl}
+use Rattle.std.proofs.Common.{◌≡◌, ◌+◌, length}
 use Rattle.demo_lump.proofs.CommandLemmas.{AreCommands-length}
 use Rattle.demo_lump.proofs.WritingLemmas.{demo_put}
-use Rattle.demo_lump.specs.Command.{command_size}
 use Rattle.demo_lump.proofs.write.put_demo.Goals as goal
 
 pub returns : goal.returns

@@ -1,5 +1,4 @@
-use Rattle.std.proofs.Common.{◌≡◌, length, rules, subst, sym}
-use Rattle.demo_lump.specs.Header.{IsHeader}
+use Rattle.std.proofs.Common.{◌≡◌, length, rules}
 use Rattle.demo_lump.proofs.WritingLemmas.{IsHeader-written}
 use Rattle.demo_lump.proofs.write.put_header.Goals as goal
 

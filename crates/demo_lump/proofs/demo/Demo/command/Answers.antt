@@ -1,4 +1,4 @@
-use Rattle.std.proofs.Common.{refl, ◌≡◌, ℕ, ◌<◌, length-take, length-drop, ◌+◌, ◌*◌, ◌-◌, ◌≤◌, take, drop, length, arith, ap, sym, ◌∙◌, Some}
+use Rattle.std.proofs.Common.{◌≡◌, ℕ, ◌<◌, length-take, length-drop, ◌+◌, ◌*◌, ◌-◌, ◌≤◌, take, drop, length, arith, ap, sym, ◌∙◌, Some}
 use Rattle.std.proofs.Math.Nat.{mul-le-mul_right}
 use Rattle.std.proofs.lemmas.Slice.{first_rest}
 use Rattle.std.proofs.lemmas.Option.{slice_get_past}
@@ -22,6 +22,6 @@ returns c =
     let fits : c.self.inside.count * size ≤ length c.self.inside.commands.now = rw c.size_of_command-size.ensures.size c.self.invariant.1 in
     let some : 0 < length part = omega (arith, length-take {A = ℕ}, length-drop {A = ℕ}, room, fits, c.size_of_command-size.ensures.least) in
     let is : part ≡ take (command_size c.self.inside.header.version) (drop (c.args.index * command_size c.self.inside.header.version) c.self.inside.commands.now) =
-        ap (λ n. take n (drop start c.self.inside.commands.now)) whole ∙ ap (λ n. take n (drop (c.args.index * n) c.self.inside.commands.now)) c.size_of_command-size.ensures.size in
+    ap (λ n. take n (drop start c.self.inside.commands.now)) whole ∙ ap (λ n. take n (drop (c.args.index * n) c.self.inside.commands.now)) c.size_of_command-size.ensures.size in
     rw (← c.self.view_is, slice_get-commands_of _ _ _ _ c.if-index-self.false, c.command_from.ensures)
     (ap (λ t. Some (command_of c.self.inside.header.version t)) (sym (first_rest part 0 some) ∙ is))

@@ -1,7 +1,6 @@
-use Rattle.std.proofs.Common.{refl, ◌≡◌, ◌+◌, ◌*◌, ◌-◌, ◌≤◌, take, drop, length, arith, ap, sym, ◌∙◌, Some}
+use Rattle.std.proofs.Common.{arith}
 use Rattle.std.proofs.lemmas.List.{take_rest}
 use Rattle.std.proofs.lemmas.Result.{err_from_is_err_and}
-use Rattle.demo_lump.specs.Scanning.{Scans}
 use Rattle.demo_lump.proofs.CommandLemmas.{count_fits}
 use Rattle.demo_lump.proofs.DemoLemmas.{only_demo, no_fault, no_demo, only_fault, RefusesDemo-header, IsRead-scan, RefusesDemo-scan}
 use Rattle.demo_lump.proofs.demo.Demo.read.Goals as goal

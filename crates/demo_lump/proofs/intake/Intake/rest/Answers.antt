@@ -1,4 +1,4 @@
-use Rattle.std.proofs.Common.{◌≡◌, ◌+◌, ◌-◌, ◌≤◌, ◌<◌, ◌++◌, List, ℕ, length, length-take, length-drop, take, arith, rules, sym, ap, ◌∙◌, refl, length-append}
+use Rattle.std.proofs.Common.{◌≡◌, ◌++◌, ℕ, length, length-take, take, arith, ◌∙◌, refl, length-append}
 use Rattle.std.proofs.KnownBytes.{Consumes-kept, Consumes-trans}
 use Rattle.std.proofs.lemmas.List.{length-take-le}
 use Rattle.demo_lump.proofs.intake.Intake.rest.Goals as goal

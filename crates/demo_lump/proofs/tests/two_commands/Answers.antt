@@ -1,0 +1,16 @@
+use Rattle.std.proofs.Common.{◌≡◌, ◌≢◌, [], ◌∷◌, ◌∙◌, arith, negsuc, pos, refl, sym}
+use Rattle.std.proofs.lemmas.List.Elements.{All-cons, All-nil}
+use Rattle.demo_lump.specs.Writable.{IsWritable}
+use Rattle.demo_lump.proofs.tests.two_commands.Goals as goal
+
+forwards : pos 25 ≢ negsuc 127
+forwards e = let no : ⊥ = cc in no
+
+backwards : negsuc 49 ≢ negsuc 127
+backwards e = let no : ⊥ = cc in no
+
+pub returns : goal.returns
+returns c =
+    let first : IsWritable 109 c.command_of.result = record { unmarked = λ e. forwards (sym c.command_of.ensures.forward ∙ e); small = λ _. omega arith } in
+    let second : IsWritable 109 c.command_of-2.result = record { unmarked = λ e. backwards (sym c.command_of-2.ensures.forward ∙ e); small = λ _. omega arith } in
+    All-cons (IsWritable 109) _ (c.command_of-2.result ∷ []) first (All-cons (IsWritable 109) _ [] second (All-nil (IsWritable 109)))

@@ -8,8 +8,8 @@ use Rattle.demo_lump.specs.declared.header.Header.{Header}
 use Rattle.demo_lump.specs.declared.fault.DemoFault.{DemoFault}
 use Rattle.demo_lump.specs.declared.fault.DemoFault.TheVariants.{NoMarker}
 
--- A piece that the bytes left may begin with, why they begin with none, and the bytes that a reading of it needs: none
--- more than these once they are told to be another's.
+-- A piece that the bytes left may begin with, why they begin with none, and which bytes a reading of it may take: no
+-- more than it still needs.
 pub record Piece (A : Type 0) : Type 1 where
   pub is : List ℕ → A → Type 0
   pub refuses : List ℕ → DemoFault → Type 0

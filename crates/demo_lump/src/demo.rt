@@ -27,9 +27,14 @@ impl<'a> Model for Demo<'a> {
 
     ghost Value = { demo.Demo };
 
-    ghost view = { λ d. record { header = d.header; commands = commands_of d.header.version d.count d.commands.now; after = d.after } };
+    ghost view = { λ d. record {
+      header = d.header;
+      commands = commands_of d.header.version d.count d.commands.now;
+      after = d.after;
+    } };
 
-    ghost invariant = { λ d. (0 < players_in d.header.players) × (d.count * command_size d.header.version ≤ length d.commands.now) };
+    ghost invariant = { λ d. (0 < players_in d.header.players)
+        × (d.count * command_size d.header.version ≤ length d.commands.now) };
 }
 
 impl<'a> Demo<'a> {
@@ -158,7 +163,8 @@ fn scan(version: u8, bytes: &[u8]) -> (usize, &[u8])
 
 // The bytes behind the marker, where the bytes begin with it.
 fn behind_marker(bytes: &[u8]) -> Option<&[u8]>
-    ensures { MatchOption result ((more : List ℕ) → bytes.now ≢ MARKER ∷ more) (λ more. bytes.now ≡ MARKER ∷ more.now) }
+    ensures { MatchOption result ((more : List ℕ) → bytes.now ≢ MARKER ∷ more)
+        (λ more. bytes.now ≡ MARKER ∷ more.now) }
 {
     if bytes.len() > 0 && bytes[0] == MARKER {
         Some(&bytes[1..])

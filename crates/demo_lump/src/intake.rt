@@ -26,8 +26,8 @@ impl Intake {
         requires sound { (S.state source.old).failed ≡ false }
         requires within { self.old.taken ≤ self.old.limit }
         ensures limit { self.new.limit ≡ self.old.limit }
-        ensures takes { Takes (Fills buf.new) (length buf.old) self.old.limit (S.state source.old) (S.state source.new)
-            self.old.taken self.new.taken result }
+        ensures takes { Takes (Fills buf.new) (length buf.old) self.old.limit
+            (S.state source.old) (S.state source.new) self.old.taken self.new.taken result }
     {
         let room = self.limit - self.taken;
         let most = (buf.len() as u64).min(room + 1) as usize;
@@ -55,8 +55,8 @@ impl Intake {
         requires sound { (S.state source.old).failed ≡ false }
         requires within { self.old.taken ≤ self.old.limit }
         ensures limit { self.new.limit ≡ self.old.limit }
-        ensures takes { Takes IsByte 1 self.old.limit (S.state source.old) (S.state source.new)
-            self.old.taken self.new.taken result }
+        ensures takes { Takes IsByte 1 self.old.limit
+            (S.state source.old) (S.state source.new) self.old.taken self.new.taken result }
     {
         let mut byte = [0; 1];
         if self.fill(source, &mut byte)? {
@@ -71,8 +71,8 @@ impl Intake {
         requires sound { (S.state source.old).failed ≡ false }
         requires within { self.old.taken ≤ self.old.limit }
         ensures limit { self.new.limit ≡ self.old.limit }
-        ensures takes { TakesAll self.old.limit (S.state source.old) (S.state source.new)
-            self.old.taken self.new.taken result }
+        ensures takes { TakesAll self.old.limit
+            (S.state source.old) (S.state source.new) self.old.taken self.new.taken result }
     {
         let mut block = [0; BLOCK];
         let before = self.taken;

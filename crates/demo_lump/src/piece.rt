@@ -47,8 +47,8 @@ pub(crate) fn read_command<S: Source>(
     requires sound { (S.state source.old).failed ≡ false }
     requires within { intake.old.taken ≤ intake.old.limit }
     ensures limit { intake.new.limit ≡ intake.old.limit }
-    ensures reads { Reads (next_piece version intake.old.taken) intake.old.limit (S.state source.old) (S.state source.new)
-        intake.old.taken intake.new.taken result }
+    ensures reads { Reads (next_piece version intake.old.taken) intake.old.limit
+        (S.state source.old) (S.state source.new) intake.old.taken intake.new.taken result }
 {
     let place = intake.taken;
     let Some(first) = intake.byte(source)? else {

@@ -1,0 +1,19 @@
+ghost use Rattle.std.specs.Prelude.{IfOk};
+ghost use Rattle.map_level.specs.Findings.{AreFindings};
+ghost use Rattle.map_audit.specs.Findings.{Holds};
+
+use crate::report::Report;
+use map_level::{Level, link_findings};
+use map_tables::table_findings;
+use map_tree::tree_findings;
+use std::alloc::{AllocError, Allocator};
+
+/// All findings of a level.
+pub fn audit<A: Allocator + Copy>(alloc: A, level: &Level<'_>) -> Result<Report<A>, AllocError>
+    ensures { IfOk result (AreFindings (Holds level.now)) }
+{
+    let links = link_findings(alloc, level)?;
+    let nodes = tree_findings(alloc, level)?;
+    let tables = table_findings(alloc, level)?;
+    Report::of(alloc, level, &links, &nodes, &tables)
+}

@@ -1,0 +1,10 @@
+//! The whole report of a level, and which levels are accepted.
+#![tactic(auto)]
+
+mod acceptance;
+mod auditing;
+mod report;
+
+pub use acceptance::{Refused, accept};
+pub use auditing::audit;
+pub use report::Report;

@@ -24,7 +24,17 @@ pub struct Job {
 }
 
 impl Job {
-    ghost use Rattle.wad_look.specs.Job.{reading_of};
+    ghost use Rattle.std.specs.Prelude.{◌+◌, drop, length, map, string_bytes};
+    ghost use Rattle.wad_look.specs.Job.{IsJob, reading_of};
+
+    /// The paths of the files, of the words that were read.
+    pub fn paths(self, words: &[String]) -> &[String]
+        requires { IsJob (map string_bytes words.now) self }
+        ensures paths { result.now ≡ drop self.first words.now }
+        ensures counted { self.first + length result.now ≡ length words.now }
+    {
+        &words[self.first..]
+    }
 
     /// The reading under which the command opens a level.
     pub fn reading(self) -> Reading

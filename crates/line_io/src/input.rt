@@ -28,7 +28,7 @@ pub fn next_block<'b, S: Source>(input: &mut S, block: &'b mut [u8]) -> Result<&
 pub const LIMIT: u64 = 268_435_456;
 
 /// The most bytes that are pulled at once.
-const BLOCK: usize = 65_536;
+pub const BLOCK: usize = 65_536;
 
 /// Reads `input` to its end, at most one byte past `limit`. `TooLong` where it has more than `limit`
 /// bytes, `Memory` where there is no room for those read so far. After a failed pull there is no other.

@@ -7,14 +7,11 @@ ghost use Rattle.line_io.specs.Lines.{content, last_from};
 ghost use Rattle.line_io.specs.Writes.{EndsWriting, TakesText};
 
 use super::fault::IoFault;
-use super::input::{LIMIT, next_block};
+use super::input::{BLOCK, LIMIT, next_block};
 use super::line_part::{KEPT, LinePart};
 use super::output::emit;
 use le_rec::{Sink, Source};
 use memchr::memchr;
-
-/// The most bytes that are pulled at once.
-const BLOCK: usize = 8192;
 
 /// The most bytes of a line's content.
 pub const CONTENT: usize = 64;

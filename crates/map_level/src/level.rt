@@ -37,7 +37,7 @@ pub struct Level<'a> {
 }
 
 impl<'a> Model for Level<'a> {
-    ghost use Rattle.std.specs.Prelude.{◌≡◌, map, length};
+    ghost use Rattle.std.specs.Prelude.{◌≡◌, ◌+◌, ◌<◌, ◌^◌, map, length};
     ghost use Rattle.map_level.specs.Level as level;
     ghost use Rattle.map_level.specs.Level.{level_of, AreShort};
 
@@ -45,7 +45,7 @@ impl<'a> Model for Level<'a> {
 
     ghost view = { λ a. level_of a.label a.reading a.names (map (λ lump. lump.now) a.lumps) };
 
-    ghost invariant = { λ a. (length a.names ≡ 11) × (length a.lumps ≡ 10)
+    ghost invariant = { λ a. (a.label + 10 < 2 ^ 64) × (length a.names ≡ 11) × (length a.lumps ≡ 10)
         × AreShort (map (λ lump. lump.now) a.lumps) };
 }
 
@@ -85,7 +85,8 @@ impl<'a> Level<'a> {
 
     /// The number of the label's entry.
     pub fn label(&self) -> usize
-        ensures { result ≡ self.now.label }
+        ensures is { result ≡ self.now.label }
+        ensures fits { result + 10 < 2 ^ 64 }
     {
         self.label
     }

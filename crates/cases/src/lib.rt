@@ -6,6 +6,8 @@ mod ends;
 #[cfg(test)]
 mod files;
 #[cfg(test)]
+mod level_texts;
+#[cfg(test)]
 mod levels;
 #[cfg(test)]
 mod link_cases;

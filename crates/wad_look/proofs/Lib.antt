@@ -1,3 +1,6 @@
 pub mod JobLemmas
 pub mod LumpsLemmas
 pub mod PointsLemmas
+pub mod SmallLemmas
+pub mod ShowLemmas
+pub mod ExtractLemmas

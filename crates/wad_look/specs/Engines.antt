@@ -1,3 +1,5 @@
 -- What each command writes, and what its run does.
 pub mod Lumps
 pub mod Points
+pub mod Show
+pub mod Extract

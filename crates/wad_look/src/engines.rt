@@ -1,7 +1,9 @@
 //! The engine of each command.
 
+pub mod extract;
 pub mod lumps;
 pub mod points;
+pub mod show;
 
 ghost use Rattle.std.specs.Prelude.{◌≡◌, ◌+◌, ◌-◌, ◌≤◌, [], false, length, map, slice_index_or, string_bytes};
 ghost use Rattle.wad_look.specs.Engines.Lumps.{RunsLumps};

@@ -12,8 +12,10 @@ mod outcome;
 mod words;
 
 pub use command::{Cmd, Job};
+pub use engines::extract::extract;
 pub use engines::lumps::lumps;
 pub use engines::points::points;
+pub use engines::show::show;
 pub use engines::{INPUT_LIMIT, run};
 pub use fault::RunFault;
 pub use input::read_all;

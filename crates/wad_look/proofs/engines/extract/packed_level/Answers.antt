@@ -1,0 +1,14 @@
+use Rattle.std.proofs.Common.{Err, ap}
+use Rattle.wad_look.proofs.ExtractLemmas.{level_packed, level_refused}
+use Rattle.wad_look.specs.Opening.{bytes_of}
+use Rattle.wad_look.proofs.engines.extract.packed_level.Goals as goal
+
+pub returns-in-Ok-pack_level-clause-ok : goal.returns-in-Ok-pack_level-clause-ok
+returns-in-Ok-pack_level-clause-ok g c =
+    level_packed (bytes_of c.args.files.now) c.args.name.now c.in_ok-set.set c.in-Ok.level c.in_ok-set.ensures.ok (rw c.query.ensures at c.in-Ok.ensures.level)
+    c.in-Ok-pack_level.file.items (λ lumps are. c.in-Ok-pack_level.ensures.ok lumps are)
+
+pub returns-clause-err : goal.returns-clause-err
+returns-clause-err g c =
+    level_refused (bytes_of c.args.files.now) c.args.name.now c.in_ok-set.set c.in-Ok.level c.in_ok-set.ensures.ok (rw c.query.ensures at c.in-Ok.ensures.level)
+    c.in-Err-pack_level.fault (λ lumps are same. c.in-Err-pack_level.ensures.too_large lumps are (ap Err same))

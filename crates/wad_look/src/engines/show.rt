@@ -1,0 +1,335 @@
+//! The command `show`: the records of a level.
+
+ghost use Rattle.std.specs.Prelude.{◌≡◌, ◌+◌, ◌<◌, ◌≤◌, ◌++◌, codes, false, length, map, slice_index_or, []};
+ghost use Rattle.std.specs.Fmt.{decimal};
+ghost use Rattle.line_io.specs.Writes.{Writes};
+ghost use Rattle.map_level.specs.Reading.{number_of};
+ghost use Rattle.wad_look.specs.Engines.Show.{RunsShow, bytes_line, level_line, lump_texts, name_text, number_text, numbers_text};
+ghost use Rattle.wad_look.specs.Engines.Show.{record_line, show_text, table_line, table_text};
+ghost use Rattle.wad_look.specs.Opening.{bytes_of};
+
+
+use crate::fault::RunFault;
+use crate::opening::open_level;
+use le_rec::{LineDef, Name8, Node, Record, SSector, Sector, Seg, SideDef, Sink, Table, Thing, Vertex};
+use line_io::{IoFault, TextLine, emit};
+use map_level::{Level, Reading, number};
+use std::alloc::Allocator;
+
+/// Writes the level's label and place, and of each of its lumps the number of records, of bytes left over and the records,
+/// or the number of bytes. `Set`, `Memory` and `Level` come before anything is written. Links aren't tested.
+pub fn show<A: Allocator, W: Sink>(
+    alloc: A,
+    files: &[Vec<u8>],
+    name: &[u8],
+    reading: Reading,
+    out: &mut W,
+) -> Result<(), RunFault>
+    requires few { length files.now ≤ 64 }
+    requires sound { (W.state out.old).failed ≡ false }
+    ensures { RunsShow W.state (bytes_of files.now) name.now reading out.old out.new result }
+{
+    let level = open_level(alloc, files, name, reading)?;
+    match write_level(&level, out) {
+        Ok(()) => Ok(()),
+        Err(fault) => Err(RunFault::from(fault)),
+    }
+}
+
+// Writes the lines of a level.
+fn write_level<W: Sink>(level: &Level<'_>, out: &mut W) -> Result<(), IoFault>
+    requires { (W.state out.old).failed ≡ false }
+    ensures { Writes (W.state out.old) (W.state out.new) (show_text level.now) result }
+{
+    write_label(level, out)?;
+    'lumps: for i in 0..10 {
+        write_lump(level, i, out)?;
+    }
+    Ok(())
+}
+
+// `level <name> at <g>`
+fn write_label<W: Sink>(level: &Level<'_>, out: &mut W) -> Result<(), IoFault>
+    requires { (W.state out.old).failed ≡ false }
+    ensures { Writes (W.state out.old) (W.state out.new)
+        (level_line (slice_index_or level.now.names 0 []) level.now.label) result }
+{
+    let mut text = [0; 32];
+    let len = level.name(0).shown(&mut text);
+    let mut line = TextLine::new();
+    line.put_bytes(b"\n");
+    line.put_natural(level.label() as u64);
+    line.put_bytes(b" at ");
+    line.put_bytes(&text[..len]);
+    line.put_bytes(b"level ");
+    emit(out, line.as_bytes())
+}
+
+// Writes the lines of lump i + 1 of the ten.
+fn write_lump<W: Sink>(level: &Level<'_>, i: usize, out: &mut W) -> Result<(), IoFault>
+    requires few { i < 10 }
+    requires sound { (W.state out.old).failed ≡ false }
+    ensures { Writes (W.state out.old) (W.state out.new) (slice_index_or (lump_texts level.now) i []) result }
+{
+    let reading = level.reading();
+    match i {
+        0 => write_table(b"THINGS", reading, &level.things(), out),
+        1 => write_table(b"LINEDEFS", reading, &level.linedefs(), out),
+        2 => write_table(b"SIDEDEFS", reading, &level.sidedefs(), out),
+        3 => write_table(b"VERTEXES", reading, &level.vertexes(), out),
+        4 => write_table(b"SEGS", reading, &level.segs(), out),
+        5 => write_table(b"SSECTORS", reading, &level.ssectors(), out),
+        6 => write_table(b"NODES", reading, &level.nodes(), out),
+        7 => write_table(b"SECTORS", reading, &level.sectors(), out),
+        8 => write_bytes(b"REJECT", level.reject(), out),
+        _ => write_bytes(b"BLOCKMAP", level.blockmap(), out),
+    }
+}
+
+// `<lump> <bytes>`
+fn write_bytes<W: Sink>(lump: &[u8], bytes: &[u8], out: &mut W) -> Result<(), IoFault>
+    requires short { length lump.now ≤ 8 }
+    requires sound { (W.state out.old).failed ≡ false }
+    ensures { Writes (W.state out.old) (W.state out.new) (bytes_line lump.now (length bytes.now)) result }
+{
+    let mut line = TextLine::new();
+    line.put_bytes(b"\n");
+    line.put_natural(bytes.len() as u64);
+    line.put_bytes(b" ");
+    line.put_bytes(lump);
+    emit(out, line.as_bytes())
+}
+
+// Writes the lines of a table.
+fn write_table<R: Shown, W: Sink>(
+    lump: &[u8],
+    reading: Reading,
+    table: &Table<'_, R>,
+    out: &mut W,
+) -> Result<(), IoFault>
+    requires short { length lump.now ≤ 8 }
+    requires sound { (W.state out.old).failed ≡ false }
+    ensures { Writes (W.state out.old) (W.state out.new)
+        (table_text R.layout lump.now (map (R.under reading) table.now.records) table.now.rest) result }
+{
+    write_counts(lump, table.len(), table.rest(), out)?;
+    'rows: for i in 0..table.len() {
+        let Some(row) = table.get(i) else { break };
+        write_row(i, reading, &row, out)?;
+    }
+    Ok(())
+}
+
+// `<lump> <number of records> rest <bytes left over>`
+fn write_counts<W: Sink>(
+    lump: &[u8],
+    count: usize,
+    rest: usize,
+    out: &mut W,
+) -> Result<(), IoFault>
+    requires short { length lump.now ≤ 8 }
+    requires sound { (W.state out.old).failed ≡ false }
+    ensures { Writes (W.state out.old) (W.state out.new) (table_line lump.now count rest) result }
+{
+    let mut line = TextLine::new();
+    line.put_bytes(b"\n");
+    line.put_natural(rest as u64);
+    line.put_bytes(b" rest ");
+    line.put_natural(count as u64);
+    line.put_bytes(b" ");
+    line.put_bytes(lump);
+    emit(out, line.as_bytes())
+}
+
+// `<index> <fields>`
+fn write_row<R: Shown, W: Sink>(
+    index: usize,
+    reading: Reading,
+    row: &R,
+    out: &mut W,
+) -> Result<(), IoFault>
+    requires { (W.state out.old).failed ≡ false }
+    ensures { Writes (W.state out.old) (W.state out.new) (record_line R.layout index (R.under reading row.now)) result }
+{
+    let mut line = TextLine::new();
+    line.put_bytes(b"\n");
+    row.put_fields(reading, &mut line);
+    line.put_natural(index as u64);
+    emit(out, line.as_bytes())
+}
+
+/// A record that `show` prints.
+pub trait Shown: Record {
+    ghost use Rattle.std.specs.Prelude.{◌≡◌, ◌+◌, ◌≤◌, ◌++◌, length};
+    ghost use Rattle.wad_look.specs.Engines.Show.{record_text};
+    ghost use Rattle.map_level.specs.declared.reading.Reading.{Reading};
+
+    /// The record under a reading.
+    ghost under: { Reading → Self → Self };
+
+    /// Puts the fields before the line.
+    fn put_fields(&self, reading: Reading, line: &mut TextLine)
+        requires { length line.old ≤ 4 }
+        ensures text { line.new ≡ record_text Self.layout (under reading self.now) ++ line.old }
+        ensures length { length line.new ≤ length line.old + 120 };
+}
+
+// Puts a space and a word before the line.
+fn put_word(line: &mut TextLine, word: &i16)
+    requires { length line.old + 22 ≤ 144 }
+    ensures text { line.new ≡ number_text word.now ++ line.old }
+    ensures length { length line.new ≤ length line.old + 7 }
+{
+    line.put_integer(i64::from(*word));
+    line.put_bytes(b" ");
+}
+
+// The same of an index under a reading.
+fn put_index(line: &mut TextLine, reading: Reading, word: &i16)
+    requires { length line.old + 22 ≤ 144 }
+    ensures text { line.new ≡ number_text (number_of reading word.now) ++ line.old }
+    ensures length { length line.new ≤ length line.old + 7 }
+{
+    line.put_integer(i64::from(number(*word, reading)));
+    line.put_bytes(b" ");
+}
+
+// The same of a child word.
+fn put_child(line: &mut TextLine, child: &u16)
+    requires { length line.old + 22 ≤ 144 }
+    ensures text { line.new ≡ codes " " ++ decimal child.now ++ line.old }
+    ensures length { length line.new ≤ length line.old + 6 }
+{
+    line.put_natural(u64::from(*child));
+    line.put_bytes(b" ");
+}
+
+// The same of the four numbers of a box.
+fn put_box(line: &mut TextLine, bounds: &[i16; 4])
+    requires { length line.old + 44 ≤ 144 }
+    ensures text { line.new ≡ numbers_text bounds.now ++ line.old }
+    ensures length { length line.new ≤ length line.old + 28 }
+{
+    for i in (0..4).rev() {
+        put_word(line, &bounds[i]);
+    }
+}
+
+// Puts a space and a name as it is shown.
+fn put_name(line: &mut TextLine, name: &[u8; 8])
+    requires { length line.old + 33 ≤ 144 }
+    ensures text { line.new ≡ name_text name.now ++ line.old }
+    ensures length { length line.new ≤ length line.old + 33 }
+{
+    let mut text = [0; 32];
+    let len = Name8::stored(*name).shown(&mut text);
+    line.put_bytes(&text[..len]);
+    line.put_bytes(b" ");
+}
+
+impl Shown for Thing {
+    ghost under = { λ reading r. r };
+
+    fn put_fields(&self, _reading: Reading, line: &mut TextLine) {
+        put_word(line, &self.options);
+        put_word(line, &self.kind);
+        put_word(line, &self.angle);
+        put_word(line, &self.y);
+        put_word(line, &self.x);
+    }
+}
+
+impl Shown for LineDef {
+    ghost use Rattle.map_level.specs.Reading.{linedef_under};
+
+    ghost under = { linedef_under };
+
+    fn put_fields(&self, reading: Reading, line: &mut TextLine) {
+        put_index(line, reading, &self.side1);
+        put_index(line, reading, &self.side0);
+        put_word(line, &self.tag);
+        put_word(line, &self.special);
+        put_word(line, &self.flags);
+        put_index(line, reading, &self.v2);
+        put_index(line, reading, &self.v1);
+    }
+}
+
+impl Shown for SideDef {
+    ghost use Rattle.map_level.specs.Reading.{sidedef_under};
+
+    ghost under = { sidedef_under };
+
+    fn put_fields(&self, reading: Reading, line: &mut TextLine) {
+        put_index(line, reading, &self.sector);
+        put_name(line, &self.middle);
+        put_name(line, &self.bottom);
+        put_name(line, &self.top);
+        put_word(line, &self.yoff);
+        put_word(line, &self.xoff);
+    }
+}
+
+impl Shown for Vertex {
+    ghost under = { λ reading r. r };
+
+    fn put_fields(&self, _reading: Reading, line: &mut TextLine) {
+        put_word(line, &self.y);
+        put_word(line, &self.x);
+    }
+}
+
+impl Shown for Seg {
+    ghost use Rattle.map_level.specs.Reading.{seg_under};
+
+    ghost under = { seg_under };
+
+    fn put_fields(&self, reading: Reading, line: &mut TextLine) {
+        put_word(line, &self.offset);
+        put_word(line, &self.side);
+        put_index(line, reading, &self.linedef);
+        put_word(line, &self.angle);
+        put_index(line, reading, &self.v2);
+        put_index(line, reading, &self.v1);
+    }
+}
+
+impl Shown for SSector {
+    ghost use Rattle.map_level.specs.Reading.{ssector_under};
+
+    ghost under = { ssector_under };
+
+    fn put_fields(&self, reading: Reading, line: &mut TextLine) {
+        put_index(line, reading, &self.first);
+        put_index(line, reading, &self.count);
+    }
+}
+
+impl Shown for Node {
+    ghost under = { λ reading r. r };
+
+    fn put_fields(&self, _reading: Reading, line: &mut TextLine) {
+        put_child(line, &self.child1);
+        put_child(line, &self.child0);
+        put_box(line, &self.box1);
+        put_box(line, &self.box0);
+        put_word(line, &self.dy);
+        put_word(line, &self.dx);
+        put_word(line, &self.y);
+        put_word(line, &self.x);
+    }
+}
+
+impl Shown for Sector {
+    ghost under = { λ reading r. r };
+
+    fn put_fields(&self, _reading: Reading, line: &mut TextLine) {
+        put_word(line, &self.tag);
+        put_word(line, &self.special);
+        put_word(line, &self.light);
+        put_name(line, &self.ceiling_name);
+        put_name(line, &self.floor_name);
+        put_word(line, &self.ceiling);
+        put_word(line, &self.floor);
+    }
+}

@@ -2,11 +2,10 @@
 use Rattle.std.specs.Prelude.{ℕ, Bool, Result, Ok, Err}
 use Rattle.wad_look.specs.Status.{status_of}
 use Rattle.wadlook.specs.declared.refusal.Refusal.{Refusal}
-use Rattle.wadlook.specs.declared.refusal.Refusal.TheVariants.{Usage, File, Run}
+use Rattle.wadlook.specs.declared.refusal.Refusal.TheVariants.{Run}
 
--- 2 where the words or a file were refused, and else that of the run
+-- that of the run, and 2 where the words or a file were refused
 abbrev pub exit_status_of : Result Bool Refusal → ℕ
 exit_status_of (Ok clean) = status_of (Ok clean)
-exit_status_of (Err Usage) = 2
-exit_status_of (Err (File _ fault)) = status_of (Err fault)
 exit_status_of (Err (Run fault)) = status_of (Err fault)
+exit_status_of (Err _) = 2

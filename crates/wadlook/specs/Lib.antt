@@ -1,1 +1,4 @@
 pub mod ExitStatus
+pub mod Files
+pub mod Program
+pub mod Tied

@@ -1,39 +1,97 @@
-//! The WAD files of a run.
-ghost use Rattle.std.specs.Prelude.{◌≡◌, ◌≤◌, length, IfOk, vec_len};
+//! The files of a run.
+ghost use Rattle.std.specs.Prelude.{◌≡◌, ◌≤◌, length, vec_len, map, string_bytes, Some, IfOk, IfErr};
+ghost use Rattle.std.specs.Io.KnownBytes.{Keeps};
+ghost use Rattle.wad_look.specs.Opening.{bytes_of};
+ghost use Rattle.wadlook.specs.Files.{AreHeld, RefusesFile, RefusesPaths, most_bytes, total_length};
 
 use crate::refusal::Refusal;
-use le_rec::FromRead;
-use std::alloc::AllocError;
+use le_rec::{EndFault, FromRead, Source};
+use std::alloc::Global;
 use std::fs::File;
 use std::rt::Files;
 use wad_look::{RunFault, read_all};
 
 /// The most bytes of all files together.
-const FILES_LIMIT: u64 = 268_435_456;
+const MOST_BYTES: u64 = 268_435_456;
 
-/// Reads the files whole and in order. A file named twice counts twice towards the limit.
-pub fn read_files<R: Files + AllocGlobal>(rt: &R, paths: &[String]) -> Result<Vec<Vec<u8>>, Refusal>
-    ensures { IfOk result (λ files. vec_len files ≡ length paths.now) }
+/// Where files are opened by their paths.
+pub trait Storage {
+    ghost use Rattle.std.specs.Prelude.{◌≡◌, ℕ, List, Option, IfOk, false};
+    ghost use Rattle.std.specs.Io.KnownBytes.{Keeps};
+
+    type File: Source + Drop;
+
+    /// The bytes of the file under a path, where they are known.
+    ghost held: { Self → List ℕ → Option (List ℕ) };
+
+    /// The file under `path`, from its first byte on.
+    fn open(&self, path: &str) -> Result<Self::File, EndFault>
+        ensures held { IfOk result (λ file. Keeps (held self.now path.now) (Self.File.state file).left) }
+        ensures fresh { IfOk result (λ file. (Self.File.state file).failed ≡ false) };
+}
+
+/// The files of the machine. No clause knows what they hold.
+#[derive(Drop)]
+pub struct Disk<'a, R: Files>(pub &'a R);
+
+impl<R: Files> Storage for Disk<'_, R> {
+    ghost use Rattle.std.specs.Prelude.{None};
+
+    type File = FromRead<R::File>;
+
+    ghost held = { λ _ _. None };
+
+    fn open(&self, path: &str) -> Result<FromRead<R::File>, EndFault> {
+        match File::open(self.0, path) {
+            Ok(file) => Ok(FromRead::new(file)),
+            Err(_) => Err(EndFault),
+        }
+    }
+}
+
+/// Reads the files under the paths whole and in order. A file named twice counts twice towards the limit.
+pub fn read_files<S: Storage>(
+    alloc: Global,
+    storage: &S,
+    paths: &[String],
+) -> Result<Vec<Vec<u8>>, Refusal>
+    ensures held { IfOk result (λ files. AreHeld (S.held storage.now)
+        (map string_bytes paths.now) (bytes_of files.items)) }
+    ensures count { IfOk result (λ files. vec_len files ≡ length paths.now) }
+    ensures few { IfOk result (λ files. total_length (bytes_of files.items) ≤ most_bytes) }
+    ensures refused { IfErr result (RefusesPaths (S.held storage.now) (map string_bytes paths.now)) }
 {
-    let mut files = Vec::new(rt.alloc());
-    let mut left = FILES_LIMIT;
-    for path in paths {
-        let file = match read_file(rt, path.as_str(), left) {
+    let mut files = Vec::new(alloc);
+    let mut left = MOST_BYTES;
+    for (i, path) in paths.iter().enumerate() {
+        let file = match read_file(alloc, storage, path.as_str(), left) {
             Ok(file) => file,
             Err(RunFault::Memory) => return Err(Refusal::Run(RunFault::Memory)),
-            Err(fault) => return Err(Refusal::File(files.len() + 1, fault)),
+            Err(RunFault::TooLong) => return Err(Refusal::TooLong(i + 1)),
+            Err(_) => return Err(Refusal::Unreadable(i + 1)),
         };
-        left = left.saturating_sub(file.len() as u64);
-        files.push(file).map_err(AllocError::from)?;
+        left -= file.len() as u64;
+        let Ok(()) = files.push(file) else {
+            return Err(Refusal::Run(RunFault::Memory));
+        };
     }
     Ok(files)
 }
 
-fn read_file<R: Files + AllocGlobal>(rt: &R, path: &str, limit: u64) -> Result<Vec<u8>, RunFault>
-    requires { limit ≤ 268435456 }
+// Reads a file of at most `limit` bytes.
+fn read_file<S: Storage>(
+    alloc: Global,
+    storage: &S,
+    path: &str,
+    limit: u64,
+) -> Result<Vec<u8>, RunFault>
+    requires { limit ≤ most_bytes }
+    ensures held { IfOk result (λ file. Keeps (S.held storage.now path.now) (Some file.items)) }
+    ensures few { IfOk result (λ file. vec_len file ≤ limit) }
+    ensures refused { IfErr result (RefusesFile (S.held storage.now path.now) limit) }
 {
-    match File::open(rt, path) {
-        Ok(file) => read_all(rt.alloc(), &mut FromRead::new(file), limit),
-        Err(_) => Err(RunFault::Read),
+    match storage.open(path) {
+        Ok(mut file) => read_all(alloc, &mut file, limit),
+        Err(EndFault) => Err(RunFault::Read),
     }
 }

@@ -1,19 +1,18 @@
-//! The program `wadlook`: it reads its words and its files, runs the engine of the command over them, and tells how
-//! that ended.
+//! The program `wadlook`: it reads its words and its files, runs the command over them, and tells how that ended.
 #![tactic(auto)]
 
 mod files;
+mod program;
 mod refusal;
 mod tied;
 
-use files::read_files;
-use le_rec::{FromRead, ToWrite};
+use files::Disk;
+use program::do_words;
 use refusal::{Refusal, exit_status};
 use std::process::ExitCode;
 use std::rt::{Env, Files};
 use std::{env, io};
-use tied::{TiedReader, TiedWriter};
-use wad_look::{RunFault, job};
+use wad_look::RunFault;
 
 fn main(rt: HostRuntime) -> ExitCode {
     let outcome = run(&rt);
@@ -24,7 +23,7 @@ fn main(rt: HostRuntime) -> ExitCode {
     ExitCode::from(exit_status(&outcome))
 }
 
-// Does what the words ask for: whether it was done without a fault found.
+// Does what the program's words ask for; with none it says which there are.
 fn run<R: Env + Files + Input + Print + AllocGlobal>(rt: &R) -> Result<bool, Refusal> {
     let words = read_words(rt)?;
     if words.is_empty() {
@@ -32,13 +31,7 @@ fn run<R: Env + Files + Input + Print + AllocGlobal>(rt: &R) -> Result<bool, Ref
             .map_err(|_| RunFault::Write)?;
         return Ok(true);
     }
-    let job = job(&words).ok_or(Refusal::Usage)?;
-    let files = read_files(rt, job.paths(&words))?;
-    let output = TiedWriter::new(rt.alloc(), io::writer(rt))?;
-    let mut input = FromRead::new(TiedReader::new(rt.reader(), &output));
-    let mut out = ToWrite::new(&output);
-    let outcome = wad_look::run(rt.alloc(), &words, job, &files, &mut input, &mut out);
-    Ok(output.close(outcome)?)
+    do_words(rt.alloc(), &words, &Disk(rt), rt.reader(), io::writer(rt))
 }
 
 // The words after the program's name.

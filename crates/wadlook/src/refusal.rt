@@ -12,15 +12,33 @@ pub enum Refusal {
     /// The words are no form of a command.
     #[error("usage")]
     Usage,
-    /// The file of this number, counted from 1, can't be opened or read, or is too long.
-    #[error("file {0}: {1}")]
-    File(usize, RunFault),
+    /// The file of this number, counted from 1, can't be opened or read.
+    #[error("file {0}: read")]
+    Unreadable(usize),
+    /// The file of this number has more bytes than those before it leave of the most that are read.
+    #[error("file {0}: too long")]
+    TooLong(usize),
     /// The run stopped.
     #[error("{0}")]
-    Run(#[from] RunFault),
+    Run(RunFault),
+}
+
+impl From<RunFault> for Refusal {
+    ghost use Rattle.wadlook.specs.declared.refusal.Refusal.TheVariants.{Run};
+
+    ghost from_gives = { λ fault refusal. refusal ≡ Run fault };
+
+    fn from(fault: RunFault) -> Refusal {
+        Refusal::Run(fault)
+    }
 }
 
 impl From<AllocError> for Refusal {
+    ghost use Rattle.wad_look.specs.declared.fault.RunFault.TheVariants.{Memory};
+    ghost use Rattle.wadlook.specs.declared.refusal.Refusal.TheVariants.{Run};
+
+    ghost from_gives = { λ _ refusal. refusal ≡ Run Memory };
+
     fn from(_error: AllocError) -> Refusal {
         Refusal::Run(RunFault::Memory)
     }
@@ -32,8 +50,8 @@ pub fn exit_status(outcome: &Result<bool, Refusal>) -> u8
 {
     match *outcome {
         Ok(clean) => status(&Ok(clean)),
-        Err(Refusal::Usage) => 2,
-        Err(Refusal::File(_, fault) | Refusal::Run(fault)) => status(&Err(fault)),
+        Err(Refusal::Run(fault)) => status(&Err(fault)),
+        Err(Refusal::Usage | Refusal::Unreadable(_) | Refusal::TooLong(_)) => 2,
     }
 }
 
@@ -46,9 +64,9 @@ mod tests {
     fn refusals(rt: HostRuntime) -> Result<(), Fail> {
         for (refusal, text, want) in [
             (Refusal::Usage, "usage", 2),
-            (Refusal::File(2, RunFault::Read), "file 2: read", 2),
-            (Refusal::File(1, RunFault::TooLong), "file 1: too long", 2),
-            (Refusal::Run(RunFault::Write), "write", 2),
+            (Refusal::Unreadable(2), "file 2: read", 2),
+            (Refusal::TooLong(1), "file 1: too long", 2),
+            (Refusal::from(RunFault::Write), "write", 2),
             (Refusal::from(AllocError), "memory", 3),
         ] {
             assert_eq!(rt; refusal.to_string(rt.alloc())?.as_str(), text);

@@ -2,7 +2,7 @@
 ghost use Rattle.std.specs.Prelude.{◌≡◌, ◌⊎◌, Err};
 ghost use Rattle.wad_look.specs.declared.fault.RunFault.TheVariants.{Write as WriteFault};
 
-use std::alloc::Global;
+use std::alloc::{AllocError, Global};
 use std::cell::{Cell, RefCell, RefMut};
 use std::io;
 use std::io::{BufWriter, Read, Write};
@@ -20,14 +20,14 @@ pub struct TiedWriter<W: Write + Drop> {
 }
 
 impl<W: Write + Drop> TiedWriter<W> {
-    /// A writer that gathers its bytes in a buffer; `Memory` where there is none for the buffer.
-    pub fn new(alloc: Global, writer: W) -> Result<Self, RunFault> {
+    /// A writer that gathers its bytes in a buffer, where there is memory for one.
+    pub fn new(alloc: Global, writer: W) -> Result<Self, AllocError> {
         match BufWriter::with_capacity(alloc, BUFFER, writer) {
             Ok(buffer) => Ok(TiedWriter {
                 buffer: RefCell::new(buffer),
                 failed: Cell::new(false),
             }),
-            Err(_) => Err(RunFault::Memory),
+            Err(_) => Err(AllocError),
         }
     }
 
@@ -77,13 +77,21 @@ pub struct TiedReader<'a, R: Read, W: Write + Drop> {
 }
 
 impl<'a, R: Read, W: Write + Drop> TiedReader<'a, R, W> {
+    ghost use Rattle.wadlook.specs.Tied.{tied_reader_of};
+
     /// A reader that has `writer` write out its buffer before each read.
-    pub fn new(reader: R, writer: &'a TiedWriter<W>) -> Self {
+    pub fn new(reader: R, writer: &'a TiedWriter<W>) -> Self
+        ensures { tied_reader_of result ≡ reader }
+    {
         TiedReader { reader, writer }
     }
 }
 
 impl<'a, R: Read, W: Write + Drop> Read for TiedReader<'a, R, W> {
+    ghost use Rattle.wadlook.specs.Tied.{tied_reader_of};
+
+    ghost remaining = { λ tied. R.remaining (tied_reader_of tied) };
+
     fn read(&mut self, buf: &mut [u8]) -> io::Result<usize> {
         self.writer.empty()?;
         self.reader.read(buf)

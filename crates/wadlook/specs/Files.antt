@@ -1,0 +1,46 @@
+-- The files of a run (ours): what they hold, and how much of it is read.
+use Rattle.std.specs.Prelude.{◌≡◌, ℕ, ◌+◌, ◌<◌, ◌≤◌, List, [], ◌∷◌, ◌++◌, length, sum_by, Option, Some, IfSome, ⊤}
+use Rattle.std.specs.Io.KnownBytes.{Keeps}
+use Rattle.wad_look.specs.declared.fault.RunFault.{RunFault}
+use Rattle.wad_look.specs.declared.fault.RunFault.TheVariants as fault
+use Rattle.wadlook.specs.declared.refusal.Refusal.{Refusal}
+use Rattle.wadlook.specs.declared.refusal.Refusal.TheVariants.{Unreadable, TooLong, Run}
+
+-- the most bytes of all files together
+abbrev pub most_bytes : ℕ
+most_bytes = 268435456
+
+-- how many bytes files have together
+abbrev pub total_length : List (List ℕ) → ℕ
+total_length files = sum_by length files
+
+-- the files are what is held under the paths, in order, where that is known
+abbrev pub AreHeld : (List ℕ → Option (List ℕ)) → List (List ℕ) → List (List ℕ) → Type 0
+AreHeld held [] [] = ⊤
+AreHeld held (path ∷ paths) (file ∷ files) = Keeps (held path) (Some file) × AreHeld held paths files
+AreHeld held _ _ = ⊥
+
+-- file n, counted from 1, has more bytes than those before it leave
+pub record IsTooLong (held : List ℕ → Option (List ℕ)) (paths : List (List ℕ)) (n : ℕ) : Type 0 where
+  pub before : List (List ℕ)
+  pub path : List ℕ
+  pub after : List (List ℕ)
+  pub stands : paths ≡ before ++ path ∷ after
+  pub number : n ≡ length before + 1
+  pub files : List (List ℕ)
+  pub read : AreHeld held before files
+  pub over : IfSome (held path) (λ file. most_bytes < total_length files + length file)
+
+-- why the files aren't read: one of them can't be, they are too long, or a growth was refused
+abbrev pub RefusesPaths : (List ℕ → Option (List ℕ)) → List (List ℕ) → Refusal → Type 0
+RefusesPaths held paths (Unreadable n) = (0 < n) × (n ≤ length paths)
+RefusesPaths held paths (TooLong n) = IsTooLong held paths n
+RefusesPaths held paths (Run fault.Memory) = ⊤
+RefusesPaths held paths _ = ⊥
+
+-- why one file isn't read where there is room for `limit` bytes
+abbrev pub RefusesFile : Option (List ℕ) → ℕ → RunFault → Type 0
+RefusesFile held limit fault.TooLong = IfSome held (λ file. limit < length file)
+RefusesFile held limit fault.Read = ⊤
+RefusesFile held limit fault.Memory = ⊤
+RefusesFile held limit _ = ⊥

@@ -1,0 +1,50 @@
+-- What the program does with its words (ours).
+use Rattle.std.specs.Prelude.{◌≡◌, ◌⊎◌, ℕ, Bool, List, drop, Option, Result, Ok, Err}
+use Rattle.le_rec.specs.Sink.{SinkState}
+use Rattle.le_rec.specs.Source.{SourceState}
+use Rattle.wad_look.specs.Commands.{RunsJob}
+use Rattle.wad_look.specs.Job.{IsJob}
+use Rattle.wad_look.specs.declared.command.Job.{Job}
+use Rattle.wad_look.specs.declared.fault.RunFault.{RunFault}
+use Rattle.wad_look.specs.declared.fault.RunFault.TheVariants.{Write}
+use Rattle.wadlook.specs.Files.{AreHeld, RefusesPaths}
+use Rattle.wadlook.specs.declared.refusal.Refusal.{Refusal}
+use Rattle.wadlook.specs.declared.refusal.Refusal.TheVariants.{Usage, Run}
+
+-- the end of a run, as that of the program
+abbrev pub program_end : Result Bool RunFault → Result Bool Refusal
+program_end (Ok clean) = Ok clean
+program_end (Err fault) = Err (Run fault)
+
+-- the job's command runs over these files, from an input that has the bytes `left`, where they are known; the program
+-- ends as it does, or because the output can't be written
+pub record RunsFiles {S W : Type 0} (source : S → SourceState) (sink : W → SinkState) (left : Option (List ℕ)) (words : List (List ℕ)) (job : Job) (files : List (List ℕ)) (result : Result Bool Refusal) : Type 0 where
+  pub input : S
+  pub input' : S
+  pub out : W
+  pub out' : W
+  pub given : (source input).left ≡ left
+  pub outcome : Result Bool RunFault
+  pub runs : RunsJob source sink words job files input input' out out' outcome
+  pub ended : (result ≡ program_end outcome) ⊎ (result ≡ Err (Run Write))
+
+-- why no command runs: the words are no form of one, or their files aren't read
+abbrev pub RefusesWords : (List ℕ → Option (List ℕ)) → List (List ℕ) → Refusal → Type 0
+RefusesWords held words Usage = (job : Job) → ¬ IsJob words job
+RefusesWords held words refusal = (job : Job) × IsJob words job × RefusesPaths held (drop job.first words) refusal
+
+-- a command ran over the files of the words, or none did
+pub record RunsWords {S W : Type 0} (source : S → SourceState) (sink : W → SinkState) (held : List ℕ → Option (List ℕ)) (left : Option (List ℕ)) (words : List (List ℕ)) (result : Result Bool Refusal) : Type 0 where
+  pub job : Job
+  pub asked : IsJob words job
+  pub files : List (List ℕ)
+  pub read : AreHeld held (drop job.first words) files
+  pub runs : RunsFiles source sink left words job files result
+
+pub record IsRefused (held : List ℕ → Option (List ℕ)) (words : List (List ℕ)) (result : Result Bool Refusal) : Type 0 where
+  pub refusal : Refusal
+  pub ended : result ≡ Err refusal
+  pub holds : RefusesWords held words refusal
+
+abbrev pub DoesWords : {S W : Type 0} → (S → SourceState) → (W → SinkState) → (List ℕ → Option (List ℕ)) → Option (List ℕ) → List (List ℕ) → Result Bool Refusal → Type 0
+DoesWords source sink held left words result = IsRefused held words result ⊎ RunsWords source sink held left words result

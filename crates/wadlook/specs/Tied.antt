@@ -1,0 +1,22 @@
+-- What clauses see of ends that are tied to one another: the input has the bytes of the reader inside, and of the output
+-- no bytes are known.
+use Rattle.std.specs.Prelude.{ℕ, List, Option, None}
+use Rattle.std.specs.Borrow.{Bor}
+use Rattle.le_rec.specs.Sink.{SinkState, put_failed}
+use Rattle.le_rec.specs.Source.{SourceState, pull_failed, reader_of}
+use Rattle.le_rec.specs.declared.from_read.FromRead.{FromRead}
+use Rattle.le_rec.specs.declared.to_write.ToWrite.{ToWrite}
+use Rattle.wadlook.specs.declared.tied.TiedReader.{TiedReader}
+use Rattle.wadlook.specs.declared.tied.TiedWriter.{TiedWriter}
+
+-- the reader inside
+abbrev pub tied_reader_of : {R W : Type 0} → TiedReader R W → R
+tied_reader_of tied = tied.reader
+
+-- the state of an input, where `remaining` is what is known of a reader's bytes
+abbrev pub tied_source : (R W : Type 0) → (R → Option (List ℕ)) → FromRead (TiedReader R W) → SourceState
+tied_source R W remaining input = record { left = remaining (tied_reader_of (reader_of input)); failed = pull_failed input }
+
+-- the state of an output
+abbrev pub tied_sink : (W : Type 0) → ToWrite (Bor (TiedWriter W)) → SinkState
+tied_sink W out = record { taken = None; failed = put_failed out }

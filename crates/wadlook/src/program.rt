@@ -1,5 +1,5 @@
 //! What the words ask for, over any files, reader and writer.
-ghost use Rattle.std.specs.Prelude.{◌≡◌, ◌+◌, ◌⊎◌, Err, length, drop, map, string_bytes};
+ghost use Rattle.std.specs.Prelude.{◌≡◌, ◌+◌, ◌⊎◌, Err, length, map, string_bytes};
 ghost use Rattle.wad_look.specs.Job.{IsJob};
 ghost use Rattle.wad_look.specs.Opening.{bytes_of};
 ghost use Rattle.wad_look.specs.declared.fault.RunFault.TheVariants.{Memory};
@@ -28,17 +28,8 @@ pub fn do_words<D: Storage, I: Read + Drop, O: Write + Drop>(
     let Some(job) = job(words) else {
         return Err(Refusal::Usage);
     };
-    let files = read_files(alloc, storage, paths_of(words, job))?;
+    let files = read_files(alloc, storage, job.paths(words))?;
     run_files(alloc, words, job, &files, reader, writer)
-}
-
-// The files that the words name.
-fn paths_of(words: &[String], job: Job) -> &[String]
-    requires { IsJob (map string_bytes words.now) job }
-    ensures paths { map string_bytes result.now ≡ drop job.first (map string_bytes words.now) }
-    ensures count { job.first + length result.now ≡ length words.now }
-{
-    &words[job.first..]
 }
 
 // Runs the command over its files, with the ends tied to one another.

@@ -1,3 +1,4 @@
+pub mod Commands
 pub mod Engines
 pub mod Faults
 pub mod Job

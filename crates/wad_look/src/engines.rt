@@ -5,12 +5,11 @@ pub mod lumps;
 pub mod points;
 pub mod show;
 
-ghost use Rattle.std.specs.Prelude.{◌≡◌, ◌+◌, ◌-◌, ◌≤◌, [], false, length, map, slice_index_or, string_bytes};
-ghost use Rattle.wad_look.specs.Engines.Lumps.{RunsLumps};
-ghost use Rattle.wad_look.specs.Engines.Points.{RunsPoints};
-ghost use Rattle.wad_look.specs.Job.{IsJob, name_in, reading_of};
+ghost use Rattle.std.specs.Prelude.{◌≡◌, ◌+◌, false, length, map, string_bytes};
+ghost use Rattle.wad_look.specs.Commands.{RunsJob};
+ghost use Rattle.wad_look.specs.Job.{IsJob, name_in};
 ghost use Rattle.wad_look.specs.Opening.{bytes_of};
-ghost use Rattle.wad_look.specs.Runs.{EndsAs, done};
+ghost use Rattle.wad_look.specs.Runs.{done};
 
 use crate::command::{Cmd, Job};
 use crate::fault::RunFault;
@@ -36,11 +35,8 @@ pub fn run<A: Allocator + Copy, S: Source, W: Sink>(
     requires files { job.first + length files.now ≡ length words.now }
     requires input { (S.state input.old).failed ≡ false }
     requires out { (W.state out.old).failed ≡ false }
-    ensures lumps { job.command ≡ Cmd.Lumps → (input.new ≡ input.old)
-        × EndsAs (RunsLumps W.state (bytes_of files.now) out.old out.new) result }
-    ensures points { job.command ≡ Cmd.Points
-        → EndsAs (RunsPoints S.state W.state (bytes_of files.now) (name_in (map string_bytes words.now) job)
-        (reading_of job) INPUT_LIMIT input.old input.new out.old out.new) result }
+    ensures { RunsJob S.state W.state (map string_bytes words.now) job (bytes_of files.now)
+        input.old input.new out.old out.new result }
 {
     match job.command {
         Cmd::Lumps => done(lumps(alloc, files, out)),

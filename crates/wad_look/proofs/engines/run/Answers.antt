@@ -1,9 +1,5 @@
-use Rattle.std.proofs.Common.{◌∙◌}
+use Rattle.std.proofs.Common.{rules}
 use Rattle.wad_look.proofs.engines.run.Goals as goal
 
-pub returns-in-Points-clause-points : goal.returns-in-Points-clause-points
-returns-in-Points-clause-points g c = λ is. record {
-  outcome = c.points.result;
-  runs = rw (← c.as_bytes-name.ensures.value ∙ c.name_of.ensures, ← c.reading.ensures) c.points.ensures;
-  ended = c.done-in-Points.ensures;
-}
+pub returns-in-Points : goal.returns-in-Points
+returns-in-Points g c = rw c.in-Points.is (search rules)

@@ -1,0 +1,24 @@
+-- What each command does.
+use Rattle.std.specs.Prelude.{◌≡◌, ℕ, Bool, List, Result}
+use Rattle.le_rec.specs.Sink.{SinkState}
+use Rattle.le_rec.specs.Source.{SourceState}
+use Rattle.wad_look.specs.Engines.Lumps.{RunsLumps}
+use Rattle.wad_look.specs.Engines.Points.{RunsPoints}
+use Rattle.wad_look.specs.Job.{name_in, reading_of}
+use Rattle.wad_look.specs.Runs.{EndsAs}
+use Rattle.wad_look.specs.declared.engines.TheConstants.{INPUT_LIMIT}
+use Rattle.wad_look.specs.declared.command.Cmd.{Cmd}
+use Rattle.wad_look.specs.declared.command.Cmd.TheVariants.{Lumps, Points}
+use Rattle.wad_look.specs.declared.command.Job.{Job}
+use Rattle.wad_look.specs.declared.fault.RunFault.{RunFault}
+
+-- over files of these bytes, a source and a sink, of which clauses see their states: a command of files leaves the input alone
+abbrev pub RunsCommand : {S W : Type 0} → (S → SourceState) → (W → SinkState) → Cmd → List (List ℕ) → Job → List (List ℕ) → S → S → W → W → Result Bool RunFault → Type 0
+RunsCommand source sink Lumps words job bytes input input' out out' result =
+    (input' ≡ input) × EndsAs (RunsLumps sink bytes out out') result
+RunsCommand source sink Points words job bytes input input' out out' result =
+    EndsAs (RunsPoints source sink bytes (name_in words job) (reading_of job) INPUT_LIMIT input input' out out') result
+
+-- the command of the job
+abbrev pub RunsJob : {S W : Type 0} → (S → SourceState) → (W → SinkState) → List (List ℕ) → Job → List (List ℕ) → S → S → W → W → Result Bool RunFault → Type 0
+RunsJob source sink words job = RunsCommand source sink job.command words job

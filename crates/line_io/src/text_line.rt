@@ -7,7 +7,7 @@ use itoa::write_digits;
 use std::marker::Model;
 
 /// The most bytes of a line.
-const ROOM: usize = 128;
+const ROOM: usize = 144;
 
 /// A line of text in the making, kept on the stack. It is filled from its end to its start, so that the digits of a
 /// number are written where they stay. Contracts see the bytes so far.
@@ -24,7 +24,7 @@ impl Model for TextLine {
 
     ghost view = { λ line. drop line.start line.bytes };
 
-    ghost invariant = { λ line. (line.start ≤ 128) × (length line.bytes ≡ 128) };
+    ghost invariant = { λ line. (line.start ≤ 144) × (length line.bytes ≡ 144) };
 }
 
 impl TextLine {

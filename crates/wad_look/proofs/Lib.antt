@@ -1,6 +1,5 @@
 pub mod JobLemmas
 pub mod LumpsLemmas
 pub mod PointsLemmas
-pub mod SmallLemmas
 pub mod ShowLemmas
 pub mod ExtractLemmas

@@ -2,7 +2,7 @@
 use Rattle.std.specs.Prelude.{◌≡◌, ℕ, ◌+◌, ℤ, List, [], ◌∷◌, ◌++◌, length, slice_index_or, Result, codes}
 use Rattle.std.specs.Fmt.{decimal, signed_decimal}
 use Rattle.std.specs.List.{flat_map}
-use Rattle.le_rec.specs.Layout.{Field, i16, u16, i32, name, bounds, Value, Values, Layout}
+use Rattle.le_rec.specs.Layout.{Field, i16, u16, i32, magic, name, bounds, Value, Values, Layout}
 use Rattle.le_rec.specs.Name.{name_of, shown_name}
 use Rattle.le_rec.specs.Record.{thing_layout, linedef_layout, sidedef_layout, vertex_layout, seg_layout, ssector_layout, node_layout, sector_layout}
 use Rattle.le_rec.specs.Sink.{SinkState}
@@ -26,11 +26,12 @@ numbers_text numbers = flat_map number_text numbers
 abbrev pub name_text : List ℕ → List ℕ
 name_text bytes = codes " " ++ shown_name (name_of bytes)
 
--- what a field holds, a space before it: a number, a name, or the four numbers of a box
+-- what a field holds, a space before it: a number, a magic or a name as it is shown, or the four numbers of a box
 abbrev pub field_text : (field : Field) → Value field → List ℕ
 field_text i16 number = number_text number
 field_text u16 number = codes " " ++ decimal number
 field_text i32 number = number_text number
+field_text magic bytes = name_text bytes
 field_text name bytes = name_text bytes
 field_text bounds box = numbers_text box
 

@@ -3,3 +3,4 @@ pub mod LumpsLemmas
 pub mod PointsLemmas
 pub mod ShowLemmas
 pub mod ExtractLemmas
+pub mod SightLemmas

@@ -3,3 +3,4 @@ pub mod Lumps
 pub mod Points
 pub mod Show
 pub mod Extract
+pub mod Sight

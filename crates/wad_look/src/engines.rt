@@ -4,6 +4,7 @@ pub mod extract;
 pub mod lumps;
 pub mod points;
 pub mod show;
+pub mod sight;
 
 ghost use Rattle.std.specs.Prelude.{◌≡◌, ◌+◌, false, length, map, string_bytes};
 ghost use Rattle.wad_look.specs.Commands.{RunsJob};

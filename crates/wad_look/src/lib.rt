@@ -16,6 +16,7 @@ pub use engines::extract::extract;
 pub use engines::lumps::lumps;
 pub use engines::points::points;
 pub use engines::show::show;
+pub use engines::sight::sight;
 pub use engines::{INPUT_LIMIT, run};
 pub use fault::RunFault;
 pub use input::read_all;

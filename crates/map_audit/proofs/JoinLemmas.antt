@@ -13,7 +13,7 @@ use Rattle.map_level.specs.LinkFaults.{LinkHolds}
 use Rattle.map_level.specs.declared.finding.Finding.{Finding}
 use Rattle.map_tree.specs.TreeFaults.{TreeHolds}
 use Rattle.map_tables.specs.TableFaults.{TableHolds}
-use Rattle.map_audit.specs.Findings.{Holds, AreBetween}
+use Rattle.map_audit.specs.Findings.{AuditHolds, AreBetween}
 use Rattle.map_level.proofs.FindingLemmas.{place-below}
 use Rattle.map_audit.proofs.PartLemmas.{link_place, node_place, table_place}
 
@@ -120,20 +120,20 @@ module _ (level : Level) (links nodes tables : List Finding) (of_links : AreFind
   from_e f h = subst (λ xs. Contains xs f) (sym nodes_cut) (Contains-append_right d e f h)
 
   -- a run holds what holds of the level
-  link_holds : (f : Finding) → Contains links f → Holds level f.code f.index
+  link_holds : (f : Finding) → Contains links f → AuditHolds level f.code f.index
   link_holds f h = inl ((of_links.exact f).0 h)
 
-  node_holds : (f : Finding) → Contains nodes f → Holds level f.code f.index
+  node_holds : (f : Finding) → Contains nodes f → AuditHolds level f.code f.index
   node_holds f h = inr (inl ((of_nodes.exact f).0 h))
 
-  table_holds : (f : Finding) → Contains tables f → Holds level f.code f.index
+  table_holds : (f : Finding) → Contains tables f → AuditHolds level f.code f.index
   table_holds f h = inr (inr ((of_tables.exact f).0 h))
 
   -- the runs in the order of their codes
   all_runs : List Finding
   all_runs = a ++ (d ++ (b ++ (e ++ (tables ++ (c ++ [])))))
 
-  exact_runs : (f : Finding) → Contains all_runs f ↔ Holds level f.code f.index
+  exact_runs : (f : Finding) → Contains all_runs f ↔ AuditHolds level f.code f.index
   unfolding all_runs
   exact_runs f = (
     (λ h. elim (Contains-append_cases a _ f h) [
@@ -182,7 +182,7 @@ module _ (level : Level) (links nodes tables : List Finding) (of_links : AreFind
   low_of xs f p h = (All-contains (λ (g : Finding). (10 ≤ place g.code) × (place g.code < 30)) xs f p.each h).0
 
   pub joined_runs : AreBetween 0 10 a → AreBetween 10 30 rest → AreBetween 0 24 b → AreBetween 24 30 c → AreBetween 0 18 d → AreBetween 18 30 e
-      → AreFindings (Holds level) (a ++ (d ++ (b ++ (e ++ (tables ++ (c ++ []))))))
+      → AreFindings (AuditHolds level) (a ++ (d ++ (b ++ (e ++ (tables ++ (c ++ []))))))
   unfolding all_runs
   joined_runs in_a in_rest in_b in_c in_d in_e =
       let place_of_link : (f : Finding) → Contains links f → _ = λ f h. link_place level f.code f.index ((of_links.exact f).0 h) in

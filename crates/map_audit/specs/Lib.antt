@@ -1,2 +1,4 @@
 pub mod Findings
 pub mod Refusal
+pub mod Readings
+pub mod Laws

@@ -3,7 +3,7 @@ ghost use Rattle.map_level.specs.Findings.{AreFindings};
 ghost use Rattle.map_level.specs.LinkFaults.{LinkHolds};
 ghost use Rattle.map_tree.specs.TreeFaults.{TreeHolds};
 ghost use Rattle.map_tree.specs.Sound.{IsSound};
-ghost use Rattle.map_audit.specs.Findings.{Holds};
+ghost use Rattle.map_audit.specs.Findings.{AuditHolds};
 ghost use Rattle.map_audit.specs.Refusal.{Refuses};
 
 use crate::report::Report;
@@ -59,7 +59,7 @@ fn whole_report<A: Allocator + Copy>(
 ) -> Result<Report<A>, AllocError>
     requires links { AreFindings (LinkHolds level.now) links.now }
     requires nodes { AreFindings (TreeHolds level.now) nodes.now }
-    ensures { IfOk result (AreFindings (Holds level.now)) }
+    ensures { IfOk result (AreFindings (AuditHolds level.now)) }
 {
     let tables = table_findings(alloc, level)?;
     Report::of(alloc, level, links, nodes, &tables)

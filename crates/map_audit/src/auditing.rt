@@ -1,6 +1,6 @@
 ghost use Rattle.std.specs.Prelude.{IfOk};
 ghost use Rattle.map_level.specs.Findings.{AreFindings};
-ghost use Rattle.map_audit.specs.Findings.{Holds};
+ghost use Rattle.map_audit.specs.Findings.{AuditHolds};
 
 use crate::report::Report;
 use map_level::{Level, link_findings};
@@ -10,7 +10,7 @@ use std::alloc::{AllocError, Allocator};
 
 /// All findings of a level.
 pub fn audit<A: Allocator + Copy>(alloc: A, level: &Level<'_>) -> Result<Report<A>, AllocError>
-    ensures { IfOk result (AreFindings (Holds level.now)) }
+    ensures { IfOk result (AreFindings (AuditHolds level.now)) }
 {
     let links = link_findings(alloc, level)?;
     let nodes = tree_findings(alloc, level)?;

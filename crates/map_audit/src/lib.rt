@@ -3,6 +3,7 @@
 
 mod acceptance;
 mod auditing;
+pub mod laws;
 mod report;
 
 pub use acceptance::{Refused, accept};

@@ -4,7 +4,7 @@ ghost use Rattle.map_level.specs.Findings.{place, is_fault, StandsBefore, AreFin
 ghost use Rattle.map_level.specs.LinkFaults.{LinkHolds};
 ghost use Rattle.map_tree.specs.TreeFaults.{TreeHolds};
 ghost use Rattle.map_tables.specs.TableFaults.{TableHolds};
-ghost use Rattle.map_audit.specs.Findings.{Holds, AreBetween};
+ghost use Rattle.map_audit.specs.Findings.{AuditHolds, AreBetween};
 
 use map_level::{Code, Finding, Findings, Level};
 use std::alloc::{AllocError, Allocator, Global};
@@ -37,7 +37,7 @@ impl<A: Allocator> Report<A> {
         requires links { AreFindings (LinkHolds level.now) links.now }
         requires nodes { AreFindings (TreeHolds level.now) nodes.now }
         requires tables { AreFindings (TableHolds level.now) tables.now }
-        ensures { IfOk result (AreFindings (Holds level.now)) }
+        ensures { IfOk result (AreFindings (AuditHolds level.now)) }
     {
         let findings = joined(
             alloc,
@@ -101,7 +101,7 @@ fn joined<A: Allocator>(
     requires links { AreFindings (LinkHolds level.now) links.now }
     requires nodes { AreFindings (TreeHolds level.now) nodes.now }
     requires tables { AreFindings (TableHolds level.now) tables.now }
-    ensures { IfOk result (λ all. AreFindings (Holds level.now) all.items) }
+    ensures { IfOk result (λ all. AreFindings (AuditHolds level.now) all.items) }
 {
     let _level = level;
     let (to_f10, from_f17) = cut(links, Code::F11);

@@ -1,0 +1,301 @@
+//! Audits of levels, and which levels are accepted.
+
+use crate::sample::{base, base_with, base_with_node, lumps, pack};
+use le_rec::Name8;
+use map_audit::{Refused, accept, audit};
+use map_geo::Point;
+use map_level::{Code, Finding, Level, Reading};
+use map_tree::tree_findings;
+use std::process::Abort;
+use std::test::Fail;
+use test_alloc::Refusing;
+use wad_dir::{Packer, Set};
+
+fn finding(code: Code, index: u32) -> Finding {
+    Finding { code, index }
+}
+
+// The level E1M1 of a file has these findings, with so many faults, and is accepted exactly where it has none.
+fn check_under(
+    rt: &(impl Abort + AllocGlobal),
+    file: Vec<u8>,
+    reading: Reading,
+    expected: &[Finding],
+    faults: usize,
+) -> Result<(), Fail> {
+    let files = vec![in rt.alloc(); file]?;
+    let set = Set::new(rt.alloc(), &files)?;
+    let level = Level::open(&set, Name8::query(b"E1M1"), reading)?;
+    let report = audit(rt.alloc(), &level)?;
+    assert_eq!(rt; report.len(), expected.len());
+    for (i, found) in expected.iter().enumerate() {
+        assert_eq!(rt; report.get(i), Some(*found));
+    }
+    assert_eq!(rt; report.faults(), faults);
+    assert_eq!(rt; report.faults() + report.notes(), expected.len());
+    match accept(rt.alloc(), &level) {
+        Ok(_) => assert_eq!(rt; faults, 0),
+        Err(Refused::Memory) => assert!(rt; false, "there is memory"),
+        Err(Refused::Faults(report)) => {
+            assert!(rt; faults > 0);
+            assert_eq!(rt; report.len(), expected.len());
+            assert_eq!(rt; report.get(0), expected.first().copied());
+        }
+    }
+    Ok(())
+}
+
+fn check(
+    rt: &(impl Abort + AllocGlobal),
+    file: Vec<u8>,
+    expected: &[Finding],
+    faults: usize,
+) -> Result<(), Fail> {
+    check_under(rt, file, Reading::Signed, expected, faults)
+}
+
+// The ssector, its side tests and the sector of a point of the level E1M1.
+fn place_of(
+    rt: &(impl Abort + AllocGlobal),
+    file: Vec<u8>,
+    reading: Reading,
+    x: i32,
+    y: i32,
+) -> Result<(u16, u32, u16), Fail> {
+    let files = vec![in rt.alloc(); file]?;
+    let set = Set::new(rt.alloc(), &files)?;
+    let level = Level::open(&set, Name8::query(b"E1M1"), reading)?;
+    let tree = accept(rt.alloc(), &level)?;
+    let point = Point::new(x, y).ok_or("out of range")?;
+    let (ssector, tests) = tree.leaf(point);
+    Ok((ssector, tests, tree.sector(point)))
+}
+
+#[test]
+fn base_points(rt: HostRuntime) -> Result<(), Fail> {
+    check(&rt, base(rt.alloc())?, &[], 0)?;
+    let file = base(rt.alloc())?;
+    assert_eq!(rt; place_of(&rt, file, Reading::Signed, 0, 5)?, (1, 1, 1));
+    let file = base(rt.alloc())?;
+    assert_eq!(rt; place_of(&rt, file, Reading::Wide, 1, 5)?, (0, 1, 0));
+    Ok(())
+}
+
+#[test]
+fn no_direction(rt: HostRuntime) -> Result<(), Fail> {
+    let file = base_with_node(rt.alloc(), 3, 3, 0, 0)?;
+    check(&rt, file, &[finding(Code::N7, 0)], 0)?;
+    let file = base_with_node(rt.alloc(), 3, 3, 0, 0)?;
+    assert_eq!(rt; place_of(&rt, file, Reading::Signed, -9, 7)?, (0, 1, 0));
+    Ok(())
+}
+
+#[test]
+fn no_nodes(rt: HostRuntime) -> Result<(), Fail> {
+    let file = base_with(rt.alloc(), &[(7, &[])])?;
+    check(&rt, file, &[finding(Code::F16, 1)], 1)?;
+    let one: &[(usize, &[u8])] = &[(7, &[]), (6, &[1, 0, 0, 0])];
+    check(&rt, base_with(rt.alloc(), one)?, &[], 0)?;
+    let file = base_with(rt.alloc(), one)?;
+    assert_eq!(rt; place_of(&rt, file, Reading::Signed, -9, 7)?, (0, 0, 0));
+    let file = base_with(rt.alloc(), &[(7, &[]), (6, &[])])?;
+    check(&rt, file, &[finding(Code::F17, 0)], 1)
+}
+
+// Nodes of the sample level's geometry with these children.
+fn nodes_with(rt: &impl AllocGlobal, children: &[(u16, u16)]) -> Result<Vec<u8>, Fail> {
+    let mut nodes = Vec::new(rt.alloc());
+    for (front, back) in children {
+        let (_, node) = lumps()[7];
+        nodes.extend_from_slice(&node[..24])?;
+        nodes.extend_from_slice(&front.to_le_bytes())?;
+        nodes.extend_from_slice(&back.to_le_bytes())?;
+    }
+    Ok(nodes)
+}
+
+const FOUR_SSECTORS: [u8; 16] = [1, 0, 0, 0, 1, 0, 0, 0, 1, 0, 0, 0, 1, 0, 0, 0];
+
+#[test]
+fn nodes_not_reached(rt: HostRuntime) -> Result<(), Fail> {
+    let nodes = nodes_with(&rt, &[(1, 32770), (0, 32771), (32768, 32769)])?;
+    let file = base_with(rt.alloc(), &[(6, &FOUR_SSECTORS), (7, &nodes)])?;
+    let expected = [
+        finding(Code::F14, 0),
+        finding(Code::F14, 1),
+        finding(Code::F16, 2),
+        finding(Code::F16, 3),
+    ];
+    check(&rt, file, &expected, 4)
+}
+
+const LINE_WITHOUT_SIDE_1: [u8; 14] = [0, 0, 1, 0, 4, 0, 0, 0, 0, 0, 0, 0, 255, 255];
+
+#[test]
+fn side_missing(rt: HostRuntime) -> Result<(), Fail> {
+    let expected = [finding(Code::F9, 1), finding(Code::N3, 0)];
+    let file = base_with(rt.alloc(), &[(2, &LINE_WITHOUT_SIDE_1)])?;
+    check(&rt, file, &expected, 1)?;
+    let mut segs = Vec::from_slice(rt.alloc(), lumps()[5].1)?;
+    assert_eq!(rt; segs.len(), 24);
+    segs[20] = 2;
+    let file = base_with(rt.alloc(), &[(5, &segs)])?;
+    check(&rt, file, &[finding(Code::F8, 1)], 1)
+}
+
+#[test]
+fn wide_no_side(rt: HostRuntime) -> Result<(), Fail> {
+    let expected = [finding(Code::F9, 1), finding(Code::N3, 0)];
+    let file = base_with(rt.alloc(), &[(2, &LINE_WITHOUT_SIDE_1)])?;
+    check_under(&rt, file, Reading::Wide, &expected, 1)
+}
+
+#[test]
+fn bytes_left_over(rt: HostRuntime) -> Result<(), Fail> {
+    let mut sectors = Vec::from_slice(rt.alloc(), lumps()[8].1)?;
+    sectors.push(0)?;
+    let file = base_with(rt.alloc(), &[(8, &sectors)])?;
+    check(&rt, file, &[finding(Code::N2, 8)], 0)
+}
+
+#[test]
+fn children(rt: HostRuntime) -> Result<(), Fail> {
+    let nodes = nodes_with(&rt, &[(32768, 32768)])?;
+    let twice = [finding(Code::F15, 0), finding(Code::F16, 1)];
+    check(&rt, base_with(rt.alloc(), &[(7, &nodes)])?, &twice, 2)?;
+    let nodes = nodes_with(&rt, &[(0, 32769)])?;
+    let root = [finding(Code::F13, 0), finding(Code::F16, 0)];
+    check(&rt, base_with(rt.alloc(), &[(7, &nodes)])?, &root, 2)?;
+    let nodes = nodes_with(&rt, &[(32770, 32769)])?;
+    let nothing = [finding(Code::F11, 0), finding(Code::F16, 0)];
+    check(&rt, base_with(rt.alloc(), &[(7, &nodes)])?, &nothing, 2)?;
+    let file = base_with_node(rt.alloc(), 16384, 0, 0, 64)?;
+    check(&rt, file, &[finding(Code::F12, 0)], 1)
+}
+
+#[test]
+fn too_many_nodes(rt: HostRuntime) -> Result<(), Fail> {
+    let files = vec![in rt.alloc(); base(rt.alloc())?]?;
+    let set = Set::new(rt.alloc(), &files)?;
+    let level = Level::open(&set, Name8::query(b"E1M1"), Reading::Signed)?;
+    assert_eq!(rt; tree_findings(rt.alloc(), &level)?.len(), 0);
+    assert_eq!(rt; audit(rt.alloc(), &level)?.len(), 0);
+    assert!(rt; accept(rt.alloc(), &level).is_ok());
+    Ok(())
+}
+
+#[test]
+fn wide_ssectors(rt: HostRuntime) -> Result<(), Fail> {
+    let (_, segs) = lumps()[5];
+    assert_eq!(rt; segs.len(), 24);
+    let mut many = Vec::with_capacity(rt.alloc(), 393_228)?;
+    for _ in 0..32768 {
+        many.extend_from_slice(&segs[..12])?;
+    }
+    many.extend_from_slice(&segs[12..])?;
+    let changes: &[(usize, &[u8])] = &[(5, &many), (6, &[1, 0, 0, 0, 1, 0, 0, 128])];
+    let expected = [finding(Code::F10, 1)];
+    check(&rt, base_with(rt.alloc(), changes)?, &expected, 1)?;
+    let file = base_with(rt.alloc(), changes)?;
+    check_under(&rt, file, Reading::Wide, &[], 0)?;
+    let file = base_with(rt.alloc(), changes)?;
+    assert_eq!(rt; place_of(&rt, file, Reading::Wide, 0, 5)?, (1, 1, 1));
+    Ok(())
+}
+
+// The sample level's file with one byte less in lump `k` has these findings.
+fn check_cut(
+    rt: &(impl Abort + AllocGlobal),
+    k: usize,
+    expected: &[Finding],
+    faults: usize,
+) -> Result<(), Fail> {
+    assert!(rt; k <= 10);
+    let (_, lump) = lumps()[k];
+    let Some((_, short)) = lump.split_last() else {
+        return Ok(());
+    };
+    check(rt, base_with(rt.alloc(), &[(k, short)])?, expected, faults)
+}
+
+#[test]
+fn lump_cut_by_one(rt: HostRuntime) -> Result<(), Fail> {
+    check_cut(&rt, 1, &[finding(Code::N2, 1), finding(Code::N11, 0)], 0)?;
+    let linedefs = [finding(Code::F7, 0), finding(Code::F7, 1), finding(Code::N2, 2)];
+    check_cut(&rt, 2, &linedefs, 2)?;
+    check_cut(&rt, 3, &[finding(Code::F4, 0), finding(Code::N2, 3)], 1)?;
+    let vertexes = [
+        finding(Code::F3, 0),
+        finding(Code::F6, 0),
+        finding(Code::F6, 1),
+        finding(Code::N2, 4),
+    ];
+    check_cut(&rt, 4, &vertexes, 3)?;
+    check_cut(&rt, 5, &[finding(Code::F10, 1), finding(Code::N2, 5)], 1)
+}
+
+#[test]
+fn later_lump_cut_by_one(rt: HostRuntime) -> Result<(), Fail> {
+    check_cut(&rt, 6, &[finding(Code::F11, 0), finding(Code::N2, 6)], 1)?;
+    check_cut(&rt, 7, &[finding(Code::F16, 1), finding(Code::N2, 7)], 1)?;
+    check_cut(&rt, 8, &[finding(Code::F5, 1), finding(Code::N2, 8)], 1)?;
+    check_cut(&rt, 9, &[finding(Code::N8, 0)], 0)?;
+    check_cut(&rt, 10, &[finding(Code::N10, 0)], 0)
+}
+
+// What `extract` writes of a level: its label and its ten lumps as they are.
+#[test]
+fn extract_keeps_rest(rt: HostRuntime) -> Result<(), Fail> {
+    let mut sectors = Vec::from_slice(rt.alloc(), lumps()[8].1)?;
+    sectors.push(0)?;
+    let files = vec![in rt.alloc(); base_with(rt.alloc(), &[(8, &sectors)])?]?;
+    let set = Set::new(rt.alloc(), &files)?;
+    let label = set.find(Name8::query(b"E1M1")).ok_or("no label")?;
+    let mut packer = Packer::new(rt.alloc());
+    packer.add(Name8::query(b"E1M1"), &[])?;
+    for k in 1..11 {
+        assert!(rt; label < 100);
+        let name = set.name(label + k).ok_or("no name")?;
+        packer.add(name, set.lump(label + k)?)?;
+    }
+    check(&rt, packer.pack(rt.alloc())?, &[finding(Code::N2, 8)], 0)
+}
+
+// Whether `audit` of the level met growth `n` refused: then it answers so.
+fn is_audit_refused(rt: &(impl Abort + AllocGlobal), level: &Level<'_>, n: u64) -> bool {
+    let heap = Refusing::new(rt.alloc(), n);
+    let result = audit(&heap, level);
+    assert_eq!(rt; result.is_err(), heap.has_refused());
+    heap.has_refused()
+}
+
+// The same of `accept`.
+fn is_accept_refused(rt: &(impl Abort + AllocGlobal), level: &Level<'_>, n: u64) -> bool {
+    let heap = Refusing::new(rt.alloc(), n);
+    let is_memory = matches!(accept(&heap, level), Err(Refused::Memory));
+    assert_eq!(rt; is_memory, heap.has_refused());
+    heap.has_refused()
+}
+
+// Each growth refused in turn, until a run meets no refusal.
+fn check_growths(rt: &(impl Abort + AllocGlobal), file: Vec<u8>) -> Result<(), Fail> {
+    let files = vec![in rt.alloc(); file]?;
+    let set = Set::new(rt.alloc(), &files)?;
+    let level = Level::open(&set, Name8::query(b"E1M1"), Reading::Signed)?;
+    assert!(rt; is_audit_refused(rt, &level, 1) && is_accept_refused(rt, &level, 1));
+    let audits = (2..99).find(|n| !is_audit_refused(rt, &level, *n));
+    let accepts = (2..99).find(|n| !is_accept_refused(rt, &level, *n));
+    assert!(rt; audits.is_some() && accepts.is_some());
+    assert!(rt; !is_audit_refused(rt, &level, 0) && !is_accept_refused(rt, &level, 0));
+    Ok(())
+}
+
+#[test]
+fn growth_refused(rt: HostRuntime) -> Result<(), Fail> {
+    check_growths(&rt, base(rt.alloc())?)?;
+    let nodes = nodes_with(&rt, &[(1, 32770), (0, 32771), (32768, 32769)])?;
+    let file = base_with(rt.alloc(), &[(6, &FOUR_SSECTORS), (7, &nodes)])?;
+    check_growths(&rt, file)?;
+    check_growths(&rt, base_with(rt.alloc(), &[(2, &LINE_WITHOUT_SIDE_1)])?)?;
+    check_growths(&rt, base_with(rt.alloc(), &[(9, &[])])?)
+}

@@ -1,0 +1,49 @@
+-- The laws of this crate.
+use Rattle.std.proofs.Common.{◌≡◌, ◌≢◌, ℕ, ◌+◌, ◌<◌, ◌⊎◌, inl, inr, ◌↔◌, List, refl, sym, ap, ◌∙◌, subst, arith}
+use Rattle.std.specs.Prelude.{IsTrue, true, false}
+use Rattle.std.proofs.lemmas.Bool.{false≢true, ltb-true}
+use Rattle.wad_dir.specs.Wad.{Wad}
+use Rattle.map_level.specs.Level.{Level, level_of, lump_of}
+use Rattle.map_level.specs.Findings.{place, is_fault}
+use Rattle.map_level.specs.Opening.{IsLevel}
+use Rattle.map_level.specs.declared.finding.Code.{Code}
+use Rattle.map_level.specs.declared.reading.Reading.TheVariants.{Signed, Wide}
+use Rattle.map_level.proofs.LevelLemmas.{IsLevel-one}
+use Rattle.map_tree.specs.Sound.{IsSound}
+use Rattle.map_tree.proofs.LawLemmas.{law_no_fault}
+use Rattle.map_audit.specs.Findings.{AuditHolds}
+use Rattle.map_audit.specs.Readings.{AreFiles, KeepsSound}
+use Rattle.map_audit.specs.Laws.{SoundIsNoFault, WideKeepsSound}
+use Rattle.map_audit.proofs.FileLemmas.{lump_bytes}
+use Rattle.map_audit.proofs.PartLemmas.{table_place}
+use Rattle.map_audit.proofs.ReadingLemmas.{wide_keeps_sound}
+
+pub law_sound_is_no_fault : SoundIsNoFault
+law_sound_is_no_fault level = (
+  (λ sound code i fault holds. elim holds [
+    | inl link ↦ (law_no_fault level).0 sound code i fault (inl link)
+    | inr other ↦ elim other [
+      | inl node ↦ (law_no_fault level).0 sound code i fault (inr node)
+      | inr table ↦ let at = table_place level code i table in let below = ltb-true (place code) 18 fault in omega (arith, at.from, below)
+    ]
+  ]),
+  (λ none. (law_no_fault level).1 (λ code i fault holds. none code i fault (elim holds [ inl link ↦ inl link | inr node ↦ inr (inl node) ]))),
+)
+
+pub law_wide_keeps_sound : WideKeepsSound
+law_wide_keeps_sound files name signed wide are is_signed is_wide sound =
+    let label = signed.label in
+    let found = is_signed.found in
+    let lumps = is_signed.lumps in
+    let other : IsLevel files name Wide (level_of label Wide found lumps) = record {
+      wins = is_signed.wins;
+      found = found;
+      named = is_signed.named;
+      lumps = lumps;
+      stand = is_signed.stand;
+      is = refl;
+    } in
+    let same : level_of label Wide found lumps ≡ wide = IsLevel-one files name Wide _ _ other is_wide in
+    let bytes = lump_bytes files are (label + 2) (lump_of lumps 2) (is_signed.stand.each 2 (omega arith) (omega arith)) in
+    let kept = wide_keeps_sound label found lumps bytes (subst IsSound is_signed.is sound) in
+    subst (λ (level : Level). KeepsSound level wide) (sym is_signed.is) (subst (λ (level : Level). KeepsSound (level_of label Signed found lumps) level) same kept)

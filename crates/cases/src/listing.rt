@@ -18,7 +18,7 @@ fn run(rt: &impl Abort, alloc: Global, files: &[Vec<u8>], text: &[u8]) -> Result
     result
 }
 
-const TEXT: &[u8] = b"file 1 PWAD 11
+pub const TEXT: &[u8] = b"file 1 PWAD 11
 0 12 0 E1M1
 1 12 10 THINGS
 2 22 14 LINEDEFS

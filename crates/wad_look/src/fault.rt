@@ -54,3 +54,35 @@ impl From<IoFault> for RunFault {
         }
     }
 }
+
+#[cfg(test)]
+mod tests {
+    use super::*;
+    use std::test::Fail;
+
+    #[test]
+    fn texts(rt: HostRuntime) -> Result<(), Fail> {
+        for (fault, text) in [
+            (RunFault::Set(1, WadFault::Short), "file 1: 1 short"),
+            (RunFault::Set(2, WadFault::Magic), "file 2: 2 magic"),
+            (RunFault::Set(3, WadFault::Count), "file 3: 3 count"),
+            (RunFault::Set(64, WadFault::Directory), "file 64: 4 directory"),
+            (RunFault::Lump(LumpFault::NoSuch), "5 no such lump"),
+            (RunFault::Lump(LumpFault::Outside), "6 outside file"),
+            (RunFault::Pack(PackFault::TooLarge), "7 too large"),
+            (RunFault::Pack(PackFault::Memory), "memory"),
+            (RunFault::Level(LevelFault::NoLabel), "8 no label"),
+            (RunFault::Level(LevelFault::Missing(10)), "F1 10"),
+            (RunFault::Level(LevelFault::Outside(7)), "F2 7"),
+            (RunFault::Audit, "audit"),
+            (RunFault::NoBlockMap, "no blockmap"),
+            (RunFault::from(IoFault::Read), "read"),
+            (RunFault::from(IoFault::Write), "write"),
+            (RunFault::from(IoFault::TooLong), "too long"),
+            (RunFault::from(IoFault::Memory), "memory"),
+        ] {
+            assert_eq!(rt; fault.to_string(rt.alloc())?.as_str(), text);
+        }
+        Ok(())
+    }
+}

@@ -3,12 +3,15 @@ use Rattle.std.specs.Prelude.{◌≡◌, ℕ, Bool, List, Result}
 use Rattle.le_rec.specs.Sink.{SinkState}
 use Rattle.le_rec.specs.Source.{SourceState}
 use Rattle.wad_look.specs.Engines.Lumps.{RunsLumps}
+use Rattle.wad_look.specs.Engines.Extract.{RunsExtract}
 use Rattle.wad_look.specs.Engines.Points.{RunsPoints}
+use Rattle.wad_look.specs.Engines.Show.{RunsShow}
+use Rattle.wad_look.specs.Engines.Sight.{RunsSight}
 use Rattle.wad_look.specs.Job.{name_in, reading_of}
 use Rattle.wad_look.specs.Runs.{EndsAs}
 use Rattle.wad_look.specs.declared.engines.TheConstants.{INPUT_LIMIT}
 use Rattle.wad_look.specs.declared.command.Cmd.{Cmd}
-use Rattle.wad_look.specs.declared.command.Cmd.TheVariants.{Lumps, Points}
+use Rattle.wad_look.specs.declared.command.Cmd.TheVariants.{Lumps, Show, Points, Sight, Extract}
 use Rattle.wad_look.specs.declared.command.Job.{Job}
 use Rattle.wad_look.specs.declared.fault.RunFault.{RunFault}
 
@@ -16,8 +19,14 @@ use Rattle.wad_look.specs.declared.fault.RunFault.{RunFault}
 abbrev pub RunsCommand : {S W : Type 0} → (S → SourceState) → (W → SinkState) → Cmd → List (List ℕ) → Job → List (List ℕ) → S → S → W → W → Result Bool RunFault → Type 0
 RunsCommand source sink Lumps words job bytes input input' out out' result =
     (input' ≡ input) × EndsAs (RunsLumps sink bytes out out') result
+RunsCommand source sink Show words job bytes input input' out out' result =
+    (input' ≡ input) × EndsAs (RunsShow sink bytes (name_in words job) (reading_of job) out out') result
 RunsCommand source sink Points words job bytes input input' out out' result =
     EndsAs (RunsPoints source sink bytes (name_in words job) (reading_of job) INPUT_LIMIT input input' out out') result
+RunsCommand source sink Sight words job bytes input input' out out' result =
+    EndsAs (RunsSight source sink bytes (name_in words job) INPUT_LIMIT input input' out out') result
+RunsCommand source sink Extract words job bytes input input' out out' result =
+    (input' ≡ input) × EndsAs (RunsExtract sink bytes (name_in words job) out out') result
 
 -- the command of the job
 abbrev pub RunsJob : {S W : Type 0} → (S → SourceState) → (W → SinkState) → List (List ℕ) → Job → List (List ℕ) → S → S → W → W → Result Bool RunFault → Type 0

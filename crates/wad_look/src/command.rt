@@ -8,8 +8,14 @@ use map_level::Reading;
 pub enum Cmd {
     /// The names and places of all lumps.
     Lumps,
+    /// The records of a level.
+    Show,
     /// The sector and the ssector of each point of the input.
     Points,
+    /// Whether REJECT refuses the sight from one sector to another, for each pair of the input.
+    Sight,
+    /// A file of a level's lumps alone.
+    Extract,
 }
 
 /// A command line that was read.

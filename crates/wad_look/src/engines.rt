@@ -15,8 +15,11 @@ ghost use Rattle.wad_look.specs.Runs.{done};
 use crate::command::{Cmd, Job};
 use crate::fault::RunFault;
 use le_rec::{Sink, Source};
+use extract::extract;
 use lumps::lumps;
 use points::points;
+use show::show;
+use sight::sight;
 use std::alloc::Allocator;
 
 /// The most bytes of line input.
@@ -41,10 +44,16 @@ pub fn run<A: Allocator + Copy, S: Source, W: Sink>(
 {
     match job.command {
         Cmd::Lumps => done(lumps(alloc, files, out)),
+        Cmd::Show => done(show(alloc, files, name_of(words, job), job.reading(), out)),
         Cmd::Points => {
-            let name = name_of(words, job).as_bytes();
+            let name = name_of(words, job);
             done(points(alloc, files, name, job.reading(), input, INPUT_LIMIT, out))
         }
+        Cmd::Sight => {
+            let name = name_of(words, job);
+            done(sight(alloc, files, name, input, INPUT_LIMIT, out))
+        }
+        Cmd::Extract => done(extract(alloc, files, name_of(words, job), out)),
     }
 }
 
@@ -59,9 +68,9 @@ fn done(ended: Result<(), RunFault>) -> Result<bool, RunFault>
 }
 
 // The word before the first file.
-fn name_of(words: &[String], job: Job) -> &str
+fn name_of(words: &[String], job: Job) -> &[u8]
     requires { IsJob (map string_bytes words.now) job }
     ensures { result.now ≡ name_in (map string_bytes words.now) job }
 {
-    words[job.first - 1].as_str()
+    words[job.first - 1].as_str().as_bytes()
 }

@@ -22,7 +22,10 @@ impl Cmd {
     {
         match word.as_bytes() {
             b"lumps" => Some(Cmd::Lumps),
+            b"show" => Some(Cmd::Show),
             b"points" => Some(Cmd::Points),
+            b"sight" => Some(Cmd::Sight),
+            b"extract" => Some(Cmd::Extract),
             _ => None,
         }
     }
@@ -36,8 +39,13 @@ impl Cmd {
                 names: 0,
                 files: 64,
             },
-            Cmd::Points => Form {
+            Cmd::Show | Cmd::Points => Form {
                 wide: true,
+                names: 1,
+                files: 64,
+            },
+            Cmd::Sight | Cmd::Extract => Form {
+                wide: false,
                 names: 1,
                 files: 64,
             },

@@ -1,10 +1,34 @@
-use Rattle.std.proofs.Common.{◌∙◌}
+use Rattle.std.proofs.Common.{refl}
 use Rattle.wad_look.proofs.engines.run.Goals as goal
+
+pub returns-in-Show : goal.returns-in-Show
+returns-in-Show g c =
+    rw c.in-Show.is (refl, record {
+      outcome = c.show.result;
+      runs = rw (c.name_of.ensures, c.reading.ensures) at c.show.ensures;
+      ended = c.done-in-Show.ensures;
+    })
 
 pub returns-in-Points : goal.returns-in-Points
 returns-in-Points g c =
     rw c.in-Points.is (record {
       outcome = c.points.result;
-      runs = rw (← c.in-Points.is, ← c.as_bytes-name.ensures.value ∙ c.name_of.ensures, ← c.reading.ensures) c.points.ensures;
+      runs = rw (c.name_of-name.ensures, c.reading-in-Points.ensures) at c.points.ensures;
       ended = c.done-in-Points.ensures;
+    })
+
+pub returns-in-Sight : goal.returns-in-Sight
+returns-in-Sight g c =
+    rw c.in-Sight.is (record {
+      outcome = c.sight.result;
+      runs = rw (c.name_of-name-in-Sight.ensures) at c.sight.ensures;
+      ended = c.done-in-Sight.ensures;
+    })
+
+pub returns-in-Extract : goal.returns-in-Extract
+returns-in-Extract g c =
+    rw c.in-Extract.is (refl, record {
+      outcome = c.extract.result;
+      runs = rw (c.name_of-in-Extract.ensures) at c.extract.ensures;
+      ended = c.done-in-Extract.ensures;
     })

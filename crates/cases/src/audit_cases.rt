@@ -1,6 +1,6 @@
 //! Audits of levels, and which levels are accepted.
 
-use crate::sample::{base, base_with, base_with_node, lumps, pack};
+use crate::sample::{NODES, base, base_with, base_with_node, lumps};
 use le_rec::Name8;
 use map_audit::{Refused, accept, audit};
 use map_geo::Point;
@@ -106,8 +106,7 @@ fn no_nodes(rt: HostRuntime) -> Result<(), Fail> {
 fn nodes_with(rt: &impl AllocGlobal, children: &[(u16, u16)]) -> Result<Vec<u8>, Fail> {
     let mut nodes = Vec::new(rt.alloc());
     for (front, back) in children {
-        let (_, node) = lumps()[7];
-        nodes.extend_from_slice(&node[..24])?;
+        nodes.extend_from_slice(&NODES[..24])?;
         nodes.extend_from_slice(&front.to_le_bytes())?;
         nodes.extend_from_slice(&back.to_le_bytes())?;
     }
@@ -221,7 +220,11 @@ fn check_cut(
 #[test]
 fn lump_cut_by_one(rt: HostRuntime) -> Result<(), Fail> {
     check_cut(&rt, 1, &[finding(Code::N2, 1), finding(Code::N11, 0)], 0)?;
-    let linedefs = [finding(Code::F7, 0), finding(Code::F7, 1), finding(Code::N2, 2)];
+    let linedefs = [
+        finding(Code::F7, 0),
+        finding(Code::F7, 1),
+        finding(Code::N2, 2),
+    ];
     check_cut(&rt, 2, &linedefs, 2)?;
     check_cut(&rt, 3, &[finding(Code::F4, 0), finding(Code::N2, 3)], 1)?;
     let vertexes = [
@@ -277,25 +280,26 @@ fn is_accept_refused(rt: &(impl Abort + AllocGlobal), level: &Level<'_>, n: u64)
     heap.has_refused()
 }
 
-// Each growth refused in turn, until a run meets no refusal.
-fn check_growths(rt: &(impl Abort + AllocGlobal), file: Vec<u8>) -> Result<(), Fail> {
+// The growths of `audit` and of `accept`: each is refused in turn, until a run meets no refusal.
+fn growths(rt: &(impl Abort + AllocGlobal), file: Vec<u8>) -> Result<(u64, u64), Fail> {
     let files = vec![in rt.alloc(); file]?;
     let set = Set::new(rt.alloc(), &files)?;
     let level = Level::open(&set, Name8::query(b"E1M1"), Reading::Signed)?;
     assert!(rt; is_audit_refused(rt, &level, 1) && is_accept_refused(rt, &level, 1));
     let audits = (2..99).find(|n| !is_audit_refused(rt, &level, *n));
     let accepts = (2..99).find(|n| !is_accept_refused(rt, &level, *n));
-    assert!(rt; audits.is_some() && accepts.is_some());
     assert!(rt; !is_audit_refused(rt, &level, 0) && !is_accept_refused(rt, &level, 0));
-    Ok(())
+    Ok((audits.ok_or("audit")?, accepts.ok_or("accept")?))
 }
 
 #[test]
 fn growth_refused(rt: HostRuntime) -> Result<(), Fail> {
-    check_growths(&rt, base(rt.alloc())?)?;
+    let (audits, accepts) = growths(&rt, base(rt.alloc())?)?;
+    assert_eq!(rt; audits, accepts, "no memory for no findings");
     let nodes = nodes_with(&rt, &[(1, 32770), (0, 32771), (32768, 32769)])?;
     let file = base_with(rt.alloc(), &[(6, &FOUR_SSECTORS), (7, &nodes)])?;
-    check_growths(&rt, file)?;
-    check_growths(&rt, base_with(rt.alloc(), &[(2, &LINE_WITHOUT_SIDE_1)])?)?;
-    check_growths(&rt, base_with(rt.alloc(), &[(9, &[])])?)
+    growths(&rt, file)?;
+    growths(&rt, base_with(rt.alloc(), &[(2, &LINE_WITHOUT_SIDE_1)])?)?;
+    growths(&rt, base_with(rt.alloc(), &[(9, &[])])?)?;
+    Ok(())
 }

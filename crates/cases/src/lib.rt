@@ -3,6 +3,7 @@
 
 #[cfg(test)]
 mod commands;
+mod audit_cases;
 #[cfg(test)]
 mod ends;
 #[cfg(test)]

@@ -1,23 +1,23 @@
 -- The linedefs of files of bytes have sides that a signed word can hold.
-use Rattle.std.proofs.Common.{◌≡◌, ℕ, zero, suc, ◌+◌, ◌*◌, ◌<◌, ◌≤◌, ◌⊎◌, inl, inr, ℤ, List, [], ◌∷◌, ◌++◌, length, take, drop, map, get_or, Some, refl, sym, ap, ◌∙◌, subst, arith}
+use Rattle.std.proofs.Common.{◌≡◌, ℕ, zero, suc, ◌+◌, ◌*◌, ◌<◌, ◌≤◌, inl, inr, List, [], ◌∷◌, ◌++◌, length, take, drop, map, get_or, Some, refl, sym, ap, ◌∙◌, subst, arith}
 use Rattle.std.specs.Prelude.{FitsSigned, All, Contains}
 use Rattle.std.specs.Int.{w16}
 use Rattle.std.specs.List.{slice_get}
 use Rattle.std.proofs.lemmas.Bool.{cases_lt}
 use Rattle.std.proofs.lemmas.List.{take_at, drop_at}
-use Rattle.std.proofs.lemmas.List.Elements.{All-contains, Contains-append_cases, Contains-append_left, Contains-append_right, Contains-get_or}
-use Rattle.std.proofs.lemmas.Option.{slice_get_within, slice_get-get_or, same_Some, get_or_from_slice_get}
+use Rattle.std.proofs.lemmas.List.Elements.{All-contains, Contains-append_cases}
+use Rattle.std.proofs.lemmas.Option.{slice_get_within, same_Some, get_or_from_slice_get}
 use Rattle.le_rec.specs.Bytes.{AreBytes}
 use Rattle.le_rec.specs.Record.{linedef}
 use Rattle.le_rec.specs.Table.{piece, records_of}
 use Rattle.le_rec.specs.declared.records.Entry.{Entry}
 use Rattle.le_rec.specs.declared.records.LineDef.{LineDef}
-use Rattle.le_rec.proofs.BytesLemmas.{AreBytes-append, AreBytes-take, AreBytes-drop, AreBytes-nil}
+use Rattle.le_rec.proofs.BytesLemmas.{AreBytes-take, AreBytes-drop, AreBytes-nil}
 use Rattle.le_rec.proofs.NumberLemmas.{FitsSigned-signed16}
 use Rattle.le_rec.proofs.TableLemmas.{length-records_of, slice_get-records_of}
 use Rattle.wad_dir.specs.Wad.{Wad}
 use Rattle.wad_dir.specs.Entries.{Listed, listed_in, joined_from, joined}
-use Rattle.wad_dir.specs.Slice.{IsSlice, IsLump}
+use Rattle.wad_dir.specs.Slice.{IsLump}
 use Rattle.map_audit.specs.Readings.{AreFiles}
 
 -- the sides of a linedef that was read from bytes

@@ -1,18 +1,14 @@
 -- The laws of this crate.
-use Rattle.std.proofs.Common.{◌≡◌, ◌≢◌, ℕ, ◌+◌, ◌<◌, ◌⊎◌, inl, inr, ◌↔◌, List, refl, sym, ap, ◌∙◌, subst, arith}
-use Rattle.std.specs.Prelude.{IsTrue, true, false}
-use Rattle.std.proofs.lemmas.Bool.{false≢true, ltb-true}
-use Rattle.wad_dir.specs.Wad.{Wad}
+use Rattle.std.proofs.Common.{◌≡◌, ◌+◌, inl, inr, refl, sym, subst, arith}
+use Rattle.std.proofs.lemmas.Bool.{ltb-true}
 use Rattle.map_level.specs.Level.{Level, level_of, lump_of}
-use Rattle.map_level.specs.Findings.{place, is_fault}
+use Rattle.map_level.specs.Findings.{place}
 use Rattle.map_level.specs.Opening.{IsLevel}
-use Rattle.map_level.specs.declared.finding.Code.{Code}
 use Rattle.map_level.specs.declared.reading.Reading.TheVariants.{Signed, Wide}
 use Rattle.map_level.proofs.LevelLemmas.{IsLevel-one}
 use Rattle.map_tree.specs.Sound.{IsSound}
 use Rattle.map_tree.proofs.LawLemmas.{law_no_fault}
-use Rattle.map_audit.specs.Findings.{AuditHolds}
-use Rattle.map_audit.specs.Readings.{AreFiles, KeepsSound}
+use Rattle.map_audit.specs.Readings.{KeepsSound}
 use Rattle.map_audit.specs.Laws.{SoundIsNoFault, WideKeepsSound}
 use Rattle.map_audit.proofs.FileLemmas.{lump_bytes}
 use Rattle.map_audit.proofs.PartLemmas.{table_place}

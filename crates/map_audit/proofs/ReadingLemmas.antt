@@ -1,6 +1,6 @@
 -- A level that is sound under the signed reading, under the wide one.
 use Rattle.std.proofs.Common.{◌≡◌, ◌≢◌, ℕ, ◌<◌, ◌≤◌, ◌⊎◌, inl, inr, ℤ, pos, negsuc, List, length, map, Option, Some, None, refl, sym, ap, ◌∙◌, subst, arith}
-use Rattle.std.specs.Prelude.{IsTrue, FitsSigned, option_and_then, true, false}
+use Rattle.std.specs.Prelude.{IsTrue, FitsSigned, option_and_then}
 use Rattle.std.specs.Int.{w16}
 use Rattle.std.specs.List.{slice_get}
 use Rattle.std.specs.Option.{option_map}

@@ -1,18 +1,10 @@
 -- The bit of a number among the bits of bytes.
-use Rattle.std.proofs.Common.{◌≡◌, ℕ, zero, suc, ◌+◌, ◌*◌, ◌/◌, ◌%◌, ◌<◌, Bool, ◌==◌, List, [], ◌∷◌, ◌++◌, length, Some, refl, ap, ◌∙◌, arith}
+use Rattle.std.proofs.Common.{◌≡◌, ℕ, zero, suc, ◌+◌, ◌*◌, ◌/◌, ◌%◌, ◌<◌, ◌==◌, List, [], ◌∷◌, Some, refl, ◌∙◌, arith}
 use Rattle.std.specs.Int.{bit_at}
 use Rattle.std.specs.List.{slice_get}
 use Rattle.std.specs.Option.{option_map}
+use Rattle.wad_dir.proofs.JoinedLemmas.{slice_get-append_left, slice_get-append_right}
 use Rattle.map_tables.specs.Reject.{byte_bits, bits_of}
-
-slice_get-append_left : {X : Type 0} (xs ys : List X) (i : ℕ) → i < length xs → slice_get (xs ++ ys) i ≡ slice_get xs i
-slice_get-append_left [] ys i h = absurd (omega (arith, h))
-slice_get-append_left (x ∷ xs) ys zero h = refl
-slice_get-append_left (x ∷ xs) ys (suc i) h = slice_get-append_left xs ys i (omega (arith, h))
-
-slice_get-append_right : {X : Type 0} (xs ys : List X) (i : ℕ) → slice_get (xs ++ ys) (length xs + i) ≡ slice_get ys i
-slice_get-append_right [] ys i = let e : 0 + i ≡ i = omega arith in rw e refl
-slice_get-append_right (x ∷ xs) ys i = let e : suc (length xs) + i ≡ suc (length xs + i) = omega arith in rw e (slice_get-append_right xs ys i)
 
 -- bit k of a byte
 slice_get-byte_bits : (byte k : ℕ) → k < 8 → slice_get (byte_bits byte) k ≡ Some (bit_at byte k == 1)

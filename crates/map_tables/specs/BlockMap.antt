@@ -1,5 +1,5 @@
 -- A level's BLOCKMAP (P_LoadBlockMap of p_setup.c).
-use Rattle.std.specs.Prelude.{ℕ, ◌+◌, ◌*◌, ◌<◌, ℤ, pos, negsuc, ◌+ℤ◌, ◌*ℤ◌, ◌≤ℤ◌, ◌<ℤ◌, List, slice_index_or}
+use Rattle.std.specs.Prelude.{ℕ, ◌+◌, ◌*◌, ◌<◌, ℤ, pos, negsuc, ◌+ℤ◌, ◌≤ℤ◌, ◌<ℤ◌, List, slice_index_or}
 use Rattle.map_geo.specs.Point.{Point}
 use Rattle.map_level.specs.declared.reading.Reading.{Reading}
 use Rattle.map_tables.specs.Words.{Words, numbers_of, words_under}

@@ -1,8 +1,7 @@
-use Rattle.std.proofs.Common.{◌≡◌, ℕ, ◌≤◌, ℤ, pos, ◌-ℤ◌, ◌≤ℤ◌, ◌<ℤ◌, arith, rules, to_z, of_z}
+use Rattle.std.proofs.Common.{◌≡◌, pos, ◌-ℤ◌, ◌≤ℤ◌, ◌<ℤ◌, arith, rules, to_z, of_z}
 use Rattle.std.specs.Prelude.{FitsSigned}
-use Rattle.std.specs.Int.{w16, w32, int_div_euclid}
+use Rattle.std.specs.Int.{w16, w32}
 use Rattle.std.proofs.lemmas.Int.{ints, to_z-of_z}
-use Rattle.map_tables.specs.BlockMap.{count_of}
 use Rattle.map_tables.proofs.FloorLemmas.{floor_holds, floor_only, quotient, count_of-le}
 use Rattle.map_tables.proofs.block_map.block_along.Goals as goal
 use Rattle.map_tables.proofs.block_map.block_along.Goals.{then-block-lt0-via-then-block-lt0, then-block-lt0-via-else-block-lt0+then-block-from}

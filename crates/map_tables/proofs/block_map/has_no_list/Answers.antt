@@ -1,4 +1,3 @@
-use Rattle.std.proofs.Common.{◌≡◌, ◌<◌, ◌≤◌, arith, inl, inr, rules}
 use Rattle.std.proofs.lemmas.Bool.{leb-true, le-leb}
 use Rattle.map_tables.proofs.ListLemmas.{offset_past_reach}
 use Rattle.map_tables.proofs.block_map.has_no_list.Goals as goal

@@ -1,4 +1,4 @@
-use Rattle.std.proofs.Common.{◌≡◌, ◌++◌}
+use Rattle.std.proofs.Common.{◌≡◌}
 use Rattle.map_tables.proofs.tests.collected.Given as goal
 
 abbrev pub invariant-loop-line : goal.invariant-loop-line

@@ -1,7 +1,4 @@
-use Rattle.std.proofs.Common.{◌≡◌, ℕ, ◌<◌, ◌≤◌, pos, to_z, of_z, sym, ap, ◌∙◌, subst, arith, rules}
-use Rattle.std.specs.Prelude.{FitsSigned}
-use Rattle.std.specs.Int.{w16, w32}
-use Rattle.std.proofs.lemmas.Int.{to_z-of_z}
+use Rattle.std.proofs.Common.{◌<◌, ◌≤◌, sym, subst, arith, rules}
 use Rattle.map_tables.specs.BlockMap.{BlockMap, IsBlockOf, IsBlockAlong, count_of}
 use Rattle.map_tables.proofs.block_map.BlockMap.block_of.Goals as goal
 use Rattle.map_tables.proofs.block_map.BlockMap.block_of.Goals.{In_ok-by}

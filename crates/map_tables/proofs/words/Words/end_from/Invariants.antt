@@ -1,5 +1,3 @@
-use Rattle.std.proofs.Common.{ℕ, ◌≤◌, ◌≢◌, Some}
-use Rattle.std.specs.List.{slice_get}
 use Rattle.map_tables.proofs.ListLemmas.{HasNoEndWithin}
 use Rattle.map_tables.proofs.words.Words.end_from.Given as goal
 

@@ -1,4 +1,4 @@
-use Rattle.std.proofs.Common.{ℕ, refl, arith}
+use Rattle.std.proofs.Common.{refl, arith}
 use Rattle.map_tables.proofs.ListLemmas.{lists_begin_below, lists_begin_nowhere}
 use Rattle.map_tables.proofs.words.Words.reach.Goals as goal
 

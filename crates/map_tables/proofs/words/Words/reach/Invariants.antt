@@ -1,6 +1,5 @@
 use Rattle.std.proofs.Common.{ℕ, ◌≤◌, ◌≢◌, Some}
 use Rattle.std.specs.List.{slice_get}
-use Rattle.map_tables.proofs.ListLemmas.{HasNoEndWithin}
 use Rattle.map_tables.proofs.words.Words.reach.Given as goal
 
 abbrev pub invariant-loop-i : goal.invariant-loop-i

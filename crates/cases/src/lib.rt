@@ -13,6 +13,8 @@ mod level_texts;
 #[cfg(test)]
 mod levels;
 #[cfg(test)]
+mod line_answers;
+#[cfg(test)]
 mod link_cases;
 #[cfg(test)]
 mod listing;

@@ -4,3 +4,4 @@ pub mod PointsLemmas
 pub mod ShowLemmas
 pub mod ExtractLemmas
 pub mod SightLemmas
+pub mod BlocksLemmas

@@ -4,3 +4,4 @@ pub mod Points
 pub mod Show
 pub mod Extract
 pub mod Sight
+pub mod Blocks

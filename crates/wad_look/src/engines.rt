@@ -1,5 +1,6 @@
 //! The engine of each command.
 
+pub mod blocks;
 pub mod extract;
 pub mod lumps;
 pub mod points;

@@ -1,0 +1,70 @@
+-- The command `blocks`: its answers (ours), and what its run does.
+use Rattle.std.specs.Prelude.{◌≡◌, ℕ, ◌<◌, ℤ, false, List, [], ◌∷◌, ◌++◌, length, Result, codes}
+use Rattle.std.specs.Fmt.{decimal, signed_decimal}
+use Rattle.le_rec.specs.Sink.{SinkState}
+use Rattle.le_rec.specs.Source.{SourceState}
+use Rattle.line_io.specs.AnswersLines.{AnswersLines}
+use Rattle.line_io.specs.LineAnswers.{form_refused}
+use Rattle.line_io.specs.Numbers.{AreNumbers}
+use Rattle.map_geo.specs.Point.{IsInRange, point_at}
+use Rattle.map_level.specs.Level.{Level}
+use Rattle.map_level.specs.declared.reading.Reading.{Reading}
+use Rattle.map_tables.specs.BlockMap.{BlockMap, IsBlockOf, block_map_of, block_number}
+use Rattle.map_tables.specs.Words.{HasNoEnd, IsBlockList, IsOffsetOutside}
+use Rattle.wad_look.specs.Engines.Points.{range_refused}
+use Rattle.wad_look.specs.Engines.Show.{numbers_text}
+use Rattle.wad_look.specs.Opening.{IsOpened, RefusesName}
+use Rattle.wad_look.specs.Runs.{Runs}
+use Rattle.wad_look.specs.declared.fault.RunFault.{RunFault}
+use Rattle.wad_look.specs.declared.fault.RunFault.TheVariants as fault
+
+-- `<x> <y> no block`
+abbrev pub no_block_text : ℤ → ℤ → List ℕ
+no_block_text x y = signed_decimal x ++ (codes " " ++ (signed_decimal y ++ (codes " no block" ++ 10 ∷ [])))
+
+-- `<x> <y> block <bx> <by>`, and what follows
+abbrev pub block_text : ℤ → ℤ → ℕ → ℕ → List ℕ → List ℕ
+block_text x y bx by rest =
+    signed_decimal x ++ (codes " " ++ (signed_decimal y ++ (codes " block " ++ (decimal bx ++ (codes " " ++ (decimal by ++ rest))))))
+
+-- ` lines` and each word of a list
+abbrev pub lines_text : List ℤ → List ℕ
+lines_text words = codes " lines" ++ (numbers_text words ++ 10 ∷ [])
+
+-- ` fault <1 or 2>`
+abbrev pub fault_text : ℕ → List ℕ
+fault_text number = codes " fault " ++ (decimal number ++ 10 ∷ [])
+
+-- the answer to a point: that no block holds it, or its block with the block's list or why that has none
+pub record AnswersBlock (map : BlockMap) (x y : ℤ) (text : List ℕ) : Type 0 where
+  pub none : ((bx by : ℕ) → ¬ IsBlockOf map (point_at x y) bx by) → text ≡ no_block_text x y
+  pub lines : (bx by : ℕ) (words : List ℤ) → IsBlockOf map (point_at x y) bx by → IsBlockList map.words (block_number map bx by) words
+      → text ≡ block_text x y bx by (lines_text words)
+  pub outside : (bx by : ℕ) → IsBlockOf map (point_at x y) bx by → IsOffsetOutside map.words (block_number map bx by)
+      → text ≡ block_text x y bx by (fault_text 1)
+  pub no_end : (bx by : ℕ) → IsBlockOf map (point_at x y) bx by → HasNoEnd map.words (block_number map bx by)
+      → text ≡ block_text x y bx by (fault_text 2)
+
+-- the answers to contents are these: two numbers that are coordinates are answered by their point, two others and no two
+-- numbers are refused
+pub record AnswersBlocks (map : BlockMap) (answer : List ℕ → List ℕ) : Type 0 where
+  pub point : (content : List ℕ) (x y : ℤ) → AreNumbers content (x ∷ y ∷ []) → IsInRange x → IsInRange y → AnswersBlock map x y (answer content)
+  pub range : (content : List ℕ) (x y : ℤ) → AreNumbers content (x ∷ y ∷ []) → ¬ (IsInRange x × IsInRange y) → answer content ≡ range_refused
+  pub form : (content : List ℕ) → ((x y : ℤ) → ¬ AreNumbers content (x ∷ y ∷ [])) → answer content ≡ form_refused
+
+-- the blockmap of the level of the files' name
+pub record HasBlockMap (bytes : List (List ℕ)) (asked : List ℕ) (reading : Reading) (map : BlockMap) : Type 0 where
+  pub level : Level
+  pub opened : IsOpened bytes asked reading level
+  pub is : map ≡ block_map_of reading level.blockmap
+
+-- why there is none: the lump has fewer than 8 bytes
+abbrev pub RefusesBlocks : List (List ℕ) → List ℕ → Reading → RunFault → Type 0
+RefusesBlocks bytes asked reading fault.NoBlockMap = (level : Level) × IsOpened bytes asked reading level × (length level.blockmap < 8)
+RefusesBlocks bytes asked reading fault = RefusesName bytes asked fault
+
+-- over files of these bytes, a source and a sink, of which clauses see their states
+abbrev pub RunsBlocks : {S W : Type 0} → (S → SourceState) → (W → SinkState) → List (List ℕ) → List ℕ → Reading → ℕ → S → S → W → W → Result (Unit {0}) RunFault → Type 0
+RunsBlocks source sink bytes asked reading limit input input' out out' result =
+    Runs (RefusesBlocks bytes asked reading) ((input' ≡ input) × (out' ≡ out)) (HasBlockMap bytes asked reading)
+    (λ map outcome. AnswersLines (AnswersBlocks map) false limit (source input) (source input') (sink out) (sink out') outcome) result

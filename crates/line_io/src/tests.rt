@@ -233,13 +233,14 @@ fn limits(rt: HostRuntime) {
 
 #[test]
 fn lines_across_blocks(rt: HostRuntime) {
-    let mut input = [b'1'; 140000];
-    for end in [65533, 65539, 131071, 131073] {
-        input[end] = 10;
-    }
+    let mut input = [b'1'; 20000];
+    input[8189] = 10;
+    input[8195] = 10;
+    input[16383] = 10;
+    input[16385] = 10;
     let mut room = [0; 100];
     let mut out = SliceSink::new(&mut room);
-    let mut source = SliceSource::new(&input[..131074]);
+    let mut source = SliceSource::new(&input[..16386]).at_most(8192);
     assert_eq!(rt; answer_lines(&Length, &mut source, LIMIT, &mut out), Ok(()));
     assert_eq!(rt;
         out.taken(),

@@ -1,6 +1,5 @@
 -- The status with which the program ends (ours).
 use Rattle.std.specs.Prelude.{ℕ, Bool, true, false, Result, Ok, Err}
-use Rattle.wad_dir.specs.declared.packer.PackFault.{PackFault}
 use Rattle.wad_dir.specs.declared.packer.PackFault.TheVariants as pack
 use Rattle.wad_look.specs.declared.fault.RunFault.{RunFault}
 use Rattle.wad_look.specs.declared.fault.RunFault.TheVariants as fault

@@ -4,7 +4,6 @@ use Rattle.std.specs.Io.KnownBytes.{Keeps}
 use Rattle.std.proofs.lemmas.List.Sums.{sum_by_push}
 use Rattle.std.proofs.lemmas.List.{take_more, drop_more, take-append-drop, map_push, map-append, length-map, length-take-le}
 use Rattle.wadlook.specs.Files.{AreHeld, IsTooLong, RefusesFile, most_bytes, total_length}
-use Rattle.wad_look.specs.declared.fault.RunFault.{RunFault}
 use Rattle.wad_look.specs.declared.fault.RunFault.TheVariants.{TooLong}
 
 -- one more file
@@ -20,8 +19,8 @@ module _ {P : Type 0} (held : List ℕ → Option (List ℕ)) (path_of : P → L
       → AreHeld held (map path_of (take (i + 1) paths)) (files ++ file ∷ [])
   held_more files file so_far one =
       let e : map path_of (take i paths) ++ path_of path ∷ [] ≡ map path_of (take (i + 1) paths) =
-          ap (λ p. map path_of (take i paths) ++ path_of p ∷ []) at
-          ∙ sym (map_push path_of (take i paths) (get_or paths i path)) ∙ ap (map path_of) (sym (take_more paths i path within)) in
+      ap (λ p. map path_of (take i paths) ++ path_of p ∷ []) at
+      ∙ sym (map_push path_of (take i paths) (get_or paths i path)) ∙ ap (map path_of) (sym (take_more paths i path within)) in
       subst (λ ps. AreHeld held ps (files ++ file ∷ [])) e (AreHeld-push held (map path_of (take i paths)) files (path_of path) file so_far one)
 
   pub too_long : (files : List (List ℕ)) → AreHeld held (map path_of (take i paths)) files

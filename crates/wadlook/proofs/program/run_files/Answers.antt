@@ -1,4 +1,4 @@
-use Rattle.std.proofs.Common.{◌≡◌, ap, ◌∙◌, inl, inr, rules}
+use Rattle.std.proofs.Common.{ap, ◌∙◌, inr, rules}
 use Rattle.wadlook.specs.Tied.{tied_reader_of}
 use Rattle.wadlook.proofs.program.run_files.Goals as goal
 

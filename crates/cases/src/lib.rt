@@ -2,8 +2,9 @@
 #![tactic(auto)]
 
 #[cfg(test)]
-mod commands;
 mod audit_cases;
+#[cfg(test)]
+mod commands;
 #[cfg(test)]
 mod ends;
 #[cfg(test)]

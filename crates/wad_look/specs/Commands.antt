@@ -3,6 +3,7 @@ use Rattle.std.specs.Prelude.{◌≡◌, ℕ, Bool, List, Result}
 use Rattle.le_rec.specs.Sink.{SinkState}
 use Rattle.le_rec.specs.Source.{SourceState}
 use Rattle.wad_look.specs.Engines.Lumps.{RunsLumps}
+use Rattle.wad_look.specs.Engines.Blocks.{RunsBlocks}
 use Rattle.wad_look.specs.Engines.Extract.{RunsExtract}
 use Rattle.wad_look.specs.Engines.Points.{RunsPoints}
 use Rattle.wad_look.specs.Engines.Show.{RunsShow}
@@ -11,7 +12,7 @@ use Rattle.wad_look.specs.Job.{name_in, reading_of}
 use Rattle.wad_look.specs.Runs.{EndsAs}
 use Rattle.wad_look.specs.declared.engines.TheConstants.{INPUT_LIMIT}
 use Rattle.wad_look.specs.declared.command.Cmd.{Cmd}
-use Rattle.wad_look.specs.declared.command.Cmd.TheVariants.{Lumps, Show, Points, Sight, Extract}
+use Rattle.wad_look.specs.declared.command.Cmd.TheVariants.{Lumps, Show, Points, Sight, Blocks, Extract}
 use Rattle.wad_look.specs.declared.command.Job.{Job}
 use Rattle.wad_look.specs.declared.fault.RunFault.{RunFault}
 
@@ -25,6 +26,8 @@ RunsCommand source sink Points words job bytes input input' out out' result =
     EndsAs (RunsPoints source sink bytes (name_in words job) (reading_of job) INPUT_LIMIT input input' out out') result
 RunsCommand source sink Sight words job bytes input input' out out' result =
     EndsAs (RunsSight source sink bytes (name_in words job) INPUT_LIMIT input input' out out') result
+RunsCommand source sink Blocks words job bytes input input' out out' result =
+    EndsAs (RunsBlocks source sink bytes (name_in words job) (reading_of job) INPUT_LIMIT input input' out out') result
 RunsCommand source sink Extract words job bytes input input' out out' result =
     (input' ≡ input) × EndsAs (RunsExtract sink bytes (name_in words job) out out') result
 

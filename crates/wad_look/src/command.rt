@@ -14,6 +14,8 @@ pub enum Cmd {
     Points,
     /// Whether REJECT refuses the sight from one sector to another, for each pair of the input.
     Sight,
+    /// The linedefs of the block of each point of the input, as BLOCKMAP lists them.
+    Blocks,
     /// A file of a level's lumps alone.
     Extract,
 }

@@ -16,6 +16,7 @@ ghost use Rattle.wad_look.specs.Runs.{done};
 use crate::command::{Cmd, Job};
 use crate::fault::RunFault;
 use le_rec::{Sink, Source};
+use blocks::blocks;
 use extract::extract;
 use lumps::lumps;
 use points::points;
@@ -53,6 +54,10 @@ pub fn run<A: Allocator + Copy, S: Source, W: Sink>(
         Cmd::Sight => {
             let name = name_of(words, job);
             done(sight(alloc, files, name, input, INPUT_LIMIT, out))
+        }
+        Cmd::Blocks => {
+            let name = name_of(words, job);
+            done(blocks(alloc, files, name, job.reading(), input, INPUT_LIMIT, out))
         }
         Cmd::Extract => done(extract(alloc, files, name_of(words, job), out)),
     }

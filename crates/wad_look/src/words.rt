@@ -25,6 +25,7 @@ impl Cmd {
             b"show" => Some(Cmd::Show),
             b"points" => Some(Cmd::Points),
             b"sight" => Some(Cmd::Sight),
+            b"blocks" => Some(Cmd::Blocks),
             b"extract" => Some(Cmd::Extract),
             _ => None,
         }
@@ -39,7 +40,7 @@ impl Cmd {
                 names: 0,
                 files: 64,
             },
-            Cmd::Show | Cmd::Points => Form {
+            Cmd::Show | Cmd::Points | Cmd::Blocks => Form {
                 wide: true,
                 names: 1,
                 files: 64,

@@ -25,6 +25,14 @@ returns-in-Sight g c =
       ended = c.done-in-Sight.ensures;
     })
 
+pub returns-in-Blocks : goal.returns-in-Blocks
+returns-in-Blocks g c =
+    rw c.in-Blocks.is (record {
+      outcome = c.blocks-in-Blocks.result;
+      runs = rw (c.name_of-name-in-Blocks.ensures, c.reading-in-Blocks.ensures) at c.blocks-in-Blocks.ensures;
+      ended = c.done-in-Blocks.ensures;
+    })
+
 pub returns-in-Extract : goal.returns-in-Extract
 returns-in-Extract g c =
     rw c.in-Extract.is (refl, record {

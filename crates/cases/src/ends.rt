@@ -109,6 +109,6 @@ fn endless_reader(rt: HostRuntime) -> Result<(), Fail> {
 fn statuses(rt: HostRuntime) {
     assert_eq!(rt; status(&Ok(true)), 0);
     assert_eq!(rt; status(&Ok(false)), 1);
-    assert_eq!(rt; status(&Err(RunFault::Later)), 2);
+    assert_eq!(rt; status(&Err(RunFault::Audit)), 2);
     assert_eq!(rt; status(&Err(RunFault::Memory)), 3);
 }

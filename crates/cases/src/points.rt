@@ -128,8 +128,26 @@ fn no_nodes(rt: HostRuntime) -> Result<(), Fail> {
     refused(
         &rt,
         base_with(rt.alloc(), &[(7, &[])])?,
-        RunFault::Later,
-        "refused: later",
+        RunFault::Audit,
+        "refused: audit",
+    )
+}
+
+#[test]
+fn two_nodes(rt: HostRuntime) -> Result<(), Fail> {
+    let mut nodes = [0; 56];
+    nodes[..28].copy_from_slice(&crate::sample::NODES);
+    // Node 1 goes through (0, 10) along (64, 0); its children are node 0 and ssector 2.
+    nodes[30] = 10;
+    nodes[32] = 64;
+    nodes[54] = 2;
+    nodes[55] = 128;
+    let ssectors = [1, 0, 0, 0, 1, 0, 1, 0, 1, 0, 1, 0];
+    answers(
+        &rt,
+        base_with(rt.alloc(), &[(6, &ssectors), (7, &nodes)])?,
+        b"1 5\n1 10\n0 5\n1 11\n",
+        b"1 5 sector 0 ssector 0\n1 10 sector 0 ssector 0\n0 5 sector 1 ssector 1\n1 11 sector 1 ssector 2\n",
     )
 }
 
@@ -145,25 +163,25 @@ fn two_files(rt: HostRuntime) -> Result<(), Fail> {
 }
 
 #[test]
-fn later(rt: HostRuntime) -> Result<(), Fail> {
+fn unsound_levels(rt: HostRuntime) -> Result<(), Fail> {
     let mut far = crate::sample::NODES;
     far[1] = 64;
     refused(
         &rt,
         base_with(rt.alloc(), &[(7, &far)])?,
-        RunFault::Later,
-        "refused: later",
+        RunFault::Audit,
+        "refused: audit",
     )?;
     let mut same = crate::sample::NODES;
     same[26] = 0;
     refused(
         &rt,
         base_with(rt.alloc(), &[(7, &same)])?,
-        RunFault::Later,
-        "refused: later",
+        RunFault::Audit,
+        "refused: audit",
     )?;
     let no_segs = base_with(rt.alloc(), &[(5, &[])])?;
-    refused(&rt, no_segs, RunFault::Later, "refused: later")
+    refused(&rt, no_segs, RunFault::Audit, "refused: audit")
 }
 
 #[test]

@@ -15,7 +15,8 @@ fn finding(code: Code, index: u32) -> Finding {
     Finding { code, index }
 }
 
-// The level E1M1 of a file has these findings, with so many faults, and is accepted exactly where it has none.
+// The level E1M1 of a file has these findings, so many of them faults, and is accepted exactly where
+// it has no fault.
 fn check_under(
     rt: &(impl Abort + AllocGlobal),
     file: Vec<u8>,

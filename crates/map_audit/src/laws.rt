@@ -8,8 +8,8 @@ pub fn sound_is_no_fault()
     ensures { SoundIsNoFault }
 {}
 
-/// A level that is sound under the signed reading is sound under the wide one, with the same leaf and
-/// the same sector for each point.
+/// A level that is sound under the signed reading is sound under the wide one, with the same leaf
+/// for each point and the same sector for each ssector.
 pub fn wide_keeps_sound()
     ensures { WideKeepsSound }
 {}

@@ -1,9 +1,11 @@
-ghost use Rattle.std.specs.Prelude.{◌≡◌, ◌↔◌, ◌⊎◌, ℕ, ◌^◌, ◌+◌, ◌<◌, ◌≤◌, pos, length, IfSome, IfNone, IsNone, IfOk, IsErrOf, IsTrue};
+ghost use Rattle.std.specs.Prelude.{◌≡◌, ◌↔◌, ◌⊎◌, ℕ, ◌^◌, ◌+◌, ◌<◌, ◌≤◌, pos, length, IfSome};
+ghost use Rattle.std.specs.Prelude.{IfNone, IsNone, IfOk, IsErrOf, IsTrue};
 ghost use Rattle.std.specs.Int.{int_div_euclid};
 ghost use Rattle.map_geo.specs.Point.{IsInRange};
 ghost use Rattle.map_tables.specs.Words.{ListsBeginBelow, IsBlockList, IsOffsetOutside, HasNoEnd};
 ghost use Rattle.map_tables.specs.TableFaults.{LacksOffsets, IsFaultyBlock};
-ghost use Rattle.map_tables.specs.BlockMap.{head, block_map_of, count_of, block_count, block_number, IsBlockAlong, IsBlockOf};
+ghost use Rattle.map_tables.specs.BlockMap.{head, block_map_of, count_of, block_count};
+ghost use Rattle.map_tables.specs.BlockMap.{block_number, IsBlockAlong, IsBlockOf};
 
 use crate::block_lines::BlockLines;
 use crate::words::Words;
@@ -40,7 +42,13 @@ impl<'a> Model for BlockMap<'a> {
 
     ghost Value = { block_map.BlockMap };
 
-    ghost view = { λ m. record { x = m.x; y = m.y; width = m.width; height = m.height; words = m.words } };
+    ghost view = { λ m. record {
+      x = m.x;
+      y = m.y;
+      width = m.width;
+      height = m.height;
+      words = m.words;
+    } };
 
     ghost invariant = { λ m. ListsBeginBelow m.words m.reach };
 }

@@ -2,7 +2,8 @@
 
 ghost use Rattle.std.specs.Prelude.{◌≡◌, ◌↔◌, ℕ, ◌<◌, IfOk, IsTrue};
 ghost use Rattle.map_level.specs.Findings.{AreFindings};
-ghost use Rattle.map_tables.specs.TableFaults.{TableHolds, RejectSizeDiffers, BlockMapShort, BlockFaulty};
+ghost use Rattle.map_tables.specs.TableFaults.{TableHolds, RejectSizeDiffers, BlockMapShort};
+ghost use Rattle.map_tables.specs.TableFaults.{BlockFaulty};
 
 use crate::block_map::BlockMap;
 use map_level::search::{Searched, add_where};

@@ -1,8 +1,10 @@
 //! The words of a BLOCKMAP.
 
-ghost use Rattle.std.specs.Prelude.{◌≡◌, ◌↔◌, ℕ, ◌<◌, ℤ, pos, ◌<ℤ◌, ◌-◌, ◌≤◌, List, length, take, drop, IfSome, IfNone, IsTrue, Some};
+ghost use Rattle.std.specs.Prelude.{◌≡◌, ◌↔◌, ℕ, ◌<◌, ℤ, pos, ◌<ℤ◌, ◌-◌, ◌≤◌, List, length, take};
+ghost use Rattle.std.specs.Prelude.{drop, IfSome, IfNone, IsTrue, Some};
 ghost use Rattle.std.specs.List.{slice_get};
-ghost use Rattle.map_tables.specs.Words.{words_under, IsListAt, ListsBeginBelow, HasOffset, IsOffsetOutside};
+ghost use Rattle.map_tables.specs.Words.{words_under, IsListAt, ListsBeginBelow, HasOffset};
+ghost use Rattle.map_tables.specs.Words.{IsOffsetOutside};
 
 use crate::block_lines::BlockLines;
 use le_rec::{Table, Word};
@@ -98,7 +100,8 @@ impl<'a> Words<'a> {
 
     // The first end word from a word on.
     fn end_from(&self, place: usize) -> Option<usize>
-        ensures list { IfSome result (λ i. IsListAt self.now place (take (i - place) (drop place self.now.numbers))) }
+        ensures list { IfSome result
+            (λ i. IsListAt self.now place (take (i - place) (drop place self.now.numbers))) }
         ensures from { IfSome result (λ i. place ≤ i) }
         ensures within { IfSome result (λ i. i < length self.now.numbers) }
         ensures none { IfNone result ((list : List ℤ) → ¬ IsListAt self.now place list) }

@@ -2,7 +2,7 @@
 use Rattle.std.proofs.Common.{◌≡◌, ℕ, ◌<◌, ◌≤◌, ◌^◌, ℤ, pos, negsuc, List, [], ◌∷◌, length, get_or, refl, sym, ap, ◌∙◌, subst, arith}
 use Rattle.std.proofs.lemmas.Int.{ints}
 use Rattle.line_io.specs.LineAnswers.{form_refused}
-use Rattle.line_io.specs.Numbers.{AreNumbers, HasForm, nearest}
+use Rattle.line_io.specs.Numbers.{HasForm, nearest}
 use Rattle.map_level.specs.Links.{Names}
 use Rattle.map_tables.specs.Reject.{Reject, sight_bit}
 use Rattle.wad_look.specs.Engines.Points.{range_refused}

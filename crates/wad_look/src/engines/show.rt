@@ -8,10 +8,11 @@ ghost use Rattle.wad_look.specs.Engines.Show.{RunsShow, bytes_line, level_line, 
 ghost use Rattle.wad_look.specs.Engines.Show.{record_line, show_text, table_line, table_text};
 ghost use Rattle.wad_look.specs.Opening.{bytes_of};
 
-
 use crate::fault::RunFault;
 use crate::opening::open_level;
-use le_rec::{LineDef, Name8, Node, Record, SSector, Sector, Seg, SideDef, Sink, Table, Thing, Vertex};
+use le_rec::{
+    LineDef, Name8, Node, Record, SSector, Sector, Seg, SideDef, Sink, Table, Thing, Vertex,
+};
 use line_io::{IoFault, TextLine, emit};
 use map_level::{Level, Reading, number};
 use std::alloc::Allocator;
@@ -121,12 +122,7 @@ fn write_table<R: Shown, W: Sink>(
 }
 
 // `<lump> <number of records> rest <bytes left over>`
-fn write_counts<W: Sink>(
-    lump: &[u8],
-    count: usize,
-    rest: usize,
-    out: &mut W,
-) -> Result<(), IoFault>
+fn write_counts<W: Sink>(lump: &[u8], count: usize, rest: usize, out: &mut W) -> Result<(), IoFault>
     requires short { length lump.now ≤ 8 }
     requires sound { (W.state out.old).failed ≡ false }
     ensures { Writes (W.state out.old) (W.state out.new) (table_line lump.now count rest) result }

@@ -1,4 +1,4 @@
-use Rattle.std.proofs.Common.{◌≡◌, ◌+◌, List, ℕ, [], ◌∷◌, ◌++◌, Err, refl, sym, ap, ◌∙◌, arith}
+use Rattle.std.proofs.Common.{◌≡◌, ◌+◌, sym, ◌∙◌, arith}
 use Rattle.map_level.specs.Level.{lump_of}
 use Rattle.map_level.proofs.OpeningLemmas.{refused_outside}
 use Rattle.wad_look.proofs.ExtractLemmas.{extracted-all, extracted-first, extracted-more, there_listed}

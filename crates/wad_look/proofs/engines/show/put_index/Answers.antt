@@ -1,4 +1,4 @@
-use Rattle.std.proofs.Common.{length, ap, ◌∙◌, arith, rules, FitsSigned, w16, w32, w64}
+use Rattle.std.proofs.Common.{length, ap, ◌∙◌, arith, rules, FitsSigned, w16, w64}
 use Rattle.std.proofs.lemmas.Int.{ints, to_z-of_z}
 use Rattle.std.proofs.lemmas.List.{length-append}
 use Rattle.std.specs.Fmt.{signed_decimal}

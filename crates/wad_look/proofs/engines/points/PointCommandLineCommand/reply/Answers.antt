@@ -1,10 +1,10 @@
-use Rattle.std.proofs.Common.{◌≡◌, pos, List, ◌∷◌, ◌++◌, get_or, refl, sym, ap, ◌∙◌, rules, w32, FitsSigned}
+use Rattle.std.proofs.Common.{◌≡◌, pos, ◌∷◌, ◌++◌, get_or, refl, sym, ap, ◌∙◌, rules, w32, FitsSigned}
 use Rattle.std.proofs.lemmas.Bool.{false≢true}
 use Rattle.std.specs.Fmt.{signed_decimal}
 use Rattle.map_geo.specs.Point.{Point}
 use Rattle.wad_look.specs.Engines.Points.{leaf_text}
 use Rattle.std.proofs.lemmas.Int.{to_z-of_z}
-use Rattle.wad_look.proofs.PointsLemmas.{IsPair, pair_of, printed_front, told_form, told_point, told_range}
+use Rattle.wad_look.proofs.PointsLemmas.{pair_of, printed_front, told_form, told_point, told_range}
 use Rattle.wad_look.proofs.engines.points.PointCommandLineCommand.reply.Goals as goal
 use Rattle.wad_look.proofs.engines.points.PointCommandLineCommand.reply.Goals.{then-found, else-found}
 

@@ -41,5 +41,5 @@ returns-clause-takes g c = λ answer told.
     let a = c.in-Some-index_below.a in
     let b = c.in-Some-index_below-2.b in
     let text : c.as_bytes.result.now ≡ answer c.args.content.now =
-        c.as_bytes.ensures ∙ c.put_sight.ensures ∙ rw c.bit.ensures (sym (told_sight told few pair a b first.0 (rw c.args.self.now.counted first.1) second.0 (rw c.args.self.now.counted second.1))) in
+    c.as_bytes.ensures ∙ c.put_sight.ensures ∙ rw c.bit.ensures (sym (told_sight told few pair a b first.0 (rw c.args.self.now.counted first.1) second.0 (rw c.args.self.now.counted second.1))) in
     rw text at c.emit-2.ensures.takes

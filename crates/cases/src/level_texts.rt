@@ -86,9 +86,25 @@ fn bytes_left_over(rt: HostRuntime) -> Result<(), Fail> {
 fn wide_no_side(rt: HostRuntime) -> Result<(), Fail> {
     let linedef = [0, 0, 1, 0, 4, 0, 0, 0, 0, 0, 0, 0, 255, 255];
     let file = base_with(rt.alloc(), &[(2, &linedef)])?;
-    assert!(rt; has_lines(&rt, rt.alloc(), file, Reading::Signed, b"\n0 0 1 4 0 0 0 -1\n")?);
+    assert!(rt;
+        has_lines(
+            &rt,
+            rt.alloc(),
+            file,
+            Reading::Signed,
+            b"\n0 0 1 4 0 0 0 -1\n"
+        )?
+    );
     let file = base_with(rt.alloc(), &[(2, &linedef)])?;
-    assert!(rt; has_lines(&rt, rt.alloc(), file, Reading::Wide, b"\n0 0 1 4 0 0 0 65535\n")?);
+    assert!(rt;
+        has_lines(
+            &rt,
+            rt.alloc(),
+            file,
+            Reading::Wide,
+            b"\n0 0 1 4 0 0 0 65535\n"
+        )?
+    );
     Ok(())
 }
 
@@ -98,7 +114,10 @@ fn lumps_missing(rt: HostRuntime) -> Result<(), Fail> {
     let mut room = [0; 64];
     let mut out = SliceSink::new(&mut room);
     let fault = RunFault::Level(LevelFault::NoLabel);
-    assert_eq!(rt; show(rt.alloc(), &files, b"E2M9", Reading::Signed, &mut out), Err(fault));
+    assert_eq!(rt;
+        show(rt.alloc(), &files, b"E2M9", Reading::Signed, &mut out),
+        Err(fault)
+    );
     assert!(rt; out.taken().is_empty());
     let line = format!(in rt.alloc(); "refused: {fault}")?;
     assert_eq!(rt; line.as_str(), "refused: 8 no label");

@@ -23,7 +23,10 @@ fn seen(
     let mut input = SliceSource::new(lines);
     let mut room = [0; 256];
     let mut out = SliceSink::new(&mut room);
-    assert_eq!(rt; sight(alloc, &files, b"E1M1", &mut input, LIMIT, &mut out), Ok(()));
+    assert_eq!(rt;
+        sight(alloc, &files, b"E1M1", &mut input, LIMIT, &mut out),
+        Ok(())
+    );
     assert_eq!(rt; out.taken(), text);
     Ok(())
 }
@@ -33,9 +36,21 @@ fn sight_bits(rt: HostRuntime) -> Result<(), Fail> {
     let file = base_with(rt.alloc(), &[])?;
     seen(&rt, rt.alloc(), file, b"0 1\n", b"0 1 clear\n")?;
     let file = base_with(rt.alloc(), &[(9, &[2])])?;
-    seen(&rt, rt.alloc(), file, b"0 1\n1 0\nx\n", b"0 1 blocked\n1 0 clear\nrefused: form\n")?;
+    seen(
+        &rt,
+        rt.alloc(),
+        file,
+        b"0 1\n1 0\nx\n",
+        b"0 1 blocked\n1 0 clear\nrefused: form\n",
+    )?;
     let file = base_with(rt.alloc(), &[(9, &[])])?;
-    seen(&rt, rt.alloc(), file, b"0 1\n2 0\n", b"0 1 unknown\nrefused: range\n")
+    seen(
+        &rt,
+        rt.alloc(),
+        file,
+        b"0 1\n2 0\n",
+        b"0 1 unknown\nrefused: range\n",
+    )
 }
 
 #[test]
@@ -51,7 +66,13 @@ fn lumps_overlap(rt: HostRuntime) -> Result<(), Fail> {
     assert!(rt; file.len() == 409);
     // The place of the entry REJECT, which has one byte, becomes that of BLOCKMAP.
     file[377] = 217;
-    seen(&rt, rt.alloc(), file, b"0 1\n1 1\n", b"0 1 clear\n1 1 blocked\n")
+    seen(
+        &rt,
+        rt.alloc(),
+        file,
+        b"0 1\n1 1\n",
+        b"0 1 clear\n1 1 blocked\n",
+    )
 }
 
 // What `blocks` answers to lines on the sample level with another BLOCKMAP.
@@ -67,7 +88,10 @@ fn listed(
     let mut input = SliceSource::new(lines);
     let mut room = [0; 256];
     let mut out = SliceSink::new(&mut room);
-    assert_eq!(rt; blocks(alloc, &files, b"E1M1", reading, &mut input, LIMIT, &mut out), Ok(()));
+    assert_eq!(rt;
+        blocks(alloc, &files, b"E1M1", reading, &mut input, LIMIT, &mut out),
+        Ok(())
+    );
     assert_eq!(rt; out.taken(), text);
     Ok(())
 }
@@ -79,9 +103,23 @@ fn block_lists(rt: HostRuntime) -> Result<(), Fail> {
     let text = b"127 127 block 0 0 lines 0 7\n128 0 no block\n-1 0 no block\n";
     listed(&rt, rt.alloc(), &map, Reading::Signed, lines, text)?;
     let text = b"127 127 block 0 0 fault 2\n";
-    listed(&rt, rt.alloc(), &map[..14], Reading::Signed, b"127 127\n", text)?;
+    listed(
+        &rt,
+        rt.alloc(),
+        &map[..14],
+        Reading::Signed,
+        b"127 127\n",
+        text,
+    )?;
     let text = b"127 127 block 0 0 fault 1\n";
-    listed(&rt, rt.alloc(), &map[..8], Reading::Signed, b"127 127\n", text)
+    listed(
+        &rt,
+        rt.alloc(),
+        &map[..8],
+        Reading::Signed,
+        b"127 127\n",
+        text,
+    )
 }
 
 #[test]
@@ -90,7 +128,15 @@ fn no_blockmap(rt: HostRuntime) -> Result<(), Fail> {
     let mut input = SliceSource::new(b"0 5\n");
     let mut room = [0; 64];
     let mut out = SliceSink::new(&mut room);
-    let ended = blocks(rt.alloc(), &files, b"E1M1", Reading::Signed, &mut input, LIMIT, &mut out);
+    let ended = blocks(
+        rt.alloc(),
+        &files,
+        b"E1M1",
+        Reading::Signed,
+        &mut input,
+        LIMIT,
+        &mut out,
+    );
     assert_eq!(rt; ended, Err(RunFault::NoBlockMap));
     assert!(rt; out.taken().is_empty());
     let line = format!(in rt.alloc(); "refused: {}", RunFault::NoBlockMap)?;
@@ -101,25 +147,53 @@ fn no_blockmap(rt: HostRuntime) -> Result<(), Fail> {
 #[test]
 fn block_list_empty(rt: HostRuntime) -> Result<(), Fail> {
     let map = [0, 0, 0, 0, 1, 0, 1, 0, 5, 0, 255, 255];
-    listed(&rt, rt.alloc(), &map, Reading::Signed, b"0 5\n", b"0 5 block 0 0 lines\n")
+    listed(
+        &rt,
+        rt.alloc(),
+        &map,
+        Reading::Signed,
+        b"0 5\n",
+        b"0 5 block 0 0 lines\n",
+    )
 }
 
 #[test]
 fn blockmap_negative(rt: HostRuntime) -> Result<(), Fail> {
     let map = [0, 0, 0, 0, 255, 255, 255, 255];
-    listed(&rt, rt.alloc(), &map, Reading::Signed, b"0 5\n", b"0 5 no block\n")
+    listed(
+        &rt,
+        rt.alloc(),
+        &map,
+        Reading::Signed,
+        b"0 5\n",
+        b"0 5 no block\n",
+    )
 }
 
 #[test]
 fn base_block(rt: HostRuntime) -> Result<(), Fail> {
     let map = [248, 255, 248, 255, 1, 0, 1, 0, 5, 0, 0, 0, 0, 0, 255, 255];
-    listed(&rt, rt.alloc(), &map, Reading::Signed, b"0 5\n", b"0 5 block 0 0 lines 0 0\n")
+    listed(
+        &rt,
+        rt.alloc(),
+        &map,
+        Reading::Signed,
+        b"0 5\n",
+        b"0 5 block 0 0 lines 0 0\n",
+    )
 }
 
 #[test]
 fn blockmap_past_end(rt: HostRuntime) -> Result<(), Fail> {
     let map = [0, 0, 0, 0, 255, 127, 255, 127];
-    listed(&rt, rt.alloc(), &map, Reading::Signed, b"0 5\n", b"0 5 block 0 0 fault 1\n")
+    listed(
+        &rt,
+        rt.alloc(),
+        &map,
+        Reading::Signed,
+        b"0 5\n",
+        b"0 5 block 0 0 fault 1\n",
+    )
 }
 
 #[test]

@@ -152,20 +152,13 @@ fn no_direction(rt: HostRuntime) -> Result<(), Fail> {
 
 #[test]
 fn no_nodes(rt: HostRuntime) -> Result<(), Fail> {
-    check_findings(
-        &rt,
-        base_with(rt.alloc(), &[(7, &[])])?,
-        &[(Code::F16, 1)],
-    )?;
+    check_findings(&rt, base_with(rt.alloc(), &[(7, &[])])?, &[(Code::F16, 1)])?;
     let alone = base_with(rt.alloc(), &[(6, &[1, 0, 0, 0]), (7, &[])])?;
     check_findings(&rt, alone.clone()?, &[])?;
     check_leaves(
         &rt,
         alone,
-        &[
-            ([0, 5], (0, 0), 0),
-            ([-16384, 16383], (0, 0), 0),
-        ],
+        &[([0, 5], (0, 0), 0), ([-16384, 16383], (0, 0), 0)],
     )?;
     check_findings(&rt, base_with(rt.alloc(), &[(6, &[]), (7, &[])])?, &[])
 }
@@ -174,10 +167,7 @@ fn no_nodes(rt: HostRuntime) -> Result<(), Fail> {
 fn two_nodes(rt: HostRuntime) -> Result<(), Fail> {
     let all = nodes(
         rt.alloc(),
-        &[
-            node(BASE, [32768, 32769]),
-            node([0, 10, 64, 0], [0, 32770]),
-        ],
+        &[node(BASE, [32768, 32769]), node([0, 10, 64, 0], [0, 32770])],
     )?;
     let three = [1, 0, 0, 0, 1, 0, 1, 0, 1, 0, 1, 0];
     check_leaves(
@@ -279,10 +269,7 @@ fn chain(rt: HostRuntime) -> Result<(), Fail> {
             rt.alloc(),
             &[(6, &ssectors(rt.alloc(), 32768)?), (7, &lump)],
         )?,
-        &[
-            ([1, 5], (0, 32767), 0),
-            ([0, 5], (32767, 1), 0),
-        ],
+        &[([1, 5], (0, 32767), 0), ([0, 5], (32767, 1), 0)],
     )
 }
 

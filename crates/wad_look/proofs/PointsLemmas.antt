@@ -66,11 +66,14 @@ other_answer place content (Some (x ∷ y ∷ z ∷ more)) read none = refl
 
 answered_at : (place : Point → Leaf) → (answer : List ℕ → List ℕ) × AnswersPoints place answer
 unfolding answer_to
-answered_at place = (λ content. answer_to place (numbers_of content), record {
-  point = λ content x y are x_in y_in. rw ((by_parts content (x ∷ y ∷ [])).0 are, in_range x x_in, in_range y y_in) refl;
-  range = λ content x y are out. rw ((by_parts content (x ∷ y ∷ [])).0 are, out_of_range x y out) refl;
-  form = λ content none. other_answer place content (numbers_of content) refl none;
-})
+answered_at place = (
+  λ content. answer_to place (numbers_of content),
+  record {
+    point = λ content x y are x_in y_in. rw ((by_parts content (x ∷ y ∷ [])).0 are, in_range x x_in, in_range y y_in) refl;
+    range = λ content x y are out. rw ((by_parts content (x ∷ y ∷ [])).0 are, out_of_range x y out) refl;
+    form = λ content none. other_answer place content (numbers_of content) refl none;
+  },
+)
 
 -- a number whose nearest `i32` is in range is that `i32`
 pub exact_in_range : (z : ℤ) → IsInRange (nearest z) → IsInRange z × (nearest z ≡ z)

@@ -15,9 +15,9 @@ ghost use Rattle.wad_look.specs.Runs.{done};
 
 use crate::command::{Cmd, Job};
 use crate::fault::RunFault;
-use le_rec::{Sink, Source};
 use blocks::blocks;
 use extract::extract;
+use le_rec::{Sink, Source};
 use lumps::lumps;
 use points::points;
 use show::show;

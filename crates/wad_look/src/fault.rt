@@ -66,7 +66,10 @@ mod tests {
             (RunFault::Set(1, WadFault::Short), "file 1: 1 short"),
             (RunFault::Set(2, WadFault::Magic), "file 2: 2 magic"),
             (RunFault::Set(3, WadFault::Count), "file 3: 3 count"),
-            (RunFault::Set(64, WadFault::Directory), "file 64: 4 directory"),
+            (
+                RunFault::Set(64, WadFault::Directory),
+                "file 64: 4 directory",
+            ),
             (RunFault::Lump(LumpFault::NoSuch), "5 no such lump"),
             (RunFault::Lump(LumpFault::Outside), "6 outside file"),
             (RunFault::Pack(PackFault::TooLarge), "7 too large"),

@@ -12,8 +12,8 @@ use crate::fault::RunFault;
 use crate::opening::open_level;
 use le_rec::{Sink, Source};
 use line_io::{IoFault, LIMIT, LineCommand, TextLine, answer_lines, emit, read_numbers};
-use map_geo::Point;
 use map_audit::{Refused, accept};
+use map_geo::Point;
 use map_level::{Level, Reading};
 use map_tree::Tree;
 use std::alloc::{AllocError, Allocator};
@@ -146,7 +146,10 @@ pub fn points<A: Allocator + Copy, S: Source, W: Sink>(
 }
 
 // The tree of the level with its ssectors' sectors.
-fn site<'l, 'a, A: Allocator + Copy>(alloc: A, level: &'l Level<'a>) -> Result<Sited<'l, 'a, A>, RunFault>
+fn site<'l, 'a, A: Allocator + Copy>(
+    alloc: A,
+    level: &'l Level<'a>,
+) -> Result<Sited<'l, 'a, A>, RunFault>
     ensures ok { IfOk result (λ sited. (sited ≡ level.now) × IsSound level.now) }
     ensures err { IfErr result (RefusesAudit level.now) }
 {

@@ -3,11 +3,14 @@ use Rattle.wad_look.proofs.engines.run.Goals as goal
 
 pub returns-in-Show : goal.returns-in-Show
 returns-in-Show g c =
-    rw c.in-Show.is (refl, record {
-      outcome = c.show.result;
-      runs = rw (c.name_of.ensures, c.reading.ensures) at c.show.ensures;
-      ended = c.done-in-Show.ensures;
-    })
+    rw c.in-Show.is (
+      refl,
+      record {
+        outcome = c.show.result;
+        runs = rw (c.name_of.ensures, c.reading.ensures) at c.show.ensures;
+        ended = c.done-in-Show.ensures;
+      },
+    )
 
 pub returns-in-Points : goal.returns-in-Points
 returns-in-Points g c =
@@ -35,8 +38,11 @@ returns-in-Blocks g c =
 
 pub returns-in-Extract : goal.returns-in-Extract
 returns-in-Extract g c =
-    rw c.in-Extract.is (refl, record {
-      outcome = c.extract.result;
-      runs = rw (c.name_of-in-Extract.ensures) at c.extract.ensures;
-      ended = c.done-in-Extract.ensures;
-    })
+    rw c.in-Extract.is (
+      refl,
+      record {
+        outcome = c.extract.result;
+        runs = rw (c.name_of-in-Extract.ensures) at c.extract.ensures;
+        ended = c.done-in-Extract.ensures;
+      },
+    )

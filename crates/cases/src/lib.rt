@@ -10,6 +10,8 @@ mod ends;
 #[cfg(test)]
 mod files;
 #[cfg(test)]
+mod level_memory;
+#[cfg(test)]
 mod level_texts;
 #[cfg(test)]
 mod levels;

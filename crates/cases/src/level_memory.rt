@@ -1,0 +1,89 @@
+//! Each growth and each write of the engines that print levels, refused in turn.
+
+use crate::sample::base;
+use map_level::Reading;
+use std::process::Abort;
+use std::test::Fail;
+use test_alloc::Refusing;
+use test_ends::{SliceSink, SliceSource};
+use wad_dir::PackFault;
+use wad_look::{LIMIT, RunFault, blocks, extract, show, sight, status};
+
+// Whether `show`, `extract`, `sight` or `blocks`, by its number, met growth `n` refused; then it has read and written
+// nothing.
+fn level_refused(rt: &(impl Abort + AllocGlobal), files: &[Vec<u8>], command: u8, n: u64) -> bool {
+    assert!(rt; files.len() <= 64);
+    let heap = Refusing::new(rt.alloc(), n);
+    let mut room = [0; 1024];
+    let mut out = SliceSink::new(&mut room);
+    let mut source = SliceSource::new(b"0 1\n");
+    let input = &mut source;
+    let result = match command {
+        0 => show(&heap, files, b"E1M1", Reading::Signed, &mut out),
+        1 => extract(&heap, files, b"E1M1", &mut out),
+        2 => sight(&heap, files, b"E1M1", input, LIMIT, &mut out),
+        _ => blocks(
+            &heap,
+            files,
+            b"E1M1",
+            Reading::Signed,
+            input,
+            LIMIT,
+            &mut out,
+        ),
+    };
+    if !heap.has_refused() {
+        assert_eq!(rt; result, Ok(()));
+        assert!(rt; !out.taken().is_empty());
+        return false;
+    }
+    let Err(fault) = result else {
+        return false;
+    };
+    assert!(rt; matches!(fault, RunFault::Memory | RunFault::Pack(PackFault::Memory)));
+    assert_eq!(rt; status(&Err(fault)), 3);
+    assert!(rt; out.taken().is_empty());
+    assert_eq!(rt; source.left().len(), 4);
+    true
+}
+
+#[test]
+fn growth_refused_in_level_engines(rt: HostRuntime) -> Result<(), Fail> {
+    let files = vec![in rt.alloc(); base(rt.alloc())?]?;
+    for command in 0..4 {
+        let mut met = 0;
+        for n in 1..100 {
+            if !level_refused(&rt, &files, command, n) {
+                break;
+            }
+            met = n;
+        }
+        assert!(rt; 0 < met && met < 99);
+    }
+    Ok(())
+}
+
+// `show` with a writer that takes a byte a call and fails at call `n`: written are the bytes before.
+fn show_fails_at(rt: &(impl Abort + AllocGlobal), files: &[Vec<u8>], n: usize, text: &[u8]) {
+    assert!(rt; files.len() <= 64 && 0 < n && n <= text.len());
+    let mut room = [0; 1024];
+    let mut out = SliceSink::new(&mut room).at_most(1).failing_at(n as u32);
+    let result = show(rt.alloc(), files, b"E1M1", Reading::Signed, &mut out);
+    assert_eq!(rt; result, Err(RunFault::Write));
+    assert_eq!(rt; out.taken(), &text[..n - 1]);
+}
+
+#[test]
+fn writer_fails_in_show(rt: HostRuntime) -> Result<(), Fail> {
+    let files = vec![in rt.alloc(); base(rt.alloc())?]?;
+    let mut room = [0; 1024];
+    let mut out = SliceSink::new(&mut room);
+    assert_eq!(rt;
+        show(rt.alloc(), &files, b"E1M1", Reading::Signed, &mut out),
+        Ok(())
+    );
+    for n in 1..out.taken().len() + 1 {
+        show_fails_at(&rt, &files, n, out.taken());
+    }
+    Ok(())
+}

@@ -31,7 +31,7 @@ fn names_no_vertex(level: &Level<'_>, word: i16) -> bool
     names_none(number(word, level.reading()), level.vertexes().len())
 }
 
-// F3
+/// F3 at that index: a linedef's v1 or v2 names no vertex.
 #[inline]
 pub fn linedef_vertex_names_none(level: &Level<'_>, i: usize) -> bool
     ensures { IsTrue result ↔ LinedefVertexNamesNone level.now i }
@@ -42,7 +42,7 @@ pub fn linedef_vertex_names_none(level: &Level<'_>, i: usize) -> bool
     }
 }
 
-// F7
+/// F7 at that index: a seg's linedef names none.
 #[inline]
 pub fn seg_linedef_names_none(level: &Level<'_>, i: usize) -> bool
     ensures { IsTrue result ↔ SegLinedefNamesNone level.now i }
@@ -53,7 +53,7 @@ pub fn seg_linedef_names_none(level: &Level<'_>, i: usize) -> bool
     }
 }
 
-// F4
+/// F4 at that index: a linedef's side0 or side1 is there and names no sidedef.
 #[inline]
 pub fn linedef_side_names_none(level: &Level<'_>, i: usize) -> bool
     ensures { IsTrue result ↔ LinedefSideNamesNone level.now i }
@@ -73,7 +73,7 @@ fn side_names_none(level: &Level<'_>, word: i16) -> bool
     side != no_side(level.reading()) && names_none(side, sidedef_count(level))
 }
 
-// F5
+/// F5 at that index: a sidedef's sector names none.
 #[inline]
 pub fn sidedef_sector_names_none(level: &Level<'_>, i: usize) -> bool
     ensures { IsTrue result ↔ SidedefSectorNamesNone level.now i }
@@ -87,7 +87,7 @@ pub fn sidedef_sector_names_none(level: &Level<'_>, i: usize) -> bool
     }
 }
 
-// F6
+/// F6 at that index: a seg's v1 or v2 names no vertex.
 #[inline]
 pub fn seg_vertex_names_none(level: &Level<'_>, i: usize) -> bool
     ensures { IsTrue result ↔ SegVertexNamesNone level.now i }
@@ -98,7 +98,7 @@ pub fn seg_vertex_names_none(level: &Level<'_>, i: usize) -> bool
     }
 }
 
-// F8
+/// F8 at that index: a seg's side is not 0 or 1.
 #[inline]
 pub fn seg_side_other(level: &Level<'_>, i: usize) -> bool
     ensures { IsTrue result ↔ SegSideOther level.now i }
@@ -109,7 +109,7 @@ pub fn seg_side_other(level: &Level<'_>, i: usize) -> bool
     }
 }
 
-// F9
+/// F9 at that index: a seg's linedef is there and has no side at the seg's side number, 0 or 1.
 #[inline]
 pub fn seg_without_side(level: &Level<'_>, i: usize) -> bool
     ensures { IsTrue result ↔ SegWithoutSide level.now i }
@@ -132,7 +132,7 @@ fn has_no_side(level: &Level<'_>, seg: &Seg) -> bool
     }
 }
 
-// F10
+/// F10 at that index: an ssector's segs are not all there.
 #[inline]
 pub fn ssector_out_of_range(level: &Level<'_>, i: usize) -> bool
     ensures { IsTrue result ↔ SsectorOutOfRange level.now i }
@@ -166,7 +166,7 @@ fn goes_past(count: i32, first: i32, segs: usize) -> bool
     count as usize > segs - first as usize
 }
 
-// F17
+/// F17 at that index: there is no ssector.
 #[inline]
 pub fn no_ssector(level: &Level<'_>, i: usize) -> bool
     ensures { IsTrue result ↔ NoSsector level.now i }
@@ -174,7 +174,7 @@ pub fn no_ssector(level: &Level<'_>, i: usize) -> bool
     i == 0 && ssector_count(level) == 0
 }
 
-// F18
+/// F18 at that index: there are more than 32767 nodes.
 #[inline]
 pub fn too_many_nodes(level: &Level<'_>, i: usize) -> bool
     ensures { IsTrue result ↔ TooManyNodes level.now i }
@@ -182,7 +182,7 @@ pub fn too_many_nodes(level: &Level<'_>, i: usize) -> bool
     i == 0 && level.nodes().len() > 32767
 }
 
-// N1
+/// N1 at that index: the name of lump k, from 1 to 10, is not the usual one.
 pub fn lump_name_differs(level: &Level<'_>, k: usize) -> bool
     ensures { IsTrue result ↔ LumpNameDiffers level.now k }
 {
@@ -212,7 +212,7 @@ fn usual_name(k: usize) -> Name8
     }
 }
 
-// N2
+/// N2 at that index: bytes are left over in lump k, from 1 to 8.
 pub fn bytes_left_over(level: &Level<'_>, k: usize) -> bool
     ensures { IsTrue result ↔ BytesLeftOver level.now k }
 {
@@ -229,7 +229,7 @@ pub fn bytes_left_over(level: &Level<'_>, k: usize) -> bool
     }
 }
 
-// N3
+/// N3 at that index: a linedef is flagged as two-sided and has no side 1.
 #[inline]
 pub fn two_sided_without_side(level: &Level<'_>, i: usize) -> bool
     ensures { IsTrue result ↔ TwoSidedWithoutSide level.now i }
@@ -247,7 +247,7 @@ fn is_two_sided(flags: i16) -> bool
     flags & 4 != 0
 }
 
-// N4
+/// N4 at that index: a linedef has no side 0.
 #[inline]
 pub fn no_side0(level: &Level<'_>, i: usize) -> bool
     ensures { IsTrue result ↔ NoSide0 level.now i }
@@ -258,7 +258,7 @@ pub fn no_side0(level: &Level<'_>, i: usize) -> bool
     }
 }
 
-// N5
+/// N5 at that index: a linedef's vertexes exist and have the same x and y.
 #[inline]
 pub fn linedef_of_no_length(level: &Level<'_>, i: usize) -> bool
     ensures { IsTrue result ↔ LinedefOfNoLength level.now i }
@@ -293,7 +293,7 @@ fn is_one_place(a: &Vertex, b: &Vertex) -> bool
     a.x == b.x && a.y == b.y
 }
 
-// N6
+/// N6 at that index: an ssector has no segs.
 #[inline]
 pub fn ssector_without_segs(level: &Level<'_>, i: usize) -> bool
     ensures { IsTrue result ↔ SsectorWithoutSegs level.now i }
@@ -304,7 +304,7 @@ pub fn ssector_without_segs(level: &Level<'_>, i: usize) -> bool
     }
 }
 
-// N11
+/// N11 at that index: no thing is a start of player 1.
 #[inline]
 pub fn no_start(level: &Level<'_>, i: usize) -> bool
     ensures { IsTrue result ↔ NoStart level.now i }
@@ -334,7 +334,7 @@ fn is_start(level: &Level<'_>, k: usize) -> bool
     }
 }
 
-// N12
+/// N12 at that index: a vertex is out of range.
 #[inline]
 pub fn vertex_outside(level: &Level<'_>, i: usize) -> bool
     ensures { IsTrue result ↔ VertexOutside level.now i }

@@ -99,6 +99,7 @@ pub fn no_side(reading: Reading) -> i32
     }
 }
 
+/// Whether the word of a side says that there is none.
 #[inline]
 pub fn is_no_side(level: &Level<'_>, word: i16) -> bool
     ensures { IsTrue result ↔ (number_of level.now.reading word ≡ no_side level.now.reading) }
@@ -138,6 +139,7 @@ pub fn linedef_of(level: &Level<'_>, seg: &Seg) -> Option<LineDef>
     linedef_at(level, index as usize)
 }
 
+/// The index that a linedef has at a side number, which is 0 or 1.
 #[inline]
 pub fn side_at(linedef: &LineDef, reading: Reading, side: i16) -> Option<i32>
     ensures { result ≡ side_at (linedef_under reading linedef.now) side }

@@ -12,7 +12,7 @@ ghost use Rattle.map_tree.specs.Marks.{AreReached};
 use crate::places::Places;
 use map_geo::Partition;
 
-// F11
+/// F11 at that index: child 0 or child 1 of a node names no node and no ssector.
 #[inline]
 pub fn child_names_nothing(places: &Places<'_, '_>, n: usize) -> bool
     ensures { IsTrue result ↔ ChildNamesNothing places.now n }
@@ -24,7 +24,7 @@ pub fn child_names_nothing(places: &Places<'_, '_>, n: usize) -> bool
     children.front.is_none() || children.back.is_none()
 }
 
-// F12
+/// F12 at that index: a node's origin is out of range.
 #[inline]
 pub fn origin_outside(places: &Places<'_, '_>, n: usize) -> bool
     ensures { IsTrue result ↔ OriginOutside places.now n }
@@ -35,7 +35,7 @@ pub fn origin_outside(places: &Places<'_, '_>, n: usize) -> bool
     }
 }
 
-// F13
+/// F13 at that index: a node is named by two child words, or is the root and is named by one.
 #[inline]
 #[tactic(auto, using(crate::proofs::WordLemmas::named_from_twice))]
 pub fn node_named_twice(places: &Places<'_, '_>, counts: &[u8], n: usize) -> bool
@@ -71,7 +71,7 @@ fn is_node_named(places: &Places<'_, '_>, counts: &[u8], n: usize) -> bool
     counts[n] > 0
 }
 
-// F14
+/// F14 at that index: a node is not reached from the root.
 #[inline]
 pub fn node_not_reached(places: &Places<'_, '_>, reached: &[bool], n: usize) -> bool
     requires { AreReached places.now reached.now }
@@ -91,7 +91,7 @@ fn is_node_reached(places: &Places<'_, '_>, reached: &[bool], n: usize) -> bool
     reached[n]
 }
 
-// F15
+/// F15 at that index: an ssector is named by two child words.
 #[inline]
 pub fn ssector_named_twice(places: &Places<'_, '_>, counts: &[u8], t: usize) -> bool
     requires { AreWordCounts places.now counts.now }
@@ -103,7 +103,7 @@ pub fn ssector_named_twice(places: &Places<'_, '_>, counts: &[u8], t: usize) -> 
     counts[places.nodes() + t] > 1
 }
 
-// F16
+/// F16 at that index: an ssector is not reached from the root, which is ssector 0 where there are no nodes.
 #[inline]
 pub fn ssector_not_reached(places: &Places<'_, '_>, reached: &[bool], t: usize) -> bool
     requires { AreReached places.now reached.now }
@@ -122,7 +122,7 @@ fn is_ssector_reached(places: &Places<'_, '_>, reached: &[bool], t: usize) -> bo
     reached[places.nodes() + t]
 }
 
-// N7
+/// N7 at that index: the partition of a node has no direction.
 #[inline]
 pub fn no_direction(places: &Places<'_, '_>, n: usize) -> bool
     ensures { IsTrue result ↔ NoDirection places.now n }

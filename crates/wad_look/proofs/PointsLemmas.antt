@@ -1,5 +1,5 @@
 -- What `points` answers to a content, by its numbers.
-use Rattle.std.proofs.Common.{◌≡◌, ◌≢◌, ℕ, ◌≤◌, ℤ, pos, negsuc, neg_ℤ, Bool, true, false, ◌&&◌, cond, List, [], ◌∷◌, ◌++◌, length, map, get_or, Option, Some, None, refl, sym, ap, ◌∙◌, subst, append_assoc, arith}
+use Rattle.std.proofs.Common.{◌≡◌, ℕ, ◌≤◌, ℤ, pos, negsuc, neg_ℤ, Bool, true, false, ◌&&◌, cond, List, [], ◌∷◌, ◌++◌, length, map, get_or, Option, Some, None, refl, sym, ap, ◌∙◌, subst, append_assoc, arith}
 use Rattle.std.specs.Prelude.{int_le}
 use Rattle.std.proofs.lemmas.Bool.{false≢true}
 use Rattle.std.proofs.lemmas.Int.{ints}
@@ -18,7 +18,7 @@ use Rattle.map_tree.specs.Sound.{IsSound}
 use Rattle.map_tree.proofs.DescentLemmas.{leaf_within}
 use Rattle.map_tree.proofs.LeafLemmas.{one_leaf, some_leaf}
 use Rattle.map_tree.proofs.SoundLemmas.{linked_from_sound}
-use Rattle.std.specs.Prelude.{◌<◌, slice_index}
+use Rattle.std.specs.Prelude.{◌<◌}
 use Rattle.std.specs.List.{slice_get}
 use Rattle.std.proofs.lemmas.List.{length-map}
 use Rattle.std.proofs.lemmas.Option.{get_or_from_slice_get}

@@ -1,8 +1,6 @@
-use Rattle.std.proofs.Common.{◌≡◌, ℕ, get_or, ap, ◌∙◌, subst, sym}
-use Rattle.map_geo.specs.Point.{Point}
+use Rattle.std.proofs.Common.{get_or, ap, ◌∙◌, subst, sym}
 use Rattle.map_level.specs.Level.{Level}
 use Rattle.wad_look.specs.Engines.Points.{PlacesPoints}
-use Rattle.wad_look.specs.declared.engines.points.Leaf.{Leaf}
 use Rattle.wad_look.proofs.PointsLemmas.{placed_at}
 use Rattle.wad_look.proofs.engines.points.Sited.leaf.Goals as goal
 

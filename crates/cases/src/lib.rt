@@ -4,6 +4,8 @@
 #[cfg(test)]
 mod audit_cases;
 #[cfg(test)]
+mod audit_texts;
+#[cfg(test)]
 mod commands;
 #[cfg(test)]
 mod ends;

@@ -1,3 +1,4 @@
+pub mod AuditLemmas
 pub mod JobLemmas
 pub mod LumpsLemmas
 pub mod PointsLemmas

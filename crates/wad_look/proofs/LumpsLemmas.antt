@@ -7,7 +7,7 @@ use Rattle.wad_dir.specs.Wad.{Wad}
 use Rattle.wad_look.specs.Engines.Lumps.{entry_line, entries_text, file_text, files_text}
 
 -- the rest of a list begins with the item at its place
-drop-at : {X : Type 0} (xs : List X) (i : ℕ) (x : X) → slice_get xs i ≡ Some x → drop i xs ≡ x ∷ drop (i + 1) xs
+pub drop-at : {X : Type 0} (xs : List X) (i : ℕ) (x : X) → slice_get xs i ≡ Some x → drop i xs ≡ x ∷ drop (i + 1) xs
 drop-at [] i x at = cc
 drop-at (y ∷ xs) zero x at = let same : y ≡ x = cc in rw same refl
 drop-at (y ∷ xs) (suc i) x at = let next : suc i + 1 ≡ suc (i + 1) = omega arith in rw next (drop-at xs i x at)

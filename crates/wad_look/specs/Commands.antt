@@ -3,6 +3,7 @@ use Rattle.std.specs.Prelude.{◌≡◌, ℕ, Bool, List, Result}
 use Rattle.le_rec.specs.Sink.{SinkState}
 use Rattle.le_rec.specs.Source.{SourceState}
 use Rattle.wad_look.specs.Engines.Lumps.{RunsLumps}
+use Rattle.wad_look.specs.Engines.Audit.{RunsAudit}
 use Rattle.wad_look.specs.Engines.Blocks.{RunsBlocks}
 use Rattle.wad_look.specs.Engines.Extract.{RunsExtract}
 use Rattle.wad_look.specs.Engines.Points.{RunsPoints}
@@ -12,7 +13,7 @@ use Rattle.wad_look.specs.Job.{name_in, reading_of}
 use Rattle.wad_look.specs.Runs.{EndsAs}
 use Rattle.wad_look.specs.declared.engines.TheConstants.{INPUT_LIMIT}
 use Rattle.wad_look.specs.declared.command.Cmd.{Cmd}
-use Rattle.wad_look.specs.declared.command.Cmd.TheVariants.{Lumps, Show, Points, Sight, Blocks, Extract}
+use Rattle.wad_look.specs.declared.command.Cmd.TheVariants.{Lumps, Show, Audit, Points, Sight, Blocks, Extract}
 use Rattle.wad_look.specs.declared.command.Job.{Job}
 use Rattle.wad_look.specs.declared.fault.RunFault.{RunFault}
 
@@ -22,6 +23,8 @@ RunsCommand source sink Lumps words job bytes input input' out out' result =
     (input' ≡ input) × EndsAs (RunsLumps sink bytes out out') result
 RunsCommand source sink Show words job bytes input input' out out' result =
     (input' ≡ input) × EndsAs (RunsShow sink bytes (name_in words job) (reading_of job) out out') result
+RunsCommand source sink Audit words job bytes input input' out out' result =
+    (input' ≡ input) × RunsAudit sink bytes (name_in words job) (reading_of job) out out' result
 RunsCommand source sink Points words job bytes input input' out out' result =
     EndsAs (RunsPoints source sink bytes (name_in words job) (reading_of job) INPUT_LIMIT input input' out out') result
 RunsCommand source sink Sight words job bytes input input' out out' result =

@@ -5,3 +5,4 @@ pub mod Show
 pub mod Extract
 pub mod Sight
 pub mod Blocks
+pub mod Audit

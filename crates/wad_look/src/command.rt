@@ -10,6 +10,8 @@ pub enum Cmd {
     Lumps,
     /// The records of a level.
     Show,
+    /// The faults and notes of a level.
+    Audit,
     /// The sector and the ssector of each point of the input.
     Points,
     /// Whether REJECT refuses the sight from one sector to another, for each pair of the input.

@@ -1,5 +1,6 @@
 //! The engine of each command.
 
+pub mod audit;
 pub mod blocks;
 pub mod extract;
 pub mod lumps;
@@ -15,6 +16,7 @@ ghost use Rattle.wad_look.specs.Runs.{done};
 
 use crate::command::{Cmd, Job};
 use crate::fault::RunFault;
+use audit::audit_text;
 use blocks::blocks;
 use extract::extract;
 use le_rec::{Sink, Source};
@@ -47,6 +49,7 @@ pub fn run<A: Allocator + Copy, S: Source, W: Sink>(
     match job.command {
         Cmd::Lumps => done(lumps(alloc, files, out)),
         Cmd::Show => done(show(alloc, files, name_of(words, job), job.reading(), out)),
+        Cmd::Audit => audit_text(alloc, files, name_of(words, job), job.reading(), out),
         Cmd::Points => {
             let name = name_of(words, job);
             done(points(alloc, files, name, job.reading(), input, INPUT_LIMIT, out))

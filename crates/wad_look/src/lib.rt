@@ -12,6 +12,7 @@ mod outcome;
 mod words;
 
 pub use command::{Cmd, Job};
+pub use engines::audit::audit_text;
 pub use engines::blocks::blocks;
 pub use engines::extract::extract;
 pub use engines::lumps::lumps;

@@ -23,6 +23,7 @@ impl Cmd {
         match word.as_bytes() {
             b"lumps" => Some(Cmd::Lumps),
             b"show" => Some(Cmd::Show),
+            b"audit" => Some(Cmd::Audit),
             b"points" => Some(Cmd::Points),
             b"sight" => Some(Cmd::Sight),
             b"blocks" => Some(Cmd::Blocks),
@@ -40,7 +41,7 @@ impl Cmd {
                 names: 0,
                 files: 64,
             },
-            Cmd::Show | Cmd::Points | Cmd::Blocks => Form {
+            Cmd::Show | Cmd::Audit | Cmd::Points | Cmd::Blocks => Form {
                 wide: true,
                 names: 1,
                 files: 64,

@@ -12,6 +12,10 @@ returns-in-Show g c =
       },
     )
 
+pub returns-in-Audit : goal.returns-in-Audit
+returns-in-Audit g c =
+    rw c.in-Audit.is (refl, rw (c.name_of-in-Audit.ensures, c.reading-in-Audit.ensures) at c.audit_text.ensures)
+
 pub returns-in-Points : goal.returns-in-Points
 returns-in-Points g c =
     rw c.in-Points.is (record {

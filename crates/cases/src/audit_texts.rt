@@ -1,0 +1,105 @@
+//! The command `audit`.
+
+use crate::sample::{base, base_with, base_with_node, lumps, pack};
+use map_level::{LevelFault, Reading};
+use std::process::Abort;
+use std::test::Fail;
+use test_alloc::Refusing;
+use test_ends::SliceSink;
+use wad_look::{RunFault, audit_text, status};
+
+// What `audit` of E1M1 answers, and that it writes this text.
+fn check(
+    rt: &(impl Abort + AllocGlobal),
+    file: Vec<u8>,
+    text: &[u8],
+    faultless: bool,
+) -> Result<(), Fail> {
+    let files = vec![in rt.alloc(); file]?;
+    let mut room = [0; 200];
+    let mut out = SliceSink::new(&mut room);
+    let result = audit_text(rt.alloc(), &files, b"E1M1", Reading::Signed, &mut out);
+    assert_eq!(rt; out.taken(), text);
+    assert_eq!(rt; result, Ok(faultless));
+    assert_eq!(rt; status(&result), u8::from(!faultless));
+    Ok(())
+}
+
+#[test]
+fn base_points(rt: HostRuntime) -> Result<(), Fail> {
+    check(&rt, base(rt.alloc())?, b"faults 0 notes 0\n", true)
+}
+
+#[test]
+fn no_direction(rt: HostRuntime) -> Result<(), Fail> {
+    let text = b"N7 0 partition without direction\nfaults 0 notes 1\n";
+    check(&rt, base_with_node(rt.alloc(), 3, 3, 0, 0)?, text, true)
+}
+
+#[test]
+fn no_nodes(rt: HostRuntime) -> Result<(), Fail> {
+    let text = b"F16 1 ssector not reached\nfaults 1 notes 0\n";
+    check(&rt, base_with(rt.alloc(), &[(7, &[])])?, text, false)?;
+    let text = b"F17 0 no ssector\nfaults 1 notes 0\n";
+    check(
+        &rt,
+        base_with(rt.alloc(), &[(6, &[]), (7, &[])])?,
+        text,
+        false,
+    )
+}
+
+#[test]
+fn side_missing(rt: HostRuntime) -> Result<(), Fail> {
+    let linedef = [0, 0, 1, 0, 4, 0, 0, 0, 0, 0, 0, 0, 255, 255];
+    let text = b"F9 1 seg's linedef has no side there
+N3 0 two-sided flag without side 1
+faults 1 notes 1
+";
+    check(&rt, base_with(rt.alloc(), &[(2, &linedef)])?, text, false)
+}
+
+#[test]
+fn lumps_missing(rt: HostRuntime) -> Result<(), Fail> {
+    let text = b"F1 10 lump missing after the label\nfaults 1 notes 0\n";
+    check(&rt, pack(rt.alloc(), &lumps()[..10])?, text, false)?;
+    let files = vec![in rt.alloc(); base(rt.alloc())?]?;
+    let mut room = [0; 20];
+    let mut out = SliceSink::new(&mut room);
+    let result = audit_text(rt.alloc(), &files, b"E2M9", Reading::Signed, &mut out);
+    assert_eq!(rt; result, Err(RunFault::Level(LevelFault::NoLabel)));
+    assert!(rt; out.taken().is_empty());
+    Ok(())
+}
+
+#[test]
+fn lump_places(rt: HostRuntime) -> Result<(), Fail> {
+    let mut file = base(rt.alloc())?;
+    // The place of the entry NODES.
+    for byte in &mut file[345..349] {
+        *byte = 255;
+    }
+    let text = b"F2 7 lump outside its file\nfaults 1 notes 0\n";
+    check(&rt, file, text, false)
+}
+
+#[test]
+fn growth_refused(rt: HostRuntime) -> Result<(), Fail> {
+    let files = vec![in rt.alloc(); base(rt.alloc())?]?;
+    let mut growths = 0;
+    for n in 1..20 {
+        let heap = Refusing::new(rt.alloc(), n);
+        let mut room = [0; 20];
+        let mut out = SliceSink::new(&mut room);
+        let result = audit_text(&heap, &files, b"E1M1", Reading::Signed, &mut out);
+        if !heap.has_refused() {
+            assert_eq!(rt; result, Ok(true));
+            break;
+        }
+        assert_eq!(rt; result, Err(RunFault::Memory));
+        assert!(rt; out.taken().is_empty());
+        growths = n;
+    }
+    assert!(rt; growths > 1 && growths < 19);
+    Ok(())
+}

@@ -75,6 +75,7 @@ fn lumps_missing(rt: HostRuntime) -> Result<(), Fail> {
 #[test]
 fn lump_places(rt: HostRuntime) -> Result<(), Fail> {
     let mut file = base(rt.alloc())?;
+    assert_eq!(rt; file.len(), 409);
     // The place of the entry NODES.
     for byte in &mut file[345..349] {
         *byte = 255;

@@ -65,7 +65,7 @@ fn growth_refused_in_level_engines(rt: HostRuntime) -> Result<(), Fail> {
 
 // `show` with a writer that takes a byte a call and fails at call `n`: written are the bytes before.
 fn show_fails_at(rt: &(impl Abort + AllocGlobal), files: &[Vec<u8>], n: usize, text: &[u8]) {
-    assert!(rt; files.len() <= 64 && 0 < n && n <= text.len());
+    assert!(rt; files.len() <= 64 && 0 < n && n <= text.len() && n <= 1024);
     let mut room = [0; 1024];
     let mut out = SliceSink::new(&mut room).at_most(1).failing_at(n as u32);
     let result = show(rt.alloc(), files, b"E1M1", Reading::Signed, &mut out);

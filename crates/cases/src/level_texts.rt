@@ -70,7 +70,17 @@ fn has_lines(
     let mut room = [0; 1024];
     let mut out = SliceSink::new(&mut room);
     assert_eq!(rt; show(alloc, &files, b"E1M1", reading, &mut out), Ok(()));
-    Ok(out.taken().windows(lines.len()).any(|part| part == lines))
+    Ok(stand_in(lines, out.taken()))
+}
+
+// Whether the lines stand somewhere in the text.
+fn stand_in(lines: &[u8], text: &[u8]) -> bool {
+    for start in 0..text.len() {
+        if text[start..].starts_with(lines) {
+            return true;
+        }
+    }
+    false
 }
 
 #[test]

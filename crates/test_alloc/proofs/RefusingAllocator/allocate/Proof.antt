@@ -35,7 +35,7 @@ use denote.RawPtr.{block_ptr}
 use denote.Builtin.{usize, RefOf}
 use denote.Triple.Call.{calls_at}
 use Rattle.std.proofs.alloc.Calls.{Al, α, seen, Answer, answer_val, Answer-typed, Answer-Ok, Answer-err, takes_key, Takes, at_takes, Answered, Takes-goes, Takes-gives, answers}
-use Rattle.test_alloc.proofs.Asked.{Asks, at_asks, Asks-goes, Asks-gives}
+use Rattle.test_alloc.proofs.AskedLemmas.{Asks, at_asks, Asks-goes, Asks-gives}
 use Rattle.test_alloc.proofs.is_granted.Symbol as c_sym
 use Rattle.test_alloc.proofs.is_granted.Met as c_met
 use Rattle.test_alloc.specs.declared.Count.{Count}

@@ -33,14 +33,16 @@ pub missing_tells : (before after : SinkState) (k : ℕ) (result : Result Bool I
     → Writes before after (finding_line (record { code = F1; index = k }) ++ totals_line 1 0) result → IfOk result (λ none. none ≡ false)
     → TellsFindings before after ((record { code = F1; index = k }) ∷ []) result
 missing_tells before after k result w is =
-    record { 
+    record {
       writes = subst (λ (front : List ℕ). Writes before after (front ++ totals_line 1 0) result) (sym (append-nil (finding_line (record { code = F1; index = k })))) w;
-       faultless = not_faultless result is }
+      faultless = not_faultless result is;
+    }
 
 pub outside_tells : (before after : SinkState) (k : ℕ) (result : Result Bool IoFault)
     → Writes before after (finding_line (record { code = F2; index = k }) ++ totals_line 1 0) result → IfOk result (λ none. none ≡ false)
     → TellsFindings before after ((record { code = F2; index = k }) ∷ []) result
 outside_tells before after k result w is =
-    record { 
+    record {
       writes = subst (λ (front : List ℕ). Writes before after (front ++ totals_line 1 0) result) (sym (append-nil (finding_line (record { code = F2; index = k })))) w;
-       faultless = not_faultless result is }
+      faultless = not_faultless result is;
+    }

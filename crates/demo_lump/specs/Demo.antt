@@ -13,14 +13,16 @@ abbrev pub AreCommands : ℕ → List ℕ → List Command → Type 0
 AreCommands version = AreJoined (IsCommand version)
 
 -- bytes that are a header, then commands, then the marker, then others
-pub record IsDemo (bytes : List ℕ) (header : Header) (commands : List Command) (rest : List ℕ) : Type 0 where
+pub record IsDemo (bytes : List ℕ) (header : Header) (commands : List Command)
+    (rest : List ℕ) : Type 0 where
   pub front : List ℕ
   pub body : List ℕ
   pub joined : bytes ≡ front ++ (body ++ 128 ∷ rest)
   pub begins : IsHeader front header
   pub follow : AreCommands header.version body commands
 
--- bytes that are a header, then the most whole commands, and then no marker: the place where that should stand
+-- bytes that are a header, then the most whole commands, and then no marker: the
+-- place where that should stand
 pub record IsCutAt (bytes : List ℕ) (place : ℕ) : Type 0 where
   pub header : Header
   pub commands : List Command

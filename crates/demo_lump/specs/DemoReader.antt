@@ -8,8 +8,8 @@ use Rattle.demo_lump.specs.declared.command.Command.{Command}
 use Rattle.demo_lump.specs.declared.header.Header.{Header}
 use Rattle.demo_lump.specs.declared.fault.StreamFault.{StreamFault}
 
--- the limit, the bytes that it took, the header once it was read, whether the marker was read, the bytes that `after`
--- counted, and the first fault
+-- the limit, the bytes that it took, the header once it was read, whether the marker was read, the
+-- bytes that `after` counted, and the first fault
 pub record DemoReader : Type 0 where
   pub limit : ℕ
   pub taken : ℕ
@@ -33,23 +33,28 @@ after_rest r taken (Ok n) = record r { taken = taken; counted = Some n }
 after_rest r taken (Err fault) = record r { taken = taken; fault = Some fault }
 
 -- a call that reads nothing, since its answer is known
-pub record Repeats {S A : Type 0} (answer : A) (source source' : S) (old new : DemoReader) (result : A) : Type 0 where
+pub record Repeats {S A : Type 0} (answer : A) (source source' : S) (old new : DemoReader)
+    (result : A) : Type 0 where
   pub answered : result ≡ answer
   pub unread : source' ≡ source
   pub unchanged : new ≡ old
 
 -- a reading of the header
-pub record ReadsHeader (source source' : SourceState) (old new : DemoReader) (result : Result Header StreamFault) : Type 0 where
+pub record ReadsHeader (source source' : SourceState) (old new : DemoReader)
+    (result : Result Header StreamFault) : Type 0 where
   pub reads : Reads header_piece old.limit source source' old.taken new.taken result
   pub state : new ≡ after_header old new.taken result
 
 -- a reading of the next command, or of the marker
-pub record ReadsNext (version : ℕ) (source source' : SourceState) (old new : DemoReader) (result : Result (Option Command) StreamFault) : Type 0 where
-  pub reads : Reads (next_piece version old.taken) old.limit source source' old.taken new.taken result
+pub record ReadsNext (version : ℕ) (source source' : SourceState) (old new : DemoReader)
+    (result : Result (Option Command) StreamFault) : Type 0 where
+  pub reads : Reads
+      (next_piece version old.taken) old.limit source source' old.taken new.taken result
   pub state : new ≡ after_next old new.taken result
 
 -- a reading of the header and then of what follows it
-pub record ReadsBoth (source source' : SourceState) (old new : DemoReader) (result : Result (Option Command) StreamFault) : Type 0 where
+pub record ReadsBoth (source source' : SourceState) (old new : DemoReader)
+    (result : Result (Option Command) StreamFault) : Type 0 where
   pub header : Result Header StreamFault
   pub between : SourceState
   pub begun : DemoReader
@@ -58,6 +63,7 @@ pub record ReadsBoth (source source' : SourceState) (old new : DemoReader) (resu
       (λ e. (result ≡ Err e) × (new ≡ begun) × (source' ≡ between))
 
 -- a reading of all that is left
-pub record ReadsRest (source source' : SourceState) (old new : DemoReader) (result : Result ℕ StreamFault) : Type 0 where
+pub record ReadsRest (source source' : SourceState) (old new : DemoReader)
+    (result : Result ℕ StreamFault) : Type 0 where
   pub reads : TakesAll old.limit source source' old.taken new.taken result
   pub state : new ≡ after_rest old new.taken result

@@ -37,8 +37,11 @@ pub record IsHeader (bytes : List ℕ) (header : Header) : Type 0 where
 -- why bytes begin with no header: the first reason that holds
 abbrev pub RefusesHeader : List ℕ → DemoFault → Type 0
 RefusesHeader bytes Empty = bytes ≡ []
-RefusesHeader bytes (Version version) = (0 < length bytes) × (slice_index bytes 0 ≡ version) × ¬ IsVersion version
-RefusesHeader bytes ShortHeader = (0 < length bytes) × IsVersion (slice_index bytes 0) × (length bytes < 13)
+RefusesHeader bytes (Version version) =
+    (0 < length bytes) × (slice_index bytes 0 ≡ version) × ¬ IsVersion version
+RefusesHeader bytes ShortHeader =
+    (0 < length bytes) × IsVersion (slice_index bytes 0) × (length bytes < 13)
 RefusesHeader bytes NoPlayers =
-    (13 ≤ length bytes) × IsVersion (slice_index bytes 0) × (players_in (header_of (take 13 bytes)).players ≡ 0)
+    (13 ≤ length bytes) × IsVersion (slice_index bytes 0)
+    × (players_in (header_of (take 13 bytes)).players ≡ 0)
 RefusesHeader bytes (NoMarker _) = ⊥

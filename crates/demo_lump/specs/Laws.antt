@@ -18,22 +18,29 @@ OneReading =
 
 -- they are read as a demo or refused
 abbrev pub ReadOrRefused : Type 0
-ReadOrRefused = (bytes : List ℕ) → ((demo : Demo) × IsRead bytes demo) ⊎ ((fault : DemoFault) × RefusesDemo bytes fault)
+ReadOrRefused =
+    (bytes : List ℕ)
+    → ((demo : Demo) × IsRead bytes demo) ⊎ ((fault : DemoFault) × RefusesDemo bytes fault)
 
 -- never both
 abbrev pub NeverBoth : Type 0
-NeverBoth = (bytes : List ℕ) (demo : Demo) (fault : DemoFault) → IsRead bytes demo → ¬ RefusesDemo bytes fault
+NeverBoth =
+    (bytes : List ℕ) (demo : Demo) (fault : DemoFault) → IsRead bytes demo
+    → ¬ RefusesDemo bytes fault
 
 -- and one fault at most refuses them
 abbrev pub OneRefusal : Type 0
-OneRefusal = (bytes : List ℕ) (fault other : DemoFault) → RefusesDemo bytes fault → RefusesDemo bytes other → fault ≡ other
+OneRefusal =
+    (bytes : List ℕ) (fault other : DemoFault) → RefusesDemo bytes fault → RefusesDemo bytes other
+    → fault ≡ other
 
 -- pieces joined are the demo: a header, commands and the marker
 abbrev pub PiecesAreDemo : Type 0
 PiecesAreDemo =
     (bytes : List ℕ) (header : Header) (commands : List Command) (rest : List ℕ)
     → IsDemo bytes header commands rest
-    ↔ ((left : List ℕ) × Begins header_piece bytes header left × AreNext header.version 13 left commands rest)
+    ↔ ((left : List ℕ) × Begins header_piece bytes header left
+    × AreNext header.version 13 left commands rest)
 
 -- and where one is refused, so is the demo, with the same fault
 abbrev pub PiecesAreRefused : Type 0
@@ -51,7 +58,8 @@ pub record IsCommand109 (bytes : List ℕ) (command : Command) : Type 0 where
   pub reads : short_command_of bytes ≡ command
 
 -- a demo, were 109 the one version
-pub record IsDemo109 (bytes : List ℕ) (header : Header) (commands : List Command) (rest : List ℕ) : Type 0 where
+pub record IsDemo109 (bytes : List ℕ) (header : Header) (commands : List Command)
+    (rest : List ℕ) : Type 0 where
   pub front : List ℕ
   pub body : List ℕ
   pub joined : bytes ≡ front ++ (body ++ 128 ∷ rest)
@@ -65,4 +73,5 @@ pub record IsDemo109 (bytes : List ℕ) (header : Header) (commands : List Comma
 abbrev pub ReadsAs109 : Type 0
 ReadsAs109 =
     (bytes : List ℕ) (header : Header) (commands : List Command) (rest : List ℕ)
-    → (IsDemo bytes header commands rest × (header.version ≡ 109)) ↔ IsDemo109 bytes header commands rest
+    → (IsDemo bytes header commands rest × (header.version ≡ 109))
+    ↔ IsDemo109 bytes header commands rest

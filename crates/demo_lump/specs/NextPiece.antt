@@ -8,8 +8,8 @@ use Rattle.demo_lump.specs.declared.header.Header.{Header}
 use Rattle.demo_lump.specs.declared.fault.DemoFault.{DemoFault}
 use Rattle.demo_lump.specs.declared.fault.DemoFault.TheVariants.{NoMarker}
 
--- A piece that the bytes left may begin with, why they begin with none, and which bytes a reading of it may take: no
--- more than it still needs.
+-- A piece that the bytes left may begin with, why they begin with none, and which bytes a reading
+-- of it may take: no more than it still needs.
 pub record Piece (A : Type 0) : Type 1 where
   pub is : List ℕ → A → Type 0
   pub refuses : List ℕ → DemoFault → Type 0
@@ -30,7 +30,8 @@ IsNext version bytes None = bytes ≡ 128 ∷ []
 
 -- or neither, where `taken` bytes were taken before
 abbrev pub RefusesNext : ℕ → ℕ → List ℕ → DemoFault → Type 0
-RefusesNext version taken bytes (NoMarker place) = (place ≡ taken) × NoneBegins (IsNext version) bytes
+RefusesNext version taken bytes (NoMarker place) =
+    (place ≡ taken) × NoneBegins (IsNext version) bytes
 RefusesNext version taken bytes _ = ⊥
 
 -- its first byte, and where that isn't the marker the 3 or 4 more
@@ -38,14 +39,16 @@ abbrev pub next_piece : ℕ → ℕ → Piece (Option Command)
 next_piece version taken = record {
   is = IsNext version;
   refuses = RefusesNext version taken;
-  needs = λ read. (1 < length read → slice_index read 0 ≢ 128) × (length read ≤ command_size version);
+  needs =
+      λ read. (1 < length read → slice_index read 0 ≢ 128) × (length read ≤ command_size version);
 }
 
 -- the bytes begin with that piece, and then come others
 abbrev pub Begins : {A : Type 0} → Piece A → List ℕ → A → List ℕ → Type 0
 Begins piece bytes x rest = (front : List ℕ) × (bytes ≡ front ++ rest) × piece.is front x
 
--- where `taken` bytes were taken: the bytes left begin with these commands, piece by piece, and then with the marker
+-- where `taken` bytes were taken: the bytes left begin with these commands, piece by
+-- piece, and then with the marker
 abbrev pub AreNext : ℕ → ℕ → List ℕ → List Command → List ℕ → Type 0
 AreNext version taken bytes [] rest = Begins (next_piece version taken) bytes None rest
 AreNext version taken bytes (command ∷ commands) rest =

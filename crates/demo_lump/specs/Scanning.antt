@@ -9,7 +9,8 @@ use Rattle.demo_lump.specs.declared.command.Command.{Command}
 abbrev pub commands_of : ℕ → ℕ → List ℕ → List Command
 commands_of version zero bytes = []
 commands_of version (suc n) bytes =
-    command_of version (take (command_size version) bytes) ∷ commands_of version n (drop (command_size version) bytes)
+    command_of version (take (command_size version) bytes)
+    ∷ commands_of version n (drop (command_size version) bytes)
 
 -- the bytes begin with that many commands, and then come others
 pub record Follows (version : ℕ) (bytes : List ℕ) (count : ℕ) (rest : List ℕ) : Type 0 where

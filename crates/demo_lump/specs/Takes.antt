@@ -1,11 +1,13 @@
--- What taking bytes from a source does, up to a limit: `taken` were taken before, and `taken'` are now.
+-- What taking bytes from a source does, up to a limit: `taken` were taken
+-- before, and `taken'` are now.
 use Rattle.std.specs.Prelude.{◌≡◌, ℕ, ◌+◌, ◌<◌, ◌≤◌, Bool, true, false, Option, Some, None, List, [], ◌∷◌, length, Result, OnOk, IfOk, IfErr}
 use Rattle.std.specs.Io.KnownBytes.{Consumes, IsAtEnd}
 use Rattle.le_rec.specs.Source.{SourceState}
 use Rattle.demo_lump.specs.declared.fault.StreamFault.{StreamFault}
 use Rattle.demo_lump.specs.declared.fault.StreamFault.TheVariants.{Demo, Read, TooLong}
 
--- `Read` comes only where the source has failed, `TooLong` only where it gave the byte past the limit
+-- `Read` comes only where the source has failed, `TooLong` only where it
+-- gave the byte past the limit
 abbrev pub EndFault : ℕ → Bool → ℕ → StreamFault → Type 0
 EndFault limit failed taken Read = (failed ≡ true) × (taken ≤ limit)
 EndFault limit failed taken TooLong = (failed ≡ false) × (taken ≡ limit + 1)
@@ -18,7 +20,8 @@ TakeFault n limit failed read taken TooLong = (failed ≡ false) × (taken ≡ l
 TakeFault n limit failed read taken (Demo _) = ⊥
 
 -- taking n bytes, or fewer at the source's end: the answer's value is that of the bytes by `is`
-pub record Takes {A : Type 0} (is : List ℕ → A → Type 0) (n limit : ℕ) (source source' : SourceState) (taken taken' : ℕ) (result : Result A StreamFault) : Type 0 where
+pub record Takes {A : Type 0} (is : List ℕ → A → Type 0) (n limit : ℕ)
+    (source source' : SourceState) (taken taken' : ℕ) (result : Result A StreamFault) : Type 0 where
   pub read : List ℕ
   pub given : Consumes source.left source'.left read
   pub counted : taken' ≡ taken + length read
@@ -42,7 +45,8 @@ IsByte read None = read ≡ []
 IsByte read (Some b) = read ≡ b ∷ []
 
 -- taking all that is left
-pub record TakesAll (limit : ℕ) (source source' : SourceState) (taken taken' : ℕ) (result : Result ℕ StreamFault) : Type 0 where
+pub record TakesAll (limit : ℕ) (source source' : SourceState) (taken taken' : ℕ)
+    (result : Result ℕ StreamFault) : Type 0 where
   pub read : List ℕ
   pub given : Consumes source.left source'.left read
   pub counted : taken' ≡ taken + length read

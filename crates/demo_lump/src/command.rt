@@ -1,14 +1,16 @@
 //! One player's command for one tic.
 
 ghost use Rattle.std.specs.Prelude.{◌≡◌, ◌≤◌, ◌+◌, ◌∷◌, length};
-ghost use Rattle.demo_lump.specs.Command.{command_of, command_size, long_command_of, short_command_of, signed8};
+ghost use Rattle.demo_lump.specs.Command.{command_of, command_size, long_command_of};
+ghost use Rattle.demo_lump.specs.Command.{short_command_of, signed8};
 
 use le_rec::number::u16_at;
 
 /// The version of the long form, whose commands have a turn of two bytes.
 pub(crate) const LONG: u8 = 111;
 
-/// The byte that stands where a command would begin, at the end of a demo (`DEMOMARKER` of `g_game.c`).
+/// The byte that stands where a command would begin, at the end of
+/// a demo (`DEMOMARKER` of `g_game.c`).
 pub(crate) const MARKER: u8 = 128;
 
 /// One player's command for one tic (`ticcmd_t` of `d_ticcmd.h`).

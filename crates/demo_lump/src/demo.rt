@@ -1,6 +1,7 @@
 //! A demo whose bytes are there.
 
-ghost use Rattle.std.specs.Prelude.{◌≡◌, ◌≢◌, ℕ, ◌/◌, ◌%◌, ◌<◌, ◌≤◌, ◌^◌, ◌↔◌, List, ◌∷◌, length, take, slice_get, slice_index, IfOk, IfErr, IsTrue, MatchOption};
+ghost use Rattle.std.specs.Prelude.{◌≡◌, ◌≢◌, ℕ, ◌/◌, ◌%◌, ◌<◌, ◌≤◌, ◌^◌, ◌↔◌, List, ◌∷◌, length};
+ghost use Rattle.std.specs.Prelude.{take, slice_get, slice_index, IfOk, IfErr, IsTrue, MatchOption};
 ghost use Rattle.demo_lump.specs.Header.{IsHeader, RefusesHeader, players_in};
 ghost use Rattle.demo_lump.specs.Scanning.{Scans};
 
@@ -41,8 +42,8 @@ impl<'a> Demo<'a> {
     ghost use Rattle.demo_lump.specs.Demo as demo;
     ghost use Rattle.demo_lump.specs.Demo.{IsRead, RefusesDemo};
 
-    /// The demo that the bytes hold, up to the first marker that stands where a command would begin. What follows it
-    /// is accepted and counted.
+    /// The demo that the bytes hold, up to the first marker that stands where a command would
+    /// begin. What follows it is accepted and counted.
     pub fn read(bytes: &'a [u8]) -> Result<Demo<'a>, DemoFault>
         ensures ok { (found : demo.Demo) → (result ≡ Ok found) ↔ IsRead bytes.now found }
         ensures refused { (fault : _) → (result ≡ Err fault) ↔ RefusesDemo bytes.now fault }

@@ -17,8 +17,8 @@ pub enum DemoFault {
     /// No player is in the game.
     #[error("4")]
     NoPlayers,
-    /// After the most whole commands comes no marker: the place where it should stand, counted from the demo's
-    /// first byte.
+    /// After the most whole commands comes no marker: the place where it should stand,
+    /// counted from the demo's first byte.
     #[error("5 at {0}")]
     NoMarker(u64),
 }

@@ -6,7 +6,8 @@ ghost use Rattle.demo_lump.specs.Header.{IsVersion, header_of, players_in};
 /// The number of bytes of a header.
 pub(crate) const HEADER: usize = 13;
 
-/// How the game of a demo is set up: its level and rules, and who plays (`G_BeginRecording` of `g_game.c`).
+/// How the game of a demo is set up: its level and rules, and who
+/// plays (`G_BeginRecording` of `g_game.c`).
 #[derive(Clone, Copy, Debug, PartialEq, Eq)]
 pub struct Header {
     /// 109, 110 or 111.

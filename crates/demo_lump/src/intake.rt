@@ -21,7 +21,8 @@ pub(crate) struct Intake {
 }
 
 impl Intake {
-    /// Fills `buf`, and answers whether there were bytes enough. It asks for no byte but those of `buf`.
+    /// Fills `buf`, and answers whether there were bytes enough. It
+    /// asks for no byte but those of `buf`.
     pub fn fill<S: Source>(&mut self, source: &mut S, buf: &mut [u8]) -> Result<bool, StreamFault>
         requires sound { (S.state source.old).failed ≡ false }
         requires within { self.old.taken ≤ self.old.limit }

@@ -1,7 +1,8 @@
-//! Laws over the definitions alone, each the contract of a function that does nothing: a caller gets the law
-//! from a call.
+//! Laws over the definitions alone, each the contract of a function that does
+//! nothing: a caller gets the law from a call.
 
-ghost use Rattle.demo_lump.specs.Laws.{NeverBoth, OneReading, OneRefusal, PiecesAreDemo, PiecesAreRefused, ReadOrRefused, ReadsAs109};
+ghost use Rattle.demo_lump.specs.Laws.{NeverBoth, OneReading, OneRefusal, PiecesAreDemo};
+ghost use Rattle.demo_lump.specs.Laws.{PiecesAreRefused, ReadOrRefused, ReadsAs109};
 
 /// Bytes have at most one reading as a demo.
 pub fn one_reading()

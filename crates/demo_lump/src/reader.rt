@@ -11,9 +11,10 @@ use crate::piece::{read_command, read_header};
 use le_rec::Source;
 use std::marker::Model;
 
-/// Reads a demo from a source piece by piece, up to a limit. It asks the source only for bytes that the header or the
-/// next command still needs, and leaves those after the marker unread until `after`. Once a call of `header`, `next`
-/// or `after` answered a fault, each later one answers that fault.
+/// Reads a demo from a source piece by piece, up to a limit. It asks the source only for
+/// bytes that the header or the next command still needs, and leaves those after the
+/// marker unread until `after`. Once a call of `header`, `next` or `after` answered a
+/// fault, each later one answers that fault.
 ///
 /// One source serves all calls. Before the first fault it hasn't failed.
 #[derive(Drop)]
@@ -105,7 +106,8 @@ impl DemoReader {
     ) -> Result<Option<Command>, StreamFault>
         requires going { self.old.fault ≡ None }
         requires sound { (S.state source.old).failed ≡ false }
-        ensures { ReadsNext version (S.state source.old) (S.state source.new) self.old self.new result }
+        ensures { ReadsNext version
+            (S.state source.old) (S.state source.new) self.old self.new result }
     {
         let read = read_command(version, &mut self.intake, source);
         match read {
@@ -116,7 +118,8 @@ impl DemoReader {
         read
     }
 
-    /// The next command, or None at the marker and from then on. The header is read first where that wasn't done.
+    /// The next command, or None at the marker and from then on. The header is
+    /// read first where that wasn't done.
     pub fn next<S: Source>(&mut self, source: &mut S) -> Result<Option<Command>, StreamFault>
         requires { self.old.fault ≡ None → (S.state source.old).failed ≡ false }
         ensures again { IfSome self.old.fault (λ fault.
@@ -125,7 +128,8 @@ impl DemoReader {
             → Repeats (Ok None) source.old source.new self.old self.new result }
         ensures known { self.old.fault ≡ None → self.old.ended ≡ false
             → IfSome self.old.header (λ header.
-            ReadsNext header.version (S.state source.old) (S.state source.new) self.old self.new result) }
+            ReadsNext header.version
+            (S.state source.old) (S.state source.new) self.old self.new result) }
         ensures first { self.old.fault ≡ None → self.old.ended ≡ false → self.old.header ≡ None
             → ReadsBoth (S.state source.old) (S.state source.new) self.old self.new result }
         ensures sound { self.new.fault ≡ None → (S.state source.new).failed ≡ false }

@@ -20,7 +20,8 @@ pub fn write_demo<A: Allocator>(
     requires players { 0 < players_in header.now.players }
     requires writable { All (IsWritable header.now.version) commands.now }
     ensures demo { IfOk result (λ bytes. IsDemo bytes.items header.now commands.now []) }
-    ensures read { IfOk result (λ bytes. IsRead bytes.items (record { header = header.now; commands = commands.now; after = 0 })) }
+    ensures read { IfOk result (λ bytes. IsRead bytes.items
+        (record { header = header.now; commands = commands.now; after = 0 })) }
 {
     let size = HEADER + commands.len() * size_of_command(header.version) + 1;
     let mut bytes = vec![in alloc; 0; size]?;
@@ -29,7 +30,8 @@ pub fn write_demo<A: Allocator>(
 }
 
 fn put_demo(bytes: &mut [u8], header: &Header, commands: &[Command])
-    requires room { length bytes.old ≡ HEADER + length commands.now * command_size header.now.version + 1 }
+    requires room { length bytes.old
+        ≡ HEADER + length commands.now * command_size header.now.version + 1 }
     requires version { IsVersion header.now.version }
     requires players { 0 < players_in header.now.players }
     requires writable { All (IsWritable header.now.version) commands.now }

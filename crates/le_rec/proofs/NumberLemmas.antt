@@ -10,7 +10,8 @@ use Rattle.std.specs.Int.{w16, w32, cast_unsigned, cast_signed}
 use Rattle.le_rec.specs.Number.{unsigned16, signed16, unsigned32, signed32, bytes16, bytes32, signed_bytes16, signed_bytes32}
 
 -- the number that was read, as a signed one
-pub cast_signed-unsigned16 : (b0 b1 : ℕ) → b0 < 256 → b1 < 256 → cast_signed w16 (b0 + 256 * (b1 + 256 * 0)) ≡ signed16 b0 b1
+pub cast_signed-unsigned16 : (b0 b1 : ℕ) → b0 < 256 → b1 < 256
+    → cast_signed w16 (b0 + 256 * (b1 + 256 * 0)) ≡ signed16 b0 b1
 unfolding unsigned16 signed16
 cast_signed-unsigned16 b0 b1 h0 h1 = grind (arith, ints, nat_tests)
 
@@ -24,21 +25,26 @@ pub unsigned16-bytes16 : (n : ℕ) → n < 65536 → unsigned16 (n % 256) (n / 2
 unfolding unsigned16
 unsigned16-bytes16 n h = omega arith
 
-pub unsigned32-bytes32 : (n : ℕ) → n < 4294967296 → unsigned32 (n % 256) (n / 256 % 256) (n / 65536 % 256) (n / 16777216 % 256) ≡ n
+pub unsigned32-bytes32 : (n : ℕ) → n < 4294967296
+    → unsigned32 (n % 256) (n / 256 % 256) (n / 65536 % 256) (n / 16777216 % 256) ≡ n
 unfolding unsigned32
 unsigned32-bytes32 n h = omega arith
 
-pub signed16-bytes16 : (z : ℤ) → FitsSigned w16 z → signed16 (cast_unsigned w16 z % 256) (cast_unsigned w16 z / 256 % 256) ≡ z
+pub signed16-bytes16 : (z : ℤ) → FitsSigned w16 z
+    → signed16 (cast_unsigned w16 z % 256) (cast_unsigned w16 z / 256 % 256) ≡ z
 unfolding unsigned16 signed16
 signed16-bytes16 z f = grind (arith, ints, nat_tests)
 
 pub signed32-bytes32 : (z : ℤ) → FitsSigned w32 z
-    → signed32 (cast_unsigned w32 z % 256) (cast_unsigned w32 z / 256 % 256) (cast_unsigned w32 z / 65536 % 256) (cast_unsigned w32 z / 16777216 % 256) ≡ z
+    → signed32 (cast_unsigned w32 z % 256) (cast_unsigned w32 z / 256 % 256)
+    (cast_unsigned w32 z / 65536 % 256) (cast_unsigned w32 z / 16777216 % 256)
+    ≡ z
 unfolding unsigned32 signed32
 signed32-bytes32 z f = grind (arith, ints, nat_tests)
 
 -- the bytes of what was read
-pub bytes16-unsigned16 : (b0 b1 : ℕ) → b0 < 256 → b1 < 256 → bytes16 (unsigned16 b0 b1) ≡ b0 ∷ b1 ∷ []
+pub bytes16-unsigned16 : (b0 b1 : ℕ) → b0 < 256 → b1 < 256
+    → bytes16 (unsigned16 b0 b1) ≡ b0 ∷ b1 ∷ []
 unfolding unsigned16
 bytes16-unsigned16 b0 b1 h0 h1 =
     let low : (b0 + 256 * b1) % 256 ≡ b0 = omega arith in
@@ -57,16 +63,20 @@ bytes32-unsigned32 b0 b1 b2 b3 h0 h1 h2 h3 =
     cc
 
 -- a signed number's bits are the unsigned number of its bytes
-cast_unsigned-signed16 : (b0 b1 : ℕ) → b0 < 256 → b1 < 256 → cast_unsigned w16 (signed16 b0 b1) ≡ unsigned16 b0 b1
+cast_unsigned-signed16 : (b0 b1 : ℕ) → b0 < 256 → b1 < 256
+    → cast_unsigned w16 (signed16 b0 b1) ≡ unsigned16 b0 b1
 unfolding unsigned16 signed16
 cast_unsigned-signed16 b0 b1 h0 h1 = grind (arith, ints, nat_tests)
 
-cast_unsigned-signed32 : (b0 b1 b2 b3 : ℕ) → b0 < 256 → b1 < 256 → b2 < 256 → b3 < 256 → cast_unsigned w32 (signed32 b0 b1 b2 b3) ≡ unsigned32 b0 b1 b2 b3
+cast_unsigned-signed32 : (b0 b1 b2 b3 : ℕ) → b0 < 256 → b1 < 256 → b2 < 256 → b3 < 256
+    → cast_unsigned w32 (signed32 b0 b1 b2 b3) ≡ unsigned32 b0 b1 b2 b3
 unfolding unsigned32 signed32
 cast_unsigned-signed32 b0 b1 b2 b3 h0 h1 h2 h3 = grind (arith, ints, nat_tests)
 
-pub signed_bytes16-signed16 : (b0 b1 : ℕ) → b0 < 256 → b1 < 256 → signed_bytes16 (signed16 b0 b1) ≡ b0 ∷ b1 ∷ []
-signed_bytes16-signed16 b0 b1 h0 h1 = rw (cast_unsigned-signed16 b0 b1 h0 h1) (bytes16-unsigned16 b0 b1 h0 h1)
+pub signed_bytes16-signed16 : (b0 b1 : ℕ) → b0 < 256 → b1 < 256
+    → signed_bytes16 (signed16 b0 b1) ≡ b0 ∷ b1 ∷ []
+signed_bytes16-signed16 b0 b1 h0 h1 =
+    rw (cast_unsigned-signed16 b0 b1 h0 h1) (bytes16-unsigned16 b0 b1 h0 h1)
 
 pub signed_bytes32-signed32 : (b0 b1 b2 b3 : ℕ) → b0 < 256 → b1 < 256 → b2 < 256 → b3 < 256
     → signed_bytes32 (signed32 b0 b1 b2 b3) ≡ b0 ∷ b1 ∷ b2 ∷ b3 ∷ []
@@ -78,7 +88,8 @@ pub FitsSigned-signed16 : (b0 b1 : ℕ) → b0 < 256 → b1 < 256 → FitsSigned
 unfolding unsigned16 signed16
 FitsSigned-signed16 b0 b1 h0 h1 = grind (arith, ints, nat_tests)
 
-pub FitsSigned-signed32 : (b0 b1 b2 b3 : ℕ) → b0 < 256 → b1 < 256 → b2 < 256 → b3 < 256 → FitsSigned w32 (signed32 b0 b1 b2 b3)
+pub FitsSigned-signed32 : (b0 b1 b2 b3 : ℕ) → b0 < 256 → b1 < 256 → b2 < 256 → b3 < 256
+    → FitsSigned w32 (signed32 b0 b1 b2 b3)
 unfolding unsigned32 signed32
 FitsSigned-signed32 b0 b1 b2 b3 h0 h1 h2 h3 = grind (arith, ints, nat_tests)
 
@@ -87,7 +98,9 @@ unfolding unsigned16
 unsigned16-lt b0 b1 h0 h1 = omega arith
 
 -- a slice from an offset on reads as the number there
-pub little_number2-slice : (bytes : List ℕ) (at : ℕ) → little_number 2 (take (length bytes - at) (drop at bytes)) ≡ slice_index bytes at + 256 * (slice_index bytes (at + 1) + 256 * 0)
+pub little_number2-slice : (bytes : List ℕ) (at : ℕ)
+    → little_number 2 (take (length bytes - at) (drop at bytes))
+    ≡ slice_index bytes at + 256 * (slice_index bytes (at + 1) + 256 * 0)
 little_number2-slice bytes at = simp (take_rest, get_or-drop, add-zero)
 
 pub little_number4-slice : (bytes : List ℕ) (at : ℕ)

@@ -5,11 +5,13 @@ use Rattle.le_rec.specs.Number.{signed16_at, signed_bytes16}
 -- the bounding box at an offset: top, bottom, left, right (mapnode_t of doomdata.h)
 abbrev pub box_at : List ℕ → ℕ → List ℤ
 box_at bytes at =
-    signed16_at bytes at ∷ signed16_at bytes (at + 2) ∷ signed16_at bytes (at + 4) ∷ signed16_at bytes (at + 6) ∷ []
+    signed16_at bytes at ∷ signed16_at bytes (at + 2) ∷ signed16_at bytes (at + 4)
+    ∷ signed16_at bytes (at + 6) ∷ []
 
 -- the four bytes of a magic
 abbrev pub magic_bytes : List ℕ → List ℕ
-magic_bytes magic = slice_index magic 0 ∷ slice_index magic 1 ∷ slice_index magic 2 ∷ slice_index magic 3 ∷ []
+magic_bytes magic =
+    slice_index magic 0 ∷ slice_index magic 1 ∷ slice_index magic 2 ∷ slice_index magic 3 ∷ []
 
 -- the eight bytes of a name
 abbrev pub name_bytes : List ℕ → List ℕ

@@ -8,11 +8,15 @@ use Rattle.le_rec.specs.Table.{records_of}
 module _ {R : Type 0} (size : ℕ) (layout : Layout R) where
   -- what bytes hold is in its fields' ranges
   abbrev pub RecordsAreInRange : Type 0
-  RecordsAreInRange = (bytes : List ℕ) → length bytes ≡ size → AreBytes bytes → IsInRange layout (read_by layout bytes)
+  RecordsAreInRange =
+      (bytes : List ℕ) → length bytes ≡ size → AreBytes bytes
+      → IsInRange layout (read_by layout bytes)
 
   -- the bytes of a record read as that record
   abbrev pub RecordsReadBack : Type 0
-  RecordsReadBack = (r : R) → IsInRange layout r → (length (bytes_by layout r) ≡ size) × (read_by layout (bytes_by layout r) ≡ r)
+  RecordsReadBack =
+      (r : R) → IsInRange layout r
+      → (length (bytes_by layout r) ≡ size) × (read_by layout (bytes_by layout r) ≡ r)
 
   -- byte lists that read as the same record are the same
   abbrev pub EqualRecordsHaveEqualBytes : Type 0
@@ -24,4 +28,5 @@ module _ {R : Type 0} (size : ℕ) (layout : Layout R) where
   abbrev pub RecordsAreJoined : Type 0
   RecordsAreJoined =
       (bytes : List ℕ) → AreBytes bytes
-      → flat_map (bytes_by layout) (records_of size (read_by layout) bytes) ≡ take (length bytes / size * size) bytes
+      → flat_map (bytes_by layout) (records_of size (read_by layout) bytes)
+      ≡ take (length bytes / size * size) bytes

@@ -1,11 +1,12 @@
--- A record of a fixed number of bytes, as a list of fields: each stands where the one before it ends.
+-- A record of a fixed number of bytes, as a list of fields: each stands
+-- where the one before it ends.
 use Rattle.std.specs.Prelude.{◌≡◌, ℕ, ◌+◌, ◌<◌, ℤ, List, [], ◌∷◌, ◌++◌}
 use Rattle.le_rec.specs.Number.{unsigned16_at, signed16_at, signed32_at, magic_at, name_at, bytes16, signed_bytes16, signed_bytes32}
 use Rattle.le_rec.specs.FieldBytes.{box_at, box_bytes, magic_bytes, name_bytes}
 use Rattle.le_rec.specs.FieldRange.{IsSigned16, IsSigned32, IsByteField, IsBox}
 
--- a signed number of two bytes, an unsigned one, a signed one of four, a magic of four bytes, a name of eight, and a box
--- of four signed numbers
+-- a signed number of two bytes, an unsigned one, a signed one of four, a magic of four bytes, a
+-- name of eight, and a box of four signed numbers
 pub data Field : Type 0 where
   i16 u16 i32 magic name bounds : Field
 
@@ -65,11 +66,13 @@ total_width (field ∷ fields) = width field + total_width fields
 
 abbrev pub values_at : (fields : List Field) → List ℕ → ℕ → Values fields
 values_at [] bytes at = tt
-values_at (field ∷ fields) bytes at = (value_at field bytes at, values_at fields bytes (at + width field))
+values_at (field ∷ fields) bytes at =
+    (value_at field bytes at, values_at fields bytes (at + width field))
 
 abbrev pub values_bytes : (fields : List Field) → Values fields → List ℕ
 values_bytes [] values = []
-values_bytes (field ∷ fields) (value, values) = value_bytes field value ++ values_bytes fields values
+values_bytes (field ∷ fields) (value, values) =
+    value_bytes field value ++ values_bytes fields values
 
 abbrev pub AreValues : (fields : List Field) → Values fields → Type 0
 AreValues [] values = Unit {0}

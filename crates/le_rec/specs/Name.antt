@@ -19,10 +19,13 @@ query_of asked = map to_ascii_uppercase (name_of (take 8 asked))
 abbrev pub hex_digit : ℕ → ℕ
 hex_digit d = if nat_lt d 10 then 48 + d else 87 + d
 
--- a byte as it is shown: the visible ASCII characters but `\` as they are, the others as `\x` and two digits
+-- a byte as it is shown: the visible ASCII characters but `\` as they are, the
+-- others as `\x` and two digits
 abbrev pub shown_byte : ℕ → List ℕ
 shown_byte b =
-    if nat_le 33 b && nat_le b 126 && not (b == 92) then b ∷ [] else 92 ∷ 120 ∷ hex_digit (b / 16) ∷ hex_digit (b % 16) ∷ []
+    if nat_le 33 b && nat_le b 126 && not (b == 92)
+    then b ∷ []
+    else 92 ∷ 120 ∷ hex_digit (b / 16) ∷ hex_digit (b % 16) ∷ []
 
 -- a name as it is shown
 abbrev pub shown_name : List ℕ → List ℕ

@@ -8,7 +8,8 @@ unsigned16 b0 b1 = b0 + 256 * b1
 
 -- the signed number of two bytes, in two's complement
 unfoldable pub signed16 : ℕ → ℕ → ℤ
-signed16 b0 b1 = if nat_lt b1 128 then pos (unsigned16 b0 b1) else pos (unsigned16 b0 b1) -ℤ pos 65536
+signed16 b0 b1 =
+    if nat_lt b1 128 then pos (unsigned16 b0 b1) else pos (unsigned16 b0 b1) -ℤ pos 65536
 
 -- the unsigned number of four bytes
 unfoldable pub unsigned32 : ℕ → ℕ → ℕ → ℕ → ℕ
@@ -16,7 +17,10 @@ unsigned32 b0 b1 b2 b3 = b0 + 256 * b1 + 65536 * b2 + 16777216 * b3
 
 -- the signed number of four bytes, in two's complement
 unfoldable pub signed32 : ℕ → ℕ → ℕ → ℕ → ℤ
-signed32 b0 b1 b2 b3 = if nat_lt b3 128 then pos (unsigned32 b0 b1 b2 b3) else pos (unsigned32 b0 b1 b2 b3) -ℤ pos 4294967296
+signed32 b0 b1 b2 b3 =
+    if nat_lt b3 128
+    then pos (unsigned32 b0 b1 b2 b3)
+    else pos (unsigned32 b0 b1 b2 b3) -ℤ pos 4294967296
 
 -- the numbers that stand at an offset of a byte list
 abbrev pub unsigned16_at : List ℕ → ℕ → ℕ
@@ -27,7 +31,8 @@ signed16_at bytes at = signed16 (slice_index bytes at) (slice_index bytes (at + 
 
 abbrev pub signed32_at : List ℕ → ℕ → ℤ
 signed32_at bytes at =
-    signed32 (slice_index bytes at) (slice_index bytes (at + 1)) (slice_index bytes (at + 2)) (slice_index bytes (at + 3))
+    signed32 (slice_index bytes at) (slice_index bytes (at + 1)) (slice_index bytes (at + 2))
+    (slice_index bytes (at + 3))
 
 -- the bytes of a number
 abbrev pub bytes16 : ℕ → List ℕ

@@ -1,5 +1,5 @@
--- The records of a WAD file and of a level's lumps: each field is the number or the name at its offset
--- (Unofficial Doom Specs 1.666; filelump_t of w_wad.h, doomdata.h).
+-- The records of a WAD file and of a level's lumps: each field is the number or the name at its
+-- offset (Unofficial Doom Specs 1.666; filelump_t of w_wad.h, doomdata.h).
 use Rattle.std.specs.Prelude.{ℕ, List, [], ◌∷◌}
 use Rattle.std.proofs.Common.{refl}
 use Rattle.le_rec.specs.Number.{unsigned16_at, signed16_at, signed32_at, name_at}
@@ -58,7 +58,14 @@ thing_layout = record {
   read = thing;
   values = λ r. (r.x, (r.y, (r.angle, (r.kind, (r.options, tt)))));
   reads = λ bytes. refl;
-  make = λ vs. record { x = vs.0; y = vs.1.0; angle = vs.1.1.0; kind = vs.1.1.1.0; options = vs.1.1.1.1.0 };
+  make =
+      λ vs. record {
+        x = vs.0;
+        y = vs.1.0;
+        angle = vs.1.1.0;
+        kind = vs.1.1.1.0;
+        options = vs.1.1.1.1.0;
+      };
   made = λ r. refl;
 }
 
@@ -80,7 +87,16 @@ linedef_layout = record {
   read = linedef;
   values = λ r. (r.v1, (r.v2, (r.flags, (r.special, (r.tag, (r.side0, (r.side1, tt)))))));
   reads = λ bytes. refl;
-  make = λ vs. record { v1 = vs.0; v2 = vs.1.0; flags = vs.1.1.0; special = vs.1.1.1.0; tag = vs.1.1.1.1.0; side0 = vs.1.1.1.1.1.0; side1 = vs.1.1.1.1.1.1.0 };
+  make =
+      λ vs. record {
+        v1 = vs.0;
+        v2 = vs.1.0;
+        flags = vs.1.1.0;
+        special = vs.1.1.1.0;
+        tag = vs.1.1.1.1.0;
+        side0 = vs.1.1.1.1.1.0;
+        side1 = vs.1.1.1.1.1.1.0;
+      };
   made = λ r. refl;
 }
 
@@ -101,7 +117,15 @@ sidedef_layout = record {
   read = sidedef;
   values = λ r. (r.xoff, (r.yoff, (r.top, (r.bottom, (r.middle, (r.sector, tt))))));
   reads = λ bytes. refl;
-  make = λ vs. record { xoff = vs.0; yoff = vs.1.0; top = vs.1.1.0; bottom = vs.1.1.1.0; middle = vs.1.1.1.1.0; sector = vs.1.1.1.1.1.0 };
+  make =
+      λ vs. record {
+        xoff = vs.0;
+        yoff = vs.1.0;
+        top = vs.1.1.0;
+        bottom = vs.1.1.1.0;
+        middle = vs.1.1.1.1.0;
+        sector = vs.1.1.1.1.1.0;
+      };
   made = λ r. refl;
 }
 
@@ -139,7 +163,15 @@ seg_layout = record {
   read = seg;
   values = λ r. (r.v1, (r.v2, (r.angle, (r.linedef, (r.side, (r.offset, tt))))));
   reads = λ bytes. refl;
-  make = λ vs. record { v1 = vs.0; v2 = vs.1.0; angle = vs.1.1.0; linedef = vs.1.1.1.0; side = vs.1.1.1.1.0; offset = vs.1.1.1.1.1.0 };
+  make =
+      λ vs. record {
+        v1 = vs.0;
+        v2 = vs.1.0;
+        angle = vs.1.1.0;
+        linedef = vs.1.1.1.0;
+        side = vs.1.1.1.1.0;
+        offset = vs.1.1.1.1.1.0;
+      };
   made = λ r. refl;
 }
 
@@ -179,7 +211,17 @@ node_layout = record {
   read = node;
   values = λ r. (r.x, (r.y, (r.dx, (r.dy, (r.box0, (r.box1, (r.child0, (r.child1, tt))))))));
   reads = λ bytes. refl;
-  make = λ vs. record { x = vs.0; y = vs.1.0; dx = vs.1.1.0; dy = vs.1.1.1.0; box0 = vs.1.1.1.1.0; box1 = vs.1.1.1.1.1.0; child0 = vs.1.1.1.1.1.1.0; child1 = vs.1.1.1.1.1.1.1.0 };
+  make =
+      λ vs. record {
+        x = vs.0;
+        y = vs.1.0;
+        dx = vs.1.1.0;
+        dy = vs.1.1.1.0;
+        box0 = vs.1.1.1.1.0;
+        box1 = vs.1.1.1.1.1.0;
+        child0 = vs.1.1.1.1.1.1.0;
+        child1 = vs.1.1.1.1.1.1.1.0;
+      };
   made = λ r. refl;
 }
 
@@ -199,9 +241,22 @@ abbrev pub sector_layout : Layout Sector
 sector_layout = record {
   fields = i16 ∷ i16 ∷ name ∷ name ∷ i16 ∷ i16 ∷ i16 ∷ [];
   read = sector;
-  values = λ r. (r.floor, (r.ceiling, (r.floor_name, (r.ceiling_name, (r.light, (r.special, (r.tag, tt)))))));
+  values =
+      λ r. (
+        r.floor,
+        (r.ceiling, (r.floor_name, (r.ceiling_name, (r.light, (r.special, (r.tag, tt)))))),
+      );
   reads = λ bytes. refl;
-  make = λ vs. record { floor = vs.0; ceiling = vs.1.0; floor_name = vs.1.1.0; ceiling_name = vs.1.1.1.0; light = vs.1.1.1.1.0; special = vs.1.1.1.1.1.0; tag = vs.1.1.1.1.1.1.0 };
+  make =
+      λ vs. record {
+        floor = vs.0;
+        ceiling = vs.1.0;
+        floor_name = vs.1.1.0;
+        ceiling_name = vs.1.1.1.0;
+        light = vs.1.1.1.1.0;
+        special = vs.1.1.1.1.1.0;
+        tag = vs.1.1.1.1.1.1.0;
+      };
   made = λ r. refl;
 }
 

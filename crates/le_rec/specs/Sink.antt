@@ -9,7 +9,8 @@ pub record SinkState : Type 0 where
   pub failed : Bool
 
 -- a put takes a front of the bytes, some of some; at an Err it takes none and has failed
-pub record Takes {E : Type 0} (old new : SinkState) (result : Result ℕ E) (bytes : List ℕ) : Type 0 where
+pub record Takes {E : Type 0} (old new : SinkState) (result : Result ℕ E)
+    (bytes : List ℕ) : Type 0 where
   pub moved : WriteAppends old.taken new.taken result bytes
   pub some : IfOk result (λ n. 0 < length bytes → 0 < n)
   pub fault : new.failed ≡ old.failed || is_err result

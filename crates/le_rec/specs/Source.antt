@@ -8,8 +8,10 @@ pub record SourceState : Type 0 where
   pub left : Option (List ℕ)
   pub failed : Bool
 
--- a pull gives the next bytes, none only at the end or with no room; at an Err it gives none and has failed
-pub record Gives {E : Type 0} (old new : SourceState) (result : Result ℕ E) (buf : List ℕ) : Type 0 where
+-- a pull gives the next bytes, none only at the end or with no room; at an Err
+-- it gives none and has failed
+pub record Gives {E : Type 0} (old new : SourceState) (result : Result ℕ E)
+    (buf : List ℕ) : Type 0 where
   pub moved : ReadConsumes old.left new.left result buf
   pub fault : new.failed ≡ old.failed || is_err result
 

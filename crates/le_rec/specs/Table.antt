@@ -13,8 +13,10 @@ piece size bytes index = take size (drop (index * size) bytes)
 
 -- the records of bytes, cut at the greatest multiple of the size
 abbrev pub records_of : {R : Type 0} → ℕ → (List ℕ → R) → List ℕ → List R
-records_of size read bytes = map (λ index. read (piece size bytes index)) (range_with_len 0 (length bytes / size))
+records_of size read bytes =
+    map (λ index. read (piece size bytes index)) (range_with_len 0 (length bytes / size))
 
 -- the table that bytes hold
 abbrev pub rows_of : {R : Type 0} → ℕ → (List ℕ → R) → List ℕ → Rows R
-rows_of size read bytes = record { records = records_of size read bytes; rest = length bytes % size }
+rows_of size read bytes =
+    record { records = records_of size read bytes; rest = length bytes % size }

@@ -15,16 +15,19 @@ use Rattle.line_io.specs.Writes.{EndsWriting, TakesFront, TakesText, WriteFault}
 use Rattle.line_io.proofs.LineLemmas.{answers_from-append, answers_from-take, last_answer-take, last_from-append, last_from-take, text_of-append, text_of-parts}
 use Rattle.line_io.proofs.WriteLemmas.{TakesFront-after, TakesFront-longer, TakesFront-whole}
 
--- the source, which was `input` and is `input'`, gave `count` bytes; the lines that end in them are answered by the sink,
--- which was `out` and is `out'`, and `part` is kept of the last one
-pub record Progress (Answers : (List ℕ → List ℕ) → Type 0) (count : ℕ) (input input' : SourceState) (out out' : SinkState) (part : List ℕ) : Type 0 where
+-- the source, which was `input` and is `input'`, gave `count` bytes; the lines that end in them are
+-- answered by the sink, which was `out` and is `out'`, and `part` is kept of the last one
+pub record Progress (Answers : (List ℕ → List ℕ) → Type 0) (count : ℕ) (input input' : SourceState)
+    (out out' : SinkState) (part : List ℕ) : Type 0 where
   pub read : List ℕ
   pub counted : length read ≡ count
   pub given : Consumes input.left input'.left read
   pub kept : part ≡ take 66 (last_from [] read)
-  pub answered : (f : List ℕ → List ℕ) → Answers f → Appends out.taken out'.taken (answers_from f [] read)
+  pub answered : (f : List ℕ → List ℕ) → Answers f
+      → Appends out.taken out'.taken (answers_from f [] read)
 
-pub Progress-none : (Answers : (List ℕ → List ℕ) → Type 0) (input : SourceState) (out : SinkState) → Progress Answers 0 input input out out []
+pub Progress-none : (Answers : (List ℕ → List ℕ) → Type 0) (input : SourceState) (out : SinkState)
+    → Progress Answers 0 input input out out []
 unfolding answers_from
 Progress-none Answers input out = record {
   read = [];
@@ -35,58 +38,92 @@ Progress-none Answers input out = record {
 }
 
 -- the faults of a writer are faults of an engine of lines, and say nothing of the answers
-fault_of_writer : (memory : Bool) (limit : ℕ) (read : List ℕ) (input : SourceState) (out : SinkState) (e : IoFault) → WriteFault memory out e → EngineFault memory limit read input out e
+fault_of_writer : (memory : Bool) (limit : ℕ) (read : List ℕ) (input : SourceState)
+    (out : SinkState) (e : IoFault)
+    → WriteFault memory out e → EngineFault memory limit read input out e
 fault_of_writer memory limit read input out Write h = h
 fault_of_writer memory limit read input out Memory h = h.0
 fault_of_writer memory limit read input out _ h = absurd h
 
-answers_of_writer : (memory : Bool) (out : SinkState) (e : IoFault) → WriteFault memory out e → LeavesAnswers e → ⊥
+answers_of_writer : (memory : Bool) (out : SinkState) (e : IoFault) → WriteFault memory out e
+    → LeavesAnswers e → ⊥
 answers_of_writer memory out Write h l = l
 answers_of_writer memory out Memory h l = l
 answers_of_writer memory out _ h l = h
 
 -- what holds of every continuation of what was read holds of the whole input, where that is known
-of_known : (a b : Option (List ℕ)) (read : List ℕ) (P : List ℕ → Type 0) → Consumes a b read → ((rest : List ℕ) → P (read ++ rest)) → IfSome a P
+of_known : (a b : Option (List ℕ)) (read : List ℕ) (P : List ℕ → Type 0) → Consumes a b read
+    → ((rest : List ℕ) → P (read ++ rest)) → IfSome a P
 of_known None b read P gave h = tt
 of_known (Some x) None read P gave h = absurd gave
 of_known (Some x) (Some y) read P gave h = subst P (sym gave) (h y)
 
-stopped : (f : List ℕ → List ℕ) (limit : ℕ) (read : List ℕ) (input input' : SourceState) (out out' : SinkState) (e : IoFault) → Consumes input.left input'.left read → ((rest : List ℕ) → TakesFront out out' (text_of f (read ++ rest))) → (LeavesAnswers e → Appends out.taken out'.taken (answers_from f [] (take limit read))) → WritesAnswers f limit read input out out' (Err e)
+stopped : (f : List ℕ → List ℕ) (limit : ℕ) (read : List ℕ) (input input' : SourceState)
+    (out out' : SinkState) (e : IoFault)
+    → Consumes input.left input'.left read
+    → ((rest : List ℕ) → TakesFront out out' (text_of f (read ++ rest)))
+    → (LeavesAnswers e → Appends out.taken out'.taken (answers_from f [] (take limit read)))
+    → WritesAnswers f limit read input out out' (Err e)
 stopped f limit read input input' out out' e gave front answered = record {
   whole = tt;
-  front = let here : TakesFront out out' (text_of f (read ++ [])) = front [] in rw append-nil at here;
-  front_of_all = of_known input.left input'.left read (λ left. TakesFront out out' (text_of f left)) gave front;
+  front =
+      let here : TakesFront out out' (text_of f (read ++ [])) = front [] in rw append-nil at here;
+  front_of_all =
+      of_known input.left input'.left read
+      (λ left. TakesFront out out' (text_of f left)) gave front;
   answered = answered;
 }
 
-module _ {Answers : (List ℕ → List ℕ) → Type 0} {count : ℕ} {input input' : SourceState} {out out' : SinkState} {part : List ℕ} (p : Progress Answers count input input' out out' part) where
+module _ {Answers : (List ℕ → List ℕ) → Type 0} {count : ℕ} {input input' : SourceState}
+    {out out' : SinkState} {part : List ℕ}
+    (p : Progress Answers count input input' out out' part) where
   -- what a block adds to the answers
-  answers-more : (f : List ℕ → List ℕ) (block : List ℕ) → answers_from f [] p.read ++ answers_from f part block ≡ answers_from f [] (p.read ++ block)
+  answers-more : (f : List ℕ → List ℕ) (block : List ℕ)
+      → answers_from f [] p.read ++ answers_from f part block ≡ answers_from f [] (p.read ++ block)
   answers-more f block =
       ap (λ q. answers_from f [] p.read ++ answers_from f q block) p.kept
       ∙ ap (λ t. answers_from f [] p.read ++ t) (answers_from-take f (last_from [] p.read) block)
       ∙ sym (answers_from-append f [] p.read block)
 
-  answered-more : (f : List ℕ → List ℕ) (out'' : SinkState) (block : List ℕ) → Answers f → Appends out'.taken out''.taken (answers_from f part block) → Appends out.taken out''.taken (answers_from f [] (p.read ++ block))
+  answered-more : (f : List ℕ → List ℕ) (out'' : SinkState) (block : List ℕ) → Answers f
+      → Appends out'.taken out''.taken (answers_from f part block)
+      → Appends out.taken out''.taken (answers_from f [] (p.read ++ block))
   answered-more f out'' block told wrote =
-      subst (Appends out.taken out''.taken) (answers-more f block) (Appends-trans out.taken out'.taken out''.taken _ _ (p.answered f told) wrote)
+      subst (Appends out.taken out''.taken) (answers-more f block)
+      (Appends-trans out.taken out'.taken out''.taken _ _ (p.answered f told) wrote)
 
-  pub Progress-more : (input'' : SourceState) (out'' : SinkState) (block part' : List ℕ) (count' : ℕ) → Consumes input'.left input''.left block → ((f : List ℕ → List ℕ) → Answers f → Appends out'.taken out''.taken (answers_from f part block)) → part' ≡ take 66 (last_from part block) → count' ≡ count + length block → Progress Answers count' input input'' out out'' part'
+  pub Progress-more : (input'' : SourceState) (out'' : SinkState) (block part' : List ℕ)
+      (count' : ℕ)
+      → Consumes input'.left input''.left block
+      → ((f : List ℕ → List ℕ) → Answers f
+      → Appends out'.taken out''.taken (answers_from f part block))
+      → part' ≡ take 66 (last_from part block) → count' ≡ count + length block
+      → Progress Answers count' input input'' out out'' part'
   Progress-more input'' out'' block part' count' gave wrote keeps counts = record {
     read = p.read ++ block;
     counted = length-append p.read block ∙ ap (λ n. n + length block) p.counted ∙ sym counts;
     given = Consumes-trans input.left input'.left input''.left p.read block p.given gave;
-    kept = keeps ∙ ap (λ q. take 66 (last_from q block)) p.kept ∙ last_from-take (last_from [] p.read) block ∙ ap (take 66) (sym (last_from-append [] p.read block));
+    kept =
+        keeps ∙ ap (λ q. take 66 (last_from q block)) p.kept
+        ∙ last_from-take (last_from [] p.read) block
+        ∙ ap (take 66) (sym (last_from-append [] p.read block));
     answered = λ f told. answered-more f out'' block told (wrote f told);
   }
 
   -- what was written of a front of the input is a front of its text
-  front_of : (f : List ℕ → List ℕ) (out'' : SinkState) (block more : List ℕ) → Answers f → TakesFront out' out'' (answers_from f part block) → TakesFront out out'' (text_of f ((p.read ++ block) ++ more))
+  front_of : (f : List ℕ → List ℕ) (out'' : SinkState) (block more : List ℕ) → Answers f
+      → TakesFront out' out'' (answers_from f part block)
+      → TakesFront out out'' (text_of f ((p.read ++ block) ++ more))
   front_of f out'' block more told a =
-      rw (text_of-append f (p.read ++ block) more, ← answers-more f block) (TakesFront-longer _ (TakesFront-after out out' out'' _ (p.answered f told) a))
+      rw (
+        text_of-append f (p.read ++ block) more,
+        ← answers-more f block,
+      ) (TakesFront-longer _ (TakesFront-after out out' out'' _ (p.answered f told) a))
 
   -- the source failed
-  pub ends_read : (memory : Bool) (limit : ℕ) (input'' : SourceState) → count ≤ limit → Keeps input'.left input''.left → input''.failed ≡ true → AnswersLines Answers memory limit input input'' out out' (Err Read)
+  pub ends_read : (memory : Bool) (limit : ℕ) (input'' : SourceState) → count ≤ limit
+      → Keeps input'.left input''.left → input''.failed ≡ true
+      → AnswersLines Answers memory limit input input'' out out' (Err Read)
   ends_read memory limit input'' within stays failed =
       let short : length p.read ≤ limit = omega (arith, p.counted) in
       let gave = Consumes-kept input.left input'.left input''.left p.read p.given stays in
@@ -99,20 +136,32 @@ module _ {Answers : (List ℕ → List ℕ) → Type 0} {count : ℕ} {input inp
         sound = tt;
         fault = (failed, short);
         written = λ f told. stopped f limit p.read input input'' out out' Read gave
-            (λ rest. rw (text_of-append f p.read rest) (TakesFront-whole out out' _ _ (p.answered f told)))
+            (λ rest. rw (text_of-append f p.read rest) (TakesFront-whole out out' _ _
+            (p.answered f told)))
             (λ _. subst (λ r. Appends out.taken out'.taken (answers_from f [] r)) (sym (take_all limit p.read short)) (p.answered f told));
       }
 
-  last-kept : (f : List ℕ → List ℕ) → answers_from f [] p.read ++ last_answer f part ≡ text_of f p.read
-  last-kept f = ap (λ t. answers_from f [] p.read ++ t) (ap (last_answer f) p.kept ∙ last_answer-take f _) ∙ sym (text_of-parts f p.read)
+  last-kept : (f : List ℕ → List ℕ)
+      → answers_from f [] p.read ++ last_answer f part ≡ text_of f p.read
+  last-kept f =
+      ap (λ t. answers_from f [] p.read ++ t) (ap (last_answer f) p.kept ∙ last_answer-take f _)
+      ∙ sym (text_of-parts f p.read)
 
   -- the source is at its end, and the last part is answered
-  pub ends_all : (memory : Bool) (limit : ℕ) (input'' : SourceState) (out'' : SinkState) (r : Result (Unit {0}) IoFault) → count ≤ limit → Consumes input'.left input''.left [] → IsAtEnd input''.left → input''.failed ≡ false → EndsWriting memory out'' r → ((f : List ℕ → List ℕ) → Answers f → TakesText out' out'' (last_answer f part) r) → AnswersLines Answers memory limit input input'' out out'' r
+  pub ends_all : (memory : Bool) (limit : ℕ) (input'' : SourceState) (out'' : SinkState)
+      (r : Result (Unit {0}) IoFault)
+      → count ≤ limit → Consumes input'.left input''.left [] → IsAtEnd input''.left
+      → input''.failed ≡ false → EndsWriting memory out'' r
+      → ((f : List ℕ → List ℕ) → Answers f → TakesText out' out'' (last_answer f part) r)
+      → AnswersLines Answers memory limit input input'' out out'' r
   ends_all memory limit input'' out'' r within same end works ends w =
       let short : length p.read ≤ limit = omega (arith, p.counted) in
       let joined = Consumes-trans input.left input'.left input''.left p.read [] p.given same in
       let gave : Consumes input.left input''.left p.read = rw append-nil at joined in
-      elim r as (λ r. EndsWriting memory out'' r → ((f : List ℕ → List ℕ) → Answers f → TakesText out' out'' (last_answer f part) r) → AnswersLines Answers memory limit input input'' out out'' r) [
+      elim r
+      as (λ r. EndsWriting memory out'' r
+      → ((f : List ℕ → List ℕ) → Answers f → TakesText out' out'' (last_answer f part) r)
+      → AnswersLines Answers memory limit input input'' out out'' r) [
         | Ok x ↦ λ ends w. record {
           read = p.read;
           given = gave;
@@ -122,7 +171,9 @@ module _ {Answers : (List ℕ → List ℕ) → Type 0} {count : ℕ} {input inp
           sound = (works, ends.sound);
           fault = tt;
           written = λ f told. record {
-            whole = subst (Appends out.taken out''.taken) (last-kept f) (Appends-trans out.taken out'.taken out''.taken _ _ (p.answered f told) (w f told).whole);
+            whole =
+                subst (Appends out.taken out''.taken) (last-kept f)
+                (Appends-trans out.taken out'.taken out''.taken _ _ (p.answered f told) (w f told).whole);
             front = tt;
             front_of_all = of_known input.left input''.left p.read (λ _. Unit {0}) gave (λ _. tt);
             answered = tt;
@@ -137,22 +188,30 @@ module _ {Answers : (List ℕ → List ℕ) → Type 0} {count : ℕ} {input inp
           sound = tt;
           fault = fault_of_writer memory limit p.read input'' out'' e ends.fault;
           written = λ f told.
-              let front : TakesFront out out'' (text_of f p.read) = rw (← last-kept f) (TakesFront-after out out' out'' _ (p.answered f told) (w f told).front) in
+              let front : TakesFront out out'' (text_of f p.read) =
+              rw (← last-kept f)
+              (TakesFront-after out out' out'' _ (p.answered f told) (w f told).front) in
               record {
                 whole = tt;
                 front = front;
-                front_of_all = Consumes-whole input.left input''.left p.read (λ left. TakesFront out out'' (text_of f left)) gave end front;
+                front_of_all =
+                    Consumes-whole input.left input''.left p.read
+                    (λ left. TakesFront out out'' (text_of f left)) gave end front;
                 answered = λ l. absurd (answers_of_writer memory out'' e ends.fault l);
               };
         }
       ] ends w
 
-  -- a block was read, of which the first `within` bytes are within the limit, and its lines are answered
-  module _ (limit : ℕ) (block : List ℕ) (input'' : SourceState) (out'' : SinkState) (within : ℕ) (room : count + length block ≤ limit + 1) (gave : Consumes input'.left input''.left block) where
+  -- a block was read, of which the first `within` bytes are within the limit,
+  -- and its lines are answered
+  module _ (limit : ℕ) (block : List ℕ) (input'' : SourceState) (out'' : SinkState) (within : ℕ)
+      (room : count + length block ≤ limit + 1)
+      (gave : Consumes input'.left input''.left block) where
     whole_given : Consumes input.left input''.left (p.read ++ block)
     whole_given = Consumes-trans input.left input'.left input''.left p.read block p.given gave
 
-    cut : (rest : List ℕ) → (p.read ++ block) ++ rest ≡ (p.read ++ take within block) ++ (drop within block ++ rest)
+    cut : (rest : List ℕ)
+        → (p.read ++ block) ++ rest ≡ (p.read ++ take within block) ++ (drop within block ++ rest)
     cut rest =
         ap (λ b. (p.read ++ b) ++ rest) (sym (take-append-drop within block))
         ∙ ap (λ t. t ++ rest) (sym (append_assoc p.read (take within block) (drop within block)))
@@ -161,11 +220,18 @@ module _ {Answers : (List ℕ → List ℕ) → Type 0} {count : ℕ} {input inp
     length-read : length (p.read ++ block) ≡ count + length block
     length-read = length-append p.read block ∙ ap (λ n. n + length block) p.counted
 
-    front_cut : (f : List ℕ → List ℕ) (rest : List ℕ) → Answers f → TakesFront out' out'' (answers_from f part (take within block)) → TakesFront out out'' (text_of f ((p.read ++ block) ++ rest))
-    front_cut f rest told a = rw (cut rest) (front_of f out'' (take within block) (drop within block ++ rest) told a)
+    front_cut : (f : List ℕ → List ℕ) (rest : List ℕ) → Answers f
+        → TakesFront out' out'' (answers_from f part (take within block))
+        → TakesFront out out'' (text_of f ((p.read ++ block) ++ rest))
+    front_cut f rest told a =
+        rw (cut rest) (front_of f out'' (take within block) (drop within block ++ rest) told a)
 
     -- the writer stopped
-    pub ends_block : {T : Type 0} (memory : Bool) (e : IoFault) → EndsWriting {T = T} memory out'' (Err e) → ((f : List ℕ → List ℕ) → Answers f → TakesText {T = T} out' out'' (answers_from f part (take within block)) (Err e)) → AnswersLines Answers memory limit input input'' out out'' (Err e)
+    pub ends_block : {T : Type 0} (memory : Bool) (e : IoFault)
+        → EndsWriting {T = T} memory out'' (Err e)
+        → ((f : List ℕ → List ℕ) → Answers f
+        → TakesText {T = T} out' out'' (answers_from f part (take within block)) (Err e))
+        → AnswersLines Answers memory limit input input'' out out'' (Err e)
     ends_block memory e ends w = record {
       read = p.read ++ block;
       given = whole_given;
@@ -174,14 +240,19 @@ module _ {Answers : (List ℕ → List ℕ) → Type 0} {count : ℕ} {input inp
       all_read = tt;
       sound = tt;
       fault = fault_of_writer memory limit (p.read ++ block) input'' out'' e ends.fault;
-      written = λ f told. stopped f limit (p.read ++ block) input input'' out out'' e whole_given (λ rest. front_cut f rest told (w f told).front) (λ l. absurd (answers_of_writer memory out'' e ends.fault l));
+      written =
+          λ f told. stopped f limit (p.read ++ block) input input'' out out'' e whole_given (λ rest. front_cut f rest told (w f told).front) (λ l. absurd (answers_of_writer memory out'' e ends.fault l));
     }
 
     -- the last byte of the block is past the limit
-    pub ends_long : (memory : Bool) → limit < count + length block → within + 1 ≡ length block → ((f : List ℕ → List ℕ) → Answers f → Appends out'.taken out''.taken (answers_from f part (take within block))) → AnswersLines Answers memory limit input input'' out out'' (Err TooLong)
+    pub ends_long : (memory : Bool) → limit < count + length block → within + 1 ≡ length block
+        → ((f : List ℕ → List ℕ) → Answers f
+        → Appends out'.taken out''.taken (answers_from f part (take within block)))
+        → AnswersLines Answers memory limit input input'' out out'' (Err TooLong)
     ends_long memory long all_but_one wrote =
         let full : length p.read + within ≡ limit = omega (arith, p.counted) in
-        let at_limit : take limit (p.read ++ block) ≡ p.read ++ take within block = rw full at (take-append-add p.read block within) in
+        let at_limit : take limit (p.read ++ block) ≡ p.read ++ take within block =
+        rw full at (take-append-add p.read block within) in
         record {
           read = p.read ++ block;
           given = whole_given;
@@ -190,7 +261,13 @@ module _ {Answers : (List ℕ → List ℕ) → Type 0} {count : ℕ} {input inp
           all_read = tt;
           sound = tt;
           fault = omega (arith, length-read);
-          written = λ f told. stopped f limit (p.read ++ block) input input'' out out'' TooLong whole_given
-              (λ rest. front_cut f rest told (record { front = answers_from f part (take within block); rest = []; splits = sym (append-nil _); added = wrote f told }))
+          written =
+              λ f told. stopped f limit (p.read ++ block) input input'' out out'' TooLong whole_given
+              (λ rest. front_cut f rest told (record {
+                front = answers_from f part (take within block);
+                rest = [];
+                splits = sym (append-nil _);
+                added = wrote f told;
+              }))
               (λ _. subst (λ r. Appends out.taken out''.taken (answers_from f [] r)) (sym at_limit) (answered-more f out'' (take within block) told (wrote f told)));
         }

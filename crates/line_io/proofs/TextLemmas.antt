@@ -18,7 +18,8 @@ all_digits n small = All-from_recursion IsDigit (decimal n) (digits_decimal own 
 
 no_leading_zero : (n : ℕ) → n < 2 ^ 64 → get_or (decimal n) 0 0 ≡ 48 → length (decimal n) ≡ 1
 no_leading_zero zero small first = ap length (decimal_digit 0 (omega arith))
-no_leading_zero (suc n) small first = absurd (omega (arith, first_decimal (suc n) (omega arith) small))
+no_leading_zero (suc n) small first =
+    absurd (omega (arith, first_decimal (suc n) (omega arith) small))
 
 is_decimal : (n : ℕ) → n < 2 ^ 64 → IsDecimal (decimal n) n
 is_decimal n small = record {
@@ -28,11 +29,14 @@ is_decimal n small = record {
   stands_for = digits_value-decimal own n small;
 }
 
-pub one_text : (text : List ℕ) (number : ℕ) → number < 2 ^ 64 → IsDecimal text number ↔ (text ≡ decimal number)
+pub one_text : (text : List ℕ) (number : ℕ) → number < 2 ^ 64
+    → IsDecimal text number ↔ (text ≡ decimal number)
 one_text text number small = (
   (λ is. let stands_for = is.stands_for in
       let below : value_of text < 2 ^ 64 = omega arith in
-      sym (decimal-digits_value own text (recursion_from_All IsDigit text is.all_digits) is.some_digit is.no_leading_zero below) ∙ ap decimal stands_for),
+      sym (decimal-digits_value own text
+      (recursion_from_All IsDigit text is.all_digits) is.some_digit is.no_leading_zero below)
+      ∙ ap decimal stands_for),
   λ same. subst (λ (t : List ℕ). IsDecimal t number) (sym same) (is_decimal number small),
 )
 
@@ -41,9 +45,23 @@ printed_is_read (pos n) fits =
     let bound = fits.sfits in
     let small : n < 2 ^ 64 = omega arith in
     let is = is_decimal n small in
-    record { negative = false; digits = decimal n; spelled = refl; some_digit = is.some_digit; all_digits = is.all_digits; stands_for = ap pos (sym is.stands_for) }
+    record {
+      negative = false;
+      digits = decimal n;
+      spelled = refl;
+      some_digit = is.some_digit;
+      all_digits = is.all_digits;
+      stands_for = ap pos (sym is.stands_for);
+    }
 printed_is_read (negsuc n) fits =
     let bound = fits.sfits in
     let small : suc n < 2 ^ 64 = omega arith in
     let is = is_decimal (suc n) small in
-    record { negative = true; digits = decimal (suc n); spelled = refl; some_digit = is.some_digit; all_digits = is.all_digits; stands_for = ap (λ (m : ℕ). neg_ℤ (pos m)) (sym is.stands_for) }
+    record {
+      negative = true;
+      digits = decimal (suc n);
+      spelled = refl;
+      some_digit = is.some_digit;
+      all_digits = is.all_digits;
+      stands_for = ap (λ (m : ℕ). neg_ℤ (pos m)) (sym is.stands_for);
+    }

@@ -9,7 +9,9 @@ use Rattle.line_io.specs.declared.fault.IoFault.TheVariants.{Write, Memory}
 use Rattle.line_io.specs.Writes.{EndsWriting, TakesFront, TakesText, WriteFault, Writes}
 
 -- a front of the next text, behind a whole one
-pub TakesFront-after : (before between after : SinkState) (text : List ℕ) {more : List ℕ} → Appends before.taken between.taken text → TakesFront between after more → TakesFront before after (text ++ more)
+pub TakesFront-after : (before between after : SinkState) (text : List ℕ) {more : List ℕ}
+    → Appends before.taken between.taken text → TakesFront between after more
+    → TakesFront before after (text ++ more)
 TakesFront-after before between after text whole a = record {
   front = text ++ a.front;
   rest = a.rest;
@@ -18,7 +20,8 @@ TakesFront-after before between after text whole a = record {
 }
 
 -- a front of a text is one of a longer text
-pub TakesFront-longer : {before after : SinkState} {text : List ℕ} (more : List ℕ) → TakesFront before after text → TakesFront before after (text ++ more)
+pub TakesFront-longer : {before after : SinkState} {text : List ℕ} (more : List ℕ)
+    → TakesFront before after text → TakesFront before after (text ++ more)
 TakesFront-longer more a = record {
   front = a.front;
   rest = a.rest ++ more;
@@ -27,15 +30,21 @@ TakesFront-longer more a = record {
 }
 
 -- a whole text is a front of a longer one
-pub TakesFront-whole : (before after : SinkState) (text more : List ℕ) → Appends before.taken after.taken text → TakesFront before after (text ++ more)
-TakesFront-whole before after text more whole = record { front = text; rest = more; splits = refl; added = whole }
+pub TakesFront-whole : (before after : SinkState) (text more : List ℕ)
+    → Appends before.taken after.taken text → TakesFront before after (text ++ more)
+TakesFront-whole before after text more whole =
+    record { front = text; rest = more; splits = refl; added = whole }
 
 -- nothing written
-pub TakesText-nothing : {T : Type 0} (before : SinkState) (x : T) → TakesText before before [] (Ok x)
+pub TakesText-nothing : {T : Type 0} (before : SinkState) (x : T)
+    → TakesText before before [] (Ok x)
 TakesText-nothing before x = record { whole = Appends-nil before.taken; front = tt }
 
 -- behind a text that was written whole, one more text
-pub TakesText-then : {T : Type 0} (before between after : SinkState) (text : List ℕ) {more : List ℕ} (result : Result T IoFault) → Appends before.taken between.taken text → TakesText between after more result → TakesText before after (text ++ more) result
+pub TakesText-then : {T : Type 0} (before between after : SinkState) (text : List ℕ) {more : List ℕ}
+    (result : Result T IoFault)
+    → Appends before.taken between.taken text → TakesText between after more result
+    → TakesText before after (text ++ more) result
 TakesText-then before between after text (Ok x) whole w = record {
   whole = Appends-trans before.taken between.taken after.taken text _ whole w.whole;
   front = tt;
@@ -46,24 +55,40 @@ TakesText-then before between after text (Err e) whole w = record {
 }
 
 -- a text that stopped, before more of it
-pub TakesText-stop : {T U : Type 0} {before after : SinkState} {text : List ℕ} {e : IoFault} (more : List ℕ) → TakesText {T = T} before after text (Err e) → TakesText {T = U} before after (text ++ more) (Err e)
+pub TakesText-stop : {T U : Type 0} {before after : SinkState} {text : List ℕ} {e : IoFault}
+    (more : List ℕ)
+    → TakesText {T = T} before after text (Err e)
+    → TakesText {T = U} before after (text ++ more) (Err e)
 TakesText-stop more w = record { whole = tt; front = TakesFront-longer more w.front }
 
-pub Writes-then : {T : Type 0} (before between after : SinkState) (text : List ℕ) {more : List ℕ} (result : Result T IoFault) → Appends before.taken between.taken text → Writes between after more result → Writes before after (text ++ more) result
+pub Writes-then : {T : Type 0} (before between after : SinkState) (text : List ℕ) {more : List ℕ}
+    (result : Result T IoFault)
+    → Appends before.taken between.taken text → Writes between after more result
+    → Writes before after (text ++ more) result
 Writes-then before between after text result whole w = record {
   takes = TakesText-then before between after text result whole w.takes;
   ends = w.ends;
 }
 
-pub Writes-stop : {T U : Type 0} {before after : SinkState} {text : List ℕ} {e : IoFault} (more : List ℕ) → Writes {T = T} before after text (Err e) → Writes {T = U} before after (text ++ more) (Err e)
-Writes-stop more w = record { takes = TakesText-stop more w.takes; ends = record { sound = tt; fault = w.ends.fault } }
+pub Writes-stop : {T U : Type 0} {before after : SinkState} {text : List ℕ} {e : IoFault}
+    (more : List ℕ)
+    → Writes {T = T} before after text (Err e) → Writes {T = U} before after (text ++ more) (Err e)
+Writes-stop more w =
+    record {
+      takes = TakesText-stop more w.takes;
+      ends = record { sound = tt; fault = w.ends.fault };
+    }
 
 -- a writer that takes no memory is one that may
-WriteFault-memory : (after : SinkState) (memory : Bool) (e : IoFault) → WriteFault false after e → WriteFault memory after e
+WriteFault-memory : (after : SinkState) (memory : Bool) (e : IoFault) → WriteFault false after e
+    → WriteFault memory after e
 WriteFault-memory after memory Write h = h
 WriteFault-memory after memory Memory h = cc
 WriteFault-memory after memory _ h = absurd h
 
-pub EndsWriting-memory : {T : Type 0} (after : SinkState) (memory : Bool) (result : Result T IoFault) → EndsWriting false after result → EndsWriting memory after result
+pub EndsWriting-memory : {T : Type 0} (after : SinkState) (memory : Bool)
+    (result : Result T IoFault)
+    → EndsWriting false after result → EndsWriting memory after result
 EndsWriting-memory after memory (Ok x) w = record { sound = w.sound; fault = tt }
-EndsWriting-memory after memory (Err e) w = record { sound = tt; fault = WriteFault-memory after memory e w.fault }
+EndsWriting-memory after memory (Err e) w =
+    record { sound = tt; fault = WriteFault-memory after memory e w.fault }

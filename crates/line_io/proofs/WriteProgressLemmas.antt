@@ -17,7 +17,9 @@ pub record SoFar (whole : List ℕ) (before after : SinkState) (rest : List ℕ)
 pub SoFar-none : (whole : List ℕ) (before : SinkState) → SoFar whole before before whole
 SoFar-none whole before = record { done = []; splits = refl; taken = Appends-nil before.taken }
 
-pub SoFar-more : {whole : List ℕ} {before after : SinkState} {rest : List ℕ} (after' : SinkState) (text rest' : List ℕ) → SoFar whole before after rest → rest ≡ text ++ rest'
+pub SoFar-more : {whole : List ℕ} {before after : SinkState} {rest : List ℕ} (after' : SinkState)
+    (text rest' : List ℕ)
+    → SoFar whole before after rest → rest ≡ text ++ rest'
     → Appends after.taken after'.taken text → SoFar whole before after' rest'
 SoFar-more {before = before} {after = after} after' text rest' s cut wrote = record {
   done = s.done ++ text;
@@ -25,20 +27,28 @@ SoFar-more {before = before} {after = after} after' text rest' s cut wrote = rec
   taken = Appends-trans before.taken after.taken after'.taken s.done text s.taken wrote;
 }
 
-pub SoFar-stop : {T U : Type 0} {whole : List ℕ} {before between after : SinkState} {rest : List ℕ} {e : IoFault} (text rest' : List ℕ) → SoFar whole before between rest → rest ≡ text ++ rest'
+pub SoFar-stop : {T U : Type 0} {whole : List ℕ} {before between after : SinkState} {rest : List ℕ}
+    {e : IoFault} (text rest' : List ℕ)
+    → SoFar whole before between rest → rest ≡ text ++ rest'
     → Writes {T = T} between after text (Err e) → Writes {T = U} before after whole (Err e)
 SoFar-stop {before = before} {between = between} {after = after} text rest' s cut w = record {
   takes = record {
     whole = tt;
-    front = rw (s.splits, cut) (TakesFront-after before between after s.done s.taken (TakesFront-longer rest' w.takes.front));
+    front =
+        rw (s.splits, cut)
+        (TakesFront-after before between after s.done s.taken (TakesFront-longer rest' w.takes.front));
   };
   ends = record { sound = tt; fault = w.ends.fault };
 }
 
-pub SoFar-end : {T : Type 0} {whole : List ℕ} {before after : SinkState} {rest : List ℕ} (x : T) → SoFar whole before after rest → rest ≡ [] → after.failed ≡ false → Writes before after whole (Ok x)
+pub SoFar-end : {T : Type 0} {whole : List ℕ} {before after : SinkState} {rest : List ℕ} (x : T)
+    → SoFar whole before after rest → rest ≡ [] → after.failed ≡ false
+    → Writes before after whole (Ok x)
 SoFar-end {before = before} {after = after} x s none sound = record {
   takes = record {
-    whole = subst (Appends before.taken after.taken) (sym (s.splits ∙ ap (λ r. s.done ++ r) none ∙ append-nil s.done)) s.taken;
+    whole =
+        subst (Appends before.taken after.taken)
+        (sym (s.splits ∙ ap (λ r. s.done ++ r) none ∙ append-nil s.done)) s.taken;
     front = tt;
   };
   ends = record { sound = sound; fault = tt };

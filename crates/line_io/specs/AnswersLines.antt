@@ -8,8 +8,8 @@ use Rattle.line_io.specs.declared.fault.IoFault.TheVariants.{Read, Write, TooLon
 use Rattle.line_io.specs.LineAnswers.{answers_from, text_of}
 use Rattle.line_io.specs.Writes.{TakesFront}
 
--- `Read` comes only where the source has failed, `Write` only where the sink has, `TooLong` only where a byte past
--- the limit was read, `Memory` only where an answer takes memory
+-- `Read` comes only where the source has failed, `Write` only where the sink has, `TooLong` only
+-- where a byte past the limit was read, `Memory` only where an answer takes memory
 abbrev pub EngineFault : Bool → ℕ → List ℕ → SourceState → SinkState → IoFault → Type 0
 EngineFault memory limit read input' out' Read = (input'.failed ≡ true) × (length read ≤ limit)
 EngineFault memory limit read input' out' Write = out'.failed ≡ true
@@ -22,19 +22,24 @@ LeavesAnswers Read = Unit {0}
 LeavesAnswers TooLong = Unit {0}
 LeavesAnswers _ = ⊥
 
--- of an input from which `read` was read up to `limit`, which had `left` left where that is known, the lines are
--- answered by `answer`
-pub record WritesAnswers (answer : List ℕ → List ℕ) (limit : ℕ) (read : List ℕ) (input : SourceState) (out out' : SinkState) (result : Result (Unit {0}) IoFault) : Type 0 where
+-- of an input from which `read` was read up to `limit`, which had `left` left where that is known,
+-- the lines are answered by `answer`
+pub record WritesAnswers (answer : List ℕ → List ℕ) (limit : ℕ) (read : List ℕ)
+    (input : SourceState) (out out' : SinkState) (result : Result (Unit {0}) IoFault) : Type 0 where
   -- at Ok the text of all that was read was written
   pub whole : OnOk result (Appends out.taken out'.taken (text_of answer read))
   -- at Err a front of it and of the whole input's text, where that is known
   pub front : OnErr result (TakesFront out out' (text_of answer read))
-  pub front_of_all : IfSome input.left (λ left. OnErr result (TakesFront out out' (text_of answer left)))
-  pub answered : IfErr result (λ e. LeavesAnswers e → Appends out.taken out'.taken (answers_from answer [] (take limit read)))
+  pub front_of_all : IfSome input.left
+      (λ left. OnErr result (TakesFront out out' (text_of answer left)))
+  pub answered : IfErr result (λ e. LeavesAnswers e
+      → Appends out.taken out'.taken (answers_from answer [] (take limit read)))
 
--- the engine whose answers are told by each function of a line's content of which `Answers` holds, which take memory or
--- not, reads up to `limit` and answers `result`
-pub record AnswersLines (Answers : (List ℕ → List ℕ) → Type 0) (memory : Bool) (limit : ℕ) (input input' : SourceState) (out out' : SinkState) (result : Result (Unit {0}) IoFault) : Type 0 where
+-- the engine whose answers are told by each function of a line's content of which `Answers` holds,
+-- which take memory or not, reads up to `limit` and answers `result`
+pub record AnswersLines (Answers : (List ℕ → List ℕ) → Type 0) (memory : Bool) (limit : ℕ)
+    (input input' : SourceState) (out out' : SinkState)
+    (result : Result (Unit {0}) IoFault) : Type 0 where
   -- what the source gave
   pub read : List ℕ
   pub given : Consumes input.left input'.left read
@@ -44,4 +49,5 @@ pub record AnswersLines (Answers : (List ℕ → List ℕ) → Type 0) (memory :
   pub all_read : OnOk result (IsAtEnd input'.left)
   pub sound : OnOk result ((input'.failed ≡ false) × (out'.failed ≡ false))
   pub fault : IfErr result (EngineFault memory limit read input' out')
-  pub written : (answer : List ℕ → List ℕ) → Answers answer → WritesAnswers answer limit read input out out' result
+  pub written : (answer : List ℕ → List ℕ) → Answers answer
+      → WritesAnswers answer limit read input out out' result

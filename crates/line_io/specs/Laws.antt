@@ -18,16 +18,23 @@ abbrev pub ContentIsContent : Type 0
 ContentIsContent = (line : List ℕ) → IsContent line (content line)
 
 abbrev pub FirstBytesDecide : Type 0
-FirstBytesDecide = (answer : List ℕ → List ℕ) (line : List ℕ) → line_answer answer (take 66 line) ≡ line_answer answer line
+FirstBytesDecide =
+    (answer : List ℕ → List ℕ) (line : List ℕ)
+    → line_answer answer (take 66 line) ≡ line_answer answer line
 
 abbrev pub OneReading : Type 0
-OneReading = (content : List ℕ) (numbers others : List ℤ) → AreNumbers content numbers → AreNumbers content others → numbers ≡ others
+OneReading =
+    (content : List ℕ) (numbers others : List ℤ) → AreNumbers content numbers
+    → AreNumbers content others → numbers ≡ others
 
 abbrev pub OneText : Type 0
-OneText = (text : List ℕ) (number : ℕ) → number < 2 ^ 64 → IsDecimal text number ↔ (text ≡ decimal number)
+OneText =
+    (text : List ℕ) (number : ℕ) → number < 2 ^ 64 → IsDecimal text number ↔ (text ≡ decimal number)
 
 abbrev pub PrintedIsRead : Type 0
 PrintedIsRead = (number : ℤ) → FitsSigned w64 number → IsNumber (signed_decimal number) number
 
 abbrev pub ReadByParts : Type 0
-ReadByParts = (content : List ℕ) (numbers : List ℤ) → AreNumbers content numbers ↔ (numbers_of content ≡ Some numbers)
+ReadByParts =
+    (content : List ℕ) (numbers : List ℤ)
+    → AreNumbers content numbers ↔ (numbers_of content ≡ Some numbers)

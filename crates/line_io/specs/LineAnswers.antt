@@ -7,9 +7,11 @@ use Rattle.line_io.specs.Lines.{content, ended_from, last_line, lines}
 abbrev pub form_refused : List ℕ
 form_refused = codes "refused: form" ++ 10 ∷ []
 
--- the answer to a line: its content has at most 64 bytes, and `answer` tells what those are answered
+-- the answer to a line: its content has at most 64 bytes, and `answer`
+-- tells what those are answered
 unfoldable pub line_answer : (List ℕ → List ℕ) → List ℕ → List ℕ
-line_answer answer line = if nat_lt 64 (length (content line)) then form_refused else answer (content line)
+line_answer answer line =
+    if nat_lt 64 (length (content line)) then form_refused else answer (content line)
 
 -- the answers to the lines of `input` that a byte 10 ends, the first of them begun by `part`
 unfoldable pub answers_from : (List ℕ → List ℕ) → List ℕ → List ℕ → List ℕ

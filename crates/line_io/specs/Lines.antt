@@ -5,12 +5,14 @@ use Rattle.std.specs.List.{All, flat_map}
 -- the parts of `input` that a byte 10 ends, the first of them begun by `part`
 abbrev pub ended_from : List ℕ → List ℕ → List (List ℕ)
 ended_from part [] = []
-ended_from part (b ∷ input) = if b == 10 then part ∷ ended_from [] input else ended_from (part ++ b ∷ []) input
+ended_from part (b ∷ input) =
+    if b == 10 then part ∷ ended_from [] input else ended_from (part ++ b ∷ []) input
 
 -- the part after the last byte 10 of `input`, begun by `part` where there is none
 abbrev pub last_from : List ℕ → List ℕ → List ℕ
 last_from part [] = part
-last_from part (b ∷ input) = if b == 10 then last_from [] input else last_from (part ++ b ∷ []) input
+last_from part (b ∷ input) =
+    if b == 10 then last_from [] input else last_from (part ++ b ∷ []) input
 
 -- a last part is a line only if it isn't empty
 abbrev pub last_line : List ℕ → List (List ℕ)
@@ -23,10 +25,11 @@ lines input = ended_from [] input ++ last_line (last_from [] input)
 
 -- a line without one byte 13 at its end
 abbrev pub content : List ℕ → List ℕ
-content line = if slice_index line (length line - 1) == 13 then take (length line - 1) line else line
+content line =
+    if slice_index line (length line - 1) == 13 then take (length line - 1) line else line
 
--- `parts` are the lines of `input`: those that a byte 10 ends and the part behind them, which is one only if it isn't
--- empty, together are the input, and none holds a byte 10
+-- `parts` are the lines of `input`: those that a byte 10 ends and the part behind them, which is
+-- one only if it isn't empty, together are the input, and none holds a byte 10
 pub record AreLines (input : List ℕ) (parts : List (List ℕ)) : Type 0 where
   pub ended : List (List ℕ)
   pub last : List ℕ
@@ -37,4 +40,5 @@ pub record AreLines (input : List ℕ) (parts : List (List ℕ)) : Type 0 where
 
 -- `inside` is `line` without one byte 13 at its end
 abbrev pub IsContent : List ℕ → List ℕ → Type 0
-IsContent line inside = (line ≡ inside ++ 13 ∷ []) ⊎ ((line ≡ inside) × ((front : List ℕ) → line ≢ front ++ 13 ∷ []))
+IsContent line inside =
+    (line ≡ inside ++ 13 ∷ []) ⊎ ((line ≡ inside) × ((front : List ℕ) → line ≢ front ++ 13 ∷ []))

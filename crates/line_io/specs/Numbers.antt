@@ -1,5 +1,5 @@
--- The numbers of an input line (a form of this project's own): which bytes are a number, what it stands for, and which
--- are a list of numbers.
+-- The numbers of an input line (a form of this project's own): which bytes are a number, what it
+-- stands for, and which are a list of numbers.
 use Rattle.std.specs.Prelude.{◌≡◌, ℕ, ◌+◌, ◌-◌, ◌*◌, ◌^◌, ◌<◌, ◌≤◌, ℤ, pos, negsuc, neg_ℤ, min, Bool, true, false, List, [], ◌∷◌, ◌++◌, length, All, map, Option, Some, None, option_map, if◌then◌else◌, ◌==◌, ◌&&◌, nat_lt, nat_le}
 use Rattle.std.specs.Fmt.{signed_decimal}
 use Rattle.std.specs.List.{AllZip, join_with_byte, list_all, slice_split}
@@ -38,7 +38,8 @@ pub record AreNumbers (content : List ℕ) (numbers : List ℤ) : Type 0 where
   pub each : AllZip IsNumber texts numbers
   pub joined : content ≡ join_with_byte 32 texts
 
--- the content has the form that is asked for, so many numbers in at most 64 bytes, and they are these
+-- the content has the form that is asked for, so many numbers in at most
+-- 64 bytes, and they are these
 pub record HasForm (count : ℕ) (content : List ℕ) (numbers : List ℤ) : Type 0 where
   pub short : length content ≤ 64
   pub counted : length numbers ≡ count
@@ -55,12 +56,18 @@ printed numbers = join_with_byte 32 (map signed_decimal numbers)
 
 -- the number that one digit or more stand for
 abbrev pub natural_of : List ℕ → Option ℕ
-natural_of digits = if nat_lt 0 (length digits) && list_all (λ byte. nat_le 48 byte && nat_le byte 57) digits then Some (value_of digits) else None
+natural_of digits =
+    if nat_lt 0 (length digits) && list_all (λ byte. nat_le 48 byte && nat_le byte 57) digits
+    then Some (value_of digits)
+    else None
 
 -- the number that a text stands for
 abbrev pub number_of : List ℕ → Option ℤ
 number_of [] = None
-number_of (byte ∷ bytes) = if byte == 45 then option_map (signed true) (natural_of bytes) else option_map (signed false) (natural_of (byte ∷ bytes))
+number_of (byte ∷ bytes) =
+    if byte == 45
+    then option_map (signed true) (natural_of bytes)
+    else option_map (signed false) (natural_of (byte ∷ bytes))
 
 -- all of them, where none is missing
 abbrev pub all_some : List (Option ℤ) → Option (List ℤ)

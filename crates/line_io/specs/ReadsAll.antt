@@ -6,16 +6,18 @@ use Rattle.le_rec.specs.Source.{SourceState}
 use Rattle.line_io.specs.declared.fault.IoFault.{IoFault}
 use Rattle.line_io.specs.declared.fault.IoFault.TheVariants.{Read, TooLong, Memory}
 
--- `Read` comes only where the source has failed, `TooLong` only where a byte past the limit was read, and `Memory` only
--- where some byte was read and none past the limit
+-- `Read` comes only where the source has failed, `TooLong` only where a byte past the limit was
+-- read, and `Memory` only where some byte was read and none past the limit
 abbrev pub ReadFault : ℕ → SourceState → List ℕ → IoFault → Type 0
 ReadFault limit after read Read = after.failed ≡ true
 ReadFault limit after read TooLong = (limit < length read) × (after.failed ≡ false)
-ReadFault limit after read Memory = (0 < length read) × (length read ≤ limit) × (after.failed ≡ false)
+ReadFault limit after read Memory =
+    (0 < length read) × (length read ≤ limit) × (after.failed ≡ false)
 ReadFault limit after read _ = ⊥
 
 -- reading all of a source up to `limit` answers `result`
-pub record ReadsAll {A : Type 0} (limit : ℕ) (before after : SourceState) (result : Result (Vec ℕ A) IoFault) : Type 0 where
+pub record ReadsAll {A : Type 0} (limit : ℕ) (before after : SourceState)
+    (result : Result (Vec ℕ A) IoFault) : Type 0 where
   -- what the source gave
   pub read : List ℕ
   pub given : Consumes before.left after.left read

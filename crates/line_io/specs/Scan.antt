@@ -13,9 +13,10 @@ abbrev pub separator : Bool → List ℕ
 separator false = []
 separator true = 32 ∷ []
 
--- a number whose digits all stand there, behind a space or nothing: the `i32` nearest to it, whether it is told to stand
--- there as it is printed, and what follows
-pub record StartsWith (separated : Bool) (bytes : List ℕ) (value : ℤ) (is_printed : Bool) (rest : List ℕ) : Type 0 where
+-- a number whose digits all stand there, behind a space or nothing: the `i32` nearest to it,
+-- whether it is told to stand there as it is printed, and what follows
+pub record StartsWith (separated : Bool) (bytes : List ℕ) (value : ℤ) (is_printed : Bool)
+    (rest : List ℕ) : Type 0 where
   pub text : List ℕ
   pub exact : ℤ
   pub spelled : bytes ≡ separator separated ++ (text ++ rest)
@@ -26,4 +27,6 @@ pub record StartsWith (separated : Bool) (bytes : List ℕ) (value : ℤ) (is_pr
 
 -- no number stands there
 abbrev pub LacksNumber : Bool → List ℕ → Type 0
-LacksNumber separated bytes = (text rest : List ℕ) (number : ℤ) → IsNumber text number → bytes ≡ separator separated ++ (text ++ rest) → ⊥
+LacksNumber separated bytes =
+    (text rest : List ℕ) (number : ℤ) → IsNumber text number
+    → bytes ≡ separator separated ++ (text ++ rest) → ⊥

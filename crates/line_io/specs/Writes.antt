@@ -13,22 +13,26 @@ pub record TakesFront (before after : SinkState) (text : List ℕ) : Type 0 wher
   pub added : Appends before.taken after.taken front
 
 -- the text was taken at Ok, and a front of it at Err
-pub record TakesText {T : Type 0} (before after : SinkState) (text : List ℕ) (result : Result T IoFault) : Type 0 where
+pub record TakesText {T : Type 0} (before after : SinkState) (text : List ℕ)
+    (result : Result T IoFault) : Type 0 where
   pub whole : OnOk result (Appends before.taken after.taken text)
   pub front : OnErr result (TakesFront before after text)
 
--- a writer ends with `Write` only where the sink has failed, with `Memory` only where it takes memory, and with no other fault
+-- a writer ends with `Write` only where the sink has failed, with `Memory` only where it takes
+-- memory, and with no other fault
 abbrev pub WriteFault : Bool → SinkState → IoFault → Type 0
 WriteFault memory after Write = after.failed ≡ true
 WriteFault memory after Memory = (memory ≡ true) × (after.failed ≡ false)
 WriteFault memory after _ = ⊥
 
 -- how a writer ends that takes memory or not: the sink hasn't failed at Ok
-pub record EndsWriting {T : Type 0} (memory : Bool) (after : SinkState) (result : Result T IoFault) : Type 0 where
+pub record EndsWriting {T : Type 0} (memory : Bool) (after : SinkState)
+    (result : Result T IoFault) : Type 0 where
   pub sound : OnOk result (after.failed ≡ false)
   pub fault : IfErr result (WriteFault memory after)
 
 -- the writer of `text`, which takes no memory, answers `result`
-pub record Writes {T : Type 0} (before after : SinkState) (text : List ℕ) (result : Result T IoFault) : Type 0 where
+pub record Writes {T : Type 0} (before after : SinkState) (text : List ℕ)
+    (result : Result T IoFault) : Type 0 where
   pub takes : TakesText before after text result
   pub ends : EndsWriting false after result

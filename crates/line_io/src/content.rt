@@ -1,7 +1,10 @@
 //! The numbers of an input line.
 
-ghost use Rattle.std.specs.Prelude.{◌≡◌, ℕ, ℤ, ◌+◌, ◌^◌, ◌≤◌, ◌<◌, ◌≢◌, ◌++◌, All, IfSome, IfNone, IsTrue, MatchOption, List, length, map, take, min, slice_index, false};
-ghost use Rattle.line_io.specs.Numbers.{HasForm, IsDigit, nearest, printed, value_of, sign_text, signed};
+ghost use Rattle.std.specs.Prelude.{◌≡◌, ℕ, ℤ, ◌+◌, ◌^◌, ◌≤◌, ◌<◌, ◌≢◌, ◌++◌, All, IfSome, IfNone};
+ghost use Rattle.std.specs.Prelude.{IsTrue, MatchOption, List, length, map, take, min, slice_index};
+ghost use Rattle.std.specs.Prelude.{false};
+ghost use Rattle.line_io.specs.Numbers.{HasForm, IsDigit, nearest, printed, value_of, sign_text};
+ghost use Rattle.line_io.specs.Numbers.{signed};
 ghost use Rattle.line_io.specs.Scan.{StartsWith, LacksNumber};
 
 use super::lines::CONTENT;
@@ -11,22 +14,24 @@ use super::lines::CONTENT;
 pub struct Numbers<const N: usize> {
     /// The numbers, each as the `i32` that is nearest to it.
     pub values: [i32; N],
-    /// Whether the content is known to be their text as they are printed, so that it can stand in an answer.
+    /// Whether the content is known to be their text as they are printed,
+    /// so that it can stand in an answer.
     pub is_printed: bool,
 }
 
 /// Where a magnitude stops to grow.
 const CAP: u64 = 2_147_483_648;
 
-/// The numbers of an input line's content: texts of an optional `-` and digits, with one space between two, in 64 bytes
-/// at most. None where it isn't so many numbers.
+/// The numbers of an input line's content: texts of an optional `-` and digits, with one space
+/// between two, in 64 bytes at most. None where it isn't so many numbers.
 ///
-/// A number may have more digits than any integer type holds: whether it is allowed is told by the type that is made of
-/// it.
+/// A number may have more digits than any integer type holds: whether it is allowed is
+/// told by the type that is made of it.
 pub fn read_numbers<const N: usize>(content: &[u8]) -> Option<Numbers<N>>
     ensures some { IfSome result (λ found.
         (exact : List ℤ) × HasForm N content.now exact × (found.values ≡ map nearest exact)) }
-    ensures printed { IfSome result (λ found. IsTrue found.is_printed → content.now ≡ printed found.values) }
+    ensures printed { IfSome result (λ found.
+        IsTrue found.is_printed → content.now ≡ printed found.values) }
     ensures none { IfNone result ((exact : List ℤ) → HasForm N content.now exact → ⊥) }
 {
     if content.len() > CONTENT {
@@ -47,8 +52,8 @@ pub fn read_numbers<const N: usize>(content: &[u8]) -> Option<Numbers<N>>
     Some(Numbers { values, is_printed })
 }
 
-// The number that the bytes begin with, behind a space where it is separated from one before, whether it stands there
-// as it is printed, and what follows it.
+// The number that the bytes begin with, behind a space where it is separated from one before,
+// whether it stands there as it is printed, and what follows it.
 #[inline]
 fn item(separated: bool, bytes: &[u8]) -> Option<(i32, bool, &[u8])>
     ensures { MatchOption result (LacksNumber separated bytes.now)
@@ -77,7 +82,8 @@ fn number(bytes: &[u8]) -> Option<(i32, bool, &[u8])>
     Some((signed(negative, magnitude), plain, &unsigned[count..]))
 }
 
-// Whether a sign and digits stand there as their number is printed: without a leading zero, and with no `-` before 0.
+// Whether a sign and digits stand there as their number is printed: without a
+// leading zero, and with no `-` before 0.
 #[inline]
 fn is_plain(negative: bool, digits: &[u8], magnitude: u64) -> bool
     requires { 0 < length digits.now }
@@ -111,7 +117,8 @@ fn signed(negative: bool, magnitude: u64) -> i32
     }
 }
 
-// How many digits the bytes begin with, and the number that they stand for, or the cap where that is less.
+// How many digits the bytes begin with, and the number that they
+// stand for, or the cap where that is less.
 #[inline]
 fn digits(bytes: &[u8]) -> (usize, u64)
     ensures within { result.0 ≤ length bytes.now }

@@ -1,5 +1,6 @@
 //! How bytes are read from a source.
-ghost use Rattle.std.specs.Prelude.{◌≡◌, ◌<◌, ◌≤◌, true, false, [], ◌++◌, length, IfOk, IfErr, MatchResult, OnOk, OnErr};
+ghost use Rattle.std.specs.Prelude.{◌≡◌, ◌<◌, ◌≤◌, true, false, [], ◌++◌, length, IfOk, IfErr};
+ghost use Rattle.std.specs.Prelude.{MatchResult, OnOk, OnErr};
 ghost use Rattle.std.specs.Io.KnownBytes.{Consumes, IsAtEnd, Keeps};
 ghost use Rattle.line_io.specs.ReadsAll.{ReadsAll};
 ghost use Rattle.line_io.specs.declared.fault.IoFault.TheVariants.{Memory, Read};
@@ -12,7 +13,8 @@ use std::alloc::Allocator;
 pub fn next_block<'b, S: Source>(input: &mut S, block: &'b mut [u8]) -> Result<&'b [u8], IoFault>
     requires { 0 < length block.old }
     ensures bound { IfOk result (λ bytes. length bytes.now ≤ length block.old) }
-    ensures given { IfOk result (λ bytes. Consumes (S.state input.old).left (S.state input.new).left bytes.now) }
+    ensures given { IfOk result (λ bytes.
+        Consumes (S.state input.old).left (S.state input.new).left bytes.now) }
     ensures end { IfOk result (λ bytes. bytes.now ≡ [] → IsAtEnd (S.state input.new).left) }
     ensures sound { OnOk result ((S.state input.new).failed ≡ (S.state input.old).failed) }
     ensures fault { IfErr result (λ e. (e ≡ Read) × ((S.state input.new).failed ≡ true)) }
@@ -30,8 +32,9 @@ pub const LIMIT: u64 = 268_435_456;
 /// The most bytes that are pulled at once.
 pub const BLOCK: usize = 65_536;
 
-/// Reads `input` to its end, at most one byte past `limit`. `TooLong` where it has more than `limit`
-/// bytes, `Memory` where there is no room for those read so far. After a failed pull there is no other.
+/// Reads `input` to its end, at most one byte past `limit`. `TooLong` where it has
+/// more than `limit` bytes, `Memory` where there is no room for those read so far.
+/// After a failed pull there is no other.
 pub fn read_all<S: Source, A: Allocator>(
     alloc: A,
     input: &mut S,

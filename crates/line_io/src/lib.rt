@@ -1,5 +1,6 @@
-//! Lines in, lines out, for any program: sources read in blocks, lines cut and kept, the numbers of a line, decimal
-//! text, the one loop over `put`, and the engine of lines on which a command over lines of input stands.
+//! Lines in, lines out, for any program: sources read in blocks, lines cut and kept, the
+//! numbers of a line, decimal text, the one loop over `put`, and the engine of lines on which
+//! a command over lines of input stands.
 #![tactic(auto)]
 
 mod content;

@@ -1,5 +1,6 @@
 //! The engine of lines, on which every command over lines of input stands.
-ghost use Rattle.std.specs.Prelude.{◌≡◌, ◌≢◌, ℕ, ◌≤◌, Bool, false, List, [], ◌∷◌, ◌++◌, length, take, OnOk, MatchOption};
+ghost use Rattle.std.specs.Prelude.{◌≡◌, ◌≢◌, ℕ, ◌≤◌, Bool, false, List, [], ◌∷◌, ◌++◌, length};
+ghost use Rattle.std.specs.Prelude.{take, OnOk, MatchOption};
 ghost use Rattle.std.specs.List.{All};
 ghost use Rattle.line_io.specs.AnswersLines.{AnswersLines};
 ghost use Rattle.line_io.specs.LineAnswers.{answers_from, last_answer, line_answer};
@@ -70,7 +71,8 @@ fn answer_ended<C: LineCommand, W: Sink>(
 ) -> Result<(), IoFault>
     requires { (W.state out.old).failed ≡ false }
     ensures takes { (answer : List ℕ → List ℕ) → C.Answers command.now answer
-        → TakesText (W.state out.old) (W.state out.new) (line_answer answer (part.old ++ line.now)) result }
+        → TakesText (W.state out.old) (W.state out.new)
+        (line_answer answer (part.old ++ line.now)) result }
     ensures ends { EndsWriting C.takes_memory (W.state out.new) result }
     ensures cleared { part.new ≡ [] }
 {
@@ -92,8 +94,8 @@ fn split_line(bytes: &[u8]) -> Option<(&[u8], &[u8])>
     Some((&bytes[..end], &bytes[end + 1..]))
 }
 
-// Answers the lines that end in `block`, the first of them begun by `part`, and keeps the part after
-// them.
+// Answers the lines that end in `block`, the first of them begun by
+// `part`, and keeps the part after them.
 fn answer_block<C: LineCommand, W: Sink>(
     command: &C,
     part: &mut LinePart,
@@ -102,7 +104,8 @@ fn answer_block<C: LineCommand, W: Sink>(
 ) -> Result<(), IoFault>
     requires { (W.state out.old).failed ≡ false }
     ensures takes { (answer : List ℕ → List ℕ) → C.Answers command.now answer
-        → TakesText (W.state out.old) (W.state out.new) (answers_from answer part.old block.now) result }
+        → TakesText (W.state out.old) (W.state out.new)
+        (answers_from answer part.old block.now) result }
     ensures ends { EndsWriting C.takes_memory (W.state out.new) result }
     ensures kept { OnOk result (part.new ≡ take KEPT (last_from part.old block.now)) }
 {

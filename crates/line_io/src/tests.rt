@@ -12,7 +12,8 @@ use test_ends::{RepeatSource, SliceSink, SliceSource};
 struct Length;
 
 impl LineCommand for Length {
-    ghost Answers = { λ _ answer. (content : List ℕ) → answer content ≡ decimal (length content) ++ 10 ∷ [] };
+    ghost Answers = { λ _ answer. (content : List ℕ)
+        → answer content ≡ decimal (length content) ++ 10 ∷ [] };
 
     ghost takes_memory = { false };
 
@@ -131,7 +132,8 @@ fn failing_writes(rt: HostRuntime) {
     }
 }
 
-// A source of one byte a pull, which fails where an ended line isn't answered, and the sink of the answers.
+// A source of one byte a pull, which fails where an ended line isn't
+// answered, and the sink of the answers.
 #[derive(Drop)]
 struct Waiting<'a> {
     rest: &'a [u8],

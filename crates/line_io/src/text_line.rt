@@ -9,8 +9,8 @@ use std::marker::Model;
 /// The most bytes of a line.
 const ROOM: usize = 144;
 
-/// A line of text in the making, kept on the stack. It is filled from its end to its start, so that the digits of a
-/// number are written where they stay. Contracts see the bytes so far.
+/// A line of text in the making, kept on the stack. It is filled from its end to its start, so that
+/// the digits of a number are written where they stay. Contracts see the bytes so far.
 #[derive(Drop)]
 pub struct TextLine {
     bytes: [u8; ROOM],

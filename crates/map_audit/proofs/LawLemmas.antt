@@ -20,7 +20,10 @@ law_sound_is_no_fault level = (
     | inl link ↦ (law_no_fault level).0 sound code i fault (inl link)
     | inr other ↦ elim other [
       | inl node ↦ (law_no_fault level).0 sound code i fault (inr node)
-      | inr table ↦ let at = table_place level code i table in let below = ltb-true (place code) 18 fault in omega (arith, at.from, below)
+      | inr table ↦
+          let at =
+          table_place level code i table in let below =
+          ltb-true (place code) 18 fault in omega (arith, at.from, below)
     ]
   ]),
   (λ none. (law_no_fault level).1 (λ code i fault holds. none code i fault (elim holds [ inl link ↦ inl link | inr node ↦ inr (inl node) ]))),
@@ -39,7 +42,11 @@ law_wide_keeps_sound files name signed wide are is_signed is_wide sound =
       stand = is_signed.stand;
       is = refl;
     } in
-    let same : level_of label Wide found lumps ≡ wide = IsLevel-one files name Wide _ _ other is_wide in
-    let bytes = lump_bytes files are (label + 2) (lump_of lumps 2) (is_signed.stand.each 2 (omega arith) (omega arith)) in
+    let same : level_of label Wide found lumps ≡ wide =
+    IsLevel-one files name Wide _ _ other is_wide in
+    let bytes =
+    lump_bytes files are (label + 2) (lump_of lumps 2)
+    (is_signed.stand.each 2 (omega arith) (omega arith)) in
     let kept = wide_keeps_sound label found lumps bytes (subst IsSound is_signed.is sound) in
-    subst (λ (level : Level). KeepsSound level wide) (sym is_signed.is) (subst (λ (level : Level). KeepsSound (level_of label Signed found lumps) level) same kept)
+    subst (λ (level : Level). KeepsSound level wide) (sym is_signed.is)
+    (subst (λ (level : Level). KeepsSound (level_of label Signed found lumps) level) same kept)

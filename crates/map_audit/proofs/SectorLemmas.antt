@@ -16,28 +16,41 @@ use Rattle.map_level.specs.SectorOf.{number_named, first_seg, sidedef_of, sidede
 
 module _ (level : Level) where
   -- the index of a seg's sidedef, by way of its linedef
-  pub side_through : (seg : Seg) (m : ℕ) (linedef : LineDef) → seg.linedef ≡ pos m → slice_get (linedefs_of level) m ≡ Some linedef
+  pub side_through : (seg : Seg) (m : ℕ) (linedef : LineDef) → seg.linedef ≡ pos m
+      → slice_get (linedefs_of level) m ≡ Some linedef
       → side_of level seg ≡ side_at linedef seg.side
   side_through seg m linedef names is =
       let f : LineDef → Option ℤ = λ l. side_at l seg.side in
-      ap (λ z. option_and_then f (named (linedefs_of level) z)) names ∙ ap (λ o. option_and_then f o) is
+      ap (λ z. option_and_then f (named (linedefs_of level) z)) names
+      ∙ ap (λ o. option_and_then f o) is
 
   -- the sector that the records on the way lead to
-  pub sector_through : (t k m p q : ℕ) (ssector : SSector) (seg : Seg) (linedef : LineDef) (sidedef : SideDef)
+  pub sector_through : (t k m p q : ℕ) (ssector : SSector) (seg : Seg) (linedef : LineDef)
+      (sidedef : SideDef)
       → slice_get (ssectors_of level) t ≡ Some ssector → ssector.first ≡ pos k
       → slice_get (segs_of level) k ≡ Some seg → seg.linedef ≡ pos m
-      → slice_get (linedefs_of level) m ≡ Some linedef → side_at linedef seg.side ≡ Some (pos p) → pos p ≢ no_side level.reading
-      → slice_get (sidedefs_of level) p ≡ Some sidedef → sidedef.sector ≡ pos q → q < length (sectors_of level)
+      → slice_get (linedefs_of level) m ≡ Some linedef → side_at linedef seg.side ≡ Some (pos p)
+      → pos p ≢ no_side level.reading
+      → slice_get (sidedefs_of level) p ≡ Some sidedef → sidedef.sector ≡ pos q
+      → q < length (sectors_of level)
       → sector_of level t ≡ Some q
-  sector_through t k m p q ssector seg linedef sidedef is_ssector first is_seg line is_linedef side other is_sidedef sector within =
+  sector_through t k m p q ssector seg linedef sidedef is_ssector first is_seg line is_linedef side
+      other is_sidedef sector within =
       let count = length (sectors_of level) in
       let g : SideDef → Option ℕ = λ d. number_named count d.sector in
       let f : Seg → Option ℕ = λ s. option_and_then g (sidedef_of level s) in
-      let d : Decides (int_eq (pos p) (no_side level.reading)) (pos p ≡ no_side level.reading) = Decides-int_eq (pos p) (no_side level.reading) in
-      let apart : int_eq (pos p) (no_side level.reading) ≡ false = false_from_ne_true (int_eq (pos p) (no_side level.reading)) (λ t. other (d.0 t)) in
+      let d : Decides (int_eq (pos p) (no_side level.reading)) (pos p ≡ no_side level.reading) =
+      Decides-int_eq (pos p) (no_side level.reading) in
+      let apart : int_eq (pos p) (no_side level.reading) ≡ false =
+      false_from_ne_true (int_eq (pos p) (no_side level.reading)) (λ t. other (d.0 t)) in
       let to_seg : first_seg level t ≡ Some seg =
-      ap (λ o. option_and_then (λ (s : SSector). named (segs_of level) s.first) o) is_ssector ∙ ap (named (segs_of level)) first ∙ is_seg in
+      ap (λ o. option_and_then (λ (s : SSector). named (segs_of level) s.first) o) is_ssector
+      ∙ ap (named (segs_of level)) first ∙ is_seg in
       let to_sidedef : sidedef_named level (pos p) ≡ Some sidedef = rw apart is_sidedef in
-      let of_seg : sidedef_of level seg ≡ Some sidedef = ap (λ o. option_and_then (sidedef_named level) o) (side_through seg m linedef line is_linedef ∙ side) ∙ to_sidedef in
-      let number : number_named count sidedef.sector ≡ Some q = ap (number_named count) sector ∙ (rw (lt-ltb q count within) refl) in
+      let of_seg : sidedef_of level seg ≡ Some sidedef =
+      ap (λ o. option_and_then (sidedef_named level) o)
+      (side_through seg m linedef line is_linedef ∙ side)
+      ∙ to_sidedef in
+      let number : number_named count sidedef.sector ≡ Some q =
+      ap (number_named count) sector ∙ (rw (lt-ltb q count within) refl) in
       ap (λ o. option_and_then f o) to_seg ∙ ap (λ o. option_and_then g o) of_seg ∙ number

@@ -30,10 +30,13 @@ number_named n (pos k) h = elim (cases_lt k n) [
 number_named n (negsuc k) h = absurd (h (λ none. none))
 
 -- a side that is -1 or names one is 65535 or names it
-pub wide_side_names : (n : ℕ) (z : ℤ) → ¬ ((z ≢ negsuc 0) × (¬ Names n z)) → ¬ ((number_of Wide z ≢ pos 65535) × (¬ Names n (number_of Wide z)))
-wide_side_names n (pos k) h = λ some. h ((λ is. let e : pos k ≢ negsuc 0 = λ e. cc in e is), (λ named. some.1 (subst (Names n) (sym (wide_same k)) named)))
+pub wide_side_names : (n : ℕ) (z : ℤ) → ¬ ((z ≢ negsuc 0) × (¬ Names n z))
+    → ¬ ((number_of Wide z ≢ pos 65535) × (¬ Names n (number_of Wide z)))
+wide_side_names n (pos k) h =
+    λ some. h ((λ is. let e : pos k ≢ negsuc 0 = λ e. cc in e is), (λ named. some.1 (subst (Names n) (sym (wide_same k)) named)))
 wide_side_names n (negsuc zero) h = λ some. some.0 refl
-wide_side_names n (negsuc (suc k)) h = absurd (h ((λ is. let e : negsuc (suc k) ≢ negsuc 0 = λ e. cc in e is), (λ none. none)))
+wide_side_names n (negsuc (suc k)) h =
+    absurd (h ((λ is. let e : negsuc (suc k) ≢ negsuc 0 = λ e. cc in e is), (λ none. none)))
 
 -- a word that says no side under the wide reading is -1
 pub wide_no_side : (z : ℤ) → FitsSigned w16 z → number_of Wide z ≡ pos 65535 → z ≡ negsuc 0
@@ -46,28 +49,39 @@ wide_no_side (negsuc k) fits is =
     ap negsuc none
 
 -- the same of a linedef's side at a side number
-pub wide_side_at : (linedef : LineDef) (side : ℤ) → FitsSigned w16 linedef.side0 → FitsSigned w16 linedef.side1
-    → side_at (linedef_under Wide linedef) side ≡ Some (pos 65535) → side_at (linedef_under Signed linedef) side ≡ Some (negsuc 0)
+pub wide_side_at : (linedef : LineDef) (side : ℤ) → FitsSigned w16 linedef.side0
+    → FitsSigned w16 linedef.side1
+    → side_at (linedef_under Wide linedef) side ≡ Some (pos 65535)
+    → side_at (linedef_under Signed linedef) side ≡ Some (negsuc 0)
 wide_side_at linedef side fits0 fits1 =
     elim (int_eq side (pos 0))
     as (λ (first : Bool). (if first then Some (number_of Wide linedef.side0) else (if int_eq side (pos 1) then Some (number_of Wide linedef.side1) else None)) ≡ Some (pos 65535)
-    → (if first then Some linedef.side0 else (if int_eq side (pos 1) then Some linedef.side1 else None)) ≡ Some (negsuc 0)) [
-      | true ↦ λ is. let e : number_of Wide linedef.side0 ≡ pos 65535 = cc in ap Some (wide_no_side linedef.side0 fits0 e)
+    → (if first then Some linedef.side0 else
+    (if int_eq side (pos 1) then Some linedef.side1 else None))
+    ≡ Some (negsuc 0)) [
+      | true ↦
+          λ is. let e : number_of Wide linedef.side0 ≡ pos 65535 = cc in ap Some (wide_no_side linedef.side0 fits0 e)
       | false ↦
           elim (int_eq side (pos 1))
-          as (λ (second : Bool). (if second then Some (number_of Wide linedef.side1) else None) ≡ Some (pos 65535) → (if second then Some linedef.side1 else None) ≡ Some (negsuc 0)) [
-            | true ↦ λ is. let e : number_of Wide linedef.side1 ≡ pos 65535 = cc in ap Some (wide_no_side linedef.side1 fits1 e)
+          as (λ (second : Bool). (if second then Some (number_of Wide linedef.side1) else None)
+          ≡ Some (pos 65535) → (if second then Some linedef.side1 else None)
+          ≡ Some (negsuc 0)) [
+            | true ↦
+                λ is. let e : number_of Wide linedef.side1 ≡ pos 65535 = cc in ap Some (wide_no_side linedef.side1 fits1 e)
             | false ↦ λ is. cc
           ]
     ]
 
 -- a range of segs that are there
-pub wide_range : (segs : ℕ) (count first : ℤ) → ¬ GoesPast segs count first → ¬ GoesPast segs (number_of Wide count) (number_of Wide first)
+pub wide_range : (segs : ℕ) (count first : ℤ) → ¬ GoesPast segs count first
+    → ¬ GoesPast segs (number_of Wide count) (number_of Wide first)
 wide_range segs (pos c) (pos k) h = λ past. h (elim past [
   | inl below ↦ inl (subst (λ z. z <ℤ pos 0) (wide_same c) below)
   | inr other ↦ elim other [
     | inl none ↦ inr (inl (subst (λ z. ¬ Names segs z) (wide_same k) none))
-    | inr beyond ↦ inr (inr (subst (λ z. pos segs <ℤ (z +ℤ pos c)) (wide_same k) (subst (λ z. pos segs <ℤ (number_of Wide (pos k) +ℤ z)) (wide_same c) beyond)))
+    | inr beyond ↦
+        inr (inr (subst (λ z. pos segs <ℤ (z +ℤ pos c)) (wide_same k)
+        (subst (λ z. pos segs <ℤ (number_of Wide (pos k) +ℤ z)) (wide_same c) beyond)))
   ]
 ])
 wide_range segs (pos c) (negsuc k) h = absurd (h (inr (inl (λ none. none))))
@@ -79,15 +93,18 @@ pub none_under : {X Y : Type 0} (f g : X → Y) (P Q : Y → Type 0) (xs : List 
     → (i : ℕ) → ¬ IsSomeAnd (slice_get (map f xs) i) P → ¬ IsSomeAnd (slice_get (map g xs) i) Q
 none_under f g P Q [] keeps i none = λ h. h
 none_under f g P Q (x ∷ xs) keeps zero none = keeps 0 x refl none
-none_under f g P Q (x ∷ xs) keeps (suc i) none = none_under f g P Q xs (λ k y is. keeps (suc k) y is) i none
+none_under f g P Q (x ∷ xs) keeps (suc i) none =
+    none_under f g P Q xs (λ k y is. keeps (suc k) y is) i none
 
 -- a record that is there, and what doesn't hold of it
-pub record_at : {X : Type 0} (xs : List X) (i : ℕ) → i < length xs → (x : X) × (slice_get xs i ≡ Some x)
+pub record_at : {X : Type 0} (xs : List X) (i : ℕ) → i < length xs
+    → (x : X) × (slice_get xs i ≡ Some x)
 record_at [] i h = absurd (omega (arith, h))
 record_at (x ∷ xs) zero h = (x, refl)
 record_at (x ∷ xs) (suc i) h = record_at xs i (omega (arith, h))
 
-pub not_of : {X Y : Type 0} (f : X → Y) (P : Y → Type 0) (xs : List X) (i : ℕ) (x : X) → slice_get xs i ≡ Some x → ¬ IsSomeAnd (slice_get (map f xs) i) P → ¬ P (f x)
+pub not_of : {X Y : Type 0} (f : X → Y) (P : Y → Type 0) (xs : List X) (i : ℕ) (x : X)
+    → slice_get xs i ≡ Some x → ¬ IsSomeAnd (slice_get (map f xs) i) P → ¬ P (f x)
 not_of f P [] i x is none = let e : None ≢ Some x = λ e. cc in absurd (e is)
 not_of f P (y ∷ xs) zero x is none = let same : y ≡ x = cc in subst (λ z. ¬ P (f z)) same none
 not_of f P (y ∷ xs) (suc i) x is none = not_of f P xs i x is none

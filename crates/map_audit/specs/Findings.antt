@@ -10,7 +10,8 @@ use Rattle.map_tables.specs.TableFaults.{TableHolds}
 
 -- a code holds of a level at an index: of its links, of its nodes, or of its REJECT and BLOCKMAP
 abbrev pub AuditHolds : Level → Code → ℕ → Type 0
-AuditHolds level code i = LinkHolds level code i ⊎ (TreeHolds level code i ⊎ TableHolds level code i)
+AuditHolds level code i =
+    LinkHolds level code i ⊎ (TreeHolds level code i ⊎ TableHolds level code i)
 
 -- findings in order, whose codes stand at places from one on and below another
 pub record AreBetween (low high : ℕ) (found : List Finding) : Type 0 where

@@ -11,10 +11,14 @@ use Rattle.map_audit.specs.Readings.{AreFiles, KeepsSound}
 
 -- a level is sound exactly where none of the faults F3 to F18 holds of it
 abbrev pub SoundIsNoFault : Type 0
-SoundIsNoFault = (level : Level) → IsSound level ↔ ((code : Code) (i : ℕ) → IsTrue (is_fault code) → ¬ AuditHolds level code i)
+SoundIsNoFault =
+    (level : Level)
+    → IsSound level ↔ ((code : Code) (i : ℕ) → IsTrue (is_fault code) → ¬ AuditHolds level code i)
 
--- what files hold under a name is sound under the wide reading where it is under the signed one, with the same leaves and sectors
+-- what files hold under a name is sound under the wide reading where it is under the signed one,
+-- with the same leaves and sectors
 abbrev pub WideKeepsSound : Type 0
 WideKeepsSound =
     (files : List Wad) (name : List ℕ) (signed wide : Level) → AreFiles files →
-    IsLevel files name Signed signed → IsLevel files name Wide wide → IsSound signed → KeepsSound signed wide
+    IsLevel files name Signed signed → IsLevel files name Wide wide → IsSound signed
+    → KeepsSound signed wide

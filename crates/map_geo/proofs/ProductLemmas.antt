@@ -8,32 +8,46 @@ use borrow.Author.Differences.{up, down, product_is, below_in}
 use Rattle.map_geo.specs.Point.{IsInRange}
 
 -- a difference of two coordinates in range
-unsigned_abs-difference : (from to : ℤ) → IsInRange from → IsInRange to → unsigned_abs (to -ℤ from) ≤ 32767
+unsigned_abs-difference : (from to : ℤ) → IsInRange from → IsInRange to
+    → unsigned_abs (to -ℤ from) ≤ 32767
 unsigned_abs-difference from to f t = omega (arith, ints, f.least, f.greatest, t.least, t.greatest)
 
-pub unsigned_abs-product : (step from to : ℤ) → unsigned_abs step ≤ 32768 → IsInRange from → IsInRange to → unsigned_abs (step *ℤ (to -ℤ from)) ≤ 1073709056
+pub unsigned_abs-product : (step from to : ℤ) → unsigned_abs step ≤ 32768 → IsInRange from
+    → IsInRange to → unsigned_abs (step *ℤ (to -ℤ from)) ≤ 1073709056
 unsigned_abs-product step from to s f t =
-    rw unsigned_abs-mul (mul-le (unsigned_abs step) (unsigned_abs (to -ℤ from)) 32768 32767 s (unsigned_abs-difference from to f t))
+    rw unsigned_abs-mul (mul-le (unsigned_abs step) (unsigned_abs (to -ℤ from)) 32768 32767 s
+    (unsigned_abs-difference from to f t))
 
 -- that product as the code reads it, and that it fits
-pub product_read : (step from to : ℤ) → unsigned_abs step ≤ 32768 → IsInRange from → IsInRange to → to_z w32 (of_z w32 step) *ℤ to_z w32 (of_z w32 (to_z w32 (of_z w32 to) -ℤ to_z w32 (of_z w32 from))) ≡ step *ℤ (to -ℤ from)
+pub product_read : (step from to : ℤ) → unsigned_abs step ≤ 32768 → IsInRange from → IsInRange to
+    → to_z w32 (of_z w32 step) *ℤ to_z w32 (of_z w32 (to_z w32 (of_z w32 to) -ℤ to_z w32 (of_z w32 from)))
+    ≡ step *ℤ (to -ℤ from)
 product_read step from to s f t =
     let step_fits : FitsSigned w32 step = omega (arith, ints) in
     let from_fits : FitsSigned w32 from = omega (arith, ints, f.least, f.greatest) in
     let to_fits : FitsSigned w32 to = omega (arith, ints, t.least, t.greatest) in
-    let difference_fits : FitsSigned w32 (to -ℤ from) = omega (arith, ints, unsigned_abs-difference from to f t) in
+    let difference_fits : FitsSigned w32 (to -ℤ from) =
+    omega (arith, ints, unsigned_abs-difference from to f t) in
     simp to_z-of_z
 
-pub product_fits : (step from to : ℤ) → unsigned_abs step ≤ 32768 → IsInRange from → IsInRange to → FitsSigned w32 (step *ℤ (to -ℤ from))
+pub product_fits : (step from to : ℤ) → unsigned_abs step ≤ 32768 → IsInRange from → IsInRange to
+    → FitsSigned w32 (step *ℤ (to -ℤ from))
 product_fits step from to s f t =
-    fits_signed_mul w32 step (to -ℤ from) 32768 32767 s (unsigned_abs-difference from to f t) (omega arith)
+    fits_signed_mul w32 step (to -ℤ from) 32768 32767 s (unsigned_abs-difference from to f t)
+    (omega arith)
 
 -- a positive factor keeps the order
 pub mul-lt_positive : (k a b : ℤ) → pos 0 <ℤ k → a <ℤ b → (k *ℤ a) <ℤ (k *ℤ b)
 mul-lt_positive (pos zero) a b above h = absurd (omega (arith, ints))
 mul-lt_positive (pos (suc n)) a b above h =
     let less : up a + down b < up b + down a = omega (arith, ints) in
-    below_in _ _ (omega (arith, product_is (pos (suc n)) a, product_is (pos (suc n)) b, mul-lt-mul_of_pos_left {k = suc n} less (omega arith)))
+    below_in _ _ (omega (
+      arith,
+      product_is (pos (suc n)) a,
+      product_is
+          (pos (suc n)) b,
+      mul-lt-mul_of_pos_left {k = suc n} less (omega arith),
+    ))
 mul-lt_positive (negsuc n) a b above h = absurd (omega (arith, ints))
 
 -- a negative factor turns it
@@ -41,4 +55,10 @@ pub mul-lt_negative : (k a b : ℤ) → k <ℤ pos 0 → a <ℤ b → (k *ℤ b)
 mul-lt_negative (pos n) a b below h = absurd (omega (arith, ints))
 mul-lt_negative (negsuc n) a b below h =
     let less : up a + down b < up b + down a = omega (arith, ints) in
-    below_in _ _ (omega (arith, product_is (negsuc n) a, product_is (negsuc n) b, mul-lt-mul_of_pos_left {k = suc n} less (omega arith)))
+    below_in _ _ (omega (
+      arith,
+      product_is (negsuc n) a,
+      product_is
+          (negsuc n) b,
+      mul-lt-mul_of_pos_left {k = suc n} less (omega arith),
+    ))

@@ -10,13 +10,22 @@ pub record HasLength (a b n : ℤ) : Type 0 where
   pub length : n ≡ span a b
 
 -- the same, of ends that the code reads
-pub HasLength-read : (a b n : ℤ) → FitsSigned w32 a → FitsSigned w32 b → IsSpan (to_z w32 (of_z w32 a)) (to_z w32 (of_z w32 b)) → n ≡ span (to_z w32 (of_z w32 a)) (to_z w32 (of_z w32 b)) → HasLength a b n
+pub HasLength-read : (a b n : ℤ) → FitsSigned w32 a → FitsSigned w32 b
+    → IsSpan (to_z w32 (of_z w32 a)) (to_z w32 (of_z w32 b))
+    → n ≡ span (to_z w32 (of_z w32 a)) (to_z w32 (of_z w32 b)) → HasLength a b n
 HasLength-read a b n a_fits b_fits h e =
     record { is_span = simp to_z-of_z at h; length = simp to_z-of_z at e }
 
 unsigned_abs-length : (a b n : ℤ) → HasLength a b n → unsigned_abs n ≤ 32768
 unsigned_abs-length a b n h =
-    omega (arith, ints, h.length, h.is_span.first_in.least, h.is_span.last_in.greatest, h.is_span.ordered)
+    omega (
+      arith,
+      ints,
+      h.length,
+      h.is_span.first_in.least,
+      h.is_span.last_in.greatest,
+      h.is_span.ordered,
+    )
 
 le_from_test : (a b : ℤ) → int_le a b ≡ true → a ≤ℤ b
 le_from_test a b e = omega (arith, ints)
@@ -24,7 +33,8 @@ le_from_test a b e = omega (arith, ints)
 gt_from_test : (a b : ℤ) → int_le a b ≡ false → a ≤ℤ b → ⊥
 gt_from_test a b e h = omega (arith, ints)
 
-module _ (x0 y0 x1 y1 columns rows : ℤ) (across : HasLength x0 x1 columns) (up : HasLength y0 y1 rows) where
+module _ (x0 y0 x1 y1 columns rows : ℤ) (across : HasLength x0 x1 columns)
+    (up : HasLength y0 y1 rows) where
   columns_fit : FitsSigned w32 columns
   columns_fit = omega (arith, ints, unsigned_abs-length x0 x1 columns across)
 
@@ -33,22 +43,31 @@ module _ (x0 y0 x1 y1 columns rows : ℤ) (across : HasLength x0 x1 columns) (up
 
   area_fits : FitsSigned w32 (columns *ℤ rows)
   area_fits =
-      fits_signed_mul w32 columns rows 32768 32768 (unsigned_abs-length x0 x1 columns across) (unsigned_abs-length y0 y1 rows up) (omega arith)
+      fits_signed_mul w32 columns rows 32768 32768 (unsigned_abs-length x0 x1 columns across)
+      (unsigned_abs-length y0 y1 rows up) (omega arith)
 
   -- what the code reads at `columns * rows`
   pub area_read_fits : FitsSigned w32 (to_z w32 (of_z w32 columns) *ℤ to_z w32 (of_z w32 rows))
   area_read_fits = let c = columns_fit in let r = rows_fit in simp to_z-of_z area_fits
 
-  area_read : to_z w32 (of_z w32 (to_z w32 (of_z w32 columns) *ℤ to_z w32 (of_z w32 rows))) ≡ columns *ℤ rows
+  area_read : to_z w32 (of_z w32 (to_z w32 (of_z w32 columns) *ℤ to_z w32 (of_z w32 rows)))
+      ≡ columns *ℤ rows
   area_read = let c = columns_fit in let r = rows_fit in let a = area_fits in simp to_z-of_z
 
-  pub IsRect-from_test : int_le (to_z w32 (of_z w32 (to_z w32 (of_z w32 columns) *ℤ to_z w32 (of_z w32 rows)))) (pos 1048576) ≡ true → IsRect (rect_at x0 y0 x1 y1)
+  pub IsRect-from_test : int_le
+      (to_z w32 (of_z w32 (to_z w32 (of_z w32 columns) *ℤ to_z w32 (of_z w32 rows)))) (pos 1048576)
+      ≡ true
+      → IsRect (rect_at x0 y0 x1 y1)
   IsRect-from_test test = record {
     columns = across.is_span;
     rows = up.is_span;
     places = rw (← across.length, ← up.length, ← area_read) (le_from_test _ _ test);
   }
 
-  pub not_IsRect-from_test : int_le (to_z w32 (of_z w32 (to_z w32 (of_z w32 columns) *ℤ to_z w32 (of_z w32 rows)))) (pos 1048576) ≡ false → IsRect (rect_at x0 y0 x1 y1) → ⊥
+  pub not_IsRect-from_test : int_le
+      (to_z w32 (of_z w32 (to_z w32 (of_z w32 columns) *ℤ to_z w32 (of_z w32 rows)))) (pos 1048576)
+      ≡ false
+      → IsRect (rect_at x0 y0 x1 y1) → ⊥
   not_IsRect-from_test test is_rect =
-      gt_from_test (columns *ℤ rows) (pos 1048576) (rw area_read at test) (rw (across.length, up.length) is_rect.places)
+      gt_from_test (columns *ℤ rows) (pos 1048576) (rw area_read at test)
+      (rw (across.length, up.length) is_rect.places)

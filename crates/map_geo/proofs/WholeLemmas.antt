@@ -21,26 +21,54 @@ none_or_some : (answer : Option Side) → ((s : Side) → ¬ (answer ≡ Some s)
 none_or_some None = (λ h. refl, λ e s f. cc)
 none_or_some (Some s) = (λ h. absurd (h s refl), λ e. cc)
 
-if_some : (answer : Option Side) (P : Side → Type 0) → ((s : Side) → answer ≡ Some s → P s) → IfSome answer P
+if_some : (answer : Option Side) (P : Side → Type 0) → ((s : Side) → answer ≡ Some s → P s)
+    → IfSome answer P
 if_some None P h = search rules
 if_some (Some s) P h = h s refl
 
 -- an answer that is the side of the four corners, and their side that of the whole rectangle
-module _ (rect : Rect) (partition : Partition) (is_rect : IsRect rect) (answer : Option Side) (corners : (s : Side) → (answer ≡ Some s) ↔ AreCornersOn rect partition s) where
+module _ (rect : Rect) (partition : Partition) (is_rect : IsRect rect) (answer : Option Side)
+    (corners : (s : Side) → (answer ≡ Some s) ↔ AreCornersOn rect partition s) where
   corners_from_whole : (s : Side) → IsWholeSide rect partition s → AreCornersOn rect partition s
   corners_from_whole s whole =
       let across = is_rect.columns.ordered in
       let up = is_rect.rows.ordered in
       record {
-        low_left = whole _ (record { left = omega (arith, ints); right = across; lowest = omega (arith, ints); highest = up });
-        low_right = whole _ (record { left = across; right = omega (arith, ints); lowest = omega (arith, ints); highest = up });
-        high_left = whole _ (record { left = omega (arith, ints); right = across; lowest = up; highest = omega (arith, ints) });
-        high_right = whole _ (record { left = across; right = omega (arith, ints); lowest = up; highest = omega (arith, ints) });
+        low_left =
+            whole _ (record {
+              left = omega (arith, ints);
+              right = across;
+              lowest = omega (arith, ints);
+              highest = up;
+            });
+        low_right =
+            whole _ (record {
+              left = across;
+              right = omega (arith, ints);
+              lowest = omega (arith, ints);
+              highest = up;
+            });
+        high_left =
+            whole _ (record {
+              left = omega (arith, ints);
+              right = across;
+              lowest = up;
+              highest = omega (arith, ints);
+            });
+        high_right =
+            whole _ (record {
+              left = across;
+              right = omega (arith, ints);
+              lowest = up;
+              highest = omega (arith, ints);
+            });
       }
 
   some_from_corners : (s : Side) → (answer ≡ Some s) ↔ IsWholeSide rect partition s
-  some_from_corners s =
-      (λ e. sides_by_corners rect partition s ((corners s).0 e), λ whole. (corners s).1 (corners_from_whole s whole))
+  some_from_corners s = (
+    λ e. sides_by_corners rect partition s ((corners s).0 e),
+    λ whole. (corners s).1 (corners_from_whole s whole),
+  )
 
   pub whole_from_corners : IfSome answer (IsWholeSide rect partition)
   whole_from_corners = if_some answer _ (λ s e. (some_from_corners s).0 e)

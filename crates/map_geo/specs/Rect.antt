@@ -48,4 +48,5 @@ pub record AreCornersOn (rect : Rect) (partition : Partition) (side : Side) : Ty
 
 -- each whole point of the rectangle has this side of the partition
 abbrev pub IsWholeSide : Rect → Partition → Side → Type 0
-IsWholeSide rect partition side = (point : Point) → Holds rect point → side_of partition point ≡ side
+IsWholeSide rect partition side =
+    (point : Point) → Holds rect point → side_of partition point ≡ side

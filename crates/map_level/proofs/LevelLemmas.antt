@@ -18,7 +18,8 @@ use Rattle.map_level.specs.declared.level.LevelFault.TheVariants.{NoLabel, Missi
 use Rattle.map_level.specs.declared.reading.Reading.{Reading}
 
 -- the lump of an entry of the one list is one
-pub IsLump-one : (files : List Wad) (g : ℕ) (a b : List ℕ) → IsLump files g a → IsLump files g b → a ≡ b
+pub IsLump-one : (files : List Wad) (g : ℕ) (a b : List ℕ) → IsLump files g a → IsLump files g b
+    → a ≡ b
 IsLump-one files g a b p q =
     let equal : Some p.listed ≡ Some q.listed = sym p.numbered ∙ q.numbered in
     let same : p.listed ≡ q.listed = cc in
@@ -29,23 +30,28 @@ IsLump-one files g a b p q =
 lump-at : (lumps : List (List ℕ)) (i : ℕ) → get_or lumps i [] ≡ lump_of lumps (i + 1)
 lump-at lumps i = let e : i + 1 - 1 ≡ i = omega arith in rw e refl
 
-AreLumps-one : (files : List Wad) (label : ℕ) (a b : List (List ℕ)) → AreLumps files label a → AreLumps files label b → a ≡ b
+AreLumps-one : (files : List Wad) (label : ℕ) (a b : List (List ℕ)) → AreLumps files label a
+    → AreLumps files label b → a ≡ b
 AreLumps-one files label a b p q =
     ext_get_or [] a b (p.ten ∙ sym q.ten) (λ i h.
     let below : i < 10 = rw p.ten at h in
     lump-at a i
-    ∙ IsLump-one files (label + (i + 1)) (lump_of a (i + 1)) (lump_of b (i + 1)) (p.each (i + 1) (omega arith) (omega arith)) (q.each (i + 1) (omega arith) (omega arith))
+    ∙ IsLump-one files (label + (i + 1)) (lump_of a (i + 1)) (lump_of b (i + 1))
+    (p.each (i + 1) (omega arith) (omega arith)) (q.each (i + 1) (omega arith) (omega arith))
     ∙ sym (lump-at b i))
 
-AreNames-one : (files : List Wad) (label : ℕ) (a b : List (List ℕ)) → AreNames files label a → AreNames files label b → a ≡ b
+AreNames-one : (files : List Wad) (label : ℕ) (a b : List (List ℕ)) → AreNames files label a
+    → AreNames files label b → a ≡ b
 AreNames-one files label a b p q =
     ext_get_or [] a b (p.eleven ∙ sym q.eleven) (λ i h.
     let below : i < 11 = rw p.eleven at h in
-    let both : slice_get a i ≡ slice_get b i = p.each i (omega arith) ∙ sym (q.each i (omega arith)) in
+    let both : slice_get a i ≡ slice_get b i =
+    p.each i (omega arith) ∙ sym (q.each i (omega arith)) in
     sym (unwrap_or-slice_get a i []) ∙ ap (λ o. unwrap_or o []) both ∙ unwrap_or-slice_get b i [])
 
 -- files and a name have at most one level under a reading
-pub IsLevel-one : (files : List Wad) (name : List ℕ) (reading : Reading) (a b : Level) → IsLevel files name reading a → IsLevel files name reading b → a ≡ b
+pub IsLevel-one : (files : List Wad) (name : List ℕ) (reading : Reading) (a b : Level)
+    → IsLevel files name reading a → IsLevel files name reading b → a ≡ b
 IsLevel-one files name reading a b p q =
     let label = Wins-one (names files) name a.label b.label p.wins q.wins in
     let found = AreNames-one files b.label p.found q.found (rw label at p.named) q.named in
@@ -53,30 +59,37 @@ IsLevel-one files name reading a b p q =
     p.is ∙ rw (label, found, lumps) (sym q.is)
 
 -- where they are refused they have none
-there_and_missing : (files : List Wad) (g : ℕ) (lump : List ℕ) → IsLump files g lump → length (joined files) ≤ g → ⊥
+there_and_missing : (files : List Wad) (g : ℕ) (lump : List ℕ) → IsLump files g lump
+    → length (joined files) ≤ g → ⊥
 there_and_missing files g lump there past =
-    let none : None ≡ Some there.listed = sym (slice_get_past (joined files) g past) ∙ there.numbered in
+    let none : None ≡ Some there.listed =
+    sym (slice_get_past (joined files) g past) ∙ there.numbered in
     cc
 
-pub RefusesLevel-no_level : (files : List Wad) (name : List ℕ) (reading : Reading) (fault : LevelFault) (level : Level)
+pub RefusesLevel-no_level : (files : List Wad) (name : List ℕ) (reading : Reading)
+    (fault : LevelFault) (level : Level)
     → RefusesLevel files name fault → IsLevel files name reading level → ⊥
 RefusesLevel-no_level files name reading NoLabel level r p = r level.label p.wins.named
 RefusesLevel-no_level files name reading (Missing k) level r p =
     let label = Wins-one (names files) name r.0 level.label r.1 p.wins in
     let missing = rw label at r.2 in
-    there_and_missing files (level.label + k) (lump_of p.lumps k) (p.stand.each k missing.from missing.to) missing.past
+    there_and_missing files (level.label + k) (lump_of p.lumps k)
+    (p.stand.each k missing.from missing.to) missing.past
 RefusesLevel-no_level files name reading (Outside k) level r p =
     let label = Wins-one (names files) name r.0 level.label r.1 p.wins in
     let outside = rw label at r.2 in
     outside.refused (lump_of p.lumps k) (p.stand.each k outside.from outside.to)
 
 -- a missing entry has no lump
-no_lump_past : (files : List Wad) (g : ℕ) → length (joined files) ≤ g → (lump : List ℕ) → ¬ IsLump files g lump
+no_lump_past : (files : List Wad) (g : ℕ) → length (joined files) ≤ g → (lump : List ℕ)
+    → ¬ IsLump files g lump
 no_lump_past files g past lump there = there_and_missing files g lump there past
 
 -- the first lump that isn't there is one
-one_first : (files : List Wad) (label k j : ℕ) → AreThereBelow files label k → AreThereBelow files label j → 1 ≤ k → 1 ≤ j
-    → ((lump : List ℕ) → ¬ IsLump files (label + k) lump) → ((lump : List ℕ) → ¬ IsLump files (label + j) lump) → k ≡ j
+one_first : (files : List Wad) (label k j : ℕ) → AreThereBelow files label k
+    → AreThereBelow files label j → 1 ≤ k → 1 ≤ j
+    → ((lump : List ℕ) → ¬ IsLump files (label + k) lump)
+    → ((lump : List ℕ) → ¬ IsLump files (label + j) lump) → k ≡ j
 one_first files label k j before_k before_j from_k from_j none_k none_j =
     elim (cases_lt k j) [
       | inl less ↦ let there = before_j k from_k less in absurd (none_k there.0 there.1)
@@ -86,11 +99,13 @@ one_first files label k j before_k before_j from_k from_j none_k none_j =
       ]
     ]
 
-no_winner : {A : Type 0} (files : List Wad) (name : List ℕ) (label : ℕ) → ((g : ℕ) → slice_get (names files) g ≢ Some name) → Wins (names files) name label → A
+no_winner : {A : Type 0} (files : List Wad) (name : List ℕ) (label : ℕ)
+    → ((g : ℕ) → slice_get (names files) g ≢ Some name) → Wins (names files) name label → A
 no_winner files name label none wins = absurd (none label wins.named)
 
 -- files and a name are refused for one reason
-pub RefusesLevel-one : (files : List Wad) (name : List ℕ) (a b : LevelFault) → RefusesLevel files name a → RefusesLevel files name b → a ≡ b
+pub RefusesLevel-one : (files : List Wad) (name : List ℕ) (a b : LevelFault)
+    → RefusesLevel files name a → RefusesLevel files name b → a ≡ b
 RefusesLevel-one files name NoLabel NoLabel r s = refl
 RefusesLevel-one files name NoLabel (Missing j) r s = no_winner files name s.0 r s.1
 RefusesLevel-one files name NoLabel (Outside j) r s = no_winner files name s.0 r s.1
@@ -99,16 +114,21 @@ RefusesLevel-one files name (Outside k) NoLabel r s = no_winner files name r.0 s
 RefusesLevel-one files name (Missing k) (Missing j) r s =
     let label = Wins-one (names files) name r.0 s.0 r.1 s.1 in
     let first = rw label at r.2 in
-    ap Missing (one_first files s.0 k j first.before s.2.before first.from s.2.from (no_lump_past files (s.0 + k) first.past) (no_lump_past files (s.0 + j) s.2.past))
+    ap Missing (one_first files s.0 k j first.before s.2.before first.from s.2.from
+    (no_lump_past files (s.0 + k) first.past) (no_lump_past files (s.0 + j) s.2.past))
 RefusesLevel-one files name (Missing k) (Outside j) r s =
     let label = Wins-one (names files) name r.0 s.0 r.1 s.1 in
     let first = rw label at r.2 in
-    let same = one_first files s.0 k j first.before s.2.before first.from s.2.from (no_lump_past files (s.0 + k) first.past) s.2.refused in
+    let same =
+    one_first files s.0 k j first.before s.2.before first.from s.2.from
+    (no_lump_past files (s.0 + k) first.past) s.2.refused in
     absurd (omega (arith, same, first.past, s.2.listed))
 RefusesLevel-one files name (Outside k) (Missing j) r s =
     let label = Wins-one (names files) name r.0 s.0 r.1 s.1 in
     let first = rw label at r.2 in
-    let same = one_first files s.0 k j first.before s.2.before first.from s.2.from first.refused (no_lump_past files (s.0 + j) s.2.past) in
+    let same =
+    one_first files s.0 k j first.before s.2.before first.from s.2.from first.refused
+    (no_lump_past files (s.0 + j) s.2.past) in
     absurd (omega (arith, same, first.listed, s.2.past))
 RefusesLevel-one files name (Outside k) (Outside j) r s =
     let label = Wins-one (names files) name r.0 s.0 r.1 s.1 in

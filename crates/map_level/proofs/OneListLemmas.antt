@@ -6,11 +6,15 @@ use Rattle.map_level.specs.declared.finding.Finding.{Finding}
 use Rattle.map_level.specs.Findings.{place, StandsBefore, AreFindings}
 use Rattle.map_level.specs.declared.finding.Code.{Code}
 
-head_before : {X : Type 0} (R : X → X → Type 0) (x : X) (xs : List X) (z : X) → AllPairs R (x ∷ xs) → Contains xs z → R x z
-head_before R x xs z p c = subst (λ y. R x y) c.2 (p 0 (suc c.0) z (omega arith) (omega (arith, c.1)))
+head_before : {X : Type 0} (R : X → X → Type 0) (x : X) (xs : List X) (z : X) → AllPairs R (x ∷ xs)
+    → Contains xs z → R x z
+head_before R x xs z p c =
+    subst (λ y. R x y) c.2 (p 0 (suc c.0) z (omega arith) (omega (arith, c.1)))
 
-tail_pairs : {X : Type 0} (R : X → X → Type 0) (x : X) (xs : List X) → AllPairs R (x ∷ xs) → AllPairs R xs
-tail_pairs R x xs p = λ i j d below within. p (suc i) (suc j) d (omega (arith, below)) (omega (arith, within))
+tail_pairs : {X : Type 0} (R : X → X → Type 0) (x : X) (xs : List X) → AllPairs R (x ∷ xs)
+    → AllPairs R xs
+tail_pairs R x xs p =
+    λ i j d below within. p (suc i) (suc j) d (omega (arith, below)) (omega (arith, within))
 
 here : {X : Type 0} (x : X) (xs : List X) → Contains (x ∷ xs) x
 here x xs = (0, omega arith, refl)
@@ -18,35 +22,43 @@ here x xs = (0, omega arith, refl)
 later : {X : Type 0} (x : X) (xs : List X) (z : X) → Contains xs z → Contains (x ∷ xs) z
 later x xs z c = Contains-append_right (x ∷ []) xs z c
 
-cases_cons : {X : Type 0} (x : X) (xs : List X) (z : X) → Contains (x ∷ xs) z → (z ≡ x) ⊎ Contains xs z
+cases_cons : {X : Type 0} (x : X) (xs : List X) (z : X) → Contains (x ∷ xs) z
+    → (z ≡ x) ⊎ Contains xs z
 cases_cons x xs z (zero, l, e) = inl (sym e)
 cases_cons x xs z (suc k, l, e) = inr (k, omega (arith, l), e)
 
 not_none : {X A : Type 0} (z : X) → Contains [] z → A
 not_none z c = absurd (omega (arith, c.1))
 
-same_heads : {X : Type 0} (R : X → X → Type 0) → ((a b : X) → R a b → R b a → ⊥) → (x : X) (xs : List X) (y : X) (ys : List X)
+same_heads : {X : Type 0} (R : X → X → Type 0) → ((a b : X) → R a b → R b a → ⊥)
+    → (x : X) (xs : List X) (y : X) (ys : List X)
     → AllPairs R (x ∷ xs) → AllPairs R (y ∷ ys) → Contains (y ∷ ys) x → Contains (x ∷ xs) y → x ≡ y
 same_heads R asym x xs y ys p q xin yin =
     elim (cases_cons y ys x xin) [
       | inl is ↦ is
       | inr later_x ↦ elim (cases_cons x xs y yin) [
         | inl is ↦ sym is
-        | inr later_y ↦ absurd (asym x y (head_before R x xs y p later_y) (head_before R y ys x q later_x))
+        | inr later_y ↦
+            absurd (asym x y (head_before R x xs y p later_y) (head_before R y ys x q later_x))
       ]
     ]
 
-in_tail : {X : Type 0} (R : X → X → Type 0) → ((a b : X) → R a b → R b a → ⊥) → (x : X) (xs ys : List X) (z : X)
+in_tail : {X : Type 0} (R : X → X → Type 0) → ((a b : X) → R a b → R b a → ⊥)
+    → (x : X) (xs ys : List X) (z : X)
     → AllPairs R (x ∷ xs) → Contains xs z → Contains (x ∷ ys) z → Contains ys z
 in_tail R asym x xs ys z p c there =
     elim (cases_cons x ys z there) [
-      | inl is ↦ let before : R x x = subst (λ y. R x y) is (head_before R x xs z p c) in absurd (asym x x before before)
+      | inl is ↦
+          let before : R x x =
+          subst (λ y. R x y) is (head_before R x xs z p c) in absurd (asym x x before before)
       | inr rest ↦ rest
     ]
 
 -- two lists in order with the same items
-pub one_list : {X : Type 0} (R : X → X → Type 0) → ((a b : X) → R a b → R b a → ⊥) → (xs ys : List X) → AllPairs R xs → AllPairs R ys
-    → ((z : X) → Contains xs z → Contains ys z) → ((z : X) → Contains ys z → Contains xs z) → xs ≡ ys
+pub one_list : {X : Type 0} (R : X → X → Type 0) → ((a b : X) → R a b → R b a → ⊥)
+    → (xs ys : List X) → AllPairs R xs → AllPairs R ys
+    → ((z : X) → Contains xs z → Contains ys z) → ((z : X) → Contains ys z → Contains xs z)
+    → xs ≡ ys
 one_list R asym [] [] p q to from = refl
 one_list R asym [] (y ∷ ys) p q to from = not_none y (from y (here y ys))
 one_list R asym (x ∷ xs) [] p q to from = not_none x (to x (here x xs))
@@ -54,7 +66,8 @@ one_list R asym (x ∷ xs) (y ∷ ys) p q to from =
     let is = same_heads R asym x xs y ys p q (to x (here x xs)) (from y (here y ys)) in
     let there : AllPairs R (x ∷ ys) = subst (λ w. AllPairs R (w ∷ ys)) (sym is) q in
     let rest = one_list R asym xs ys (tail_pairs R x xs p) (tail_pairs R y ys q)
-    (λ z c. in_tail R asym x xs ys z p c (subst (λ w. Contains (w ∷ ys) z) (sym is) (to z (later x xs z c))))
+    (λ z c. in_tail R asym x xs ys z p c (subst (λ w. Contains (w ∷ ys) z) (sym is)
+    (to z (later x xs z c))))
     (λ z c. in_tail R asym x ys xs z there c (from z (later y ys z c))) in
     ap (λ w. w ∷ xs) is ∙ ap (λ zs. y ∷ zs) rest
 
@@ -66,5 +79,8 @@ not_both_before a b (inr p) (inl q) = omega (arith, q, ap place p.0)
 not_both_before a b (inr p) (inr q) = omega (arith, p.1, q.1)
 
 -- there is at most one list of the findings
-pub AreFindings-one : (holds : Code → ℕ → Type 0) (a b : List Finding) → AreFindings holds a → AreFindings holds b → a ≡ b
-AreFindings-one holds a b p q = one_list StandsBefore not_both_before a b p.ascending q.ascending (λ f c. (q.exact f).1 ((p.exact f).0 c)) (λ f c. (p.exact f).1 ((q.exact f).0 c))
+pub AreFindings-one : (holds : Code → ℕ → Type 0) (a b : List Finding) → AreFindings holds a
+    → AreFindings holds b → a ≡ b
+AreFindings-one holds a b p q =
+    one_list StandsBefore not_both_before a b p.ascending q.ascending
+    (λ f c. (q.exact f).1 ((p.exact f).0 c)) (λ f c. (p.exact f).1 ((q.exact f).0 c))

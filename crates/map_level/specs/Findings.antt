@@ -50,7 +50,11 @@ pub record AreFindings (holds : Code → ℕ → Type 0) (found : List Finding) 
   pub ascending : AllPairs StandsBefore found
   pub exact : (f : Finding) → Contains found f ↔ holds f.code f.index
 
--- the findings so far: those of the codes whose place is below a place, and of the code at that place those below an index
-pub record AreFindingsBelow (holds : Code → ℕ → Type 0) (at index : ℕ) (found : List Finding) : Type 0 where
+-- the findings so far: those of the codes whose place is below a place, and of the code at
+-- that place those below an index
+pub record AreFindingsBelow (holds : Code → ℕ → Type 0) (at index : ℕ)
+    (found : List Finding) : Type 0 where
   pub ascending : AllPairs StandsBefore found
-  pub exact : (f : Finding) → Contains found f ↔ (holds f.code f.index × ((place f.code < at) ⊎ ((place f.code ≡ at) × (f.index < index))))
+  pub exact : (f : Finding)
+      → Contains found f
+      ↔ (holds f.code f.index × ((place f.code < at) ⊎ ((place f.code ≡ at) × (f.index < index))))

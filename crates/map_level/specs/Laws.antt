@@ -29,4 +29,5 @@ OneLevelFault =
 
 -- at most one list is that of the findings
 abbrev pub OneList : (Code → ℕ → Type 0) → Type 0
-OneList holds = (found other : List Finding) → AreFindings holds found → AreFindings holds other → found ≡ other
+OneList holds =
+    (found other : List Finding) → AreFindings holds found → AreFindings holds other → found ≡ other

@@ -12,8 +12,8 @@ use Rattle.le_rec.specs.declared.records.Node.{Node}
 use Rattle.le_rec.specs.declared.records.Sector.{Sector}
 use Rattle.map_level.specs.declared.reading.Reading.{Reading}
 
--- the label's number and reading, the names of the label and the ten lumps, the signed records of the eight tables, and
--- the bytes of the last two lumps
+-- the label's number and reading, the names of the label and the ten lumps, the signed records of
+-- the eight tables, and the bytes of the last two lumps
 pub record Level : Type 0 where
   pub label : ℕ
   pub reading : Reading
@@ -33,7 +33,8 @@ pub record Level : Type 0 where
 abbrev pub lump_of : List (List ℕ) → ℕ → List ℕ
 lump_of lumps k = slice_index_or lumps (k - 1) []
 
--- the level that ten lumps hold, by their places after the label (ML_THINGS to ML_BLOCKMAP of doomdata.h)
+-- the level that ten lumps hold, by their places after the label (ML_THINGS
+-- to ML_BLOCKMAP of doomdata.h)
 abbrev pub level_of : ℕ → Reading → List (List ℕ) → List (List ℕ) → Level
 level_of label reading names lumps = record {
   label = label;

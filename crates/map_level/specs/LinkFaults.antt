@@ -1,4 +1,5 @@
--- Faults and notes on the links of a level, each at an index (P_SetupLevel of p_setup.c follows links without a test).
+-- Faults and notes on the links of a level, each at an index (P_SetupLevel of p_setup.c
+-- follows links without a test).
 use Rattle.std.specs.Prelude.{◌≡◌, ◌≢◌, ℕ, ◌<◌, ◌≤◌, ◌-◌, ◌+ℤ◌, ◌<ℤ◌, ◌⊎◌, ℤ, pos, negsuc, List, [], ◌∷◌, length, codes, Option, Some, IsSomeAnd}
 use Rattle.std.specs.Int.{w16, int_bit_and}
 use Rattle.std.specs.List.{slice_get}
@@ -13,7 +14,8 @@ use Rattle.map_level.specs.declared.finding.Code.TheVariants.{F3, F4, F5, F6, F7
 -- F3: a linedef's v1 or v2 names no vertex
 abbrev pub LinedefVertexNamesNone : Level → ℕ → Type 0
 LinedefVertexNamesNone level i =
-    IsSomeAnd (slice_get (linedefs_of level) i) (λ linedef. NamesNone (vertexes_of level) linedef.v1 ⊎ NamesNone (vertexes_of level) linedef.v2)
+    IsSomeAnd (slice_get (linedefs_of level) i)
+    (λ linedef. NamesNone (vertexes_of level) linedef.v1 ⊎ NamesNone (vertexes_of level) linedef.v2)
 
 -- an index of a sidedef is there and names none
 abbrev pub SideNamesNone : Level → ℤ → Type 0
@@ -22,39 +24,49 @@ SideNamesNone level side = (side ≢ no_side level.reading) × NamesNone (sidede
 -- F4: a linedef's side0 or side1 is there and names no sidedef
 abbrev pub LinedefSideNamesNone : Level → ℕ → Type 0
 LinedefSideNamesNone level i =
-    IsSomeAnd (slice_get (linedefs_of level) i) (λ linedef. SideNamesNone level linedef.side0 ⊎ SideNamesNone level linedef.side1)
+    IsSomeAnd (slice_get (linedefs_of level) i)
+    (λ linedef. SideNamesNone level linedef.side0 ⊎ SideNamesNone level linedef.side1)
 
 -- F5: a sidedef's sector names none
 abbrev pub SidedefSectorNamesNone : Level → ℕ → Type 0
-SidedefSectorNamesNone level i = IsSomeAnd (slice_get (sidedefs_of level) i) (λ sidedef. NamesNone (sectors_of level) sidedef.sector)
+SidedefSectorNamesNone level i =
+    IsSomeAnd (slice_get (sidedefs_of level) i)
+    (λ sidedef. NamesNone (sectors_of level) sidedef.sector)
 
 -- F6: a seg's v1 or v2 names no vertex
 abbrev pub SegVertexNamesNone : Level → ℕ → Type 0
 SegVertexNamesNone level i =
-    IsSomeAnd (slice_get (segs_of level) i) (λ seg. NamesNone (vertexes_of level) seg.v1 ⊎ NamesNone (vertexes_of level) seg.v2)
+    IsSomeAnd (slice_get (segs_of level) i)
+    (λ seg. NamesNone (vertexes_of level) seg.v1 ⊎ NamesNone (vertexes_of level) seg.v2)
 
 -- F7: a seg's linedef names none
 abbrev pub SegLinedefNamesNone : Level → ℕ → Type 0
-SegLinedefNamesNone level i = IsSomeAnd (slice_get (segs_of level) i) (λ seg. NamesNone (linedefs_of level) seg.linedef)
+SegLinedefNamesNone level i =
+    IsSomeAnd (slice_get (segs_of level) i) (λ seg. NamesNone (linedefs_of level) seg.linedef)
 
 -- F8: a seg's side is not 0 or 1
 abbrev pub SegSideOther : Level → ℕ → Type 0
-SegSideOther level i = IsSomeAnd (slice_get (segs_of level) i) (λ seg. (seg.side ≢ pos 0) × (seg.side ≢ pos 1))
+SegSideOther level i =
+    IsSomeAnd (slice_get (segs_of level) i) (λ seg. (seg.side ≢ pos 0) × (seg.side ≢ pos 1))
 
 -- F9: a seg's linedef is there and has no side at the seg's side number, 0 or 1
 abbrev pub SegWithoutSide : Level → ℕ → Type 0
-SegWithoutSide level i = IsSomeAnd (slice_get (segs_of level) i) (λ seg. side_of level seg ≡ Some (no_side level.reading))
+SegWithoutSide level i =
+    IsSomeAnd (slice_get (segs_of level) i)
+    (λ seg. side_of level seg ≡ Some (no_side level.reading))
 
 -- a count is below 0, a first names none of so many segs, or first + count is above their number
 abbrev pub GoesPast : ℕ → ℤ → ℤ → Type 0
-GoesPast segs count first = (count <ℤ pos 0) ⊎ ((¬ Names segs first) ⊎ (pos segs <ℤ (first +ℤ count)))
+GoesPast segs count first =
+    (count <ℤ pos 0) ⊎ ((¬ Names segs first) ⊎ (pos segs <ℤ (first +ℤ count)))
 
 abbrev pub IsOutOfRange : ℕ → SSector → Type 0
 IsOutOfRange segs ssector = GoesPast segs ssector.count ssector.first
 
 -- F10: an ssector's segs are not all there
 abbrev pub SsectorOutOfRange : Level → ℕ → Type 0
-SsectorOutOfRange level i = IsSomeAnd (slice_get (ssectors_of level) i) (IsOutOfRange (length (segs_of level)))
+SsectorOutOfRange level i =
+    IsSomeAnd (slice_get (ssectors_of level) i) (IsOutOfRange (length (segs_of level)))
 
 -- F17: there is no ssector
 abbrev pub NoSsector : Level → ℕ → Type 0
@@ -67,17 +79,20 @@ TooManyNodes level i = (i ≡ 0) × (32767 < length (nodes_of level))
 -- the usual names of the ten lumps after a label
 abbrev pub usual_names : List (List ℕ)
 usual_names =
-    codes "THINGS" ∷ codes "LINEDEFS" ∷ codes "SIDEDEFS" ∷ codes "VERTEXES" ∷ codes "SEGS" ∷ codes "SSECTORS" ∷ codes "NODES" ∷ codes "SECTORS"
+    codes "THINGS" ∷ codes "LINEDEFS" ∷ codes "SIDEDEFS" ∷ codes "VERTEXES" ∷ codes "SEGS"
+    ∷ codes "SSECTORS" ∷ codes "NODES" ∷ codes "SECTORS"
     ∷ codes "REJECT" ∷ codes "BLOCKMAP" ∷ []
 
 -- N1: the name of lump k, from 1 to 10, is not the usual one
 abbrev pub LumpNameDiffers : Level → ℕ → Type 0
-LumpNameDiffers level k = (1 ≤ k) × (k ≤ 10) × (slice_get level.names k ≢ slice_get usual_names (k - 1))
+LumpNameDiffers level k =
+    (1 ≤ k) × (k ≤ 10) × (slice_get level.names k ≢ slice_get usual_names (k - 1))
 
 -- the numbers of bytes left over after the records of the eight tables
 abbrev pub rests : Level → List ℕ
 rests level =
-    level.things.rest ∷ level.linedefs.rest ∷ level.sidedefs.rest ∷ level.vertexes.rest ∷ level.segs.rest ∷ level.ssectors.rest
+    level.things.rest ∷ level.linedefs.rest ∷ level.sidedefs.rest ∷ level.vertexes.rest
+    ∷ level.segs.rest ∷ level.ssectors.rest
     ∷ level.nodes.rest ∷ level.sectors.rest ∷ []
 
 -- N2: bytes are left over in lump k, from 1 to 8
@@ -91,18 +106,21 @@ IsTwoSided flags = int_bit_and w16 flags (pos 4) ≢ pos 0
 -- N3: a linedef is flagged as two-sided and has no side 1
 abbrev pub TwoSidedWithoutSide : Level → ℕ → Type 0
 TwoSidedWithoutSide level i =
-    IsSomeAnd (slice_get (linedefs_of level) i) (λ linedef. IsTwoSided linedef.flags × (linedef.side1 ≡ no_side level.reading))
+    IsSomeAnd (slice_get (linedefs_of level) i)
+    (λ linedef. IsTwoSided linedef.flags × (linedef.side1 ≡ no_side level.reading))
 
 -- N4: a linedef has no side 0
 abbrev pub NoSide0 : Level → ℕ → Type 0
-NoSide0 level i = IsSomeAnd (slice_get (linedefs_of level) i) (λ linedef. linedef.side0 ≡ no_side level.reading)
+NoSide0 level i =
+    IsSomeAnd (slice_get (linedefs_of level) i) (λ linedef. linedef.side0 ≡ no_side level.reading)
 
 -- two vertexes exist and have the same x and y
 abbrev pub AreAtOnePlace : Option Vertex → Option Vertex → Type 0
 AreAtOnePlace a b = IsSomeAnd a (λ from. IsSomeAnd b (λ to. (from.x ≡ to.x) × (from.y ≡ to.y)))
 
 abbrev pub IsOfNoLength : Level → LineDef → Type 0
-IsOfNoLength level linedef = AreAtOnePlace (named (vertexes_of level) linedef.v1) (named (vertexes_of level) linedef.v2)
+IsOfNoLength level linedef =
+    AreAtOnePlace (named (vertexes_of level) linedef.v1) (named (vertexes_of level) linedef.v2)
 
 -- N5: a linedef's vertexes exist and have the same x and y
 abbrev pub LinedefOfNoLength : Level → ℕ → Type 0
@@ -110,7 +128,8 @@ LinedefOfNoLength level i = IsSomeAnd (slice_get (linedefs_of level) i) (IsOfNoL
 
 -- N6: an ssector has no segs
 abbrev pub SsectorWithoutSegs : Level → ℕ → Type 0
-SsectorWithoutSegs level i = IsSomeAnd (slice_get (ssectors_of level) i) (λ ssector. ssector.count ≡ pos 0)
+SsectorWithoutSegs level i =
+    IsSomeAnd (slice_get (ssectors_of level) i) (λ ssector. ssector.count ≡ pos 0)
 
 -- thing k is a start of player 1
 abbrev pub IsStart : Level → ℕ → Type 0
@@ -126,7 +145,8 @@ IsOutside z = (z <ℤ negsuc 16383) ⊎ (pos 16383 <ℤ z)
 
 -- N12: a vertex is out of range
 abbrev pub VertexOutside : Level → ℕ → Type 0
-VertexOutside level i = IsSomeAnd (slice_get (vertexes_of level) i) (λ vertex. IsOutside vertex.x ⊎ IsOutside vertex.y)
+VertexOutside level i =
+    IsSomeAnd (slice_get (vertexes_of level) i) (λ vertex. IsOutside vertex.x ⊎ IsOutside vertex.y)
 
 -- where each code of the link part of a report holds; the others are looked for elsewhere
 abbrev pub LinkHolds : Level → Code → ℕ → Type 0

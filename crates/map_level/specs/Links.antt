@@ -65,7 +65,10 @@ linedef_of level seg = named (linedefs_of level) seg.linedef
 
 -- the index that a linedef has at a side number, where that is 0 or 1
 abbrev pub side_at : LineDef → ℤ → Option ℤ
-side_at linedef side = if int_eq side (pos 0) then Some linedef.side0 else (if int_eq side (pos 1) then Some linedef.side1 else None)
+side_at linedef side =
+    if int_eq side (pos 0)
+    then Some linedef.side0
+    else (if int_eq side (pos 1) then Some linedef.side1 else None)
 
 infixl 10 ◌>>=◌
 abbrev pub ◌>>=◌ : {A B : Type 0} → Option A → (A → Option B) → Option B

@@ -21,7 +21,8 @@ pub record AreLumps (files : List Wad) (label : ℕ) (lumps : List (List ℕ)) :
   pub each : (k : ℕ) → 1 ≤ k → k ≤ 10 → IsLump files (label + k) (lump_of lumps k)
 
 -- the level of files and a name: the winner's, of the ten entries after it
-pub record IsLevel (files : List Wad) (name : List ℕ) (reading : Reading) (level : Level) : Type 0 where
+pub record IsLevel (files : List Wad) (name : List ℕ) (reading : Reading)
+    (level : Level) : Type 0 where
   pub wins : Wins (names files) name level.label
   pub found : List (List ℕ)
   pub named : AreNames files level.label found
@@ -31,9 +32,11 @@ pub record IsLevel (files : List Wad) (name : List ℕ) (reading : Reading) (lev
 
 -- the lumps before k are there
 abbrev pub AreThereBelow : List Wad → ℕ → ℕ → Type 0
-AreThereBelow files label k = (j : ℕ) → 1 ≤ j → j < k → (lump : List ℕ) × IsLump files (label + j) lump
+AreThereBelow files label k =
+    (j : ℕ) → 1 ≤ j → j < k → (lump : List ℕ) × IsLump files (label + j) lump
 
--- lump k of the ten is the first that isn't there: no entry has its number, or its entry has no lump
+-- lump k of the ten is the first that isn't there: no entry has its
+-- number, or its entry has no lump
 pub record IsMissing (files : List Wad) (label k : ℕ) : Type 0 where
   pub from : 1 ≤ k
   pub to : k ≤ 10
@@ -50,8 +53,10 @@ pub record IsOutsideFile (files : List Wad) (label k : ℕ) : Type 0 where
 -- why there is no level of a name
 abbrev pub RefusesLevel : List Wad → List ℕ → LevelFault → Type 0
 RefusesLevel files name NoLabel = (g : ℕ) → slice_get (names files) g ≢ Some name
-RefusesLevel files name (Missing k) = (label : ℕ) × Wins (names files) name label × IsMissing files label k
-RefusesLevel files name (Outside k) = (label : ℕ) × Wins (names files) name label × IsOutsideFile files label k
+RefusesLevel files name (Missing k) =
+    (label : ℕ) × Wins (names files) name label × IsMissing files label k
+RefusesLevel files name (Outside k) =
+    (label : ℕ) × Wins (names files) name label × IsOutsideFile files label k
 
 -- the first lump after a label that isn't there, and why
 abbrev pub RefusesLump : List Wad → ℕ → LevelFault → Type 0

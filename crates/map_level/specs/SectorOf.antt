@@ -1,5 +1,5 @@
--- The sector of an ssector: that of the sidedef that the linedef of its first seg has at that seg's side number
--- (P_GroupLines of p_setup.c).
+-- The sector of an ssector: that of the sidedef that the linedef of its first seg has at that seg's
+-- side number (P_GroupLines of p_setup.c).
 use Rattle.std.specs.Prelude.{ℕ, ◌≤◌, ℤ, pos, negsuc, length, Option, Some, None, nat_lt, if◌then◌else◌}
 use Rattle.std.specs.Ordering.{int_eq}
 use Rattle.std.specs.List.{slice_get}
@@ -20,7 +20,8 @@ first_seg level t = do
 
 -- the sidedef that an index names, where it doesn't say that there is no side
 abbrev pub sidedef_named : Level → ℤ → Option SideDef
-sidedef_named level side = if int_eq side (no_side level.reading) then None else named (sidedefs_of level) side
+sidedef_named level side =
+    if int_eq side (no_side level.reading) then None else named (sidedefs_of level) side
 
 -- the sidedef of a seg
 abbrev pub sidedef_of : Level → Seg → Option SideDef

@@ -1,5 +1,5 @@
-//! Laws of levels and of findings, each the contract of a function that does nothing: a caller gets the
-//! law from a call.
+//! Laws of levels and of findings, each the contract of a function that does
+//! nothing: a caller gets the law from a call.
 
 ghost use Rattle.map_level.specs.Laws.{OneLevel, RefusedHaveNoLevel, OneLevelFault, OneList};
 

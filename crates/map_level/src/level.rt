@@ -198,13 +198,15 @@ struct Lumps<'a> {
 ghost use Rattle.map_level.specs.Level.{AreShort};
 ghost use Rattle.le_rec.specs.Layout.{read_by};
 ghost use Rattle.le_rec.specs.Table.{rows_of};
-ghost use Rattle.map_level.specs.Opening.{AreLumps, AreNames, AreThereBelow, IsMissing, IsOutsideFile};
+ghost use Rattle.map_level.specs.Opening.{AreLumps, AreNames, AreThereBelow, IsMissing};
+ghost use Rattle.map_level.specs.Opening.{IsOutsideFile};
 ghost use Rattle.map_level.specs.Opening.{RefusesLump};
 
 // The lumps of the ten entries after a label, or the first that isn't there.
 fn lumps_after<'a, A: Allocator>(set: &Set<'a, A>, label: usize) -> Result<Lumps<'a>, LevelFault>
     requires { label < length (joined set.now) }
-    ensures ok { IfOk result (λ lumps. AreLumps set.now label (map (λ lump. lump.now) lumps.bytes)) }
+    ensures ok { IfOk result (λ lumps.
+        AreLumps set.now label (map (λ lump. lump.now) lumps.bytes)) }
     ensures err { IfErr result (RefusesLump set.now label) }
     ensures short { IfOk result (λ lumps. AreShort (map (λ lump. lump.now) lumps.bytes)) }
     ensures listed { OnOk result (label + 10 < length (joined set.now)) }

@@ -16,8 +16,8 @@ impl<'a> Searched for Level<'a> {
     ghost holds = { LinkHolds };
 }
 
-/// The findings on the links of a level's records, under its reading: F3 to F10, F17, F18, N1 to N6,
-/// N11 and N12, by code and then by index.
+/// The findings on the links of a level's records, under its reading: F3 to F10, F17, F18, N1 to
+/// N6, N11 and N12, by code and then by index.
 pub fn link_findings<A: Allocator>(alloc: A, level: &Level<'_>) -> Result<Findings<A>, AllocError>
     ensures { IfOk result (AreFindings (LinkHolds level.now)) }
 {

@@ -10,7 +10,8 @@ ghost use Rattle.map_level.specs.LinkFaults.{SegVertexNamesNone, SegLinedefNames
 ghost use Rattle.map_level.specs.LinkFaults.{SegWithoutSide, GoesPast, IsOutOfRange};
 ghost use Rattle.map_level.specs.LinkFaults.{SsectorOutOfRange, NoSsector};
 ghost use Rattle.map_level.specs.LinkFaults.{TooManyNodes, usual_names, LumpNameDiffers};
-ghost use Rattle.map_level.specs.LinkFaults.{BytesLeftOver, IsTwoSided, TwoSidedWithoutSide, NoSide0};
+ghost use Rattle.map_level.specs.LinkFaults.{BytesLeftOver, IsTwoSided, TwoSidedWithoutSide};
+ghost use Rattle.map_level.specs.LinkFaults.{NoSide0};
 ghost use Rattle.map_level.specs.LinkFaults.{AreAtOnePlace, IsOfNoLength, LinedefOfNoLength};
 ghost use Rattle.map_level.specs.LinkFaults.{SsectorWithoutSegs, IsStart, NoStart};
 ghost use Rattle.map_level.specs.LinkFaults.{IsOutside, VertexOutside};

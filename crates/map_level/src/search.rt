@@ -49,8 +49,8 @@ pub const CODES: [Code; 30] = [
     Code::N12,
 ];
 
-/// Adds the findings of a code, which are at the indexes below a count at which a test answers true, to
-/// those of all codes before it.
+/// Adds the findings of a code, which are at the indexes below a count at which a test answers
+/// true, to those of all codes before it.
 pub fn add_where<T: Searched, A: Allocator, F: Fn(u32) -> bool>(
     found: &mut Findings<A>,
     searched: &T,
@@ -59,7 +59,8 @@ pub fn add_where<T: Searched, A: Allocator, F: Fn(u32) -> bool>(
     test: F,
 ) -> Result<(), AllocError>
     requires callable { F.IsAlwaysCallable test }
-    requires tells { (i : ℕ) (b : Bool) → F.post test i b → (IsTrue b ↔ T.holds searched.now code i) }
+    requires tells { (i : ℕ) (b : Bool)
+        → F.post test i b → (IsTrue b ↔ T.holds searched.now code i) }
     requires most { (i : ℕ) → T.holds searched.now code i → i < count }
     requires before { AreFindingsBelow (T.holds searched.now) (place code) 0 found.old }
     ensures { OnOk result (AreFindingsBelow (T.holds searched.now) (place code + 1) 0 found.new) }

@@ -6,11 +6,14 @@ use Rattle.std.proofs.Math.IntN.{nat_abs}
 use Rattle.std.proofs.lemmas.Int.{ints, to_z-of_z}
 use Rattle.map_tables.specs.BlockMap.{count_of, IsBlockAlong}
 
-floor_holds_at : (origin z d : ℤ) → z ≡ origin +ℤ d → pos 0 ≤ℤ int_div_euclid d (pos 128) → IsBlockAlong origin z (nat_abs (int_div_euclid d (pos 128)))
-floor_holds_at origin z (pos a) e h = record { first = omega (arith, ints, e); last = omega (arith, ints, e) }
+floor_holds_at : (origin z d : ℤ) → z ≡ origin +ℤ d → pos 0 ≤ℤ int_div_euclid d (pos 128)
+    → IsBlockAlong origin z (nat_abs (int_div_euclid d (pos 128)))
+floor_holds_at origin z (pos a) e h =
+    record { first = omega (arith, ints, e); last = omega (arith, ints, e) }
 floor_holds_at origin z (negsuc a) e h = absurd (omega (arith, ints, h))
 
-floor_only_at : (origin z d : ℤ) (k : ℕ) → z ≡ origin +ℤ d → IsBlockAlong origin z k → int_div_euclid d (pos 128) ≡ pos k
+floor_only_at : (origin z d : ℤ) (k : ℕ) → z ≡ origin +ℤ d → IsBlockAlong origin z k
+    → int_div_euclid d (pos 128) ≡ pos k
 floor_only_at origin z (pos a) k e is =
     let low : 128 * k ≤ a = omega (arith, ints, e, is.first) in
     let high : a < 128 * k + 128 = omega (arith, ints, e, is.last) in
@@ -32,15 +35,20 @@ module _ (origin z floor : ℤ) (is : floor ≡ int_div_euclid (z -ℤ origin) (
       is ∙ floor_only_at origin z (z -ℤ origin) k e holds
 
 -- what the machine's difference and quotient come to
-pub quotient : (origin z from floor : ℤ) → FitsSigned w16 origin → FitsSigned w32 z → FitsSigned w32 (z -ℤ origin) → from ≡ to_z w16 (of_z w16 origin)
-    → floor ≡ int_div_euclid (to_z w32 (of_z w32 (to_z w32 (of_z w32 z) -ℤ to_z w32 (of_z w32 from)))) (pos 128)
+pub quotient : (origin z from floor : ℤ) → FitsSigned w16 origin → FitsSigned w32 z
+    → FitsSigned w32 (z -ℤ origin) → from ≡ to_z w16 (of_z w16 origin)
+    → floor
+    ≡ int_div_euclid (to_z w32 (of_z w32 (to_z w32 (of_z w32 z) -ℤ to_z w32 (of_z w32 from))))
+    (pos 128)
     → floor ≡ int_div_euclid (z -ℤ origin) (pos 128)
 quotient origin z from floor fo fz fd e is =
     let same : from ≡ origin = e ∙ to_z-of_z w16 origin fo in
     let wide : FitsSigned w32 origin = search rules in
     let first : to_z w32 (of_z w32 z) ≡ z = to_z-of_z w32 z fz in
     let second : to_z w32 (of_z w32 from) ≡ origin = rw same (to_z-of_z w32 origin wide) in
-    is ∙ ap (λ d. int_div_euclid (to_z w32 (of_z w32 d)) (pos 128)) (ap (λ a. a -ℤ to_z w32 (of_z w32 from)) first ∙ ap (λ b. z -ℤ b) second)
+    is
+    ∙ ap (λ d. int_div_euclid (to_z w32 (of_z w32 d)) (pos 128))
+    (ap (λ a. a -ℤ to_z w32 (of_z w32 from)) first ∙ ap (λ b. z -ℤ b) second)
     ∙ ap (λ d. int_div_euclid d (pos 128)) (to_z-of_z w32 (z -ℤ origin) fd)
 
 -- a number that a size isn't above

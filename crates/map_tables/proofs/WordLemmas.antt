@@ -21,10 +21,13 @@ module _ (reading : Reading) (bytes : List ℕ) where
 
   -- a word is read of its two bytes
   pub slice_get-words : (i : ℕ) → i < length bytes / 2
-      → slice_get (words_under reading bytes).numbers i ≡ Some (number_of reading (word (piece 2 bytes i)).number)
+      → slice_get (words_under reading bytes).numbers i
+      ≡ Some (number_of reading (word (piece 2 bytes i)).number)
   slice_get-words i h =
       slice_get-map (number_of reading) (numbers_of bytes) i
-      ∙ ap (option_map (number_of reading)) (slice_get-map (λ w. w.number) (records_of 2 word bytes) i ∙ ap (option_map (λ w. w.number)) (slice_get-records_of 2 word bytes i h))
+      ∙ ap (option_map (number_of reading))
+      (slice_get-map (λ w. w.number) (records_of 2 word bytes) i
+      ∙ ap (option_map (λ w. w.number)) (slice_get-records_of 2 word bytes i h))
 
   -- its pieces are those of the bytes from there on
   piece-drop : (from i : ℕ) → piece 2 (drop (2 * from) bytes) i ≡ piece 2 bytes (from + i)
@@ -42,37 +45,48 @@ module _ (reading : Reading) (bytes : List ℕ) where
 module _ (reading : Reading) (bytes : List ℕ) where
   -- a word by its number, whatever stands past the last one
   get_or-words : (i : ℕ) (d : ℤ) → i < length bytes / 2
-      → get_or (words_under reading bytes).numbers i d ≡ number_of reading (word (piece 2 bytes i)).number
-  get_or-words i d h = get_or_from_slice_get (words_under reading bytes).numbers i _ d (slice_get-words reading bytes i h)
+      → get_or (words_under reading bytes).numbers i d
+      ≡ number_of reading (word (piece 2 bytes i)).number
+  get_or-words i d h =
+      get_or_from_slice_get (words_under reading bytes).numbers i _ d
+      (slice_get-words reading bytes i h)
 
 -- the words of a lump from a word on
 pub words-drop : (reading : Reading) (bytes : List ℕ) (from : ℕ) → 2 * from ≤ length bytes
-    → (words_under reading (drop (2 * from) bytes)).numbers ≡ drop from (words_under reading bytes).numbers
+    → (words_under reading (drop (2 * from) bytes)).numbers
+    ≡ drop from (words_under reading bytes).numbers
 words-drop reading bytes from h =
     let all = (words_under reading bytes).numbers in
     let long = length-words reading (drop (2 * from) bytes) in
-    let part : length (drop (2 * from) bytes) ≡ length bytes - 2 * from = length-drop (2 * from) bytes in
-    same_lists _ _ (omega (arith, long, part, length-drop from all, length-words reading bytes)) (λ k d below.
+    let part : length (drop (2 * from) bytes) ≡ length bytes - 2 * from =
+    length-drop (2 * from) bytes in
+    same_lists _ _ (omega (arith, long, part, length-drop from all, length-words reading bytes))
+    (λ k d below.
     let inside : k < length (drop (2 * from) bytes) / 2 = omega (arith, long, below) in
     get_or-words reading (drop (2 * from) bytes) k d inside
     ∙ ap (λ two. number_of reading (word two).number) (piece-drop reading bytes from k)
-    ∙ sym (get_or-drop from all k d ∙ get_or-words reading bytes (from + k) d (omega (arith, inside, part))))
+    ∙ sym (get_or-drop from all k d
+    ∙ get_or-words reading bytes (from + k) d (omega (arith, inside, part))))
 
 -- the first words of a lump
 pub words-take : (reading : Reading) (bytes : List ℕ) (n : ℕ) → 2 * n ≤ length bytes
-    → (words_under reading (take (2 * n) bytes)).numbers ≡ take n (words_under reading bytes).numbers
+    → (words_under reading (take (2 * n) bytes)).numbers
+    ≡ take n (words_under reading bytes).numbers
 words-take reading bytes n h =
     let all = (words_under reading bytes).numbers in
     let long = length-words reading (take (2 * n) bytes) in
     let part : length (take (2 * n) bytes) ≡ 2 * n = length-take (2 * n) bytes ∙ omega arith in
-    same_lists _ _ (omega (arith, long, part, length-take n all, length-words reading bytes)) (λ k d below.
+    same_lists _ _ (omega (arith, long, part, length-take n all, length-words reading bytes))
+    (λ k d below.
     let inside : k < n = omega (arith, long, below, part) in
     get_or-words reading (take (2 * n) bytes) k d (omega (arith, inside, part))
     ∙ ap (λ two. number_of reading (word two).number) (piece-take reading bytes n k inside)
-    ∙ sym (get_or-take n all k d inside ∙ get_or-words reading bytes k d (omega (arith, inside, h))))
+    ∙ sym
+    (get_or-take n all k d inside ∙ get_or-words reading bytes k d (omega (arith, inside, h))))
 
 -- the words of a part
-pub words-part : (reading : Reading) (bytes : List ℕ) (from to : ℕ) → from ≤ to → 2 * to ≤ length bytes
+pub words-part : (reading : Reading) (bytes : List ℕ) (from to : ℕ) → from ≤ to
+    → 2 * to ≤ length bytes
     → (words_under reading (take (2 * to - 2 * from) (drop (2 * from) bytes))).numbers
     ≡ take (to - from) (drop from (words_under reading bytes).numbers)
 words-part reading bytes from to ordered within =
@@ -84,7 +98,9 @@ words-part reading bytes from to ordered within =
 
 -- the first word and the others
 pub words-first : (reading : Reading) (bytes : List ℕ) → 2 ≤ length bytes
-    → (words_under reading bytes).numbers ≡ number_of reading (signed16_at (take 2 bytes) 0) ∷ (words_under reading (drop 2 bytes)).numbers
+    → (words_under reading bytes).numbers
+    ≡ number_of reading (signed16_at (take 2 bytes) 0)
+    ∷ (words_under reading (drop 2 bytes)).numbers
 words-first reading bytes h =
     let all = (words_under reading bytes).numbers in
     let d = number_of reading (signed16_at (take 2 bytes) 0) in

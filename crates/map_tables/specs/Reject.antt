@@ -16,6 +16,7 @@ pub record Reject : Type 0 where
   pub bits : List Bool
   pub sectors : ℕ
 
--- the bit of sector a, who looks, and sector b, unknown past the last one: set where sight is refused
+-- the bit of sector a, who looks, and sector b, unknown past the last
+-- one: set where sight is refused
 abbrev pub sight_bit : Reject → ℕ → ℕ → Option Bool
 sight_bit reject a b = slice_get reject.bits (a * reject.sectors + b)

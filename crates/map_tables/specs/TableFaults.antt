@@ -1,4 +1,5 @@
--- Notes on a level's REJECT and BLOCKMAP (P_LoadBlockMap and P_SetupLevel of p_setup.c load them without a test).
+-- Notes on a level's REJECT and BLOCKMAP (P_LoadBlockMap and P_SetupLevel of
+-- p_setup.c load them without a test).
 use Rattle.std.specs.Prelude.{◌≡◌, ◌≢◌, ℕ, ◌+◌, ◌*◌, ◌/◌, ◌<◌, ◌⊎◌, length}
 use Rattle.map_level.specs.Level.{Level}
 use Rattle.map_level.specs.declared.finding.Code.{Code}
@@ -12,7 +13,8 @@ reject_size sectors = (sectors * sectors + 7) / 8
 
 -- N8: REJECT has another size than the sectors ask
 abbrev pub RejectSizeDiffers : Level → ℕ → Type 0
-RejectSizeDiffers level i = (i ≡ 0) × (length level.reject ≢ reject_size (length level.sectors.records))
+RejectSizeDiffers level i =
+    (i ≡ 0) × (length level.reject ≢ reject_size (length level.sectors.records))
 
 -- there are blocks, and fewer words than four and one for each of them
 abbrev pub LacksOffsets : BlockMap → Type 0

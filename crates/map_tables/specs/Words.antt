@@ -1,4 +1,5 @@
--- The words of a level's BLOCKMAP, and the lists that they hold (P_BlockLinesIterator of p_maputl.c).
+-- The words of a level's BLOCKMAP, and the lists that they hold
+-- (P_BlockLinesIterator of p_maputl.c).
 use Rattle.std.specs.Prelude.{◌≡◌, ◌↔◌, ℕ, ◌+◌, ◌<◌, ◌≤◌, ℤ, pos, negsuc, List, ◌∷◌, ◌++◌, length, drop, map, Some, Contains}
 use Rattle.std.specs.List.{slice_get}
 use Rattle.le_rec.specs.Record.{word}
@@ -22,7 +23,8 @@ words_under reading bytes = record {
   end = number_of reading (negsuc 0);
 }
 
--- the words from a place on are the list, then an end word, then others, with no end word in the list
+-- the words from a place on are the list, then an end word, then others,
+-- with no end word in the list
 pub record IsListAt (words : Words) (place : ℕ) (list : List ℤ) : Type 0 where
   pub after : List ℤ
   pub stands : drop place words.numbers ≡ list ++ words.end ∷ after
@@ -30,7 +32,8 @@ pub record IsListAt (words : Words) (place : ℕ) (list : List ℤ) : Type 0 whe
 
 -- a list begins at each place below this one, and at no other
 abbrev pub ListsBeginBelow : Words → ℕ → Type 0
-ListsBeginBelow words reach = (place : ℕ) → (place < reach) ↔ ((list : List ℤ) × IsListAt words place list)
+ListsBeginBelow words reach =
+    (place : ℕ) → (place < reach) ↔ ((list : List ℤ) × IsListAt words place list)
 
 -- the offset of block n is this word
 abbrev pub HasOffset : Words → ℕ → ℕ → Type 0

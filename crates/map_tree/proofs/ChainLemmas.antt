@@ -33,7 +33,8 @@ length_nodes_of (go n s ∷ ts) = ap suc (length_nodes_of ts)
 -- numbers below n, each once, are at most n
 differ : (x : ℕ) (xs : List ℕ) → (Mem x xs → ⊥) → AllByRecursion (λ y. eqb x y ≡ false) xs
 differ x [] out = tt
-differ x (y ∷ ys) out = elim (eqb_tells x y) [ inl r ↦ absurd (out (inl r.1)) | inr r ↦ (r.0, differ x ys (λ h. out (inr h))) ]
+differ x (y ∷ ys) out =
+    elim (eqb_tells x y) [ inl r ↦ absurd (out (inl r.1)) | inr r ↦ (r.0, differ x ys (λ h. out (inr h))) ]
 
 distinct : (xs : List ℕ) → Apart xs → IsDistinct eqb xs
 unfolding IsDistinct
@@ -42,7 +43,8 @@ distinct (x ∷ xs) a = (differ x xs a.0, distinct xs a.1)
 
 mem_from : (q : ℕ) (xs : List ℕ) → list_any (eqb q) xs ≡ true → Mem q xs
 mem_from q [] e = cc
-mem_from q (x ∷ xs) e = elim (eqb_tells q x) [ inl r ↦ inl r.1 | inr r ↦ inr (mem_from q xs (rw r.0 at e)) ]
+mem_from q (x ∷ xs) e =
+    elim (eqb_tells q x) [ inl r ↦ inl r.1 | inr r ↦ inr (mem_from q xs (rw r.0 at e)) ]
 
 pub pigeons : (xs : List ℕ) (n : ℕ) → Apart xs → ((q : ℕ) → Mem q xs → q < n) → length xs ≤ n
 pigeons xs n a h = length-le_from_distinct_below xs n (distinct xs a) (λ q e. h q (mem_from q xs e))
@@ -51,7 +53,8 @@ pigeons xs n a h = length-le_from_distinct_below xs n (distinct xs a) (λ q e. h
 pub Contains-from_mem : (xs : List ℕ) (x : ℕ) → Mem x xs → Contains xs x
 Contains-from_mem [] x h = elim h [ ]
 Contains-from_mem (y ∷ ys) x (inl e) = (0, omega arith, sym e)
-Contains-from_mem (y ∷ ys) x (inr h) = let r = Contains-from_mem ys x h in (suc r.0, omega (arith, r.1), r.2)
+Contains-from_mem (y ∷ ys) x (inr h) =
+    let r = Contains-from_mem ys x h in (suc r.0, omega (arith, r.1), r.2)
 
 mem_at : (xs : List ℕ) (k d : ℕ) → k < length xs → Mem (slice_index_or xs k d) xs
 mem_at [] k d h = absurd (omega arith)
@@ -64,9 +67,11 @@ mem_from_Contains xs x h = subst (λ y. Mem y xs) h.2 (mem_at xs h.0 x h.1)
 pub all_pairs_apart : (xs : List ℕ) → Apart xs → AllPairs (λ n m. n ≢ m) xs
 all_pairs_apart [] a i j d below within = absurd (omega (arith, within))
 all_pairs_apart (x ∷ xs) a zero zero d below within = absurd (omega (arith, below))
-all_pairs_apart (x ∷ xs) a zero (suc j) d below within = λ e. a.0 (subst (λ y. Mem y xs) (sym e) (mem_at xs j d (omega (arith, within))))
+all_pairs_apart (x ∷ xs) a zero (suc j) d below within =
+    λ e. a.0 (subst (λ y. Mem y xs) (sym e) (mem_at xs j d (omega (arith, within))))
 all_pairs_apart (x ∷ xs) a (suc i) zero d below within = absurd (omega (arith, below))
-all_pairs_apart (x ∷ xs) a (suc i) (suc j) d below within = all_pairs_apart xs a.1 i j d (omega (arith, below)) (omega (arith, within))
+all_pairs_apart (x ∷ xs) a (suc i) (suc j) d below within =
+    all_pairs_apart xs a.1 i j d (omega (arith, below)) (omega (arith, within))
 
 module _ (child : ℕ → Side → Option Place) where
   abbrev pub Chain : Place → List Turn → Place → Type 0
@@ -74,15 +79,18 @@ module _ (child : ℕ → Side → Option Place) where
   Chain base (go n s ∷ ts) p = (child n s ≡ Some p) × Chain base ts (node n)
 
   -- one step more at the end
-  pub leads_more : (k : ℕ) (r p : Place) (n : ℕ) (s : Side) → LeadsIn child k r (node n) → child n s ≡ Some p → LeadsIn child (suc k) r p
+  pub leads_more : (k : ℕ) (r p : Place) (n : ℕ) (s : Side) → LeadsIn child k r (node n)
+      → child n s ≡ Some p → LeadsIn child (suc k) r p
   leads_more zero r p n s h e = subst (λ x. LeadsIn child 1 x p) (sym h) (s, p, e, refl)
   leads_more (suc k) (node m) p n s h e = (h.0, h.1, h.2, leads_more k h.1 p n s h.3 e)
   leads_more (suc k) (ssector t) p n s h e = elim h [ ]
 
   -- a chain is a way from its base
-  pub leads_from_chain : (ts : List Turn) (base p : Place) → Chain base ts p → LeadsIn child (length ts) base p
+  pub leads_from_chain : (ts : List Turn) (base p : Place) → Chain base ts p
+      → LeadsIn child (length ts) base p
   leads_from_chain [] base p a = sym a
-  leads_from_chain (go n s ∷ ts) base p a = leads_more (length ts) base p n s (leads_from_chain ts base (node n) a.1) a.0
+  leads_from_chain (go n s ∷ ts) base p a =
+      leads_more (length ts) base p n s (leads_from_chain ts base (node n) a.1) a.0
 
   -- a chain goes on by a way from its end
   pub record GoesOn (base : Place) (ts : List Turn) (steps : ℕ) (p : Place) : Type 0 where
@@ -91,15 +99,28 @@ module _ (child : ℕ → Side → Option Place) where
     pub long : length turns ≡ length ts + steps
     pub keeps : (x : Turn) → Mem x ts → Mem x turns
 
-  pub go_on : (k : ℕ) (base r p : Place) (ts : List Turn) → Chain base ts r → LeadsIn child k r p → GoesOn base ts k p
-  go_on zero base r p ts a h = record { turns = ts; is = subst (λ x. Chain base ts x) h a; long = omega arith; keeps = λ x m. m }
+  pub go_on : (k : ℕ) (base r p : Place) (ts : List Turn) → Chain base ts r → LeadsIn child k r p
+      → GoesOn base ts k p
+  go_on zero base r p ts a h =
+      record {
+        turns = ts;
+        is = subst (λ x. Chain base ts x) h a;
+        long = omega arith;
+        keeps = λ x m. m;
+      }
   go_on (suc k) base (ssector t) p ts a h = elim h [ ]
   go_on (suc k) base (node n) p ts a h =
       let r = go_on k base h.1 p (go n h.0 ∷ ts) (h.2, a) h.3 in
-      record { turns = r.turns; is = r.is; long = omega (arith, r.long); keeps = λ x m. r.keeps x (inr m) }
+      record {
+        turns = r.turns;
+        is = r.is;
+        long = omega (arith, r.long);
+        keeps = λ x m. r.keeps x (inr m);
+      }
 
   -- each turn of a chain leads to its end
-  pub turn_leads : (ts : List Turn) (base p : Place) (n : ℕ) (s : Side) → Chain base ts p → Mem (go n s) ts → (next : Place) × (child n s ≡ Some next) × Leads child next p
+  pub turn_leads : (ts : List Turn) (base p : Place) (n : ℕ) (s : Side) → Chain base ts p
+      → Mem (go n s) ts → (next : Place) × (child n s ≡ Some next) × Leads child next p
   turn_leads [] base p n s a h = elim h [ ]
   turn_leads (go m u ∷ ts) base p n s a (inl e) =
       let same_node : n ≡ m = cc in

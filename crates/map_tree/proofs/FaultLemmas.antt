@@ -25,10 +25,13 @@ use Rattle.map_tree.proofs.ReachLemmas.{decide_side, last_step, leads_unless_not
 
 -- of a sound level nothing of this holds
 
-pub some_within : {X : Type 0} (xs : List X) (i : ℕ) (P : X → Type 0) → IsSomeAnd (slice_get xs i) P → i < length xs
-some_within xs i P h = elim (cases_lt i (length xs)) [ inl within ↦ within | inr past ↦ absurd (rw (slice_get_past xs i past) at h) ]
+pub some_within : {X : Type 0} (xs : List X) (i : ℕ) (P : X → Type 0) → IsSomeAnd (slice_get xs i) P
+    → i < length xs
+some_within xs i P h =
+    elim (cases_lt i (length xs)) [ inl within ↦ within | inr past ↦ absurd (rw (slice_get_past xs i past) at h) ]
 
-origin_in_or_out : (o : Option Node) → IsSomeAnd o (λ found. IsInRange found.x × IsInRange found.y) → IsSomeAnd o (λ found. ¬ (IsInRange found.x × IsInRange found.y)) → ⊥
+origin_in_or_out : (o : Option Node) → IsSomeAnd o (λ found. IsInRange found.x × IsInRange found.y)
+    → IsSomeAnd o (λ found. ¬ (IsInRange found.x × IsInRange found.y)) → ⊥
 origin_in_or_out None h k = elim h [ ]
 origin_in_or_out (Some found) h k = k h
 
@@ -41,22 +44,31 @@ not_twice level p tree h =
     let same = (once_from_tree level tree).once h.n h.m h.s h.u p h.names h.names_too in
     h.apart same.0 same.1
 
-no_tree_fault : (level : Level) → IsTree level → (code : Code) (i : ℕ) → IsTrue (is_fault code) → TreeHolds level code i → ⊥
-no_tree_fault level tree F11 i below (within, inl none) = no_none (child level i Front) (tree.words i Front within) none
-no_tree_fault level tree F11 i below (within, inr none) = no_none (child level i Back) (tree.words i Back within) none
+no_tree_fault : (level : Level) → IsTree level → (code : Code) (i : ℕ) → IsTrue (is_fault code)
+    → TreeHolds level code i → ⊥
+no_tree_fault level tree F11 i below (within, inl none) =
+    no_none (child level i Front) (tree.words i Front within) none
+no_tree_fault level tree F11 i below (within, inr none) =
+    no_none (child level i Back) (tree.words i Back within) none
 no_tree_fault level tree F12 i below h =
-    origin_in_or_out (slice_get level.nodes.records i) (tree.origins i (some_within level.nodes.records i (λ found. ¬ (IsInRange found.x × IsInRange found.y)) h)) h
+    origin_in_or_out (slice_get level.nodes.records i)
+    (tree.origins i (some_within level.nodes.records i
+    (λ found. ¬ (IsInRange found.x × IsInRange found.y)) h)) h
 no_tree_fault level tree F13 i below (inl twice) = not_twice level (node i) tree twice
-no_tree_fault level tree F13 i below (inr (is_root, named)) = tree.root_unnamed named.0 named.1 (named.2 ∙ ap Some (sym is_root))
-no_tree_fault level tree F14 i below h = h.1 (tree.reached (node i) (lt-ltb i (node_count level) h.0))
+no_tree_fault level tree F13 i below (inr (is_root, named)) =
+    tree.root_unnamed named.0 named.1 (named.2 ∙ ap Some (sym is_root))
+no_tree_fault level tree F14 i below h =
+    h.1 (tree.reached (node i) (lt-ltb i (node_count level) h.0))
 no_tree_fault level tree F15 i below h = not_twice level (ssector i) tree h
-no_tree_fault level tree F16 i below h = h.1 (tree.reached (ssector i) (lt-ltb i (ssector_count level) h.0))
+no_tree_fault level tree F16 i below h =
+    h.1 (tree.reached (ssector i) (lt-ltb i (ssector_count level) h.0))
 no_tree_fault level tree N7 i below h = absurd (false≢true below)
 no_tree_fault level tree _ i below h = h
 
 pub faultless_from_sound : (level : Level) → IsSound level → IsFaultless level
 faultless_from_sound level sound code i below (inl h) = sound.linked code i below h
-faultless_from_sound level sound code i below (inr h) = no_tree_fault level (tree_from_sound level sound) code i below h
+faultless_from_sound level sound code i below (inr h) =
+    no_tree_fault level (tree_from_sound level sound) code i below h
 
 -- a level without faults is sound
 module _ (level : Level) (faultless : IsFaultless level) where
@@ -64,12 +76,31 @@ module _ (level : Level) (faultless : IsFaultless level) where
   no_two (node n) twice = faultless F13 n refl (inr (inl twice))
   no_two (ssector t) twice = faultless F15 t refl (inr twice)
 
-  same_turn : (n m : ℕ) (s u : Side) (p : Place) → child level n s ≡ Some p → child level m u ≡ Some p → (n ≡ m) × (s ≡ u)
+  same_turn : (n m : ℕ) (s u : Side) (p : Place) → child level n s ≡ Some p
+      → child level m u ≡ Some p → (n ≡ m) × (s ≡ u)
   same_turn n m s u p e f = elim (cases_eq n m) [
-    | inr other ↦ absurd (no_two p (record { n = n; s = s; names = e; m = m; u = u; names_too = f; apart = λ same sides. other same }))
+    | inr other ↦
+        absurd (no_two p (record {
+          n = n;
+          s = s;
+          names = e;
+          m = m;
+          u = u;
+          names_too = f;
+          apart = λ same sides. other same;
+        }))
     | inl same ↦ elim (decide_side s u) [
       | inl sides ↦ (same, sides)
-      | inr others ↦ absurd (no_two p (record { n = n; s = s; names = e; m = m; u = u; names_too = f; apart = λ again sides. others sides }))
+      | inr others ↦
+          absurd (no_two p (record {
+            n = n;
+            s = s;
+            names = e;
+            m = m;
+            u = u;
+            names_too = f;
+            apart = λ again sides. others sides;
+          }))
     ]
   ]
 
@@ -86,10 +117,12 @@ module _ (level : Level) (faultless : IsFaultless level) where
 
   all_reached : (p : Place) → IsTrue (has level p) → IsReached level p
   all_reached (node n) there =
-      leads_unless_not (child level) (node_count level) (root level) (node n) (λ k h. depth_short (child level) (node_count level) (root level) once k (node n) h)
+      leads_unless_not (child level) (node_count level) (root level) (node n)
+      (λ k h. depth_short (child level) (node_count level) (root level) once k (node n) h)
       (λ unreached. faultless F14 n refl (inr (ltb-true n (node_count level) there, unreached)))
   all_reached (ssector t) there =
-      leads_unless_not (child level) (node_count level) (root level) (ssector t) (λ k h. depth_short (child level) (node_count level) (root level) once k (ssector t) h)
+      leads_unless_not (child level) (node_count level) (root level) (ssector t)
+      (λ k h. depth_short (child level) (node_count level) (root level) once k (ssector t) h)
       (λ unreached. faultless F16 t refl (inr (ltb-true t (ssector_count level) there, unreached)))
 
   all_named : (p : Place) → IsTrue (has level p) → p ≢ root level → IsNamedOnce level p
@@ -97,10 +130,17 @@ module _ (level : Level) (faultless : IsFaultless level) where
       let up = all_reached p there in
       elim (last_step (child level) up.0 (root level) p up.1) [
         | inl is_root ↦ absurd (other is_root)
-        | inr last ↦ record { parent = last.0; side = last.1; names = last.2; only = λ n s e. same_turn n last.0 s last.1 p e last.2 }
+        | inr last ↦
+            record {
+              parent = last.0;
+              side = last.1;
+              names = last.2;
+              only = λ n s e. same_turn n last.0 s last.1 p e last.2;
+            }
       ]
 
-  some_word : (n : ℕ) (s : Side) → n < node_count level → (o : Option Place) → child level n s ≡ o → IsSome o
+  some_word : (n : ℕ) (s : Side) → n < node_count level → (o : Option Place) → child level n s ≡ o
+      → IsSome o
   some_word n s within (Some p) e = refl
   some_word n Front within None e = absurd (faultless F11 n refl (inr (within, inl e)))
   some_word n Back within None e = absurd (faultless F11 n refl (inr (within, inr e)))
@@ -109,9 +149,14 @@ module _ (level : Level) (faultless : IsFaultless level) where
   in_range : (z : ℤ) → IsInRange z ⊎ (IsInRange z → ⊥)
   in_range z =
       by_lt_z z (negsuc 16383) (λ less. inr (λ h. let least = h.least in omega (arith, ints)))
-      (λ least. by_lt_z (pos 16383) z (λ more. inr (λ h. let greatest = h.greatest in omega (arith, ints))) (λ greatest. inl (record { least = least; greatest = greatest })))
+      (λ least. by_lt_z (pos 16383) z (λ more. inr (λ h. let greatest = h.greatest in omega (arith, ints))) (λ greatest. inl (record {
+        least = least;
+        greatest = greatest;
+      })))
 
-  origin_of : (o : Option Node) → IsSome o → (IsSomeAnd o (λ found. ¬ (IsInRange found.x × IsInRange found.y)) → ⊥) → IsSomeAnd o (λ found. IsInRange found.x × IsInRange found.y)
+  origin_of : (o : Option Node) → IsSome o
+      → (IsSomeAnd o (λ found. ¬ (IsInRange found.x × IsInRange found.y)) → ⊥)
+      → IsSomeAnd o (λ found. IsInRange found.x × IsInRange found.y)
   origin_of None h out = cc
   origin_of (Some found) h out = elim (in_range found.x) [
     | inr outside ↦ absurd (out (λ both. outside both.0))
@@ -122,10 +167,14 @@ module _ (level : Level) (faultless : IsFaultless level) where
   ]
 
   node_there : {X : Type 0} (xs : List X) (n : ℕ) → n < length xs → IsSome (slice_get xs n)
-  node_there xs n within = elim (slice_get_cases xs n).1 [ inl there ↦ rw there.2 refl | inr past ↦ let h = past.0 in absurd (omega arith) ]
+  node_there xs n within =
+      elim (slice_get_cases xs n).1 [ inl there ↦ rw there.2 refl | inr past ↦ let h = past.0 in absurd (omega arith) ]
 
-  origin_inside : (n : ℕ) → n < node_count level → IsSomeAnd (slice_get level.nodes.records n) (λ found. IsInRange found.x × IsInRange found.y)
-  origin_inside n within = origin_of (slice_get level.nodes.records n) (node_there level.nodes.records n within) (λ h. faultless F12 n refl (inr h))
+  origin_inside : (n : ℕ) → n < node_count level
+      → IsSomeAnd (slice_get level.nodes.records n) (λ found. IsInRange found.x × IsInRange found.y)
+  origin_inside n within =
+      origin_of (slice_get level.nodes.records n) (node_there level.nodes.records n within)
+      (λ h. faultless F12 n refl (inr h))
 
   is_tree : IsTree level
   is_tree = record {
@@ -140,8 +189,10 @@ module _ (level : Level) (faultless : IsFaultless level) where
   second_apart zero h = cc
   second_apart (suc k) h = h
 
-  not_reached : node_count level ≡ 0 → (k : ℕ) → LeadsIn (child level) k (root level) (ssector 1) → ⊥
-  not_reached none k h = second_apart k (subst (λ x. LeadsIn (child level) k x (ssector 1)) (root_alone level none) h)
+  not_reached : node_count level ≡ 0 → (k : ℕ) → LeadsIn (child level) k (root level) (ssector 1)
+      → ⊥
+  not_reached none k h =
+      second_apart k (subst (λ x. LeadsIn (child level) k x (ssector 1)) (root_alone level none) h)
 
   one_ssector : node_count level ≡ 0 → ssector_count level ≤ 1
   one_ssector none = elim (cases_lt 1 (ssector_count level)) [
@@ -151,7 +202,9 @@ module _ (level : Level) (faultless : IsFaultless level) where
 
   at_least_one : 0 < ssector_count level
   at_least_one = elim (zero_or_suc (ssector_count level)) [
-    | inl none ↦ absurd (faultless F17 0 refl (inl (refl, length-map level.ssectors.records (ssector_under level.reading) ∙ none)))
+    | inl none ↦
+        absurd (faultless F17 0 refl
+        (inl (refl, length-map level.ssectors.records (ssector_under level.reading) ∙ none)))
     | inr some ↦ omega (arith, some.1)
   ]
 

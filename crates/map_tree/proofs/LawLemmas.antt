@@ -27,32 +27,39 @@ law_one_leaf level point sound =
 
 pub law_depth : DepthAtMostNodes
 law_depth level steps place sound leads =
-    depth_short (child level) (node_count level) (root level) (once_from_tree level (tree_from_sound level sound)) steps place leads
+    depth_short (child level) (node_count level) (root level)
+    (once_from_tree level (tree_from_sound level sound)) steps place leads
 
 pub law_ancestors : AncestorsByDepth
 law_ancestors level steps t sound leads =
     let r = go_on (child level) steps (root level) (root level) (ssector t) [] refl leads in
     let long : length r.turns ≡ steps = omega (arith, r.long) in
-    subst (λ count. CountsAncestors level t count) long (chain_ancestors level r.turns t (tree_from_sound level sound) r.is)
+    subst (λ count. CountsAncestors level t count) long
+    (chain_ancestors level r.turns t (tree_from_sound level sound) r.is)
 
 pub law_no_fault : SoundIsNoFault
 law_no_fault level = (faultless_from_sound level, sound_from_faultless level)
 
 -- a level is sound exactly where neither part of its report has a fault
-none_holds : (holds : Code → ℕ → Type 0) (found : List Finding) → AreFindings holds found → All (λ f. is_fault f.code ≡ false) found
+none_holds : (holds : Code → ℕ → Type 0) (found : List Finding) → AreFindings holds found
+    → All (λ f. is_fault f.code ≡ false) found
     → (code : Code) (i : ℕ) → IsTrue (is_fault code) → ¬ holds code i
 none_holds holds found are none code i fault h =
     let f : Finding = record { code = code; index = i } in
     false≢true (sym (All-contains (λ (g : Finding). is_fault g.code ≡ false) found f none ((are.exact f).1 h)) ∙ fault)
 
-none_found : (holds : Code → ℕ → Type 0) (found : List Finding) → AreFindings holds found → ((code : Code) (i : ℕ) → IsTrue (is_fault code) → ¬ holds code i)
+none_found : (holds : Code → ℕ → Type 0) (found : List Finding) → AreFindings holds found
+    → ((code : Code) (i : ℕ) → IsTrue (is_fault code) → ¬ holds code i)
     → All (λ f. is_fault f.code ≡ false) found
 none_found holds found are none = λ k d below.
     let f = get_or found k d in
-    false_from_ne_true (is_fault f.code) (λ fault. none f.code f.index fault ((are.exact f).0 (Contains-get_or found k d below)))
+    false_from_ne_true (is_fault f.code)
+    (λ fault. none f.code f.index fault ((are.exact f).0 (Contains-get_or found k d below)))
 
-pub sound_by_findings : (level : Level) (links nodes : List Finding) → AreFindings (LinkHolds level) links → AreFindings (TreeHolds level) nodes
-    → IsSound level ↔ (All (λ f. is_fault f.code ≡ false) links × All (λ f. is_fault f.code ≡ false) nodes)
+pub sound_by_findings : (level : Level) (links nodes : List Finding)
+    → AreFindings (LinkHolds level) links → AreFindings (TreeHolds level) nodes
+    → IsSound level
+    ↔ (All (λ f. is_fault f.code ≡ false) links × All (λ f. is_fault f.code ≡ false) nodes)
 sound_by_findings level links nodes are_links are_nodes = (
   (λ sound.
       let none = faultless_from_sound level sound in (

@@ -16,13 +16,18 @@ use Rattle.map_tree.specs.Child.{node_count, ssector_count, place_of, word_at, h
 use Rattle.map_tree.specs.Sound.{IsTree, IsSound}
 use Rattle.map_tree.proofs.TreeLemmas.{IsOnce}
 
-pub parent_in : (level : Level) (n : ℕ) (s : Side) (p : Place) → child level n s ≡ Some p → n < node_count level
+pub parent_in : (level : Level) (n : ℕ) (s : Side) (p : Place) → child level n s ≡ Some p
+    → n < node_count level
 parent_in level n s p e =
-    option_and_then_some (λ (found : Node). where_there level (place_of (word_at found s))) (slice_get level.nodes.records n) p e (λ found o f. slice_get_within level.nodes.records n found o)
+    option_and_then_some (λ (found : Node). where_there level (place_of (word_at found s)))
+    (slice_get level.nodes.records n) p e
+    (λ found o f. slice_get_within level.nodes.records n found o)
 
-pub child_there : (level : Level) (n : ℕ) (s : Side) (p : Place) → child level n s ≡ Some p → IsTrue (has level p)
+pub child_there : (level : Level) (n : ℕ) (s : Side) (p : Place) → child level n s ≡ Some p
+    → IsTrue (has level p)
 child_there level n s p e =
-    option_and_then_some (λ (found : Node). where_there level (place_of (word_at found s))) (slice_get level.nodes.records n) p e (λ found o f.
+    option_and_then_some (λ (found : Node). where_there level (place_of (word_at found s)))
+    (slice_get level.nodes.records n) p e (λ found o f.
     let r = cond_some (has level (place_of (word_at found s))) (place_of (word_at found s)) p f in
     subst (λ x. IsTrue (has level x)) r.1 r.0)
 
@@ -38,8 +43,10 @@ zero_or_suc zero = inl refl
 zero_or_suc (suc n) = inr (n, refl)
 
 -- a level without nodes and with one ssector
-alone_is_root : (level : Level) (p : Place) → node_count level ≡ 0 → ssector_count level ≡ 1 → IsTrue (has level p) → p ≡ root level
-alone_is_root level (node n) none one there = let h = ltb-true n (node_count level) there in absurd (omega arith)
+alone_is_root : (level : Level) (p : Place) → node_count level ≡ 0 → ssector_count level ≡ 1
+    → IsTrue (has level p) → p ≡ root level
+alone_is_root level (node n) none one there =
+    let h = ltb-true n (node_count level) there in absurd (omega arith)
 alone_is_root level (ssector t) none one there =
     let h = ltb-true t (ssector_count level) there in
     let first : t ≡ 0 = omega arith in
@@ -63,7 +70,9 @@ tree_from_sound level sound = elim (zero_or_suc (node_count level)) [
 -- a sound level has an ssector, and at most 32767 nodes
 pub some_ssector : (level : Level) → IsSound level → 0 < ssector_count level
 some_ssector level sound = elim (zero_or_suc (ssector_count level)) [
-  | inl none ↦ absurd (sound.linked F17 0 refl (refl, length-map level.ssectors.records (ssector_under level.reading) ∙ none))
+  | inl none ↦
+      absurd (sound.linked F17 0 refl
+      (refl, length-map level.ssectors.records (ssector_under level.reading) ∙ none))
   | inr some ↦ omega (arith, some.1)
 ]
 
@@ -75,18 +84,25 @@ few_nodes level sound = elim (cases_lt 32767 (node_count level)) [
 
 -- and its links are those of a level in which each ssector has a sector
 pub linked_from_sound : (level : Level) → IsSound level → IsLinked level
-linked_from_sound level sound = λ code i link h. sound.linked code i (lt-ltb (place code) (place N1) (omega (arith, link.1))) h
+linked_from_sound level sound =
+    λ code i link h. sound.linked code i (lt-ltb (place code) (place N1) (omega (arith, link.1))) h
 
 pub root_there : (level : Level) → 0 < ssector_count level → IsTrue (has level (root level))
 root_there level some = elim (zero_or_suc (node_count level)) [
-  | inl none ↦ subst (λ x. IsTrue (has level x)) (sym (root_alone level none)) (lt-ltb 0 (ssector_count level) some)
-  | inr more ↦ subst (λ x. IsTrue (has level x)) (sym (root_node level more.0 more.1)) (lt-ltb more.0 (node_count level) (omega (arith, more.1)))
+  | inl none ↦
+      subst (λ x. IsTrue (has level x)) (sym (root_alone level none))
+      (lt-ltb 0 (ssector_count level) some)
+  | inr more ↦
+      subst (λ x. IsTrue (has level x)) (sym (root_node level more.0 more.1))
+      (lt-ltb more.0 (node_count level) (omega (arith, more.1)))
 ]
 
-pub once_from_tree : (level : Level) → IsTree level → IsOnce (child level) (node_count level) (root level)
+pub once_from_tree : (level : Level) → IsTree level
+    → IsOnce (child level) (node_count level) (root level)
 once_from_tree level tree = record {
   once = λ n m s u p e f.
-      let named = tree.named p (child_there level n s p e) (λ r. tree.root_unnamed n s (e ∙ ap Some r)) in
+      let named =
+      tree.named p (child_there level n s p e) (λ r. tree.root_unnamed n s (e ∙ ap Some r)) in
       let one = named.only n s e in
       let other = named.only m u f in
       (one.0 ∙ sym other.0, one.1 ∙ sym other.1);

@@ -26,8 +26,10 @@ pub record IsTwiceBy (Seen : ℕ → Side → Type 0) (level : Level) (place : P
 
 pub record AreCountsBy (Seen : ℕ → Side → Type 0) (level : Level) (counts : List ℕ) : Type 0 where
   pub long : length counts ≡ slot_count level
-  pub named : (place : Place) → IsTrue (has level place) → (0 < slice_index counts (slot level place)) ↔ IsNamedBy Seen level place
-  pub twice : (place : Place) → IsTrue (has level place) → (1 < slice_index counts (slot level place)) ↔ IsTwiceBy Seen level place
+  pub named : (place : Place) → IsTrue (has level place)
+      → (0 < slice_index counts (slot level place)) ↔ IsNamedBy Seen level place
+  pub twice : (place : Place) → IsTrue (has level place)
+      → (1 < slice_index counts (slot level place)) ↔ IsTwiceBy Seen level place
 
 -- the words of the nodes below n, and these with one of node n
 abbrev pub Below : ℕ → ℕ → Side → Type 0
@@ -45,7 +47,8 @@ once_more_some c = elim (cases_lt c 2) [
 once_more_twice : (c : ℕ) → (1 < once_more c) ↔ (0 < c)
 once_more_twice c = elim (cases_lt c 2) [
   | inl few ↦ rw (cond-true _ (c + 1) c (lt-ltb c 2 few)) ((λ h. omega arith), (λ h. omega arith))
-  | inr many ↦ rw (cond-false _ (c + 1) c (le-ltb c 2 many)) ((λ h. omega arith), (λ h. omega arith))
+  | inr many ↦
+      rw (cond-false _ (c + 1) c (le-ltb c 2 many)) ((λ h. omega arith), (λ h. omega arith))
 ]
 
 -- one child word more is seen
@@ -55,9 +58,11 @@ pub record IsOneMore (Seen After : ℕ → Side → Type 0) (n : ℕ) (s : Side)
   pub only : (m : ℕ) (u : Side) → After m u → Seen m u ⊎ ((m ≡ n) × (u ≡ s))
   pub fresh : Seen n s → ⊥
 
-module _ (Seen After : ℕ → Side → Type 0) (level : Level) (n : ℕ) (s : Side) (more : IsOneMore Seen After n s) where
+module _ (Seen After : ℕ → Side → Type 0) (level : Level) (n : ℕ) (s : Side)
+    (more : IsOneMore Seen After n s) where
   -- a place that the new word doesn't name
-  old_named : (p : Place) → (child level n s ≡ Some p → ⊥) → IsNamedBy After level p ↔ IsNamedBy Seen level p
+  old_named : (p : Place) → (child level n s ≡ Some p → ⊥)
+      → IsNamedBy After level p ↔ IsNamedBy Seen level p
   old_named p not_here = (
     (λ h. elim (more.only h.0 h.1 h.2) [
       | inl seen ↦ (h.0, h.1, seen, h.3)
@@ -66,21 +71,29 @@ module _ (Seen After : ℕ → Side → Type 0) (level : Level) (n : ℕ) (s : S
     (λ h. (h.0, h.1, more.old h.0 h.1 h.2, h.3)),
   )
 
-  seen_here : (p : Place) → (child level n s ≡ Some p → ⊥) → (m : ℕ) (u : Side) → After m u → child level m u ≡ Some p → Seen m u
-  seen_here p not_here m u after e = elim (more.only m u after) [ inl seen ↦ seen | inr here ↦ absurd (not_here (rw (← here.0, ← here.1) e)) ]
+  seen_here : (p : Place) → (child level n s ≡ Some p → ⊥) → (m : ℕ) (u : Side) → After m u
+      → child level m u ≡ Some p → Seen m u
+  seen_here p not_here m u after e =
+      elim (more.only m u after) [ inl seen ↦ seen | inr here ↦ absurd (not_here (rw (← here.0, ← here.1) e)) ]
 
-  old_twice : (p : Place) → (child level n s ≡ Some p → ⊥) → IsTwiceBy After level p ↔ IsTwiceBy Seen level p
+  old_twice : (p : Place) → (child level n s ≡ Some p → ⊥)
+      → IsTwiceBy After level p ↔ IsTwiceBy Seen level p
   old_twice p not_here = (
     (λ h. record {
       twice = h.twice;
       one = seen_here p not_here h.twice.n h.twice.s h.one h.twice.names;
       other = seen_here p not_here h.twice.m h.twice.u h.other h.twice.names_too;
     }),
-    (λ h. record { twice = h.twice; one = more.old h.twice.n h.twice.s h.one; other = more.old h.twice.m h.twice.u h.other }),
+    (λ h. record {
+      twice = h.twice;
+      one = more.old h.twice.n h.twice.s h.one;
+      other = more.old h.twice.m h.twice.u h.other;
+    }),
   )
 
   -- the place that it names
-  new_twice : (p : Place) → child level n s ≡ Some p → IsTwiceBy After level p ↔ IsNamedBy Seen level p
+  new_twice : (p : Place) → child level n s ≡ Some p
+      → IsTwiceBy After level p ↔ IsNamedBy Seen level p
   new_twice p here = (
     (λ h. elim (more.only h.twice.n h.twice.s h.one) [
       | inl seen ↦ (h.twice.n, h.twice.s, seen, h.twice.names)
@@ -104,41 +117,50 @@ module _ (Seen After : ℕ → Side → Type 0) (level : Level) (n : ℕ) (s : S
     }),
   )
 
-  here_or_not : (p : Place) → IsTrue (has level p) → (child level n s ≡ Some p) ⊎ (child level n s ≡ Some p → ⊥)
+  here_or_not : (p : Place) → IsTrue (has level p)
+      → (child level n s ≡ Some p) ⊎ (child level n s ≡ Some p → ⊥)
   here_or_not p there = elim (none_or_some (child level n s)) [
     | inl none ↦ inr (λ e. let f : None ≡ Some p = sym none ∙ e in cc)
     | inr some ↦ elim (decide_place some.0 p) [
       | inl same ↦ inl (some.1 ∙ ap Some same)
-      | inr other ↦ inr (λ e. let f : Some some.0 ≡ Some p = sym some.1 ∙ e in let same : some.0 ≡ p = cc in other same)
+      | inr other ↦
+          inr (λ e. let f : Some some.0 ≡ Some p = sym some.1
+          ∙ e in let same : some.0 ≡ p = cc in other same)
     ]
   ]
 
-  other_slot : (p : Place) → IsTrue (has level p) → (child level n s ≡ Some p → ⊥) → child_slot level n s ≢ Some (slot level p)
+  other_slot : (p : Place) → IsTrue (has level p) → (child level n s ≡ Some p → ⊥)
+      → child_slot level n s ≢ Some (slot level p)
   other_slot p there not_here e =
       let r = child_at_slot level n s (slot level p) e in
       not_here (r.1 ∙ ap Some (slot_once level r.0 p (child_there level n s r.0 r.1) there r.2))
 
-  pub counts_more : (before after : List ℕ) → AreCountsBy Seen level before → IsCounted before after (child_slot level n s) → AreCountsBy After level after
+  pub counts_more : (before after : List ℕ) → AreCountsBy Seen level before
+      → IsCounted before after (child_slot level n s) → AreCountsBy After level after
   counts_more before after counts counted = record {
     long = counted.long ∙ counts.long;
     named = λ p there. elim (here_or_not p there) [
       | inl here ↦
-          rw (counted.named (slot level p) (child_slot_of level n s p here)) ((λ h. (n, s, more.new, here)), (λ h. once_more_some (slice_index before (slot level p))))
+          rw (counted.named (slot level p) (child_slot_of level n s p here))
+          ((λ h. (n, s, more.new, here)), (λ h. once_more_some (slice_index before (slot level p))))
       | inr not_here ↦
           let old = counts.named p there in
           let both = old_named p not_here in
-          rw (counted.others (slot level p) (other_slot p there not_here)) ((λ h. both.1 (old.0 h)), (λ h. old.1 (both.0 h)))
+          rw (counted.others (slot level p) (other_slot p there not_here))
+          ((λ h. both.1 (old.0 h)), (λ h. old.1 (both.0 h)))
     ];
     twice = λ p there. elim (here_or_not p there) [
       | inl here ↦
           let old = counts.named p there in
           let both = new_twice p here in
           let count = once_more_twice (slice_index before (slot level p)) in
-          rw (counted.named (slot level p) (child_slot_of level n s p here)) ((λ h. both.1 (old.0 (count.0 h))), (λ h. count.1 (old.1 (both.0 h))))
+          rw (counted.named (slot level p) (child_slot_of level n s p here))
+          ((λ h. both.1 (old.0 (count.0 h))), (λ h. count.1 (old.1 (both.0 h))))
       | inr not_here ↦
           let old = counts.twice p there in
           let both = old_twice p not_here in
-          rw (counted.others (slot level p) (other_slot p there not_here)) ((λ h. both.1 (old.0 h)), (λ h. old.1 (both.0 h)))
+          rw (counted.others (slot level p) (other_slot p there not_here))
+          ((λ h. both.1 (old.0 h)), (λ h. old.1 (both.0 h)))
     ];
   }
 
@@ -152,8 +174,10 @@ front_more n = record {
 }
 
 front_or_back : (n m : ℕ) (u : Side) → m < n + 1 → BelowAndFront n m u ⊎ ((m ≡ n) × (u ≡ Back))
-front_or_back n m Front h = elim (cases_eq m n) [ inl same ↦ inl (inr (same, refl)) | inr other ↦ inl (inl (omega arith)) ]
-front_or_back n m Back h = elim (cases_eq m n) [ inl same ↦ inr (same, refl) | inr other ↦ inl (inl (omega arith)) ]
+front_or_back n m Front h =
+    elim (cases_eq m n) [ inl same ↦ inl (inr (same, refl)) | inr other ↦ inl (inl (omega arith)) ]
+front_or_back n m Back h =
+    elim (cases_eq m n) [ inl same ↦ inr (same, refl) | inr other ↦ inl (inl (omega arith)) ]
 
 back_more : (n : ℕ) → IsOneMore (BelowAndFront n) (Below (n + 1)) n Back
 back_more n = record {
@@ -163,23 +187,33 @@ back_more n = record {
   fresh = λ h. elim h [ inl less ↦ omega (arith, less) | inr same ↦ let e = same.1 in cc ];
 }
 
-pub counts_start : (level : Level) (counts : List ℕ) → length counts ≡ slot_count level → ((k : ℕ) → slice_index counts k ≡ 0) → AreCountsBy (Below 0) level counts
+pub counts_start : (level : Level) (counts : List ℕ) → length counts ≡ slot_count level
+    → ((k : ℕ) → slice_index counts k ≡ 0) → AreCountsBy (Below 0) level counts
 counts_start level counts long zeros = record {
   long = long;
-  named = λ p there. rw (zeros (slot level p)) ((λ h. absurd (omega (arith, h))), (λ h. absurd (omega (arith, h.2))));
-  twice = λ p there. rw (zeros (slot level p)) ((λ h. absurd (omega (arith, h))), (λ h. absurd (omega (arith, h.one))));
+  named =
+      λ p there. rw (zeros (slot level p)) ((λ h. absurd (omega (arith, h))), (λ h. absurd (omega (arith, h.2))));
+  twice =
+      λ p there. rw (zeros (slot level p)) ((λ h. absurd (omega (arith, h))), (λ h. absurd (omega (arith, h.one))));
 }
 
-pub both_counted : (before between after : List ℕ) (front back : Option ℕ) → IsCounted before between front → IsCounted between after back → AreCounted before after front back
-both_counted before between after front back first second = record { between = between; first = first; second = second }
+pub both_counted : (before between after : List ℕ) (front back : Option ℕ)
+    → IsCounted before between front → IsCounted between after back
+    → AreCounted before after front back
+both_counted before between after front back first second =
+    record { between = between; first = first; second = second }
 
-pub counts_node : (level : Level) (n : ℕ) (before after : List ℕ) → AreCountsBy (Below n) level before
-    → AreCounted before after (child_slot level n Front) (child_slot level n Back) → AreCountsBy (Below (n + 1)) level after
+pub counts_node : (level : Level) (n : ℕ) (before after : List ℕ)
+    → AreCountsBy (Below n) level before
+    → AreCounted before after (child_slot level n Front) (child_slot level n Back)
+    → AreCountsBy (Below (n + 1)) level after
 counts_node level n before after counts both =
     counts_more (BelowAndFront n) (Below (n + 1)) level n Back (back_more n) both.between after
-    (counts_more (Below n) (BelowAndFront n) level n Front (front_more n) before both.between counts both.first) both.second
+    (counts_more (Below n) (BelowAndFront n) level n Front
+    (front_more n) before both.between counts both.first) both.second
 
-pub counts_end : (level : Level) (counts : List ℕ) → AreCountsBy (Below (node_count level)) level counts → AreWordCounts level counts
+pub counts_end : (level : Level) (counts : List ℕ)
+    → AreCountsBy (Below (node_count level)) level counts → AreWordCounts level counts
 counts_end level counts all = record {
   long = all.long;
   named = λ p there. (
@@ -188,16 +222,24 @@ counts_end level counts all = record {
   );
   twice = λ p there. (
     (λ h. ((all.twice p there).0 h).twice),
-    (λ h. (all.twice p there).1 (record { twice = h; one = parent_in level h.n h.s p h.names; other = parent_in level h.m h.u p h.names_too })),
+    (λ h. (all.twice p there).1 (record {
+      twice = h;
+      one = parent_in level h.n h.s p h.names;
+      other = parent_in level h.m h.u p h.names_too;
+    })),
   );
 }
 
 -- a place that two child words name is named by one
-pub named_from_twice : (level : Level) (place : Place) → IsNamedTwice level place → IsNamed level place
+pub named_from_twice : (level : Level) (place : Place) → IsNamedTwice level place
+    → IsNamed level place
 named_from_twice level place twice = (twice.n, twice.s, twice.names)
 
-pub node_counted : (level : Level) (counts : List ℕ) (n : ℕ) → AreWordCounts level counts → n < node_count level
+pub node_counted : (level : Level) (counts : List ℕ) (n : ℕ) → AreWordCounts level counts
+    → n < node_count level
     → IsTrue (nat_lt 0 (slice_index counts n)) ↔ IsNamed level (node n)
 node_counted level counts n are within =
-    let told = are.named (node n) (lt-ltb n (node_count level) within) in
-    ((λ h. told.0 (ltb-true 0 (slice_index counts n) h)), (λ h. lt-ltb 0 (slice_index counts n) (told.1 h)))
+    let told = are.named (node n) (lt-ltb n (node_count level) within) in (
+      (λ h. told.0 (ltb-true 0 (slice_index counts n) h)),
+      (λ h. lt-ltb 0 (slice_index counts n) (told.1 h)),
+    )

@@ -1,4 +1,5 @@
--- What the child words of a level's nodes name, and where a descent begins (R_PointInSubsector of r_main.c).
+-- What the child words of a level's nodes name, and where a descent begins
+-- (R_PointInSubsector of r_main.c).
 use Rattle.std.specs.Prelude.{ℕ, zero, suc, ◌-◌, Bool, nat_lt, if◌then◌else◌, length, Option, Some, None, option_and_then}
 use Rattle.std.specs.Option.{option_map}
 use Rattle.std.specs.List.{slice_get}
@@ -18,7 +19,8 @@ node_count level = length level.nodes.records
 abbrev pub ssector_count : Level → ℕ
 ssector_count level = length level.ssectors.records
 
--- a word below 32768 is a node's number, another is 32768 above an ssector's (NF_SUBSECTOR of doomdata.h)
+-- a word below 32768 is a node's number, another is 32768 above an ssector's
+-- (NF_SUBSECTOR of doomdata.h)
 abbrev pub place_of : ℕ → Place
 place_of word = if nat_lt word 32768 then node word else ssector (word - 32768)
 
@@ -37,7 +39,9 @@ where_there level place = if has level place then Some place else None
 
 -- what the child word of node n at a side names; nothing where that isn't there
 abbrev pub child : Level → ℕ → Side → Option Place
-child level n s = option_and_then (λ found. where_there level (place_of (word_at found s))) (slice_get level.nodes.records n)
+child level n s =
+    option_and_then (λ found. where_there level (place_of (word_at found s)))
+    (slice_get level.nodes.records n)
 
 -- the last of so many nodes, or ssector 0 where there are none
 abbrev pub root_of : ℕ → Place
@@ -53,4 +57,5 @@ IsReached level place = Leads (child level) (root level) place
 
 -- the side on which a point lies at node n
 abbrev pub side_at : Level → ℕ → Point → Option Side
-side_at level n point = option_map (λ found. side_of (partition_of found) point) (slice_get level.nodes.records n)
+side_at level n point =
+    option_map (λ found. side_of (partition_of found) point) (slice_get level.nodes.records n)

@@ -8,12 +8,15 @@ use Rattle.map_tree.specs.Child.{child, side_at, IsReached}
 
 -- the child of node n at a side leads to the place
 abbrev pub ChildLeads : Level → ℕ → Side → Place → Type 0
-ChildLeads level n s place = (next : Place) × (child level n s ≡ Some next) × Leads (child level) next place
+ChildLeads level n s place =
+    (next : Place) × (child level n s ≡ Some next) × Leads (child level) next place
 
--- ssector t is a leaf for the point: it is reached, and at each node above it the point lies on the side that leads to it
+-- ssector t is a leaf for the point: it is reached, and at each node above it the point lies
+-- on the side that leads to it
 pub record IsLeaf (level : Level) (point : Point) (t : ℕ) : Type 0 where
   pub reached : IsReached level (ssector t)
-  pub agrees : (n : ℕ) (s : Side) → ChildLeads level n s (ssector t) → side_at level n point ≡ Some s
+  pub agrees : (n : ℕ) (s : Side) → ChildLeads level n s (ssector t)
+      → side_at level n point ≡ Some s
 
 -- node n is an ancestor of ssector t
 abbrev pub IsAncestor : Level → ℕ → ℕ → Type 0

@@ -14,7 +14,8 @@ abbrev pub unmarked : List Bool → ℕ
 unmarked marks = count_by not marks
 
 -- a slot, where there is one, was marked or is now, and then it waits
-pub record IsMarking (slot : Option ℕ) (before after : List Bool) (waits_before waits_after : List ℕ) : Type 0 where
+pub record IsMarking (slot : Option ℕ) (before after : List Bool)
+    (waits_before waits_after : List ℕ) : Type 0 where
   pub long : length after ≡ length before
   pub marked : (k : ℕ) → slot ≡ Some k → IsMarked after k
   pub kept : (k : ℕ) → IsMarked before k → IsMarked after k
@@ -25,7 +26,8 @@ pub record IsMarking (slot : Option ℕ) (before after : List Bool) (waits_befor
   pub same : length waits_after + unmarked after ≡ length waits_before + unmarked before
 
 -- the same of a node's two children
-pub record AreMarking (front back : Option ℕ) (before after : List Bool) (waits_before waits_after : List ℕ) : Type 0 where
+pub record AreMarking (front back : Option ℕ) (before after : List Bool)
+    (waits_before waits_after : List ℕ) : Type 0 where
   pub between : List Bool
   pub waits_between : List ℕ
   pub first : IsMarking front before between waits_before waits_between
@@ -34,4 +36,5 @@ pub record AreMarking (front back : Option ℕ) (before after : List Bool) (wait
 -- the places that are reached are marked, and no others
 pub record AreReached (level : Level) (marks : List Bool) : Type 0 where
   pub long : length marks ≡ slot_count level
-  pub exact : (place : Place) → IsTrue (has level place) → IsMarked marks (slot level place) ↔ IsReached level place
+  pub exact : (place : Place) → IsTrue (has level place)
+      → IsMarked marks (slot level place) ↔ IsReached level place

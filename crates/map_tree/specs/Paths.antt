@@ -10,7 +10,8 @@ pub data Place : Type 0 where
 -- where child gives the child of a node at a side: a place leads to another in so many steps
 abbrev pub LeadsIn : (ℕ → Side → Option Place) → ℕ → Place → Place → Type 0
 LeadsIn child zero from to = from ≡ to
-LeadsIn child (suc steps) (node n) to = (s : Side) × (next : Place) × (child n s ≡ Some next) × LeadsIn child steps next to
+LeadsIn child (suc steps) (node n) to =
+    (s : Side) × (next : Place) × (child n s ≡ Some next) × LeadsIn child steps next to
 LeadsIn child (suc steps) (ssector t) to = ⊥
 
 -- a place leads to another, in some number of steps

@@ -21,12 +21,15 @@ pub record IsNamedOnce (level : Level) (place : Place) : Type 0 where
 -- the nodes are a tree over all nodes and ssectors, and each origin is in range
 pub record IsTree (level : Level) : Type 0 where
   pub words : (n : ℕ) (s : Side) → n < node_count level → IsSome (child level n s)
-  pub origins : (n : ℕ) → n < node_count level → IsSomeAnd (slice_get level.nodes.records n) (λ found. IsInRange found.x × IsInRange found.y)
-  pub named : (place : Place) → IsTrue (has level place) → place ≢ root level → IsNamedOnce level place
+  pub origins : (n : ℕ) → n < node_count level
+      → IsSomeAnd (slice_get level.nodes.records n) (λ found. IsInRange found.x × IsInRange found.y)
+  pub named : (place : Place) → IsTrue (has level place) → place ≢ root level
+      → IsNamedOnce level place
   pub root_unnamed : (n : ℕ) (s : Side) → child level n s ≢ Some (root level)
   pub reached : (place : Place) → IsTrue (has level place) → IsReached level place
 
--- a sound level: no link fault holds, and its nodes are a tree; where it has none it has exactly one ssector
+-- a sound level: no link fault holds, and its nodes are a tree; where it has
+-- none it has exactly one ssector
 pub record IsSound (level : Level) : Type 0 where
   pub linked : (code : Code) (i : ℕ) → IsTrue (is_fault code) → ¬ LinkHolds level code i
   pub tree : 0 < node_count level → IsTree level

@@ -1,4 +1,5 @@
--- Faults and notes on the nodes of a level, each at an index (R_PointInSubsector of r_main.c follows children without a test).
+-- Faults and notes on the nodes of a level, each at an index (R_PointInSubsector of r_main.c
+-- follows children without a test).
 use Rattle.std.specs.Prelude.{◌≡◌, ℕ, ◌<◌, pos, ◌⊎◌, Some, None, IsSomeAnd}
 use Rattle.std.specs.List.{slice_get}
 use Rattle.map_geo.specs.declared.sides.Side.{Side}
@@ -12,11 +13,13 @@ use Rattle.map_tree.specs.Child.{node_count, ssector_count, child, root, IsReach
 
 -- F11: child 0 or child 1 of a node names no node and no ssector
 abbrev pub ChildNamesNothing : Level → ℕ → Type 0
-ChildNamesNothing level n = (n < node_count level) × ((child level n Front ≡ None) ⊎ (child level n Back ≡ None))
+ChildNamesNothing level n =
+    (n < node_count level) × ((child level n Front ≡ None) ⊎ (child level n Back ≡ None))
 
 -- F12: a node's origin is out of range
 abbrev pub OriginOutside : Level → ℕ → Type 0
-OriginOutside level n = IsSomeAnd (slice_get level.nodes.records n) (λ found. ¬ (IsInRange found.x × IsInRange found.y))
+OriginOutside level n =
+    IsSomeAnd (slice_get level.nodes.records n) (λ found. ¬ (IsInRange found.x × IsInRange found.y))
 
 -- a child word names the place
 abbrev pub IsNamed : Level → Place → Type 0
@@ -34,7 +37,8 @@ pub record IsNamedTwice (level : Level) (place : Place) : Type 0 where
 
 -- F13: a node is named by two child words, or is the root and is named by one
 abbrev pub NodeNamedTwice : Level → ℕ → Type 0
-NodeNamedTwice level n = IsNamedTwice level (node n) ⊎ ((root level ≡ node n) × IsNamed level (node n))
+NodeNamedTwice level n =
+    IsNamedTwice level (node n) ⊎ ((root level ≡ node n) × IsNamed level (node n))
 
 -- F14: a node is not reached from the root
 abbrev pub NodeNotReached : Level → ℕ → Type 0
@@ -50,7 +54,8 @@ SsectorNotReached level t = (t < ssector_count level) × (¬ IsReached level (ss
 
 -- N7: the partition of a node has no direction
 abbrev pub NoDirection : Level → ℕ → Type 0
-NoDirection level n = IsSomeAnd (slice_get level.nodes.records n) (λ found. (found.dx ≡ pos 0) × (found.dy ≡ pos 0))
+NoDirection level n =
+    IsSomeAnd (slice_get level.nodes.records n) (λ found. (found.dx ≡ pos 0) × (found.dy ≡ pos 0))
 
 -- where each code of the tree part of a report holds; the others are looked for elsewhere
 abbrev pub TreeHolds : Level → Code → ℕ → Type 0

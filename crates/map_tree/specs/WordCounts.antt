@@ -24,5 +24,7 @@ pub record AreCounted (before after : List ℕ) (front back : Option ℕ) : Type
 -- which places are named, and which twice
 pub record AreWordCounts (level : Level) (counts : List ℕ) : Type 0 where
   pub long : length counts ≡ slot_count level
-  pub named : (place : Place) → IsTrue (has level place) → (0 < slice_index counts (slot level place)) ↔ IsNamed level place
-  pub twice : (place : Place) → IsTrue (has level place) → (1 < slice_index counts (slot level place)) ↔ IsNamedTwice level place
+  pub named : (place : Place) → IsTrue (has level place)
+      → (0 < slice_index counts (slot level place)) ↔ IsNamed level place
+  pub twice : (place : Place) → IsTrue (has level place)
+      → (1 < slice_index counts (slot level place)) ↔ IsNamedTwice level place

@@ -7,8 +7,8 @@ pub fn one_leaf()
     ensures { OneLeaf }
 {}
 
-/// In a sound level an ssector has as many ancestors as it stands deep, and at most as many as there
-/// are nodes.
+/// In a sound level an ssector has as many ancestors as it stands deep,
+/// and at most as many as there are nodes.
 pub fn ancestors_by_depth()
     ensures ancestors { AncestorsByDepth }
     ensures few { DepthAtMostNodes }

@@ -1,4 +1,5 @@
-//! The descent of a point through the nodes of a sound level (`R_PointInSubsector` of linuxdoom 1.10).
+//! The descent of a point through the nodes of a sound level
+//! (`R_PointInSubsector` of linuxdoom 1.10).
 
 ghost use Rattle.std.specs.Prelude.{◌≡◌, ◌<◌, ◌≤◌, ℕ, Some, IsSomeAnd, length};
 ghost use Rattle.std.specs.List.{slice_get};
@@ -43,8 +44,8 @@ impl<'l, 'a> Tree<'l, 'a> {
         Tree { level }
     }
 
-    /// The number of the ssector in which the point lies, and how many tests of its side it took: one
-    /// for each node above that ssector.
+    /// The number of the ssector in which the point lies, and how many tests of its side it took:
+    /// one for each node above that ssector.
     pub fn leaf(&self, point: Point) -> (u16, u32)
         ensures leaf { IsLeaf self.now point result.0 }
         ensures only { (t : ℕ) → IsLeaf self.now point t → t ≡ result.0 }

@@ -103,7 +103,8 @@ pub fn ssector_named_twice(places: &Places<'_, '_>, counts: &[u8], t: usize) -> 
     counts[places.nodes() + t] > 1
 }
 
-/// F16 at that index: an ssector is not reached from the root, which is ssector 0 where there are no nodes.
+/// F16 at that index: an ssector is not reached from the root, which
+/// is ssector 0 where there are no nodes.
 #[inline]
 pub fn ssector_not_reached(places: &Places<'_, '_>, reached: &[bool], t: usize) -> bool
     requires { AreReached places.now reached.now }

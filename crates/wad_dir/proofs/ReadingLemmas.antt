@@ -18,24 +18,33 @@ use Rattle.wad_dir.proofs.DirectoryLemmas.{AreRecords-records_of, AreRecords-len
 magic_of-one : (kind other : Kind) → magic_of kind ≡ magic_of other → kind ≡ other
 magic_of-one Iwad Iwad h = refl
 magic_of-one Pwad Pwad h = refl
-magic_of-one Iwad Pwad h = absurd (let first : ◌≡◌ {A = ℕ} 73 80 = ap (λ xs. slice_index xs 0) h in omega arith)
-magic_of-one Pwad Iwad h = absurd (let first : ◌≡◌ {A = ℕ} 80 73 = ap (λ xs. slice_index xs 0) h in omega arith)
+magic_of-one Iwad Pwad h =
+    absurd (let first : ◌≡◌ {A = ℕ} 73 80 = ap (λ xs. slice_index xs 0) h in omega arith)
+magic_of-one Pwad Iwad h =
+    absurd (let first : ◌≡◌ {A = ℕ} 80 73 = ap (λ xs. slice_index xs 0) h in omega arith)
 
 same_entries : (bytes : List ℕ) (entries others : List Entry) → length entries ≡ length others
-    → (0 < length entries → HasTable bytes entries) → (0 < length others → HasTable bytes others) → entries ≡ others
+    → (0 < length entries → HasTable bytes entries) → (0 < length others → HasTable bytes others)
+    → entries ≡ others
 same_entries bytes [] [] same h k = refl
 same_entries bytes [] (o ∷ others) same h k = absurd (omega arith)
-same_entries bytes (e ∷ entries) others same h k = HasTable-one bytes (e ∷ entries) others (h (omega arith)) (k (omega arith)) same
+same_entries bytes (e ∷ entries) others same h k =
+    HasTable-one bytes (e ∷ entries) others (h (omega arith)) (k (omega arith)) same
 
 -- bytes have at most one directory
 pub IsDirectory-one : (bytes : List ℕ) (kind other : Kind) (entries others : List Entry)
-    → IsDirectory bytes kind entries → IsDirectory bytes other others → (kind ≡ other) × (entries ≡ others)
+    → IsDirectory bytes kind entries → IsDirectory bytes other others
+    → (kind ≡ other) × (entries ≡ others)
 IsDirectory-one bytes kind other entries others d e =
-    let same : length entries ≡ length others = omega (arith, ints, d.counted, e.counted) in
-    (magic_of-one kind other (sym d.begins ∙ e.begins), same_entries bytes entries others same d.listed e.listed)
+    let same : length entries ≡ length others = omega (arith, ints, d.counted, e.counted) in (
+      magic_of-one kind other (sym d.begins ∙ e.begins),
+      same_entries bytes entries others same d.listed e.listed,
+    )
 
 -- a file whose directory was read isn't refused
-pub IsDirectory-not_refused : (bytes : List ℕ) (kind : Kind) (entries : List Entry) (fault : WadFault) → IsDirectory bytes kind entries → RefusesWad bytes fault → ⊥
+pub IsDirectory-not_refused : (bytes : List ℕ) (kind : Kind) (entries : List Entry)
+    (fault : WadFault)
+    → IsDirectory bytes kind entries → RefusesWad bytes fault → ⊥
 IsDirectory-not_refused bytes kind entries Short d r = omega (arith, d.header)
 IsDirectory-not_refused bytes kind entries Magic d r = r.1 kind d.begins
 IsDirectory-not_refused bytes kind entries Count d r = omega (arith, ints, d.counted, r.1)
@@ -44,7 +53,8 @@ IsDirectory-not_refused bytes kind entries Directory d r =
     r.1.3 entries same (d.listed (omega arith))
 
 -- one fault refuses bytes
-pub RefusesWad-one : (bytes : List ℕ) (fault other : WadFault) → RefusesWad bytes fault → RefusesWad bytes other → fault ≡ other
+pub RefusesWad-one : (bytes : List ℕ) (fault other : WadFault) → RefusesWad bytes fault
+    → RefusesWad bytes other → fault ≡ other
 RefusesWad-one bytes Short Short r s = refl
 RefusesWad-one bytes Short Magic r s = absurd (omega (arith, r, s.0))
 RefusesWad-one bytes Short Count r s = absurd (omega (arith, r, s.0.0))
@@ -63,12 +73,14 @@ RefusesWad-one bytes Directory Count r s = absurd (omega (arith, ints, s.1, r.1.
 RefusesWad-one bytes Directory Directory r s = refl
 
 -- the file that was read from bytes whose conditions all hold
-pub IsRead-from_table : (bytes table : List ℕ) (kind : Kind) (count : ℕ) → 12 ≤ length bytes → (header_of bytes).magic ≡ magic_of kind → (header_of bytes).count ≡ pos count
+pub IsRead-from_table : (bytes table : List ℕ) (kind : Kind) (count : ℕ) → 12 ≤ length bytes
+    → (header_of bytes).magic ≡ magic_of kind → (header_of bytes).count ≡ pos count
     → length table ≡ 16 * count → (0 < count → StandsAt bytes (header_of bytes).offset table)
     → IsRead (record { bytes = bytes; kind = kind; entries = records_of 16 entry table })
 IsRead-from_table bytes table kind count header begins counted long stands =
     let records = AreRecords-records_of count table long in
-    let same : length (records_of 16 entry table) ≡ count = omega (arith, AreRecords-length table (records_of 16 entry table) records) in
+    let same : length (records_of 16 entry table) ≡ count =
+    omega (arith, AreRecords-length table (records_of 16 entry table) records) in
     record {
       header = header;
       begins = begins;
@@ -76,15 +88,25 @@ IsRead-from_table bytes table kind count header begins counted long stands =
       listed = λ some. record { table = table; records = records; stands = stands (omega arith) };
     }
 
-pub refused_by_table : (bytes : List ℕ) (count : ℕ) → HasKind bytes → (header_of bytes).count ≡ pos count
-    → (0 < count) × ((table : List ℕ) → length table ≡ 16 * count → StandsAt bytes (header_of bytes).offset table → ⊥)
+pub refused_by_table : (bytes : List ℕ) (count : ℕ) → HasKind bytes
+    → (header_of bytes).count ≡ pos count
+    → (0 < count)
+    × ((table : List ℕ) → length table ≡ 16 * count
+    → StandsAt bytes (header_of bytes).offset table → ⊥)
     → RefusesWad bytes Directory
 refused_by_table bytes count kind counted h = (
   kind,
-  (count, h.0, counted, λ entries same has. h.1 has.table (AreRecords-length has.table entries has.records ∙ ap (λ n. 16 * n) same) has.stands),
+  (
+    count,
+    h.0,
+    counted,
+    λ entries same has. h.1 has.table (AreRecords-length has.table entries has.records
+        ∙ ap (λ n. 16 * n) same) has.stands,
+  ),
 )
 
-same_files : (file other : Wad) → file.bytes ≡ other.bytes → file.kind ≡ other.kind → file.entries ≡ other.entries → file ≡ other
+same_files : (file other : Wad) → file.bytes ≡ other.bytes → file.kind ≡ other.kind
+    → file.entries ≡ other.entries → file ≡ other
 same_files file other bytes kinds lists =
     ap (λ (b : List ℕ). record file { bytes = b }) bytes
     ∙ ap (λ (k : Kind). record file { bytes = other.bytes; kind = k }) kinds
@@ -95,10 +117,14 @@ module _ (bytes : List ℕ) where
   pub only_file : (found : Wad) → found.bytes ≡ bytes → IsRead found → (file : Wad)
       → (◌≡◌ {A = Result Wad WadFault} (Ok found) (Ok file)) ↔ ((file.bytes ≡ bytes) × IsRead file)
   only_file found same read file = (
-    λ e. let is : found ≡ file = cc in subst (λ (f : Wad). (f.bytes ≡ bytes) × IsRead f) is (same, read),
+    λ e. let is : found ≡ file = cc in subst (λ (f : Wad). (f.bytes ≡ bytes)
+        × IsRead f) is (same, read),
     λ h.
-        let other : IsDirectory found.bytes file.kind file.entries = subst (λ (b : List ℕ). IsDirectory b file.kind file.entries) (h.0 ∙ sym same) h.1 in
-        let one = IsDirectory-one found.bytes found.kind file.kind found.entries file.entries read other in
+        let other : IsDirectory found.bytes file.kind file.entries =
+        subst (λ (b : List ℕ). IsDirectory b file.kind file.entries) (h.0 ∙ sym same) h.1 in
+        let one =
+        IsDirectory-one found.bytes found.kind file.kind found.entries file.entries read
+        other in
         ap (λ f. Ok f) (same_files found file (same ∙ sym h.0) one.0 one.1),
   )
 
@@ -106,14 +132,16 @@ module _ (bytes : List ℕ) where
       → (◌≡◌ {A = Result Wad WadFault} (Ok found) (Err fault)) ↔ RefusesWad bytes fault
   no_fault found same read fault = (
     λ e. absurd (let f : ⊥ = cc in f),
-    λ r. absurd (IsDirectory-not_refused bytes found.kind found.entries fault (subst (λ (b : List ℕ). IsDirectory b found.kind found.entries) same read) r),
+    λ r. absurd (IsDirectory-not_refused bytes found.kind found.entries fault
+        (subst (λ (b : List ℕ). IsDirectory b found.kind found.entries) same read) r),
   )
 
   pub no_file : (fault : WadFault) → RefusesWad bytes fault → (file : Wad)
       → (◌≡◌ {A = Result Wad WadFault} (Err fault) (Ok file)) ↔ ((file.bytes ≡ bytes) × IsRead file)
   no_file fault refused file = (
     λ e. absurd (let f : ⊥ = cc in f),
-    λ h. absurd (IsDirectory-not_refused bytes file.kind file.entries fault (subst (λ (b : List ℕ). IsDirectory b file.kind file.entries) h.0 h.1) refused),
+    λ h. absurd (IsDirectory-not_refused bytes file.kind file.entries fault
+        (subst (λ (b : List ℕ). IsDirectory b file.kind file.entries) h.0 h.1) refused),
   )
 
   pub only_fault : (fault : WadFault) → RefusesWad bytes fault → (other : WadFault)

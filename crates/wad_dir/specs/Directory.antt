@@ -1,4 +1,5 @@
--- What the bytes of a WAD file hold: a kind and a directory of entries (W_AddFile of w_wad.c; Unofficial
+-- What the bytes of a WAD file hold: a kind and a directory of entries
+-- (W_AddFile of w_wad.c; Unofficial
 -- Doom Specs 1.666, chapter 2).
 use Rattle.std.specs.Prelude.{◌≡◌, ℕ, ◌<◌, ◌≤◌, pos, List, [], ◌∷◌, ◌++◌, length}
 use Rattle.le_rec.specs.Record.{entry, entry_size}
@@ -16,7 +17,8 @@ pub record IsRecord (bytes : List ℕ) (e : Entry) : Type 0 where
 abbrev pub AreRecords : List ℕ → List Entry → Type 0
 AreRecords bytes [] = bytes ≡ []
 AreRecords bytes (e ∷ entries) =
-    (front : List ℕ) × (rest : List ℕ) × (bytes ≡ front ++ rest) × IsRecord front e × AreRecords rest entries
+    (front : List ℕ) × (rest : List ℕ) × (bytes ≡ front ++ rest) × IsRecord front e
+    × AreRecords rest entries
 
 -- the joined records of the entries stand at the header's offset
 pub record HasTable (bytes : List ℕ) (entries : List Entry) : Type 0 where

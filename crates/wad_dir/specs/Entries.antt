@@ -4,7 +4,8 @@ use Rattle.le_rec.specs.Name.{name_of}
 use Rattle.le_rec.specs.declared.records.Entry.{Entry}
 use Rattle.wad_dir.specs.Wad.{Wad}
 
--- an entry of several files' one list: its file's number, counted from 1, that file's bytes, and the entry
+-- an entry of several files' one list: its file's number, counted from 1, that
+-- file's bytes, and the entry
 pub record Listed : Type 0 where
   pub file : ℕ
   pub bytes : List ℕ

@@ -12,12 +12,14 @@ use Rattle.wad_dir.specs.declared.wad.WadFault.{WadFault}
 abbrev pub OneDirectory : Type 0
 OneDirectory =
     (bytes : List ℕ) (kind other : Kind) (entries others : List Entry)
-    → IsDirectory bytes kind entries → IsDirectory bytes other others → (kind ≡ other) × (entries ≡ others)
+    → IsDirectory bytes kind entries → IsDirectory bytes other others
+    → (kind ≡ other) × (entries ≡ others)
 
 -- one fault at most refuses bytes
 abbrev pub OneWadFault : Type 0
 OneWadFault =
-    (bytes : List ℕ) (fault other : WadFault) → RefusesWad bytes fault → RefusesWad bytes other → fault ≡ other
+    (bytes : List ℕ) (fault other : WadFault) → RefusesWad bytes fault → RefusesWad bytes other
+    → fault ≡ other
 
 -- none refuses bytes that have a directory
 abbrev pub DirectoriesAreNotRefused : Type 0
@@ -33,4 +35,5 @@ OneLump =
 
 -- a name has at most one winner
 abbrev pub OneWinner : Type 0
-OneWinner = (all : List (List ℕ)) (name : List ℕ) (g h : ℕ) → Wins all name g → Wins all name h → g ≡ h
+OneWinner =
+    (all : List (List ℕ)) (name : List ℕ) (g h : ℕ) → Wins all name g → Wins all name h → g ≡ h

@@ -43,4 +43,6 @@ packed_header lumps = record {
 
 -- the header, the lumps and the directory
 abbrev pub packed : List NamedLump → List ℕ
-packed lumps = header_bytes (packed_header lumps) ++ (lump_bytes lumps ++ flat_map entry_bytes (packed_entries lumps))
+packed lumps =
+    header_bytes (packed_header lumps)
+    ++ (lump_bytes lumps ++ flat_map entry_bytes (packed_entries lumps))

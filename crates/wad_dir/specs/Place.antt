@@ -3,4 +3,5 @@ use Rattle.wad_dir.specs.Entries.{Listed}
 use Rattle.wad_dir.specs.declared.set.Place.{Place}
 
 abbrev pub place_of : Listed → Place
-place_of listed = record { file = listed.file; filepos = listed.entry.filepos; size = listed.entry.size }
+place_of listed =
+    record { file = listed.file; filepos = listed.entry.filepos; size = listed.entry.size }

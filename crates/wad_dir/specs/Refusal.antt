@@ -10,18 +10,21 @@ use Rattle.wad_dir.specs.declared.wad.WadFault.TheVariants.{Short, Magic, Count,
 
 -- a header, and in it one of the two kinds
 abbrev pub HasKind : List ℕ → Type 0
-HasKind bytes = (header_size ≤ length bytes) × ((kind : Kind) × ((header_of bytes).magic ≡ magic_of kind))
+HasKind bytes =
+    (header_size ≤ length bytes) × ((kind : Kind) × ((header_of bytes).magic ≡ magic_of kind))
 
 -- the fault that refuses the bytes
 abbrev pub RefusesWad : List ℕ → WadFault → Type 0
 RefusesWad bytes Short = length bytes < header_size
-RefusesWad bytes Magic = (header_size ≤ length bytes) × ((kind : Kind) → (header_of bytes).magic ≢ magic_of kind)
+RefusesWad bytes Magic =
+    (header_size ≤ length bytes) × ((kind : Kind) → (header_of bytes).magic ≢ magic_of kind)
 RefusesWad bytes Count = HasKind bytes × ((header_of bytes).count <ℤ pos 0)
 RefusesWad bytes Directory =
     HasKind bytes × ((n : ℕ) × (0 < n) × ((header_of bytes).count ≡ pos n)
     × ((entries : List Entry) → length entries ≡ n → ¬ HasTable bytes entries))
 
--- the files before a number, counted from 1, have a directory, and a fault refuses the file of that number
+-- the files before a number, counted from 1, have a directory, and a fault
+-- refuses the file of that number
 pub record IsFirstRefused (files : List (List ℕ)) (n : ℕ) (fault : WadFault) : Type 0 where
   pub bytes : List ℕ
   pub earlier : List (List ℕ)

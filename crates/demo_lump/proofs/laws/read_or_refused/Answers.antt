@@ -6,7 +6,8 @@ pub returns-clause-either : goal.returns-clause-either
 returns-clause-either c = read_or_refused
 
 pub returns-clause-never_both : goal.returns-clause-never_both
-returns-clause-never_both c bytes demo fault h = IsDemo-not_refused bytes demo.header demo.commands h.rest fault h.reads
+returns-clause-never_both c bytes demo fault h =
+    IsDemo-not_refused bytes demo.header demo.commands h.rest fault h.reads
 
 pub returns-clause-one_refusal : goal.returns-clause-one_refusal
 returns-clause-one_refusal c = RefusesDemo-one

@@ -12,23 +12,32 @@ returns-in_err-first-clause-reads g c =
 pub returns-in_default-clause-reads : goal.returns-in_default-clause-reads
 returns-in_default-clause-reads g c =
     let byte = rw c.in_default.is at c.in_ok-first.ensures.takes in
-    Reads-empty (next_piece c.args.version c.args.intake.now.taken) (next_has_byte c.args.version c.args.intake.now.taken) _ (no_next c.args.version c.args.intake.now.taken) byte
+    Reads-empty (next_piece c.args.version c.args.intake.now.taken)
+    (next_has_byte c.args.version c.args.intake.now.taken) _
+    (no_next c.args.version c.args.intake.now.taken) byte
 
 pub returns-then-first-clause-reads : goal.returns-then-first-clause-reads
 returns-then-first-clause-reads g c =
     let byte = rw c.in-Some.is at c.in_ok-first.ensures.takes in
     let marked = rw c.if-first.true at byte in
-    Reads-byte (next_piece c.args.version c.args.intake.now.taken) (next_has_byte c.args.version c.args.intake.now.taken) 128 _ refl marked
+    Reads-byte (next_piece c.args.version c.args.intake.now.taken)
+    (next_has_byte c.args.version c.args.intake.now.taken) 128 _ refl marked
 
 pub returns-in_err-fill-clause-reads : goal.returns-in_err-fill-clause-reads
 returns-in_err-fill-clause-reads g c =
     let version = c.args.version in
     let taken = c.args.intake.now.taken in
-    let p = err_from_is_err_and c.from_residual-in_err-fill.result c.from_residual-in_err-fill.ensures.1 in
+    let p =
+    err_from_is_err_and c.from_residual-in_err-fill.result
+    c.from_residual-in_err-fill.ensures.1 in
     let byte = rw c.in-Some.is at c.in_ok-first.ensures.takes in
     let fill = rw c.byte.ensures.limit at c.in_err-fill.ensures.takes in
-    rw (p.1, p.2) (Reads-no_rest (next_piece version taken) (next_has_byte version taken) _ c.in-Some.first
-    (next_goes_on version taken _ c.in-Some.first (omega (arith, length-take {A = ℕ}, c.size_of_command.ensures.size, c.size_of_command.ensures.least)) c.if-first.false) byte _ _ fill)
+    rw (
+      p.1,
+      p.2,
+    ) (Reads-no_rest (next_piece version taken) (next_has_byte version taken) _ c.in-Some.first
+    (next_goes_on version taken _ c.in-Some.first (omega (arith, length-take {A = ℕ}, c.size_of_command.ensures.size, c.size_of_command.ensures.least)) c.if-first.false)
+    byte _ _ fill)
 
 pub returns-then-not-branch-clause-reads : goal.returns-then-not-branch-clause-reads
 returns-then-not-branch-clause-reads g c =

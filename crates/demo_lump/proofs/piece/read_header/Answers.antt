@@ -8,18 +8,22 @@ use Rattle.demo_lump.proofs.piece.read_header.Goals as goal
 
 pub returns-in_err-fill-clause-reads : goal.returns-in_err-fill-clause-reads
 returns-in_err-fill-clause-reads g c =
-    let p = err_from_is_err_and c.from_residual-in_err-fill.result c.from_residual-in_err-fill.ensures.1 in
+    let p =
+    err_from_is_err_and c.from_residual-in_err-fill.result
+    c.from_residual-in_err-fill.ensures.1 in
     let byte = rw c.in-Some.is at c.in_ok-version.ensures.takes in
     let fill = rw c.byte.ensures.limit at c.in_err-fill.ensures.takes in
     let version : IsVersion c.in-Some.version = search rules in
-    rw (p.1, p.2) (Reads-no_rest header_piece header_has_byte 12 c.in-Some.version (header_goes_on c.in-Some.version version) byte _ _ fill)
+    rw (p.1, p.2) (Reads-no_rest header_piece header_has_byte 12 c.in-Some.version
+    (header_goes_on c.in-Some.version version) byte _ _ fill)
 
 pub returns-then-not-branch-clause-reads : goal.returns-then-not-branch-clause-reads
 returns-then-not-branch-clause-reads g c =
     let byte = rw c.in-Some.is at c.in_ok-version.ensures.takes in
     let fill = rw (c.byte.ensures.limit, c.if-not-branch.true) at c.in_ok-fill.ensures.takes in
     let version : IsVersion c.in-Some.version = search rules in
-    Reads-short header_piece header_has_byte 12 c.in-Some.version (header_goes_on c.in-Some.version version) byte
+    Reads-short header_piece header_has_byte 12 c.in-Some.version
+    (header_goes_on c.in-Some.version version) byte
     _ _ c.fill.auto.buf (λ more few. short_header c.in-Some.version more version few) fill
 
 pub returns-then-count_players-eq0-clause-reads : goal.returns-then-count_players-eq0-clause-reads
@@ -28,20 +32,27 @@ returns-then-count_players-eq0-clause-reads g c =
     let fill = rw (c.byte.ensures.limit, c.if-not-branch.false) at c.in_ok-fill.ensures.takes in
     let version : IsVersion c.in-Some.version = search rules in
     let none : players_in (header_of (c.in-Some.version ∷ c.fill.new.buf)).players ≡ 0 =
-    ap (λ (h : Header). players_in h.players) (sym c.header_from-header.ensures) ∙ sym c.count_players.ensures ∙ c.if-count_players-eq0.true in
-    Reads-bad header_piece header_has_byte 12 c.in-Some.version (header_goes_on c.in-Some.version version) byte
-    _ _ (no_players c.in-Some.version c.fill.new.buf c.fill.auto.buf none) (no_players_refused c.in-Some.version c.fill.new.buf c.fill.auto.buf version none) fill
+    ap (λ (h : Header). players_in h.players) (sym c.header_from-header.ensures)
+    ∙ sym c.count_players.ensures ∙ c.if-count_players-eq0.true in
+    Reads-bad header_piece header_has_byte 12 c.in-Some.version
+    (header_goes_on c.in-Some.version version) byte
+    _ _ (no_players c.in-Some.version c.fill.new.buf c.fill.auto.buf none)
+    (no_players_refused c.in-Some.version c.fill.new.buf c.fill.auto.buf version none) fill
 
 pub returns-clause-reads : goal.returns-clause-reads
 returns-clause-reads g c =
     let byte = rw c.in-Some.is at c.in_ok-version.ensures.takes in
     let fill = rw (c.byte.ensures.limit, c.if-not-branch.false) at c.in_ok-fill.ensures.takes in
     let version : IsVersion c.in-Some.version = search rules in
-    let some : 0 < players_in c.header_from-header.result.players = omega (arith, c.count_players.ensures, c.if-count_players-eq0.false) in
+    let some : 0 < players_in c.header_from-header.result.players =
+    omega (arith, c.count_players.ensures, c.if-count_players-eq0.false) in
     let is : IsHeader (c.in-Some.version ∷ c.fill.new.buf) c.header_from-header.result = record {
       long = omega (arith, c.fill.auto.buf);
       reads = sym c.header_from-header.ensures;
-      version = subst IsVersion (ap (λ (h : Header). h.version) (sym c.header_from-header.ensures)) version;
+      version =
+          subst IsVersion
+          (ap (λ (h : Header). h.version) (sym c.header_from-header.ensures)) version;
       players = some;
     } in
-    Reads-whole header_piece header_has_byte 12 c.in-Some.version (header_goes_on c.in-Some.version version) byte _ _ is fill
+    Reads-whole header_piece header_has_byte 12 c.in-Some.version
+    (header_goes_on c.in-Some.version version) byte _ _ is fill

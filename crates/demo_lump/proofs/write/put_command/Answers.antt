@@ -11,7 +11,8 @@ pub copy_from_slice-requires : goal.copy_from_slice-requires
 unfolding command_size
 copy_from_slice-requires c = rw c.if-version-eq-LONG.true at c.requires.room
 
-pub copy_from_slice-requires-else-version-eq-LONG : goal.copy_from_slice-requires-else-version-eq-LONG
+pub copy_from_slice-requires-else-version-eq-LONG :
+    goal.copy_from_slice-requires-else-version-eq-LONG
 unfolding command_size
 copy_from_slice-requires-else-version-eq-LONG c = grind (arith, nat_tests)
 
@@ -20,7 +21,11 @@ returns-then-version-eq-LONG c =
     let forward : FitsSigned w8 c.args.command.forward = search rules in
     let side : FitsSigned w8 c.args.command.side = search rules in
     let turn : c.args.command.turn < 2 ^ 16 = search rules in
-    let items = rw (c.cast_unsigned-forward.ensures, c.cast_unsigned-side.ensures) at c.copy_from_slice.ensures.after in
+    let items =
+    rw (
+      c.cast_unsigned-forward.ensures,
+      c.cast_unsigned-side.ensures,
+    ) at c.copy_from_slice.ensures.after in
     let items = simp to_z-of_z at items in
     rw items (IsCommand-long c.args.version c.args.command c.if-version-eq-LONG.true forward side turn c.requires.writable)
 
@@ -28,6 +33,10 @@ pub returns-else-version-eq-LONG : goal.returns-else-version-eq-LONG
 returns-else-version-eq-LONG c =
     let forward : FitsSigned w8 c.args.command.forward = search rules in
     let side : FitsSigned w8 c.args.command.side = search rules in
-    let items = rw (c.cast_unsigned-forward.ensures, c.cast_unsigned-side.ensures) at c.copy_from_slice-else-version-eq-LONG.ensures.after in
+    let items =
+    rw (
+      c.cast_unsigned-forward.ensures,
+      c.cast_unsigned-side.ensures,
+    ) at c.copy_from_slice-else-version-eq-LONG.ensures.after in
     let items = simp to_z-of_z at items in
     rw items (IsCommand-short c.args.version c.args.command c.if-version-eq-LONG.false forward side c.requires.writable)

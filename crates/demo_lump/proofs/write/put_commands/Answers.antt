@@ -14,11 +14,19 @@ loop-command-preserved c =
     let size = c.size_of_command-size.result in
     let part = c.put_command.new.bytes in
     let commands = c.args.commands.now in
-    let long : length part ≡ size = c.put_command.ensures.long ∙ sym c.size_of_command-size.ensures.size in
-    let next : (n + 1) * size ≤ length commands * size = mul-le-mul_right size (omega (arith, c.loop-command-test.true)) in
-    let room : length c.loop-command.bytes ≡ length commands * size = c.loop-command.auto.bytes ∙ rw c.size_of_command-size.ensures.size c.requires.room in
-    let more = filled_more at size (at + size - at) c.loop-command.bytes part (omega (arith, i.place, next, room)) (omega (arith, long)) in
-    let front = more ∙ ap (λ (t : List ℕ). take at c.loop-command.bytes ++ t) (take_all size part (omega (arith, long))) in
+    let long : length part ≡ size =
+    c.put_command.ensures.long ∙ sym c.size_of_command-size.ensures.size in
+    let next : (n + 1) * size ≤ length commands * size =
+    mul-le-mul_right size (omega (arith, c.loop-command-test.true)) in
+    let room : length c.loop-command.bytes ≡ length commands * size =
+    c.loop-command.auto.bytes ∙ rw c.size_of_command-size.ensures.size c.requires.room in
+    let more =
+    filled_more at size (at + size - at) c.loop-command.bytes part
+    (omega (arith, i.place, next, room)) (omega (arith, long)) in
+    let front =
+    more
+    ∙ ap (λ (t : List ℕ). take at c.loop-command.bytes ++ t)
+    (take_all size part (omega (arith, long))) in
     record {
       place = omega (arith, i.place);
       so_far =

@@ -8,4 +8,5 @@ pub returns : goal.returns
 returns g c = λ bytes bs.
     let law = g.met.R.Record in
     let layout = g.R.Record.layout in
-    joined-records_of g.R.Record.SIZE (read_by layout) (bytes_by layout) bytes law.size_above_zero (λ piece long are. writes_back layout piece (long ∙ law.sized) are) bs
+    joined-records_of g.R.Record.SIZE (read_by layout) (bytes_by layout) bytes law.size_above_zero
+    (λ piece long are. writes_back layout piece (long ∙ law.sized) are) bs

@@ -11,4 +11,5 @@ returns-then-index-bytes g c =
     let read = read_by g.R.Record.layout in
     let bytes = c.args.bytes.now in
     let past = rw c.SIZE.ensures at c.if-index-bytes.true in
-    sym (slice_get_past (records_of size read bytes) c.args.index (rw (length-records_of size read bytes) past))
+    sym (slice_get_past (records_of size read bytes) c.args.index
+    (rw (length-records_of size read bytes) past))

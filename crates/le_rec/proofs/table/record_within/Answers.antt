@@ -9,4 +9,5 @@ returns g c =
     let index = c.args.index in
     let one : index * size + size - index * size ≡ size = omega arith in
     let read = rw (c.SIZE-size.ensures, one) at c.read.ensures in
-    slice_get-records_of size (read_by g.R.Record.layout) c.args.bytes.now index c.requires ∙ ap Some (sym read)
+    slice_get-records_of size (read_by g.R.Record.layout) c.args.bytes.now index c.requires
+    ∙ ap Some (sym read)

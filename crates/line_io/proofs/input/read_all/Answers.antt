@@ -10,7 +10,11 @@ use Rattle.line_io.proofs.InputLemmas.{nil_from_empty, one_past, some_from_empty
 use Rattle.line_io.proofs.input.read_all.Goals as goal
 
 -- reading stops behind the block `more`
-stops : {A : Type 0} (before between after : SourceState) (limit : ℕ) (items more : List ℕ) (e : IoFault) → Consumes before.left between.left items → Consumes between.left after.left more → length items + length more ≤ limit + 1 → ReadFault limit after (items ++ more) e → ReadsAll {A = A} limit before after (Err e)
+stops : {A : Type 0} (before between after : SourceState) (limit : ℕ) (items more : List ℕ)
+    (e : IoFault)
+    → Consumes before.left between.left items → Consumes between.left after.left more
+    → length items + length more ≤ limit + 1 → ReadFault limit after (items ++ more) e
+    → ReadsAll {A = A} limit before after (Err e)
 stops before between after limit items more e had gave room fault = record {
   read = items ++ more;
   given = Consumes-trans before.left between.left after.left items more had gave;
@@ -30,7 +34,10 @@ returns-in_err-more g c =
     let state = g.S.Source.state in
     rw (p.1, p.2, e.0) (record {
       read = items;
-      given = Consumes-kept (state c.args.input.now).left (state c.turns.input).left (state c.next_block.new.input).left items c.turns.invariant.given c.in_err-more.ensures.stays;
+      given =
+          Consumes-kept (state c.args.input.now).left (state c.turns.input).left
+          (state c.next_block.new.input).left items c.turns.invariant.given
+          c.in_err-more.ensures.stays;
       bounded = omega (arith, c.turns.bytes.ok.0);
       whole = tt;
       within = tt;
@@ -46,7 +53,10 @@ returns-then-is_empty g c =
     let none = nil_from_empty c.in_ok-more.more.now c.if-is_empty.ensures in
     let short : length items ≤ c.args.limit = omega (arith, c.turns.bytes.ok.0) in
     let gave = rw none at more.given in
-    let joined = Consumes-trans (g.S.Source.state c.args.input.now).left (g.S.Source.state c.turns.input).left (g.S.Source.state c.next_block.new.input).left items [] c.turns.invariant.given gave in
+    let joined =
+    Consumes-trans (g.S.Source.state c.args.input.now).left
+    (g.S.Source.state c.turns.input).left
+    (g.S.Source.state c.next_block.new.input).left items [] c.turns.invariant.given gave in
     record {
       read = items;
       given = rw append-nil at joined;
@@ -62,16 +72,28 @@ pub returns-then-len-more : goal.returns-then-len-more
 returns-then-len-more g c =
     let items = c.turns.bytes.items in
     let more = c.in_ok-more.more.now in
-    let room = one_past _ c.len.result c.args.limit _ (length more) _ c.in_ok-more.ensures.bound c.min-room.ensures (omega (arith, c.len.ensures)) in
-    stops (g.S.Source.state c.args.input.now) (g.S.Source.state c.turns.input) (g.S.Source.state c.next_block.new.input) c.args.limit items more _ c.turns.invariant.given c.in_ok-more.ensures.given (omega (arith, room, c.len.ensures, c.turns.bytes.ok.0)) (omega (arith, length-append items more, c.len-in-turns.ensures, c.turns.bytes.ok.0), c.in_ok-more.ensures.sound ∙ c.turns.invariant.sound)
+    let room =
+    one_past _ c.len.result c.args.limit _
+    (length more) _ c.in_ok-more.ensures.bound c.min-room.ensures
+    (omega (arith, c.len.ensures)) in
+    stops (g.S.Source.state c.args.input.now) (g.S.Source.state c.turns.input)
+    (g.S.Source.state c.next_block.new.input) c.args.limit items more _ c.turns.invariant.given
+    c.in_ok-more.ensures.given
+    (omega (arith, room, c.len.ensures, c.turns.bytes.ok.0)) (
+      omega (arith, length-append items more, c.len-in-turns.ensures, c.turns.bytes.ok.0),
+      c.in_ok-more.ensures.sound ∙ c.turns.invariant.sound,
+    )
 
 pub returns-in_err-append : goal.returns-in_err-append
 returns-in_err-append g c =
-    let p = err_from_is_err_and c.from_residual-in_err-append.result c.from_residual-in_err-append.ensures.1 in
+    let p =
+    err_from_is_err_and c.from_residual-in_err-append.result
+    c.from_residual-in_err-append.ensures.1 in
     let items = c.turns.bytes.items in
     let more = c.in_ok-more.more.now in
     let filled = some_from_empty (length more) c.if-is_empty.ensures in
-    rw (p.1, p.2, c.in_err-append.ensures.err) (stops (g.S.Source.state c.args.input.now) (g.S.Source.state c.turns.input) (g.S.Source.state c.next_block.new.input) c.args.limit items more _ c.turns.invariant.given c.in_ok-more.ensures.given (omega (arith, c.len.ensures, c.len-in-turns.ensures, c.turns.bytes.ok.0)) (omega (arith, length-append items more), omega (arith, length-append items more, c.len-in-turns.ensures, c.turns.bytes.ok.0), c.in_ok-more.ensures.sound ∙ c.turns.invariant.sound))
+    rw (p.1, p.2, c.in_err-append.ensures.err)
+    (stops (g.S.Source.state c.args.input.now) (g.S.Source.state c.turns.input) (g.S.Source.state c.next_block.new.input) c.args.limit items more _ c.turns.invariant.given c.in_ok-more.ensures.given (omega (arith, c.len.ensures, c.len-in-turns.ensures, c.turns.bytes.ok.0)) (omega (arith, length-append items more), omega (arith, length-append items more, c.len-in-turns.ensures, c.turns.bytes.ok.0), c.in_ok-more.ensures.sound ∙ c.turns.invariant.sound))
 
 pub turns-preserved : goal.turns-preserved
 turns-preserved g c =
@@ -83,6 +105,8 @@ turns-preserved g c =
     record {
       sound = c.in_ok-more.ensures.sound ∙ c.turns.invariant.sound;
       turns = omega (arith, long, c.append.new.bytes.ok.0, c.turns.bytes.ok.0);
-      within = omega (arith, long, c.append.new.bytes.ok.0, c.len-in-turns.ensures, c.turns.bytes.ok.0);
-      given = rw kept (Consumes-trans (g.S.Source.state c.args.input.now).left (g.S.Source.state c.turns.input).left (g.S.Source.state c.next_block.new.input).left items more c.turns.invariant.given c.in_ok-more.ensures.given);
+      within =
+          omega (arith, long, c.append.new.bytes.ok.0, c.len-in-turns.ensures, c.turns.bytes.ok.0);
+      given =
+          rw kept (Consumes-trans (g.S.Source.state c.args.input.now).left (g.S.Source.state c.turns.input).left (g.S.Source.state c.next_block.new.input).left items more c.turns.invariant.given c.in_ok-more.ensures.given);
     }

@@ -11,4 +11,7 @@ returns-then-is_empty-clause-takes g c = λ f told.
 
 pub returns-else-is_empty-clause-takes : goal.returns-else-is_empty-clause-takes
 returns-else-is_empty-clause-takes g c = λ f told.
-    rw (last_answer_some f c.args.part.now (λ h. false≢true (c.if-is_empty.ensures.1 h)), ← c.bytes.ensures) (c.answer_line.ensures.takes f told)
+    rw (
+      last_answer_some f c.args.part.now (λ h. false≢true (c.if-is_empty.ensures.1 h)),
+      ← c.bytes.ensures,
+    ) (c.answer_line.ensures.takes f told)

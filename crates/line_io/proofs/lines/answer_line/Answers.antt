@@ -6,7 +6,8 @@ use Rattle.line_io.proofs.lines.answer_line.Goals as goal
 
 pub returns-then-content-gt-CONTENT : goal.returns-then-content-gt-CONTENT
 returns-then-content-gt-CONTENT g c =
-    let long : 64 < length (content c.args.line.now) = omega (arith, ap length c.content_of-content.ensures) in
+    let long : 64 < length (content c.args.line.now) =
+    omega (arith, ap length c.content_of-content.ensures) in
     record {
       takes = λ f told. rw (line_answer_long f c.args.line.now long) c.emit.ensures.takes;
       ends = EndsWriting-memory _ _ _ c.emit.ensures.ends;
@@ -14,8 +15,10 @@ returns-then-content-gt-CONTENT g c =
 
 pub returns-else-content-gt-CONTENT : goal.returns-else-content-gt-CONTENT
 returns-else-content-gt-CONTENT g c =
-    let short : length (content c.args.line.now) ≤ 64 = omega (arith, ap length c.content_of-content.ensures) in
+    let short : length (content c.args.line.now) ≤ 64 =
+    omega (arith, ap length c.content_of-content.ensures) in
     record {
-      takes = λ f told. rw (line_answer_short f c.args.line.now short, ← c.content_of-content.ensures) (c.reply.ensures.takes f told);
+      takes =
+          λ f told. rw (line_answer_short f c.args.line.now short, ← c.content_of-content.ensures) (c.reply.ensures.takes f told);
       ends = c.reply.ensures.ends;
     }

@@ -8,5 +8,6 @@ invariant-turns g l = record {
   sink_sound : (g.W.Sink.state l.out).failed ≡ false;
   turns : l._turn ≤ l.read;
   within : l.read ≤ l.limit;
-  so_far : Progress (g.C.LineCommand.Answers l.command) l.read (g.S.Source.state l.fn.input) (g.S.Source.state l.input) (g.W.Sink.state l.fn.out) (g.W.Sink.state l.out) l.part;
+  so_far : Progress (g.C.LineCommand.Answers l.command) l.read (g.S.Source.state l.fn.input)
+      (g.S.Source.state l.input) (g.W.Sink.state l.fn.out) (g.W.Sink.state l.out) l.part;
 }

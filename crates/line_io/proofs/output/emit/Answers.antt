@@ -6,8 +6,12 @@ use Rattle.std.specs.Io.KnownBytes.{Appends}
 use Rattle.line_io.proofs.output.emit.Goals as goal
 
 -- one more put takes the next bytes
-sent_more : (a b c : Option (List ℕ)) (bytes : List ℕ) (sent count : ℕ) → Appends a b (take sent bytes) → Appends b c (take count (take (length bytes - sent) (drop sent bytes))) → Appends a c (take (sent + count) bytes)
-sent_more a b c bytes sent count p q = rw (take-add sent count bytes) (Appends-trans a b c _ _ p (rw take_rest at q))
+sent_more : (a b c : Option (List ℕ)) (bytes : List ℕ) (sent count : ℕ)
+    → Appends a b (take sent bytes)
+    → Appends b c (take count (take (length bytes - sent) (drop sent bytes)))
+    → Appends a c (take (sent + count) bytes)
+sent_more a b c bytes sent count p q =
+    rw (take-add sent count bytes) (Appends-trans a b c _ _ p (rw take_rest at q))
 
 pub loop-sent-preserved : goal.loop-sent-preserved
 loop-sent-preserved g c =

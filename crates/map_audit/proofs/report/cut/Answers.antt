@@ -12,15 +12,23 @@ returns-clause-before c =
     let found = c.args.found.now in
     let at = place c.args.code in
     let i = c.partition_point.result in
-    let point = IsPartitionPoint-from_clause (λ (f : Finding). nat_lt (place f.code) at) found i c.partition_point.ensures.partitioned (parted found at c.requires)
+    let point =
+    IsPartitionPoint-from_clause
+    (λ (f : Finding). nat_lt (place f.code) at) found i c.partition_point.ensures.partitioned
+    (parted found at c.requires)
     (λ a r f' k. search rules) in
-    subst (AreBetween 0 at) (sym c.split_at.ensures.front) (cut_front found at i c.requires c.partition_point.ensures.bound point)
+    subst (AreBetween 0 at) (sym c.split_at.ensures.front)
+    (cut_front found at i c.requires c.partition_point.ensures.bound point)
 
 pub returns-clause-from : goal.returns-clause-from
 returns-clause-from c =
     let found = c.args.found.now in
     let at = place c.args.code in
     let i = c.partition_point.result in
-    let point = IsPartitionPoint-from_clause (λ (f : Finding). nat_lt (place f.code) at) found i c.partition_point.ensures.partitioned (parted found at c.requires)
+    let point =
+    IsPartitionPoint-from_clause
+    (λ (f : Finding). nat_lt (place f.code) at) found i c.partition_point.ensures.partitioned
+    (parted found at c.requires)
     (λ a r f' k. search rules) in
-    subst (AreBetween at 30) (sym c.split_at.ensures.back) (cut_back found at i c.requires c.partition_point.ensures.bound point)
+    subst (AreBetween at 30) (sym c.split_at.ensures.back)
+    (cut_back found at i c.requires c.partition_point.ensures.bound point)

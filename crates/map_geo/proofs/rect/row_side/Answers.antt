@@ -10,4 +10,13 @@ returns c = λ s.
     let y = c.ranges.y in
     let left = simp to_z-of_z at c.at.ensures in
     let right = simp to_z-of_z at c.at-2.ensures in
-    rw (c.then_some.ensures, c.eq.ensures, ← c.x0.ensures.value, ← c.x1.ensures.value, ← left, ← right, ← c.side-left.ensures, ← c.side-right.ensures) (some_of_both _ _ s)
+    rw (
+      c.then_some.ensures,
+      c.eq.ensures,
+      ← c.x0.ensures.value,
+      ← c.x1.ensures.value,
+      ← left,
+      ← right,
+      ← c.side-left.ensures,
+      ← c.side-right.ensures,
+    ) (some_of_both _ _ s)

@@ -9,7 +9,9 @@ pub returns-then-k-after-clause-err : goal.returns-then-k-after-clause-err
 returns-then-k-after-clause-err g c = record {
   from = omega arith;
   to = omega arith;
-  before = found_below c.args.set.now c.args.label c.loop-i.i (map (λ lump. lump.now) c.loop-i.bytes) c.loop-i.invariant.found;
+  before =
+      found_below c.args.set.now c.args.label c.loop-i.i
+      (map (λ lump. lump.now) c.loop-i.bytes) c.loop-i.invariant.found;
   past = omega arith;
 }
 
@@ -19,14 +21,22 @@ returns-in_default-clause-err g c =
     record {
       from = omega arith;
       to = omega arith;
-      before = found_below c.args.set.now c.args.label c.loop-i.i (map (λ lump. lump.now) c.loop-i.bytes) c.loop-i.invariant.found;
+      before =
+          found_below c.args.set.now c.args.label c.loop-i.i
+          (map (λ lump. lump.now) c.loop-i.bytes) c.loop-i.invariant.found;
       listed = listed;
-      refused = refused_outside c.args.set.now (c.args.label + (c.loop-i.i + 1)) c.in_default.field-0 c.in_default.ensures.no_such c.in_default.ensures.outside listed;
+      refused =
+          refused_outside c.args.set.now (c.args.label + (c.loop-i.i + 1)) c.in_default.field-0
+          c.in_default.ensures.no_such c.in_default.ensures.outside listed;
     }
 
 pub loop-i-preserved : goal.loop-i-preserved
 loop-i-preserved g c = record {
   ten = length-set c.loop-i.bytes c.loop-i.i c.in-Ok.lump ∙ c.loop-i.invariant.ten;
-  found = found_more c.args.set.now c.args.label c.loop-i.i c.loop-i.bytes c.in-Ok.lump (omega arith) c.loop-i.invariant.found c.in-Ok.ensures.ok;
-  short = rw (map-set (λ (lump : Bor (List ℕ)). lump.now) c.loop-i.bytes c.loop-i.i c.in-Ok.lump) (All-set (λ (lump : List ℕ). length lump < 2 ^ 31) (map (λ (lump : Bor (List ℕ)). lump.now) c.loop-i.bytes) c.loop-i.i c.in-Ok.lump.now c.in-Ok.ensures.short c.loop-i.invariant.short);
+  found =
+      found_more c.args.set.now c.args.label c.loop-i.i c.loop-i.bytes c.in-Ok.lump
+      (omega arith) c.loop-i.invariant.found c.in-Ok.ensures.ok;
+  short =
+      rw (map-set (λ (lump : Bor (List ℕ)). lump.now) c.loop-i.bytes c.loop-i.i c.in-Ok.lump)
+      (All-set (λ (lump : List ℕ). length lump < 2 ^ 31) (map (λ (lump : Bor (List ℕ)). lump.now) c.loop-i.bytes) c.loop-i.i c.in-Ok.lump.now c.in-Ok.ensures.short c.loop-i.invariant.short);
 }

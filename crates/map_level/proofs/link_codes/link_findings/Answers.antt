@@ -13,7 +13,10 @@ add_code-requires g c = rw (place_at c.loop-code.code-index F1 (omega arith)) c.
 
 pub loop-code-preserved : goal.loop-code-preserved
 loop-code-preserved g c =
-    subst (λ p. AreFindingsBelow (LinkHolds c.args.level.now) (p + 1) 0 c.add_code.new.found) (place_at c.loop-code.code-index F1 (omega arith)) c.in_ok-add_code.ensures
+    subst (λ p. AreFindingsBelow (LinkHolds c.args.level.now) (p + 1) 0 c.add_code.new.found)
+    (place_at c.loop-code.code-index F1 (omega arith)) c.in_ok-add_code.ensures
 
 pub returns : goal.returns
-returns g c = found_all (LinkHolds c.args.level.now) c.loop-code.found (rw (let e : c.loop-code.code-index ≡ 30 = omega arith in e) at c.loop-code.invariant)
+returns g c =
+    found_all (LinkHolds c.args.level.now) c.loop-code.found
+    (rw (let e : c.loop-code.code-index ≡ 30 = omega arith in e) at c.loop-code.invariant)

@@ -11,11 +11,18 @@ returns-then-block-lt0-clause-none c = λ k is.
     let fz : FitsSigned w32 c.args.z = search rules in
     let fo : FitsSigned w16 c.args.origin = search rules in
     let fd : FitsSigned w32 (c.args.z -ℤ c.args.origin) = search rules in
-    let floor = quotient c.args.origin c.args.z c.from.result c.floor_blocks-block.result fo fz fd c.from.ensures c.floor_blocks-block.ensures in
-    let block : c.floor_blocks-block.result ≡ pos k = floor_only c.args.origin c.args.z c.floor_blocks-block.result floor k is in
+    let floor =
+    quotient c.args.origin c.args.z c.from.result c.floor_blocks-block.result fo fz fd
+    c.from.ensures c.floor_blocks-block.ensures in
+    let block : c.floor_blocks-block.result ≡ pos k =
+    floor_only c.args.origin c.args.z c.floor_blocks-block.result floor k is in
     elim c.then-block-lt0.branch [
-      | then-block-lt0-via-then-block-lt0 w ↦ let low : c.floor_blocks-block.result <ℤ pos 0 = search rules in absurd (omega (arith, ints, low, block))
-      | then-block-lt0-via-else-block-lt0+then-block-from w ↦ let high : c.args.blocks ≤ℤ c.floor_blocks-block.result = search rules in count_of-le c.args.blocks k (rw block at high)
+      | then-block-lt0-via-then-block-lt0 w ↦
+          let low : c.floor_blocks-block.result <ℤ pos 0 =
+          search rules in absurd (omega (arith, ints, low, block))
+      | then-block-lt0-via-else-block-lt0+then-block-from w ↦
+          let high : c.args.blocks ≤ℤ c.floor_blocks-block.result =
+          search rules in count_of-le c.args.blocks k (rw block at high)
     ]
 
 pub returns-clause-some : goal.returns-clause-some
@@ -24,7 +31,10 @@ returns-clause-some c =
     let fo : FitsSigned w16 c.args.origin = search rules in
     let fd : FitsSigned w32 (c.args.z -ℤ c.args.origin) = search rules in
     let fb : FitsSigned w32 c.floor_blocks-block.result = search rules in
-    let floor = quotient c.args.origin c.args.z c.from.result c.floor_blocks-block.result fo fz fd c.from.ensures c.floor_blocks-block.ensures in
-    let same : to_z w32 (of_z w32 c.floor_blocks-block.result) ≡ c.floor_blocks-block.result = to_z-of_z w32 c.floor_blocks-block.result fb in
+    let floor =
+    quotient c.args.origin c.args.z c.from.result c.floor_blocks-block.result fo fz fd
+    c.from.ensures c.floor_blocks-block.ensures in
+    let same : to_z w32 (of_z w32 c.floor_blocks-block.result) ≡ c.floor_blocks-block.result =
+    to_z-of_z w32 c.floor_blocks-block.result fb in
     let above : pos 0 ≤ℤ c.floor_blocks-block.result = search rules in
     rw same (floor_holds c.args.origin c.args.z c.floor_blocks-block.result floor above)

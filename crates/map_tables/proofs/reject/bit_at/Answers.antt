@@ -19,6 +19,9 @@ returns c =
     let bytes = c.args.bytes.now in
     let number = c.args.number in
     let byte = c.in_ok-byte.byte.now in
-    let there = slice_get_read bytes _ (number / 8) byte refl c.in_ok-byte.ensures.lookup.3.0 c.in_ok-byte.ensures.lookup.1 in
+    let there =
+    slice_get_read bytes _
+    (number / 8) byte refl c.in_ok-byte.ensures.lookup.3.0 c.in_ok-byte.ensures.lookup.1 in
     ap (λ n. Some (n == 1)) (and_mask (byte / 2 ^ (number % 8)) 1)
-    ∙ sym (slice_get-bits_of bytes number ∙ ap (option_map (λ byte. bit_at byte (number % 8) == 1)) there)
+    ∙ sym (slice_get-bits_of bytes number
+    ∙ ap (option_map (λ byte. bit_at byte (number % 8) == 1)) there)

@@ -8,9 +8,12 @@ loop-n-init c = counts_start c.args.places.now c.args.counts.now c.requires.long
 
 pub loop-n-preserved : goal.loop-n-preserved
 loop-n-preserved c =
-    counts_node c.args.places.now c.loop-n.n c.loop-n.counts c.count_children.new.counts c.loop-n.invariant (rw (c.children.ensures.front, c.children.ensures.back) at c.count_children.ensures)
+    counts_node c.args.places.now c.loop-n.n c.loop-n.counts c.count_children.new.counts
+    c.loop-n.invariant
+    (rw (c.children.ensures.front, c.children.ensures.back) at c.count_children.ensures)
 
 pub returns : goal.returns
 returns c =
-    let all : c.loop-n.n ≡ node_count c.args.places.now = omega (arith, c.loop-n-test.false, c.loop-n.auto.n-end, c.nodes-n-end.ensures.is) in
+    let all : c.loop-n.n ≡ node_count c.args.places.now =
+    omega (arith, c.loop-n-test.false, c.loop-n.auto.n-end, c.nodes-n-end.ensures.is) in
     counts_end c.args.places.now c.loop-n.counts (rw all at c.loop-n.invariant)

@@ -8,7 +8,8 @@ use Rattle.wad_dir.proofs.packer.put_entries.Given as goal
 
 abbrev pub invariant-loop-lump : goal.invariant-loop-lump
 invariant-loop-lump g l = record {
-  entries : l.file.items ≡ l.initial.file.items ++ flat_map entry_bytes (packed_entries (take l.lump-index l.lumps));
+  entries : l.file.items
+      ≡ l.initial.file.items ++ flat_map entry_bytes (packed_entries (take l.lump-index l.lumps));
   places : l.place ≡ header_size + length (lump_bytes (take l.lump-index l.lumps));
   names : All (λ lump. IsName lump.name) (take l.lump-index l.lumps);
   len : vec_len l.file ≡ vec_len l.initial.file + entry_size * l.lump-index;

@@ -12,5 +12,6 @@ pub returns-clause-bound : goal.returns-clause-bound
 returns-clause-bound c =
     let d = c.self.inside in
     let some = (command_size-some d.header.version).0 in
-    let more : d.count * 4 ≤ d.count * command_size d.header.version = mul-le-mul_left d.count some in
+    let more : d.count * 4 ≤ d.count * command_size d.header.version =
+    mul-le-mul_left d.count some in
     omega (arith, more, c.self.invariant.1, c.self.told)

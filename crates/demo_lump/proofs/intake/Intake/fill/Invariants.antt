@@ -9,7 +9,8 @@ invariant-turns g l = record {
   limit : l.self.limit ≡ l.fn.self.limit;
   within : l.self.taken ≤ l.self.limit;
   counted : l.self.taken ≡ l.fn.self.taken + l.filled;
-  given : Consumes (g.S.Source.state l.fn.source).left (g.S.Source.state l.source).left (take l.filled l.buf);
+  given : Consumes (g.S.Source.state l.fn.source).left (g.S.Source.state l.source).left
+      (take l.filled l.buf);
 }
 
 abbrev pub decreases-turns : goal.decreases-turns

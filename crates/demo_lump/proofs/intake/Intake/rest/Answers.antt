@@ -14,7 +14,15 @@ turns-preserved g c =
       limit = i.limit;
       more = omega (arith, i.more);
       start = i.start;
-      within = omega (arith, length-take {A = ℕ}, c.pull.auto.buf, c.min-room.ensures, c.in-Ok.ensures.bound, i.within);
+      within =
+          omega (
+            arith,
+            length-take {A = ℕ},
+            c.pull.auto.buf,
+            c.min-room.ensures,
+            c.in-Ok.ensures.bound,
+            i.within,
+          );
       so_far = record {
         read = s.read ++ more;
         given = Consumes-trans _ _ _ s.read more s.given c.in-Ok.ensures.gives.moved.0;
@@ -34,7 +42,10 @@ returns-in-Err-clause-takes g c =
       ended = tt;
       within = tt;
       sound = tt;
-      fault = (c.in-Err.ensures.gives.fault ∙ rw i.sound refl, omega (arith, i.limit, c.turns-test.true));
+      fault = (
+        c.in-Err.ensures.gives.fault ∙ rw i.sound refl,
+        omega (arith, i.limit, c.turns-test.true),
+      );
     }
 
 pub returns-clause-takes : goal.returns-clause-takes

@@ -15,7 +15,8 @@ invariant-turns g l = record {
   more : l.before ≤ l.self.taken;
   start : l.before ≡ l.fn.self.taken;
   within : l.self.taken ≤ l.self.limit + 1;
-  so_far : Counts (g.S.Source.state l.fn.source).left (g.S.Source.state l.source).left (l.self.taken - l.before);
+  so_far : Counts (g.S.Source.state l.fn.source).left (g.S.Source.state l.source).left
+      (l.self.taken - l.before);
 }
 
 abbrev pub decreases-turns : goal.decreases-turns

@@ -12,4 +12,5 @@ returns c =
     let size : FitsSigned w32 v.size = search rules in
     let put_filepos = simp to_z-of_z at c.put_i32.ensures in
     let put_size = simp to_z-of_z at c.put_i32-2.ensures in
-    sym (take_all 16 c.put_name.new.bytes (omega arith)) ∙ rw (c.put_name.ensures, put_size, put_filepos) refl
+    sym (take_all 16 c.put_name.new.bytes (omega arith))
+    ∙ rw (c.put_name.ensures, put_size, put_filepos) refl

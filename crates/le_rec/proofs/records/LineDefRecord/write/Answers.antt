@@ -22,4 +22,5 @@ returns c =
     let put_tag = simp to_z-of_z at c.put_i16-5.ensures in
     let put_side0 = simp to_z-of_z at c.put_i16-6.ensures in
     let put_side1 = simp to_z-of_z at c.put_i16-7.ensures in
-    sym (take_all 14 c.put_i16-7.new.bytes (omega arith)) ∙ rw (put_side1, put_side0, put_tag, put_special, put_flags, put_v2, put_v1) refl
+    sym (take_all 14 c.put_i16-7.new.bytes (omega arith))
+    ∙ rw (put_side1, put_side0, put_tag, put_special, put_flags, put_v2, put_v1) refl

@@ -20,4 +20,5 @@ returns c =
     let put_linedef = simp to_z-of_z at c.put_i16-4.ensures in
     let put_side = simp to_z-of_z at c.put_i16-5.ensures in
     let put_offset = simp to_z-of_z at c.put_i16-6.ensures in
-    sym (take_all 12 c.put_i16-6.new.bytes (omega arith)) ∙ rw (put_offset, put_side, put_linedef, put_angle, put_v2, put_v1) refl
+    sym (take_all 12 c.put_i16-6.new.bytes (omega arith))
+    ∙ rw (put_offset, put_side, put_linedef, put_angle, put_v2, put_v1) refl

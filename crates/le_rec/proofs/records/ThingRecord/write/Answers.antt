@@ -18,4 +18,5 @@ returns c =
     let put_angle = simp to_z-of_z at c.put_i16-3.ensures in
     let put_kind = simp to_z-of_z at c.put_i16-4.ensures in
     let put_options = simp to_z-of_z at c.put_i16-5.ensures in
-    sym (take_all 10 c.put_i16-5.new.bytes (omega arith)) ∙ rw (put_options, put_kind, put_angle, put_y, put_x) refl
+    sym (take_all 10 c.put_i16-5.new.bytes (omega arith))
+    ∙ rw (put_options, put_kind, put_angle, put_y, put_x) refl

@@ -5,4 +5,7 @@ use Rattle.le_rec.proofs.table.Table.len.Goals as goal
 
 pub returns : goal.returns
 returns g c =
-    rw (← c.self.view_is, c.SIZE.ensures) (sym (length-records_of g.R.Record.SIZE (read_by g.R.Record.layout) c.self.inside.bytes.now))
+    rw (
+      ← c.self.view_is,
+      c.SIZE.ensures,
+    ) (sym (length-records_of g.R.Record.SIZE (read_by g.R.Record.layout) c.self.inside.bytes.now))

@@ -6,12 +6,19 @@ use Rattle.line_io.proofs.tests.LengthLineCommand.reply.Goals as goal
 pub returns-in_err-emit : goal.returns-in_err-emit
 returns-in_err-emit g c =
     let p = err_from_is_err_and c.from_residual.result c.from_residual.ensures.1 in
-    let text : c.as_bytes.result.now ≡ decimal (length c.args.content.now) = c.as_bytes.ensures.value ∙ c.format.ensures.text in
+    let text : c.as_bytes.result.now ≡ decimal (length c.args.content.now) =
+    c.as_bytes.ensures.value ∙ c.format.ensures.text in
     let stopped = Writes-stop (10 ∷ []) (rw text at c.in_err-emit.ensures) in
-    rw (p.1, p.2) (record { takes = λ answer told. rw (told c.args.content.now) stopped.takes; ends = stopped.ends })
+    rw (p.1, p.2) (record {
+      takes = λ answer told. rw (told c.args.content.now) stopped.takes;
+      ends = stopped.ends;
+    })
 
 pub returns : goal.returns
 returns g c =
-    let text : c.as_bytes.result.now ≡ decimal (length c.args.content.now) = c.as_bytes.ensures.value ∙ c.format.ensures.text in
-    let wrote = Writes-then _ _ _ _ c.emit-2.result (rw text at c.in_ok-emit.ensures).takes.whole c.emit-2.ensures in
+    let text : c.as_bytes.result.now ≡ decimal (length c.args.content.now) =
+    c.as_bytes.ensures.value ∙ c.format.ensures.text in
+    let wrote =
+    Writes-then _ _ _ _ c.emit-2.result
+    (rw text at c.in_ok-emit.ensures).takes.whole c.emit-2.ensures in
     record { takes = λ answer told. rw (told c.args.content.now) wrote.takes; ends = wrote.ends }

@@ -8,8 +8,10 @@ overflow_sub-result c = omega (arith, ints, c.product.ensures.size, c.product-2.
 pub returns : goal.returns
 returns c =
     let first : FitsSigned w32 c.product.result = omega (arith, ints, c.product.ensures.size) in
-    let second : FitsSigned w32 c.product-2.result = omega (arith, ints, c.product-2.ensures.size) in
-    let difference : FitsSigned w32 (c.product.result -ℤ c.product-2.result) = omega (arith, ints, c.product.ensures.size, c.product-2.ensures.size) in
+    let second : FitsSigned w32 c.product-2.result =
+    omega (arith, ints, c.product-2.ensures.size) in
+    let difference : FitsSigned w32 (c.product.result -ℤ c.product-2.result) =
+    omega (arith, ints, c.product.ensures.size, c.product-2.ensures.size) in
     let x : FitsSigned w32 c.self.inside.x = omega (arith, ints, c.self.invariant.0) in
     let y : FitsSigned w32 c.self.inside.y = omega (arith, ints, c.self.invariant.1) in
     let dx : FitsSigned w32 c.self.inside.dx = omega (arith, ints, c.self.invariant.2) in

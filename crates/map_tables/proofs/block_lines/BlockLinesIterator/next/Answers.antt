@@ -15,15 +15,24 @@ returns-clause-steps c =
     let short : FitsSigned w16 c.i16_at.result = search rules in
     let cut = c.in_ok-word.ensures.cases in
     let first = to_z-of_z w32 c.number.result fits ∙ c.number.ensures.value
-    ∙ ap (number_of inside.reading) (to_z-of_z w16 c.i16_at.result short ∙ c.i16_at.ensures ∙ ap (λ two. signed16_at two 0) cut.1) in
+    ∙ ap (number_of inside.reading) (to_z-of_z w16 c.i16_at.result short ∙ c.i16_at.ensures
+    ∙ ap (λ two. signed16_at two 0) cut.1) in
     sym c.self.view_is ∙ words-first inside.reading inside.bytes.now cut.0
     ∙ ap (λ w. w ∷ (words_under inside.reading (drop 2 inside.bytes.now)).numbers) (sym first)
-    ∙ ap (λ bytes. to_z w32 (of_z w32 c.number.result) ∷ (words_under inside.reading bytes).numbers) (sym cut.2)
+    ∙ ap (λ bytes. to_z w32 (of_z w32 c.number.result) ∷ (words_under inside.reading bytes).numbers)
+    (sym cut.2)
 
 pub returns-clause-goes : goal.returns-clause-goes
 returns-clause-goes c =
     let inside = c.self.inside in
     let cut = c.in_ok-word.ensures.cases in
-    let shorter : length (words_under inside.reading c.in_ok-word.after.now).numbers < length c.args.self.now =
-    omega (arith, ap length c.self.view_is, length-words inside.reading inside.bytes.now, length-words inside.reading c.in_ok-word.after.now, cut.4) in
+    let shorter : length (words_under inside.reading c.in_ok-word.after.now).numbers
+    < length c.args.self.now =
+    omega (
+      arith,
+      ap length c.self.view_is,
+      length-words inside.reading inside.bytes.now,
+      length-words inside.reading c.in_ok-word.after.now,
+      cut.4,
+    ) in
     search rules

@@ -9,7 +9,8 @@ returns-then-i-eq0 c =
     let level = c.args.self.now in
     let held = MatchOption-at_some _ _ c.in-Some.map c.in-Some.is c.self.invariant in
     let same : c.in-Some.map ≡ map_of level = held.1 ∙ ap map_of c.self.view_is in
-    let many : 8 ≤ length level.blockmap = subst (λ (l : Level). 8 ≤ length l.blockmap) c.self.view_is held.0 in (
+    let many : 8 ≤ length level.blockmap =
+    subst (λ (l : Level). 8 ≤ length l.blockmap) c.self.view_is held.0 in (
       (λ t. (c.if-i-eq0.true, inr (subst LacksOffsets same (c.lacks_offsets.ensures.0 t)))),
       (λ short. elim short.1 [
         | inl few ↦ absurd (omega (arith, few, many))

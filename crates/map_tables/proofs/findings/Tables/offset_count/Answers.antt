@@ -15,4 +15,5 @@ returns-in-Some c = λ n faulty.
 pub returns-in-None : goal.returns-in-None
 returns-in-None c = λ n faulty.
     let few = MatchOption-at_none _ _ c.in-None.is c.self.invariant in
-    absurd (no_faulty_block c.args.self.now n (omega (arith, few, ap (λ (level : Level). length level.blockmap) c.self.view_is)) faulty)
+    absurd (no_faulty_block c.args.self.now n
+    (omega (arith, few, ap (λ (level : Level). length level.blockmap) c.self.view_is)) faulty)

@@ -20,8 +20,10 @@ returns c =
     let short : FitsSigned w16 c.in_ok-word.word.number = search rules in
     let there : Some c.in_ok-word.word ≡ slice_get (records_of 2 word inside.bytes.now) i =
     c.in_ok-word.ensures ∙ ap (λ (rows : Rows Word). slice_get rows.records i) c.of.ensures in
-    ap Some (to_z-of_z w32 c.number.result fits ∙ c.number.ensures.value ∙ ap (number_of inside.reading) (to_z-of_z w16 c.in_ok-word.word.number short))
+    ap Some (to_z-of_z w32 c.number.result fits ∙ c.number.ensures.value
+    ∙ ap (number_of inside.reading) (to_z-of_z w16 c.in_ok-word.word.number short))
     ∙ ap (λ o. option_map (number_of inside.reading) (option_map (λ (w : Word). w.number) o)) there
     ∙ sym (slice_get-map (number_of inside.reading) (numbers_of inside.bytes.now) i
-    ∙ ap (option_map (number_of inside.reading)) (slice_get-map (λ (w : Word). w.number) (records_of 2 word inside.bytes.now) i))
+    ∙ ap (option_map (number_of inside.reading))
+    (slice_get-map (λ (w : Word). w.number) (records_of 2 word inside.bytes.now) i))
     ∙ ap (λ (words : Words). slice_get words.numbers i) c.self.view_is

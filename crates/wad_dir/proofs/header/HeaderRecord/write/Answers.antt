@@ -12,4 +12,5 @@ returns c =
     let offset : FitsSigned w32 v.offset = search rules in
     let put_count = simp to_z-of_z at c.put_i32.ensures in
     let put_offset = simp to_z-of_z at c.put_i32-2.ensures in
-    sym (take_all 12 c.put_i32-2.new.bytes (omega arith)) ∙ rw (put_offset, put_count, c.put_magic.ensures) refl
+    sym (take_all 12 c.put_i32-2.new.bytes (omega arith))
+    ∙ rw (put_offset, put_count, c.put_magic.ensures) refl

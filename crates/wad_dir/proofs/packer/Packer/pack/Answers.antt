@@ -18,7 +18,8 @@ whole g c =
 
 named : (g : Over) (c : After-put_file g) → All (λ (l : NamedLump). IsName l.name) c.args.self.now
 named g c =
-    subst (λ (ls : List NamedLump). All (λ (l : NamedLump). IsName l.name) ls) (c.deref-2.ensures.value ∙ c.self.view_is) c.put_file.ensures.names
+    subst (λ (ls : List NamedLump). All (λ (l : NamedLump). IsName l.name) ls)
+    (c.deref-2.ensures.value ∙ c.self.view_is) c.put_file.ensures.names
 
 most : (g : Over) (c : After-put_file g) → length (packed c.args.self.now) ≤ 2147483647
 most g c =
@@ -27,12 +28,15 @@ most g c =
 
 pub returns-clause-directory : goal.returns-clause-directory
 returns-clause-directory g c =
-    subst (λ (bytes : List ℕ). IsDirectory bytes Pwad (packed_entries c.args.self.now)) (sym (whole g c)) (packed-directory c.args.self.now (named g c) (most g c))
+    subst (λ (bytes : List ℕ). IsDirectory bytes Pwad (packed_entries c.args.self.now))
+    (sym (whole g c)) (packed-directory c.args.self.now (named g c) (most g c))
 
 pub returns-clause-names : goal.returns-clause-names
 returns-clause-names g c = packed-names 12 c.args.self.now (named g c)
 
 pub returns-clause-slices : goal.returns-clause-slices
 returns-clause-slices g c =
-    subst (λ (bytes : List ℕ). AllZip (λ (e : Entry) (l : NamedLump). IsSlice bytes e l.bytes) (packed_entries c.args.self.now) c.args.self.now) (sym (whole g c))
+    subst
+    (λ (bytes : List ℕ). AllZip (λ (e : Entry) (l : NamedLump). IsSlice bytes e l.bytes) (packed_entries c.args.self.now) c.args.self.now)
+    (sym (whole g c))
     (packed-slices c.args.self.now)

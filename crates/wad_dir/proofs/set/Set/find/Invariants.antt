@@ -5,4 +5,5 @@ use Rattle.wad_dir.proofs.set.Set.find.Given as goal
 
 abbrev pub invariant-loop-k : goal.invariant-loop-k
 invariant-loop-k g l =
-    (l.first ≡ length (joined (take l.k l.self-inside.wads.items))) × NoneFrom (names l.self-inside.wads.items) l.name l.first
+    (l.first ≡ length (joined (take l.k l.self-inside.wads.items)))
+    × NoneFrom (names l.self-inside.wads.items) l.name l.first

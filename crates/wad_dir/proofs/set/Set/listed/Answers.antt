@@ -17,7 +17,12 @@ returns-then-left-len g c =
 
 pub loop-i-preserved : goal.loop-i-preserved
 loop-i-preserved g c =
-    omega (arith, c.loop-i.invariant, length-joined_more c.deref-wad-items.result.now c.wad-item.result c.loop-i.i (omega arith) c.wad-item.is)
+    omega (
+      arith,
+      c.loop-i.invariant,
+      length-joined_more c.deref-wad-items.result.now c.wad-item.result c.loop-i.i
+          (omega arith) c.wad-item.is,
+    )
 
 pub returns : goal.returns
 returns g c =

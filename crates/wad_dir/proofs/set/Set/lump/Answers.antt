@@ -14,14 +14,21 @@ returns-in-Some-lump_of-clause-outside g c = (
 pub returns-in-None-clause-no_such : goal.returns-in-None-clause-no_such
 returns-in-None-clause-no_such g c = (
   λ e. absurd (let none : ⊥ = cc in none),
-  λ past. absurd (omega (arith, slice_get_within (joined c.args.self.now) c.args.g c.in-Some.found (sym c.listed.ensures ∙ c.in-Some.is))),
+  λ past. absurd (omega (
+    arith,
+    slice_get_within (joined c.args.self.now) c.args.g c.in-Some.found
+        (sym c.listed.ensures ∙ c.in-Some.is),
+  )),
 )
 
 pub returns-in-None-clause-outside : goal.returns-in-None-clause-outside
 returns-in-None-clause-outside g c = (
   λ _. (
-    slice_get_within (joined c.args.self.now) c.args.g c.in-Some.found (sym c.listed.ensures ∙ c.in-Some.is),
-    no_lump c.args.self.now c.args.g _ (sym c.listed.ensures ∙ c.in-Some.is ∙ ap Some (sym c.found.view_is)) c.in-None.ensures.none,
+    slice_get_within (joined c.args.self.now) c.args.g c.in-Some.found
+        (sym c.listed.ensures ∙ c.in-Some.is),
+    no_lump c.args.self.now c.args.g _
+        (sym c.listed.ensures ∙ c.in-Some.is ∙ ap Some (sym c.found.view_is))
+        c.in-None.ensures.none,
   ),
   λ _. refl,
 )

@@ -5,4 +5,5 @@ use Rattle.wad_dir.proofs.wad.Wad.entries.Goals as goal
 
 pub returns-clause-bound : goal.returns-clause-bound
 returns-clause-bound c =
-    rw c.of.ensures (omega (arith, length-records_of 16 entry c.self.inside.table.now, c.self.invariant))
+    rw c.of.ensures
+    (omega (arith, length-records_of 16 entry c.self.inside.table.now, c.self.invariant))

@@ -26,36 +26,57 @@ module _ (bytes : List ℕ) (read : Header) (is : header_of bytes ≡ read) wher
 counted : (c : In-Some-natural) → (header_of c.args.bytes.now).count ≡ pos c.in-Some-natural.count
 counted c =
     let fits : FitsSigned w32 c.read-header.result.count = search rules in
-    ap (λ (r : Header). r.count) (sym c.read-header.ensures) ∙ read_number c.read-header.result.count c.in-Some-natural.count fits c.in-Some-natural.ensures.value
+    ap (λ (r : Header). r.count) (sym c.read-header.ensures)
+    ∙ read_number c.read-header.result.count c.in-Some-natural.count fits
+    c.in-Some-natural.ensures.value
 
-refused : (c : In_default-table_of) → (header_of c.args.bytes.now).count ≡ pos c.in-Some-natural.count → RefusesWad c.args.bytes.now Directory
+refused : (c : In_default-table_of)
+    → (header_of c.args.bytes.now).count ≡ pos c.in-Some-natural.count
+    → RefusesWad c.args.bytes.now Directory
 refused c counted_is =
     let is = sym c.read-header.ensures in
     let fits : FitsSigned w32 c.read-header.result.offset = search rules in
     let place = stands c.args.bytes.now c.read-header.result is fits in
-    refused_by_table c.args.bytes.now c.in-Some-natural.count (omega arith, (c.in-Some.kind, begins c.args.bytes.now c.read-header.result is c.in-Some.kind c.in-Some.ensures.some)) counted_is
+    refused_by_table c.args.bytes.now c.in-Some-natural.count (
+      omega arith,
+      (
+        c.in-Some.kind,
+        begins c.args.bytes.now c.read-header.result is c.in-Some.kind c.in-Some.ensures.some,
+      ),
+    ) counted_is
     (rw place at c.in_default-table_of.ensures.none)
 
 pub returns-in_default-table_of-clause-ok : goal.returns-in_default-table_of-clause-ok
 returns-in_default-table_of-clause-ok c =
-    no_file c.args.bytes.now Directory (refused c (counted (goal.at.returns-in_default-table_of-clause-ok c).In-Some-natural))
+    no_file c.args.bytes.now Directory
+    (refused c (counted (goal.at.returns-in_default-table_of-clause-ok c).In-Some-natural))
 
 pub returns-in_default-table_of-clause-refused : goal.returns-in_default-table_of-clause-refused
 returns-in_default-table_of-clause-refused c =
-    only_fault c.args.bytes.now Directory (refused c (counted (goal.at.returns-in_default-table_of-clause-refused c).In-Some-natural))
+    only_fault c.args.bytes.now Directory
+    (refused c (counted (goal.at.returns-in_default-table_of-clause-refused c).In-Some-natural))
 
 is_read : (c : In-Some-table_of) → (header_of c.args.bytes.now).count ≡ pos c.in-Some-natural.count
-    → IsRead (record { bytes = c.args.bytes.now; kind = c.in-Some.kind; entries = records_of 16 entry c.in-Some-table_of.table.now })
+    → IsRead (record {
+      bytes = c.args.bytes.now;
+      kind = c.in-Some.kind;
+      entries = records_of 16 entry c.in-Some-table_of.table.now;
+    })
 is_read c counted_is =
     let is = sym c.read-header.ensures in
     let fits : FitsSigned w32 c.read-header.result.offset = search rules in
     let place = stands c.args.bytes.now c.read-header.result is fits in
-    IsRead-from_table c.args.bytes.now c.in-Some-table_of.table.now c.in-Some.kind c.in-Some-natural.count (omega arith)
+    IsRead-from_table c.args.bytes.now c.in-Some-table_of.table.now c.in-Some.kind
+    c.in-Some-natural.count (omega arith)
     (begins c.args.bytes.now c.read-header.result is c.in-Some.kind c.in-Some.ensures.some)
     counted_is c.in-Some-table_of.ensures.size (rw place at c.in-Some-table_of.ensures.some)
 
 pub returns-clause-ok : goal.returns-clause-ok
-returns-clause-ok c = only_file c.args.bytes.now _ refl (is_read c (counted (goal.at.returns-clause-ok c).In-Some-natural))
+returns-clause-ok c =
+    only_file c.args.bytes.now _ refl
+    (is_read c (counted (goal.at.returns-clause-ok c).In-Some-natural))
 
 pub returns-clause-refused : goal.returns-clause-refused
-returns-clause-refused c = no_fault c.args.bytes.now _ refl (is_read c (counted (goal.at.returns-clause-refused c).In-Some-natural))
+returns-clause-refused c =
+    no_fault c.args.bytes.now _ refl
+    (is_read c (counted (goal.at.returns-clause-refused c).In-Some-natural))

@@ -4,6 +4,7 @@ use Rattle.std.proofs.KnownBytes.{Consumes-trans, Consumes-whole}
 use Rattle.std.proofs.lemmas.List.{take_all, take_at}
 use Rattle.std.specs.Io.KnownBytes.{Consumes}
 use Rattle.le_rec.specs.Source.{SourceState}
+use Rattle.le_rec.proofs.SourceLemmas.{Consumes-front}
 use Rattle.demo_lump.specs.Command.{command_size}
 use Rattle.demo_lump.specs.Header.{IsHeader, IsVersion, RefusesHeader, header_of, players_in}
 use Rattle.demo_lump.specs.NextPiece.{IsNext, Piece, RefusesNext, header_piece, next_piece}
@@ -17,13 +18,6 @@ use Rattle.demo_lump.specs.declared.fault.DemoFault.TheVariants.{Version, ShortH
 use Rattle.demo_lump.specs.declared.fault.StreamFault.{StreamFault}
 use Rattle.demo_lump.specs.declared.fault.StreamFault.TheVariants.{Demo, Read, TooLong}
 use Rattle.demo_lump.proofs.ReadingLemmas.{command_size-some, first-append}
-
--- what holds of each list that begins with known bytes holds of what was left
-Consumes-front : (a b : Option (List ℕ)) (bytes : List ℕ) (P : List ℕ → Type 0) → Consumes a b bytes
-    → ((more : List ℕ) → P (bytes ++ more)) → IfSome a P
-Consumes-front None b bytes P given h = tt
-Consumes-front (Some left) None bytes P given h = absurd given
-Consumes-front (Some left) (Some left') bytes P given h = subst P (sym given) (h left')
 
 -- what was taken within the limit is too short
 short_read : (n limit : ℕ) (failed : Bool) (read : List ℕ) (taken taken' : ℕ) (e : StreamFault)

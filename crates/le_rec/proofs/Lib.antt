@@ -4,3 +4,4 @@ pub mod LayoutLemmas
 pub mod NameLemmas
 pub mod NumberLemmas
 pub mod TableLemmas
+pub mod SourceLemmas

@@ -1,7 +1,7 @@
 -- Facts about tables.
 use Rattle.std.proofs.Common.{◌≡◌, ℕ, zero, suc, ◌+◌, ◌*◌, ◌/◌, ◌<◌, ◌≤◌, List, [], length, take, drop, map, Some, refl, sym, ap, ◌∙◌, arith}
 use Rattle.std.specs.List.{range_with_len, slice_get, flat_map}
-use Rattle.std.proofs.Math.Nat.{div-add-mod'}
+use Rattle.std.proofs.Math.Nat.{div-add-mod', div-le_self}
 use Rattle.std.proofs.Math.Seq.{take-add}
 use Rattle.std.proofs.lemmas.List.{length-map, length-take, length-drop, drop-drop}
 use Rattle.std.proofs.lemmas.List.FromFn.{length-range_with_len, get_or-map-range_with_len}
@@ -15,6 +15,10 @@ module _ {R : Type 0} (size : ℕ) (read : List ℕ → R) (bytes : List ℕ) wh
   length-records_of =
       length-map (range_with_len 0 (length bytes / size)) (λ index. read (piece size bytes index))
       ∙ length-range_with_len 0 (length bytes / size)
+
+  -- there are no more of them than bytes
+  pub few_records : length (records_of size read bytes) ≤ length bytes
+  few_records = omega (arith, length-records_of, div-le_self (length bytes) size)
 
   -- the record of a number is read of its piece
   pub slice_get-records_of : (index : ℕ) → index < length bytes / size

@@ -6,6 +6,7 @@ use Rattle.std.proofs.Math.Seq.{take-append-add}
 use Rattle.std.specs.Io.KnownBytes.{Appends, Consumes, IsAtEnd, Keeps}
 use Rattle.le_rec.specs.Sink.{SinkState}
 use Rattle.le_rec.specs.Source.{SourceState}
+use Rattle.le_rec.proofs.SourceLemmas.{Consumes-front}
 use Rattle.line_io.specs.declared.fault.IoFault.{IoFault}
 use Rattle.line_io.specs.declared.fault.IoFault.TheVariants.{Read, Write, TooLong, Memory}
 use Rattle.line_io.specs.AnswersLines.{AnswersLines, EngineFault, LeavesAnswers, WritesAnswers}
@@ -51,13 +52,6 @@ answers_of_writer memory out Write h l = l
 answers_of_writer memory out Memory h l = l
 answers_of_writer memory out _ h l = h
 
--- what holds of every continuation of what was read holds of the whole input, where that is known
-of_known : (a b : Option (List ℕ)) (read : List ℕ) (P : List ℕ → Type 0) → Consumes a b read
-    → ((rest : List ℕ) → P (read ++ rest)) → IfSome a P
-of_known None b read P gave h = tt
-of_known (Some x) None read P gave h = absurd gave
-of_known (Some x) (Some y) read P gave h = subst P (sym gave) (h y)
-
 stopped : (f : List ℕ → List ℕ) (limit : ℕ) (read : List ℕ) (input input' : SourceState)
     (out out' : SinkState) (e : IoFault)
     → Consumes input.left input'.left read
@@ -69,7 +63,7 @@ stopped f limit read input input' out out' e gave front answered = record {
   front =
       let here : TakesFront out out' (text_of f (read ++ [])) = front [] in rw append-nil at here;
   front_of_all =
-      of_known input.left input'.left read
+      Consumes-front input.left input'.left read
       (λ left. TakesFront out out' (text_of f left)) gave front;
   answered = answered;
 }
@@ -175,7 +169,8 @@ module _ {Answers : (List ℕ → List ℕ) → Type 0} {count : ℕ} {input inp
                 subst (Appends out.taken out''.taken) (last-kept f)
                 (Appends-trans out.taken out'.taken out''.taken _ _ (p.answered f told) (w f told).whole);
             front = tt;
-            front_of_all = of_known input.left input''.left p.read (λ _. Unit {0}) gave (λ _. tt);
+            front_of_all =
+                Consumes-front input.left input''.left p.read (λ _. Unit {0}) gave (λ _. tt);
             answered = tt;
           };
         }

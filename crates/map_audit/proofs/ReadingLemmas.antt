@@ -1,6 +1,6 @@
 -- A level that is sound under the signed reading, under the wide one.
 use Rattle.std.proofs.Common.{◌≡◌, ◌≢◌, ℕ, ◌<◌, ◌≤◌, ◌⊎◌, inl, inr, ℤ, pos, negsuc, List, length, map, Option, Some, None, refl, sym, ap, ◌∙◌, subst, arith}
-use Rattle.std.specs.Prelude.{IsTrue, FitsSigned, option_and_then}
+use Rattle.std.specs.Prelude.{IsSomeAnd, IsTrue, FitsSigned, option_and_then}
 use Rattle.std.specs.Int.{w16}
 use Rattle.std.specs.List.{slice_get}
 use Rattle.std.specs.Option.{option_map}
@@ -32,7 +32,8 @@ use Rattle.map_tree.specs.Paths.{Place}
 use Rattle.map_tree.specs.Sound.{IsSound, IsTree, IsNamedOnce}
 use Rattle.map_audit.specs.Readings.{KeepsSound}
 use Rattle.map_audit.proofs.FileLemmas.{sides_fit}
-use Rattle.map_audit.proofs.SectorLemmas.{side_through, sector_through}
+use Rattle.map_level.proofs.LinkedLemmas.{is_same, not_of, record_at, side_by}
+use Rattle.map_audit.proofs.SectorLemmas.{sector_through}
 use Rattle.map_audit.proofs.WideLemmas as wide
 
 -- an item under a reading
@@ -40,20 +41,22 @@ under : {X Y : Type 0} (f : X → Y) (xs : List X) (k : ℕ) (x : X) → slice_g
     → slice_get (map f xs) k ≡ Some (f x)
 under f xs k x is = slice_get-map f xs k ∙ ap (option_map f) is
 
+-- what doesn't hold of an item that is there
+not_under : {X Y : Type 0} (f : X → Y) (P : Y → Type 0) (xs : List X) (k : ℕ) (x : X)
+    → slice_get xs k ≡ Some x → ¬ IsSomeAnd (slice_get (map f xs) k) P → ¬ P (f x)
+not_under f P xs k x is none = not_of P (slice_get (map f xs) k) (f x) (under f xs k x is) none
+
 same_length : {X Y : Type 0} (f g : X → Y) (xs : List X) → length (map f xs) ≡ length (map g xs)
 same_length f g xs = length-map xs f ∙ sym (length-map xs g)
 
 -- a seg's side is 0 or 1
 side_cases : (side : ℤ) → ¬ ((side ≢ pos 0) × (side ≢ pos 1)) → (side ≡ pos 0) ⊎ (side ≡ pos 1)
 side_cases side h =
-    let first : Decides (int_eq side (pos 0)) (side ≡ pos 0) = Decides-int_eq side (pos 0) in
-    let second : Decides (int_eq side (pos 1)) (side ≡ pos 1) = Decides-int_eq side (pos 1) in
-    elim (cases_Bool (int_eq side (pos 0))) [
-      | inl is ↦ inl (first.0 is)
-      | inr not0 ↦ elim (cases_Bool (int_eq side (pos 1))) [
-        | inl is ↦ inr (second.0 is)
-        | inr not1 ↦
-            absurd (h ((λ is. false≢true (sym not0 ∙ first.1 is)), (λ is. false≢true (sym not1 ∙ second.1 is))))
+    elim (is_same side (pos 0)) [
+      | inl is ↦ inl is
+      | inr not0 ↦ elim (is_same side (pos 1)) [
+        | inl is ↦ inr is
+        | inr not1 ↦ absurd (h (not0, not1))
       ]
     ]
 
@@ -77,9 +80,9 @@ module _ (label : ℕ) (names lumps : List (List ℕ)) (are : AreBytes (lump_of 
       let linedefs = records_of 14 linedef (lump_of lumps 2) in
       let line =
       wide.number_named (length (linedefs_of s)) g.linedef
-      (wide.not_of (seg_under Signed) _ segs k g is (linked F7 k refl)) in
+      (not_under (seg_under Signed) _ segs k g is (linked F7 k refl)) in
       let there =
-      wide.record_at linedefs line.0
+      record_at linedefs line.0
       (omega (arith, line.2, length-map linedefs (linedef_under Signed))) in
       (line.0, there.0, line.1, there.1)
 
@@ -89,7 +92,7 @@ module _ (label : ℕ) (names lumps : List (List ℕ)) (are : AreBytes (lump_of 
       ≡ side_at (linedef_under Signed l) g.side
   side_signed g m l names_it is =
       let linedefs = records_of 14 linedef (lump_of lumps 2) in
-      side_through (level_of label Signed names lumps) (seg_under Signed g) m
+      side_by (level_of label Signed names lumps) (seg_under Signed g) m
       (linedef_under Signed l) names_it (under (linedef_under Signed) linedefs m l is)
 
   side_wide : (g : Seg) (m : ℕ) (l : LineDef) → g.linedef ≡ pos m
@@ -98,7 +101,7 @@ module _ (label : ℕ) (names lumps : List (List ℕ)) (are : AreBytes (lump_of 
       ≡ side_at (linedef_under Wide l) g.side
   side_wide g m l names_it is =
       let linedefs = records_of 14 linedef (lump_of lumps 2) in
-      side_through (level_of label Wide names lumps) (seg_under Wide g) m (linedef_under Wide l)
+      side_by (level_of label Wide names lumps) (seg_under Wide g) m (linedef_under Wide l)
       (ap (number_of Wide) names_it ∙ wide.wide_same m)
       (under (linedef_under Wide) linedefs m l is)
 
@@ -193,17 +196,17 @@ module _ (label : ℕ) (names lumps : List (List ℕ)) (are : AreBytes (lump_of 
       let segs = records_of 12 seg (lump_of lumps 5) in
       let linedefs = records_of 14 linedef (lump_of lumps 2) in
       let sidedefs = records_of 30 sidedef (lump_of lumps 3) in
-      let absent = wide.not_of (seg_under Signed) _ segs k g is_g (linked F9 k refl) in
+      let absent = not_under (seg_under Signed) _ segs k g is_g (linked F9 k refl) in
       let other : z ≢ negsuc 0 = λ is. absent (side_signed g m l line is_l ∙ side ∙ ap Some is) in
       let named_p = wide.number_named (length (sidedefs_of s)) z (λ none. fine (other, none)) in
       let p = named_p.0 in
       let there =
-      wide.record_at sidedefs p
+      record_at sidedefs p
       (omega (arith, named_p.2, length-map sidedefs (sidedef_under Signed))) in
       let d = there.0 in
       let named_q =
       wide.number_named (length (sectors_of s)) d.sector
-      (wide.not_of (sidedef_under Signed) _ sidedefs p d there.1 (linked F5 p refl)) in
+      (not_under (sidedef_under Signed) _ sidedefs p d there.1 (linked F5 p refl)) in
       let q = named_q.0 in
       let not_minus : pos p ≢ negsuc 0 = λ is. other (named_p.1 ∙ is) in
       let not_past : pos p ≢ pos 65535 =
@@ -232,24 +235,24 @@ module _ (label : ℕ) (names lumps : List (List ℕ)) (are : AreBytes (lump_of 
       let s = level_of label Signed names lumps in
       let segs = records_of 12 seg (lump_of lumps 5) in
       let linedefs = records_of 14 linedef (lump_of lumps 2) in
-      let there = wide.record_at (records_of 4 ssector (lump_of lumps 6)) t within in
+      let there = record_at (records_of 4 ssector (lump_of lumps 6)) t within in
       let x = there.0 in
       let in_range =
-      wide.not_of (ssector_under Signed) _ (records_of 4 ssector (lump_of lumps 6)) t x there.1
+      not_under (ssector_under Signed) _ (records_of 4 ssector (lump_of lumps 6)) t x there.1
       (linked F10 t refl) in
       let named_k =
       wide.number_named (length (segs_of s)) x.first (λ none. in_range (inr (inl none))) in
       let k = named_k.0 in
       let seg_there =
-      wide.record_at segs k (omega (arith, named_k.2, length-map segs (seg_under Signed))) in
+      record_at segs k (omega (arith, named_k.2, length-map segs (seg_under Signed))) in
       let g = seg_there.0 in
       let line = line_of k g seg_there.1 in
       let l = line.1 in
       let sides =
-      wide.not_of (linedef_under Signed) _ linedefs line.0 l line.3 (linked F4 line.0 refl) in
+      not_under (linedef_under Signed) _ linedefs line.0 l line.3 (linked F4 line.0 refl) in
       let fits = sides_fit (lump_of lumps 2) are line.0 l line.3 in
       elim (side_cases g.side
-      (wide.not_of (seg_under Signed) _ segs k g seg_there.1 (linked F8 k refl))) [
+      (not_under (seg_under Signed) _ segs k g seg_there.1 (linked F8 k refl))) [
         | inl first ↦
             same_sector_by t k line.0 x g l l.side0 there.1 named_k.1 seg_there.1 line.2 line.3
             fits.0

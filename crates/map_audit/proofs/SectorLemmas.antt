@@ -12,18 +12,10 @@ use Rattle.le_rec.specs.declared.records.SideDef.{SideDef}
 use Rattle.le_rec.specs.declared.records.SSector.{SSector}
 use Rattle.map_level.specs.Level.{Level}
 use Rattle.map_level.specs.Links.{linedefs_of, sidedefs_of, segs_of, ssectors_of, sectors_of, named, no_side, side_at, side_of}
+use Rattle.map_level.proofs.LinkedLemmas.{side_by}
 use Rattle.map_level.specs.SectorOf.{number_named, first_seg, sidedef_of, sidedef_named, sector_of}
 
 module _ (level : Level) where
-  -- the index of a seg's sidedef, by way of its linedef
-  pub side_through : (seg : Seg) (m : ℕ) (linedef : LineDef) → seg.linedef ≡ pos m
-      → slice_get (linedefs_of level) m ≡ Some linedef
-      → side_of level seg ≡ side_at linedef seg.side
-  side_through seg m linedef names is =
-      let f : LineDef → Option ℤ = λ l. side_at l seg.side in
-      ap (λ z. option_and_then f (named (linedefs_of level) z)) names
-      ∙ ap (λ o. option_and_then f o) is
-
   -- the sector that the records on the way lead to
   pub sector_through : (t k m p q : ℕ) (ssector : SSector) (seg : Seg) (linedef : LineDef)
       (sidedef : SideDef)
@@ -49,7 +41,7 @@ module _ (level : Level) where
       let to_sidedef : sidedef_named level (pos p) ≡ Some sidedef = rw apart is_sidedef in
       let of_seg : sidedef_of level seg ≡ Some sidedef =
       ap (λ o. option_and_then (sidedef_named level) o)
-      (side_through seg m linedef line is_linedef ∙ side)
+      (side_by level seg m linedef line is_linedef ∙ side)
       ∙ to_sidedef in
       let number : number_named count sidedef.sector ≡ Some q =
       ap (number_named count) sector ∙ (rw (lt-ltb q count within) refl) in

@@ -95,16 +95,3 @@ none_under f g P Q [] keeps i none = λ h. h
 none_under f g P Q (x ∷ xs) keeps zero none = keeps 0 x refl none
 none_under f g P Q (x ∷ xs) keeps (suc i) none =
     none_under f g P Q xs (λ k y is. keeps (suc k) y is) i none
-
--- a record that is there, and what doesn't hold of it
-pub record_at : {X : Type 0} (xs : List X) (i : ℕ) → i < length xs
-    → (x : X) × (slice_get xs i ≡ Some x)
-record_at [] i h = absurd (omega (arith, h))
-record_at (x ∷ xs) zero h = (x, refl)
-record_at (x ∷ xs) (suc i) h = record_at xs i (omega (arith, h))
-
-pub not_of : {X Y : Type 0} (f : X → Y) (P : Y → Type 0) (xs : List X) (i : ℕ) (x : X)
-    → slice_get xs i ≡ Some x → ¬ IsSomeAnd (slice_get (map f xs) i) P → ¬ P (f x)
-not_of f P [] i x is none = let e : None ≢ Some x = λ e. cc in absurd (e is)
-not_of f P (y ∷ xs) zero x is none = let same : y ≡ x = cc in subst (λ z. ¬ P (f z)) same none
-not_of f P (y ∷ xs) (suc i) x is none = not_of f P xs i x is none

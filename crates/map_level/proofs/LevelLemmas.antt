@@ -6,25 +6,16 @@ use Rattle.std.proofs.lemmas.Option.{unwrap_or-slice_get, slice_get_past}
 use Rattle.std.specs.Prelude.{unwrap_or}
 use Rattle.std.proofs.lemmas.List.{ext_get_or}
 use Rattle.wad_dir.specs.Wad.{Wad}
-use Rattle.wad_dir.specs.Entries.{joined, names, Listed}
+use Rattle.wad_dir.specs.Entries.{joined, names}
 use Rattle.wad_dir.specs.Winner.{Wins}
-use Rattle.wad_dir.specs.Slice.{IsLump, IsSlice}
-use Rattle.wad_dir.proofs.LumpLemmas.{IsSlice-one}
+use Rattle.wad_dir.specs.Slice.{IsLump}
+use Rattle.wad_dir.proofs.LumpLemmas.{IsLump-one}
 use Rattle.wad_dir.proofs.WinnerLemmas.{Wins-one}
 use Rattle.map_level.specs.Level.{Level, lump_of}
 use Rattle.map_level.specs.Opening.{AreNames, AreLumps, AreThereBelow, IsLevel, RefusesLevel}
 use Rattle.map_level.specs.declared.level.LevelFault.{LevelFault}
 use Rattle.map_level.specs.declared.level.LevelFault.TheVariants.{NoLabel, Missing, Outside}
 use Rattle.map_level.specs.declared.reading.Reading.{Reading}
-
--- the lump of an entry of the one list is one
-pub IsLump-one : (files : List Wad) (g : ℕ) (a b : List ℕ) → IsLump files g a → IsLump files g b
-    → a ≡ b
-IsLump-one files g a b p q =
-    let equal : Some p.listed ≡ Some q.listed = sym p.numbered ∙ q.numbered in
-    let same : p.listed ≡ q.listed = cc in
-    let slice = subst (λ (listed : Listed). IsSlice listed.bytes listed.entry a) same p.slice in
-    IsSlice-one q.listed.bytes q.listed.entry a b slice q.slice
 
 -- eleven names and ten lumps are one list each
 lump-at : (lumps : List (List ℕ)) (i : ℕ) → get_or lumps i [] ≡ lump_of lumps (i + 1)

@@ -1,4 +1,3 @@
-pub mod FewLemmas
 pub mod FindingLemmas
 pub mod LevelLemmas
 pub mod LinkedLemmas

@@ -20,7 +20,8 @@ use Rattle.map_level.specs.SectorOf.{IsLinkFault, number_named, first_seg, sided
 use Rattle.map_level.specs.declared.finding.Code.TheVariants.{F4, F5, F7, F8, F9, F10}
 
 -- a record that is there
-record_at : {X : Type 0} (xs : List X) (i : ℕ) → i < length xs → (x : X) × (slice_get xs i ≡ Some x)
+pub record_at : {X : Type 0} (xs : List X) (i : ℕ) → i < length xs
+    → (x : X) × (slice_get xs i ≡ Some x)
 record_at [] i h = absurd (omega (arith, h))
 record_at (x ∷ xs) zero h = (x, refl)
 record_at (x ∷ xs) (suc i) h = record_at xs i (omega (arith, h))
@@ -35,10 +36,12 @@ named_record xs (pos n) h = elim (cases_lt n (length xs)) [
 named_record xs (negsuc n) h = absurd (h (λ none. none))
 
 -- what doesn't hold of a record that is there
-not_of : {X : Type 0} (P : X → Type 0) (o : Option X) (x : X) → o ≡ Some x → ¬ IsSomeAnd o P → ¬ P x
+pub not_of : {X : Type 0} (P : X → Type 0) (o : Option X) (x : X) → o ≡ Some x → ¬ IsSomeAnd o P
+    → ¬ P x
 not_of P o x e none p = none (subst (λ o. IsSomeAnd o P) (sym e) p)
 
-is_same : (y z : ℤ) → (y ≡ z) ⊎ (y ≢ z)
+-- two numbers are one or not
+pub is_same : (y z : ℤ) → (y ≡ z) ⊎ (y ≢ z)
 is_same y z =
     let d : Decides (int_eq y z) (y ≡ z) = Decides-int_eq y z in
     elim (cases_Bool (int_eq y z)) [ inl same ↦ inl (d.0 same) | inr other ↦ inr (λ is. false≢true (sym other ∙ d.1 is)) ]
@@ -54,9 +57,9 @@ side_there linedef side h = elim (is_same side (pos 0)) [
   ]
 ]
 
-module _ (level : Level) (linked : IsLinked level) where
+module _ (level : Level) where
   -- the index of a seg's sidedef, by way of its linedef
-  side_by : (seg : Seg) (m : ℕ) (linedef : LineDef) → seg.linedef ≡ pos m
+  pub side_by : (seg : Seg) (m : ℕ) (linedef : LineDef) → seg.linedef ≡ pos m
       → slice_get (linedefs_of level) m ≡ Some linedef
       → side_of level seg ≡ side_at linedef seg.side
   side_by seg m linedef names is =
@@ -64,6 +67,7 @@ module _ (level : Level) (linked : IsLinked level) where
       ap (λ z. option_and_then f (named (linedefs_of level) z)) names
       ∙ ap (λ o. option_and_then f o) is
 
+module _ (level : Level) (linked : IsLinked level) where
   -- a side that is there and doesn't name none names a sidedef
   sidedef_there : (side : ℤ) → side ≢ no_side level.reading → ¬ SideNamesNone level side
       → (p : ℕ) × (sidedef : SideDef) × (slice_get (sidedefs_of level) p ≡ Some sidedef)
@@ -116,7 +120,7 @@ module _ (level : Level) (linked : IsLinked level) where
       let line =
       named_record (linedefs_of level) seg.1.linedef
       (not_of _ _ seg.1 seg.3 (linked F7 seg.0 (omega arith, omega arith))) in
-      let by = side_by seg.1 line.0 line.1 line.2 line.3 in
+      let by = side_by level seg.1 line.0 line.1 line.2 line.3 in
       let sides = not_of _ _ line.1 line.3 (linked F4 line.0 (omega arith, omega arith)) in
       let absent = not_of _ _ seg.1 seg.3 (linked F9 seg.0 (omega arith, omega arith)) in
       let on =

@@ -34,3 +34,12 @@ pub IsSlice-one : (bytes : List ℕ) (entry : Entry) (lump other : List ℕ) →
     → IsSlice bytes entry other → lump ≡ other
 IsSlice-one bytes entry lump other s t =
     same_slice bytes entry lump other (omega (arith, ints, s.sized, t.sized)) s.stands t.stands
+
+-- and so has one of the files' one list
+pub IsLump-one : (files : List Wad) (g : ℕ) (a b : List ℕ) → IsLump files g a → IsLump files g b
+    → a ≡ b
+IsLump-one files g a b p q =
+    let same : p.listed ≡ q.listed =
+    same_Some p.listed q.listed (sym p.numbered ∙ q.numbered) in
+    let slice = subst (λ (listed : Listed). IsSlice listed.bytes listed.entry a) same p.slice in
+    IsSlice-one q.listed.bytes q.listed.entry a b slice q.slice

@@ -15,7 +15,7 @@ use Rattle.le_rec.specs.Name.{query_of}
 use Rattle.map_level.specs.Level.{Level, lump_of}
 use Rattle.map_level.specs.Opening.{AreLumps, IsLevel}
 use Rattle.map_level.specs.declared.reading.Reading.TheVariants.{Signed}
-use Rattle.map_level.proofs.LevelLemmas.{IsLump-one}
+use Rattle.wad_dir.proofs.LumpLemmas.{IsLump-one}
 use Rattle.wad_look.specs.Engines.Extract.{HasLumps, IsPacked, RefusesExtract, named_lumps, extracted}
 
 abbrev named : List ℕ → List ℕ → NamedLump

@@ -1,7 +1,7 @@
 use Rattle.le_rec.specs.Layout.{read_by}
 use Rattle.std.proofs.Common.{arith, ap, length}
 use Rattle.le_rec.specs.Table.{Rows}
-use Rattle.map_level.proofs.FewLemmas.{few_records}
+use Rattle.le_rec.proofs.TableLemmas.{few_records}
 use Rattle.map_level.proofs.level.table_of.Goals as goal
 
 pub returns-clause-few : goal.returns-clause-few

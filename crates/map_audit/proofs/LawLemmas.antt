@@ -7,7 +7,7 @@ use Rattle.map_level.specs.Opening.{IsLevel}
 use Rattle.map_level.specs.declared.reading.Reading.TheVariants.{Signed, Wide}
 use Rattle.map_level.proofs.LevelLemmas.{IsLevel-one}
 use Rattle.map_tree.specs.Sound.{IsSound}
-use Rattle.map_tree.proofs.LawLemmas.{law_no_fault}
+use Rattle.map_tree.proofs.LawLemmas.{law_faultless}
 use Rattle.map_audit.specs.Readings.{KeepsSound}
 use Rattle.map_audit.specs.Laws.{SoundIsNoFault, WideKeepsSound}
 use Rattle.map_audit.proofs.FileLemmas.{lump_bytes}
@@ -17,16 +17,16 @@ use Rattle.map_audit.proofs.ReadingLemmas.{wide_keeps_sound}
 pub law_sound_is_no_fault : SoundIsNoFault
 law_sound_is_no_fault level = (
   (λ sound code i fault holds. elim holds [
-    | inl link ↦ (law_no_fault level).0 sound code i fault (inl link)
+    | inl link ↦ (law_faultless level).0 sound code i fault (inl link)
     | inr other ↦ elim other [
-      | inl node ↦ (law_no_fault level).0 sound code i fault (inr node)
+      | inl node ↦ (law_faultless level).0 sound code i fault (inr node)
       | inr table ↦
           let at =
           table_place level code i table in let below =
           ltb-true (place code) 18 fault in omega (arith, at.from, below)
     ]
   ]),
-  (λ none. (law_no_fault level).1 (λ code i fault holds. none code i fault (elim holds [ inl link ↦ inl link | inr node ↦ inr (inl node) ]))),
+  (λ none. (law_faultless level).1 (λ code i fault holds. none code i fault (elim holds [ inl link ↦ inl link | inr node ↦ inr (inl node) ]))),
 )
 
 pub law_wide_keeps_sound : WideKeepsSound

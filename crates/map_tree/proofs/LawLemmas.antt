@@ -14,7 +14,7 @@ use Rattle.map_tree.specs.Paths.{ssector}
 use Rattle.map_tree.specs.Leaf.{CountsAncestors}
 use Rattle.map_tree.proofs.ChainLemmas.{go_on}
 use Rattle.map_tree.specs.Child.{node_count, child, root}
-use Rattle.map_tree.specs.Laws.{OneLeaf, AncestorsByDepth, DepthAtMostNodes, SoundIsNoFault}
+use Rattle.map_tree.specs.Laws.{OneLeaf, AncestorsByDepth, DepthAtMostNodes, SoundIsFaultless}
 use Rattle.map_tree.proofs.TreeLemmas.{depth_short}
 use Rattle.map_tree.proofs.SoundLemmas.{once_from_tree, tree_from_sound}
 use Rattle.map_tree.proofs.FaultLemmas.{faultless_from_sound, sound_from_faultless}
@@ -37,8 +37,8 @@ law_ancestors level steps t sound leads =
     subst (λ count. CountsAncestors level t count) long
     (chain_ancestors level r.turns t (tree_from_sound level sound) r.is)
 
-pub law_no_fault : SoundIsNoFault
-law_no_fault level = (faultless_from_sound level, sound_from_faultless level)
+pub law_faultless : SoundIsFaultless
+law_faultless level = (faultless_from_sound level, sound_from_faultless level)
 
 -- a level is sound exactly where neither part of its report has a fault
 none_holds : (holds : Code → ℕ → Type 0) (found : List Finding) → AreFindings holds found

@@ -26,5 +26,5 @@ DepthAtMostNodes =
     → LeadsIn (child level) steps (root level) place → steps ≤ node_count level
 
 -- a level is sound exactly where no fault holds
-abbrev pub SoundIsNoFault : Type 0
-SoundIsNoFault = (level : Level) → IsSound level ↔ IsFaultless level
+abbrev pub SoundIsFaultless : Type 0
+SoundIsFaultless = (level : Level) → IsSound level ↔ IsFaultless level

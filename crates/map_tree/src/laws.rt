@@ -1,6 +1,7 @@
 //! Laws of sound levels, each the contract of a function that does nothing.
 
-ghost use Rattle.map_tree.specs.Laws.{OneLeaf, AncestorsByDepth, DepthAtMostNodes, SoundIsNoFault};
+ghost use Rattle.map_tree.specs.Laws.{OneLeaf, AncestorsByDepth, DepthAtMostNodes};
+ghost use Rattle.map_tree.specs.Laws.{SoundIsFaultless};
 
 /// In a sound level each point has exactly one leaf.
 pub fn one_leaf()
@@ -15,6 +16,6 @@ pub fn ancestors_by_depth()
 {}
 
 /// A level is sound exactly where none of the faults F3 to F18 holds.
-pub fn sound_is_no_fault()
-    ensures { SoundIsNoFault }
+pub fn sound_is_faultless()
+    ensures { SoundIsFaultless }
 {}

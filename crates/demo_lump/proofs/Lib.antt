@@ -5,4 +5,5 @@ pub mod LawLemmas
 pub mod PieceLemmas
 pub mod ReadingLemmas
 pub mod ReadsLemmas
+pub mod TestLemmas
 pub mod WritingLemmas

@@ -2,6 +2,7 @@
 
 ghost use Rattle.std.specs.Prelude.{◌≡◌, ◌≤◌, false, length};
 ghost use Rattle.demo_lump.specs.Takes.{Takes, TakesAll, Fills, IsByte};
+ghost use Rattle.demo_lump.specs.declared.intake.TheConstants.{LIMIT};
 
 use crate::fault::StreamFault;
 use le_rec::Source;
@@ -17,7 +18,7 @@ const BLOCK: usize = 4096;
 pub(crate) struct Intake {
     pub limit: u64,
     pub taken: u64,
-    ghost small: { limit ≤ 268435456 },
+    ghost small: { limit ≤ LIMIT },
 }
 
 impl Intake {

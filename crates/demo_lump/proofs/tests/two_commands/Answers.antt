@@ -1,13 +1,8 @@
 use Rattle.std.proofs.Common.{◌≡◌, ◌≢◌, [], ◌∷◌, ◌∙◌, arith, negsuc, pos, refl, sym}
 use Rattle.std.proofs.lemmas.List.Elements.{All-cons, All-nil}
 use Rattle.demo_lump.specs.Writable.{IsWritable}
+use Rattle.demo_lump.proofs.TestLemmas.{forwards, backwards}
 use Rattle.demo_lump.proofs.tests.two_commands.Goals as goal
-
-forwards : pos 25 ≢ negsuc 127
-forwards e = let no : ⊥ = cc in no
-
-backwards : negsuc 49 ≢ negsuc 127
-backwards e = let no : ⊥ = cc in no
 
 pub returns : goal.returns
 returns c =

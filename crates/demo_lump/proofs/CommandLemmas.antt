@@ -131,7 +131,9 @@ Scans-of version bytes count rest f (inr marked) =
 pub count_fits : (version : ℕ) (bytes : List ℕ) (count : ℕ) (rest : List ℕ)
     → Follows version bytes count rest → count * command_size version + length rest ≡ length bytes
 count_fits version bytes count rest f =
-    sym (ap length f.joined ∙ length-append f.body rest ∙ ap (λ n. n + length rest) (AreCommands-length version f.body f.commands f.follow ∙ ap (λ n. n * command_size version) f.counted))
+    sym (ap length f.joined ∙ length-append f.body rest
+    ∙ ap (λ n. n + length rest) (AreCommands-length version f.body f.commands f.follow
+    ∙ ap (λ n. n * command_size version) f.counted))
 
 -- as many commands as there are bytes at most
 pub room_for_one : (version : ℕ) (bytes : List ℕ) (count : ℕ) (rest : List ℕ)

@@ -18,7 +18,10 @@ cases_version : (version : ℕ) → IsVersion version ⊎ ¬ IsVersion version
 cases_version version = elim (cases_lt version 109) [
   | inl below ↦ inr (λ is. omega (arith, is.0))
   | inr low ↦
-      elim (cases_lt 111 version) [ inl above ↦ inr (λ is. omega (arith, is.1)) | inr high ↦ inl (low, high) ]
+      elim (cases_lt 111 version) [
+        | inl above ↦ inr (λ is. omega (arith, is.1))
+        | inr high ↦ inl (low, high)
+      ]
 ]
 
 -- the most commands that bytes begin with, once some were found

@@ -150,7 +150,10 @@ until_refused bytes (NoMarker place) u =
 pub pieces_are_refused : PiecesAreRefused
 pieces_are_refused bytes fault = (
   refused_until bytes fault,
-  λ either. elim either [ inl r ↦ RefusesDemo-header bytes fault r | inr u ↦ until_refused bytes fault u ],
+  λ either. elim either [
+    | inl r ↦ RefusesDemo-header bytes fault r
+    | inr u ↦ until_refused bytes fault u
+  ],
 )
 
 -- bytes that are pieces of one kind are pieces of another

@@ -195,7 +195,8 @@ module _ {A : Type 0} (piece : Piece A) (has : HasByte piece) where
             fault = fault_of limit source source' n (length t.read) taken' e t.fault;
             none =
                 none_behind n b (limit - taken) t.read on
-                (short_behind n limit source'.failed b t.read taken taken' e counted t.wanted t.fault);
+                (short_behind n limit source'.failed b t.read taken taken' e counted t.wanted
+                t.fault);
           }
 
       -- they were too few

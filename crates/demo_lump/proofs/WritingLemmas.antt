@@ -69,7 +69,8 @@ IsCommand-long version c is forward side turn w = record {
   long = rw is refl;
   unmarked = unmarked c.forward forward w.unmarked;
   reads =
-      rw is (same_command _ c (signed8-back c.forward forward) (signed8-back c.side side) (two_bytes c.turn turn) refl);
+      rw is (same_command _ c (signed8-back c.forward forward) (signed8-back c.side side)
+      (two_bytes c.turn turn) refl);
 }
 
 pub IsCommand-short : (version : ℕ) (c : Command) → version ≢ 111 → FitsSigned w8 c.forward

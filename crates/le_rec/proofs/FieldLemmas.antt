@@ -84,7 +84,8 @@ IsBox-box_at bytes at bs =
           (All-cons IsSigned16 (signed16_at bytes (at + 2)) left (number (at + 2))
           (All-cons IsSigned16 (signed16_at bytes (at + 4)) (signed16_at bytes (at + 6) ∷ [])
           (number (at + 4))
-          (All-cons IsSigned16 (signed16_at bytes (at + 6)) [] (number (at + 6)) (All-nil IsSigned16))));
+          (All-cons IsSigned16 (signed16_at bytes (at + 6)) [] (number (at + 6))
+          (All-nil IsSigned16))));
     }
 
 module _ (bytes rest : List ℕ) (at : ℕ) (bs : AreBytes bytes) where

@@ -105,5 +105,7 @@ little_number2-slice bytes at = simp (take_rest, get_or-drop, add-zero)
 
 pub little_number4-slice : (bytes : List ℕ) (at : ℕ)
     → little_number 4 (take (length bytes - at) (drop at bytes))
-    ≡ slice_index bytes at + 256 * (slice_index bytes (at + 1) + 256 * (slice_index bytes (at + 2) + 256 * (slice_index bytes (at + 3) + 256 * 0)))
+    ≡ slice_index bytes at
+    + 256 * (slice_index bytes (at + 1)
+    + 256 * (slice_index bytes (at + 2) + 256 * (slice_index bytes (at + 3) + 256 * 0)))
 little_number4-slice bytes at = simp (take_rest, get_or-drop, add-zero)

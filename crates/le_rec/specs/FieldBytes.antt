@@ -23,4 +23,5 @@ name_bytes name =
 abbrev pub box_bytes : List ℤ → List ℕ
 box_bytes box =
     signed_bytes16 (slice_index_or box 0 (pos 0)) ++ (signed_bytes16 (slice_index_or box 1 (pos 0))
-    ++ (signed_bytes16 (slice_index_or box 2 (pos 0)) ++ signed_bytes16 (slice_index_or box 3 (pos 0))))
+    ++ (signed_bytes16 (slice_index_or box 2 (pos 0))
+    ++ signed_bytes16 (slice_index_or box 3 (pos 0))))

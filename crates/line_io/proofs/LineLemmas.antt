@@ -17,14 +17,23 @@ pub ended_from-append : (part xs ys : List ℕ)
 ended_from-append part [] ys = refl
 ended_from-append part (b ∷ xs) ys =
     elim (b == 10)
-    as (λ t. cond t (part ∷ ended_from [] (xs ++ ys)) (ended_from (part ++ b ∷ []) (xs ++ ys)) ≡ cond t (part ∷ ended_from [] xs) (ended_from (part ++ b ∷ []) xs) ++ ended_from (cond t (last_from [] xs) (last_from (part ++ b ∷ []) xs)) ys) [ true ↦ ap (λ ls. part ∷ ls) (ended_from-append [] xs ys) | false ↦ ended_from-append (part ++ b ∷ []) xs ys ]
+    as (λ t. cond t (part ∷ ended_from [] (xs ++ ys)) (ended_from (part ++ b ∷ []) (xs ++ ys))
+    ≡ cond t (part ∷ ended_from [] xs) (ended_from (part ++ b ∷ []) xs)
+    ++ ended_from (cond t (last_from [] xs) (last_from (part ++ b ∷ []) xs)) ys) [
+      | true ↦ ap (λ ls. part ∷ ls) (ended_from-append [] xs ys)
+      | false ↦ ended_from-append (part ++ b ∷ []) xs ys
+    ]
 
 pub last_from-append : (part xs ys : List ℕ)
     → last_from part (xs ++ ys) ≡ last_from (last_from part xs) ys
 last_from-append part [] ys = refl
 last_from-append part (b ∷ xs) ys =
     elim (b == 10)
-    as (λ t. cond t (last_from [] (xs ++ ys)) (last_from (part ++ b ∷ []) (xs ++ ys)) ≡ last_from (cond t (last_from [] xs) (last_from (part ++ b ∷ []) xs)) ys) [ true ↦ last_from-append [] xs ys | false ↦ last_from-append (part ++ b ∷ []) xs ys ]
+    as (λ t. cond t (last_from [] (xs ++ ys)) (last_from (part ++ b ∷ []) (xs ++ ys))
+    ≡ last_from (cond t (last_from [] xs) (last_from (part ++ b ∷ []) xs)) ys) [
+      | true ↦ last_from-append [] xs ys
+      | false ↦ last_from-append (part ++ b ∷ []) xs ys
+    ]
 
 pub answers_from-append : (f : List ℕ → List ℕ) (part xs ys : List ℕ)
     → answers_from f part (xs ++ ys)
@@ -90,7 +99,10 @@ last_from_line part line after h = last_from-append part line (10 ∷ after)
 length-content : (line : List ℕ) → length line ≤ length (content line) + 1
 length-content line =
     elim (get_or line (length line - 1) 0 == 13)
-    as (λ t. length line ≤ length (cond t (take (length line - 1) line) line) + 1) [ true ↦ omega (arith, length-take (length line - 1) line) | false ↦ omega arith ]
+    as (λ t. length line ≤ length (cond t (take (length line - 1) line) line) + 1) [
+      | true ↦ omega (arith, length-take (length line - 1) line)
+      | false ↦ omega arith
+    ]
 
 pub line_answer_long : (f : List ℕ → List ℕ) (line : List ℕ) → 64 < length (content line)
     → line_answer f line ≡ form_refused
@@ -137,7 +149,13 @@ answers_from-take f part (b ∷ xs) =
     ∙ ap (λ p. answers_from f p xs) (take-append-take 66 part (b ∷ []))
     ∙ answers_from-take f (part ++ b ∷ []) xs in
     elim (b == 10)
-    as (λ t. flat_map (line_answer f) (cond t (take 66 part ∷ ended_from [] xs) (ended_from (take 66 part ++ b ∷ []) xs)) ≡ flat_map (line_answer f) (cond t (part ∷ ended_from [] xs) (ended_from (part ++ b ∷ []) xs))) [ true ↦ ap (λ a. a ++ flat_map (line_answer f) (ended_from [] xs)) here | false ↦ cut ]
+    as (λ t. flat_map (line_answer f)
+    (cond t (take 66 part ∷ ended_from [] xs) (ended_from (take 66 part ++ b ∷ []) xs))
+    ≡ flat_map (line_answer f)
+    (cond t (part ∷ ended_from [] xs) (ended_from (part ++ b ∷ []) xs))) [
+      | true ↦ ap (λ a. a ++ flat_map (line_answer f) (ended_from [] xs)) here
+      | false ↦ cut
+    ]
 
 pub last_from-take : (part xs : List ℕ)
     → take 66 (last_from (take 66 part) xs) ≡ take 66 (last_from part xs)
@@ -149,7 +167,11 @@ last_from-take part (b ∷ xs) =
     ∙ ap (λ p. take 66 (last_from p xs)) (take-append-take 66 part (b ∷ []))
     ∙ last_from-take (part ++ b ∷ []) xs in
     elim (b == 10)
-    as (λ t. take 66 (cond t (last_from [] xs) (last_from (take 66 part ++ b ∷ []) xs)) ≡ take 66 (cond t (last_from [] xs) (last_from (part ++ b ∷ []) xs))) [ true ↦ refl | false ↦ cut ]
+    as (λ t. take 66 (cond t (last_from [] xs) (last_from (take 66 part ++ b ∷ []) xs))
+    ≡ take 66 (cond t (last_from [] xs) (last_from (part ++ b ∷ []) xs))) [
+      | true ↦ refl
+      | false ↦ cut
+    ]
 
 pub last_answer-take : (f : List ℕ → List ℕ) (part : List ℕ)
     → last_answer f (take 66 part) ≡ last_answer f part

@@ -86,7 +86,10 @@ pub lines_only : (input : List ℕ) (parts : List (List ℕ)) → AreLines input
 lines_only input parts a =
     let at : lines input ≡ a.ended ++ last_line a.last =
     ap lines (sym a.joined)
-    ∙ rw (ended_of a.ended a.last a.unbroken a.last_unbroken, last_of a.ended a.last a.unbroken a.last_unbroken) refl in
+    ∙ rw (
+      ended_of a.ended a.last a.unbroken a.last_unbroken,
+      last_of a.ended a.last a.unbroken a.last_unbroken,
+    ) refl in
     a.parts_are ∙ sym at
 
 -- the content of a line

@@ -132,7 +132,9 @@ module _ {Answers : (List ℕ → List ℕ) → Type 0} {count : ℕ} {input inp
         written = λ f told. stopped f limit p.read input input'' out out' Read gave
             (λ rest. rw (text_of-append f p.read rest) (TakesFront-whole out out' _ _
             (p.answered f told)))
-            (λ _. subst (λ r. Appends out.taken out'.taken (answers_from f [] r)) (sym (take_all limit p.read short)) (p.answered f told));
+            (λ _.
+            subst (λ r. Appends out.taken out'.taken (answers_from f [] r))
+            (sym (take_all limit p.read short)) (p.answered f told));
       }
 
   last-kept : (f : List ℕ → List ℕ)
@@ -167,7 +169,8 @@ module _ {Answers : (List ℕ → List ℕ) → Type 0} {count : ℕ} {input inp
           written = λ f told. record {
             whole =
                 subst (Appends out.taken out''.taken) (last-kept f)
-                (Appends-trans out.taken out'.taken out''.taken _ _ (p.answered f told) (w f told).whole);
+                (Appends-trans out.taken out'.taken out''.taken _ _ (p.answered f told)
+                (w f told).whole);
             front = tt;
             front_of_all =
                 Consumes-front input.left input''.left p.read (λ _. Unit {0}) gave (λ _. tt);
@@ -236,7 +239,10 @@ module _ {Answers : (List ℕ → List ℕ) → Type 0} {count : ℕ} {input inp
       sound = tt;
       fault = fault_of_writer memory limit (p.read ++ block) input'' out'' e ends.fault;
       written =
-          λ f told. stopped f limit (p.read ++ block) input input'' out out'' e whole_given (λ rest. front_cut f rest told (w f told).front) (λ l. absurd (answers_of_writer memory out'' e ends.fault l));
+          λ f told.
+          stopped f limit (p.read ++ block) input input'' out out'' e whole_given
+          (λ rest. front_cut f rest told (w f told).front)
+          (λ l. absurd (answers_of_writer memory out'' e ends.fault l));
     }
 
     -- the last byte of the block is past the limit
@@ -257,12 +263,15 @@ module _ {Answers : (List ℕ → List ℕ) → Type 0} {count : ℕ} {input inp
           sound = tt;
           fault = omega (arith, length-read);
           written =
-              λ f told. stopped f limit (p.read ++ block) input input'' out out'' TooLong whole_given
+              λ f told.
+              stopped f limit (p.read ++ block) input input'' out out'' TooLong whole_given
               (λ rest. front_cut f rest told (record {
                 front = answers_from f part (take within block);
                 rest = [];
                 splits = sym (append-nil _);
                 added = wrote f told;
               }))
-              (λ _. subst (λ r. Appends out.taken out''.taken (answers_from f [] r)) (sym at_limit) (answered-more f out'' (take within block) told (wrote f told)));
+              (λ _.
+              subst (λ r. Appends out.taken out''.taken (answers_from f [] r)) (sym at_limit)
+              (answered-more f out'' (take within block) told (wrote f told)));
         }

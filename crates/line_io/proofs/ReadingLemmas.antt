@@ -199,9 +199,12 @@ more_progress content rest after separated numbers value plain p found =
     let number = found.exact in
     record {
       onward =
-          λ more read. subst (Reads false content) (sym (append_assoc numbers (number ∷ []) more)) (p.onward (number ∷ more) (found.text, after, found.spelled, found.number, read));
+          λ more read.
+          subst (Reads false content) (sym (append_assoc numbers (number ∷ []) more))
+          (p.onward (number ∷ more) (found.text, after, found.spelled, found.number, read));
       back =
-          λ all read. let b = p.back all read in step_back separated rest after value plain found numbers all b.0 b.1 b.2;
+          λ all read. let b = p.back all read in
+          step_back separated rest after value plain found numbers all b.0 b.1 b.2;
     }
 
 stuck_back : (separated : Bool) (rest : List ℕ) → LacksNumber separated rest
@@ -276,7 +279,8 @@ printed_text negative digits some all plain small =
         → sign_text negative ++ digits ≡ signed_decimal (nearest (signed negative n))
     go false n small is plain = let same : min n 2147483647 ≡ n = omega arith in rw same is
     go true zero small is plain =
-        absurd (false≢true (sym (plain (ap (λ (ds : List ℕ). get_or ds 0 0) is ∙ ap (λ (ds : List ℕ). get_or ds 0 0) (decimal_digit 0 (omega arith)))).0))
+        absurd (false≢true (sym (plain (ap (λ (ds : List ℕ). get_or ds 0 0) is
+        ∙ ap (λ (ds : List ℕ). get_or ds 0 0) (decimal_digit 0 (omega arith)))).0))
     go true (suc n) small is plain =
         let same : min n 2147483647 ≡ n = omega arith in rw same (ap (λ (ds : List ℕ). 45 ∷ ds) is)
 
@@ -317,7 +321,9 @@ number_found bytes unsigned negative count magnitude value is_printed spelled fi
           };
       brought = brought;
       printed =
-          λ h. let p = plain h in printed_text negative digits some_digit all p.1 (omega (arith, p.0, is_magnitude)) ∙ ap signed_decimal (sym brought);
+          λ h. let p = plain h in
+          printed_text negative digits some_digit all p.1 (omega (arith, p.0, is_magnitude))
+          ∙ ap signed_decimal (sym brought);
       ended = no_digit_at unsigned count end;
     }
 
@@ -382,7 +388,8 @@ more_so_far content rest after values is_printed plain both count value so_far f
       progress =
           subst (λ (b : Bool). IsProgress content after b (so_far.read ++ found.exact ∷ []))
           (separated_next count)
-          (more_progress content rest after (nat_lt 0 count) so_far.read value plain so_far.progress found);
+          (more_progress content rest after
+          (nat_lt 0 count) so_far.read value plain so_far.progress found);
       stored =
           values_are ∙ ap (λ (xs : List ℤ). xs ++ value ∷ []) so_far.stored
           ∙ ap (λ (x : ℤ). map nearest so_far.read ++ x ∷ []) found.brought
@@ -391,11 +398,16 @@ more_so_far content rest after values is_printed plain both count value so_far f
           let told = each h in
           so_far.front told.0
           ∙ ap (λ (r : List ℕ). printed (take count values) ++ r)
-          (found.spelled ∙ ap (λ (t : List ℕ). separator (nat_lt 0 count) ++ (t ++ after)) (found.printed told.1) ∙ sym (append_assoc (separator (nat_lt 0 count)) (signed_decimal value) after))
+          (found.spelled ∙ ap (λ (t : List ℕ). separator (nat_lt 0 count) ++ (t ++ after))
+          (found.printed told.1) ∙ sym
+          (append_assoc (separator (nat_lt 0 count)) (signed_decimal value) after))
           ∙ sym (append_assoc (printed (take count values))
           (separator (nat_lt 0 count) ++ signed_decimal value) after)
           ∙ ap (λ (t : List ℕ). t ++ after)
-          (ap (λ (n : ℕ). printed (take count values) ++ (separator (nat_lt 0 n) ++ signed_decimal value)) (sym taken) ∙ sym (joined_push signed_decimal (take count values) value) ∙ ap printed (sym values_are));
+          (ap (λ (n : ℕ). printed (take count values) ++ (separator (nat_lt 0 n) ++ signed_decimal value))
+          (sym taken)
+          ∙ sym (joined_push signed_decimal (take count values) value)
+          ∙ ap printed (sym values_are));
     }
 
 -- where no number comes next before enough were read, the content hasn't the form
@@ -439,7 +451,9 @@ pub all_stored : (content rest : List ℕ) (values : List ℤ) (is_printed : Boo
 all_stored content rest values is_printed count asked so_far all sized nothing =
     let whole : take count values ≡ values = take_all count values (omega arith) in (
       sym whole ∙ so_far.stored,
-      λ h. so_far.front h ∙ ap (λ (r : List ℕ). printed (take count values) ++ r) nothing ∙ append-nil _ ∙ ap printed whole,
+      λ h.
+          so_far.front h ∙ ap (λ (r : List ℕ). printed (take count values) ++ r) nothing
+          ∙ append-nil _ ∙ ap printed whole,
     )
 
 pub weaker : {X : Type 0} (o : Option X) {P P' : Type 0} {Q Q' : X → Type 0} → MatchOption o P Q

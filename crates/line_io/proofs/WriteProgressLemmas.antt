@@ -36,7 +36,8 @@ SoFar-stop {before = before} {between = between} {after = after} text rest' s cu
     whole = tt;
     front =
         rw (s.splits, cut)
-        (TakesFront-after before between after s.done s.taken (TakesFront-longer rest' w.takes.front));
+        (TakesFront-after before between after s.done s.taken
+        (TakesFront-longer rest' w.takes.front));
   };
   ends = record { sound = tt; fault = w.ends.fault };
 }

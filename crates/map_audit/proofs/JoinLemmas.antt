@@ -74,7 +74,8 @@ pub AreBetween-narrow : (low high low' high' : ℕ) (found : List Finding) → A
 AreBetween-narrow low high low' high' found p closer = record {
   ascending = p.ascending;
   each =
-      λ k d within. let there = p.each k d within in closer (get_or found k d) (Contains-get_or found k d within) there.0 there.1;
+      λ k d within. let there = p.each k d within in
+      closer (get_or found k d) (Contains-get_or found k d within) there.0 there.1;
 }
 
 -- two runs, one behind the other
@@ -96,7 +97,11 @@ AreBetween-append low mid high xs ys below above p q =
               (sym (get_or_append_left xs ys d i i_in))
               (subst (λ g. StandsBefore (get_or xs i d) g)
               (sym (get_or-append_right xs ys n j d refl j_out))
-              (inl (omega (arith, (p.each i d i_in).1, (q.each (j - n) d (omega (arith, long, within, j_out))).0))))
+              (inl (omega (
+                arith,
+                (p.each i d i_in).1,
+                (q.each (j - n) d (omega (arith, long, within, j_out))).0,
+              ))))
           | inr i_out ↦
               subst (λ f. StandsBefore f (get_or (xs ++ ys) j d))
               (sym (get_or-append_right xs ys n i d refl i_out))

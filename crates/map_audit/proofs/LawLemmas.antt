@@ -26,7 +26,10 @@ law_sound_is_no_fault level = (
           ltb-true (place code) 18 fault in omega (arith, at.from, below)
     ]
   ]),
-  (λ none. (law_faultless level).1 (λ code i fault holds. none code i fault (elim holds [ inl link ↦ inl link | inr node ↦ inr (inl node) ]))),
+  (λ none. (law_faultless level).1 (λ code i fault holds. none code i fault (elim holds [
+    | inl link ↦ inl link
+    | inr node ↦ inr (inl node)
+  ]))),
 )
 
 pub law_wide_keeps_sound : WideKeepsSound

@@ -65,7 +65,8 @@ no_sector_at : (level : Level) (t : ℕ) → slice_get (ssectors_of level) t ≡
     → sector_of level t ≡ None
 no_sector_at level t none =
     let g : SideDef → Option ℕ = λ d. number_named (length (sectors_of level)) d.sector in
-    ap (λ o. option_and_then (λ (s : Seg). option_and_then g (sidedef_of level s)) (option_and_then (λ (x : SSector). named (segs_of level) x.first) o)) none
+    ap (λ o. option_and_then (λ (s : Seg). option_and_then g (sidedef_of level s))
+    (option_and_then (λ (x : SSector). named (segs_of level) x.first) o)) none
 
 module _ (label : ℕ) (names lumps : List (List ℕ)) (are : AreBytes (lump_of lumps 2))
     (linked : (code : Code) (i : ℕ) → IsTrue (is_fault code)
@@ -146,7 +147,9 @@ module _ (label : ℕ) (names lumps : List (List ℕ)) (are : AreBytes (lump_of 
       let linedefs = records_of 14 linedef (lump_of lumps 2) in
       let same = same_length (linedef_under Signed) (linedef_under Wide) linedefs in
       wide.none_under (seg_under Signed) (seg_under Wide) _ _ (records_of 12 seg (lump_of lumps 5))
-      (λ k g is none. subst (λ n. ¬ (¬ Names n (number_of Wide g.linedef))) same (wide.wide_names (length (map (linedef_under Signed) linedefs)) g.linedef none)) i
+      (λ k g is none.
+      subst (λ n. ¬ (¬ Names n (number_of Wide g.linedef))) same
+      (wide.wide_names (length (map (linedef_under Signed) linedefs)) g.linedef none)) i
       (linked F7 i fault)
   wide_linked F8 i fault =
       wide.none_under (seg_under Signed) (seg_under Wide) _ _ (records_of 12 seg (lump_of lumps 5))
@@ -164,10 +167,18 @@ module _ (label : ℕ) (names lumps : List (List ℕ)) (are : AreBytes (lump_of 
       let same = same_length (seg_under Signed) (seg_under Wide) segs in
       wide.none_under (ssector_under Signed) (ssector_under Wide) _ _
       (records_of 4 ssector (lump_of lumps 6))
-      (λ k t is none. subst (λ n. ¬ GoesPast n (number_of Wide t.count) (number_of Wide t.first)) same (wide.wide_range (length (map (seg_under Signed) segs)) t.count t.first none))
+      (λ k t is none.
+      subst (λ n. ¬ GoesPast n (number_of Wide t.count) (number_of Wide t.first)) same
+      (wide.wide_range (length (map (seg_under Signed) segs)) t.count t.first none))
       i (linked F10 i fault)
   wide_linked F17 i fault =
-      λ none. linked F17 i fault (none.0, same_length (ssector_under Signed) (ssector_under Wide) (records_of 4 ssector (lump_of lumps 6)) ∙ none.1)
+      λ none.
+      linked F17 i fault (
+        none.0,
+        same_length (ssector_under Signed) (ssector_under Wide)
+            (records_of 4 ssector (lump_of lumps 6))
+            ∙ none.1,
+      )
   wide_linked F18 i fault = λ many. linked F18 i fault many
   wide_linked N1 i fault = absurd (false≢true fault)
   wide_linked N2 i fault = absurd (false≢true fault)

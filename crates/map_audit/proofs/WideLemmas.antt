@@ -33,7 +33,10 @@ number_named n (negsuc k) h = absurd (h (λ none. none))
 pub wide_side_names : (n : ℕ) (z : ℤ) → ¬ ((z ≢ negsuc 0) × (¬ Names n z))
     → ¬ ((number_of Wide z ≢ pos 65535) × (¬ Names n (number_of Wide z)))
 wide_side_names n (pos k) h =
-    λ some. h ((λ is. let e : pos k ≢ negsuc 0 = λ e. cc in e is), (λ named. some.1 (subst (Names n) (sym (wide_same k)) named)))
+    λ some. h (
+      (λ is. let e : pos k ≢ negsuc 0 = λ e. cc in e is),
+      (λ named. some.1 (subst (Names n) (sym (wide_same k)) named)),
+    )
 wide_side_names n (negsuc zero) h = λ some. some.0 refl
 wide_side_names n (negsuc (suc k)) h =
     absurd (h ((λ is. let e : negsuc (suc k) ≢ negsuc 0 = λ e. cc in e is), (λ none. none)))
@@ -55,19 +58,22 @@ pub wide_side_at : (linedef : LineDef) (side : ℤ) → FitsSigned w16 linedef.s
     → side_at (linedef_under Signed linedef) side ≡ Some (negsuc 0)
 wide_side_at linedef side fits0 fits1 =
     elim (int_eq side (pos 0))
-    as (λ (first : Bool). (if first then Some (number_of Wide linedef.side0) else (if int_eq side (pos 1) then Some (number_of Wide linedef.side1) else None)) ≡ Some (pos 65535)
+    as (λ (first : Bool). (if first then Some (number_of Wide linedef.side0) else
+    (if int_eq side (pos 1) then Some (number_of Wide linedef.side1) else None)) ≡ Some (pos 65535)
     → (if first then Some linedef.side0 else
     (if int_eq side (pos 1) then Some linedef.side1 else None))
     ≡ Some (negsuc 0)) [
       | true ↦
-          λ is. let e : number_of Wide linedef.side0 ≡ pos 65535 = cc in ap Some (wide_no_side linedef.side0 fits0 e)
+          λ is. let e : number_of Wide linedef.side0 ≡ pos 65535 = cc in
+          ap Some (wide_no_side linedef.side0 fits0 e)
       | false ↦
           elim (int_eq side (pos 1))
           as (λ (second : Bool). (if second then Some (number_of Wide linedef.side1) else None)
           ≡ Some (pos 65535) → (if second then Some linedef.side1 else None)
           ≡ Some (negsuc 0)) [
             | true ↦
-                λ is. let e : number_of Wide linedef.side1 ≡ pos 65535 = cc in ap Some (wide_no_side linedef.side1 fits1 e)
+                λ is. let e : number_of Wide linedef.side1 ≡ pos 65535 = cc in
+                ap Some (wide_no_side linedef.side1 fits1 e)
             | false ↦ λ is. cc
           ]
     ]

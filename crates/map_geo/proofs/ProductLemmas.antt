@@ -20,7 +20,8 @@ unsigned_abs-product step from to s f t =
 
 -- that product as the code reads it, and that it fits
 pub product_read : (step from to : ℤ) → unsigned_abs step ≤ 32768 → IsInRange from → IsInRange to
-    → to_z w32 (of_z w32 step) *ℤ to_z w32 (of_z w32 (to_z w32 (of_z w32 to) -ℤ to_z w32 (of_z w32 from)))
+    → to_z w32 (of_z w32 step)
+    *ℤ to_z w32 (of_z w32 (to_z w32 (of_z w32 to) -ℤ to_z w32 (of_z w32 from)))
     ≡ step *ℤ (to -ℤ from)
 product_read step from to s f t =
     let step_fits : FitsSigned w32 step = omega (arith, ints) in

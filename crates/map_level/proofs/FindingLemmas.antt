@@ -196,11 +196,17 @@ found_more holds found f before here =
               let told =
               (before.exact h).0 old in (
                 told.0,
-                elim told.1 [ inl less ↦ inl less | inr same ↦ inr (same.0, omega (arith, same.1)) ],
+                elim told.1 [
+                  | inl less ↦ inl less
+                  | inr same ↦ inr (same.0, omega (arith, same.1))
+                ],
               )
           | inr is ↦
               subst
-              (λ (g : Finding). holds g.code g.index × ((place g.code < place f.code) ⊎ ((place g.code ≡ place f.code) × (g.index < f.index + 1)))) is
+              (λ (g : Finding).
+              holds g.code g.index
+              × ((place g.code < place f.code) ⊎
+              ((place g.code ≡ place f.code) × (g.index < f.index + 1)))) is
               (here, inr (refl, omega arith))
         ]),
         (λ told. elim told.1 [
@@ -226,7 +232,13 @@ found_no_more holds found c i before not_here =
     record {
       ascending = before.ascending;
       exact = λ h. (
-        (λ there. let told = (before.exact h).0 there in (told.0, elim told.1 [ inl less ↦ inl less | inr same ↦ inr (same.0, omega (arith, same.1)) ])),
+        (λ there. let told = (before.exact h).0 there in (
+          told.0,
+          elim told.1 [
+            | inl less ↦ inl less
+            | inr same ↦ inr (same.0, omega (arith, same.1))
+          ],
+        )),
         (λ told. (before.exact h).1 (
           told.0,
           elim told.1 [
@@ -250,7 +262,13 @@ found_code holds found c n before all =
     record {
       ascending = before.ascending;
       exact = λ h. (
-        (λ there. let told = (before.exact h).0 there in (told.0, elim told.1 [ inl less ↦ inl (omega (arith, less)) | inr same ↦ inl (omega (arith, same.0)) ])),
+        (λ there. let told = (before.exact h).0 there in (
+          told.0,
+          elim told.1 [
+            | inl less ↦ inl (omega (arith, less))
+            | inr same ↦ inl (omega (arith, same.0))
+          ],
+        )),
         (λ told. (before.exact h).1 (
           told.0,
           elim told.1 [
@@ -276,7 +294,10 @@ found_none holds = record {
   exact =
       λ h. (
         (λ there. absurd (omega (arith, there.1))),
-        (λ told. absurd (elim told.1 [ inl less ↦ omega (arith, less) | inr same ↦ omega (arith, same.1) ])),
+        (λ told. absurd (elim told.1 [
+          | inl less ↦ omega (arith, less)
+          | inr same ↦ omega (arith, same.1)
+        ])),
       );
 }
 

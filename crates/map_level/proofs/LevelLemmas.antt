@@ -124,4 +124,5 @@ RefusesLevel-one files name (Outside k) (Missing j) r s =
 RefusesLevel-one files name (Outside k) (Outside j) r s =
     let label = Wins-one (names files) name r.0 s.0 r.1 s.1 in
     let first = rw label at r.2 in
-    ap Outside (one_first files s.0 k j first.before s.2.before first.from s.2.from first.refused s.2.refused)
+    ap Outside
+    (one_first files s.0 k j first.before s.2.before first.from s.2.from first.refused s.2.refused)

@@ -44,7 +44,10 @@ not_of P o x e none p = none (subst (λ o. IsSomeAnd o P) (sym e) p)
 pub is_same : (y z : ℤ) → (y ≡ z) ⊎ (y ≢ z)
 is_same y z =
     let d : Decides (int_eq y z) (y ≡ z) = Decides-int_eq y z in
-    elim (cases_Bool (int_eq y z)) [ inl same ↦ inl (d.0 same) | inr other ↦ inr (λ is. false≢true (sym other ∙ d.1 is)) ]
+    elim (cases_Bool (int_eq y z)) [
+      | inl same ↦ inl (d.0 same)
+      | inr other ↦ inr (λ is. false≢true (sym other ∙ d.1 is))
+    ]
 
 -- the index at a side number that is 0 or 1
 side_there : (linedef : LineDef) (side : ℤ) → ¬ ((side ≢ pos 0) × (side ≢ pos 1))
@@ -139,7 +142,8 @@ module _ (level : Level) (linked : IsLinked level) where
 pub IsLinked-by_findings : (level : Level) (found : List Finding)
     → AreFindings (LinkHolds level) found → (IsLinked level ↔ All (λ f. ¬ IsLinkFault f.code) found)
 IsLinked-by_findings level found p = (
-  (λ linked. λ k d below fault. let f = get_or found k d in linked f.code f.index fault ((p.exact f).0 (Contains-get_or found k d below))),
+  (λ linked. λ k d below fault. let f = get_or found k d in
+      linked f.code f.index fault ((p.exact f).0 (Contains-get_or found k d below))),
   (λ none. λ code i fault holds.
       let f : Finding = record { code = code; index = i } in
       All-contains (λ g. ¬ IsLinkFault g.code) found f none ((p.exact f).1 holds) fault),

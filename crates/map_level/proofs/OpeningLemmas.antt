@@ -44,7 +44,8 @@ found_more files label i bytes lump within found here =
     map-set (λ b. b.now) bytes i lump in
     rw moved
     (below_more (λ j. IsLump files (label + (j + 1)) (get_or (set lumps i lump.now) j [])) i
-    (λ j below. let other : j ≢ i = omega arith in rw (get_or-set_other lumps i j lump.now [] other) (found j below))
+    (λ j below. let other : j ≢ i = omega arith in
+    rw (get_or-set_other lumps i j lump.now [] other) (found j below))
     (rw (get_or-set_same lumps i lump.now [] long) here))
 
 -- one name more was found

@@ -31,13 +31,15 @@ module _ (words : Words) where
         after = drop (i + 1) words.numbers;
         stands = sym (take-append-drop (i - place) (drop place words.numbers))
             ∙ ap (λ back. list ++ back)
-            (drop-drop (i - place) place words.numbers ∙ ap (λ n. drop n words.numbers) reach ∙ rest);
+            (drop-drop (i - place) place words.numbers
+            ∙ ap (λ n. drop n words.numbers) reach ∙ rest);
         endless = λ (k, below, is).
             let short : k < i - place =
             omega (arith, below, length-take (i - place) (drop place words.numbers)) in
             none (place + k) (omega arith) (omega arith)
             (slice_get-get_or words.numbers (place + k) words.end (omega arith)
-            ∙ ap Some (sym (get_or-take (i - place) (drop place words.numbers) k words.end short ∙ get_or-drop place words.numbers k words.end) ∙ is));
+            ∙ ap Some (sym (get_or-take (i - place) (drop place words.numbers) k words.end short
+            ∙ get_or-drop place words.numbers k words.end) ∙ is));
       }
 
   -- where a list ends there is an end word
@@ -66,7 +68,8 @@ module _ (words : Words) where
       let same : last ≡ i = omega (arith, reach) in
       (take (i - place) (drop place words.numbers), list_to_end place i le (rw same at there) none)
   first_end (suc fuel) place i last reach le there none =
-      let e : Decides (int_eq (get_or words.numbers i words.end) words.end) (get_or words.numbers i words.end ≡ words.end) =
+      let e : Decides (int_eq (get_or words.numbers i words.end) words.end)
+      (get_or words.numbers i words.end ≡ words.end) =
       Decides-int_eq (get_or words.numbers i words.end) words.end in
       let within : i < length words.numbers =
       omega (arith, slice_get_within words.numbers last words.end there) in
@@ -96,7 +99,9 @@ module _ (words : Words) where
       → ((k : ℕ) → last < k → slice_get words.numbers k ≢ Some words.end)
       → (place : ℕ) → (place < last + 1) ↔ ((list : List ℤ) × IsListAt words place list)
   lists_begin_below last there none place = (
-    (λ below. first_end (last - place) place place last (omega arith) (omega arith) there (λ k from to. absurd (omega arith))),
+    (λ below.
+        first_end (last - place) place place last (omega arith) (omega arith) there
+        (λ k from to. absurd (omega arith))),
     (λ (list, is). elim (cases_lt last (place + length list)) [
       | inl past ↦ absurd (none (place + length list) past (end_of_list place list is))
       | inr within ↦ omega arith

@@ -34,7 +34,10 @@ length_nodes_of (go n s ∷ ts) = ap suc (length_nodes_of ts)
 differ : (x : ℕ) (xs : List ℕ) → (Mem x xs → ⊥) → AllByRecursion (λ y. eqb x y ≡ false) xs
 differ x [] out = tt
 differ x (y ∷ ys) out =
-    elim (eqb_tells x y) [ inl r ↦ absurd (out (inl r.1)) | inr r ↦ (r.0, differ x ys (λ h. out (inr h))) ]
+    elim (eqb_tells x y) [
+      | inl r ↦ absurd (out (inl r.1))
+      | inr r ↦ (r.0, differ x ys (λ h. out (inr h)))
+    ]
 
 distinct : (xs : List ℕ) → Apart xs → IsDistinct eqb xs
 unfolding IsDistinct

@@ -77,7 +77,8 @@ child_word level point n next (Some found) e h some =
     let s = side_of (partition_of found) point in
     let there = some_from_is_some (child level n s) (some s) in
     let opened : where_there level (place_of (word_at found s)) ≡ Some there.0 =
-    sym (ap (λ (o : Option Node). option_and_then (λ found. where_there level (place_of (word_at found s))) o) e)
+    sym (ap (λ (o : Option Node). option_and_then
+    (λ found. where_there level (place_of (word_at found s))) o) e)
     ∙ there.1 in
     let is =
     (cond_some (has level (place_of (word_at found s)))

@@ -28,7 +28,10 @@ use Rattle.map_tree.proofs.ReachLemmas.{decide_side, last_step, leads_unless_not
 pub some_within : {X : Type 0} (xs : List X) (i : ℕ) (P : X → Type 0) → IsSomeAnd (slice_get xs i) P
     → i < length xs
 some_within xs i P h =
-    elim (cases_lt i (length xs)) [ inl within ↦ within | inr past ↦ absurd (rw (slice_get_past xs i past) at h) ]
+    elim (cases_lt i (length xs)) [
+      | inl within ↦ within
+      | inr past ↦ absurd (rw (slice_get_past xs i past) at h)
+    ]
 
 origin_in_or_out : (o : Option Node) → IsSomeAnd o (λ found. IsInRange found.x × IsInRange found.y)
     → IsSomeAnd o (λ found. ¬ (IsInRange found.x × IsInRange found.y)) → ⊥
@@ -149,7 +152,8 @@ module _ (level : Level) (faultless : IsFaultless level) where
   in_range : (z : ℤ) → IsInRange z ⊎ (IsInRange z → ⊥)
   in_range z =
       by_lt_z z (negsuc 16383) (λ less. inr (λ h. let least = h.least in omega (arith, ints)))
-      (λ least. by_lt_z (pos 16383) z (λ more. inr (λ h. let greatest = h.greatest in omega (arith, ints))) (λ greatest. inl (record {
+      (λ least. by_lt_z (pos 16383) z (λ more. inr (λ h. let greatest = h.greatest in
+      omega (arith, ints))) (λ greatest. inl (record {
         least = least;
         greatest = greatest;
       })))
@@ -168,7 +172,10 @@ module _ (level : Level) (faultless : IsFaultless level) where
 
   node_there : {X : Type 0} (xs : List X) (n : ℕ) → n < length xs → IsSome (slice_get xs n)
   node_there xs n within =
-      elim (slice_get_cases xs n).1 [ inl there ↦ rw there.2 refl | inr past ↦ let h = past.0 in absurd (omega arith) ]
+      elim (slice_get_cases xs n).1 [
+        | inl there ↦ rw there.2 refl
+        | inr past ↦ let h = past.0 in absurd (omega arith)
+      ]
 
   origin_inside : (n : ℕ) → n < node_count level
       → IsSomeAnd (slice_get level.nodes.records n) (λ found. IsInRange found.x × IsInRange found.y)

@@ -46,7 +46,8 @@ none_holds : (holds : Code → ℕ → Type 0) (found : List Finding) → AreFin
     → (code : Code) (i : ℕ) → IsTrue (is_fault code) → ¬ holds code i
 none_holds holds found are none code i fault h =
     let f : Finding = record { code = code; index = i } in
-    false≢true (sym (All-contains (λ (g : Finding). is_fault g.code ≡ false) found f none ((are.exact f).1 h)) ∙ fault)
+    false≢true (sym (All-contains (λ (g : Finding). is_fault g.code ≡ false) found f none
+    ((are.exact f).1 h)) ∙ fault)
 
 none_found : (holds : Code → ℕ → Type 0) (found : List Finding) → AreFindings holds found
     → ((code : Code) (i : ℕ) → IsTrue (is_fault code) → ¬ holds code i)

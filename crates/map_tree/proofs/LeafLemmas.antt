@@ -92,7 +92,9 @@ way_leaf level point tests t tree way = record {
   reached =
       (length way.turns, leads_from_chain (child level) way.turns (root level) (ssector t) way.is);
   agrees =
-      λ n s leads. Agree-at level point way.turns n s way.agree (turn_above level way.turns (ssector t) n s tree way.is leads);
+      λ n s leads.
+      Agree-at level point way.turns n s way.agree
+      (turn_above level way.turns (ssector t) n s tree way.is leads);
 }
 
 mem_nodes : (ts : List Turn) (n : ℕ) (s : Side) → Mem (go n s) ts → Mem n (nodes_of ts)
@@ -112,7 +114,8 @@ chain_ancestors level turns t tree is = record {
   ancestors = nodes_of turns;
   distinct =
       all_pairs_apart (nodes_of turns)
-      (chain_apart (child level) (node_count level) (root level) (once_from_tree level tree) turns (ssector t) is);
+      (chain_apart (child level) (node_count level) (root level) (once_from_tree level tree) turns
+      (ssector t) is);
   exact = λ n. (
     (λ h.
         let r = mem_turn turns n (mem_from_Contains (nodes_of turns) n h) in

@@ -57,7 +57,8 @@ pub marking_new : (marks : List Bool) (k : ℕ) (waits after : List ℕ) → k <
 marking_new marks k waits after within off more = record {
   long = length-set marks k true;
   marked =
-      λ j e. let same : k ≡ j = cc in subst (λ i. IsMarked (set marks k true) i) same (set_marked marks k within);
+      λ j e. let same : k ≡ j = cc in
+      subst (λ i. IsMarked (set marks k true) i) same (set_marked marks k within);
   kept = λ j h. set_kept marks k j within h;
   only = λ j h. elim (set_cases marks k j h) [ inl same ↦ inl (ap Some same) | inr old ↦ inr old ];
   waits = λ j h. elim (set_cases marks k j h) [
@@ -66,7 +67,10 @@ marking_new marks k waits after within off more = record {
   ];
   still = λ j h. rw more (Contains-append_left waits (k ∷ []) j h);
   added =
-      λ j h. elim (Contains-push_cases waits k j (rw more at h)) [ inl old ↦ inr old | inr same ↦ inl (ap Some same) ];
+      λ j h. elim (Contains-push_cases waits k j (rw more at h)) [
+        | inl old ↦ inr old
+        | inr same ↦ inl (ap Some same)
+      ];
   same =
       let e =
       ap length more in omega
@@ -149,7 +153,10 @@ visit_child level n s before after waits_before waits_after here visiting markin
   ];
   begun = λ k e. marking.kept k (visiting.begun k e);
   waiting =
-      λ k h. elim (marking.added k h) [ inl new ↦ marking.marked k new | inr old ↦ marking.kept k (visiting.waiting k old) ];
+      λ k h. elim (marking.added k h) [
+        | inl new ↦ marking.marked k new
+        | inr old ↦ marking.kept k (visiting.waiting k old)
+      ];
   closed = λ m within marked. elim (marking.waits m marked) [
     | inr waits ↦ inl waits
     | inl old ↦ elim (visiting.closed m within old) [
@@ -206,7 +213,10 @@ visit level n before after waits rest waits_after popped visiting both =
       waiting = λ k h. visiting.waiting k (rw popped (Contains-append_left rest (n ∷ []) k h));
       closed = λ m within marked. elim (visiting.closed m within marked) [
         | inl waits ↦
-            elim (Contains-push_cases rest n m (rw popped at waits)) [ inl old ↦ inl old | inr same ↦ inr (inl (sym same)) ]
+            elim (Contains-push_cases rest n m (rw popped at waits)) [
+              | inl old ↦ inl old
+              | inr same ↦ inr (inl (sym same))
+            ]
         | inr more ↦ elim more [ inl none ↦ absurd none | inr all ↦ inr (inr all) ]
       ];
     } in
@@ -244,7 +254,10 @@ visit_start level before after waits long off marking = record {
   ];
   begun = λ k e. marking.marked k e;
   waiting =
-      λ k h. elim (marking.added k h) [ inl new ↦ marking.marked k new | inr old ↦ absurd (omega (arith, old.1)) ];
+      λ k h. elim (marking.added k h) [
+        | inl new ↦ marking.marked k new
+        | inr old ↦ absurd (omega (arith, old.1))
+      ];
   closed = λ m within marked. elim (marking.waits m marked) [
     | inr waits ↦ inl waits
     | inl old ↦ absurd (false≢true (sym (off m) ∙ old.1))

@@ -74,7 +74,10 @@ module _ (Seen After : ℕ → Side → Type 0) (level : Level) (n : ℕ) (s : S
   seen_here : (p : Place) → (child level n s ≡ Some p → ⊥) → (m : ℕ) (u : Side) → After m u
       → child level m u ≡ Some p → Seen m u
   seen_here p not_here m u after e =
-      elim (more.only m u after) [ inl seen ↦ seen | inr here ↦ absurd (not_here (rw (← here.0, ← here.1) e)) ]
+      elim (more.only m u after) [
+        | inl seen ↦ seen
+        | inr here ↦ absurd (not_here (rw (← here.0, ← here.1) e))
+      ]
 
   old_twice : (p : Place) → (child level n s ≡ Some p → ⊥)
       → IsTwiceBy After level p ↔ IsTwiceBy Seen level p
@@ -192,9 +195,13 @@ pub counts_start : (level : Level) (counts : List ℕ) → length counts ≡ slo
 counts_start level counts long zeros = record {
   long = long;
   named =
-      λ p there. rw (zeros (slot level p)) ((λ h. absurd (omega (arith, h))), (λ h. absurd (omega (arith, h.2))));
+      λ p there.
+      rw (zeros (slot level p))
+      ((λ h. absurd (omega (arith, h))), (λ h. absurd (omega (arith, h.2))));
   twice =
-      λ p there. rw (zeros (slot level p)) ((λ h. absurd (omega (arith, h))), (λ h. absurd (omega (arith, h.one))));
+      λ p there.
+      rw (zeros (slot level p))
+      ((λ h. absurd (omega (arith, h))), (λ h. absurd (omega (arith, h.one))));
 }
 
 pub both_counted : (before between after : List ℕ) (front back : Option ℕ)

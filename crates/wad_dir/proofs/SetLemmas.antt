@@ -37,6 +37,7 @@ module _ {V : Type 0} (bytes_of : V → List ℕ) (files : List V) (file : V) (i
         ap (λ n. n + 1)
         (sym (length-map (take i files) bytes_of ∙ length-take-le i files (omega arith)));
     read = subst (All HasDirectory) so_far
-        (All-map HasDirectory (λ (f : Wad). f.bytes) wads (All-weaker IsRead (λ f. HasDirectory f.bytes) (λ f r. (f.kind, f.entries, r)) wads read));
+        (All-map HasDirectory (λ (f : Wad). f.bytes) wads
+        (All-weaker IsRead (λ f. HasDirectory f.bytes) (λ f r. (f.kind, f.entries, r)) wads read));
     refused = refused;
   }

@@ -20,7 +20,8 @@ range_stands bytes start size n place same within at = (
     before = take start bytes;
     after = drop n (drop start bytes);
     joined =
-        sym (ap (λ back. take start bytes ++ back) (take-append-drop n (drop start bytes)) ∙ take-append-drop start bytes);
+        sym (ap (λ back. take start bytes ++ back)
+        (take-append-drop n (drop start bytes)) ∙ take-append-drop start bytes);
     placed = ap pos (length-take-le start bytes (omega arith)) ∙ sym at;
   },
 )

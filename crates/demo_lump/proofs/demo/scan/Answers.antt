@@ -20,7 +20,8 @@ commands-preserved c =
     let more =
     Follows-more _ _ _ _ c.commands.invariant
     (omega (arith, is.0, c.size_of_command-size.ensures.size)) is.1 in
-    rw take_rest (subst (λ n. Follows c.args.version c.args.bytes.now (c.commands.count + 1) (drop n c.commands.rest.now)) (sym c.size_of_command-size.ensures.size) more)
+    rw take_rest (subst (λ n. Follows c.args.version c.args.bytes.now (c.commands.count + 1)
+    (drop n c.commands.rest.now)) (sym c.size_of_command-size.ensures.size) more)
 
 pub returns : goal.returns
 returns c =

@@ -7,7 +7,10 @@ use Rattle.demo_lump.proofs.piece.read_command.Goals as goal
 pub returns-in_err-first-clause-reads : goal.returns-in_err-first-clause-reads
 returns-in_err-first-clause-reads g c =
     let p = err_from_is_err_and c.from_residual.result c.from_residual.ensures.1 in
-    rw (p.1, p.2) (Reads-no_byte (next_piece c.args.version c.args.intake.now.taken) (next_has_byte c.args.version c.args.intake.now.taken) _ c.requires.within c.in_err-first.ensures.takes)
+    rw (p.1, p.2)
+    (Reads-no_byte (next_piece c.args.version c.args.intake.now.taken)
+    (next_has_byte c.args.version c.args.intake.now.taken) _ c.requires.within
+    c.in_err-first.ensures.takes)
 
 pub returns-in_default-clause-reads : goal.returns-in_default-clause-reads
 returns-in_default-clause-reads g c =
@@ -36,7 +39,13 @@ returns-in_err-fill-clause-reads g c =
       p.1,
       p.2,
     ) (Reads-no_rest (next_piece version taken) (next_has_byte version taken) _ c.in-Some.first
-    (next_goes_on version taken _ c.in-Some.first (omega (arith, length-take {A = ℕ}, c.size_of_command.ensures.size, c.size_of_command.ensures.least)) c.if-first.false)
+    (next_goes_on version taken _ c.in-Some.first
+    (omega (
+      arith,
+      length-take {A = ℕ},
+      c.size_of_command.ensures.size,
+      c.size_of_command.ensures.least,
+    )) c.if-first.false)
     byte _ _ fill)
 
 pub returns-then-not-branch-clause-reads : goal.returns-then-not-branch-clause-reads
@@ -46,6 +55,20 @@ returns-then-not-branch-clause-reads g c =
     let byte = rw c.in-Some.is at c.in_ok-first.ensures.takes in
     let fill = rw (c.byte.ensures.limit, c.if-not-branch.true) at c.in_ok-fill.ensures.takes in
     Reads-short (next_piece version taken) (next_has_byte version taken) _ c.in-Some.first
-    (next_goes_on version taken _ c.in-Some.first (omega (arith, length-take {A = ℕ}, c.size_of_command.ensures.size, c.size_of_command.ensures.least)) c.if-first.false) byte
+    (next_goes_on version taken _ c.in-Some.first
+    (omega (
+      arith,
+      length-take {A = ℕ},
+      c.size_of_command.ensures.size,
+      c.size_of_command.ensures.least,
+    )) c.if-first.false) byte
     _ _ c.fill.auto.buf
-    (λ more few. short_next version taken _ c.in-Some.first more (omega (arith, length-take {A = ℕ}, c.size_of_command.ensures.size, c.size_of_command.ensures.least)) c.if-first.false few) fill
+    (λ more few.
+    short_next version taken _ c.in-Some.first more
+    (omega (
+      arith,
+      length-take {A = ℕ},
+      c.size_of_command.ensures.size,
+      c.size_of_command.ensures.least,
+    ))
+    c.if-first.false few) fill

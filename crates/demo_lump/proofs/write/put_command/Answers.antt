@@ -27,7 +27,8 @@ returns-then-version-eq-LONG c =
       c.cast_unsigned-side.ensures,
     ) at c.copy_from_slice.ensures.after in
     let items = simp to_z-of_z at items in
-    rw items (IsCommand-long c.args.version c.args.command c.if-version-eq-LONG.true forward side turn c.requires.writable)
+    rw items (IsCommand-long c.args.version c.args.command c.if-version-eq-LONG.true forward side
+    turn c.requires.writable)
 
 pub returns-else-version-eq-LONG : goal.returns-else-version-eq-LONG
 returns-else-version-eq-LONG c =
@@ -39,4 +40,5 @@ returns-else-version-eq-LONG c =
       c.cast_unsigned-side.ensures,
     ) at c.copy_from_slice-else-version-eq-LONG.ensures.after in
     let items = simp to_z-of_z at items in
-    rw items (IsCommand-short c.args.version c.args.command c.if-version-eq-LONG.false forward side c.requires.writable)
+    rw items (IsCommand-short c.args.version c.args.command c.if-version-eq-LONG.false forward side
+    c.requires.writable)

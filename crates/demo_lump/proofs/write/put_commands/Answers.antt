@@ -31,5 +31,7 @@ loop-command-preserved c =
       place = omega (arith, i.place);
       so_far =
           subst (λ (xs : List ℕ). AreCommands c.args.version xs (take (n + 1) commands)) (sym front)
-          (subst (AreCommands c.args.version (take at c.loop-command.bytes ++ part)) (sym (take_more commands n _ c.loop-command-test.true)) (AreCommands-last c.args.version (take at c.loop-command.bytes) part (take n commands) _ i.so_far c.put_command.ensures));
+          (subst (AreCommands c.args.version (take at c.loop-command.bytes ++ part)) (sym
+          (take_more commands n _ c.loop-command-test.true)) (AreCommands-last c.args.version
+          (take at c.loop-command.bytes) part (take n commands) _ i.so_far c.put_command.ensures));
     }

@@ -13,7 +13,9 @@ both_true false b h = absurd (false≢true h)
 pub returns-in_err-value-clause-none : goal.returns-in_err-value-clause-none
 returns-in_err-value-clause-none g c =
     rw c.from_residual.ensures
-    (λ exact form. no_more_numbers _ _ _ _ _ _ c.loop-i.invariant.so_far c.in_err-value.ensures c.loop-i-test.true exact form)
+    (λ exact form.
+    no_more_numbers _ _ _ _ _ _ c.loop-i.invariant.so_far c.in_err-value.ensures
+    c.loop-i-test.true exact form)
 
 pub loop-i-preserved : goal.loop-i-preserved
 loop-i-preserved g c =

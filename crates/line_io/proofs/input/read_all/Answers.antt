@@ -93,7 +93,14 @@ returns-in_err-append g c =
     let more = c.in_ok-more.more.now in
     let filled = some_from_empty (length more) c.if-is_empty.ensures in
     rw (p.1, p.2, c.in_err-append.ensures.err)
-    (stops (g.S.Source.state c.args.input.now) (g.S.Source.state c.turns.input) (g.S.Source.state c.next_block.new.input) c.args.limit items more _ c.turns.invariant.given c.in_ok-more.ensures.given (omega (arith, c.len.ensures, c.len-in-turns.ensures, c.turns.bytes.ok.0)) (omega (arith, length-append items more), omega (arith, length-append items more, c.len-in-turns.ensures, c.turns.bytes.ok.0), c.in_ok-more.ensures.sound ∙ c.turns.invariant.sound))
+    (stops (g.S.Source.state c.args.input.now) (g.S.Source.state c.turns.input)
+    (g.S.Source.state c.next_block.new.input) c.args.limit items more _
+    c.turns.invariant.given c.in_ok-more.ensures.given
+    (omega (arith, c.len.ensures, c.len-in-turns.ensures, c.turns.bytes.ok.0)) (
+      omega (arith, length-append items more),
+      omega (arith, length-append items more, c.len-in-turns.ensures, c.turns.bytes.ok.0),
+      c.in_ok-more.ensures.sound ∙ c.turns.invariant.sound,
+    ))
 
 pub turns-preserved : goal.turns-preserved
 turns-preserved g c =
@@ -108,5 +115,7 @@ turns-preserved g c =
       within =
           omega (arith, long, c.append.new.bytes.ok.0, c.len-in-turns.ensures, c.turns.bytes.ok.0);
       given =
-          rw kept (Consumes-trans (g.S.Source.state c.args.input.now).left (g.S.Source.state c.turns.input).left (g.S.Source.state c.next_block.new.input).left items more c.turns.invariant.given c.in_ok-more.ensures.given);
+          rw kept (Consumes-trans (g.S.Source.state c.args.input.now).left
+          (g.S.Source.state c.turns.input).left (g.S.Source.state c.next_block.new.input).left items
+          more c.turns.invariant.given c.in_ok-more.ensures.given);
     }

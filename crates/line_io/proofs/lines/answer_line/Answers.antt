@@ -19,6 +19,10 @@ returns-else-content-gt-CONTENT g c =
     omega (arith, ap length c.content_of-content.ensures) in
     record {
       takes =
-          λ f told. rw (line_answer_short f c.args.line.now short, ← c.content_of-content.ensures) (c.reply.ensures.takes f told);
+          λ f told.
+          rw (
+            line_answer_short f c.args.line.now short,
+            ← c.content_of-content.ensures,
+          ) (c.reply.ensures.takes f told);
       ends = c.reply.ensures.ends;
     }

@@ -27,7 +27,8 @@ returns-in_err-bytes g c =
     let p = err_from_is_err_and c.from_residual.result c.from_residual.ensures.1 in
     let e = c.in_err-bytes.ensures.fault in
     rw (p.1, p.2, e.0)
-    (ends_read c.turns.invariant.so_far _ c.args.limit _ c.turns.invariant.within c.in_err-bytes.ensures.stays e.1)
+    (ends_read c.turns.invariant.so_far _ c.args.limit _ c.turns.invariant.within
+    c.in_err-bytes.ensures.stays e.1)
 
 pub returns-then-is_empty : goal.returns-then-is_empty
 returns-then-is_empty g c =
@@ -47,7 +48,10 @@ returns-in_err-answer_block g c =
     let room =
     one_past _ _ c.args.limit _
     (length bytes) _ c.in_ok-bytes.ensures.bound c.min-room.ensures c.turns.invariant.within in
-    rw (p.1, p.2) (ends_block c.turns.invariant.so_far c.args.limit bytes _ _ (length bytes - c.from.result) room c.in_ok-bytes.ensures.given _ _ c.in_err-answer_block.ensures.ends c.in_err-answer_block.ensures.takes)
+    rw (p.1, p.2)
+    (ends_block c.turns.invariant.so_far c.args.limit bytes _ _ (length bytes - c.from.result) room
+    c.in_ok-bytes.ensures.given _ _ c.in_err-answer_block.ensures.ends
+    c.in_err-answer_block.ensures.takes)
 
 pub returns-then-read-limit : goal.returns-then-read-limit
 returns-then-read-limit g c =

@@ -38,5 +38,7 @@ loop-i-preserved g c = record {
       (omega arith) c.loop-i.invariant.found c.in-Ok.ensures.ok;
   short =
       rw (map-set (λ (lump : Bor (List ℕ)). lump.now) c.loop-i.bytes c.loop-i.i c.in-Ok.lump)
-      (All-set (λ (lump : List ℕ). length lump < 2 ^ 31) (map (λ (lump : Bor (List ℕ)). lump.now) c.loop-i.bytes) c.loop-i.i c.in-Ok.lump.now c.in-Ok.ensures.short c.loop-i.invariant.short);
+      (All-set (λ (lump : List ℕ). length lump < 2 ^ 31)
+      (map (λ (lump : Bor (List ℕ)). lump.now) c.loop-i.bytes) c.loop-i.i c.in-Ok.lump.now
+      c.in-Ok.ensures.short c.loop-i.invariant.short);
 }

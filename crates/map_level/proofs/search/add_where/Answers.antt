@@ -11,7 +11,9 @@ loop-index-preserved g c =
     elim c.if-test.branch [
       | then-test+in_ok-push w ↦
           rw (w.found-is, w.in_ok-push.ensures.ok)
-          (found_more holds c.loop-index.found (record { code = c.args.code; index = c.loop-index.index }) c.loop-index.invariant (told.0 w.if-test.true))
+          (found_more holds c.loop-index.found (record { code = c.args.code; index = c.loop-index.index })
+          c.loop-index.invariant (told.0 w.if-test.true))
       | else-test w ↦
-          rw w.found-is (found_no_more holds c.loop-index.found c.args.code c.loop-index.index c.loop-index.invariant (λ h. false≢true (sym w.if-test.false ∙ told.1 h)))
+          rw w.found-is (found_no_more holds c.loop-index.found c.args.code c.loop-index.index
+          c.loop-index.invariant (λ h. false≢true (sym w.if-test.false ∙ told.1 h)))
     ]

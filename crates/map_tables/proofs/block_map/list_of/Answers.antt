@@ -9,7 +9,8 @@ returns-then-place-reach-clause-no_end c =
         offset = found.some;
         inside = found.inside;
         no_list =
-            λ list is. let below = (c.requires c.in-Some.place).1 (list, is) in omega (arith, below);
+            λ list is. let below = (c.requires c.in-Some.place).1 (list, is) in
+            omega (arith, below);
       },
       λ _. refl,
     )

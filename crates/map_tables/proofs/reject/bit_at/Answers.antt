@@ -12,7 +12,8 @@ returns-in_err-byte c =
     let bytes = c.args.bytes.now in
     let number = c.args.number in
     c.from_residual.ensures
-    ∙ sym (slice_get-bits_of bytes number ∙ ap (option_map (λ byte. bit_at byte (number % 8) == 1)) (slice_get_past bytes (number / 8) c.in_err-byte.ensures.lookup.3))
+    ∙ sym (slice_get-bits_of bytes number ∙ ap (option_map (λ byte. bit_at byte (number % 8) == 1))
+    (slice_get_past bytes (number / 8) c.in_err-byte.ensures.lookup.3))
 
 pub returns : goal.returns
 returns c =

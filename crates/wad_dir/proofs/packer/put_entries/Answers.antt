@@ -50,9 +50,12 @@ loop-lump-preserved g c =
       entries =
           put_more c.args.file.now.items c.loop-lump.file.items _ c.write.new.bytes _ _ _
           c.put_bytes.ensures.items
-          (c.write.ensures ∙ cast_entry c.loop-lump.place size c.bytes.result c.lump.inside.name (omega (arith, upto, c.requires, place)) (omega (arith, upto, c.requires, sized)) c.bytes.ensures.padded)
+          (c.write.ensures ∙ cast_entry c.loop-lump.place size c.bytes.result c.lump.inside.name
+          (omega (arith, upto, c.requires, place))
+          (omega (arith, upto, c.requires, sized)) c.bytes.ensures.padded)
           c.loop-lump.invariant.entries
-          (directory_more lumps c.lump-item.result i (omega arith) c.lump-item.is c.loop-lump.place place _ c.lump.view_is);
+          (directory_more lumps c.lump-item.result i
+          (omega arith) c.lump-item.is c.loop-lump.place place _ c.lump.view_is);
       places =
           omega (
             arith,

@@ -9,7 +9,8 @@ use Rattle.demo_lump.proofs.demo.Demo.command.Goals as goal
 
 pub returns-then-index-self : goal.returns-then-index-self
 returns-then-index-self c =
-    let past : length (commands_of c.self.inside.header.version c.self.inside.count c.self.inside.commands.now)
+    let past : length
+    (commands_of c.self.inside.header.version c.self.inside.count c.self.inside.commands.now)
     ≤ c.args.index =
     rw length-commands_of c.if-index-self.true in
     rw (← c.self.view_is) (sym (slice_get_past _ _ past))

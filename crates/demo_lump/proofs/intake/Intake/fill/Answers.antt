@@ -75,7 +75,16 @@ turns-preserved g c =
       sound = c.in-Ok.ensures.gives.fault ∙ rw i.sound refl;
       room =
           rw
-          (length-put_mid c.turns.filled (c.min-most.result - c.turns.filled) c.turns.buf c.pull.new.buf (omega (arith, c.min-most.ensures, c.turns.auto.buf, c.turns-test.true, part, c.in-Ok.ensures.bound, c.if-count-eq0.false)) part)
+          (length-put_mid c.turns.filled (c.min-most.result - c.turns.filled) c.turns.buf
+          c.pull.new.buf (omega (
+            arith,
+            c.min-most.ensures,
+            c.turns.auto.buf,
+            c.turns-test.true,
+            part,
+            c.in-Ok.ensures.bound,
+            c.if-count-eq0.false,
+          )) part)
           (omega (arith, part, c.turns.auto.buf, c.min-most.ensures, c.in-Ok.ensures.bound));
       limit = i.limit;
       within = c.if-self.false;

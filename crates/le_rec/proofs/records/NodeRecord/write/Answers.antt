@@ -17,4 +17,13 @@ returns c =
     let put_dx = simp to_z-of_z at c.put_i16-3.ensures in
     let put_dy = simp to_z-of_z at c.put_i16-4.ensures in
     sym (take_all 28 c.put_u16-2.new.bytes (omega arith))
-    ∙ rw (c.put_u16-2.ensures, c.put_u16.ensures, c.put_box-2.ensures, c.put_box.ensures, put_dy, put_dx, put_y, put_x) refl
+    ∙ rw (
+      c.put_u16-2.ensures,
+      c.put_u16.ensures,
+      c.put_box-2.ensures,
+      c.put_box.ensures,
+      put_dy,
+      put_dx,
+      put_y,
+      put_x,
+    ) refl

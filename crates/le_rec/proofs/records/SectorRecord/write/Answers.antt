@@ -19,4 +19,12 @@ returns c =
     let put_special = simp to_z-of_z at c.put_i16-4.ensures in
     let put_tag = simp to_z-of_z at c.put_i16-5.ensures in
     sym (take_all 26 c.put_i16-5.new.bytes (omega arith))
-    ∙ rw (put_tag, put_special, put_light, c.put_name-2.ensures, c.put_name.ensures, put_ceiling, put_floor) refl
+    ∙ rw (
+      put_tag,
+      put_special,
+      put_light,
+      c.put_name-2.ensures,
+      c.put_name.ensures,
+      put_ceiling,
+      put_floor,
+    ) refl

@@ -15,4 +15,11 @@ returns c =
     let put_yoff = simp to_z-of_z at c.put_i16-2.ensures in
     let put_sector = simp to_z-of_z at c.put_i16-3.ensures in
     sym (take_all 30 c.put_i16-3.new.bytes (omega arith))
-    ∙ rw (put_sector, c.put_name-3.ensures, c.put_name-2.ensures, c.put_name.ensures, put_yoff, put_xoff) refl
+    ∙ rw (
+      put_sector,
+      c.put_name-3.ensures,
+      c.put_name-2.ensures,
+      c.put_name.ensures,
+      put_yoff,
+      put_xoff,
+    ) refl

@@ -48,5 +48,7 @@ returns-else-columns-rows-le-MAX_POINTS-clause-some c =
     HasLength-read _ _ _ c.ranges.y0 c.ranges.y1
     (c.in_ok-rows.ensures.some.0 refl) c.in_ok-rows.ensures.value in (
       λ e. cc,
-      λ is_rect. absurd (not_IsRect-from_test _ _ _ _ _ _ across up c.if-columns-rows-le-MAX_POINTS.false is_rect),
+      λ is_rect.
+          absurd (not_IsRect-from_test _ _ _ _ _ _ across up c.if-columns-rows-le-MAX_POINTS.false
+          is_rect),
     )

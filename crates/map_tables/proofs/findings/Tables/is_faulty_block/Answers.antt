@@ -9,5 +9,7 @@ pub returns-in-None : goal.returns-in-None
 returns-in-None c =
     let few = MatchOption-at_none _ _ c.in-None.is c.self.invariant in (
       (λ never. absurd (false≢true never)),
-      (λ faulty. absurd (no_faulty_block c.args.self.now c.args.n (omega (arith, few, ap (λ (level : Level). length level.blockmap) c.self.view_is)) faulty)),
+      (λ faulty.
+          absurd (no_faulty_block c.args.self.now c.args.n (omega
+          (arith, few, ap (λ (level : Level). length level.blockmap) c.self.view_is)) faulty)),
     )

@@ -37,6 +37,8 @@ returns-clause-names g c = packed-names 12 c.args.self.now (named g c)
 pub returns-clause-slices : goal.returns-clause-slices
 returns-clause-slices g c =
     subst
-    (λ (bytes : List ℕ). AllZip (λ (e : Entry) (l : NamedLump). IsSlice bytes e l.bytes) (packed_entries c.args.self.now) c.args.self.now)
+    (λ (bytes : List ℕ).
+    AllZip (λ (e : Entry) (l : NamedLump). IsSlice bytes e l.bytes)
+    (packed_entries c.args.self.now) c.args.self.now)
     (sym (whole g c))
     (packed-slices c.args.self.now)

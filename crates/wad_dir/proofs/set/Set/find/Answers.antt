@@ -32,7 +32,8 @@ returns-in-Some-clause-some g c =
     let k : ℕ = c.loop-k.k - 1 in
     let sums =
     length-joined_to files wad k (omega arith) c.index-wad.ensures c.loop-k.k (omega arith) in
-    subst (λ (fs : List Wad). Wins (names fs) c.args.name (c.loop-k.first - c.len-first.result + c.in-Some.i)) c.self.view_is
+    subst (λ (fs : List Wad). Wins (names fs) c.args.name
+    (c.loop-k.first - c.len-first.result + c.in-Some.i)) c.self.view_is
     (wins_in_file files wad k (omega arith) c.index-wad.ensures c.args.name
     (c.loop-k.first - c.len-first.result) c.loop-k.first c.loop-k.k
     (omega (arith, c.loop-k.invariant.0, sums)) c.loop-k.invariant.0

@@ -8,7 +8,8 @@ pub returns-in-Some-lump_of-clause-outside : goal.returns-in-Some-lump_of-clause
 returns-in-Some-lump_of-clause-outside g c = (
   λ e. absurd (let none : ⊥ = cc in none),
   λ h. absurd (h.1 c.in-Some-lump_of.lump.now
-      (lump_is c.args.self.now c.args.g _ (sym c.listed.ensures ∙ c.in-Some.is ∙ ap Some (sym c.found.view_is)) c.in-Some-lump_of.lump.now c.in-Some-lump_of.ensures.some)),
+      (lump_is c.args.self.now c.args.g _ (sym c.listed.ensures ∙ c.in-Some.is ∙ ap Some
+      (sym c.found.view_is)) c.in-Some-lump_of.lump.now c.in-Some-lump_of.ensures.some)),
 )
 
 pub returns-in-None-clause-no_such : goal.returns-in-None-clause-no_such

@@ -1,5 +1,5 @@
 -- Facts about the commands that tests write.
-use Rattle.std.proofs.Common.{◌≡◌, ◌≢◌, negsuc, pos}
+use Rattle.std.proofs.Common.{◌≢◌, negsuc, pos}
 
 -- forwards by 25 and backwards by 50 are not the marker
 pub forwards : pos 25 ≢ negsuc 127

@@ -1,5 +1,5 @@
 -- Facts about the bytes that a source gave.
-use Rattle.std.proofs.Common.{◌≡◌, ℕ, Option, Some, None, IfSome, List, ◌++◌, sym, subst}
+use Rattle.std.proofs.Common.{ℕ, Option, Some, None, IfSome, List, ◌++◌, sym, subst}
 use Rattle.std.specs.Io.KnownBytes.{Consumes}
 
 -- what holds of each list that begins with them holds of what was left, where that is known

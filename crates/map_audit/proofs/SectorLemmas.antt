@@ -1,5 +1,5 @@
 -- The sector of an ssector, by way of records that are there.
-use Rattle.std.proofs.Common.{◌≡◌, ◌≢◌, ℕ, ◌<◌, ℤ, pos, false, length, Option, Some, refl, ap, ◌∙◌}
+use Rattle.std.proofs.Common.{◌≡◌, ◌≢◌, ℕ, ◌<◌, pos, false, length, Option, Some, refl, ap, ◌∙◌}
 use Rattle.std.specs.Prelude.{option_and_then}
 use Rattle.std.specs.List.{slice_get}
 use Rattle.std.specs.Bool.{Decides}
@@ -11,7 +11,7 @@ use Rattle.le_rec.specs.declared.records.Seg.{Seg}
 use Rattle.le_rec.specs.declared.records.SideDef.{SideDef}
 use Rattle.le_rec.specs.declared.records.SSector.{SSector}
 use Rattle.map_level.specs.Level.{Level}
-use Rattle.map_level.specs.Links.{linedefs_of, sidedefs_of, segs_of, ssectors_of, sectors_of, named, no_side, side_at, side_of}
+use Rattle.map_level.specs.Links.{linedefs_of, sidedefs_of, segs_of, ssectors_of, sectors_of, named, no_side, side_at}
 use Rattle.map_level.proofs.LinkedLemmas.{side_by}
 use Rattle.map_level.specs.SectorOf.{number_named, first_seg, sidedef_of, sidedef_named, sector_of}
 

@@ -1,4 +1,4 @@
-use Rattle.std.proofs.Common.{◌≡◌, ◌≢◌, [], ◌∷◌, ◌∙◌, arith, negsuc, pos, refl, sym}
+use Rattle.std.proofs.Common.{[], ◌∷◌, ◌∙◌, arith, sym}
 use Rattle.std.proofs.lemmas.List.Elements.{All-cons, All-nil}
 use Rattle.demo_lump.specs.Writable.{IsWritable}
 use Rattle.demo_lump.proofs.TestLemmas.{forwards, backwards}

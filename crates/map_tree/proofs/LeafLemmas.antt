@@ -97,7 +97,7 @@ way_leaf level point tests t tree way = record {
       (turn_above level way.turns (ssector t) n s tree way.is leads);
 }
 
-mem_nodes : (ts : List Turn) (n : ℕ) (s : Side) → Mem (go n s) ts → Mem n (nodes_of ts)
+pub mem_nodes : (ts : List Turn) (n : ℕ) (s : Side) → Mem (go n s) ts → Mem n (nodes_of ts)
 mem_nodes [] n s h = elim h [ ]
 mem_nodes (go m u ∷ ts) n s (inl e) = let same : n ≡ m = cc in inl same
 mem_nodes (go m u ∷ ts) n s (inr h) = inr (mem_nodes ts n s h)

@@ -4,6 +4,7 @@ pub mod SoundLemmas
 pub mod ReachLemmas
 pub mod LeafLemmas
 pub mod DescentLemmas
+pub mod SizeLemmas
 pub mod FaultLemmas
 pub mod LawLemmas
 pub mod SlotLemmas

@@ -33,11 +33,11 @@ module _ (child : ℕ → Side → Option Place) (count : ℕ) (root : Place)
   shorter (go n s ∷ ts) p m a (inr h) =
       let r = shorter ts (node n) m a.1 h in (r.0, r.1, omega (arith, r.2))
 
-  not_above : (ts : List Turn) (m : ℕ) → Chain child root ts (node m) → Mem m (nodes_of ts) → ⊥
+  pub not_above : (ts : List Turn) (m : ℕ) → Chain child root ts (node m) → Mem m (nodes_of ts) → ⊥
   not_above ts m a h =
-      let r =
-      shorter ts (node m) m a h in let e =
-      chain_once ts r.0 (node m) a r.1 in omega (arith, r.2, ap length e)
+      let r = shorter ts (node m) m a h in
+      let e = chain_once ts r.0 (node m) a r.1 in
+      omega (arith, r.2, ap length e)
 
   pub chain_apart : (ts : List Turn) (p : Place) → Chain child root ts p → Apart (nodes_of ts)
   chain_apart [] p a = tt

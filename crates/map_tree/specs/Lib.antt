@@ -3,6 +3,7 @@ pub mod Child
 pub mod TreeFaults
 pub mod Sound
 pub mod Leaf
+pub mod Sizes
 pub mod Laws
 pub mod Slots
 pub mod WordCounts

@@ -1,11 +1,9 @@
 -- The loop of the descent, whose word names a place on the way of the point.
 use Rattle.std.proofs.Common.{◌≡◌, ℕ, ◌+◌, ◌-◌, ◌<◌, ◌≤◌, refl, sym, ap, ◌∙◌, subst, Option, Some, None, arith}
-use Rattle.std.specs.Prelude.{IsSome, IsSomeAnd}
-use Rattle.std.specs.Option.{option_and_then}
+use Rattle.std.specs.Prelude.{IsSomeAnd}
 use Rattle.le_rec.specs.Table.{Rows}
 use Rattle.std.specs.List.{slice_get}
 use Rattle.std.proofs.lemmas.Bool.{lt-ltb, ltb-true, cond-true}
-use Rattle.std.proofs.lemmas.Option.{cond_some}
 use Rattle.le_rec.specs.declared.records.Node.{Node}
 use Rattle.map_geo.specs.declared.sides.Side.{Side}
 use Rattle.map_geo.specs.Point.{Point, IsInRange}
@@ -13,12 +11,12 @@ use Rattle.map_geo.specs.Partition.{partition_of}
 use Rattle.map_geo.specs.Side.{side_of}
 use Rattle.map_level.specs.Level.{Level}
 use Rattle.map_tree.specs.Paths.{node, ssector}
-use Rattle.map_tree.specs.Child.{node_count, ssector_count, has, place_of, word_at, child, where_there, root_of, side_at}
+use Rattle.map_tree.specs.Child.{node_count, ssector_count, place_of, word_at, child, root_of, side_at}
 use Rattle.map_tree.specs.Leaf.{IsLeaf, CountsAncestors}
-use Rattle.map_tree.specs.Sound.{IsSound}
+use Rattle.map_tree.specs.Sound.{IsTree, IsSound}
 use Rattle.map_tree.proofs.SoundLemmas.{tree_from_sound, some_ssector, few_nodes}
 use Rattle.map_tree.proofs.ReachLemmas.{reached_there}
-use Rattle.map_tree.proofs.LeafLemmas.{OnWay, way_start, way_down, way_short, way_deep, way_leaf, way_tests, one_leaf, some_from_is_some}
+use Rattle.map_tree.proofs.LeafLemmas.{OnWay, way_start, way_down, way_short, way_deep, way_leaf, way_tests, one_leaf, child_is}
 
 -- the word names the place to which so many sides of the point lead
 pub record IsAt (level : Level) (point : Point) (word tests : ℕ) : Type 0 where
@@ -28,117 +26,62 @@ pub record IsAt (level : Level) (point : Point) (word tests : ℕ) : Type 0 wher
 pub place_below : (word : ℕ) → word < 32768 → place_of word ≡ node word
 place_below word h = cond-true _ (node word) (ssector (word - 32768)) (lt-ltb word 32768 h)
 
-pub at_start : (level : Level) (point : Point) (word : ℕ) → IsSound level
-    → place_of word ≡ root_of (node_count level) → IsAt level point word 0
-at_start level point word sound e =
-    record {
-      sound = sound;
-      way =
-          subst (λ p. OnWay level point 0 p) (sym e)
-          (way_start level point (some_ssector level sound));
-    }
+pub at_start : (level : Level) (point : Point) (word : ℕ) → IsSound level → place_of word ≡ root_of (node_count level) → IsAt level point word 0
+at_start level point word sound e = record { sound = sound; way = subst (λ p. OnWay level point 0 p) (sym e) (way_start level point (some_ssector level sound)) }
 
-at_node : (level : Level) (point : Point) (word tests : ℕ) → word < 32768
-    → IsAt level point word tests → OnWay level point tests (node word)
-at_node level point word tests below at =
-    subst (λ p. OnWay level point tests p) (place_below word below) at.way
+at_node : (level : Level) (point : Point) (word tests : ℕ) → word < 32768 → IsAt level point word tests → OnWay level point tests (node word)
+at_node level point word tests below at = subst (λ p. OnWay level point tests p) (place_below word below) at.way
 
-at_ssector : (level : Level) (point : Point) (word tests t : ℕ) → place_of word ≡ ssector t
-    → IsAt level point word tests → OnWay level point tests (ssector t)
+at_ssector : (level : Level) (point : Point) (word tests t : ℕ) → place_of word ≡ ssector t → IsAt level point word tests → OnWay level point tests (ssector t)
 at_ssector level point word tests t e at = subst (λ p. OnWay level point tests p) e at.way
 
-pub at_deep : (level : Level) (point : Point) (word tests : ℕ) → word < 32768
-    → IsAt level point word tests → tests < node_count level
-at_deep level point word tests below at =
-    way_deep level point tests word (tree_from_sound level at.sound)
-    (at_node level point word tests below at)
+pub at_deep : (level : Level) (point : Point) (word tests : ℕ) → word < 32768 → IsAt level point word tests → tests < node_count level
+at_deep level point word tests below at = way_deep level point tests word (tree_from_sound level at.sound) (at_node level point word tests below at)
 
-pub at_short : (level : Level) (point : Point) (word tests : ℕ) → IsAt level point word tests
-    → tests ≤ node_count level
-at_short level point word tests at =
-    way_short level point tests (place_of word) (tree_from_sound level at.sound) at.way
+pub at_short : (level : Level) (point : Point) (word tests : ℕ) → IsAt level point word tests → tests ≤ node_count level
+at_short level point word tests at = way_short level point tests (place_of word) (tree_from_sound level at.sound) at.way
 
-pub at_origin : (level : Level) (point : Point) (word tests : ℕ) → word < 32768
-    → IsAt level point word tests
-    → IsSomeAnd (slice_get level.nodes.records word)
-    (λ found. IsInRange found.x × IsInRange found.y)
+pub at_origin : (level : Level) (point : Point) (word tests : ℕ) → word < 32768 → IsAt level point word tests
+    → IsSomeAnd (slice_get level.nodes.records word) (λ found. IsInRange found.x × IsInRange found.y)
 at_origin level point word tests below at =
-    (tree_from_sound level at.sound).origins word
-    (ltb-true word (node_count level) (at_node level point word tests below at).there)
+    (tree_from_sound level at.sound).origins word (ltb-true word (node_count level) (at_node level point word tests below at).there)
 
 -- the next word is that of the child at the point's side
-child_word : (level : Level) (point : Point) (n next : ℕ) (o : Option Node)
-    → slice_get level.nodes.records n ≡ o
+child_word : (level : Level) (point : Point) (n next : ℕ) (o : Option Node) → IsTree level → slice_get level.nodes.records n ≡ o
     → IsSomeAnd o (λ found. next ≡ word_at found (side_of (partition_of found) point))
-    → ((s : Side) → IsSome (child level n s))
     → (s : Side) × (side_at level n point ≡ Some s) × (child level n s ≡ Some (place_of next))
-child_word level point n next None e h some = elim h [ ]
-child_word level point n next (Some found) e h some =
+child_word level point n next None tree e h = elim h [ ]
+child_word level point n next (Some found) tree e h =
     let s = side_of (partition_of found) point in
-    let there = some_from_is_some (child level n s) (some s) in
-    let opened : where_there level (place_of (word_at found s)) ≡ Some there.0 =
-    sym (ap (λ (o : Option Node). option_and_then
-    (λ found. where_there level (place_of (word_at found s))) o) e)
-    ∙ there.1 in
-    let is =
-    (cond_some (has level (place_of (word_at found s)))
-    (place_of (word_at found s)) there.0 opened).1 in
-    (s, rw e refl, there.1 ∙ ap Some (sym is ∙ ap place_of (sym h)))
+    (s, rw e refl, child_is level n found s tree e ∙ ap (λ word. Some (place_of word)) (sym h))
 
-pub at_next : (level : Level) (point : Point) (word next tests : ℕ) (nodes : Rows Node)
-    → word < 32768 → IsAt level point word tests → nodes ≡ level.nodes
-    → IsSomeAnd (slice_get nodes.records word)
-    (λ found. next ≡ word_at found (side_of (partition_of found) point))
-    → IsAt level point next (tests + 1)
+pub at_next : (level : Level) (point : Point) (word next tests : ℕ) (nodes : Rows Node) → word < 32768 → IsAt level point word tests → nodes ≡ level.nodes
+    → IsSomeAnd (slice_get nodes.records word) (λ found. next ≡ word_at found (side_of (partition_of found) point)) → IsAt level point next (tests + 1)
 at_next level point word next tests nodes below at e h =
     let way = at_node level point word tests below at in
-    let tree = tree_from_sound level at.sound in
-    let here : IsSomeAnd (slice_get level.nodes.records word) (λ found. next
-    ≡ word_at found (side_of (partition_of found) point)) =
-    subst (λ (rows : Rows Node). IsSomeAnd (slice_get rows.records word) (λ found. next
-    ≡ word_at found (side_of (partition_of found) point))) e h in
-    let r =
-    child_word level point word next (slice_get level.nodes.records word) refl here
-    (λ s. tree.words word s (ltb-true word (node_count level) way.there)) in
-    record {
-      sound = at.sound;
-      way = way_down level point tests word r.0 (place_of next) way r.1 r.2;
-    }
+    let here : IsSomeAnd (slice_get level.nodes.records word) (λ found. next ≡ word_at found (side_of (partition_of found) point)) =
+    subst (λ (rows : Rows Node). IsSomeAnd (slice_get rows.records word) (λ found. next ≡ word_at found (side_of (partition_of found) point))) e h in
+    let r = child_word level point word next (slice_get level.nodes.records word) (tree_from_sound level at.sound) refl here in
+    record { sound = at.sound; way = way_down level point tests word r.0 (place_of next) way r.1 r.2 }
 
-pub at_within : (level : Level) (point : Point) (word tests t : ℕ) → place_of word ≡ ssector t
-    → IsAt level point word tests → t < ssector_count level
-at_within level point word tests t e at =
-    ltb-true t (ssector_count level) (at_ssector level point word tests t e at).there
+pub at_within : (level : Level) (point : Point) (word tests t : ℕ) → place_of word ≡ ssector t → IsAt level point word tests → t < ssector_count level
+at_within level point word tests t e at = ltb-true t (ssector_count level) (at_ssector level point word tests t e at).there
 
-pub at_leaf : (level : Level) (point : Point) (word tests t : ℕ) → place_of word ≡ ssector t
-    → IsAt level point word tests → IsLeaf level point t
-at_leaf level point word tests t e at =
-    way_leaf level point tests t (tree_from_sound level at.sound)
-    (at_ssector level point word tests t e at)
+pub at_leaf : (level : Level) (point : Point) (word tests t : ℕ) → place_of word ≡ ssector t → IsAt level point word tests → IsLeaf level point t
+at_leaf level point word tests t e at = way_leaf level point tests t (tree_from_sound level at.sound) (at_ssector level point word tests t e at)
 
-pub at_tests : (level : Level) (point : Point) (word tests t : ℕ) → place_of word ≡ ssector t
-    → IsAt level point word tests → CountsAncestors level t tests
-at_tests level point word tests t e at =
-    way_tests level point tests t (tree_from_sound level at.sound)
-    (at_ssector level point word tests t e at)
+pub at_tests : (level : Level) (point : Point) (word tests t : ℕ) → place_of word ≡ ssector t → IsAt level point word tests → CountsAncestors level t tests
+at_tests level point word tests t e at = way_tests level point tests t (tree_from_sound level at.sound) (at_ssector level point word tests t e at)
 
-pub at_only : (level : Level) (point : Point) (word tests t : ℕ) → place_of word ≡ ssector t
-    → IsAt level point word tests → (u : ℕ) → IsLeaf level point u → u ≡ t
-at_only level point word tests t e at u leaf =
-    one_leaf level point u t leaf (at_leaf level point word tests t e at)
+pub at_only : (level : Level) (point : Point) (word tests t : ℕ) → place_of word ≡ ssector t → IsAt level point word tests → (u : ℕ) → IsLeaf level point u → u ≡ t
+at_only level point word tests t e at u leaf = one_leaf level point u t leaf (at_leaf level point word tests t e at)
 
-pub at_fits : (level : Level) (point : Point) (word tests : ℕ) → word < 32768
-    → IsAt level point word tests → tests + 1 < 4294967296
-at_fits level point word tests below at =
-    omega (arith, at_deep level point word tests below at, few_nodes level at.sound)
+pub at_fits : (level : Level) (point : Point) (word tests : ℕ) → word < 32768 → IsAt level point word tests → tests + 1 < 4294967296
+at_fits level point word tests below at = omega (arith, at_deep level point word tests below at, few_nodes level at.sound)
 
-pub at_smaller : (level : Level) (point : Point) (word tests : ℕ) → word < 32768
-    → IsAt level point word tests → node_count level - (tests + 1) < node_count level - tests
+pub at_smaller : (level : Level) (point : Point) (word tests : ℕ) → word < 32768 → IsAt level point word tests → node_count level - (tests + 1) < node_count level - tests
 at_smaller level point word tests below at = omega (arith, at_deep level point word tests below at)
 
 -- a leaf is an ssector that is there
-pub leaf_within : (level : Level) (point : Point) (t : ℕ) → IsSound level → IsLeaf level point t
-    → t < ssector_count level
-leaf_within level point t sound leaf =
-    ltb-true t (ssector_count level)
-    (reached_there level (ssector t) (some_ssector level sound) leaf.reached)
+pub leaf_within : (level : Level) (point : Point) (t : ℕ) → IsSound level → IsLeaf level point t → t < ssector_count level
+leaf_within level point t sound leaf = ltb-true t (ssector_count level) (reached_there level (ssector t) (some_ssector level sound) leaf.reached)

@@ -1,17 +1,18 @@
 -- The way of a point down from the root, and its end.
 use Rattle.std.proofs.Common.{◌≡◌, ℕ, zero, suc, ◌+◌, ◌<◌, ◌≤◌, inl, inr, refl, sym, ap, ◌∙◌, subst, List, [], ◌∷◌, length, Option, Some, None, IsTrue, arith}
 use Rattle.std.specs.Prelude.{IsSome}
-use Rattle.std.specs.Option.{option_map}
+use Rattle.std.specs.List.{slice_get}
+use Rattle.std.specs.Option.{option_map, option_and_then}
 use Rattle.map_geo.specs.Partition.{partition_of}
 use Rattle.map_geo.specs.Side.{side_of}
 use Rattle.std.proofs.lemmas.Bool.{lt-ltb, ltb-true}
-use Rattle.std.proofs.lemmas.Option.{slice_get_cases}
+use Rattle.std.proofs.lemmas.Option.{cond_some, slice_get_cases, slice_get_within}
 use Rattle.le_rec.specs.declared.records.Node.{Node}
 use Rattle.map_geo.specs.declared.sides.Side.{Side}
 use Rattle.map_geo.specs.Point.{Point}
 use Rattle.map_level.specs.Level.{Level}
 use Rattle.map_tree.specs.Paths.{Place, node, ssector, LeadsIn}
-use Rattle.map_tree.specs.Child.{node_count, ssector_count, has, child, root, side_at}
+use Rattle.map_tree.specs.Child.{node_count, ssector_count, place_of, word_at, has, where_there, child, root, side_at}
 use Rattle.map_tree.specs.Leaf.{ChildLeads, IsLeaf, CountsAncestors}
 use Rattle.map_tree.specs.Sound.{IsTree, IsSound}
 use Rattle.map_tree.proofs.ChainLemmas.{Turn, go, Mem, nodes_of, length_nodes_of, Chain, leads_from_chain, go_on, turn_leads, Contains-from_mem, mem_from_Contains, all_pairs_apart}
@@ -177,6 +178,14 @@ side_some level point n within = elim (slice_get_cases level.nodes.records n).1 
 pub child_some : (level : Level) (n : ℕ) (s : Side) → IsTree level → n < node_count level
     → (p : Place) × (child level n s ≡ Some p)
 child_some level n s tree within = some_from_is_some (child level n s) (tree.words n s within)
+
+-- which is the place that its child word names
+pub child_is : (level : Level) (n : ℕ) (found : Node) (s : Side) → IsTree level → slice_get level.nodes.records n ≡ Some found → child level n s ≡ Some (place_of (word_at found s))
+child_is level n found s tree e =
+    let some = child_some level n s tree (slice_get_within level.nodes.records n found e) in
+    let opened : where_there level (place_of (word_at found s)) ≡ Some some.0 =
+    sym (ap (λ (o : Option Node). option_and_then (λ found. where_there level (place_of (word_at found s))) o) e) ∙ some.1 in
+    some.1 ∙ ap Some (sym (cond_some (has level (place_of (word_at found s))) (place_of (word_at found s)) some.0 opened).1)
 
 -- each way goes on to a leaf
 falls : (fuel : ℕ) (level : Level) (point : Point) (tests : ℕ) (p : Place) → IsTree level

@@ -1,16 +1,20 @@
 -- What the definitions over a level give: where a child is, and that a sound level is a tree.
-use Rattle.std.proofs.Common.{◌≡◌, ℕ, zero, suc, ◌<◌, ◌≤◌, ◌⊎◌, inl, inr, refl, sym, ap, ◌∙◌, subst, Some, IsTrue, arith}
+use Rattle.std.proofs.Common.{◌≡◌, ℕ, zero, suc, ◌<◌, ◌≤◌, ◌⊎◌, inl, inr, refl, sym, ap, ◌∙◌, subst, ℤ, pos, negsuc, length, Option, Some, IsTrue, arith}
+use Rattle.std.specs.Prelude.{nat_lt, option_and_then}
 use Rattle.std.specs.List.{slice_get}
 use Rattle.std.proofs.lemmas.Bool.{lt-ltb, ltb-true, cases_lt}
 use Rattle.std.proofs.lemmas.List.{length-map}
 use Rattle.map_level.specs.Reading.{ssector_under}
 use Rattle.std.proofs.lemmas.Option.{option_and_then_some, cond_some, slice_get_within}
 use Rattle.le_rec.specs.declared.records.Node.{Node}
+use Rattle.le_rec.specs.declared.records.Seg.{Seg}
+use Rattle.le_rec.specs.declared.records.SideDef.{SideDef}
 use Rattle.map_geo.specs.declared.sides.Side.{Side}
 use Rattle.map_level.specs.Level.{Level}
 use Rattle.map_level.specs.declared.finding.Code.TheVariants.{F17, F18, N1}
 use Rattle.map_level.specs.Findings.{place}
-use Rattle.map_level.specs.SectorOf.{IsLinked}
+use Rattle.map_level.specs.Links.{sectors_of}
+use Rattle.map_level.specs.SectorOf.{number_named, first_seg, sidedef_of, sector_of, IsLinked}
 use Rattle.map_tree.specs.Paths.{Place, node, ssector}
 use Rattle.map_tree.specs.Child.{node_count, ssector_count, place_of, word_at, has, where_there, child, root_of, root}
 use Rattle.map_tree.specs.Sound.{IsTree, IsSound}
@@ -86,6 +90,20 @@ few_nodes level sound = elim (cases_lt 32767 (node_count level)) [
 pub linked_from_sound : (level : Level) → IsSound level → IsLinked level
 linked_from_sound level sound =
     λ code i link h. sound.linked code i (lt-ltb (place code) (place N1) (omega (arith, link.1))) h
+
+-- a number that names one of so many is below them
+number_below : (count : ℕ) (z : ℤ) (k : ℕ) → number_named count z ≡ Some k → k < count
+number_below count (pos n) k e =
+    let r = cond_some (nat_lt n count) n k e in
+    subst (λ m. m < count) r.1 (ltb-true n count r.0)
+number_below count (negsuc n) k e = cc
+
+-- the sector of an ssector is one of the level's
+pub sector_below : (level : Level) (t k : ℕ) → sector_of level t ≡ Some k → k < length level.sectors.records
+sector_below level t k e =
+    let number : SideDef → Option ℕ = λ sidedef. number_named (length (sectors_of level)) sidedef.sector in
+    option_and_then_some (λ (seg : Seg). option_and_then number (sidedef_of level seg)) (first_seg level t) k e (λ seg first on.
+    option_and_then_some number (sidedef_of level seg) k on (λ sidedef there is. number_below (length (sectors_of level)) sidedef.sector k is))
 
 pub root_there : (level : Level) → 0 < ssector_count level → IsTrue (has level (root level))
 root_there level some = elim (zero_or_suc (node_count level)) [

@@ -10,3 +10,11 @@ pub mod LawLemmas
 pub mod SlotLemmas
 pub mod WordLemmas
 pub mod MarkLemmas
+pub mod MiddleLemmas
+pub mod RowLemmas
+pub mod BoundLemmas
+pub mod WorkLemmas
+pub mod CountLemmas
+pub mod HeldLemmas
+pub mod TurnLemmas
+pub mod PairLemmas

@@ -4,6 +4,11 @@ pub mod TreeFaults
 pub mod Sound
 pub mod Leaf
 pub mod Sizes
+pub mod Cuts
+pub mod Work
+pub mod PlainCount
+pub mod Steps
+pub mod Counts
 pub mod Laws
 pub mod Slots
 pub mod WordCounts

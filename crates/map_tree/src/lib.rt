@@ -1,15 +1,21 @@
 //! The nodes of a level as a tree: what is wrong with them, and the ssector of each point.
 #![tactic(auto)]
 
+mod census;
+mod counts;
+mod cut;
 pub mod laws;
 mod marks;
+mod pieces;
 mod places;
+mod row;
 mod soundness;
 mod tree;
 mod tree_codes;
 mod tree_faults;
 mod words;
 
+pub use counts::Counts;
 pub use soundness::is_sound;
 pub use tree::Tree;
 pub use tree_codes::tree_findings;

@@ -1,5 +1,4 @@
-//! The descent of a point through the nodes of a sound level
-//! (`R_PointInSubsector` of linuxdoom 1.10).
+//! The descent of a point through the nodes of a sound level (`R_PointInSubsector` of linuxdoom 1.10).
 
 ghost use Rattle.std.specs.Prelude.{◌≡◌, ◌<◌, ◌≤◌, ℕ, Some, IsSomeAnd, length};
 ghost use Rattle.std.specs.List.{slice_get};
@@ -44,8 +43,17 @@ impl<'l, 'a> Tree<'l, 'a> {
         Tree { level }
     }
 
-    /// The number of the ssector in which the point lies, and how many tests of its side it took:
-    /// one for each node above that ssector.
+    // The level.
+    #[inline]
+    pub(crate) fn level(&self) -> &'l Level<'a>
+        ensures is { result.now ≡ self.now }
+        ensures sound { IsSound self.now }
+    {
+        self.level
+    }
+
+    /// The number of the ssector in which the point lies, and how many tests of its side it took: one
+    /// for each node above that ssector.
     pub fn leaf(&self, point: Point) -> (u16, u32)
         ensures leaf { IsLeaf self.now point result.0 }
         ensures only { (t : ℕ) → IsLeaf self.now point t → t ≡ result.0 }
@@ -73,7 +81,7 @@ impl<'l, 'a> Tree<'l, 'a> {
 }
 
 // The word that names the root: the last of so many nodes, or ssector 0 where there are none.
-fn root_word(nodes: usize) -> u16
+pub(crate) fn root_word(nodes: usize) -> u16
     requires { nodes ≤ 32767 }
     ensures { place_of result ≡ root_of nodes }
 {

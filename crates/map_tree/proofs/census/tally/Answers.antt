@@ -1,0 +1,97 @@
+use Rattle.std.proofs.Common.{◌+◌, ◌<◌, reverse, length-set, get_or, refl, ap, ◌∙◌, rules, arith}
+use Rattle.std.proofs.lemmas.List.{length-reverse}
+use Rattle.map_tree.specs.declared.pieces.Piece.{Piece}
+use Rattle.map_tree.specs.Sizes.{size_of}
+use Rattle.map_tree.proofs.HeldLemmas.{sized-from_sound, Held-start}
+use Rattle.map_tree.proofs.TurnLemmas.{reverse_push, empty, sum_zeros, tests_fit, most_fits, done, leaf_fits, turn-leaf, turn-down, turn-apart, turn-pushed, fewer-down, fewer-apart}
+use Rattle.map_tree.proofs.census.tally.Goals as goal
+
+pub loop-next-init : goal.loop-next-init
+loop-next-init g c =
+    let sized = sized-from_sound c.args.level.now c.requires.sound in
+    record {
+      held = rw c.new-pending.ensures.items (Held-start c.args.level.now (size_of c.args.level.now) c.args.rect sized c.start-hand.result c.args.counts.now c.start-hand.ensures.rect c.start-hand.ensures.word c.start-hand.ensures.valid (sum_zeros c.args.counts.now c.requires.zeros) c.requires.zeros);
+      long = refl;
+    }
+
+pub overflow_add-tests : goal.overflow_add-tests
+overflow_add-tests g c =
+    let sized = sized-from_sound c.args.level.now c.requires.sound in
+    let valid = c.start-hand.ensures.valid in
+    let step = rw c.nodes-nodes.ensures.is at c.in-Down.ensures in
+    tests_fit c.args.level.now (size_of c.args.level.now) c.args.rect sized valid _ _ _ _ (turn-down c.args.level.now (size_of c.args.level.now) c.args.rect sized valid c.loop-next.hand _ _ _ _ c.loop-next.invariant.held c.in-Down.next step)
+
+pub overflow_add-tests-in-Apart : goal.overflow_add-tests-in-Apart
+overflow_add-tests-in-Apart g c =
+    let sized = sized-from_sound c.args.level.now c.requires.sound in
+    let valid = c.start-hand.ensures.valid in
+    let step = rw c.nodes-nodes.ensures.is at c.in-Apart.ensures in
+    tests_fit c.args.level.now (size_of c.args.level.now) c.args.rect sized valid _ _ _ _ (turn-apart c.args.level.now (size_of c.args.level.now) c.args.rect sized valid c.loop-next.hand _ _ _ _ c.loop-next.invariant.held c.in-Apart.halves step)
+
+pub overflow_add-counts : goal.overflow_add-counts
+overflow_add-counts g c =
+    let sized = sized-from_sound c.args.level.now c.requires.sound in
+    let leaf = c.in-AtSsector.ensures in
+    let small : c.ssector_sector.result < 65536 = search rules in
+    let within = c.requires.within _ _ c.ssector_sector.ensures small in
+    leaf_fits c.args.level.now (size_of c.args.level.now) c.args.rect sized c.start-hand.ensures.valid c.loop-next.hand _ _ _ _ c.loop-next.invariant.held c.from-in-AtSsector.result c.in-AtSsector.points (rw (c.from-in-AtSsector.ensures, c.loop-next.invariant.long) within) leaf.2
+
+pub overflow_cast-result : goal.overflow_cast-result
+overflow_cast-result g c =
+    let sized = sized-from_sound c.args.level.now c.requires.sound in
+    most_fits c.args.level.now (size_of c.args.level.now) c.args.rect sized c.start-hand.ensures.valid _ _ _ _ c.loop-next.invariant.held
+
+pub returns-in-None-clause-tally : goal.returns-in-None-clause-tally
+returns-in-None-clause-tally g c =
+    let sized = sized-from_sound c.args.level.now c.requires.sound in
+    let valid = c.start-hand.ensures.valid in
+    let leaf = c.in-AtSsector.ensures in
+    let small : c.ssector_sector.result < 65536 = search rules in
+    let within = c.requires.within _ _ c.ssector_sector.ensures small in
+    let sector_is = rw (c.from.ensures ∙ leaf.1, ← c.from-in-AtSsector.ensures) at c.ssector_sector.ensures in
+    let held = turn-leaf c.args.level.now (size_of c.args.level.now) c.args.rect sized valid c.loop-next.hand _ _ _ _ c.loop-next.invariant.held c.from-in-AtSsector.result c.in-AtSsector.points leaf.0 sector_is (rw (c.from-in-AtSsector.ensures, c.loop-next.invariant.long) within) leaf.2 in
+    let none = empty c.loop-next.pending.items (omega (arith, c.loop-next.pending.ok.0, c.in-None.ensures.cases.0)) in
+    done c.args.level.now (size_of c.args.level.now) c.args.rect sized valid _ _ _ (rw none at held)
+
+pub loop-next-smaller-in-Down : goal.loop-next-smaller-in-Down
+loop-next-smaller-in-Down g c =
+    let sized = sized-from_sound c.args.level.now c.requires.sound in
+    let step = rw c.nodes-nodes.ensures.is at c.in-Down.ensures in
+    fewer-down c.args.level.now (size_of c.args.level.now) c.args.rect sized c.start-hand.ensures.valid c.loop-next.hand _ _ _ _ c.loop-next.invariant.held c.in-Down.next step
+
+pub loop-next-preserved-in-Down : goal.loop-next-preserved-in-Down
+loop-next-preserved-in-Down g c =
+    let sized = sized-from_sound c.args.level.now c.requires.sound in
+    let step = rw c.nodes-nodes.ensures.is at c.in-Down.ensures in
+    record {
+      held = turn-down c.args.level.now (size_of c.args.level.now) c.args.rect sized c.start-hand.ensures.valid c.loop-next.hand _ _ _ _ c.loop-next.invariant.held c.in-Down.next step;
+      long = c.loop-next.invariant.long;
+    }
+
+pub loop-next-smaller-in_ok-push-in-Apart : goal.loop-next-smaller-in_ok-push-in-Apart
+loop-next-smaller-in_ok-push-in-Apart g c =
+    let sized = sized-from_sound c.args.level.now c.requires.sound in
+    let step = rw c.nodes-nodes.ensures.is at c.in-Apart.ensures in
+    let pushed = ap (λ (ps : _). reverse ps) c.in_ok-push-in-Apart.ensures.items ∙ reverse_push c.loop-next.pending.items c.in-Apart.halves.first in
+    rw pushed (fewer-apart c.args.level.now (size_of c.args.level.now) c.args.rect sized c.start-hand.ensures.valid c.loop-next.hand _ _ _ _ c.loop-next.invariant.held c.in-Apart.halves step)
+
+pub loop-next-preserved-in_ok-push-in-Apart : goal.loop-next-preserved-in_ok-push-in-Apart
+loop-next-preserved-in_ok-push-in-Apart g c =
+    let sized = sized-from_sound c.args.level.now c.requires.sound in
+    let step = rw c.nodes-nodes.ensures.is at c.in-Apart.ensures in
+    let pushed = ap (λ (ps : _). reverse ps) c.in_ok-push-in-Apart.ensures.items ∙ reverse_push c.loop-next.pending.items c.in-Apart.halves.first in
+    record {
+      held = rw pushed (turn-pushed c.args.level.now (size_of c.args.level.now) c.args.rect sized c.start-hand.ensures.valid c.loop-next.hand _ _ _ _ c.loop-next.invariant.held c.in-Apart.halves c.len.result c.max-most.result step c.max-most.ensures (omega (arith, length-reverse {A = Piece} c.loop-next.pending.items, c.loop-next.pending.ok.0, c.len.ensures, c.in_ok-push-in-Apart.ensures.len)));
+      long = c.loop-next.invariant.long;
+    }
+
+pub loop-next-preserved : goal.loop-next-preserved
+loop-next-preserved g c =
+    let sized = sized-from_sound c.args.level.now c.requires.sound in
+    let leaf = c.in-AtSsector.ensures in
+    let small : c.ssector_sector.result < 65536 = search rules in
+    let within = c.requires.within _ _ c.ssector_sector.ensures small in
+    let sector_is = rw (c.from.ensures ∙ leaf.1, ← c.from-in-AtSsector.ensures) at c.ssector_sector.ensures in
+    let held = turn-leaf c.args.level.now (size_of c.args.level.now) c.args.rect sized c.start-hand.ensures.valid c.loop-next.hand _ _ _ _ c.loop-next.invariant.held c.from-in-AtSsector.result c.in-AtSsector.points leaf.0 sector_is (rw (c.from-in-AtSsector.ensures, c.loop-next.invariant.long) within) leaf.2 in
+    let popped = ap (λ (ps : _). reverse ps) c.in-Some.ensures.items ∙ reverse_push c.pop.new.self.items c.in-Some.next in
+    record { held = rw popped at held; long = length-set c.loop-next.counts c.from-in-AtSsector.result (get_or c.loop-next.counts c.from-in-AtSsector.result 0 + c.in-AtSsector.points) ∙ c.loop-next.invariant.long }

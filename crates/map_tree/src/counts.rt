@@ -1,0 +1,70 @@
+//! What a census tells, and the list of its pairs.
+
+ghost use Rattle.std.specs.Prelude.{◌≡◌, ◌≤◌, IfOk, length, slice_index};
+ghost use Rattle.std.specs.List.{slice_get, sum, sum_by};
+ghost use Rattle.map_tree.specs.Counts.{ArePairs};
+
+use std::alloc::{AllocError, Allocator, Global};
+use std::marker::Model;
+
+/// How many points of a rectangle lie in each sector, and what it took to count them.
+#[derive(Drop)]
+pub struct Counts<A: Allocator = Global> {
+    pub(crate) pairs: Vec<(u16, u32), A>,
+    pub(crate) tests: u64,
+    pub(crate) pending: u32,
+}
+
+impl<A: Allocator> Model for Counts<A> {
+    ghost use Rattle.map_tree.specs.Counts as counts;
+
+    ghost Value = { counts.Counts };
+
+    ghost view = { λ c. record { pairs = c.pairs.items; tests = c.tests; pending = c.pending } };
+}
+
+impl<A: Allocator> Counts<A> {
+    /// How many sectors have points.
+    pub fn len(&self) -> usize
+        ensures { result ≡ length self.now.pairs }
+    {
+        self.pairs.len()
+    }
+
+    /// The pair of a number, from 0: a sector, ascending, and how many points it has.
+    pub fn get(&self, number: usize) -> Option<(u16, u32)>
+        ensures { result ≡ slice_get self.now.pairs number }
+    {
+        self.pairs.get(number).copied()
+    }
+
+    /// How many calls of `whole_side` and `side` the census made.
+    pub fn tests(&self) -> u64
+        ensures { result ≡ self.now.tests }
+    {
+        self.tests
+    }
+
+    /// The most pieces that were pending at once, the one in hand included.
+    pub fn pending(&self) -> u32
+        ensures { result ≡ self.now.pending }
+    {
+        self.pending
+    }
+}
+
+/// The sectors with points and how many they have, from a list with a number for each sector.
+pub fn pairs<A: Allocator>(alloc: A, counts: &[u32]) -> Result<Vec<(u16, u32), A>, AllocError>
+    requires { length counts.now ≤ 65536 }
+    ensures pairs { IfOk result (λ v. ArePairs (slice_index counts.now) v.items) }
+    ensures total { IfOk result (λ v. sum_by (λ pair. pair.1) v.items ≡ sum counts.now) }
+{
+    let mut pairs = Vec::new(alloc);
+    for sector in 0..counts.len() {
+        let count = counts[sector];
+        if count > 0 {
+            pairs.push((sector as u16, count))?;
+        }
+    }
+    Ok(pairs)
+}

@@ -187,10 +187,10 @@ measure_apart a b c more r k some h = omega arith
 leaf_owes : (t m d k : ℕ) → suc k ≤ m → max m (1 + k) ≡ m
 leaf_owes t m d k h = omega arith
 
-one_at-same : (s k : ℕ) → s ≡ k → one_at s k ≡ 1
+pub one_at-same : (s k : ℕ) → s ≡ k → one_at s k ≡ 1
 one_at-same s k e = grind (arith, nat_tests)
 
-one_at-other : (s k : ℕ) → (s ≡ k → ⊥) → one_at s k ≡ 0
+pub one_at-other : (s k : ℕ) → (s ≡ k → ⊥) → one_at s k ≡ 0
 one_at-other s k e = grind (arith, nat_tests)
 
 counted_same : (now was a height width one r n : ℕ) → now ≡ was + height * width → one ≡ 1 → a ≡ height * (width * one) → was + (a + r) ≡ n → now + r ≡ n

@@ -1,5 +1,5 @@
 -- The laws of sound levels.
-use Rattle.std.proofs.Common.{◌≡◌, ℕ, List, [], length, get_or, refl, sym, ◌∙◌, subst, inl, inr, IsTrue, false, arith}
+use Rattle.std.proofs.Common.{◌≡◌, ℕ, List, [], length, get_or, refl, sym, ap, ◌∙◌, subst, inl, inr, Some, IsTrue, false, arith}
 use Rattle.std.specs.Prelude.{◌↔◌, All}
 use Rattle.std.proofs.lemmas.Bool.{false≢true, false_from_ne_true}
 use Rattle.std.proofs.lemmas.List.Elements.{All-contains, Contains-get_or}
@@ -11,12 +11,23 @@ use Rattle.map_level.specs.LinkFaults.{LinkHolds}
 use Rattle.map_tree.specs.TreeFaults.{TreeHolds}
 use Rattle.map_tree.specs.Sound.{IsSound}
 use Rattle.map_tree.specs.Paths.{ssector}
-use Rattle.map_tree.specs.Leaf.{CountsAncestors}
+use Rattle.map_tree.specs.Leaf.{IsLeaf, CountsAncestors}
 use Rattle.map_tree.proofs.ChainLemmas.{go_on}
 use Rattle.map_tree.specs.Child.{node_count, child, root}
-use Rattle.map_tree.specs.Laws.{OneLeaf, AncestorsByDepth, DepthAtMostNodes, SoundIsFaultless}
+use Rattle.map_tree.specs.Laws.{OneLeaf, AncestorsByDepth, DepthAtMostNodes, SoundIsFaultless, OneWork, FewTests, FewPending, SectorsAreTold, CountsAddUp}
+use Rattle.map_tree.specs.Sizes.{size_of}
+use Rattle.map_tree.proofs.WorkLemmas.{Work-once}
+use Rattle.map_tree.proofs.HeldLemmas.{area_from_rect, sized-from_sound}
+use Rattle.map_tree.proofs.TurnLemmas.{work_few_tests, work_few_pending}
+use Rattle.map_tree.proofs.TotalLemmas.{counts_total}
+use Rattle.map_level.proofs.LinkedLemmas.{linked_sector}
+use Rattle.map_level.specs.Reading.{ssector_under}
+use Rattle.map_level.specs.SectorOf.{sector_of}
+use Rattle.map_geo.specs.Point.{Point}
+use Rattle.std.proofs.lemmas.List.{length-map}
+use Rattle.map_tree.proofs.DescentLemmas.{leaf_within}
 use Rattle.map_tree.proofs.TreeLemmas.{depth_short}
-use Rattle.map_tree.proofs.SoundLemmas.{once_from_tree, tree_from_sound}
+use Rattle.map_tree.proofs.SoundLemmas.{once_from_tree, tree_from_sound, linked_from_sound}
 use Rattle.map_tree.proofs.FaultLemmas.{faultless_from_sound, sound_from_faultless}
 use Rattle.map_tree.proofs.LeafLemmas.{one_leaf, some_leaf, chain_ancestors}
 
@@ -27,40 +38,54 @@ law_one_leaf level point sound =
 
 pub law_depth : DepthAtMostNodes
 law_depth level steps place sound leads =
-    depth_short (child level) (node_count level) (root level)
-    (once_from_tree level (tree_from_sound level sound)) steps place leads
+    depth_short (child level) (node_count level) (root level) (once_from_tree level (tree_from_sound level sound)) steps place leads
 
 pub law_ancestors : AncestorsByDepth
 law_ancestors level steps t sound leads =
     let r = go_on (child level) steps (root level) (root level) (ssector t) [] refl leads in
     let long : length r.turns ≡ steps = omega (arith, r.long) in
-    subst (λ count. CountsAncestors level t count) long
-    (chain_ancestors level r.turns t (tree_from_sound level sound) r.is)
+    subst (λ count. CountsAncestors level t count) long (chain_ancestors level r.turns t (tree_from_sound level sound) r.is)
 
 pub law_faultless : SoundIsFaultless
 law_faultless level = (faultless_from_sound level, sound_from_faultless level)
 
+pub law_one_work : OneWork
+law_one_work level rect place w p v q valid one other = Work-once level rect place w p v q (area_from_rect rect valid) one other
+
+pub law_few_tests : FewTests
+law_few_tests level rect w p sound valid work = work_few_tests level (size_of level) rect (sized-from_sound level sound) valid w p work
+
+pub law_few_pending : FewPending
+law_few_pending level rect w p sound valid work = work_few_pending level (size_of level) rect (sized-from_sound level sound) valid w p work
+
+-- the sector of the leaf that each point has
+sector_told : (level : Level) (point : Point) → IsSound level → (s : ℕ) × ((t : ℕ) → IsLeaf level point t → sector_of level t ≡ Some s)
+sector_told level point sound =
+    let leaf = law_one_leaf level point sound in
+    let told = linked_sector level (linked_from_sound level sound) leaf.0 (rw (length-map level.ssectors.records (ssector_under level.reading)) (leaf_within level point leaf.0 sound leaf.1)) in
+    (told.0, (λ t other. ap (sector_of level) (leaf.2 t other) ∙ told.1))
+
+pub law_sectors : SectorsAreTold
+law_sectors level sound = ((λ point. (sector_told level point sound).0), (λ point. (sector_told level point sound).1))
+
+pub law_counts : CountsAddUp
+law_counts sector rect pairs are = counts_total sector rect pairs are
+
 -- a level is sound exactly where neither part of its report has a fault
-none_holds : (holds : Code → ℕ → Type 0) (found : List Finding) → AreFindings holds found
-    → All (λ f. is_fault f.code ≡ false) found
+none_holds : (holds : Code → ℕ → Type 0) (found : List Finding) → AreFindings holds found → All (λ f. is_fault f.code ≡ false) found
     → (code : Code) (i : ℕ) → IsTrue (is_fault code) → ¬ holds code i
 none_holds holds found are none code i fault h =
     let f : Finding = record { code = code; index = i } in
-    false≢true (sym (All-contains (λ (g : Finding). is_fault g.code ≡ false) found f none
-    ((are.exact f).1 h)) ∙ fault)
+    false≢true (sym (All-contains (λ (g : Finding). is_fault g.code ≡ false) found f none ((are.exact f).1 h)) ∙ fault)
 
-none_found : (holds : Code → ℕ → Type 0) (found : List Finding) → AreFindings holds found
-    → ((code : Code) (i : ℕ) → IsTrue (is_fault code) → ¬ holds code i)
+none_found : (holds : Code → ℕ → Type 0) (found : List Finding) → AreFindings holds found → ((code : Code) (i : ℕ) → IsTrue (is_fault code) → ¬ holds code i)
     → All (λ f. is_fault f.code ≡ false) found
 none_found holds found are none = λ k d below.
     let f = get_or found k d in
-    false_from_ne_true (is_fault f.code)
-    (λ fault. none f.code f.index fault ((are.exact f).0 (Contains-get_or found k d below)))
+    false_from_ne_true (is_fault f.code) (λ fault. none f.code f.index fault ((are.exact f).0 (Contains-get_or found k d below)))
 
-pub sound_by_findings : (level : Level) (links nodes : List Finding)
-    → AreFindings (LinkHolds level) links → AreFindings (TreeHolds level) nodes
-    → IsSound level
-    ↔ (All (λ f. is_fault f.code ≡ false) links × All (λ f. is_fault f.code ≡ false) nodes)
+pub sound_by_findings : (level : Level) (links nodes : List Finding) → AreFindings (LinkHolds level) links → AreFindings (TreeHolds level) nodes
+    → IsSound level ↔ (All (λ f. is_fault f.code ≡ false) links × All (λ f. is_fault f.code ≡ false) nodes)
 sound_by_findings level links nodes are_links are_nodes = (
   (λ sound.
       let none = faultless_from_sound level sound in (

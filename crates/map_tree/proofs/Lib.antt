@@ -18,3 +18,4 @@ pub mod CountLemmas
 pub mod HeldLemmas
 pub mod TurnLemmas
 pub mod PairLemmas
+pub mod TotalLemmas

@@ -1,30 +1,49 @@
 -- Laws of sound levels.
-use Rattle.std.specs.Prelude.{◌≡◌, ◌↔◌, ℕ, ◌≤◌}
+use Rattle.std.specs.Prelude.{◌≡◌, ◌↔◌, ℕ, ◌+◌, ◌*◌, ◌≤◌, List}
+use Rattle.std.specs.List.{sum_by}
 use Rattle.map_geo.specs.Point.{Point}
+use Rattle.map_geo.specs.Rect.{Rect, IsRect}
 use Rattle.map_level.specs.Level.{Level}
 use Rattle.map_tree.specs.Paths.{Place, ssector, LeadsIn}
 use Rattle.map_tree.specs.Child.{node_count, child, root}
 use Rattle.map_tree.specs.Leaf.{IsLeaf, CountsAncestors}
 use Rattle.map_tree.specs.Sound.{IsSound, IsFaultless}
+use Rattle.map_tree.specs.PlainCount.{TellsSectors, rows_of, points_in, plain_count}
+use Rattle.map_tree.specs.Counts.{ArePairs}
+use Rattle.map_tree.specs.Work.{Work}
 
 -- each point has exactly one leaf
 abbrev pub OneLeaf : Type 0
-OneLeaf =
-    (level : Level) (point : Point) → IsSound level
-    → (t : ℕ) × IsLeaf level point t × ((u : ℕ) → IsLeaf level point u → u ≡ t)
+OneLeaf = (level : Level) (point : Point) → IsSound level → (t : ℕ) × IsLeaf level point t × ((u : ℕ) → IsLeaf level point u → u ≡ t)
 
 -- an ssector has as many ancestors as the root leads to it in steps
 abbrev pub AncestorsByDepth : Type 0
-AncestorsByDepth =
-    (level : Level) (steps t : ℕ) → IsSound level
-    → LeadsIn (child level) steps (root level) (ssector t) → CountsAncestors level t steps
+AncestorsByDepth = (level : Level) (steps t : ℕ) → IsSound level → LeadsIn (child level) steps (root level) (ssector t) → CountsAncestors level t steps
 
 -- the root leads to each place in at most as many steps as there are nodes
 abbrev pub DepthAtMostNodes : Type 0
-DepthAtMostNodes =
-    (level : Level) (steps : ℕ) (place : Place) → IsSound level
-    → LeadsIn (child level) steps (root level) place → steps ≤ node_count level
+DepthAtMostNodes = (level : Level) (steps : ℕ) (place : Place) → IsSound level → LeadsIn (child level) steps (root level) place → steps ≤ node_count level
 
 -- a level is sound exactly where no fault holds
 abbrev pub SoundIsFaultless : Type 0
 SoundIsFaultless = (level : Level) → IsSound level ↔ IsFaultless level
+
+-- a piece takes one number of tests and is one deep
+abbrev pub OneWork : Type 0
+OneWork = (level : Level) (rect : Rect) (place : Place) (w p v q : ℕ) → IsRect rect → Work level rect place w p → Work level rect place v q → (w ≡ v) × (p ≡ q)
+
+-- the work of a rectangle at the root is at most 18 tests for each of its rows and each node
+abbrev pub FewTests : Type 0
+FewTests = (level : Level) (rect : Rect) (w p : ℕ) → IsSound level → IsRect rect → Work level rect (root level) w p → w ≤ 18 * rows_of rect * node_count level
+
+-- and it is at most as deep as there are nodes, and 16
+abbrev pub FewPending : Type 0
+FewPending = (level : Level) (rect : Rect) (w p : ℕ) → IsSound level → IsRect rect → Work level rect (root level) w p → p ≤ node_count level + 16
+
+-- there is a function that gives each point the sector of its leaf
+abbrev pub SectorsAreTold : Type 0
+SectorsAreTold = (level : Level) → IsSound level → (sector : Point → ℕ) × TellsSectors level sector
+
+-- the plain counts of all sectors add up to the rectangle's points
+abbrev pub CountsAddUp : Type 0
+CountsAddUp = (sector : Point → ℕ) (rect : Rect) (pairs : List (ℕ × ℕ)) → ArePairs (λ s. plain_count sector s rect) pairs → sum_by (λ pair. pair.1) pairs ≡ points_in rect

@@ -1,15 +1,15 @@
 //! Laws of sound levels, each the contract of a function that does nothing.
 
-ghost use Rattle.map_tree.specs.Laws.{OneLeaf, AncestorsByDepth, DepthAtMostNodes};
-ghost use Rattle.map_tree.specs.Laws.{SoundIsFaultless};
+ghost use Rattle.map_tree.specs.Laws.{OneLeaf, AncestorsByDepth, DepthAtMostNodes, SoundIsFaultless};
+ghost use Rattle.map_tree.specs.Laws.{OneWork, FewTests, FewPending, SectorsAreTold, CountsAddUp};
 
 /// In a sound level each point has exactly one leaf.
 pub fn one_leaf()
     ensures { OneLeaf }
 {}
 
-/// In a sound level an ssector has as many ancestors as it stands deep,
-/// and at most as many as there are nodes.
+/// In a sound level an ssector has as many ancestors as it stands deep, and at most as many as there
+/// are nodes.
 pub fn ancestors_by_depth()
     ensures ancestors { AncestorsByDepth }
     ensures few { DepthAtMostNodes }
@@ -18,4 +18,19 @@ pub fn ancestors_by_depth()
 /// A level is sound exactly where none of the faults F3 to F18 holds.
 pub fn sound_is_faultless()
     ensures { SoundIsFaultless }
+{}
+
+/// A piece of a census takes one number of tests and is one deep. In a sound level a rectangle at the
+/// root takes at most 18 tests for each row and node, and is at most as deep as there are nodes and 16.
+pub fn one_work()
+    ensures one { OneWork }
+    ensures few_tests { FewTests }
+    ensures few_pending { FewPending }
+{}
+
+/// In a sound level a function gives each point its sector, and the counts of all sectors add up to the
+/// points of a rectangle.
+pub fn plain_counts()
+    ensures told { SectorsAreTold }
+    ensures total { CountsAddUp }
 {}

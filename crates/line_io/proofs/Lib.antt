@@ -3,6 +3,7 @@ pub mod DigitLemmas
 pub mod InputLemmas
 pub mod LineLemmas
 pub mod LinesLemmas
+pub mod NumberAnswersLemmas
 pub mod PartsLemmas
 pub mod ProgressLemmas
 pub mod ReadingLemmas

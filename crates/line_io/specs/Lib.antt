@@ -3,6 +3,7 @@ pub mod Decimal
 pub mod Laws
 pub mod LineAnswers
 pub mod Lines
+pub mod NumberAnswers
 pub mod Numbers
 pub mod ReadsAll
 pub mod Scan

@@ -10,6 +10,7 @@ pub mod laws;
 mod line_part;
 mod lines;
 mod output;
+mod refusal;
 #[cfg(test)]
 mod tests;
 mod text_line;
@@ -19,4 +20,5 @@ pub use fault::IoFault;
 pub use input::{LIMIT, read_all};
 pub use lines::{LineCommand, answer_lines};
 pub use output::emit;
+pub use refusal::LineRefusal;
 pub use text_line::TextLine;

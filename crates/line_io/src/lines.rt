@@ -11,6 +11,7 @@ use super::fault::IoFault;
 use super::input::{BLOCK, LIMIT, next_block};
 use super::line_part::{KEPT, LinePart};
 use super::output::emit;
+use super::refusal::LineRefusal;
 use le_rec::{Sink, Source};
 use memchr::memchr;
 
@@ -56,7 +57,7 @@ fn answer_line<C: LineCommand, W: Sink>(
 {
     let content = content_of(line);
     if content.len() > CONTENT {
-        emit(out, b"refused: form\n")
+        emit(out, LineRefusal::Form.text())
     } else {
         command.reply(content, out)
     }

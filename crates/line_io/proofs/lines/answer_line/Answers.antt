@@ -9,7 +9,7 @@ returns-then-content-gt-CONTENT g c =
     let long : 64 < length (content c.args.line.now) =
     omega (arith, ap length c.content_of-content.ensures) in
     record {
-      takes = λ f told. rw (line_answer_long f c.args.line.now long) c.emit.ensures.takes;
+      takes = λ f told. rw (line_answer_long f c.args.line.now long) (rw c.text.ensures at c.emit.ensures.takes);
       ends = EndsWriting-memory _ _ _ c.emit.ensures.ends;
     }
 

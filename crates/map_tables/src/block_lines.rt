@@ -1,7 +1,9 @@
-ghost use Rattle.std.specs.Prelude.{◌≡◌};
+ghost use Rattle.std.specs.Prelude.{◌≡◌, length};
+ghost use Rattle.std.specs.List.{slice_get};
 ghost use Rattle.std.specs.Iterator.{YieldsFirst, item_count};
 ghost use Rattle.map_tables.specs.Words.{words_under};
 
+use crate::words::Words;
 use le_rec::number::i16_at;
 use map_level::{Reading, number};
 use std::marker::Model;
@@ -29,6 +31,22 @@ impl<'a> BlockLines<'a> {
         ensures { result ≡ (words_under reading bytes.now).numbers }
     {
         BlockLines { bytes, reading }
+    }
+
+    /// How many there are.
+    #[inline]
+    pub fn len(&self) -> usize
+        ensures { result ≡ length self.now }
+    {
+        Words::of(self.bytes, self.reading).len()
+    }
+
+    /// The one of a number, counted from 0.
+    #[inline]
+    pub fn get(&self, i: usize) -> Option<i32>
+        ensures { result ≡ slice_get self.now i }
+    {
+        Words::of(self.bytes, self.reading).get(i)
     }
 }
 

@@ -1,55 +1,45 @@
--- How a block's line goes on, and what `blocks` answers to a content by its numbers.
-use Rattle.std.proofs.Common.{◌≡◌, ℕ, ◌≤◌, ℤ, pos, List, [], ◌∷◌, ◌++◌, length, get_or, refl, sym, ap, ◌∙◌, subst, append_assoc}
-use Rattle.line_io.specs.LineAnswers.{form_refused}
-use Rattle.line_io.specs.Numbers.{HasForm, nearest}
-use Rattle.map_geo.specs.Point.{Point, IsInRange, point_at}
-use Rattle.map_tables.specs.BlockMap.{BlockMap, IsBlockOf, block_number}
-use Rattle.map_tables.specs.Words.{HasNoEnd, IsBlockList, IsOffsetOutside}
-use Rattle.wad_look.specs.Engines.Blocks.{AnswersBlock, AnswersBlocks, block_text, fault_text, lines_text, no_block_text}
-use Rattle.wad_look.specs.Engines.Points.{range_refused}
+-- How a block's line goes on.
+use Rattle.std.proofs.Common.{◌≡◌, ℕ, zero, suc, ◌+◌, ◌-◌, ◌<◌, ◌≤◌, ℤ, pos, negsuc, decimal, List, [], ◌∷◌, ◌++◌, length, take, drop, Some, refl, sym, ap, ◌∙◌, append_assoc, arith, FitsSigned, w32}
+use Rattle.std.proofs.lemmas.Fmt.{length-decimal-le}
+use Rattle.std.proofs.lemmas.Int.{ints}
+use Rattle.std.proofs.lemmas.Grind.{flat_map-append}
+use Rattle.std.proofs.lemmas.List.{take-append-drop, drop-drop}
+use Rattle.std.specs.Fmt.{signed_decimal}
+use Rattle.std.specs.List.{slice_get}
+use Rattle.wad_look.specs.Engines.Blocks.{block_text}
 use Rattle.wad_look.specs.Engines.Show.{number_text, numbers_text}
-use Rattle.wad_look.proofs.PointsLemmas.{IsPair, exact_in_range, nearest_in_range}
+use Rattle.wad_look.proofs.RestLemmas.{drop-at}
 
 pub block_text-more : (x y : ℤ) (bx by : ℕ) (text more : List ℕ) → block_text x y bx by (text ++ more) ≡ block_text x y bx by text ++ more
 block_text-more x y bx by text more = simp append_assoc
 
-pub words-more : (word : ℤ) (words : List ℤ) (more : List ℕ) → numbers_text (word ∷ words) ++ more ≡ number_text word ++ (numbers_text words ++ more)
-words-more word words more = append_assoc (number_text word) (numbers_text words) more
+-- the words from a place on are those up to another, and those from there on
+words-cut : (words : List ℤ) (from to : ℕ) → from ≤ to → drop from words ≡ take (to - from) (drop from words) ++ drop to words
+words-cut words from to le =
+    let reach : from + (to - from) ≡ to = omega arith in
+    sym (take-append-drop (to - from) (drop from words))
+    ∙ ap (λ back. take (to - from) (drop from words) ++ back) (drop-drop (to - from) from words ∙ ap (λ n. drop n words) reach)
 
-module _ {map : BlockMap} {answer : List ℕ → List ℕ} {content : List ℕ} {values : List ℤ} (answers : AnswersBlocks map answer) (pair : IsPair content values) where
-  first : get_or values 0 (pos 0) ≡ nearest pair.x
-  first = ap (λ (vs : List ℤ). get_or vs 0 (pos 0)) pair.values_are
+-- the text of the words from a place on, and what follows, cut at another place
+pub words-part : (words : List ℤ) (from to : ℕ) (more : List ℕ) → from ≤ to
+    → numbers_text (drop from words) ++ more ≡ numbers_text (take (to - from) (drop from words)) ++ (numbers_text (drop to words) ++ more)
+words-part words from to more le =
+    ap (λ ws. numbers_text ws ++ more) (words-cut words from to le)
+    ∙ ap (λ text. text ++ more) (flat_map-append number_text (take (to - from) (drop from words)) (drop to words))
+    ∙ append_assoc (numbers_text (take (to - from) (drop from words))) (numbers_text (drop to words)) more
 
-  second : get_or values 1 (pos 0) ≡ nearest pair.y
-  second = ap (λ (vs : List ℤ). get_or vs 1 (pos 0)) pair.values_are
+-- the text of the words from a place on begins with the word there
+pub words-before : (words : List ℤ) (i to : ℕ) (word : ℤ) (more : List ℕ) → 0 < i → i ≤ to → slice_get words (i - 1) ≡ Some word
+    → numbers_text (take (to - (i - 1)) (drop (i - 1) words)) ++ more ≡ number_text word ++ (numbers_text (take (to - i) (drop i words)) ++ more)
+words-before words zero to word more some le at = absurd (omega arith)
+words-before words (suc k) to word more some le at =
+    let one : to - k ≡ suc (to - suc k) = omega arith in
+    let next : k + 1 ≡ suc k = omega arith in
+    let back : suc k - 1 ≡ k = omega arith in
+    let rest : take (to - k) (drop k words) ≡ word ∷ take (to - suc k) (drop (suc k) words) = rw (one, drop-at words k word (rw back at at), next) refl in
+    rw back (ap (λ ws. numbers_text ws ++ more) rest ∙ append_assoc (number_text word) (numbers_text (take (to - suc k) (drop (suc k) words))) more)
 
-  pub told_block : IsInRange (get_or values 0 (pos 0)) → IsInRange (get_or values 1 (pos 0)) → AnswersBlock map (get_or values 0 (pos 0)) (get_or values 1 (pos 0)) (answer content)
-  told_block x_in y_in =
-      let x = exact_in_range pair.x (subst IsInRange first x_in) in
-      let y = exact_in_range pair.y (subst IsInRange second y_in) in
-      rw (first ∙ x.1, second ∙ y.1) (answers.point content pair.x pair.y pair.are x.0 y.0)
-
-  pub told_no_point : ¬ (IsInRange (get_or values 0 (pos 0)) × IsInRange (get_or values 1 (pos 0))) → answer content ≡ range_refused
-  told_no_point out = answers.range content pair.x pair.y pair.are
-      (λ both. out (subst IsInRange (sym first) (nearest_in_range pair.x both.0), subst IsInRange (sym second) (nearest_in_range pair.y both.1)))
-
-pub told_no_pair : {map : BlockMap} {answer : List ℕ → List ℕ} {content : List ℕ} → AnswersBlocks map answer → length content ≤ 64
-    → ((exact : List ℤ) → HasForm 2 content exact → ⊥) → answer content ≡ form_refused
-told_no_pair {content = content} answers short none = answers.form content (λ x y are. none (x ∷ y ∷ []) (record { short = short; counted = refl; read = are }))
-
--- the text of a point's block, by what was found
-module _ {map : BlockMap} {x y : ℤ} {text : List ℕ} (point : Point) (is : point ≡ point_at x y) (answers : AnswersBlock map x y text) where
-  here : AnswersBlock map point.x point.y text
-  here = subst (λ (p : Point). AnswersBlock map p.x p.y text) (sym is) answers
-
-  pub told_none : ((bx by : ℕ) → ¬ IsBlockOf map point bx by) → text ≡ no_block_text point.x point.y
-  told_none none = here.none none
-
-  pub told_lines : (bx by : ℕ) (words : List ℤ) → IsBlockOf map point bx by → IsBlockList map.words (block_number map bx by) words → text ≡ block_text point.x point.y bx by (lines_text words)
-  told_lines bx by words block list = here.lines bx by words block list
-
-  pub told_outside : (bx by : ℕ) → IsBlockOf map point bx by → IsOffsetOutside map.words (block_number map bx by) → text ≡ block_text point.x point.y bx by (fault_text 1)
-  told_outside bx by block outside = here.outside bx by block outside
-
-  pub told_no_end : (bx by : ℕ) → IsBlockOf map point bx by → HasNoEnd map.words (block_number map bx by) → text ≡ block_text point.x point.y bx by (fault_text 2)
-  told_no_end bx by block no_end = here.no_end bx by block no_end
+-- the text of a word has at most eleven bytes
+pub word-short : (z : ℤ) → FitsSigned w32 z → length (signed_decimal z) ≤ 11
+word-short (pos n) fits = let digits : length (decimal n) ≤ 10 = length-decimal-le 10 n (omega (arith, ints)) (omega (arith, ints)) (omega (arith, ints)) in omega arith
+word-short (negsuc n) fits = let digits : length (decimal (suc n)) ≤ 10 = length-decimal-le 10 (suc n) (omega (arith, ints)) (omega (arith, ints)) (omega (arith, ints)) in omega arith

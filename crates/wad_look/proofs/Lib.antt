@@ -1,8 +1,9 @@
 pub mod AuditLemmas
+pub mod ContentsLemmas
 pub mod JobLemmas
 pub mod LumpsLemmas
 pub mod PointsLemmas
+pub mod RestLemmas
 pub mod ShowLemmas
 pub mod ExtractLemmas
-pub mod SightLemmas
 pub mod BlocksLemmas

@@ -5,12 +5,7 @@ use Rattle.le_rec.specs.Name.{name_of}
 use Rattle.le_rec.specs.declared.records.Entry.{Entry}
 use Rattle.wad_dir.specs.Wad.{Wad}
 use Rattle.wad_look.specs.Engines.Lumps.{entry_line, entries_text, file_text, files_text}
-
--- the rest of a list begins with the item at its place
-pub drop-at : {X : Type 0} (xs : List X) (i : ℕ) (x : X) → slice_get xs i ≡ Some x → drop i xs ≡ x ∷ drop (i + 1) xs
-drop-at [] i x at = cc
-drop-at (y ∷ xs) zero x at = let same : y ≡ x = cc in rw same refl
-drop-at (y ∷ xs) (suc i) x at = let next : suc i + 1 ≡ suc (i + 1) = omega arith in rw next (drop-at xs i x at)
+use Rattle.wad_look.proofs.RestLemmas.{drop-at}
 
 -- the text of the entries from a place on
 pub entries_text-drop : (entries : List Entry) (first i : ℕ) (e : Entry) → slice_get entries i ≡ Some e
@@ -23,10 +18,3 @@ entries_text-drop entries first i e at =
 pub files_text-drop : (files : List Wad) (i first : ℕ) (file : Wad) → slice_get files i ≡ Some file
     → files_text (i + 1) first (drop i files) ≡ file_text (i + 1) first file ++ files_text (i + 1 + 1) (first + length file.entries) (drop (i + 1) files)
 files_text-drop files i first file at = rw (drop-at files i file at) refl
-
--- nothing stands at a place past the end
-pub drop_past : {X : Type 0} (xs : List X) (i : ℕ) → slice_get xs i ≡ None → drop i xs ≡ []
-drop_past [] zero at = refl
-drop_past [] (suc i) at = refl
-drop_past (x ∷ xs) zero at = cc
-drop_past (x ∷ xs) (suc i) at = drop_past xs i at

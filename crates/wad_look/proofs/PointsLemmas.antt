@@ -1,11 +1,11 @@
 -- What `points` answers to a content, by its numbers.
-use Rattle.std.proofs.Common.{◌≡◌, ℕ, ◌≤◌, ℤ, pos, negsuc, neg_ℤ, Bool, true, false, ◌&&◌, cond, List, [], ◌∷◌, ◌++◌, length, map, get_or, Option, Some, None, refl, sym, ap, ◌∙◌, subst, append_assoc, arith}
+use Rattle.std.proofs.Common.{◌≡◌, ◌≢◌, ℕ, ℤ, pos, neg_ℤ, Bool, true, false, ◌&&◌, cond, List, [], ◌∷◌, length, get_or, Option, Some, None, refl, sym, ap, ◌∙◌, arith}
 use Rattle.std.specs.Prelude.{int_le}
 use Rattle.std.proofs.lemmas.Bool.{false≢true}
 use Rattle.std.proofs.lemmas.Int.{ints}
-use Rattle.std.specs.Fmt.{signed_decimal}
 use Rattle.line_io.specs.LineAnswers.{form_refused}
-use Rattle.line_io.specs.Numbers.{AreNumbers, HasForm, nearest, numbers_of, printed}
+use Rattle.line_io.specs.NumberAnswers.{OfTwo, range_refused}
+use Rattle.line_io.specs.Numbers.{AreNumbers, numbers_of}
 use Rattle.line_io.proofs.PartsLemmas.{by_parts}
 use Rattle.map_geo.specs.Point.{Point, IsInRange, point_at}
 use Rattle.map_level.specs.Level.{Level}
@@ -23,7 +23,8 @@ use Rattle.std.specs.List.{slice_get}
 use Rattle.std.proofs.lemmas.List.{length-map}
 use Rattle.std.proofs.lemmas.Option.{get_or_from_slice_get}
 use Rattle.wad_look.specs.Laws.{LinesNameTheLeaf}
-use Rattle.wad_look.specs.Engines.Points.{AnswersPoints, ListsSectors, PlacesPoints, TellsPoints, point_text, range_refused}
+use Rattle.wad_look.specs.Contents.{AreCoordinates}
+use Rattle.wad_look.specs.Engines.Points.{AnswersPoints, ListsSectors, PlacesPoints, TellsPoints, point_text}
 use Rattle.wad_look.specs.declared.engines.points.Leaf.{Leaf}
 
 -- whether a coordinate is in range
@@ -56,84 +57,39 @@ out_of_range x y out = go (is_in_range x) (is_in_range y) refl refl
     go true false p q = refl
     go false b p q = refl
 
-other_answer : (place : Point → Leaf) (content : List ℕ) (o : Option (List ℤ)) → numbers_of content ≡ o → ((x y : ℤ) → ¬ AreNumbers content (x ∷ y ∷ [])) → answer_to place o ≡ form_refused
+other_answer : (place : Point → Leaf) (content : List ℕ) (o : Option (List ℤ)) → numbers_of content ≡ o → ((numbers : List ℤ) → AreNumbers content numbers → length numbers ≢ 2) → answer_to place o ≡ form_refused
 unfolding answer_to
 other_answer place content None read none = refl
 other_answer place content (Some []) read none = refl
 other_answer place content (Some (x ∷ [])) read none = refl
-other_answer place content (Some (x ∷ y ∷ [])) read none = absurd (none x y ((by_parts content (x ∷ y ∷ [])).1 read))
+other_answer place content (Some (x ∷ y ∷ [])) read none = absurd (none (x ∷ y ∷ []) ((by_parts content (x ∷ y ∷ [])).1 read) refl)
 other_answer place content (Some (x ∷ y ∷ z ∷ more)) read none = refl
 
+module _ (place : Point → Leaf) (content : List ℕ) where
+  answer_told : (numbers : List ℤ) → AreNumbers content numbers → OfTwo AreCoordinates numbers
+      → OfTwo (λ x y. answer_to place (numbers_of content) ≡ point_text x y (place (point_at x y))) numbers
+  unfolding answer_to
+  answer_told [] are both = both
+  answer_told (x ∷ []) are both = both
+  answer_told (x ∷ y ∷ []) are both = rw ((by_parts content (x ∷ y ∷ [])).0 are, in_range x both.0, in_range y both.1) refl
+  answer_told (x ∷ y ∷ z ∷ more) are both = both
+
+  answer_refused : (numbers : List ℤ) → AreNumbers content numbers → length numbers ≡ 2 → ¬ OfTwo AreCoordinates numbers → answer_to place (numbers_of content) ≡ range_refused
+  unfolding answer_to
+  answer_refused [] are two out = absurd (omega (arith, two))
+  answer_refused (x ∷ []) are two out = absurd (omega (arith, two))
+  answer_refused (x ∷ y ∷ []) are two out = rw ((by_parts content (x ∷ y ∷ [])).0 are, out_of_range x y out) refl
+  answer_refused (x ∷ y ∷ z ∷ more) are two out = absurd (omega (arith, two))
+
 answered_at : (place : Point → Leaf) → (answer : List ℕ → List ℕ) × AnswersPoints place answer
-unfolding answer_to
 answered_at place = (
   λ content. answer_to place (numbers_of content),
   record {
-    point = λ content x y are x_in y_in. rw ((by_parts content (x ∷ y ∷ [])).0 are, in_range x x_in, in_range y y_in) refl;
-    range = λ content x y are out. rw ((by_parts content (x ∷ y ∷ [])).0 are, out_of_range x y out) refl;
+    told = λ content numbers are two both. answer_told place content numbers are both;
+    range = λ content numbers are two out. answer_refused place content numbers are two out;
     form = λ content none. other_answer place content (numbers_of content) refl none;
   },
 )
-
--- a number whose nearest `i32` is in range is that `i32`
-pub exact_in_range : (z : ℤ) → IsInRange (nearest z) → IsInRange z × (nearest z ≡ z)
-exact_in_range (pos n) h = let least = h.least in let greatest = h.greatest in (record { least = omega (arith, ints); greatest = omega (arith, ints) }, omega (arith, ints))
-exact_in_range (negsuc n) h = let least = h.least in let greatest = h.greatest in (record { least = omega (arith, ints); greatest = omega (arith, ints) }, omega (arith, ints))
-
-pub nearest_in_range : (z : ℤ) → IsInRange z → IsInRange (nearest z)
-nearest_in_range (pos n) h = let least = h.least in let greatest = h.greatest in record { least = omega (arith, ints); greatest = omega (arith, ints) }
-nearest_in_range (negsuc n) h = let least = h.least in let greatest = h.greatest in record { least = omega (arith, ints); greatest = omega (arith, ints) }
-
--- two numbers
-pub two_numbers : (exact : List ℤ) → length exact ≡ 2 → (x : ℤ) × (y : ℤ) × (exact ≡ x ∷ y ∷ [])
-two_numbers [] two = absurd (omega (arith, two))
-two_numbers (x ∷ []) two = absurd (omega (arith, two))
-two_numbers (x ∷ y ∷ []) two = (x, y, refl)
-two_numbers (x ∷ y ∷ z ∷ more) two = absurd (omega (arith, two))
-
--- what a content was read as: two numbers with these nearest `i32`s
-pub record IsPair (content : List ℕ) (values : List ℤ) : Type 0 where
-  pub x : ℤ
-  pub y : ℤ
-  pub are : AreNumbers content (x ∷ y ∷ [])
-  pub values_are : values ≡ nearest x ∷ nearest y ∷ []
-
-pub pair_of : (content : List ℕ) (exact values : List ℤ) → HasForm 2 content exact → values ≡ map nearest exact → IsPair content values
-pair_of content exact values form values_are =
-    let (x, y, two) = two_numbers exact form.counted in
-    record { x = x; y = y; are = rw two at form.read; values_are = values_are ∙ ap (map nearest) two }
-
--- what was told of a pair: its point's text where it is in range, and the refusal where not
-pub told_point : {place : Point → Leaf} {answer : List ℕ → List ℕ} {content : List ℕ} {values : List ℤ} → AnswersPoints place answer → IsPair content values
-    → IsInRange (get_or values 0 (pos 0)) → IsInRange (get_or values 1 (pos 0))
-    → answer content ≡ point_text (get_or values 0 (pos 0)) (get_or values 1 (pos 0)) (place (point_at (get_or values 0 (pos 0)) (get_or values 1 (pos 0))))
-told_point {place} {answer} {content} {values} answers pair x_in y_in =
-    let first : get_or values 0 (pos 0) ≡ nearest pair.x = ap (λ (vs : List ℤ). get_or vs 0 (pos 0)) pair.values_are in
-    let second : get_or values 1 (pos 0) ≡ nearest pair.y = ap (λ (vs : List ℤ). get_or vs 1 (pos 0)) pair.values_are in
-    let x = exact_in_range pair.x (subst IsInRange first x_in) in
-    let y = exact_in_range pair.y (subst IsInRange second y_in) in
-    rw (first ∙ x.1, second ∙ y.1) (answers.point content pair.x pair.y pair.are x.0 y.0)
-
-pub told_range : {place : Point → Leaf} {answer : List ℕ → List ℕ} {content : List ℕ} {values : List ℤ} → AnswersPoints place answer → IsPair content values
-    → ¬ (IsInRange (get_or values 0 (pos 0)) × IsInRange (get_or values 1 (pos 0))) → answer content ≡ range_refused
-told_range {place} {answer} {content} {values} answers pair out =
-    let first : get_or values 0 (pos 0) ≡ nearest pair.x = ap (λ (vs : List ℤ). get_or vs 0 (pos 0)) pair.values_are in
-    let second : get_or values 1 (pos 0) ≡ nearest pair.y = ap (λ (vs : List ℤ). get_or vs 1 (pos 0)) pair.values_are in
-    answers.range content pair.x pair.y pair.are
-    (λ both. out (subst IsInRange (sym first) (nearest_in_range pair.x both.0), subst IsInRange (sym second) (nearest_in_range pair.y both.1)))
-
-pub told_form : {place : Point → Leaf} {answer : List ℕ → List ℕ} {content : List ℕ} → AnswersPoints place answer → length content ≤ 64
-    → ((exact : List ℤ) → HasForm 2 content exact → ⊥) → answer content ≡ form_refused
-told_form {content = content} answers short none = answers.form content (λ x y are. none (x ∷ y ∷ []) (record { short = short; counted = refl; read = are }))
-
--- a content that is the printed numbers begins its answer
-pub printed_front : (content rest : List ℕ) (values : List ℤ) → IsPair content values → content ≡ printed values
-    → content ++ rest ≡ signed_decimal (get_or values 0 (pos 0)) ++ (32 ∷ (signed_decimal (get_or values 1 (pos 0)) ++ rest))
-printed_front content rest values pair is =
-    let x = nearest pair.x in
-    let y = nearest pair.y in
-    let whole : content ≡ signed_decimal x ++ (32 ∷ signed_decimal y) = is ∙ ap printed pair.values_are in
-    rw (whole, pair.values_are) (append_assoc (signed_decimal x) (32 ∷ signed_decimal y) rest)
 
 -- the leaf of a point of a sound level, with its sector
 module _ (level : Level) (sound : IsSound level) where
@@ -155,7 +111,7 @@ lines_name_the_leaf level answer sound told content x y are x_in y_in =
     let point = point_at x y in
     let leaf = told.place point in
     let lies = told.places point in
-    (leaf.ssector, leaf.sector, told.answers.point content x y are x_in y_in, lies.0, (λ u other. one_leaf level point u leaf.ssector other lies.0), lies.1)
+    (leaf.ssector, leaf.sector, told.answers.told content (x ∷ y ∷ []) are refl (x_in, y_in), lies.0, (λ u other. one_leaf level point u leaf.ssector other lies.0), lies.1)
 
 same_leaf : {t s : ℕ} {leaf : Leaf} → t ≡ leaf.ssector → s ≡ leaf.sector → (record { ssector = t; sector = s }) ≡ leaf
 same_leaf {s = s} {leaf = leaf} e f =

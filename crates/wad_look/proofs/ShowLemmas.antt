@@ -13,6 +13,7 @@ use Rattle.map_level.specs.Reading.{number_of}
 use Rattle.map_level.specs.declared.reading.Reading.{Reading}
 use Rattle.map_level.specs.declared.reading.Reading.TheVariants.{Signed, Wide}
 use Rattle.wad_look.specs.Engines.Show.{field_text, fields_text, record_text, record_line, record_lines}
+use Rattle.wad_look.proofs.RestLemmas.{drop-at}
 
 -- the text of fields before other bytes, field by field
 abbrev pub fields_before : (fields : List Field) → Values fields → List ℕ → List ℕ
@@ -26,19 +27,6 @@ fields_text-before (field ∷ fields) (value, values) rest =
 
 pub record_text-before : {R : Type 0} (layout : Layout R) (r : R) (rest : List ℕ) → fields_before layout.fields (layout.values r) rest ≡ record_text layout r ++ rest
 record_text-before layout r rest = fields_text-before layout.fields (layout.values r) rest
-
--- the rest of a list begins with the item at its place
-drop-at : {X : Type 0} (xs : List X) (i : ℕ) (x : X) → slice_get xs i ≡ Some x → drop i xs ≡ x ∷ drop (i + 1) xs
-drop-at [] i x at = cc
-drop-at (y ∷ xs) zero x at = let same : y ≡ x = cc in rw same refl
-drop-at (y ∷ xs) (suc i) x at = let next : suc i + 1 ≡ suc (i + 1) = omega arith in rw next (drop-at xs i x at)
-
--- nothing stands at a place past the end
-pub drop_past : {X : Type 0} (xs : List X) (i : ℕ) → slice_get xs i ≡ None → drop i xs ≡ []
-drop_past [] zero at = refl
-drop_past [] (suc i) at = refl
-drop_past (x ∷ xs) zero at = cc
-drop_past (x ∷ xs) (suc i) at = drop_past xs i at
 
 -- the lines of records from a place on
 pub record_lines-drop : {R : Type 0} (layout : Layout R) (records : List R) (i : ℕ) (r : R) → slice_get records i ≡ Some r

@@ -1,4 +1,5 @@
 pub mod Commands
+pub mod Contents
 pub mod Engines
 pub mod Faults
 pub mod Job

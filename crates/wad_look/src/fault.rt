@@ -1,6 +1,6 @@
 //! Why a run stopped.
 ghost use Rattle.std.specs.Prelude.{◌≡◌};
-ghost use Rattle.wad_look.specs.Faults.{run_fault};
+ghost use Rattle.wad_look.specs.Faults.{run_end, run_fault};
 
 use line_io::IoFault;
 use map_level::LevelFault;
@@ -52,6 +52,16 @@ impl From<IoFault> for RunFault {
             IoFault::TooLong => RunFault::TooLong,
             IoFault::Memory => RunFault::Memory,
         }
+    }
+}
+
+/// The end of a run that reads or writes, by how that ended.
+pub fn ended<T>(outcome: Result<T, IoFault>) -> Result<T, RunFault>
+    ensures { result ≡ run_end outcome }
+{
+    match outcome {
+        Ok(value) => Ok(value),
+        Err(fault) => Err(RunFault::from(fault)),
     }
 }
 

@@ -2,7 +2,7 @@
 ghost use Rattle.std.specs.Prelude.{◌≡◌, ◌≤◌, false};
 ghost use Rattle.wad_look.specs.Runs.{ReadsWhole};
 
-use crate::fault::RunFault;
+use crate::fault::{RunFault, ended};
 use le_rec::Source;
 use line_io::LIMIT;
 use std::alloc::Allocator;
@@ -18,8 +18,5 @@ pub fn read_all<S: Source, A: Allocator>(
     requires input { (S.state input.old).failed ≡ false }
     ensures { ReadsWhole limit (S.state input.old) (S.state input.new) result }
 {
-    match line_io::read_all(alloc, input, limit) {
-        Ok(bytes) => Ok(bytes),
-        Err(fault) => Err(RunFault::from(fault)),
-    }
+    ended(line_io::read_all(alloc, input, limit))
 }

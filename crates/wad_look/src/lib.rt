@@ -3,6 +3,7 @@
 #![tactic(auto)]
 
 mod command;
+mod contents;
 mod engines;
 mod fault;
 mod input;

@@ -1,17 +1,16 @@
 -- The command `blocks`: its answers (ours), and what its run does.
 use Rattle.std.specs.Prelude.{◌≡◌, ℕ, ◌<◌, ℤ, false, List, [], ◌∷◌, ◌++◌, length, Result, codes}
-use Rattle.std.specs.Fmt.{decimal, signed_decimal}
+use Rattle.std.specs.Fmt.{decimal}
 use Rattle.le_rec.specs.Sink.{SinkState}
 use Rattle.le_rec.specs.Source.{SourceState}
 use Rattle.line_io.specs.AnswersLines.{AnswersLines}
-use Rattle.line_io.specs.LineAnswers.{form_refused}
-use Rattle.line_io.specs.Numbers.{AreNumbers}
-use Rattle.map_geo.specs.Point.{IsInRange, point_at}
+use Rattle.line_io.specs.NumberAnswers.{AnswersPairs}
+use Rattle.map_geo.specs.Point.{point_at}
 use Rattle.map_level.specs.Level.{Level}
 use Rattle.map_level.specs.declared.reading.Reading.{Reading}
 use Rattle.map_tables.specs.BlockMap.{BlockMap, IsBlockOf, block_map_of, block_number}
 use Rattle.map_tables.specs.Words.{HasNoEnd, IsBlockList, IsOffsetOutside}
-use Rattle.wad_look.specs.Engines.Points.{range_refused}
+use Rattle.wad_look.specs.Contents.{AreCoordinates, pair_text}
 use Rattle.wad_look.specs.Engines.Show.{numbers_text}
 use Rattle.wad_look.specs.Opening.{IsOpened, RefusesName}
 use Rattle.wad_look.specs.Runs.{Runs}
@@ -20,12 +19,11 @@ use Rattle.wad_look.specs.declared.fault.RunFault.TheVariants as fault
 
 -- `<x> <y> no block`
 abbrev pub no_block_text : ℤ → ℤ → List ℕ
-no_block_text x y = signed_decimal x ++ (codes " " ++ (signed_decimal y ++ (codes " no block" ++ 10 ∷ [])))
+no_block_text x y = pair_text x y (codes " no block" ++ 10 ∷ [])
 
 -- `<x> <y> block <bx> <by>`, and what follows
 abbrev pub block_text : ℤ → ℤ → ℕ → ℕ → List ℕ → List ℕ
-block_text x y bx by rest =
-    signed_decimal x ++ (codes " " ++ (signed_decimal y ++ (codes " block " ++ (decimal bx ++ (codes " " ++ (decimal by ++ rest))))))
+block_text x y bx by rest = pair_text x y (codes " block " ++ (decimal bx ++ (codes " " ++ (decimal by ++ rest))))
 
 -- ` lines` and each word of a list
 abbrev pub lines_text : List ℤ → List ℕ
@@ -45,12 +43,9 @@ pub record AnswersBlock (map : BlockMap) (x y : ℤ) (text : List ℕ) : Type 0 
   pub no_end : (bx by : ℕ) → IsBlockOf map (point_at x y) bx by → HasNoEnd map.words (block_number map bx by)
       → text ≡ block_text x y bx by (fault_text 2)
 
--- the answers to contents are these: two numbers that are coordinates are answered by their point, two others and no two
--- numbers are refused
-pub record AnswersBlocks (map : BlockMap) (answer : List ℕ → List ℕ) : Type 0 where
-  pub point : (content : List ℕ) (x y : ℤ) → AreNumbers content (x ∷ y ∷ []) → IsInRange x → IsInRange y → AnswersBlock map x y (answer content)
-  pub range : (content : List ℕ) (x y : ℤ) → AreNumbers content (x ∷ y ∷ []) → ¬ (IsInRange x × IsInRange y) → answer content ≡ range_refused
-  pub form : (content : List ℕ) → ((x y : ℤ) → ¬ AreNumbers content (x ∷ y ∷ [])) → answer content ≡ form_refused
+-- the answers to contents
+abbrev pub AnswersBlocks : BlockMap → (List ℕ → List ℕ) → Type 0
+AnswersBlocks map = AnswersPairs AreCoordinates (AnswersBlock map)
 
 -- the blockmap of the level of the files' name
 pub record HasBlockMap (bytes : List (List ℕ)) (asked : List ℕ) (reading : Reading) (map : BlockMap) : Type 0 where

@@ -1,26 +1,22 @@
 -- The command `points`: its answers (ours), and what its run does.
 use Rattle.std.specs.Prelude.{◌≡◌, ℕ, ◌<◌, ℤ, false, List, [], ◌∷◌, ◌++◌, length, Some, Result, codes}
 use Rattle.std.specs.List.{slice_get}
-use Rattle.std.specs.Fmt.{decimal, signed_decimal}
+use Rattle.std.specs.Fmt.{decimal}
 use Rattle.le_rec.specs.Sink.{SinkState}
 use Rattle.le_rec.specs.Source.{SourceState}
 use Rattle.line_io.specs.AnswersLines.{AnswersLines}
-use Rattle.line_io.specs.LineAnswers.{form_refused}
-use Rattle.line_io.specs.Numbers.{AreNumbers}
-use Rattle.map_geo.specs.Point.{Point, IsInRange, point_at}
+use Rattle.line_io.specs.NumberAnswers.{AnswersPairs}
+use Rattle.map_geo.specs.Point.{Point, point_at}
 use Rattle.map_level.specs.Level.{Level}
 use Rattle.map_level.specs.SectorOf.{sector_of}
 use Rattle.map_tree.specs.Child.{ssector_count}
 use Rattle.map_tree.specs.Leaf.{IsLeaf}
 use Rattle.map_level.specs.declared.reading.Reading.{Reading}
+use Rattle.wad_look.specs.Contents.{AreCoordinates, pair_text}
 use Rattle.wad_look.specs.Opening.{IsAccepted, RefusesAccepted}
 use Rattle.wad_look.specs.Runs.{Runs}
 use Rattle.wad_look.specs.declared.fault.RunFault.{RunFault}
 use Rattle.wad_look.specs.declared.engines.points.Leaf.{Leaf}
-
--- what a line is answered with a number that isn't allowed
-abbrev pub range_refused : List ℕ
-range_refused = codes "refused: range" ++ 10 ∷ []
 
 -- ` sector <s> ssector <t>`
 unfoldable pub leaf_text : Leaf → List ℕ
@@ -28,16 +24,11 @@ leaf_text leaf = codes " sector " ++ (decimal leaf.sector ++ (codes " ssector " 
 
 -- `<x> <y> sector <s> ssector <t>`
 abbrev pub point_text : ℤ → ℤ → Leaf → List ℕ
-point_text x y leaf = signed_decimal x ++ (codes " " ++ (signed_decimal y ++ leaf_text leaf))
+point_text x y leaf = pair_text x y (leaf_text leaf)
 
--- the answers to contents are these, where each point lies in the leaf of `place`: two numbers that are coordinates are
--- answered by their point, two others and no two numbers are refused
-pub record AnswersPoints (place : Point → Leaf) (answer : List ℕ → List ℕ) : Type 0 where
-  pub point : (content : List ℕ) (x y : ℤ) → AreNumbers content (x ∷ y ∷ []) → IsInRange x → IsInRange y
-      → answer content ≡ point_text x y (place (point_at x y))
-  pub range : (content : List ℕ) (x y : ℤ) → AreNumbers content (x ∷ y ∷ []) → ¬ (IsInRange x × IsInRange y)
-      → answer content ≡ range_refused
-  pub form : (content : List ℕ) → ((x y : ℤ) → ¬ AreNumbers content (x ∷ y ∷ [])) → answer content ≡ form_refused
+-- the answers to contents, where each point lies in the leaf of `place`
+abbrev pub AnswersPoints : (Point → Leaf) → (List ℕ → List ℕ) → Type 0
+AnswersPoints place = AnswersPairs AreCoordinates (λ x y text. text ≡ point_text x y (place (point_at x y)))
 
 -- where the points of a level lie: each in its leaf, and in that leaf's sector
 abbrev pub PlacesPoints : Level → (Point → Leaf) → Type 0

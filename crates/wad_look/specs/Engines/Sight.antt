@@ -1,16 +1,13 @@
 -- The command `sight`: its answers (ours), and what its run does.
 use Rattle.std.specs.Prelude.{◌≡◌, ℕ, ◌<◌, ℤ, pos, Bool, true, false, List, [], ◌∷◌, ◌++◌, length, Option, Some, None, Result, codes}
-use Rattle.std.specs.Fmt.{decimal}
 use Rattle.le_rec.specs.Sink.{SinkState}
 use Rattle.le_rec.specs.Source.{SourceState}
 use Rattle.line_io.specs.AnswersLines.{AnswersLines}
-use Rattle.line_io.specs.LineAnswers.{form_refused}
-use Rattle.line_io.specs.Numbers.{AreNumbers}
+use Rattle.line_io.specs.NumberAnswers.{AnswersPairs}
 use Rattle.map_level.specs.Level.{Level}
-use Rattle.map_level.specs.Links.{Names}
 use Rattle.map_level.specs.declared.reading.Reading.TheVariants.{Signed}
 use Rattle.map_tables.specs.Reject.{Reject, bits_of, sight_bit}
-use Rattle.wad_look.specs.Engines.Points.{range_refused}
+use Rattle.wad_look.specs.Contents.{AreSectors, pair_text}
 use Rattle.wad_look.specs.Opening.{IsOpened, RefusesName}
 use Rattle.wad_look.specs.Runs.{Runs}
 use Rattle.wad_look.specs.declared.fault.RunFault.{RunFault}
@@ -22,17 +19,16 @@ sight_word (Some true) = codes "blocked"
 sight_word None = codes "unknown"
 
 -- `<a> <b> <clear, blocked or unknown>`
-unfoldable pub sight_text : ℕ → ℕ → Option Bool → List ℕ
-sight_text a b bit = decimal a ++ (codes " " ++ (decimal b ++ (codes " " ++ (sight_word bit ++ 10 ∷ []))))
+abbrev pub sight_text : ℤ → ℤ → Option Bool → List ℕ
+sight_text a b bit = pair_text a b (codes " " ++ (sight_word bit ++ 10 ∷ []))
 
--- the answers to contents are these: two numbers of sectors are answered by their bit, two others and no two numbers are
--- refused
-pub record AnswersSight (reject : Reject) (answer : List ℕ → List ℕ) : Type 0 where
-  pub sight : (content : List ℕ) (a b : ℕ) → AreNumbers content (pos a ∷ pos b ∷ []) → a < reject.sectors → b < reject.sectors
-      → answer content ≡ sight_text a b (sight_bit reject a b)
-  pub range : (content : List ℕ) (x y : ℤ) → AreNumbers content (x ∷ y ∷ []) → ¬ (Names reject.sectors x × Names reject.sectors y)
-      → answer content ≡ range_refused
-  pub form : (content : List ℕ) → ((x y : ℤ) → ¬ AreNumbers content (x ∷ y ∷ [])) → answer content ≡ form_refused
+-- two sectors are told their bit
+abbrev pub TellsSight : Reject → ℤ → ℤ → List ℕ → Type 0
+TellsSight reject x y text = (a b : ℕ) → x ≡ pos a → y ≡ pos b → text ≡ sight_text x y (sight_bit reject a b)
+
+-- the answers to contents
+abbrev pub AnswersSight : Reject → (List ℕ → List ℕ) → Type 0
+AnswersSight reject = AnswersPairs (AreSectors reject.sectors) (TellsSight reject)
 
 -- the bits of a level, for each pair of its sectors
 abbrev pub reject_of : Level → Reject

@@ -7,7 +7,7 @@ ghost use Rattle.wad_look.specs.Engines.Audit.{AreAuditFindings, RefusesAuditing
 ghost use Rattle.wad_look.specs.Engines.Audit.{audit_text_of, code_name, fault_count, finding_line, findings_of, meaning, totals_line};
 ghost use Rattle.wad_look.specs.Opening.{bytes_of};
 
-use crate::fault::RunFault;
+use crate::fault::{RunFault, ended};
 use crate::opening::open_set;
 use le_rec::{Name8, Sink};
 use line_io::{IoFault, TextLine, emit};
@@ -39,10 +39,7 @@ pub fn audit_text<A: Allocator + Copy, W: Sink>(
     ensures { RunsAudit W.state (bytes_of files.now) name.now reading out.old out.new result }
 {
     let audited = findings_on_name(alloc, files, name, reading)?;
-    match write_audited(&audited, out) {
-        Ok(none) => Ok(none),
-        Err(fault) => Err(RunFault::from(fault)),
-    }
+    ended(write_audited(&audited, out))
 }
 
 // The findings on the level of the name.

@@ -1,20 +1,25 @@
 //! The command `blocks`: the block of each point of the input, and the block's list.
 
-ghost use Rattle.std.specs.Prelude.{◌≡◌, ◌<◌, ◌≤◌, ◌+◌, ◌++◌, false, length, codes, IfErr, IfOk};
-ghost use Rattle.line_io.specs.Writes.{Writes};
-ghost use Rattle.wad_look.specs.Engines.Blocks.{AnswersBlocks, HasBlockMap, RefusesBlocks, RunsBlocks, block_text};
+ghost use Rattle.std.specs.Prelude.{◌≡◌, ◌≤◌, ◌+◌, ◌-◌, ◌*◌, ◌++◌, ◌∷◌, [], ℕ, List, false, length, take, drop, codes, IfErr, IfOk};
+ghost use Rattle.line_io.specs.Writes.{EndsWriting, TakesText, Writes};
+ghost use Rattle.wad_look.specs.Contents.{AreCoordinates};
+ghost use Rattle.wad_look.specs.Engines.Blocks.{AnswersBlock, AnswersBlocks, HasBlockMap, RefusesBlocks, RunsBlocks, block_text};
 ghost use Rattle.wad_look.specs.Engines.Blocks.{fault_text, lines_text, no_block_text};
-ghost use Rattle.wad_look.specs.Engines.Show.{number_text};
+ghost use Rattle.wad_look.specs.Engines.Show.{numbers_text};
 ghost use Rattle.wad_look.specs.Opening.{bytes_of};
 
-use crate::fault::RunFault;
+use crate::contents::{Pair, read_point};
+use crate::fault::{RunFault, ended};
 use crate::opening::open_level;
 use le_rec::{Sink, Source};
-use line_io::{IoFault, LIMIT, LineCommand, TextLine, answer_lines, emit, read_numbers};
+use line_io::{IoFault, LIMIT, LineCommand, TextLine, answer_lines, emit};
 use map_geo::Point;
 use map_level::Reading;
 use map_tables::{BlockFault, BlockLines, BlockMap};
 use std::alloc::Allocator;
+
+/// How many words are put into a line of text at once.
+const WORDS: usize = 11;
 
 /// Answers points.
 #[derive(Drop)]
@@ -28,40 +33,47 @@ impl<'a> LineCommand for BlockCommand<'a> {
     ghost takes_memory = { false };
 
     fn reply<W: Sink>(&self, content: &[u8], out: &mut W) -> Result<(), IoFault> {
-        let Some(found) = read_numbers::<2>(content) else {
-            return emit(out, b"refused: form\n");
-        };
-        let [x, y] = found.values;
-        let Some(point) = Point::new(x, y) else {
-            return emit(out, b"refused: range\n");
-        };
-        let Some((bx, by)) = self.map.block_of(point) else {
-            return write_no_block(point, out);
+        match read_point(content) {
+            Ok(pair) => self.write_block(pair, out),
+            Err(refusal) => emit(out, refusal.text()),
+        }
+    }
+}
+
+impl BlockCommand<'_> {
+    // Writes the block of a point.
+    fn write_block<W: Sink>(&self, pair: Pair<'_>, out: &mut W) -> Result<(), IoFault>
+        requires within { AreCoordinates pair.x pair.y }
+        requires sound { (W.state out.old).failed ≡ false }
+        ensures takes { (text : List ℕ) → AnswersBlock self.now.map pair.entry.x pair.entry.y text
+            → TakesText (W.state out.old) (W.state out.new) text result }
+        ensures ends { EndsWriting false (W.state out.new) result }
+    {
+        let Some((bx, by)) = self.map.block_of(Point::at(pair.x, pair.y)) else {
+            return write_no_block(pair, out);
         };
         match self.map.list(bx, by) {
-            Ok(lines) => write_lines(point, bx, by, lines, out),
-            Err(BlockFault::OffsetOutside) => write_fault(point, bx, by, 1, out),
-            Err(BlockFault::NoEnd) => write_fault(point, bx, by, 2, out),
+            Ok(lines) => write_lines(pair, bx, by, &lines, out),
+            Err(BlockFault::OffsetOutside) => write_fault(pair, bx, by, 1, out),
+            Err(BlockFault::NoEnd) => write_fault(pair, bx, by, 2, out),
         }
     }
 }
 
 // `<x> <y> no block`
-fn write_no_block<W: Sink>(point: Point, out: &mut W) -> Result<(), IoFault>
+fn write_no_block<W: Sink>(pair: Pair<'_>, out: &mut W) -> Result<(), IoFault>
     requires { (W.state out.old).failed ≡ false }
-    ensures { Writes (W.state out.old) (W.state out.new) (no_block_text point.x point.y) result }
+    ensures { Writes (W.state out.old) (W.state out.new) (no_block_text pair.entry.x pair.entry.y) result }
 {
     let mut line = TextLine::new();
     line.put_bytes(b" no block\n");
-    line.put_integer(i64::from(point.y()));
-    line.put_bytes(b" ");
-    line.put_integer(i64::from(point.x()));
+    pair.put(&mut line);
     emit(out, line.as_bytes())
 }
 
 // `<x> <y> block <bx> <by> fault <1 or 2>`
 fn write_fault<W: Sink>(
-    point: Point,
+    pair: Pair<'_>,
     bx: u16,
     by: u16,
     number: u8,
@@ -69,70 +81,107 @@ fn write_fault<W: Sink>(
 ) -> Result<(), IoFault>
     requires { (W.state out.old).failed ≡ false }
     ensures { Writes (W.state out.old) (W.state out.new)
-        (block_text point.x point.y bx by (fault_text number)) result }
+        (block_text pair.entry.x pair.entry.y bx by (fault_text number)) result }
 {
     let mut line = TextLine::new();
     line.put_bytes(b"\n");
     line.put_natural(u64::from(number));
     line.put_bytes(b" fault ");
-    put_block(&mut line, point, bx, by);
+    put_block(&mut line, pair, bx, by);
     emit(out, line.as_bytes())
 }
 
 // `<x> <y> block <bx> <by> lines` and each word of the list
 fn write_lines<W: Sink>(
-    point: Point,
+    pair: Pair<'_>,
     bx: u16,
     by: u16,
-    lines: BlockLines<'_>,
+    lines: &BlockLines<'_>,
     out: &mut W,
 ) -> Result<(), IoFault>
     requires { (W.state out.old).failed ≡ false }
     ensures { Writes (W.state out.old) (W.state out.new)
-        (block_text point.x point.y bx by (lines_text lines.entry)) result }
+        (block_text pair.entry.x pair.entry.y bx by (lines_text lines.now)) result }
 {
-    write_front(point, bx, by, out)?;
-    'words: for word in lines {
-        write_word(word, out)?;
+    write_front(pair, bx, by, out)?;
+    let mut from = 0;
+    'parts: while lines.len() - from > WORDS {
+        let to = from + WORDS;
+        write_words(lines, from, to, out)?;
+        from = to;
     }
-    emit(out, b"\n")
+    write_last(lines, from, out)
 }
 
 // `<x> <y> block <bx> <by> lines`
-fn write_front<W: Sink>(point: Point, bx: u16, by: u16, out: &mut W) -> Result<(), IoFault>
+fn write_front<W: Sink>(pair: Pair<'_>, bx: u16, by: u16, out: &mut W) -> Result<(), IoFault>
     requires { (W.state out.old).failed ≡ false }
     ensures { Writes (W.state out.old) (W.state out.new)
-        (block_text point.x point.y bx by (codes " lines")) result }
+        (block_text pair.entry.x pair.entry.y bx by (codes " lines")) result }
 {
     let mut line = TextLine::new();
     line.put_bytes(b" lines");
-    put_block(&mut line, point, bx, by);
-    emit(out, line.as_bytes())
-}
-
-// ` <word>`
-fn write_word<W: Sink>(word: i32, out: &mut W) -> Result<(), IoFault>
-    requires { (W.state out.old).failed ≡ false }
-    ensures { Writes (W.state out.old) (W.state out.new) (number_text word) result }
-{
-    let mut line = TextLine::new();
-    line.put_integer(i64::from(word));
-    line.put_bytes(b" ");
+    put_block(&mut line, pair, bx, by);
     emit(out, line.as_bytes())
 }
 
 // `<x> <y> block <bx> <by>` before the line
-fn put_block(line: &mut TextLine, point: Point, bx: u16, by: u16)
-    requires { length line.old ≤ 40 }
-    ensures { line.new ≡ block_text point.x point.y bx by line.old }
+fn put_block(line: &mut TextLine, pair: Pair<'_>, bx: u16, by: u16)
+    requires { length line.old ≤ 30 }
+    ensures { line.new ≡ block_text pair.entry.x pair.entry.y bx by line.old }
 {
     line.put_natural(u64::from(by));
     line.put_bytes(b" ");
     line.put_natural(u64::from(bx));
     line.put_bytes(b" block ");
-    line.put_integer(i64::from(point.y()));
-    line.put_bytes(b" ");
-    line.put_integer(i64::from(point.x()));
+    pair.put(line);
+}
+
+// Writes the words from one on up to another.
+fn write_words<W: Sink>(
+    lines: &BlockLines<'_>,
+    from: usize,
+    to: usize,
+    out: &mut W,
+) -> Result<(), IoFault>
+    requires ordered { from ≤ to }
+    requires within { to ≤ length lines.now }
+    requires few { to ≤ from + WORDS }
+    requires sound { (W.state out.old).failed ≡ false }
+    ensures { Writes (W.state out.old) (W.state out.new)
+        (numbers_text (take (to - from) (drop from lines.now))) result }
+{
+    let mut line = TextLine::new();
+    put_words(&mut line, lines, from, to);
+    emit(out, line.as_bytes())
+}
+
+// Writes the last words and the line's end.
+fn write_last<W: Sink>(lines: &BlockLines<'_>, from: usize, out: &mut W) -> Result<(), IoFault>
+    requires within { from ≤ length lines.now }
+    requires few { length lines.now ≤ from + WORDS }
+    requires sound { (W.state out.old).failed ≡ false }
+    ensures { Writes (W.state out.old) (W.state out.new)
+        (numbers_text (drop from lines.now) ++ 10 ∷ []) result }
+{
+    let mut line = TextLine::new();
+    line.put_bytes(b"\n");
+    put_words(&mut line, lines, from, lines.len());
+    emit(out, line.as_bytes())
+}
+
+// Puts the words from one on up to another before the line.
+fn put_words(line: &mut TextLine, lines: &BlockLines<'_>, from: usize, to: usize)
+    requires ordered { from ≤ to }
+    requires within { to ≤ length lines.now }
+    requires room { length line.old + 12 * (to - from) ≤ 134 }
+    ensures { line.new ≡ numbers_text (take (to - from) (drop from lines.now)) ++ line.old }
+{
+    for i in (from..to).rev() {
+        let Some(word) = lines.get(i) else { break };
+        line.put_integer(i64::from(word));
+        line.put_bytes(b" ");
+    }
 }
 
 /// Writes to each line `x y` of the input, in map units from -16384 to 16383, the block that holds the point and the
@@ -156,10 +205,7 @@ pub fn blocks<A: Allocator, S: Source, W: Sink>(
     ensures { RunsBlocks S.state W.state (bytes_of files.now) name.now reading limit input.old input.new out.old out.new result }
 {
     let map = open_block_map(alloc, files, name, reading)?;
-    match answer_lines(&BlockCommand { map }, input, limit, out) {
-        Ok(()) => Ok(()),
-        Err(fault) => Err(RunFault::from(fault)),
-    }
+    ended(answer_lines(&BlockCommand { map }, input, limit, out))
 }
 
 // The blockmap of the level of the name.

@@ -6,7 +6,7 @@ ghost use Rattle.wad_dir.specs.Packing.{packed};
 ghost use Rattle.wad_look.specs.Engines.Extract.{IsPacked, RefusesExtract, RunsExtract, extracted};
 ghost use Rattle.wad_look.specs.Opening.{bytes_of};
 
-use crate::fault::RunFault;
+use crate::fault::{RunFault, ended};
 use crate::opening::open_set;
 use le_rec::{Name8, Sink};
 use line_io::emit;
@@ -27,10 +27,7 @@ pub fn extract<A: Allocator + Copy, W: Sink>(
     ensures { RunsExtract W.state (bytes_of files.now) name.now out.old out.new result }
 {
     let file = packed_level(alloc, files, name)?;
-    match emit(out, file.as_slice()) {
-        Ok(()) => Ok(()),
-        Err(fault) => Err(RunFault::from(fault)),
-    }
+    ended(emit(out, file.as_slice()))
 }
 
 // The file of the level of the name.

@@ -6,7 +6,7 @@ ghost use Rattle.line_io.specs.Writes.{Writes};
 ghost use Rattle.wad_look.specs.Engines.Lumps.{RunsLumps, entry_line, file_line, file_text, lumps_text};
 ghost use Rattle.wad_look.specs.Opening.{bytes_of};
 
-use crate::fault::RunFault;
+use crate::fault::{RunFault, ended};
 use crate::opening::open_set;
 use le_rec::{Entry, Name8, Sink};
 use line_io::{IoFault, TextLine, emit};
@@ -25,10 +25,7 @@ pub fn lumps<A: Allocator, W: Sink>(
     ensures { RunsLumps W.state (bytes_of files.now) out.old out.new result }
 {
     let set = open_set(alloc, files)?;
-    match write_files(&set, out) {
-        Ok(()) => Ok(()),
-        Err(fault) => Err(RunFault::from(fault)),
-    }
+    ended(write_files(&set, out))
 }
 
 // Writes the lines of all files.

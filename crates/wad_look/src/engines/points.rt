@@ -1,17 +1,17 @@
 //! The command `points`: the sector and the ssector of each point of its input.
 
-ghost use Rattle.std.specs.Prelude.{◌≡◌, ◌+◌, ◌≤◌, ◌++◌, ℕ, List, [], false, length, IfOk, IfErr, codes};
-ghost use Rattle.std.specs.Fmt.{signed_decimal};
+ghost use Rattle.std.specs.Prelude.{◌≡◌, ◌≤◌, [], false, length, IfOk, IfErr};
 ghost use Rattle.map_level.specs.SectorOf.{sector_of};
 ghost use Rattle.map_tree.specs.Child.{ssector_count};
 ghost use Rattle.map_tree.specs.Sound.{IsSound};
 ghost use Rattle.wad_look.specs.Engines.Points.{ListsSectors, RunsPoints, leaf_text};
 ghost use Rattle.wad_look.specs.Opening.{RefusesAudit, bytes_of};
 
-use crate::fault::RunFault;
+use crate::contents::read_point;
+use crate::fault::{RunFault, ended};
 use crate::opening::open_level;
 use le_rec::{Sink, Source};
-use line_io::{IoFault, LIMIT, LineCommand, TextLine, answer_lines, emit, read_numbers};
+use line_io::{IoFault, LIMIT, LineCommand, TextLine, answer_lines, emit};
 use map_audit::{Refused, accept};
 use map_geo::Point;
 use map_level::{Level, Reading};
@@ -76,21 +76,15 @@ impl<A: Allocator> LineCommand for PointCommand<'_, '_, A> {
     ghost takes_memory = { false };
 
     fn reply<W: Sink>(&self, content: &[u8], out: &mut W) -> Result<(), IoFault> {
-        let Some(found) = read_numbers::<2>(content) else {
-            return emit(out, b"refused: form\n");
-        };
-        let [x, y] = found.values;
-        let Some(point) = Point::new(x, y) else {
-            return emit(out, b"refused: range\n");
-        };
-        let mut line = TextLine::new();
-        put_leaf(&mut line, self.sited.leaf(point));
-        if found.is_printed {
-            line.put_bytes(content);
-        } else {
-            put_point(&mut line, point);
+        match read_point(content) {
+            Ok(pair) => {
+                let mut line = TextLine::new();
+                put_leaf(&mut line, self.sited.leaf(Point::at(pair.x, pair.y)));
+                pair.put(&mut line);
+                emit(out, line.as_bytes())
+            }
+            Err(refusal) => emit(out, refusal.text()),
         }
-        emit(out, line.as_bytes())
     }
 }
 
@@ -106,16 +100,6 @@ fn put_leaf(line: &mut TextLine, leaf: Leaf)
     line.put_bytes(b" ssector ");
     line.put_natural(u64::from(leaf.sector));
     line.put_bytes(b" sector ");
-}
-
-// `<x> <y>` before the rest
-fn put_point(line: &mut TextLine, point: Point)
-    requires { length line.old ≤ 58 }
-    ensures { line.new ≡ signed_decimal point.x ++ (codes " " ++ (signed_decimal point.y ++ line.old)) }
-{
-    line.put_integer(i64::from(point.y()));
-    line.put_bytes(b" ");
-    line.put_integer(i64::from(point.x()));
 }
 
 /// Writes to each line `x y` of the input the sector and the ssector of that point, in map units from -16384 to 16383.
@@ -139,10 +123,7 @@ pub fn points<A: Allocator + Copy, S: Source, W: Sink>(
 {
     let level = open_level(alloc, files, name, reading)?;
     let sited = site(alloc, &level)?;
-    match answer_lines(&PointCommand { sited }, input, limit, out) {
-        Ok(()) => Ok(()),
-        Err(fault) => Err(RunFault::from(fault)),
-    }
+    ended(answer_lines(&PointCommand { sited }, input, limit, out))
 }
 
 // The tree of the level with its ssectors' sectors.

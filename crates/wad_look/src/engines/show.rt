@@ -8,7 +8,7 @@ ghost use Rattle.wad_look.specs.Engines.Show.{RunsShow, bytes_line, level_line, 
 ghost use Rattle.wad_look.specs.Engines.Show.{record_line, show_text, table_line, table_text};
 ghost use Rattle.wad_look.specs.Opening.{bytes_of};
 
-use crate::fault::RunFault;
+use crate::fault::{RunFault, ended};
 use crate::opening::open_level;
 use le_rec::{
     LineDef, Name8, Node, Record, SSector, Sector, Seg, SideDef, Sink, Table, Thing, Vertex,
@@ -31,10 +31,7 @@ pub fn show<A: Allocator, W: Sink>(
     ensures { RunsShow W.state (bytes_of files.now) name.now reading out.old out.new result }
 {
     let level = open_level(alloc, files, name, reading)?;
-    match write_level(&level, out) {
-        Ok(()) => Ok(()),
-        Err(fault) => Err(RunFault::from(fault)),
-    }
+    ended(write_level(&level, out))
 }
 
 // Writes the lines of a level.

@@ -5,7 +5,8 @@ use Rattle.le_rec.specs.Name.{name_of}
 use Rattle.line_io.proofs.WriteLemmas.{Writes-stop}
 use Rattle.line_io.proofs.WriteProgressLemmas.{SoFar-more, SoFar-stop, SoFar-end}
 use Rattle.wad_look.specs.Engines.Lumps.{entry_line, entries_text, file_line}
-use Rattle.wad_look.proofs.LumpsLemmas.{drop_past, entries_text-drop}
+use Rattle.wad_look.proofs.LumpsLemmas.{entries_text-drop}
+use Rattle.wad_look.proofs.RestLemmas.{drop_past}
 use Rattle.wad_look.proofs.engines.lumps.write_file.Goals as goal
 
 pub returns-in_err-emit : goal.returns-in_err-emit

@@ -1,0 +1,108 @@
+//! What the contents of lines name: two numbers, a point, two sectors.
+
+ghost use Rattle.std.specs.Prelude.{◌≡◌, ◌<◌, ◌≤◌, ◌^◌, ℤ, List, [], ◌∷◌, length, map, pos, IfErr, IfNone, IfOk, IfSome, IsTrue};
+ghost use Rattle.line_io.specs.NumberAnswers.{OfTwo, RefusesContent};
+ghost use Rattle.line_io.specs.Numbers.{HasForm, nearest, printed};
+ghost use Rattle.map_level.specs.Links.{Names};
+ghost use Rattle.wad_look.specs.Contents.{AreCoordinates, AreSectors, pair_text};
+
+use line_io::{LineRefusal, TextLine, read_numbers};
+use map_geo::Point;
+
+/// Two numbers of a line, with its content, which can stand in the answer where it is known to be their text.
+#[derive(Clone, Copy)]
+pub struct Pair<'a> {
+    pub x: i32,
+    pub y: i32,
+    content: &'a [u8],
+    is_printed: bool,
+    ghost short: { length content.now ≤ 64 },
+    ghost spelled: { IsTrue is_printed → content.now ≡ printed (x ∷ y ∷ []) },
+}
+
+impl Pair<'_> {
+    /// Puts `<x> <y>` before the line.
+    #[inline]
+    pub fn put(self, line: &mut TextLine)
+        requires { length line.old ≤ 80 }
+        ensures { line.new ≡ pair_text self.entry.x self.entry.y line.old }
+    {
+        if self.is_printed {
+            line.put_bytes(self.content);
+        } else {
+            line.put_integer(i64::from(self.y));
+            line.put_bytes(b" ");
+            line.put_integer(i64::from(self.x));
+        }
+    }
+}
+
+// The two numbers of a content.
+#[inline]
+fn read_pair(content: &[u8]) -> Option<Pair<'_>>
+    requires { length content.now ≤ 64 }
+    ensures some { IfSome result (λ pair.
+        (exact : List ℤ) × HasForm 2 content.now exact × (pair.x ∷ pair.y ∷ [] ≡ map nearest exact)) }
+    ensures none { IfNone result ((exact : List ℤ) → HasForm 2 content.now exact → ⊥) }
+{
+    let found = read_numbers::<2>(content)?;
+    let [x, y] = found.values;
+    Some(Pair {
+        x,
+        y,
+        content,
+        is_printed: found.is_printed,
+    })
+}
+
+/// The coordinates that a content names.
+#[inline]
+pub fn read_point(content: &[u8]) -> Result<Pair<'_>, LineRefusal>
+    requires { length content.now ≤ 64 }
+    ensures read { IfOk result (λ pair. HasForm 2 content.now (pair.x ∷ pair.y ∷ [])) }
+    ensures allowed { IfOk result (λ pair. AreCoordinates pair.x pair.y) }
+    ensures refused { IfErr result (RefusesContent 2 (OfTwo AreCoordinates) content.now) }
+{
+    let Some(pair) = read_pair(content) else {
+        return Err(LineRefusal::Form);
+    };
+    match Point::new(pair.x, pair.y) {
+        Some(_) => Ok(pair),
+        None => Err(LineRefusal::Range),
+    }
+}
+
+/// The two of so many sectors that a content names.
+#[inline]
+pub fn read_sectors(content: &[u8], count: u32) -> Result<(u32, u32, Pair<'_>), LineRefusal>
+    requires short { length content.now ≤ 64 }
+    requires few { count < 2 ^ 31 }
+    ensures sectors { IfOk result (λ found. (found.2.x ≡ pos found.0) × (found.2.y ≡ pos found.1)) }
+    ensures read { IfOk result (λ found. HasForm 2 content.now (found.2.x ∷ found.2.y ∷ [])) }
+    ensures allowed { IfOk result (λ found. (found.0 < count) × (found.1 < count)) }
+    ensures refused { IfErr result (RefusesContent 2 (OfTwo (AreSectors count)) content.now) }
+{
+    let Some(pair) = read_pair(content) else {
+        return Err(LineRefusal::Form);
+    };
+    match (index_below(pair.x, count), index_below(pair.y, count)) {
+        (Some(a), Some(b)) => Ok((a, b, pair)),
+        _ => Err(LineRefusal::Range),
+    }
+}
+
+// The number as an index, where it is below the count.
+#[inline]
+fn index_below(number: i32, count: u32) -> Option<u32>
+    ensures some { IfSome result (λ index. (number ≡ pos index) × (index < count)) }
+    ensures none { IfNone result (¬ Names count number) }
+{
+    if number < 0 {
+        return None;
+    }
+    let index = number as u32;
+    if index >= count {
+        return None;
+    }
+    Some(index)
+}

@@ -22,7 +22,7 @@ pub struct Pair<'a> {
 
 impl Pair<'_> {
     /// Puts `<x> <y>` before the line.
-    #[inline]
+    #[inline(always)]
     pub fn put(self, line: &mut TextLine)
         requires { length line.old ≤ 80 }
         ensures { line.new ≡ pair_text self.entry.x self.entry.y line.old }
@@ -38,7 +38,7 @@ impl Pair<'_> {
 }
 
 // The two numbers of a content.
-#[inline]
+#[inline(always)]
 fn read_pair(content: &[u8]) -> Option<Pair<'_>>
     requires { length content.now ≤ 64 }
     ensures some { IfSome result (λ pair.
@@ -56,7 +56,7 @@ fn read_pair(content: &[u8]) -> Option<Pair<'_>>
 }
 
 /// The coordinates that a content names.
-#[inline]
+#[inline(always)]
 pub fn read_point(content: &[u8]) -> Result<Pair<'_>, LineRefusal>
     requires { length content.now ≤ 64 }
     ensures read { IfOk result (λ pair. HasForm 2 content.now (pair.x ∷ pair.y ∷ [])) }
@@ -73,7 +73,7 @@ pub fn read_point(content: &[u8]) -> Result<Pair<'_>, LineRefusal>
 }
 
 /// The two of so many sectors that a content names.
-#[inline]
+#[inline(always)]
 pub fn read_sectors(content: &[u8], count: u32) -> Result<(u32, u32, Pair<'_>), LineRefusal>
     requires short { length content.now ≤ 64 }
     requires few { count < 2 ^ 31 }

@@ -31,7 +31,7 @@ impl<'a> LineCommand for SightCommand<'a> {
         match read_sectors(content, self.sectors) {
             Ok((a, b, pair)) => {
                 let mut line = TextLine::new();
-                line.put_bytes(word(self.reject.bit(a, b)));
+                put_word(&mut line, self.reject.bit(a, b));
                 pair.put(&mut line);
                 emit(out, line.as_bytes())
             }
@@ -41,14 +41,15 @@ impl<'a> LineCommand for SightCommand<'a> {
 }
 
 // ` <clear, blocked or unknown>`
-fn word(bit: Option<bool>) -> &'static [u8]
-    ensures text { result.now ≡ codes " " ++ (sight_word bit ++ 10 ∷ []) }
-    ensures short { length result.now ≤ 9 }
+fn put_word(line: &mut TextLine, bit: Option<bool>)
+    requires { line.old ≡ [] }
+    ensures text { line.new ≡ codes " " ++ (sight_word bit ++ 10 ∷ []) }
+    ensures short { length line.new ≤ 9 }
 {
     match bit {
-        Some(false) => b" clear\n",
-        Some(true) => b" blocked\n",
-        None => b" unknown\n",
+        Some(false) => line.put_bytes(b" clear\n"),
+        Some(true) => line.put_bytes(b" blocked\n"),
+        None => line.put_bytes(b" unknown\n"),
     }
 }
 

@@ -14,11 +14,13 @@ use Rattle.map_tree.specs.Paths.{ssector}
 use Rattle.map_tree.specs.Leaf.{IsLeaf, CountsAncestors}
 use Rattle.map_tree.proofs.ChainLemmas.{go_on}
 use Rattle.map_tree.specs.Child.{node_count, child, root}
-use Rattle.map_tree.specs.Laws.{OneLeaf, AncestorsByDepth, DepthAtMostNodes, SoundIsFaultless, OneWork, FewTests, FewPending, SectorsAreTold, CountsAddUp}
+use Rattle.map_tree.specs.Laws.{OneLeaf, AncestorsByDepth, DepthAtMostNodes, SoundIsFaultless, OneWork, FewTests, FewPending, SectorsAreTold, CountsAddUp, OneCounting}
 use Rattle.map_tree.specs.Sizes.{size_of}
 use Rattle.map_tree.proofs.WorkLemmas.{Work-once}
 use Rattle.map_tree.proofs.HeldLemmas.{area_from_rect, sized-from_sound}
 use Rattle.map_tree.proofs.TurnLemmas.{work_few_tests, work_few_pending}
+use Rattle.map_tree.specs.PlainCount.{plain_count}
+use Rattle.map_tree.proofs.CountedLemmas.{one_list_of_pairs, some_counts}
 use Rattle.map_tree.proofs.TotalLemmas.{counts_total}
 use Rattle.map_level.proofs.LinkedLemmas.{linked_sector}
 use Rattle.map_level.specs.Reading.{ssector_under}
@@ -67,6 +69,11 @@ sector_told level point sound =
 
 pub law_sectors : SectorsAreTold
 law_sectors level sound = ((λ point. (sector_told level point sound).0), (λ point. (sector_told level point sound).1))
+
+pub law_one_counting : OneCounting
+law_one_counting level sector rect sound tells =
+    let found = some_counts level sector rect sound tells in
+    (found.0, found.1, λ other are. one_list_of_pairs (λ s. plain_count sector s rect) other found.0 are found.1)
 
 pub law_counts : CountsAddUp
 law_counts sector rect pairs are = counts_total sector rect pairs are

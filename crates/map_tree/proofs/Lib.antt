@@ -19,3 +19,4 @@ pub mod HeldLemmas
 pub mod TurnLemmas
 pub mod PairLemmas
 pub mod TotalLemmas
+pub mod CountedLemmas

@@ -47,3 +47,9 @@ SectorsAreTold = (level : Level) → IsSound level → (sector : Point → ℕ) 
 -- the plain counts of all sectors add up to the rectangle's points
 abbrev pub CountsAddUp : Type 0
 CountsAddUp = (sector : Point → ℕ) (rect : Rect) (pairs : List (ℕ × ℕ)) → ArePairs (λ s. plain_count sector s rect) pairs → sum_by (λ pair. pair.1) pairs ≡ points_in rect
+
+-- a rectangle's plain counts have exactly one list of pairs
+abbrev pub OneCounting : Type 0
+OneCounting = (level : Level) (sector : Point → ℕ) (rect : Rect) → IsSound level → TellsSectors level sector
+    → (pairs : List (ℕ × ℕ)) × ArePairs (λ s. plain_count sector s rect) pairs
+    × ((other : List (ℕ × ℕ)) → ArePairs (λ s. plain_count sector s rect) other → other ≡ pairs)

@@ -1,7 +1,7 @@
 //! Laws of sound levels, each the contract of a function that does nothing.
 
 ghost use Rattle.map_tree.specs.Laws.{OneLeaf, AncestorsByDepth, DepthAtMostNodes, SoundIsFaultless};
-ghost use Rattle.map_tree.specs.Laws.{OneWork, FewTests, FewPending, SectorsAreTold, CountsAddUp};
+ghost use Rattle.map_tree.specs.Laws.{OneWork, FewTests, FewPending, SectorsAreTold, CountsAddUp, OneCounting};
 
 /// In a sound level each point has exactly one leaf.
 pub fn one_leaf()
@@ -28,9 +28,10 @@ pub fn one_work()
     ensures few_pending { FewPending }
 {}
 
-/// In a sound level a function gives each point its sector, and the counts of all sectors add up to the
-/// points of a rectangle.
+/// In a sound level a function gives each point its sector, how many points of a rectangle lie in each sector is told
+/// by exactly one list of pairs, and they add up to the rectangle's points.
 pub fn plain_counts()
     ensures told { SectorsAreTold }
+    ensures one { OneCounting }
     ensures total { CountsAddUp }
 {}

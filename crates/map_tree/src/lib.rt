@@ -16,6 +16,7 @@ mod tree_faults;
 mod words;
 
 pub use counts::Counts;
+pub use pieces::points_in;
 pub use soundness::is_sound;
 pub use tree::Tree;
 pub use tree_codes::tree_findings;

@@ -7,3 +7,5 @@ pub mod RestLemmas
 pub mod ShowLemmas
 pub mod ExtractLemmas
 pub mod BlocksLemmas
+pub mod CensusLemmas
+pub mod SightLemmas

@@ -6,7 +6,7 @@ use Rattle.std.proofs.lemmas.Int.{ints}
 use Rattle.line_io.specs.LineAnswers.{form_refused}
 use Rattle.line_io.specs.NumberAnswers.{OfTwo, range_refused}
 use Rattle.line_io.specs.Numbers.{AreNumbers, numbers_of}
-use Rattle.line_io.proofs.PartsLemmas.{by_parts}
+use Rattle.line_io.proofs.NumberAnswersLemmas.{decide_two, some_answers, two_texts}
 use Rattle.map_geo.specs.Point.{Point, IsInRange, point_at}
 use Rattle.map_level.specs.Level.{Level}
 use Rattle.map_level.specs.Links.{ssectors_of}
@@ -22,74 +22,14 @@ use Rattle.std.specs.Prelude.{◌<◌}
 use Rattle.std.specs.List.{slice_get}
 use Rattle.std.proofs.lemmas.List.{length-map}
 use Rattle.std.proofs.lemmas.Option.{get_or_from_slice_get}
+use Rattle.wad_look.proofs.ContentsLemmas.{coordinates_or_not}
 use Rattle.wad_look.specs.Laws.{LinesNameTheLeaf}
 use Rattle.wad_look.specs.Contents.{AreCoordinates}
 use Rattle.wad_look.specs.Engines.Points.{AnswersPoints, ListsSectors, PlacesPoints, TellsPoints, point_text}
 use Rattle.wad_look.specs.declared.engines.points.Leaf.{Leaf}
 
--- whether a coordinate is in range
-is_in_range : ℤ → Bool
-is_in_range z = int_le (neg_ℤ (pos 16384)) z && int_le z (pos 16383)
-
-in_range : (z : ℤ) → IsInRange z → is_in_range z ≡ true
-unfolding is_in_range
-in_range z h = let least = h.least in let greatest = h.greatest in grind (arith, ints)
-
-from_test : (z : ℤ) → is_in_range z ≡ true → IsInRange z
-unfolding is_in_range
-from_test z p = go (int_le (neg_ℤ (pos 16384)) z) (int_le z (pos 16383)) refl refl p
-  where
-    go : (l g : Bool) → int_le (neg_ℤ (pos 16384)) z ≡ l → int_le z (pos 16383) ≡ g → (l && g) ≡ true → IsInRange z
-    go true true le ge p = record { least = grind (arith, ints); greatest = grind (arith, ints) }
-    go true false le ge p = absurd (false≢true p)
-    go false g le ge p = absurd (false≢true p)
-
--- the answer to the numbers of a content
-answer_to : (Point → Leaf) → Option (List ℤ) → List ℕ
-answer_to place (Some (x ∷ y ∷ [])) = cond (is_in_range x && is_in_range y) (point_text x y (place (point_at x y))) range_refused
-answer_to place _ = form_refused
-
-out_of_range : (x y : ℤ) → ¬ (IsInRange x × IsInRange y) → (is_in_range x && is_in_range y) ≡ false
-out_of_range x y out = go (is_in_range x) (is_in_range y) refl refl
-  where
-    go : (a b : Bool) → is_in_range x ≡ a → is_in_range y ≡ b → (a && b) ≡ false
-    go true true p q = absurd (out (from_test x p, from_test y q))
-    go true false p q = refl
-    go false b p q = refl
-
-other_answer : (place : Point → Leaf) (content : List ℕ) (o : Option (List ℤ)) → numbers_of content ≡ o → ((numbers : List ℤ) → AreNumbers content numbers → length numbers ≢ 2) → answer_to place o ≡ form_refused
-unfolding answer_to
-other_answer place content None read none = refl
-other_answer place content (Some []) read none = refl
-other_answer place content (Some (x ∷ [])) read none = refl
-other_answer place content (Some (x ∷ y ∷ [])) read none = absurd (none (x ∷ y ∷ []) ((by_parts content (x ∷ y ∷ [])).1 read) refl)
-other_answer place content (Some (x ∷ y ∷ z ∷ more)) read none = refl
-
-module _ (place : Point → Leaf) (content : List ℕ) where
-  answer_told : (numbers : List ℤ) → AreNumbers content numbers → OfTwo AreCoordinates numbers
-      → OfTwo (λ x y. answer_to place (numbers_of content) ≡ point_text x y (place (point_at x y))) numbers
-  unfolding answer_to
-  answer_told [] are both = both
-  answer_told (x ∷ []) are both = both
-  answer_told (x ∷ y ∷ []) are both = rw ((by_parts content (x ∷ y ∷ [])).0 are, in_range x both.0, in_range y both.1) refl
-  answer_told (x ∷ y ∷ z ∷ more) are both = both
-
-  answer_refused : (numbers : List ℤ) → AreNumbers content numbers → length numbers ≡ 2 → ¬ OfTwo AreCoordinates numbers → answer_to place (numbers_of content) ≡ range_refused
-  unfolding answer_to
-  answer_refused [] are two out = absurd (omega (arith, two))
-  answer_refused (x ∷ []) are two out = absurd (omega (arith, two))
-  answer_refused (x ∷ y ∷ []) are two out = rw ((by_parts content (x ∷ y ∷ [])).0 are, out_of_range x y out) refl
-  answer_refused (x ∷ y ∷ z ∷ more) are two out = absurd (omega (arith, two))
-
 answered_at : (place : Point → Leaf) → (answer : List ℕ → List ℕ) × AnswersPoints place answer
-answered_at place = (
-  λ content. answer_to place (numbers_of content),
-  record {
-    told = λ content numbers are two both. answer_told place content numbers are both;
-    range = λ content numbers are two out. answer_refused place content numbers are two out;
-    form = λ content none. other_answer place content (numbers_of content) refl none;
-  },
-)
+answered_at place = some_answers (decide_two coordinates_or_not) (two_texts (λ x y both. (point_text x y (place (point_at x y)), refl)))
 
 -- the leaf of a point of a sound level, with its sector
 module _ (level : Level) (sound : IsSound level) where

@@ -5,6 +5,7 @@ use Rattle.le_rec.specs.Source.{SourceState}
 use Rattle.wad_look.specs.Engines.Lumps.{RunsLumps}
 use Rattle.wad_look.specs.Engines.Audit.{RunsAudit}
 use Rattle.wad_look.specs.Engines.Blocks.{RunsBlocks}
+use Rattle.wad_look.specs.Engines.Census.{RunsCensus}
 use Rattle.wad_look.specs.Engines.Extract.{RunsExtract}
 use Rattle.wad_look.specs.Engines.Points.{RunsPoints}
 use Rattle.wad_look.specs.Engines.Show.{RunsShow}
@@ -13,7 +14,7 @@ use Rattle.wad_look.specs.Job.{name_in, reading_of}
 use Rattle.wad_look.specs.Runs.{EndsAs}
 use Rattle.wad_look.specs.declared.engines.TheConstants.{INPUT_LIMIT}
 use Rattle.wad_look.specs.declared.command.Cmd.{Cmd}
-use Rattle.wad_look.specs.declared.command.Cmd.TheVariants.{Lumps, Show, Audit, Points, Sight, Blocks, Extract}
+use Rattle.wad_look.specs.declared.command.Cmd.TheVariants.{Lumps, Show, Audit, Points, Census, Sight, Blocks, Extract}
 use Rattle.wad_look.specs.declared.command.Job.{Job}
 use Rattle.wad_look.specs.declared.fault.RunFault.{RunFault}
 
@@ -27,6 +28,8 @@ RunsCommand source sink Audit words job bytes input input' out out' result =
     (input' ≡ input) × RunsAudit sink bytes (name_in words job) (reading_of job) out out' result
 RunsCommand source sink Points words job bytes input input' out out' result =
     EndsAs (RunsPoints source sink bytes (name_in words job) (reading_of job) INPUT_LIMIT input input' out out') result
+RunsCommand source sink Census words job bytes input input' out out' result =
+    EndsAs (RunsCensus source sink bytes (name_in words job) (reading_of job) INPUT_LIMIT input input' out out') result
 RunsCommand source sink Sight words job bytes input input' out out' result =
     EndsAs (RunsSight source sink bytes (name_in words job) INPUT_LIMIT input input' out out') result
 RunsCommand source sink Blocks words job bytes input input' out out' result =

@@ -6,3 +6,4 @@ pub mod Extract
 pub mod Sight
 pub mod Blocks
 pub mod Audit
+pub mod Census

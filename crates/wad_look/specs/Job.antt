@@ -4,7 +4,7 @@ use Rattle.map_level.specs.declared.reading.Reading.{Reading}
 use Rattle.map_level.specs.declared.reading.Reading.TheVariants.{Signed, Wide}
 use Rattle.wad_look.specs.declared.command.Cmd.{Cmd}
 use Rattle.wad_look.specs.declared.command.Job.{Job}
-use Rattle.wad_look.specs.declared.command.Cmd.TheVariants.{Lumps, Show, Audit, Points, Sight, Blocks, Extract}
+use Rattle.wad_look.specs.declared.command.Cmd.TheVariants.{Lumps, Show, Audit, Points, Census, Sight, Blocks, Extract}
 use Rattle.wad_look.specs.declared.words.Form.{Form}
 
 -- the word of a command
@@ -13,6 +13,7 @@ word_of Lumps = codes "lumps"
 word_of Show = codes "show"
 word_of Audit = codes "audit"
 word_of Points = codes "points"
+word_of Census = codes "census"
 word_of Sight = codes "sight"
 word_of Blocks = codes "blocks"
 word_of Extract = codes "extract"
@@ -23,6 +24,7 @@ form_of Lumps = record { wide = false; names = 0; files = 64 }
 form_of Show = record { wide = true; names = 1; files = 64 }
 form_of Audit = record { wide = true; names = 1; files = 64 }
 form_of Points = record { wide = true; names = 1; files = 64 }
+form_of Census = record { wide = true; names = 1; files = 64 }
 form_of Sight = record { wide = false; names = 1; files = 64 }
 form_of Blocks = record { wide = true; names = 1; files = 64 }
 form_of Extract = record { wide = false; names = 1; files = 64 }

@@ -14,6 +14,8 @@ pub enum Cmd {
     Audit,
     /// The sector and the ssector of each point of the input.
     Points,
+    /// How many points of each rectangle of the input lie in each sector.
+    Census,
     /// Whether REJECT refuses the sight from one sector to another, for each pair of the input.
     Sight,
     /// The linedefs of the block of each point of the input, as BLOCKMAP lists them.

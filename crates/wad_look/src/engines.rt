@@ -2,6 +2,7 @@
 
 pub mod audit;
 pub mod blocks;
+pub mod census;
 pub mod extract;
 pub mod lumps;
 pub mod points;
@@ -18,6 +19,7 @@ use crate::command::{Cmd, Job};
 use crate::fault::RunFault;
 use audit::audit_text;
 use blocks::blocks;
+use census::census_text;
 use extract::extract;
 use le_rec::{Sink, Source};
 use lumps::lumps;
@@ -53,6 +55,10 @@ pub fn run<A: Allocator + Copy, S: Source, W: Sink>(
         Cmd::Points => {
             let name = name_of(words, job);
             done(points(alloc, files, name, job.reading(), input, INPUT_LIMIT, out))
+        }
+        Cmd::Census => {
+            let name = name_of(words, job);
+            done(census_text(alloc, files, name, job.reading(), input, INPUT_LIMIT, out))
         }
         Cmd::Sight => {
             let name = name_of(words, job);

@@ -6,6 +6,16 @@ pub fn points_are_answered()
     ensures { law.PointsAreAnswered }
 {}
 
+/// Over a sound level there are answers of `census`: every content is told one.
+pub fn census_is_answered()
+    ensures { law.CensusIsAnswered }
+{}
+
+/// Over each level there are answers of `sight`: every content is told one.
+pub fn sight_is_answered()
+    ensures { law.SightIsAnswered }
+{}
+
 /// Over a sound level the line that answers a point in range names the sector of the only ssector on whose side every
 /// partition above it puts the point.
 pub fn lines_name_the_leaf()

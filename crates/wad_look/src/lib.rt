@@ -15,6 +15,7 @@ mod words;
 pub use command::{Cmd, Job};
 pub use engines::audit::audit_text;
 pub use engines::blocks::blocks;
+pub use engines::census::census_text;
 pub use engines::extract::extract;
 pub use engines::lumps::lumps;
 pub use engines::points::points;

@@ -25,6 +25,7 @@ impl Cmd {
             b"show" => Some(Cmd::Show),
             b"audit" => Some(Cmd::Audit),
             b"points" => Some(Cmd::Points),
+            b"census" => Some(Cmd::Census),
             b"sight" => Some(Cmd::Sight),
             b"blocks" => Some(Cmd::Blocks),
             b"extract" => Some(Cmd::Extract),
@@ -41,7 +42,7 @@ impl Cmd {
                 names: 0,
                 files: 64,
             },
-            Cmd::Show | Cmd::Audit | Cmd::Points | Cmd::Blocks => Form {
+            Cmd::Show | Cmd::Audit | Cmd::Points | Cmd::Census | Cmd::Blocks => Form {
                 wide: true,
                 names: 1,
                 files: 64,

@@ -50,3 +50,11 @@ returns-in-Extract g c =
         ended = c.done-in-Extract.ensures;
       },
     )
+
+pub returns-in-Census : goal.returns-in-Census
+returns-in-Census g c =
+    rw c.in-Census.is (record {
+      outcome = c.census_text.result;
+      runs = rw (c.name_of-name-in-Census.ensures, c.reading-in-Census.ensures) at c.census_text.ensures;
+      ended = c.done-in-Census.ensures;
+    })

@@ -1,0 +1,5 @@
+use Rattle.wad_look.proofs.SightLemmas.{sight_is_answered}
+use Rattle.wad_look.proofs.laws.sight_is_answered.Goals as goal
+
+pub returns : goal.returns
+returns c = sight_is_answered

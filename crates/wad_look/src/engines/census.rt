@@ -1,0 +1,163 @@
+//! The command `census`: how many points of each rectangle of its input lie in each sector.
+
+ghost use Rattle.std.specs.Prelude.{◌≡◌, ◌≤◌, ◌∷◌, [], false, true, length, IfErr, IfOk};
+ghost use Rattle.std.specs.List.{flat_map};
+ghost use Rattle.line_io.specs.NumberAnswers.{RefusesContent};
+ghost use Rattle.line_io.specs.Numbers.{HasForm};
+ghost use Rattle.line_io.specs.Writes.{Writes};
+ghost use Rattle.map_geo.specs.Rect.{IsRect};
+ghost use Rattle.map_tree.specs.Sound.{IsSound};
+ghost use Rattle.wad_look.specs.Engines.Census.{AreRect, RunsCensus, TellsCensus, count_text, counts_text, rect_text};
+ghost use Rattle.wad_look.specs.Opening.{RefusesAudit, bytes_of};
+
+use crate::fault::RunFault;
+use crate::opening::open_level;
+use le_rec::{Sink, Source};
+use line_io::{IoFault, LIMIT, LineCommand, LineRefusal, TextLine, answer_lines, emit, read_numbers};
+use map_audit::{Refused, accept};
+use map_geo::Rect;
+use map_level::{Level, Reading};
+use map_tree::{Counts, Tree, points_in};
+use std::alloc::Allocator;
+
+/// Answers rectangles.
+#[derive(Drop)]
+struct CensusCommand<'l, 'a, A: Allocator + Copy> {
+    tree: Tree<'l, 'a>,
+    alloc: A,
+}
+
+impl<A: Allocator + Copy> LineCommand for CensusCommand<'_, '_, A> {
+    ghost Answers = { λ command. TellsCensus command.tree };
+
+    ghost takes_memory = { true };
+
+    fn reply<W: Sink>(&self, content: &[u8], out: &mut W) -> Result<(), IoFault> {
+        match read_rect(content) {
+            Ok(rect) => match self.tree.census(self.alloc, rect) {
+                Ok(counts) => write_counts(rect, &counts, out),
+                Err(_) => Err(IoFault::Memory),
+            },
+            Err(refusal) => emit(out, refusal.text()),
+        }
+    }
+}
+
+// The rectangle of a content.
+fn read_rect(content: &[u8]) -> Result<Rect, LineRefusal>
+    requires { length content.now ≤ 64 }
+    ensures read { IfOk result (λ rect.
+        HasForm 4 content.now (rect.x0 ∷ rect.y0 ∷ rect.x1 ∷ rect.y1 ∷ [])) }
+    ensures allowed { IfOk result IsRect }
+    ensures refused { IfErr result (RefusesContent 4 AreRect content.now) }
+{
+    let Some(found) = read_numbers::<4>(content) else {
+        return Err(LineRefusal::Form);
+    };
+    let [x0, y0, x1, y1] = found.values;
+    match Rect::new(x0, y0, x1, y1) {
+        Some(rect) => Ok(rect),
+        None => Err(LineRefusal::Range),
+    }
+}
+
+// Writes the line of a rectangle and its pairs.
+fn write_counts<A: Allocator, W: Sink>(
+    rect: Rect,
+    counts: &Counts<A>,
+    out: &mut W,
+) -> Result<(), IoFault>
+    requires { (W.state out.old).failed ≡ false }
+    ensures { Writes (W.state out.old) (W.state out.new) (counts_text rect counts.now.pairs) result }
+{
+    write_rect(rect, out)?;
+    write_pairs(counts, out)?;
+    emit(out, b"\n")
+}
+
+// Writes each pair.
+fn write_pairs<A: Allocator, W: Sink>(counts: &Counts<A>, out: &mut W) -> Result<(), IoFault>
+    requires { (W.state out.old).failed ≡ false }
+    ensures { Writes (W.state out.old) (W.state out.new) (flat_map count_text counts.now.pairs) result }
+{
+    'pairs: for i in 0..counts.len() {
+        let Some((sector, count)) = counts.get(i) else { break };
+        write_count(sector, count, out)?;
+    }
+    Ok(())
+}
+
+// `<x0> <y0> <x1> <y1> points <n>`
+fn write_rect<W: Sink>(rect: Rect, out: &mut W) -> Result<(), IoFault>
+    requires { (W.state out.old).failed ≡ false }
+    ensures { Writes (W.state out.old) (W.state out.new) (rect_text rect []) result }
+{
+    let mut line = TextLine::new();
+    line.put_natural(u64::from(points_in(rect)));
+    line.put_bytes(b" points ");
+    line.put_integer(i64::from(rect.y1()));
+    line.put_bytes(b" ");
+    line.put_integer(i64::from(rect.x1()));
+    line.put_bytes(b" ");
+    line.put_integer(i64::from(rect.y0()));
+    line.put_bytes(b" ");
+    line.put_integer(i64::from(rect.x0()));
+    emit(out, line.as_bytes())
+}
+
+// ` <sector>:<count>`
+fn write_count<W: Sink>(sector: u16, count: u32, out: &mut W) -> Result<(), IoFault>
+    requires { (W.state out.old).failed ≡ false }
+    ensures { Writes (W.state out.old) (W.state out.new) (count_text (sector, count)) result }
+{
+    let mut line = TextLine::new();
+    line.put_natural(u64::from(count));
+    line.put_bytes(b":");
+    line.put_natural(u64::from(sector));
+    line.put_bytes(b" ");
+    emit(out, line.as_bytes())
+}
+
+/// Writes to each line `x0 y0 x1 y1` of the input how many whole points the rectangle from (x0, y0) to (x1, y1) has, in
+/// map units from -16384 to 16383, and how many of them lie in each sector that has one. A rectangle has 1 to 1048576
+/// points.
+///
+/// `Set`, `Memory`, `Level` and `Audit` come before anything is read or written; then `Read`, `Write`, `TooLong`, and
+/// `Memory` where a census is refused a growth.
+pub fn census_text<A: Allocator + Copy, S: Source, W: Sink>(
+    alloc: A,
+    files: &[Vec<u8>],
+    name: &[u8],
+    reading: Reading,
+    input: &mut S,
+    limit: u64,
+    out: &mut W,
+) -> Result<(), RunFault>
+    requires few { length files.now ≤ 64 }
+    requires limit { limit ≤ LIMIT }
+    requires input { (S.state input.old).failed ≡ false }
+    requires out { (W.state out.old).failed ≡ false }
+    ensures { RunsCensus S.state W.state (bytes_of files.now) name.now reading limit input.old input.new out.old out.new result }
+{
+    let level = open_level(alloc, files, name, reading)?;
+    let tree = sound_tree(alloc, &level)?;
+    match answer_lines(&CensusCommand { tree, alloc }, input, limit, out) {
+        Ok(()) => Ok(()),
+        Err(fault) => Err(RunFault::from(fault)),
+    }
+}
+
+// The tree of the level.
+fn sound_tree<'l, 'a, A: Allocator + Copy>(
+    alloc: A,
+    level: &'l Level<'a>,
+) -> Result<Tree<'l, 'a>, RunFault>
+    ensures ok { IfOk result (λ tree. (tree ≡ level.now) × IsSound level.now) }
+    ensures err { IfErr result (RefusesAudit level.now) }
+{
+    match accept(alloc, level) {
+        Ok(tree) => Ok(tree),
+        Err(Refused::Faults(_report)) => Err(RunFault::Audit),
+        Err(Refused::Memory) => Err(RunFault::Memory),
+    }
+}

@@ -6,7 +6,7 @@ use std::process::Abort;
 use std::test::Fail;
 use test_alloc::Refusing;
 use test_ends::SliceSink;
-use wad_look::{RunFault, audit_text, status};
+use wad_look::{RunFault, audit_text, extract, status};
 
 // What `audit` of E1M1 answers, and that it writes this text.
 fn check(
@@ -82,6 +82,19 @@ fn lump_places(rt: HostRuntime) -> Result<(), Fail> {
     }
     let text = b"F2 7 lump outside its file\nfaults 1 notes 0\n";
     check(&rt, file, text, false)
+}
+
+// `extract` keeps the byte that is left over, so the audit of what it writes finds it.
+#[test]
+fn extract_keeps_rest(rt: HostRuntime) -> Result<(), Fail> {
+    let mut sectors = Vec::from_slice(rt.alloc(), lumps()[8].1)?;
+    sectors.push(0)?;
+    let files = vec![in rt.alloc(); base_with(rt.alloc(), &[(8, &sectors)])?]?;
+    let mut room = [0; 1024];
+    let mut out = SliceSink::new(&mut room);
+    assert_eq!(rt; extract(rt.alloc(), &files, b"E1M1", &mut out), Ok(()));
+    let text = b"N2 8 bytes left over\nfaults 0 notes 1\n";
+    check(&rt, Vec::from_slice(rt.alloc(), out.taken())?, text, true)
 }
 
 #[test]

@@ -12,6 +12,8 @@ mod ends;
 #[cfg(test)]
 mod files;
 #[cfg(test)]
+mod level_list;
+#[cfg(test)]
 mod level_memory;
 #[cfg(test)]
 mod level_texts;
@@ -33,3 +35,7 @@ mod sample;
 mod table_cases;
 #[cfg(test)]
 mod tree_cases;
+#[cfg(test)]
+mod wide_texts;
+#[cfg(test)]
+mod writers;

@@ -34,7 +34,7 @@ unless_nul : (nul : Bool) (b : ℕ) (name : List ℕ) → name_of (b ∷ name) �
 unless_nul true b name e = refl
 unless_nul false b name e = e
 
-name_of-name_of : (bytes : List ℕ) → name_of (name_of bytes) ≡ name_of bytes
+pub name_of-name_of : (bytes : List ℕ) → name_of (name_of bytes) ≡ name_of bytes
 name_of-name_of [] = refl
 name_of-name_of (b ∷ bytes) =
     let again =

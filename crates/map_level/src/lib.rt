@@ -14,4 +14,5 @@ pub mod sector_of;
 pub use finding::{Code, Finding, Findings};
 pub use level::{Level, LevelFault};
 pub use link_codes::link_findings;
+pub use link_faults::usual_name;
 pub use reading::{Reading, number};

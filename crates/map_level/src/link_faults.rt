@@ -193,8 +193,8 @@ pub fn lump_name_differs(level: &Level<'_>, k: usize) -> bool
     level.name(k) != usual_name(k)
 }
 
-// The usual name of lump k.
-fn usual_name(k: usize) -> Name8
+/// The usual name of lump k, from 1 to 10 (`ML_THINGS` to `ML_BLOCKMAP` of doomdata.h).
+pub fn usual_name(k: usize) -> Name8
     requires from { 1 ≤ k }
     requires to { k ≤ 10 }
     ensures { slice_get usual_names (k - 1) ≡ Some result }

@@ -2,6 +2,7 @@ pub mod AuditLemmas
 pub mod ContentsLemmas
 pub mod JobLemmas
 pub mod LumpsLemmas
+pub mod LevelsLemmas
 pub mod PointsLemmas
 pub mod RestLemmas
 pub mod ShowLemmas

@@ -7,6 +7,7 @@ use Rattle.wad_look.specs.Engines.Audit.{RunsAudit}
 use Rattle.wad_look.specs.Engines.Blocks.{RunsBlocks}
 use Rattle.wad_look.specs.Engines.Census.{RunsCensus}
 use Rattle.wad_look.specs.Engines.Extract.{RunsExtract}
+use Rattle.wad_look.specs.Engines.Levels.{RunsLevels}
 use Rattle.wad_look.specs.Engines.Points.{RunsPoints}
 use Rattle.wad_look.specs.Engines.Show.{RunsShow}
 use Rattle.wad_look.specs.Engines.Sight.{RunsSight}
@@ -14,7 +15,7 @@ use Rattle.wad_look.specs.Job.{name_in, reading_of}
 use Rattle.wad_look.specs.Runs.{EndsAs}
 use Rattle.wad_look.specs.declared.engines.TheConstants.{INPUT_LIMIT}
 use Rattle.wad_look.specs.declared.command.Cmd.{Cmd}
-use Rattle.wad_look.specs.declared.command.Cmd.TheVariants.{Lumps, Show, Audit, Points, Census, Sight, Blocks, Extract}
+use Rattle.wad_look.specs.declared.command.Cmd.TheVariants.{Lumps, Levels, Show, Audit, Points, Census, Sight, Blocks, Extract}
 use Rattle.wad_look.specs.declared.command.Job.{Job}
 use Rattle.wad_look.specs.declared.fault.RunFault.{RunFault}
 
@@ -22,6 +23,8 @@ use Rattle.wad_look.specs.declared.fault.RunFault.{RunFault}
 abbrev pub RunsCommand : {S W : Type 0} → (S → SourceState) → (W → SinkState) → Cmd → List (List ℕ) → Job → List (List ℕ) → S → S → W → W → Result Bool RunFault → Type 0
 RunsCommand source sink Lumps words job bytes input input' out out' result =
     (input' ≡ input) × EndsAs (RunsLumps sink bytes out out') result
+RunsCommand source sink Levels words job bytes input input' out out' result =
+    (input' ≡ input) × EndsAs (RunsLevels sink bytes out out') result
 RunsCommand source sink Show words job bytes input input' out out' result =
     (input' ≡ input) × EndsAs (RunsShow sink bytes (name_in words job) (reading_of job) out out') result
 RunsCommand source sink Audit words job bytes input input' out out' result =

@@ -1,5 +1,6 @@
 -- What each command writes, and what its run does.
 pub mod Lumps
+pub mod Levels
 pub mod Points
 pub mod Show
 pub mod Extract

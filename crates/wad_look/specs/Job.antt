@@ -4,12 +4,13 @@ use Rattle.map_level.specs.declared.reading.Reading.{Reading}
 use Rattle.map_level.specs.declared.reading.Reading.TheVariants.{Signed, Wide}
 use Rattle.wad_look.specs.declared.command.Cmd.{Cmd}
 use Rattle.wad_look.specs.declared.command.Job.{Job}
-use Rattle.wad_look.specs.declared.command.Cmd.TheVariants.{Lumps, Show, Audit, Points, Census, Sight, Blocks, Extract}
+use Rattle.wad_look.specs.declared.command.Cmd.TheVariants.{Lumps, Levels, Show, Audit, Points, Census, Sight, Blocks, Extract}
 use Rattle.wad_look.specs.declared.words.Form.{Form}
 
 -- the word of a command
 abbrev pub word_of : Cmd → List ℕ
 word_of Lumps = codes "lumps"
+word_of Levels = codes "levels"
 word_of Show = codes "show"
 word_of Audit = codes "audit"
 word_of Points = codes "points"
@@ -21,6 +22,7 @@ word_of Extract = codes "extract"
 -- whether `--wide` may follow the word, how many NAMEs stand before the files, and how many files there may be
 abbrev pub form_of : Cmd → Form
 form_of Lumps = record { wide = false; names = 0; files = 64 }
+form_of Levels = record { wide = false; names = 0; files = 64 }
 form_of Show = record { wide = true; names = 1; files = 64 }
 form_of Audit = record { wide = true; names = 1; files = 64 }
 form_of Points = record { wide = true; names = 1; files = 64 }

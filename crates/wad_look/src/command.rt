@@ -8,6 +8,8 @@ use map_level::Reading;
 pub enum Cmd {
     /// The names and places of all lumps.
     Lumps,
+    /// The labels of all levels.
+    Levels,
     /// The records of a level.
     Show,
     /// The faults and notes of a level.

@@ -4,6 +4,7 @@ pub mod audit;
 pub mod blocks;
 pub mod census;
 pub mod extract;
+pub mod levels;
 pub mod lumps;
 pub mod points;
 pub mod show;
@@ -22,6 +23,7 @@ use blocks::blocks;
 use census::census_text;
 use extract::extract;
 use le_rec::{Sink, Source};
+use levels::levels;
 use lumps::lumps;
 use points::points;
 use show::show;
@@ -50,6 +52,7 @@ pub fn run<A: Allocator + Copy, S: Source, W: Sink>(
 {
     match job.command {
         Cmd::Lumps => done(lumps(alloc, files, out)),
+        Cmd::Levels => done(levels(alloc, files, out)),
         Cmd::Show => done(show(alloc, files, name_of(words, job), job.reading(), out)),
         Cmd::Audit => audit_text(alloc, files, name_of(words, job), job.reading(), out),
         Cmd::Points => {

@@ -17,6 +17,7 @@ pub use engines::audit::audit_text;
 pub use engines::blocks::blocks;
 pub use engines::census::census_text;
 pub use engines::extract::extract;
+pub use engines::levels::levels;
 pub use engines::lumps::lumps;
 pub use engines::points::points;
 pub use engines::show::show;

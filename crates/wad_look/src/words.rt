@@ -22,6 +22,7 @@ impl Cmd {
     {
         match word.as_bytes() {
             b"lumps" => Some(Cmd::Lumps),
+            b"levels" => Some(Cmd::Levels),
             b"show" => Some(Cmd::Show),
             b"audit" => Some(Cmd::Audit),
             b"points" => Some(Cmd::Points),
@@ -37,7 +38,7 @@ impl Cmd {
         ensures { result ≡ form_of self }
     {
         match self {
-            Cmd::Lumps => Form {
+            Cmd::Lumps | Cmd::Levels => Form {
                 wide: false,
                 names: 0,
                 files: 64,

@@ -102,8 +102,8 @@ fn put_file(line: &mut TextLine, n: usize, kind: Kind, count: usize)
     line.put_bytes(b"file ");
 }
 
-// Puts a name as it is shown.
-fn put_name(line: &mut TextLine, name: &Name8)
+/// Puts a name as it is shown.
+pub fn put_name(line: &mut TextLine, name: &Name8)
     requires { length line.old + 32 ≤ 128 }
     ensures text { line.new ≡ shown_name name.now ++ line.old }
     ensures length { length line.new ≤ length line.old + 32 }

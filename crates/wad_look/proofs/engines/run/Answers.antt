@@ -1,6 +1,17 @@
 use Rattle.std.proofs.Common.{refl}
 use Rattle.wad_look.proofs.engines.run.Goals as goal
 
+pub returns-in-Levels : goal.returns-in-Levels
+returns-in-Levels g c =
+    rw c.in-Levels.is (
+      refl,
+      record {
+        outcome = c.levels.result;
+        runs = c.levels.ensures;
+        ended = c.done-in-Levels.ensures;
+      },
+    )
+
 pub returns-in-Show : goal.returns-in-Show
 returns-in-Show g c =
     rw c.in-Show.is (

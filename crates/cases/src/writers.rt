@@ -1,0 +1,67 @@
+//! Engines of files and of lines over a writer that takes a byte a call and fails at each of its calls in turn.
+
+use crate::sample::base;
+use map_level::Reading;
+use std::process::Abort;
+use std::test::Fail;
+use test_ends::{SliceSink, SliceSource};
+use wad_look::{LIMIT, RunFault, audit_text, blocks, extract, levels, lumps, sight};
+
+const INPUT: &[u8] = b"0 1\n1 0\nx\n";
+
+// How a command, by its number, ends over E1M1 and the input's lines.
+fn run(
+    rt: &(impl Abort + AllocGlobal),
+    files: &[Vec<u8>],
+    command: u8,
+    out: &mut SliceSink<'_>,
+) -> Result<bool, RunFault> {
+    let fresh = !out.failed();
+    assert!(rt; files.len() <= 64 && fresh);
+    let heap = rt.alloc();
+    let mut source = SliceSource::new(INPUT);
+    let input = &mut source;
+    let signed = Reading::Signed;
+    let ended = match command {
+        0 => lumps(heap, files, out),
+        1 => levels(heap, files, out),
+        2 => return audit_text(heap, files, b"E1M1", signed, out),
+        3 => extract(heap, files, b"E1M1", out),
+        4 => sight(heap, files, b"E1M1", input, LIMIT, out),
+        _ => blocks(heap, files, b"E1M1", signed, input, LIMIT, out),
+    };
+    match ended {
+        Ok(()) => Ok(true),
+        Err(fault) => Err(fault),
+    }
+}
+
+// A writer that fails at call `n`: written are the bytes before.
+fn fails_at(
+    rt: &(impl Abort + AllocGlobal),
+    files: &[Vec<u8>],
+    command: u8,
+    n: usize,
+    text: &[u8],
+) {
+    assert!(rt; 0 < n && n <= text.len() && n <= 1024);
+    let mut room = [0; 1024];
+    let mut out = SliceSink::new(&mut room).at_most(1).failing_at(n as u32);
+    assert_eq!(rt; run(rt, files, command, &mut out), Err(RunFault::Write));
+    assert_eq!(rt; out.taken(), &text[..n - 1]);
+}
+
+#[test]
+fn writer_fails(rt: HostRuntime) -> Result<(), Fail> {
+    let files = vec![in rt.alloc(); base(rt.alloc())?]?;
+    for command in 0..6 {
+        let mut room = [0; 1024];
+        let mut out = SliceSink::new(&mut room);
+        assert_eq!(rt; run(&rt, &files, command, &mut out), Ok(true));
+        assert!(rt; !out.taken().is_empty());
+        for n in 1..out.taken().len() + 1 {
+            fails_at(&rt, &files, command, n, out.taken());
+        }
+    }
+    Ok(())
+}

@@ -1,0 +1,86 @@
+-- The command `levels`: its text (ours), and what its run does.
+use Rattle.std.specs.Prelude.{◌≡◌, ◌≢◌, ℕ, ◌+◌, ◌-◌, ◌<◌, ◌≤◌, ◌↔◌, Bool, List, [], ◌∷◌, ◌++◌, AllPairs, Contains, IsTrue, Option, Some, IsSome, Result, codes, if◌then◌else◌}
+use Rattle.std.specs.BTreeMap.{BTreeMap, get}
+use Rattle.std.specs.Cmp.Lexicographic.{slice_cmp}
+use Rattle.std.specs.Ordering.{nat_cmp}
+use Rattle.std.specs.Fmt.{decimal}
+use Rattle.std.specs.List.{slice_get, flat_map}
+use Rattle.le_rec.specs.Name.{name_of, padded, query_of, shown_name}
+use Rattle.le_rec.specs.Sink.{SinkState}
+use Rattle.line_io.specs.Writes.{Writes}
+use Rattle.map_level.specs.LinkFaults.{usual_names}
+use Rattle.wad_dir.specs.Entries.{names}
+use Rattle.wad_dir.specs.Wad.{Wad}
+use Rattle.wad_dir.specs.Winner.{Wins}
+use Rattle.wad_look.specs.Opening.{AreRead, RefusesFiles}
+use Rattle.wad_look.specs.Runs.{Runs}
+use Rattle.wad_look.specs.declared.engines.levels.Listed.{Listed}
+use Rattle.wad_look.specs.declared.fault.RunFault.{RunFault}
+
+-- the ten entries after a number are there and have the usual names, in order
+abbrev pub IsLabel : List (List ℕ) → ℕ → Type 0
+IsLabel all g = (k : ℕ) → 1 ≤ k → k ≤ 10 → slice_get all (g + k) ≡ slice_get usual_names (k - 1)
+
+-- a level as it is listed: it is hidden where its name, looked up, doesn't give its label
+pub record IsListed (all : List (List ℕ)) (level : Listed) : Type 0 where
+  pub label : IsLabel all level.label
+  pub named : slice_get all level.label ≡ Some level.name
+  pub hidden : IsTrue level.hidden ↔ ¬ Wins all (query_of level.name) level.label
+
+-- the levels of a list of names: each of them once, by their labels, and no others
+pub record AreListed (all : List (List ℕ)) (found : List Listed) : Type 0 where
+  pub ascending : AllPairs (λ a b. a.label < b.label) found
+  pub exact : (level : Listed) → Contains found level ↔ IsListed all level
+
+-- an entry that has the name whose eight bytes these are, and none behind it below n has
+pub record IsPlace (all : List (List ℕ)) (n : ℕ) (bytes : List ℕ) (place : ℕ) : Type 0 where
+  pub stored : bytes ≡ padded (name_of bytes)
+  pub named : slice_get all place ≡ Some (name_of bytes)
+  pub last : (h : ℕ) → place < h → h < n → slice_get all h ≢ Some (name_of bytes)
+
+-- the place of each name of a map
+abbrev pub place_at : BTreeMap (List ℕ) ℕ → List ℕ → Option ℕ
+place_at places bytes = get (slice_cmp nat_cmp) places bytes
+
+abbrev pub ArePlaces : List (List ℕ) → ℕ → BTreeMap (List ℕ) ℕ → Type 0
+ArePlaces all n places = (bytes : List ℕ) (place : ℕ) → place_at places bytes ≡ Some place → IsPlace all n bytes place
+
+-- a map with one place put
+pub record PutsPlace (before after : BTreeMap (List ℕ) ℕ) (bytes : List ℕ) (place : ℕ) : Type 0 where
+  pub put : place_at after bytes ≡ Some place
+  pub others : (other : List ℕ) → other ≢ bytes → place_at after other ≡ place_at before other
+
+-- a name is among those of a map
+abbrev pub HasName : BTreeMap (List ℕ) ℕ → List ℕ → Type 0
+HasName places name = IsSome (place_at places (padded name))
+
+-- a map keeps the names of another
+abbrev pub HasNames : BTreeMap (List ℕ) ℕ → BTreeMap (List ℕ) ℕ → Type 0
+HasNames before after = (bytes : List ℕ) → IsSome (place_at before bytes) → IsSome (place_at after bytes)
+
+-- the names of the labels below n are among those of a map
+abbrev pub HasLabels : List (List ℕ) → ℕ → BTreeMap (List ℕ) ℕ → Type 0
+HasLabels all n places = (g : ℕ) (name : List ℕ) → g < n → IsLabel all g → slice_get all g ≡ Some name → HasName places name
+
+-- what a line ends with
+abbrev pub hidden_text : Bool → List ℕ
+hidden_text hidden = if hidden then codes " hidden" ++ 10 ∷ [] else 10 ∷ []
+
+-- `<g> <name>`, and ` hidden` where it is
+unfoldable pub level_line : Listed → List ℕ
+level_line level = decimal level.label ++ (codes " " ++ (shown_name level.name ++ hidden_text level.hidden))
+
+-- the text of `levels`
+abbrev pub levels_text : List Listed → List ℕ
+levels_text found = flat_map level_line found
+
+-- the levels of the files
+pub record AreLevels (bytes : List (List ℕ)) (found : List Listed) : Type 0 where
+  pub files : List Wad
+  pub read : AreRead bytes files
+  pub listed : AreListed (names files) found
+
+-- over files of these bytes and a sink, of which clauses see its state
+abbrev pub RunsLevels : {W : Type 0} → (W → SinkState) → List (List ℕ) → W → W → Result (Unit {0}) RunFault → Type 0
+RunsLevels sink bytes out out' result =
+    Runs (RefusesFiles bytes) (out' ≡ out) (AreLevels bytes) (λ found outcome. Writes (sink out) (sink out') (levels_text found) outcome) result

@@ -1,0 +1,210 @@
+//! The command `levels`: the labels of levels.
+
+ghost use Rattle.std.specs.Prelude.{◌≡◌, ◌≤◌, ◌<◌, ◌^◌, ◌+◌, ◌-◌, ◌++◌, ◌↔◌, ℕ, List, [], false, length, IfOk, IfSome, IfNone, IsSome, IsTrue, None, Some};
+ghost use Rattle.std.specs.List.{flat_map, slice_get};
+ghost use Rattle.le_rec.specs.Name.{query_of, shown_name};
+ghost use Rattle.line_io.specs.Writes.{Writes};
+ghost use Rattle.map_level.specs.LinkFaults.{usual_names};
+ghost use Rattle.wad_dir.specs.Entries.{joined, names};
+ghost use Rattle.wad_dir.specs.Winner.{Wins};
+ghost use Rattle.wad_look.specs.Engines.Levels.{AreListed, ArePlaces, HasLabels, HasName, HasNames, IsLabel, PutsPlace, RunsLevels, level_line, levels_text, place_at};
+ghost use Rattle.wad_look.specs.Opening.{bytes_of};
+
+use crate::engines::lumps::put_name;
+use crate::fault::RunFault;
+use crate::opening::open_set;
+use le_rec::{Name8, Sink};
+use line_io::{IoFault, TextLine, emit};
+use map_level::usual_name;
+use std::alloc::{AllocError, Allocator};
+use std::collections::BTreeMap;
+use wad_dir::Set;
+
+/// A level as it is listed.
+#[derive(Clone, Copy, Debug, PartialEq, Eq)]
+pub struct Listed {
+    /// The number of the label's entry.
+    pub label: usize,
+    pub name: Name8,
+    /// Whether looking the name up doesn't give this label.
+    pub hidden: bool,
+}
+
+/// Writes a line for each label that ten entries of the usual names follow: its number, its name, and `hidden` where
+/// looking the name up gives another entry or none. `Set` and `Memory` come before anything is written.
+pub fn levels<A: Allocator + Copy, W: Sink>(
+    alloc: A,
+    files: &[Vec<u8>],
+    out: &mut W,
+) -> Result<(), RunFault>
+    requires few { length files.now ≤ 64 }
+    requires sound { (W.state out.old).failed ≡ false }
+    ensures { RunsLevels W.state (bytes_of files.now) out.old out.new result }
+{
+    let set = open_set(alloc, files)?;
+    let found = match listed_levels(alloc, &set) {
+        Ok(found) => found,
+        Err(_) => return Err(RunFault::Memory),
+    };
+    match write_levels(&found, out) {
+        Ok(()) => Ok(()),
+        Err(fault) => Err(RunFault::from(fault)),
+    }
+}
+
+// The levels of the files.
+fn listed_levels<A: Allocator + Copy>(
+    alloc: A,
+    set: &Set<'_, A>,
+) -> Result<Vec<Listed, A>, AllocError>
+    ensures { IfOk result (λ found. AreListed (names set.now) found.items) }
+{
+    let mut places = label_places(alloc, set)?;
+    move_to_last(&mut places, set);
+    let mut found = Vec::new(alloc);
+    'labels: for g in 0..set.total().saturating_sub(10) {
+        if let Some(name) = label_at(set, g) {
+            let hidden = is_hidden(&places, &name, g);
+            found.push(Listed {
+                label: g,
+                name,
+                hidden,
+            })?;
+        }
+    }
+    Ok(found)
+}
+
+// The names of all labels, each with the place of an entry of the name.
+fn label_places<A: Allocator + Copy>(
+    alloc: A,
+    set: &Set<'_, A>,
+) -> Result<BTreeMap<[u8; 8], usize, A>, AllocError>
+    ensures places { IfOk result (ArePlaces (names set.now) 0) }
+    ensures labels { IfOk result (HasLabels (names set.now) (length (joined set.now) - 10)) }
+{
+    let mut places = BTreeMap::new(alloc);
+    'labels: for g in 0..set.total().saturating_sub(10) {
+        if let Some(name) = label_at(set, g) {
+            places.insert(name.bytes(), g)?;
+        }
+    }
+    Ok(places)
+}
+
+// Moves the places of names to the last entries of the names.
+fn move_to_last<A: Allocator>(places: &mut BTreeMap<[u8; 8], usize, A>, set: &Set<'_, A>)
+    requires { ArePlaces (names set.now) 0 places.old }
+    ensures last { ArePlaces (names set.now) (length (joined set.now)) places.new }
+    ensures kept { HasNames places.old places.new }
+{
+    'entries: for g in 0..set.total() {
+        let Some(name) = entry_name(set, g) else {
+            break
+        };
+        move_place(places, &name.bytes(), g);
+    }
+}
+
+// Moves the place of a name, given by its bytes, if it is there.
+fn move_place<A: Allocator>(places: &mut BTreeMap<[u8; 8], usize, A>, bytes: &[u8; 8], g: usize)
+    ensures moved { IsSome (place_at places.old bytes.now) → PutsPlace places.old places.new bytes.now g }
+    ensures absent { place_at places.old bytes.now ≡ None → places.new ≡ places.old }
+{
+    if let Some(place) = places.get_mut(bytes) {
+        *place = g;
+    }
+}
+
+// The name of the label of that number, where it is one.
+fn label_at<A: Allocator>(set: &Set<'_, A>, g: usize) -> Option<Name8>
+    requires { g + 10 < 2 ^ 64 }
+    ensures some { IfSome result (λ name. (slice_get (names set.now) g ≡ Some name) × IsLabel (names set.now) g) }
+    ensures none { IfNone result (¬ IsLabel (names set.now) g) }
+{
+    if is_label(set, g) {
+        entry_name(set, g)
+    } else {
+        None
+    }
+}
+
+// Whether the ten entries after a number have the usual names.
+fn is_label<A: Allocator>(set: &Set<'_, A>, g: usize) -> bool
+    requires { g + 10 < 2 ^ 64 }
+    ensures { IsTrue result ↔ IsLabel (names set.now) g }
+{
+    for k in 1..11 {
+        if !is_usual(set, g, k) {
+            return false;
+        }
+    }
+    true
+}
+
+// Whether the entry k behind a number has the usual name of lump k.
+fn is_usual<A: Allocator>(set: &Set<'_, A>, g: usize, k: usize) -> bool
+    requires lump { (1 ≤ k) × (k ≤ 10) }
+    requires fits { g + 10 < 2 ^ 64 }
+    ensures { IsTrue result ↔ (slice_get (names set.now) (g + k) ≡ slice_get usual_names (k - 1)) }
+{
+    entry_name(set, g + k) == Some(usual_name(k))
+}
+
+// The name of an entry.
+fn entry_name<A: Allocator>(set: &Set<'_, A>, g: usize) -> Option<Name8>
+    ensures { result ≡ slice_get (names set.now) g }
+{
+    set.name(g)
+}
+
+// Whether looking a label's name up doesn't give that label.
+fn is_hidden<A: Allocator>(places: &BTreeMap<[u8; 8], usize, A>, name: &Name8, g: usize) -> bool
+    ensures { (all : List (List ℕ)) → ArePlaces all (length all) places.now → HasName places.now name.now
+        → slice_get all g ≡ Some name.now → IsTrue result ↔ ¬ Wins all (query_of name.now) g }
+{
+    let bytes = name.bytes();
+    if Name8::query(&bytes).bytes() != bytes {
+        return true;
+    }
+    match places.get(&bytes) {
+        Some(place) => *place != g,
+        None => true,
+    }
+}
+
+// Writes the lines of levels.
+fn write_levels<W: Sink>(found: &[Listed], out: &mut W) -> Result<(), IoFault>
+    requires { (W.state out.old).failed ≡ false }
+    ensures { Writes (W.state out.old) (W.state out.new) (levels_text found.now) result }
+{
+    'levels: for level in found {
+        write_line(level, out)?;
+    }
+    Ok(())
+}
+
+// Writes the line of a level.
+fn write_line<W: Sink>(level: &Listed, out: &mut W) -> Result<(), IoFault>
+    requires { (W.state out.old).failed ≡ false }
+    ensures { Writes (W.state out.old) (W.state out.new) (level_line level.now) result }
+{
+    let mut line = TextLine::new();
+    put_level(&mut line, level);
+    emit(out, line.as_bytes())
+}
+
+// `<g> <name>`, and ` hidden` where it is
+#[tactic(auto, unfolding(crate::specs::Engines::Levels::level_line))]
+fn put_level(line: &mut TextLine, level: &Listed)
+    requires { line.old ≡ [] }
+    ensures { line.new ≡ level_line level.now }
+{
+    line.put_bytes(b"\n");
+    if level.hidden {
+        line.put_bytes(b" hidden");
+    }
+    put_name(line, &level.name);
+    line.put_bytes(b" ");
+    line.put_natural(level.label as u64);
+}

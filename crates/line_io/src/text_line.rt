@@ -39,6 +39,14 @@ impl TextLine {
         }
     }
 
+    /// Makes it the empty line again.
+    #[inline]
+    pub fn clear(&mut self)
+        ensures { self.new ≡ [] }
+    {
+        self.start = ROOM;
+    }
+
     /// The bytes so far.
     #[inline]
     pub fn as_bytes(&self) -> &[u8]
@@ -67,6 +75,16 @@ impl TextLine {
         ensures length { length self.new ≤ length self.old + 20 }
     {
         self.start = write_digits(number, &mut self.bytes, self.start);
+    }
+
+    /// The same of a number below 256, which needs less room.
+    #[inline]
+    pub fn put_small(&mut self, number: u8)
+        requires { length self.old + 3 ≤ ROOM }
+        ensures text { self.new ≡ decimal number ++ self.old }
+        ensures length { length self.new ≤ length self.old + 3 }
+    {
+        self.start = write_digits(number as u64, &mut self.bytes, self.start);
     }
 
     /// The same of a number that may be negative, with `-` then.

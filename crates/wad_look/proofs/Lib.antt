@@ -10,3 +10,6 @@ pub mod ExtractLemmas
 pub mod BlocksLemmas
 pub mod CensusLemmas
 pub mod SightLemmas
+pub mod DemoLemmas
+pub mod LmpLemmas
+pub mod TurnLemmas

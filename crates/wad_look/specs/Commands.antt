@@ -8,14 +8,16 @@ use Rattle.wad_look.specs.Engines.Blocks.{RunsBlocks}
 use Rattle.wad_look.specs.Engines.Census.{RunsCensus}
 use Rattle.wad_look.specs.Engines.Extract.{RunsExtract}
 use Rattle.wad_look.specs.Engines.Levels.{RunsLevels}
+use Rattle.wad_look.specs.Engines.Demo.{RunsDemo}
+use Rattle.wad_look.specs.Engines.Lmp.{RunsLmp}
 use Rattle.wad_look.specs.Engines.Points.{RunsPoints}
 use Rattle.wad_look.specs.Engines.Show.{RunsShow}
 use Rattle.wad_look.specs.Engines.Sight.{RunsSight}
 use Rattle.wad_look.specs.Job.{name_in, reading_of}
 use Rattle.wad_look.specs.Runs.{EndsAs}
-use Rattle.wad_look.specs.declared.engines.TheConstants.{INPUT_LIMIT}
+use Rattle.wad_look.specs.declared.engines.TheConstants.{DEMO_LIMIT, INPUT_LIMIT}
 use Rattle.wad_look.specs.declared.command.Cmd.{Cmd}
-use Rattle.wad_look.specs.declared.command.Cmd.TheVariants.{Lumps, Levels, Show, Audit, Points, Census, Sight, Blocks, Extract}
+use Rattle.wad_look.specs.declared.command.Cmd.TheVariants.{Lumps, Levels, Show, Audit, Points, Census, Sight, Blocks, Extract, Demo, Lmp}
 use Rattle.wad_look.specs.declared.command.Job.{Job}
 use Rattle.wad_look.specs.declared.fault.RunFault.{RunFault}
 
@@ -39,6 +41,11 @@ RunsCommand source sink Blocks words job bytes input input' out out' result =
     EndsAs (RunsBlocks source sink bytes (name_in words job) (reading_of job) INPUT_LIMIT input input' out out') result
 RunsCommand source sink Extract words job bytes input input' out out' result =
     (input' ≡ input) × EndsAs (RunsExtract sink bytes (name_in words job) out out') result
+RunsCommand source sink Demo words job bytes input input' out out' result =
+    (input' ≡ input) × EndsAs (RunsDemo sink bytes (name_in words job) out out') result
+-- the demo's file is the input
+RunsCommand source sink Lmp words job bytes input input' out out' result =
+    EndsAs (RunsLmp source sink DEMO_LIMIT input input' out out') result
 
 -- the command of the job
 abbrev pub RunsJob : {S W : Type 0} → (S → SourceState) → (W → SinkState) → List (List ℕ) → Job → List (List ℕ) → S → S → W → W → Result Bool RunFault → Type 0

@@ -8,3 +8,5 @@ pub mod Sight
 pub mod Blocks
 pub mod Audit
 pub mod Census
+pub mod Demo
+pub mod Lmp

@@ -1,9 +1,11 @@
 -- The faults of a run.
 use Rattle.std.specs.Prelude.{Result, Ok, Err}
+use Rattle.demo_lump.specs.declared.fault.StreamFault.{StreamFault}
+use Rattle.demo_lump.specs.declared.fault.StreamFault.TheVariants as stream
 use Rattle.line_io.specs.declared.fault.IoFault.{IoFault}
 use Rattle.line_io.specs.declared.fault.IoFault.TheVariants as io
 use Rattle.wad_look.specs.declared.fault.RunFault.{RunFault}
-use Rattle.wad_look.specs.declared.fault.RunFault.TheVariants.{Read, Write, TooLong, Memory}
+use Rattle.wad_look.specs.declared.fault.RunFault.TheVariants.{Demo, Read, Write, TooLong, Memory}
 
 -- a fault of reading or writing, as one of a run
 abbrev pub run_fault : IoFault → RunFault
@@ -16,3 +18,9 @@ run_fault io.Memory = Memory
 abbrev pub run_end : {T : Type 0} → Result T IoFault → Result T RunFault
 run_end (Ok x) = Ok x
 run_end (Err fault) = Err (run_fault fault)
+
+-- why a source gave no further piece of a demo, as a fault of a run
+abbrev pub stream_fault : StreamFault → RunFault
+stream_fault (stream.Demo why) = Demo why
+stream_fault stream.Read = Read
+stream_fault stream.TooLong = TooLong

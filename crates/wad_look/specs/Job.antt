@@ -4,7 +4,7 @@ use Rattle.map_level.specs.declared.reading.Reading.{Reading}
 use Rattle.map_level.specs.declared.reading.Reading.TheVariants.{Signed, Wide}
 use Rattle.wad_look.specs.declared.command.Cmd.{Cmd}
 use Rattle.wad_look.specs.declared.command.Job.{Job}
-use Rattle.wad_look.specs.declared.command.Cmd.TheVariants.{Lumps, Levels, Show, Audit, Points, Census, Sight, Blocks, Extract}
+use Rattle.wad_look.specs.declared.command.Cmd.TheVariants.{Lumps, Levels, Show, Audit, Points, Census, Sight, Blocks, Extract, Demo, Lmp}
 use Rattle.wad_look.specs.declared.words.Form.{Form}
 
 -- the word of a command
@@ -18,6 +18,8 @@ word_of Census = codes "census"
 word_of Sight = codes "sight"
 word_of Blocks = codes "blocks"
 word_of Extract = codes "extract"
+word_of Demo = codes "demo"
+word_of Lmp = codes "lmp"
 
 -- whether `--wide` may follow the word, how many NAMEs stand before the files, and how many files there may be
 abbrev pub form_of : Cmd → Form
@@ -30,6 +32,8 @@ form_of Census = record { wide = true; names = 1; files = 64 }
 form_of Sight = record { wide = false; names = 1; files = 64 }
 form_of Blocks = record { wide = true; names = 1; files = 64 }
 form_of Extract = record { wide = false; names = 1; files = 64 }
+form_of Demo = record { wide = false; names = 1; files = 64 }
+form_of Lmp = record { wide = false; names = 0; files = 1 }
 
 -- `--wide` or nothing
 abbrev pub wide_words : Bool → List (List ℕ)

@@ -24,6 +24,10 @@ pub enum Cmd {
     Blocks,
     /// A file of a level's lumps alone.
     Extract,
+    /// The commands of a demo in a lump.
+    Demo,
+    /// The commands of a demo that is a file.
+    Lmp,
 }
 
 /// A command line that was read.

@@ -5,12 +5,14 @@ pub mod blocks;
 pub mod census;
 pub mod extract;
 pub mod levels;
+pub mod demo;
+pub mod lmp;
 pub mod lumps;
 pub mod points;
 pub mod show;
 pub mod sight;
 
-ghost use Rattle.std.specs.Prelude.{◌≡◌, ◌+◌, false, length, map, string_bytes};
+ghost use Rattle.std.specs.Prelude.{◌≡◌, ◌≤◌, false, length, map, string_bytes};
 ghost use Rattle.wad_look.specs.Commands.{RunsJob};
 ghost use Rattle.wad_look.specs.Job.{IsJob, name_in};
 ghost use Rattle.wad_look.specs.Opening.{bytes_of};
@@ -24,6 +26,8 @@ use census::census_text;
 use extract::extract;
 use le_rec::{Sink, Source};
 use levels::levels;
+use demo::demo_text;
+use lmp::lmp;
 use lumps::lumps;
 use points::points;
 use show::show;
@@ -33,8 +37,11 @@ use std::alloc::Allocator;
 /// The most bytes of line input.
 pub const INPUT_LIMIT: u64 = 16_777_216;
 
+/// The most bytes of a demo's file.
+pub const DEMO_LIMIT: u64 = 268_435_456;
+
 /// Runs the command of the words, which are those of `job`, over what their files hold: whether it was done without a
-/// fault found.
+/// fault found. The file of `lmp` is its input, and no other file is looked at.
 pub fn run<A: Allocator + Copy, S: Source, W: Sink>(
     alloc: A,
     words: &[String],
@@ -44,7 +51,7 @@ pub fn run<A: Allocator + Copy, S: Source, W: Sink>(
     out: &mut W,
 ) -> Result<bool, RunFault>
     requires job { IsJob (map string_bytes words.now) job }
-    requires files { job.first + length files.now ≡ length words.now }
+    requires few { length files.now ≤ 64 }
     requires input { (S.state input.old).failed ≡ false }
     requires out { (W.state out.old).failed ≡ false }
     ensures { RunsJob S.state W.state (map string_bytes words.now) job (bytes_of files.now)
@@ -72,6 +79,8 @@ pub fn run<A: Allocator + Copy, S: Source, W: Sink>(
             done(blocks(alloc, files, name, job.reading(), input, INPUT_LIMIT, out))
         }
         Cmd::Extract => done(extract(alloc, files, name_of(words, job), out)),
+        Cmd::Demo => done(demo_text(alloc, files, name_of(words, job), out)),
+        Cmd::Lmp => done(lmp(input, DEMO_LIMIT, out)),
     }
 }
 

@@ -1,7 +1,8 @@
 //! Why a run stopped.
 ghost use Rattle.std.specs.Prelude.{◌≡◌};
-ghost use Rattle.wad_look.specs.Faults.{run_end, run_fault};
+ghost use Rattle.wad_look.specs.Faults.{run_end, run_fault, stream_fault};
 
+use demo_lump::{DemoFault, StreamFault};
 use line_io::IoFault;
 use map_level::LevelFault;
 use thiserror::Error;
@@ -25,6 +26,9 @@ pub enum RunFault {
     /// The level's BLOCKMAP has fewer than 8 bytes.
     #[error("no blockmap")]
     NoBlockMap,
+    /// What came is no demo.
+    #[error("demo {0}")]
+    Demo(DemoFault),
     /// The lumps make no file.
     #[error("{0}")]
     Pack(PackFault),
@@ -51,6 +55,18 @@ impl From<IoFault> for RunFault {
             IoFault::Write => RunFault::Write,
             IoFault::TooLong => RunFault::TooLong,
             IoFault::Memory => RunFault::Memory,
+        }
+    }
+}
+
+impl From<StreamFault> for RunFault {
+    ghost from_gives = { λ given fault. fault ≡ stream_fault given };
+
+    fn from(fault: StreamFault) -> RunFault {
+        match fault {
+            StreamFault::Demo(fault) => RunFault::Demo(fault),
+            StreamFault::Read => RunFault::Read,
+            StreamFault::TooLong => RunFault::TooLong,
         }
     }
 }
@@ -89,6 +105,13 @@ mod tests {
             (RunFault::Level(LevelFault::Outside(7)), "F2 7"),
             (RunFault::Audit, "audit"),
             (RunFault::NoBlockMap, "no blockmap"),
+            (RunFault::Demo(DemoFault::Empty), "demo 1"),
+            (RunFault::Demo(DemoFault::Version(108)), "demo 2 version 108"),
+            (RunFault::from(StreamFault::Demo(DemoFault::ShortHeader)), "demo 3"),
+            (RunFault::Demo(DemoFault::NoPlayers), "demo 4"),
+            (RunFault::Demo(DemoFault::NoMarker(21)), "demo 5 at 21"),
+            (RunFault::from(StreamFault::Read), "read"),
+            (RunFault::from(StreamFault::TooLong), "too long"),
             (RunFault::from(IoFault::Read), "read"),
             (RunFault::from(IoFault::Write), "write"),
             (RunFault::from(IoFault::TooLong), "too long"),

@@ -30,6 +30,8 @@ impl Cmd {
             b"sight" => Some(Cmd::Sight),
             b"blocks" => Some(Cmd::Blocks),
             b"extract" => Some(Cmd::Extract),
+            b"demo" => Some(Cmd::Demo),
+            b"lmp" => Some(Cmd::Lmp),
             _ => None,
         }
     }
@@ -48,10 +50,15 @@ impl Cmd {
                 names: 1,
                 files: 64,
             },
-            Cmd::Sight | Cmd::Extract => Form {
+            Cmd::Sight | Cmd::Extract | Cmd::Demo => Form {
                 wide: false,
                 names: 1,
                 files: 64,
+            },
+            Cmd::Lmp => Form {
+                wide: false,
+                names: 0,
+                files: 1,
             },
         }
     }
@@ -141,6 +148,12 @@ mod tests {
         assert_eq!(rt; job_of(&rt, "points E1M1")?, None);
         assert_eq!(rt; job_of(&rt, "Points E1M1 a")?, None);
         assert_eq!(rt; job_of(&rt, "lmp a b")?, None);
+        let lmp = Job {
+            command: Cmd::Lmp,
+            first: 1,
+            wide: false,
+        };
+        assert_eq!(rt; job_of(&rt, "lmp a")?, Some(lmp));
         assert_eq!(rt; job_of(&rt, "lumps -x")?, None);
         assert_eq!(rt; job_of(&rt, "points --wide E1M1 a")?, Some(wide_points));
         assert_eq!(rt; job_of(&rt, "sight --wide E1M1 a")?, None);

@@ -69,3 +69,14 @@ returns-in-Census g c =
       runs = rw (c.name_of-name-in-Census.ensures, c.reading-in-Census.ensures) at c.census_text.ensures;
       ended = c.done-in-Census.ensures;
     })
+
+pub returns-in-Demo : goal.returns-in-Demo
+returns-in-Demo g c =
+    rw c.in-Demo.is (
+      refl,
+      record {
+        outcome = c.demo_text.result;
+        runs = rw (c.name_of-in-Demo.ensures) at c.demo_text.ensures;
+        ended = c.done-in-Demo.ensures;
+      },
+    )

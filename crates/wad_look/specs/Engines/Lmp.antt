@@ -1,0 +1,112 @@
+-- The command `lmp`: what it does between the demo that it reads and the listing that it writes (ours).
+use Rattle.std.specs.Prelude.{◌≡◌, ◌⊎◌, ℕ, ◌+◌, ◌-◌, ◌≤◌, Bool, true, false, List, [], ◌∷◌, ◌++◌, length, take, Result, OnOk, IfOk, IfErr, IfSome}
+use Rattle.std.specs.Io.KnownBytes.{Appends, Consumes, IsAtEnd}
+use Rattle.demo_lump.specs.Command.{IsCommand}
+use Rattle.demo_lump.specs.Demo.{AreCommands, Demo, IsRead, RefusesDemo}
+use Rattle.demo_lump.specs.Header.{IsHeader}
+use Rattle.demo_lump.specs.DemoReader.{DemoReader}
+use Rattle.demo_lump.specs.NextPiece.{IsNext, RefusesNext}
+use Rattle.demo_lump.specs.Pieces.{NoneBegins}
+use Rattle.demo_lump.specs.declared.command.Command.{Command}
+use Rattle.demo_lump.specs.declared.header.Header.{Header}
+use Rattle.le_rec.specs.Sink.{SinkState}
+use Rattle.le_rec.specs.Source.{SourceState}
+use Rattle.line_io.specs.Writes.{TakesFront}
+use Rattle.wad_look.specs.Engines.Demo.{Turn, commands_text, header_line, listing}
+use Rattle.wad_look.specs.declared.fault.RunFault.{RunFault}
+use Rattle.wad_look.specs.declared.fault.RunFault.TheVariants as fault
+
+-- the lines that bytes begin with: the header's, and those of the most whole commands that follow it
+pub record HasLines (bytes text : List ℕ) : Type 0 where
+  pub header : Header
+  pub commands : List Command
+  pub front : List ℕ
+  pub body : List ℕ
+  pub rest : List ℕ
+  pub joined : bytes ≡ front ++ (body ++ rest)
+  pub begins : IsHeader front header
+  pub follow : AreCommands header.version body commands
+  pub most : NoneBegins (IsCommand header.version) rest
+  pub is : text ≡ header_line header ++ commands_text header.players 0 commands
+
+-- none where they begin with no header
+abbrev pub AreLines : List ℕ → List ℕ → Type 0
+AreLines bytes text = (NoneBegins IsHeader bytes × (text ≡ [])) ⊎ HasLines bytes text
+
+-- the text for an input: a demo's listing, and else the lines that it begins with
+abbrev pub IsText : List ℕ → List ℕ → Type 0
+IsText bytes text = ((demo : Demo) × IsRead bytes demo × (text ≡ listing demo)) ⊎ (((demo : Demo) → ¬ IsRead bytes demo) × AreLines bytes text)
+
+-- `Read` comes only where the source has failed, `Write` only where the sink has, `TooLong` only where the byte past the
+-- limit was given, and a demo's fault is the input's; no other fault comes
+abbrev pub LmpFault : ℕ → SourceState → Bool → Bool → ℕ → RunFault → Type 0
+LmpFault limit source failed sink_failed taken (fault.Demo why) =
+    (failed ≡ false) × (taken ≤ limit) × IfSome source.left (λ left. RefusesDemo left why)
+LmpFault limit source failed sink_failed taken fault.Read = (failed ≡ true) × (taken ≤ limit)
+LmpFault limit source failed sink_failed taken fault.TooLong = (failed ≡ false) × (taken ≡ limit + 1)
+LmpFault limit source failed sink_failed taken fault.Write = sink_failed ≡ true
+LmpFault limit source failed sink_failed taken _ = ⊥
+
+-- after `Write` a front of the input's text was written, and after the other faults exactly the lines of the bytes that were
+-- read within the limit
+abbrev pub LeavesLines : ℕ → SourceState → SinkState → SinkState → List ℕ → RunFault → Type 0
+LeavesLines limit source out out' read fault.Write =
+    IfSome source.left (λ left. (text : List ℕ) × IsText left text × TakesFront out out' text)
+LeavesLines limit source out out' read _ =
+    (text : List ℕ) × AreLines (take limit read) text × Appends out.taken out'.taken text
+
+-- listing the demo that is the whole input, of at most `limit` bytes
+pub record ListsDemo (limit : ℕ) (source source' : SourceState) (out out' : SinkState) (result : Result (Unit {0}) RunFault) : Type 0 where
+  -- what the source gave
+  pub read : List ℕ
+  pub given : Consumes source.left source'.left read
+  -- at Ok that is the whole input, within its limit, and its listing was written
+  pub whole : OnOk result ((demo : Demo) × IsRead read demo × Appends out.taken out'.taken (listing demo))
+  pub all_read : OnOk result (IsAtEnd source'.left)
+  pub within : OnOk result (length read ≤ limit)
+  pub sound : OnOk result ((source'.failed ≡ false) × (out'.failed ≡ false))
+  -- at Err
+  pub bounded : length read ≤ limit + 1
+  pub fault : IfErr result (LmpFault limit source source'.failed out'.failed (length read))
+  pub lines : IfErr result (LeavesLines limit source out out' read)
+
+-- over a source and a sink, of which clauses see their states
+abbrev pub RunsLmp : {S W : Type 0} → (S → SourceState) → (W → SinkState) → ℕ → S → S → W → W → Result (Unit {0}) RunFault → Type 0
+RunsLmp source sink limit input input' out out' result = ListsDemo limit (source input) (source input') (sink out) (sink out') result
+
+-- what stopped the listing of commands, of which `tail` was read and is no whole piece: after `Write` a front of the lines
+-- of the commands was written, and after the other faults all of them
+abbrev pub CommandsFault : Header → ℕ → SourceState → Bool → SinkState → SinkState → List ℕ → List ℕ → ℕ → ℕ → List Command → RunFault → Type 0
+CommandsFault header limit source failed out out' body tail place taken commands fault.Write =
+    (out'.failed ≡ true) × (tail ≡ []) × (taken ≤ limit) × TakesFront out out' (commands_text header.players 0 commands)
+CommandsFault header limit source failed out out' body tail place taken commands fault.Read =
+    ((failed ≡ true) × (taken ≤ limit)) × NoneBegins (IsNext header.version) (take (limit - place) tail)
+    × Appends out.taken out'.taken (commands_text header.players 0 commands)
+CommandsFault header limit source failed out out' body tail place taken commands fault.TooLong =
+    ((failed ≡ false) × (taken ≡ limit + 1)) × NoneBegins (IsNext header.version) (take (limit - place) tail)
+    × Appends out.taken out'.taken (commands_text header.players 0 commands)
+CommandsFault header limit source failed out out' body tail place taken commands (fault.Demo why) =
+    ((failed ≡ false) × (taken ≤ limit)
+    × IfSome source.left (λ left. (more : List ℕ) × (left ≡ body ++ more) × RefusesNext header.version place more why))
+    × NoneBegins (IsNext header.version) (take (limit - place) tail)
+    × Appends out.taken out'.taken (commands_text header.players 0 commands)
+CommandsFault header limit source failed out out' body tail place taken commands _ = ⊥
+
+-- listing the commands behind the header, by a reader that has read that: it tells whose turn it would be at the marker
+pub record ListsCommands (header : Header) (limit : ℕ) (source source' : SourceState) (out out' : SinkState) (old new : DemoReader) (result : Result Turn RunFault) : Type 0 where
+  pub commands : List Command
+  pub body : List ℕ
+  pub tail : List ℕ
+  pub given : Consumes source.left source'.left (body ++ tail)
+  pub counted : new.taken ≡ old.taken + length body + length tail
+  pub follow : AreCommands header.version body commands
+  pub room : old.taken + length body ≤ limit
+  -- at Ok
+  pub marked : OnOk result (tail ≡ 128 ∷ [])
+  pub wrote : OnOk result (Appends out.taken out'.taken (commands_text header.players 0 commands))
+  pub turn : IfOk result (λ turn. turn ≡ record { players = header.players; index = length commands })
+  pub state : OnOk result (new ≡ record old { taken = new.taken; ended = true })
+  pub within : OnOk result (new.taken ≤ limit)
+  pub sound : OnOk result ((source'.failed ≡ false) × (out'.failed ≡ false))
+  -- at Err
+  pub fault : IfErr result (CommandsFault header limit source source'.failed out out' body tail (old.taken + length body) new.taken commands)

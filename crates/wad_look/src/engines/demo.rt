@@ -1,0 +1,81 @@
+//! The command `demo`: the listing of a demo in a lump.
+
+ghost use Rattle.std.specs.Prelude.{◌≡◌, ◌≤◌, false, length, IfOk, IfErr};
+ghost use Rattle.line_io.specs.Writes.{Writes};
+ghost use Rattle.wad_look.specs.Engines.Demo.{IsNamedDemo, RefusesNamedDemo, RunsDemo, listing};
+ghost use Rattle.wad_look.specs.Opening.{bytes_of};
+
+use crate::fault::RunFault;
+use crate::listing::{put_command, put_header, put_totals};
+use crate::opening::open_set;
+use crate::turn::Turn;
+use demo_lump::Demo;
+use le_rec::{Name8, Sink};
+use line_io::{IoFault, TextLine, emit};
+use std::alloc::Allocator;
+use wad_dir::LumpFault;
+
+/// Writes the listing of the demo in the lump of the name: the header, a line for each command and the totals. `Set`,
+/// `Memory`, `Lump` (`NoSuch` where no entry has the name) and `Demo` come before anything is written.
+pub fn demo_text<A: Allocator, W: Sink>(
+    alloc: A,
+    files: &[Vec<u8>],
+    name: &[u8],
+    out: &mut W,
+) -> Result<(), RunFault>
+    requires few { length files.now ≤ 64 }
+    requires sound { (W.state out.old).failed ≡ false }
+    ensures { RunsDemo W.state (bytes_of files.now) name.now out.old out.new result }
+{
+    let demo = named_demo(alloc, files, name)?;
+    match write_demo(&demo, out) {
+        Ok(()) => Ok(()),
+        Err(fault) => Err(RunFault::from(fault)),
+    }
+}
+
+// The demo in the lump of the name.
+fn named_demo<'a, A: Allocator>(
+    alloc: A,
+    files: &'a [Vec<u8>],
+    name: &[u8],
+) -> Result<Demo<'a>, RunFault>
+    requires { length files.now ≤ 64 }
+    ensures ok { IfOk result (IsNamedDemo (bytes_of files.now) name.now) }
+    ensures err { IfErr result (RefusesNamedDemo (bytes_of files.now) name.now) }
+{
+    let set = open_set(alloc, files)?;
+    let Some(g) = set.find(Name8::query(name)) else {
+        return Err(RunFault::Lump(LumpFault::NoSuch));
+    };
+    let lump = match set.lump(g) {
+        Ok(lump) => lump,
+        Err(fault) => return Err(RunFault::Lump(fault)),
+    };
+    match Demo::read(lump) {
+        Ok(demo) => Ok(demo),
+        Err(fault) => Err(RunFault::Demo(fault)),
+    }
+}
+
+// Writes the listing of a demo.
+fn write_demo<W: Sink>(demo: &Demo<'_>, out: &mut W) -> Result<(), IoFault>
+    requires { (W.state out.old).failed ≡ false }
+    ensures { Writes (W.state out.old) (W.state out.new) (listing demo.now) result }
+{
+    let mut line = TextLine::new();
+    put_header(&mut line, &demo.header());
+    emit(out, line.as_bytes())?;
+    let mut turn = Turn::new(demo.header().players);
+    'commands: for i in 0..demo.commands() {
+        let Some(command) = demo.command(i) else { break };
+        line.clear();
+        put_command(&mut line, turn.tic(), turn.player(), &command);
+        emit(out, line.as_bytes())?;
+        turn.step();
+    }
+    line.clear();
+    let odd = demo.odd_commands() as u64;
+    put_totals(&mut line, demo.full_tics() as u64, odd, demo.after() as u64);
+    emit(out, line.as_bytes())
+}

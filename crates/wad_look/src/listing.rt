@@ -1,0 +1,93 @@
+//! The lines of a demo's listing.
+
+ghost use Rattle.std.specs.Prelude.{◌≡◌, ◌+◌, ◌<◌, ◌≤◌, [], ◌∷◌, ◌++◌, decimal, length};
+ghost use Rattle.wad_look.specs.Engines.Demo.{command_line, header_line, hex_byte, hex_digit, totals_line};
+
+use demo_lump::{Command, Header};
+use line_io::TextLine;
+
+/// `<tic> <player> <forward> <side> <turn> <buttons>`
+#[inline]
+#[tactic(auto, unfolding(crate::specs::Engines::Demo::command_line))]
+pub fn put_command(line: &mut TextLine, tic: u64, player: u8, command: &Command)
+    requires { line.old ≡ [] }
+    ensures { line.new ≡ command_line tic player command.now }
+{
+    line.put_bytes(b"\n");
+    put_hex(line, command.buttons);
+    line.put_bytes(b" ");
+    line.put_natural(u64::from(command.turn));
+    line.put_bytes(b" ");
+    line.put_integer(i64::from(command.side));
+    line.put_bytes(b" ");
+    line.put_integer(i64::from(command.forward));
+    line.put_bytes(b" ");
+    line.put_small(player);
+    line.put_bytes(b" ");
+    line.put_natural(tic);
+}
+
+/// `demo version <v> skill <s> ..`, all numbers of the header under their words.
+#[tactic(auto, unfolding(crate::specs::Engines::Demo::header_line))]
+pub fn put_header(line: &mut TextLine, header: &Header)
+    requires { line.old ≡ [] }
+    ensures { line.new ≡ header_line header.now }
+{
+    line.put_bytes(b"\n");
+    put_field(line, b" ", header.players[3]);
+    put_field(line, b" ", header.players[2]);
+    put_field(line, b" ", header.players[1]);
+    put_field(line, b" players ", header.players[0]);
+    put_field(line, b" viewpoint ", header.viewpoint);
+    put_field(line, b" nomonsters ", header.no_monsters);
+    put_field(line, b" fast ", header.fast);
+    put_field(line, b" respawn ", header.respawn);
+    put_field(line, b" deathmatch ", header.deathmatch);
+    put_field(line, b" map ", header.map);
+    put_field(line, b" episode ", header.episode);
+    put_field(line, b" skill ", header.skill);
+    put_field(line, b"demo version ", header.version);
+}
+
+/// `tics <full tics> odd <odd commands> after <bytes after the marker>`
+#[tactic(auto, unfolding(crate::specs::Engines::Demo::totals_line))]
+pub fn put_totals(line: &mut TextLine, tics: u64, odd: u64, after: u64)
+    requires { line.old ≡ [] }
+    ensures { line.new ≡ totals_line tics odd after }
+{
+    line.put_bytes(b"\n");
+    line.put_natural(after);
+    line.put_bytes(b" after ");
+    line.put_natural(odd);
+    line.put_bytes(b" odd ");
+    line.put_natural(tics);
+    line.put_bytes(b"tics ");
+}
+
+// Puts a number of the header behind its words.
+fn put_field(line: &mut TextLine, words: &[u8], number: u8)
+    requires { length line.old + 3 + length words.now ≤ 144 }
+    ensures text { line.new ≡ words.now ++ (decimal number ++ line.old) }
+    ensures length { length line.new ≤ length line.old + 3 + length words.now }
+{
+    line.put_small(number);
+    line.put_bytes(words);
+}
+
+// Puts two hexadecimal digits.
+#[inline]
+fn put_hex(line: &mut TextLine, byte: u8)
+    requires { length line.old + 2 ≤ 144 }
+    ensures text { line.new ≡ hex_byte byte ++ line.old }
+    ensures length { length line.new ≡ length line.old + 2 }
+{
+    line.put_bytes(&[hex_digit(byte / 16), hex_digit(byte % 16)]);
+}
+
+#[inline]
+fn hex_digit(number: u8) -> u8
+    requires { number < 16 }
+    ensures { result ≡ hex_digit number }
+{
+    if number < 10 { b'0' + number } else { b'a' + number - 10 }
+}

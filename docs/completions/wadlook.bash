@@ -4,6 +4,7 @@
 # What follows each command, in order: `wide` where `--wide` may stand first; a name; one file, or files to the end.
 declare -gA _wadlook_forms=(
     [lumps]='wads'
+    [levels]='wads'
     [show]='wide level wads'
     [audit]='wide level wads'
     [points]='wide level wads'

@@ -10,6 +10,8 @@ declare -gA _wadlook_forms=(
     [points]='wide level wads'
     [sight]='level wads'
     [blocks]='wide level wads'
+    [demo]='demo wads'
+    [lmp]='lmp'
     [extract]='level wads'
 )
 
@@ -32,8 +34,10 @@ _wadlook() {
     [[ -n $next || ${form[-1]} != wads ]] || next=wads
     case $next in
         wide) COMPREPLY=(--wide) ;;
+        demo) mapfile -t COMPREPLY < <(compgen -W 'DEMO1 DEMO2 DEMO3 DEMO4' -- "${current^^}") ;;
         level) mapfile -t -O ${#COMPREPLY[@]} COMPREPLY < <(compgen -W "$levels" -- "${current^^}") ;;
-        wads)
+        wads | lmp)
+            [[ $next == wads ]] || ending=lmp
             # Folders, and the files with that ending in small or capital letters.
             mapfile -t COMPREPLY < <(
                 compgen -d -- "$current"

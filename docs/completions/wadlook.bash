@@ -8,6 +8,7 @@ declare -gA _wadlook_forms=(
     [show]='wide level wads'
     [audit]='wide level wads'
     [points]='wide level wads'
+    [census]='wide level wads'
     [sight]='level wads'
     [blocks]='wide level wads'
     [demo]='demo wads'

@@ -1,6 +1,7 @@
 //! Engines of files and of lines over a writer that takes a byte a call and fails at each of its calls in turn.
 
 use crate::sample::base;
+use le_rec::Sink;
 use map_level::Reading;
 use std::process::Abort;
 use std::test::Fail;

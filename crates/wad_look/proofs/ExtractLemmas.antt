@@ -16,7 +16,7 @@ use Rattle.map_level.specs.Level.{Level, lump_of}
 use Rattle.map_level.specs.Opening.{AreLumps, IsLevel}
 use Rattle.map_level.specs.declared.reading.Reading.TheVariants.{Signed}
 use Rattle.wad_dir.proofs.LumpLemmas.{IsLump-one}
-use Rattle.wad_look.specs.Engines.Extract.{HasLumps, IsPacked, RefusesExtract, named_lumps, extracted}
+use Rattle.wad_look.specs.Engines.Extract.{HasLumps, HoldsLumps, IsPacked, RefusesExtract, named_lumps, extracted}
 
 abbrev named : List ℕ → List ℕ → NamedLump
 named name bytes = record { name = name; bytes = bytes }
@@ -35,7 +35,7 @@ take-named (n ∷ names) (b ∷ lumps) (suc k) name bytes at there =
     rw next (ap (λ front. named n b ∷ front) (take-named names lumps k name bytes at there))
 
 -- lump k of the ten stands behind the label's
-lump-at : (lumps : List (List ℕ)) (k : ℕ) → length lumps ≡ 10 → 1 ≤ k → k ≤ 10 → slice_get ([] ∷ lumps) k ≡ Some (lump_of lumps k)
+pub lump-at : (lumps : List (List ℕ)) (k : ℕ) → length lumps ≡ 10 → 1 ≤ k → k ≤ 10 → slice_get ([] ∷ lumps) k ≡ Some (lump_of lumps k)
 lump-at lumps zero ten from to = absurd (omega arith)
 lump-at lumps (suc k) ten from to =
     let before : suc k - 1 ≡ k = omega arith in
@@ -71,8 +71,14 @@ module _ (bytes : List (List ℕ)) (asked : List ℕ) (files : List Wad) (level 
   has_lumps : HasLumps bytes asked (extracted level.names opened.lumps)
   has_lumps = record { files = files; level = level; lumps = opened.lumps; read = read; opened = opened; stand = opened.stand; are = refl }
 
-  pub level_packed : (file : List ℕ) → ((lumps : List (List ℕ)) → AreLumps files level.label lumps → file ≡ packed (extracted level.names lumps)) → IsPacked bytes asked file
-  level_packed file is = (extracted level.names opened.lumps, has_lumps, is opened.lumps opened.stand)
+  pub level_packed : (file : List ℕ) → ((lumps : List (List ℕ)) → AreLumps files level.label lumps → file ≡ packed (extracted level.names lumps))
+      → ((lumps : List (List ℕ)) → AreLumps files level.label lumps → HoldsLumps file (extracted level.names lumps)) → IsPacked bytes asked file
+  level_packed file is holds = record {
+    named = extracted level.names opened.lumps;
+    has = has_lumps;
+    is = is opened.lumps opened.stand;
+    holds = holds opened.lumps opened.stand;
+  }
 
   pub level_refused : (why : PackFault) → ((lumps : List (List ℕ)) → AreLumps files level.label lumps → why ≡ TooLarge → 2147483647 < length (packed (extracted level.names lumps)))
       → RefusesExtract bytes asked (fault.Pack why)

@@ -1,5 +1,6 @@
 pub mod AuditLemmas
 pub mod ContentsLemmas
+pub mod FaultlessLemmas
 pub mod JobLemmas
 pub mod LumpsLemmas
 pub mod LevelsLemmas
@@ -7,9 +8,10 @@ pub mod PointsLemmas
 pub mod RestLemmas
 pub mod ShowLemmas
 pub mod ExtractLemmas
+pub mod ExtractedLemmas
+pub mod SightLemmas
 pub mod BlocksLemmas
 pub mod CensusLemmas
-pub mod SightLemmas
 pub mod DemoLemmas
 pub mod LmpLemmas
 pub mod TurnLemmas

@@ -1,15 +1,28 @@
 -- The laws of this crate's definitions.
-use Rattle.std.specs.Prelude.{◌≡◌, ℕ, ℤ, List, [], ◌∷◌, Some}
+use Rattle.std.specs.Prelude.{◌≡◌, ◌≢◌, ◌↔◌, ℕ, ◌≤◌, ℤ, List, [], ◌∷◌, IsTrue, Some}
+use Rattle.std.specs.List.{slice_get}
+use Rattle.le_rec.specs.Name.{query_of}
 use Rattle.line_io.specs.Numbers.{AreNumbers}
 use Rattle.map_geo.specs.Point.{IsInRange, point_at}
-use Rattle.map_level.specs.Level.{Level}
+use Rattle.map_audit.specs.Findings.{AuditHolds}
+use Rattle.map_level.specs.Findings.{is_fault}
+use Rattle.map_level.specs.Level.{Level, level_of}
+use Rattle.map_level.specs.Opening.{AreLumps, IsLevel}
 use Rattle.map_level.specs.SectorOf.{sector_of}
+use Rattle.map_level.specs.declared.finding.Code.{Code}
+use Rattle.map_level.specs.declared.finding.Finding.{Finding}
+use Rattle.map_level.specs.declared.reading.Reading.{Reading}
+use Rattle.map_tables.specs.Reject.{Reject}
 use Rattle.map_tree.specs.Leaf.{IsLeaf}
 use Rattle.map_tree.specs.Sound.{IsSound}
-use Rattle.map_tables.specs.Reject.{Reject}
+use Rattle.wad_dir.specs.Directory.{HasDirectory}
+use Rattle.wad_dir.specs.Wad.{Wad}
+use Rattle.wad_look.specs.Engines.Audit.{AreAuditFindings, fault_count}
 use Rattle.wad_look.specs.Engines.Census.{TellsCensus}
+use Rattle.wad_look.specs.Engines.Extract.{IsPacked}
 use Rattle.wad_look.specs.Engines.Points.{TellsPoints, point_text}
 use Rattle.wad_look.specs.Engines.Sight.{AnswersSight}
+use Rattle.wad_look.specs.Opening.{AreRead, IsOpened}
 
 -- over a sound level every content is told an answer
 abbrev pub PointsAreAnswered : Type 0
@@ -31,3 +44,22 @@ LinesNameTheLeaf =
     → (content : List ℕ) (x y : ℤ) → AreNumbers content (x ∷ y ∷ []) → IsInRange x → IsInRange y
     → (t : ℕ) × (s : ℕ) × (answer content ≡ point_text x y (record { ssector = t; sector = s }))
     × IsLeaf level (point_at x y) t × ((u : ℕ) → IsLeaf level (point_at x y) u → u ≡ t) × (sector_of level t ≡ Some s)
+
+-- what `extract` writes is a WAD; its label opens there as entry 0, with the ten lumps that it has in the files, where none
+-- of the ten has the label's name
+abbrev pub ExtractedOpens : Type 0
+ExtractedOpens =
+    (bytes : List (List ℕ)) (asked file : List ℕ) (was : IsPacked bytes asked file) (reading : Reading)
+    → ((k : ℕ) → 1 ≤ k → k ≤ 10 → slice_get was.has.level.names k ≢ Some (query_of asked))
+    → (wad : Wad) × AreRead (file ∷ []) (wad ∷ []) × AreLumps (wad ∷ []) 0 was.has.lumps
+    × IsLevel (wad ∷ []) (query_of asked) reading (level_of 0 reading was.has.level.names was.has.lumps)
+
+abbrev pub ExtractedIsAWad : Type 0
+ExtractedIsAWad = (bytes : List (List ℕ)) (asked file : List ℕ) → IsPacked bytes asked file → HasDirectory file
+
+-- the findings on a name have no fault exactly where there is a level of the name and no F code holds of it
+abbrev pub FaultlessIsNoFault : Type 0
+FaultlessIsNoFault =
+    (bytes : List (List ℕ)) (asked : List ℕ) (reading : Reading) (findings : List Finding) → AreAuditFindings bytes asked reading findings
+    → (fault_count findings ≡ 0)
+    ↔ ((level : Level) × IsOpened bytes asked reading level × ((code : Code) (i : ℕ) → IsTrue (is_fault code) → ¬ AuditHolds level code i))

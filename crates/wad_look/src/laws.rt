@@ -21,3 +21,14 @@ pub fn sight_is_answered()
 pub fn lines_name_the_leaf()
     ensures { law.LinesNameTheLeaf }
 {}
+
+/// What `audit_text` finds on a name has no fault exactly where there is a level of the name and no F code holds of it.
+pub fn faultless_is_no_fault()
+    ensures { law.FaultlessIsNoFault }
+{}
+
+/// What `extract` writes is a WAD, in which the label opens again with the same ten lumps, where none of them has its name.
+pub fn extracted_opens()
+    ensures wad { law.ExtractedIsAWad }
+    ensures opens { law.ExtractedOpens }
+{}

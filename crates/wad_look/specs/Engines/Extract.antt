@@ -1,13 +1,18 @@
 -- The command `extract`: what it writes (ours), and what its run does.
-use Rattle.std.specs.Prelude.{◌≡◌, ℕ, ◌<◌, List, [], ◌∷◌, length, Result}
-use Rattle.le_rec.specs.Name.{query_of}
+use Rattle.std.specs.Prelude.{◌≡◌, ℕ, ◌<◌, List, [], ◌∷◌, length, map, Result}
+use Rattle.std.specs.List.{AllZip}
+use Rattle.le_rec.specs.Name.{name_of, query_of}
+use Rattle.le_rec.specs.declared.records.Entry.{Entry}
 use Rattle.le_rec.specs.Sink.{SinkState}
 use Rattle.line_io.specs.Writes.{Writes}
 use Rattle.map_level.specs.Level.{Level}
 use Rattle.map_level.specs.Opening.{AreLumps, IsLevel}
 use Rattle.map_level.specs.declared.reading.Reading.TheVariants.{Signed}
+use Rattle.wad_dir.specs.Directory.{IsDirectory}
 use Rattle.wad_dir.specs.Packing.{NamedLump, packed}
+use Rattle.wad_dir.specs.Slice.{IsSlice}
 use Rattle.wad_dir.specs.Wad.{Wad}
+use Rattle.wad_dir.specs.declared.header.Kind.TheVariants.{Pwad}
 use Rattle.wad_dir.specs.declared.packer.PackFault.TheVariants as pack
 use Rattle.wad_look.specs.Opening.{AreRead, RefusesName}
 use Rattle.wad_look.specs.Runs.{Runs}
@@ -33,9 +38,19 @@ pub record HasLumps (bytes : List (List ℕ)) (asked : List ℕ) (found : List N
   pub stand : AreLumps files level.label lumps
   pub are : found ≡ extracted level.names lumps
 
--- the file that they are packed into
-abbrev pub IsPacked : List (List ℕ) → List ℕ → List ℕ → Type 0
-IsPacked bytes asked file = (lumps : List NamedLump) × HasLumps bytes asked lumps × (file ≡ packed lumps)
+-- a PWAD with an entry for each lump, of its name and its bytes
+pub record HoldsLumps (file : List ℕ) (lumps : List NamedLump) : Type 0 where
+  pub entries : List Entry
+  pub directory : IsDirectory file Pwad entries
+  pub named : map (λ entry. name_of entry.name) entries ≡ map (λ lump. lump.name) lumps
+  pub slices : AllZip (λ entry lump. IsSlice file entry lump.bytes) entries lumps
+
+-- the file that they are packed into, which holds them
+pub record IsPacked (bytes : List (List ℕ)) (asked file : List ℕ) : Type 0 where
+  pub named : List NamedLump
+  pub has : HasLumps bytes asked named
+  pub is : file ≡ packed named
+  pub holds : HoldsLumps file named
 
 -- why there is none: it would be too large, or a growth was refused
 abbrev pub RefusesExtract : List (List ℕ) → List ℕ → RunFault → Type 0

@@ -1,23 +1,21 @@
 -- The file that a level is packed into holds that level.
-use Rattle.std.proofs.Common.{◌≡◌, ◌≢◌, ℕ, zero, suc, ◌+◌, ◌-◌, ◌<◌, ◌≤◌, List, [], ◌∷◌, ◌++◌, length, map, get_or, Some, refl, sym, ap, ◌∙◌, subst, arith}
-use Rattle.std.specs.List.{All, AllZip, slice_get}
-use Rattle.std.proofs.lemmas.Bool.{cases_lt}
+use Rattle.std.proofs.Common.{◌≡◌, ◌≢◌, ℕ, zero, suc, ◌+◌, ◌≤◌, List, [], ◌∷◌, ◌++◌, length, map, get_or, Some, refl, ap, ◌∙◌, subst, arith}
+use Rattle.std.specs.List.{AllZip, slice_get}
 use Rattle.std.proofs.lemmas.List.Elements.{All-push}
 use Rattle.std.proofs.lemmas.Option.{slice_get-get_or, slice_get_within}
 use Rattle.le_rec.specs.Name.{name_of, query_of}
 use Rattle.le_rec.specs.declared.records.Entry.{Entry}
 use Rattle.map_level.specs.Level.{Level, level_of, lump_of}
-use Rattle.map_level.specs.Opening.{AreLumps, AreNames, IsLevel}
+use Rattle.map_level.specs.Opening.{AreLumps, IsLevel}
 use Rattle.map_level.specs.declared.reading.Reading.{Reading}
-use Rattle.wad_dir.specs.Directory.{IsDirectory}
-use Rattle.wad_dir.specs.Entries.{Listed, joined, listed_in, listed_name, names}
+use Rattle.wad_dir.specs.Entries.{Listed, listed_name, names}
 use Rattle.wad_dir.specs.Packing.{NamedLump}
-use Rattle.wad_dir.specs.Slice.{IsLump, IsSlice}
+use Rattle.wad_dir.specs.Slice.{IsSlice}
 use Rattle.wad_dir.specs.Wad.{Wad, IsRead}
 use Rattle.wad_dir.specs.Winner.{Wins}
 use Rattle.wad_dir.specs.declared.header.Kind.TheVariants.{Pwad}
 use Rattle.wad_look.proofs.ExtractLemmas.{lump-at}
-use Rattle.wad_look.specs.Engines.Extract.{HoldsLumps, IsPacked, extracted, named_lumps}
+use Rattle.wad_look.specs.Engines.Extract.{IsPacked, named_lumps}
 use Rattle.wad_look.specs.Laws.{ExtractedOpens}
 use Rattle.wad_look.specs.Opening.{AreRead}
 

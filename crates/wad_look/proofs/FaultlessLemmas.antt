@@ -1,14 +1,13 @@
 -- The findings on a name have no fault exactly where there is a level of the name of which no F code holds.
-use Rattle.std.proofs.Common.{◌≡◌, ◌↔◌, ◌⊎◌, inl, inr, ℕ, zero, suc, ◌+◌, ◌<◌, Bool, true, false, cond, IsTrue, List, [], ◌∷◌, ◌++◌, length, map, get_or, refl, sym, ap, ◌∙◌, subst, arith}
+use Rattle.std.proofs.Common.{◌≡◌, ◌↔◌, inl, inr, ℕ, zero, suc, ◌+◌, ◌<◌, Bool, true, false, cond, IsTrue, List, [], ◌∷◌, length, get_or, refl, sym, ap, ◌∙◌, arith}
 use Rattle.std.specs.Prelude.{Contains, count_by}
-use Rattle.std.proofs.lemmas.Bool.{false≢true}
 use Rattle.std.proofs.lemmas.List.Elements.{Contains-append_right}
 use Rattle.std.proofs.lemmas.List.Recursion.{is_count_by}
 use Rattle.le_rec.specs.Name.{query_of}
 use Rattle.map_audit.specs.Findings.{AuditHolds}
 use Rattle.map_level.specs.Findings.{is_fault}
 use Rattle.map_level.specs.Level.{Level}
-use Rattle.map_level.specs.Opening.{IsLevel, RefusesLevel}
+use Rattle.map_level.specs.Opening.{RefusesLevel}
 use Rattle.map_level.specs.declared.finding.Code.{Code}
 use Rattle.map_level.specs.declared.finding.Finding.{Finding}
 use Rattle.map_level.specs.declared.level.LevelFault.{LevelFault}
@@ -17,7 +16,7 @@ use Rattle.map_level.specs.declared.reading.Reading.{Reading}
 use Rattle.map_level.proofs.LevelLemmas.{IsLevel-one, RefusesLevel-no_level}
 use Rattle.wad_dir.specs.Wad.{Wad, IsRead}
 use Rattle.wad_dir.proofs.ReadingLemmas.{IsDirectory-one}
-use Rattle.wad_look.specs.Engines.Audit.{AreAuditFindings, AreLevelFindings, IsLumpFinding, fault_count}
+use Rattle.wad_look.specs.Engines.Audit.{AreLevelFindings, IsLumpFinding, fault_count}
 use Rattle.wad_look.specs.Laws.{FaultlessIsNoFault}
 use Rattle.wad_look.specs.Opening.{AreRead, IsOpened}
 

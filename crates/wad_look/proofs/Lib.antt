@@ -15,3 +15,4 @@ pub mod CensusLemmas
 pub mod DemoLemmas
 pub mod LmpLemmas
 pub mod TurnLemmas
+pub mod BlocksAnsweredLemmas

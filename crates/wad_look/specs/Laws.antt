@@ -12,12 +12,14 @@ use Rattle.map_level.specs.SectorOf.{sector_of}
 use Rattle.map_level.specs.declared.finding.Code.{Code}
 use Rattle.map_level.specs.declared.finding.Finding.{Finding}
 use Rattle.map_level.specs.declared.reading.Reading.{Reading}
+use Rattle.map_tables.specs.BlockMap.{BlockMap}
 use Rattle.map_tables.specs.Reject.{Reject}
 use Rattle.map_tree.specs.Leaf.{IsLeaf}
 use Rattle.map_tree.specs.Sound.{IsSound}
 use Rattle.wad_dir.specs.Directory.{HasDirectory}
 use Rattle.wad_dir.specs.Wad.{Wad}
 use Rattle.wad_look.specs.Engines.Audit.{AreAuditFindings, fault_count}
+use Rattle.wad_look.specs.Engines.Blocks.{AnswersBlocks}
 use Rattle.wad_look.specs.Engines.Census.{TellsCensus}
 use Rattle.wad_look.specs.Engines.Extract.{IsPacked}
 use Rattle.wad_look.specs.Engines.Points.{TellsPoints, point_text}
@@ -56,6 +58,10 @@ ExtractedOpens =
 
 abbrev pub ExtractedIsAWad : Type 0
 ExtractedIsAWad = (bytes : List (List ℕ)) (asked file : List ℕ) → IsPacked bytes asked file → HasDirectory file
+
+-- every content is told an answer of `blocks`, whatever BLOCKMAP holds
+abbrev pub BlocksAreAnswered : Type 0
+BlocksAreAnswered = (map : BlockMap) → (answer : List ℕ → List ℕ) × AnswersBlocks map answer
 
 -- the findings on a name have no fault exactly where there is a level of the name and no F code holds of it
 abbrev pub FaultlessIsNoFault : Type 0

@@ -22,6 +22,11 @@ pub fn lines_name_the_leaf()
     ensures { law.LinesNameTheLeaf }
 {}
 
+/// There are answers of `blocks` over every level with a BLOCKMAP: every content is told one.
+pub fn blocks_are_answered()
+    ensures { law.BlocksAreAnswered }
+{}
+
 /// What `audit_text` finds on a name has no fault exactly where there is a level of the name and no F code holds of it.
 pub fn faultless_is_no_fault()
     ensures { law.FaultlessIsNoFault }

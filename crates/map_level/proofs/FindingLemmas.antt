@@ -1,9 +1,9 @@
 -- Facts about findings: the order of codes, and the findings so far as a search goes on.
-use Rattle.std.proofs.Common.{◌≡◌, ℕ, suc, zero, ◌+◌, ◌<◌, ◌⊎◌, inl, inr, List, [], ◌∷◌, ◌++◌, length, get_or, refl, sym, ap, ◌∙◌, subst, arith}
+use Rattle.std.proofs.Common.{◌≡◌, ℕ, suc, zero, ◌+◌, ◌<◌, ◌≤◌, ◌⊎◌, inl, inr, List, [], ◌∷◌, ◌++◌, length, get_or, refl, sym, ap, ◌∙◌, subst, arith}
 use Rattle.std.specs.Prelude.{Contains}
 use Rattle.std.proofs.lemmas.List.Quantifiers.{all_pairs_push}
 use Rattle.std.proofs.lemmas.List.Elements.{Contains-push, Contains-push_cases, Contains-append_left, Contains-get_or}
-use Rattle.std.proofs.lemmas.Bool.{cases_eq}
+use Rattle.std.proofs.lemmas.Bool.{cases_eq, cases_lt}
 use Rattle.map_level.specs.declared.finding.Code.{Code}
 use Rattle.map_level.specs.declared.finding.Code.TheVariants.{F1, F2, F3, F4, F5, F6, F7, F8, F9, F10, F11, F12, F13, F14, F15, F16, F17, F18, N1, N2, N3, N4, N5, N6, N7, N8, N9, N10, N11, N12}
 use Rattle.map_level.specs.declared.finding.Finding.{Finding}
@@ -11,95 +11,20 @@ use Rattle.map_level.specs.Findings.{place, StandsBefore, AreFindings, AreFindin
 
 -- all codes in their order
 abbrev pub all_codes : List Code
-all_codes =
-    F1 ∷ F2 ∷ F3 ∷ F4 ∷ F5 ∷ F6 ∷ F7 ∷ F8 ∷ F9 ∷ F10 ∷ F11 ∷ F12 ∷ F13 ∷ F14 ∷ F15 ∷ F16 ∷ F17 ∷ F18
-    ∷ N1 ∷ N2 ∷ N3 ∷ N4 ∷ N5 ∷ N6 ∷ N7 ∷ N8 ∷ N9 ∷ N10 ∷ N11 ∷ N12 ∷ []
+all_codes = F1 ∷ F2 ∷ F3 ∷ F4 ∷ F5 ∷ F6 ∷ F7 ∷ F8 ∷ F9 ∷ F10 ∷ F11 ∷ F12 ∷ F13 ∷ F14 ∷ F15 ∷ F16 ∷ F17 ∷ F18 ∷ N1 ∷ N2 ∷ N3 ∷ N4 ∷ N5 ∷ N6 ∷ N7 ∷ N8 ∷ N9 ∷ N10 ∷ N11 ∷ N12 ∷ []
 
 -- the codes of a list stand at the places from n on
 abbrev StandFrom : ℕ → List Code → Type 0
 StandFrom n [] = Unit {0}
 StandFrom n (c ∷ cs) = (place c ≡ n) × StandFrom (n + 1) cs
 
-StandFrom-at : (n : ℕ) (cs : List Code) → StandFrom n cs → (k : ℕ) (d : Code) → k < length cs
-    → place (get_or cs k d) ≡ n + k
+StandFrom-at : (n : ℕ) (cs : List Code) → StandFrom n cs → (k : ℕ) (d : Code) → k < length cs → place (get_or cs k d) ≡ n + k
 StandFrom-at n [] s k d h = absurd (omega arith)
 StandFrom-at n (c ∷ cs) s zero d h = omega (arith, s.0)
 StandFrom-at n (c ∷ cs) s (suc k) d h = omega (arith, StandFrom-at (n + 1) cs s.1 k d (omega arith))
 
 all_stand : StandFrom 0 all_codes
-all_stand = (
-  refl,
-  (
-    refl,
-    (
-      refl,
-      (
-        refl,
-        (
-          refl,
-          (
-            refl,
-            (
-              refl,
-              (
-                refl,
-                (
-                  refl,
-                  (
-                    refl,
-                    (
-                      refl,
-                      (
-                        refl,
-                        (
-                          refl,
-                          (
-                            refl,
-                            (
-                              refl,
-                              (
-                                refl,
-                                (
-                                  refl,
-                                  (
-                                    refl,
-                                    (
-                                      refl,
-                                      (
-                                        refl,
-                                        (
-                                          refl,
-                                          (
-                                            refl,
-                                            (
-                                              refl,
-                                              (
-                                                refl,
-                                                (refl, (refl, (refl, (refl, (refl, (refl, tt)))))),
-                                              ),
-                                            ),
-                                          ),
-                                        ),
-                                      ),
-                                    ),
-                                  ),
-                                ),
-                              ),
-                            ),
-                          ),
-                        ),
-                      ),
-                    ),
-                  ),
-                ),
-              ),
-            ),
-          ),
-        ),
-      ),
-    ),
-  ),
-)
+all_stand = (refl, (refl, (refl, (refl, (refl, (refl, (refl, (refl, (refl, (refl, (refl, (refl, (refl, (refl, (refl, (refl, (refl, (refl, (refl, (refl, (refl, (refl, (refl, (refl, (refl, (refl, (refl, (refl, (refl, (refl, tt))))))))))))))))))))))))))))))
 
 -- the code at a place of the order
 pub place_at : (k : ℕ) (d : Code) → k < 30 → place (get_or all_codes k d) ≡ k
@@ -175,12 +100,10 @@ same_from_place c d h = code_at c ∙ ap (λ k. get_or all_codes k F1) h ∙ sym
 
 pub same_finding : (f g : Finding) → f.code ≡ g.code → f.index ≡ g.index → f ≡ g
 same_finding f g code index =
-    ap (λ c. let x : Finding = record { code = c; index = f.index } in x) code
-    ∙ ap (λ i. let x : Finding = record { code = g.code; index = i } in x) index
+    ap (λ c. let x : Finding = record { code = c; index = f.index } in x) code ∙ ap (λ i. let x : Finding = record { code = g.code; index = i } in x) index
 
 -- one finding more
-pub found_more : (holds : Code → ℕ → Type 0) (found : List Finding) (f : Finding)
-    → AreFindingsBelow holds (place f.code) f.index found
+pub found_more : (holds : Code → ℕ → Type 0) (found : List Finding) (f : Finding) → AreFindingsBelow holds (place f.code) f.index found
     → holds f.code f.index → AreFindingsBelow holds (place f.code) (f.index + 1) (found ++ f ∷ [])
 found_more holds found f before here =
     record {
@@ -192,62 +115,36 @@ found_more holds found f before here =
           ]);
       exact = λ h. (
         (λ there. elim (Contains-push_cases found f h there) [
-          | inl old ↦
-              let told =
-              (before.exact h).0 old in (
-                told.0,
-                elim told.1 [
-                  | inl less ↦ inl less
-                  | inr same ↦ inr (same.0, omega (arith, same.1))
-                ],
-              )
-          | inr is ↦
-              subst
-              (λ (g : Finding).
-              holds g.code g.index
-              × ((place g.code < place f.code) ⊎
-              ((place g.code ≡ place f.code) × (g.index < f.index + 1)))) is
-              (here, inr (refl, omega arith))
+          | inl old ↦ let told = (before.exact h).0 old in (told.0, elim told.1 [ inl less ↦ inl less | inr same ↦ inr (same.0, omega (arith, same.1)) ])
+          | inr is ↦ subst (λ (g : Finding). holds g.code g.index × ((place g.code < place f.code) ⊎ ((place g.code ≡ place f.code) × (g.index < f.index + 1)))) is (here, inr (refl, omega arith))
         ]),
         (λ told. elim told.1 [
           | inl less ↦ Contains-append_left found (f ∷ []) h ((before.exact h).1 (told.0, inl less))
           | inr same ↦ elim (cases_eq h.index f.index) [
             | inl equal ↦
                 let is : h ≡ f = same_finding h f (same_from_place h.code f.code same.0) equal in
-                subst (λ (g : Finding). Contains (found ++ f ∷ []) g) (sym is)
-                (Contains-push found f)
-            | inr other ↦
-                Contains-append_left found (f ∷ []) h
-                ((before.exact h).1 (told.0, inr (same.0, omega (arith, same.1, other))))
+                subst (λ (g : Finding). Contains (found ++ f ∷ []) g) (sym is) (Contains-push found f)
+            | inr other ↦ Contains-append_left found (f ∷ []) h ((before.exact h).1 (told.0, inr (same.0, omega (arith, same.1, other))))
           ]
         ]),
       );
     }
 
--- an index at which the code doesn't hold
-pub found_no_more : (holds : Code → ℕ → Type 0) (found : List Finding) (c : Code) (i : ℕ)
-    → AreFindingsBelow holds (place c) i found
-    → ¬ holds c i → AreFindingsBelow holds (place c) (i + 1) found
-found_no_more holds found c i before not_here =
+-- indexes at which the code doesn't hold
+pub found_no_more : (holds : Code → ℕ → Type 0) (found : List Finding) (c : Code) (from to : ℕ) → AreFindingsBelow holds (place c) from found → from ≤ to
+    → ((i : ℕ) → from ≤ i → i < to → ¬ holds c i) → AreFindingsBelow holds (place c) to found
+found_no_more holds found c from to before le none =
     record {
       ascending = before.ascending;
       exact = λ h. (
-        (λ there. let told = (before.exact h).0 there in (
-          told.0,
-          elim told.1 [
-            | inl less ↦ inl less
-            | inr same ↦ inr (same.0, omega (arith, same.1))
-          ],
-        )),
+        (λ there. let told = (before.exact h).0 there in (told.0, elim told.1 [ inl less ↦ inl less | inr same ↦ inr (same.0, omega (arith, same.1, le)) ])),
         (λ told. (before.exact h).1 (
           told.0,
           elim told.1 [
             | inl less ↦ inl less
-            | inr same ↦ elim (cases_eq h.index i) [
-              | inl equal ↦
-                  absurd (not_here (subst (λ j. holds c j) equal
-                  (subst (λ d. holds d h.index) (same_from_place h.code c same.0) told.0)))
-              | inr other ↦ inr (same.0, omega (arith, same.1, other))
+            | inr same ↦ elim (cases_lt h.index from) [
+              | inl below ↦ inr (same.0, below)
+              | inr past ↦ absurd (none h.index (omega (arith, past)) same.1 (subst (λ d. holds d h.index) (same_from_place h.code c same.0) told.0))
             ]
           ],
         )),
@@ -255,30 +152,18 @@ found_no_more holds found c i before not_here =
     }
 
 -- after a code's last index
-pub found_code : (holds : Code → ℕ → Type 0) (found : List Finding) (c : Code) (n : ℕ)
-    → AreFindingsBelow holds (place c) n found
+pub found_code : (holds : Code → ℕ → Type 0) (found : List Finding) (c : Code) (n : ℕ) → AreFindingsBelow holds (place c) n found
     → ((i : ℕ) → holds c i → i < n) → AreFindingsBelow holds (place c + 1) 0 found
 found_code holds found c n before all =
     record {
       ascending = before.ascending;
       exact = λ h. (
-        (λ there. let told = (before.exact h).0 there in (
-          told.0,
-          elim told.1 [
-            | inl less ↦ inl (omega (arith, less))
-            | inr same ↦ inl (omega (arith, same.0))
-          ],
-        )),
+        (λ there. let told = (before.exact h).0 there in (told.0, elim told.1 [ inl less ↦ inl (omega (arith, less)) | inr same ↦ inl (omega (arith, same.0)) ])),
         (λ told. (before.exact h).1 (
           told.0,
           elim told.1 [
             | inl less ↦ elim (cases_eq (place h.code) (place c)) [
-              | inl equal ↦
-                  inr (
-                    equal,
-                    all h.index
-                        (subst (λ d. holds d h.index) (same_from_place h.code c equal) told.0),
-                  )
+              | inl equal ↦ inr (equal, all h.index (subst (λ d. holds d h.index) (same_from_place h.code c equal) told.0))
               | inr other ↦ inl (omega (arith, less, other))
             ]
             | inr same ↦ absurd (omega (arith, same.1))
@@ -291,24 +176,12 @@ found_code holds found c n before all =
 pub found_none : (holds : Code → ℕ → Type 0) → AreFindingsBelow holds 0 0 []
 found_none holds = record {
   ascending = λ i j d below within. absurd (omega (arith, within));
-  exact =
-      λ h. (
-        (λ there. absurd (omega (arith, there.1))),
-        (λ told. absurd (elim told.1 [
-          | inl less ↦ omega (arith, less)
-          | inr same ↦ omega (arith, same.1)
-        ])),
-      );
+  exact = λ h. ((λ there. absurd (omega (arith, there.1))), (λ told. absurd (elim told.1 [ inl less ↦ omega (arith, less) | inr same ↦ omega (arith, same.1) ])));
 }
 
 -- after the last code
-pub found_all : (holds : Code → ℕ → Type 0) (found : List Finding)
-    → AreFindingsBelow holds 30 0 found → AreFindings holds found
+pub found_all : (holds : Code → ℕ → Type 0) (found : List Finding) → AreFindingsBelow holds 30 0 found → AreFindings holds found
 found_all holds found before = record {
   ascending = before.ascending;
-  exact =
-      λ h. (
-        (λ there. ((before.exact h).0 there).0),
-        (λ told. (before.exact h).1 (told, inl (place-below h.code))),
-      );
+  exact = λ h. ((λ there. ((before.exact h).0 there).0), (λ told. (before.exact h).1 (told, inl (place-below h.code))));
 }

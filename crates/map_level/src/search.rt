@@ -1,6 +1,6 @@
 //! The search for findings, code by code: one loop over the indexes at which a code may hold.
 
-ghost use Rattle.std.specs.Prelude.{◌+◌, ◌<◌, ◌↔◌, ℕ, Bool, IsTrue, OnOk};
+ghost use Rattle.std.specs.Prelude.{◌+◌, ◌<◌, ◌≤◌, ◌↔◌, ℕ, Bool, true, false, IfNone, IfSome, IsTrue, OnOk};
 ghost use Rattle.map_level.specs.Findings.{place, AreFindingsBelow};
 
 use crate::finding::{Code, Finding, Findings};
@@ -67,10 +67,27 @@ pub fn add_where<T: Searched, A: Allocator, F: Fn(u32) -> bool>(
 {
     // Only the clauses speak of what is searched.
     let _searched = searched;
-    for index in 0..count {
-        if test(index) {
-            found.push(Finding { code, index })?;
-        }
+    let mut from = 0;
+    'finds: while let Some(index) = first_where(from, count, &test) {
+        found.push(Finding { code, index })?;
+        from = index + 1;
     }
     Ok(())
+}
+
+// The first index from one on, below a count, at which a test answers true. It writes nothing, so that what the test
+// reads of the level is read once.
+#[inline(always)]
+fn first_where<F: Fn(u32) -> bool>(from: u32, count: u32, test: &F) -> Option<u32>
+    requires { F.IsAlwaysCallable test.now }
+    ensures found { IfSome result (λ at. (from ≤ at) × (at < count) × F.post test.now at true) }
+    ensures before { IfSome result (λ at. (i : ℕ) → from ≤ i → i < at → F.post test.now i false) }
+    ensures none { IfNone result ((i : ℕ) → from ≤ i → i < count → F.post test.now i false) }
+{
+    for index in from..count {
+        if test(index) {
+            return Some(index);
+        }
+    }
+    None
 }

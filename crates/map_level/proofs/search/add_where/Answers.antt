@@ -1,19 +1,24 @@
-use Rattle.std.proofs.Common.{sym, ◌∙◌}
+use Rattle.std.proofs.Common.{true, false, refl, arith}
 use Rattle.std.proofs.lemmas.Bool.{false≢true}
-use Rattle.map_level.proofs.FindingLemmas.{found_more, found_no_more}
-use Rattle.map_level.proofs.search.add_where.Goals.{then-test+in_ok-push, else-test}
+use Rattle.map_level.proofs.FindingLemmas.{found_code, found_more, found_no_more}
 use Rattle.map_level.proofs.search.add_where.Goals as goal
 
-pub loop-index-preserved : goal.loop-index-preserved
-loop-index-preserved g c =
+pub finds-preserved : goal.finds-preserved
+finds-preserved g c =
     let holds = g.T.Searched.holds c.args.searched.now in
-    let told = c.requires.tells c.loop-index.index c.test.result c.test.ensures in
-    elim c.if-test.branch [
-      | then-test+in_ok-push w ↦
-          rw (w.found-is, w.in_ok-push.ensures.ok)
-          (found_more holds c.loop-index.found (record { code = c.args.code; index = c.loop-index.index })
-          c.loop-index.invariant (told.0 w.if-test.true))
-      | else-test w ↦
-          rw w.found-is (found_no_more holds c.loop-index.found c.args.code c.loop-index.index
-          c.loop-index.invariant (λ h. false≢true (sym w.if-test.false ∙ told.1 h)))
-    ]
+    let tells = c.requires.tells in
+    let at = c.in-Some.index in
+    let found = c.in-Some.ensures.found in
+    let before = found_no_more holds c.finds.found c.args.code c.finds.from at c.finds.invariant.so_far found.0
+        (λ i from below h. false≢true ((tells i false (c.in-Some.ensures.before i from below)).1 h)) in
+    record {
+      within = omega (arith, found.1);
+      so_far = rw c.in_ok-push.ensures.ok (found_more holds c.finds.found (record { code = c.args.code; index = at }) before ((tells at true found.2).0 refl));
+    }
+
+pub returns : goal.returns
+returns g c =
+    let holds = g.T.Searched.holds c.args.searched.now in
+    let before = found_no_more holds c.finds.found c.args.code c.finds.from c.args.count c.finds.invariant.so_far c.finds.invariant.within
+        (λ i from below h. false≢true ((c.requires.tells i false (c.in_default.ensures.none i from below)).1 h)) in
+    found_code holds c.finds.found c.args.code c.args.count before c.requires.most

@@ -1,6 +1,12 @@
+use Rattle.std.proofs.Common.{◌≤◌, ◌-◌}
 use Rattle.map_level.specs.Findings.{place, AreFindingsBelow}
 use Rattle.map_level.proofs.search.add_where.Given as goal
 
-abbrev pub invariant-loop-index : goal.invariant-loop-index
-invariant-loop-index g l =
-    AreFindingsBelow (g.T.Searched.holds l.searched) (place l.code) l.index l.found
+abbrev pub invariant-finds : goal.invariant-finds
+invariant-finds g l = record {
+  within : l.from ≤ l.count;
+  so_far : AreFindingsBelow (g.T.Searched.holds l.searched) (place l.code) l.from l.found;
+}
+
+abbrev pub decreases-finds : goal.decreases-finds
+decreases-finds g l = l.count - l.from

@@ -1,5 +1,5 @@
 -- The pass that makes the pairs of the counts.
-use Rattle.std.proofs.Common.{ℕ, ◌+◌, ◌<◌, ◌≤◌, ◌≡◌, inl, inr, refl, List, [], ◌∷◌, ◌++◌, length, get_or, take, arith}
+use Rattle.std.proofs.Common.{ℕ, ◌+◌, ◌<◌, ◌≤◌, ◌≡◌, inl, inr, refl, sym, ◌∙◌, List, [], ◌∷◌, ◌++◌, length, get_or, take, arith}
 use Rattle.std.proofs.lemmas.Bool.{cases_lt, cases_eq}
 use Rattle.std.proofs.lemmas.List.Elements.{All-nil, All-push, Contains-push, Contains-append_left}
 use Rattle.std.proofs.lemmas.List.Quantifiers.{all_pairs_push}
@@ -54,6 +54,15 @@ SoFar-push counts i n pairs within e above so_far = record {
   ];
   total = omega (arith, so_far.total, e, sum_by_more (λ x. x) counts i 0 within, sum_by_push (λ (p : ℕ × ℕ). p.1) pairs (i, n));
 }
+
+-- the next sector's pair is added, where it has points
+pub SoFar-next : (counts : List ℕ) (i n : ℕ) (pairs next : List (ℕ × ℕ)) → i < length counts → n ≡ get_or counts i 0 → (0 < n → next ≡ pairs ++ ((i, n) ∷ [])) → (n ≡ 0 → next ≡ pairs) → SoFar counts i pairs → SoFar counts (i + 1) next
+SoFar-next counts i n pairs next within e some none so_far = elim (cases_lt 0 n) [
+  | inl above ↦ rw (some above) (SoFar-push counts i n pairs within e above so_far)
+  | inr zero_or_less ↦
+      let is_zero : n ≡ 0 = omega (arith, zero_or_less) in
+      rw (none is_zero) (SoFar-skip counts i pairs within (sym e ∙ is_zero) so_far)
+]
 
 pub SoFar-end : (counts : List ℕ) (i : ℕ) (pairs : List (ℕ × ℕ)) → length counts ≤ i → SoFar counts i pairs → ArePairs (λ s. get_or counts s 0) pairs
 SoFar-end counts i pairs past so_far = record {

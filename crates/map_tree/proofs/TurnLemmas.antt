@@ -29,6 +29,10 @@ use Rattle.map_tree.proofs.HeldLemmas.{IsSized, sized-from_sound, area_from_rect
 pub reverse_push : (ps : List Piece) (p : Piece) → reverse (ps ++ (p ∷ [])) ≡ p ∷ reverse ps
 reverse_push ps p = reverse-append ps (p ∷ [])
 
+-- a list after a push, the newest first
+pub pushed : (before after : List Piece) (p : Piece) → after ≡ before ++ (p ∷ []) → reverse after ≡ p ∷ reverse before
+pushed before after p e = rw e (reverse_push before p)
+
 -- a list of zeros adds up to none
 pub sum_zeros : (counts : List ℕ) → ((s : ℕ) → get_or counts s 0 ≡ 0) → sum counts ≡ 0
 sum_zeros [] zeros = refl

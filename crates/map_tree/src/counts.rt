@@ -1,6 +1,6 @@
 //! What a census tells, and the list of its pairs.
 
-ghost use Rattle.std.specs.Prelude.{◌≡◌, ◌≤◌, IfOk, length, slice_index};
+ghost use Rattle.std.specs.Prelude.{◌≡◌, ◌<◌, ◌≤◌, ◌++◌, ◌∷◌, [], IfOk, OnOk, length, slice_index};
 ghost use Rattle.std.specs.List.{slice_get, sum, sum_by};
 ghost use Rattle.map_tree.specs.Counts.{ArePairs};
 
@@ -61,10 +61,23 @@ pub fn pairs<A: Allocator>(alloc: A, counts: &[u32]) -> Result<Vec<(u16, u32), A
 {
     let mut pairs = Vec::new(alloc);
     for sector in 0..counts.len() {
-        let count = counts[sector];
-        if count > 0 {
-            pairs.push((sector as u16, count))?;
-        }
+        add_pair(&mut pairs, sector as u16, counts[sector])?;
     }
     Ok(pairs)
+}
+
+// Adds the pair of a sector that has points.
+#[inline]
+fn add_pair<A: Allocator>(
+    pairs: &mut Vec<(u16, u32), A>,
+    sector: u16,
+    count: u32,
+) -> Result<(), AllocError>
+    ensures some { OnOk result (0 < count → pairs.new.items ≡ pairs.old.items ++ (sector, count) ∷ []) }
+    ensures none { OnOk result (count ≡ 0 → pairs.new.items ≡ pairs.old.items) }
+{
+    if count > 0 {
+        pairs.push((sector, count))?;
+    }
+    Ok(())
 }

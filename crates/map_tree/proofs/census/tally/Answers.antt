@@ -1,9 +1,9 @@
-use Rattle.std.proofs.Common.{◌+◌, ◌<◌, reverse, length-set, get_or, refl, ap, ◌∙◌, rules, arith}
+use Rattle.std.proofs.Common.{◌+◌, ◌<◌, length-set, get_or, refl, ◌∙◌, rules, arith}
 use Rattle.std.proofs.lemmas.List.{length-reverse}
 use Rattle.map_tree.specs.declared.pieces.Piece.{Piece}
 use Rattle.map_tree.specs.Sizes.{size_of}
 use Rattle.map_tree.proofs.HeldLemmas.{sized-from_sound, Held-start}
-use Rattle.map_tree.proofs.TurnLemmas.{reverse_push, empty, sum_zeros, tests_fit, most_fits, done, leaf_fits, turn-leaf, turn-down, turn-apart, turn-pushed, fewer-down, fewer-apart}
+use Rattle.map_tree.proofs.TurnLemmas.{pushed, empty, sum_zeros, tests_fit, most_fits, done, leaf_fits, turn-leaf, turn-down, turn-apart, turn-pushed, fewer-down, fewer-apart}
 use Rattle.map_tree.proofs.census.tally.Goals as goal
 
 pub loop-next-init : goal.loop-next-init
@@ -72,16 +72,16 @@ pub loop-next-smaller-in_ok-push-in-Apart : goal.loop-next-smaller-in_ok-push-in
 loop-next-smaller-in_ok-push-in-Apart g c =
     let sized = sized-from_sound c.args.level.now c.requires.sound in
     let step = rw c.nodes-nodes.ensures.is at c.in-Apart.ensures in
-    let pushed = ap (λ (ps : _). reverse ps) c.in_ok-push-in-Apart.ensures.items ∙ reverse_push c.loop-next.pending.items c.in-Apart.halves.first in
-    rw pushed (fewer-apart c.args.level.now (size_of c.args.level.now) c.args.rect sized c.start-hand.ensures.valid c.loop-next.hand _ _ _ _ c.loop-next.invariant.held c.in-Apart.halves step)
+    let grown = pushed c.loop-next.pending.items c.push.new.self.items c.in-Apart.halves.first c.in_ok-push-in-Apart.ensures.items in
+    rw grown (fewer-apart c.args.level.now (size_of c.args.level.now) c.args.rect sized c.start-hand.ensures.valid c.loop-next.hand _ _ _ _ c.loop-next.invariant.held c.in-Apart.halves step)
 
 pub loop-next-preserved-in_ok-push-in-Apart : goal.loop-next-preserved-in_ok-push-in-Apart
 loop-next-preserved-in_ok-push-in-Apart g c =
     let sized = sized-from_sound c.args.level.now c.requires.sound in
     let step = rw c.nodes-nodes.ensures.is at c.in-Apart.ensures in
-    let pushed = ap (λ (ps : _). reverse ps) c.in_ok-push-in-Apart.ensures.items ∙ reverse_push c.loop-next.pending.items c.in-Apart.halves.first in
+    let grown = pushed c.loop-next.pending.items c.push.new.self.items c.in-Apart.halves.first c.in_ok-push-in-Apart.ensures.items in
     record {
-      held = rw pushed (turn-pushed c.args.level.now (size_of c.args.level.now) c.args.rect sized c.start-hand.ensures.valid c.loop-next.hand _ _ _ _ c.loop-next.invariant.held c.in-Apart.halves c.len.result c.max-most.result step c.max-most.ensures (omega (arith, length-reverse {A = Piece} c.loop-next.pending.items, c.loop-next.pending.ok.0, c.len.ensures, c.in_ok-push-in-Apart.ensures.len)));
+      held = rw grown (turn-pushed c.args.level.now (size_of c.args.level.now) c.args.rect sized c.start-hand.ensures.valid c.loop-next.hand _ _ _ _ c.loop-next.invariant.held c.in-Apart.halves c.len.result c.max-most.result step c.max-most.ensures (omega (arith, length-reverse {A = Piece} c.loop-next.pending.items, c.loop-next.pending.ok.0, c.len.ensures, c.in_ok-push-in-Apart.ensures.len)));
       long = c.loop-next.invariant.long;
     }
 
@@ -93,5 +93,5 @@ loop-next-preserved g c =
     let within = c.requires.within _ _ c.ssector_sector.ensures small in
     let sector_is = rw (c.from.ensures ∙ leaf.1, ← c.from-in-AtSsector.ensures) at c.ssector_sector.ensures in
     let held = turn-leaf c.args.level.now (size_of c.args.level.now) c.args.rect sized c.start-hand.ensures.valid c.loop-next.hand _ _ _ _ c.loop-next.invariant.held c.from-in-AtSsector.result c.in-AtSsector.points leaf.0 sector_is (rw (c.from-in-AtSsector.ensures, c.loop-next.invariant.long) within) leaf.2 in
-    let popped = ap (λ (ps : _). reverse ps) c.in-Some.ensures.items ∙ reverse_push c.pop.new.self.items c.in-Some.next in
+    let popped = pushed c.pop.new.self.items c.loop-next.pending.items c.in-Some.next c.in-Some.ensures.items in
     record { held = rw popped at held; long = length-set c.loop-next.counts c.from-in-AtSsector.result (get_or c.loop-next.counts c.from-in-AtSsector.result 0 + c.in-AtSsector.points) ∙ c.loop-next.invariant.long }

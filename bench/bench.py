@@ -4,7 +4,7 @@ this file, built with gcc -O3) on the same inputs, interleaved, and prints the
 ratio wadlook/baseline. Best of --repeat runs (5) of user time, of user plus
 system time and of wall time; peak memory; whether the output bytes agree.
 A command that isn't there yet is said so and skipped. Needs Freedoom's WADs."""
-import argparse, hashlib, json, math, os, random, subprocess, sys, tempfile
+import argparse, hashlib, json, math, os, random, struct, subprocess, sys, tempfile
 
 A = argparse.ArgumentParser()
 A.add_argument('--wadlook', required=True)
@@ -71,6 +71,12 @@ def demo(name, version, players, nbytes):
         out.write(bytes([version, 3, 1, 1, 0, 0, 0, 0, 0] + players) + bytes(b) + b'\x80')
     return make(name, w)
 
+def lump(name, part):
+    def w(out):
+        b = open(part, 'rb').read()
+        out.write(b'PWAD' + struct.pack('<ii', 1, 12 + len(b)) + b + struct.pack('<ii8s', 12, len(b), b'DEMO1'))
+    return make(name, w)
+
 M12, M28, E5, E7 = level('MAP12', F2), level('MAP28', F2), level('E1M5', F1), level('E4M7', F1)
 def levels(f): return [l.split()[1] for l in subprocess.run([BASE, 'levels', f], stdout=subprocess.PIPE).stdout.decode().splitlines()]
 N = o.points
@@ -103,6 +109,7 @@ job('blocks MAP12, %d' % N, ['blocks', 'MAP12', M12], inp=points('MAP12', F2, N)
 job('sight MAP12, %d' % N, ['sight', 'MAP12', M12], inp=pairs('MAP12', F2, N))
 job('extract MAP12 from its IWAD', ['extract', 'MAP12', F2], runs=3)
 job('demo DEMO1 of freedm', ['demo', 'DEMO1', FM], runs=3)
+job('demo 109, 10 MB, 1 player', ['demo', 'DEMO1', lump('one.wad', demo('one.lmp', 109, [1, 0, 0, 0], 10000000))])
 job('lmp 109, 10 MB, 1 player', ['lmp', demo('one.lmp', 109, [1, 0, 0, 0], 10000000)])
 job('lmp 109, 10 MB, 4 players', ['lmp', demo('four.lmp', 109, [1, 1, 1, 1], 10000000)])
 job('lmp 111, 10 MB, 2 players', ['lmp', demo('long.lmp', 111, [1, 0, 1, 0], 10000000)])

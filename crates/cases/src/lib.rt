@@ -10,6 +10,8 @@ mod census_texts;
 #[cfg(test)]
 mod commands;
 #[cfg(test)]
+mod demo_cases;
+#[cfg(test)]
 mod ends;
 #[cfg(test)]
 mod files;

@@ -1,15 +1,17 @@
 -- What the program does with its words (ours).
-use Rattle.std.specs.Prelude.{◌≡◌, ◌⊎◌, ℕ, Bool, List, drop, Option, Result, Ok, Err}
+use Rattle.std.specs.Prelude.{◌≡◌, ◌≢◌, ◌⊎◌, ℕ, Bool, List, [], drop, slice_index_or, Option, Result, Ok, Err}
+use Rattle.std.specs.Io.KnownBytes.{Keeps}
 use Rattle.le_rec.specs.Sink.{SinkState}
 use Rattle.le_rec.specs.Source.{SourceState}
 use Rattle.wad_look.specs.Commands.{RunsJob}
 use Rattle.wad_look.specs.Job.{IsJob}
+use Rattle.wad_look.specs.declared.command.Cmd.TheVariants.{Lmp}
 use Rattle.wad_look.specs.declared.command.Job.{Job}
 use Rattle.wad_look.specs.declared.fault.RunFault.{RunFault}
 use Rattle.wad_look.specs.declared.fault.RunFault.TheVariants.{Write}
-use Rattle.wadlook.specs.Files.{AreHeld, RefusesPaths}
+use Rattle.wadlook.specs.Files.{AreHeld, IsTooLong, RefusesPaths}
 use Rattle.wadlook.specs.declared.refusal.Refusal.{Refusal}
-use Rattle.wadlook.specs.declared.refusal.Refusal.TheVariants.{Usage, Run}
+use Rattle.wadlook.specs.declared.refusal.Refusal.TheVariants.{Usage, TooLong, Run}
 
 -- the end of a run, as that of the program
 abbrev pub program_end : Result Bool RunFault → Result Bool Refusal
@@ -28,23 +30,39 @@ pub record RunsFiles {S W : Type 0} (source : S → SourceState) (sink : W → S
   pub runs : RunsJob source sink words job files input input' out out' outcome
   pub ended : (result ≡ program_end outcome) ⊎ (result ≡ Err (Run Write))
 
--- why no command runs: the words are no form of one, or their files aren't read
+-- why no command runs: the words are no form of one, or their files aren't read; that of `lmp` is never too long to be read
 abbrev pub RefusesWords : (List ℕ → Option (List ℕ)) → List (List ℕ) → Refusal → Type 0
 RefusesWords held words Usage = (job : Job) → ¬ IsJob words job
+RefusesWords held words (TooLong n) = (job : Job) × IsJob words job × (job.command ≢ Lmp) × IsTooLong held (drop job.first words) n
 RefusesWords held words refusal = (job : Job) × IsJob words job × RefusesPaths held (drop job.first words) refusal
 
--- a command ran over the files of the words, or none did
+-- a command ran over the files of the words, or `lmp` over its file, or none did
 pub record RunsWords {S W : Type 0} (source : S → SourceState) (sink : W → SinkState) (held : List ℕ → Option (List ℕ)) (left : Option (List ℕ)) (words : List (List ℕ)) (result : Result Bool Refusal) : Type 0 where
   pub job : Job
   pub asked : IsJob words job
+  pub over_files : job.command ≢ Lmp
   pub files : List (List ℕ)
   pub read : AreHeld held (drop job.first words) files
   pub runs : RunsFiles source sink left words job files result
+
+-- the first file of the words
+abbrev pub file_in : List (List ℕ) → Job → List ℕ
+file_in words job = slice_index_or words job.first []
+
+-- the input of `lmp` is its file
+pub record ListsFile {S W : Type 0} (source : S → SourceState) (sink : W → SinkState) (held : List ℕ → Option (List ℕ)) (words : List (List ℕ)) (result : Result Bool Refusal) : Type 0 where
+  pub job : Job
+  pub asked : IsJob words job
+  pub lists : job.command ≡ Lmp
+  pub left : Option (List ℕ)
+  pub opened : Keeps (held (file_in words job)) left
+  pub runs : RunsFiles source sink left words job [] result
 
 pub record IsRefused (held : List ℕ → Option (List ℕ)) (words : List (List ℕ)) (result : Result Bool Refusal) : Type 0 where
   pub refusal : Refusal
   pub ended : result ≡ Err refusal
   pub holds : RefusesWords held words refusal
 
-abbrev pub DoesWords : {S W : Type 0} → (S → SourceState) → (W → SinkState) → (List ℕ → Option (List ℕ)) → Option (List ℕ) → List (List ℕ) → Result Bool Refusal → Type 0
-DoesWords source sink held left words result = IsRefused held words result ⊎ RunsWords source sink held left words result
+abbrev pub DoesWords : {S F W : Type 0} → (S → SourceState) → (F → SourceState) → (W → SinkState) → (List ℕ → Option (List ℕ)) → Option (List ℕ) → List (List ℕ) → Result Bool Refusal → Type 0
+DoesWords source file sink held left words result =
+    IsRefused held words result ⊎ RunsWords source sink held left words result ⊎ ListsFile file sink held words result

@@ -2,6 +2,8 @@
 -- no bytes are known.
 use Rattle.std.specs.Prelude.{ℕ, List, Option, None}
 use Rattle.std.specs.Borrow.{Bor}
+use Rattle.std.specs.Io.Buffered.{reader_remaining}
+use Rattle.std.specs.declared.io.buffered.BufReader.{BufReader}
 use Rattle.le_rec.specs.Sink.{SinkState, put_failed}
 use Rattle.le_rec.specs.Source.{SourceState, pull_failed, reader_of}
 use Rattle.le_rec.specs.declared.from_read.FromRead.{FromRead}
@@ -20,3 +22,7 @@ tied_source R W remaining input = record { left = remaining (tied_reader_of (rea
 -- the state of an output
 abbrev pub tied_sink : (W : Type 0) → ToWrite (Bor (TiedWriter W)) → SinkState
 tied_sink W out = record { taken = None; failed = put_failed out }
+
+-- the state of a file that is read through a buffer, where `remaining` is what is known of a file's bytes
+abbrev pub file_source : (R A : Type 0) → (R → Option (List ℕ)) → FromRead (BufReader R A) → SourceState
+file_source R A remaining input = record { left = reader_remaining remaining (reader_of input); failed = pull_failed input }

@@ -5,9 +5,10 @@ ghost use Rattle.wad_look.specs.Opening.{bytes_of};
 ghost use Rattle.wadlook.specs.Files.{AreHeld, RefusesFile, RefusesPaths, most_bytes, total_length};
 
 use crate::refusal::Refusal;
-use le_rec::{EndFault, FromRead, Source};
+use le_rec::{EndFault, FromRead};
 use std::alloc::Global;
 use std::fs::File;
+use std::io::Read;
 use std::rt::Files;
 use wad_look::{RunFault, read_all};
 
@@ -16,18 +17,17 @@ const MOST_BYTES: u64 = 268_435_456;
 
 /// Where files are opened by their paths.
 pub trait Storage {
-    ghost use Rattle.std.specs.Prelude.{◌≡◌, ℕ, List, Option, IfOk, false};
+    ghost use Rattle.std.specs.Prelude.{ℕ, List, Option, IfOk};
     ghost use Rattle.std.specs.Io.KnownBytes.{Keeps};
 
-    type File: Source + Drop;
+    type File: Read + Drop;
 
     /// The bytes of the file under a path, where they are known.
     ghost held: { Self → List ℕ → Option (List ℕ) };
 
     /// The file under `path`, from its first byte on.
     fn open(&self, path: &str) -> Result<Self::File, EndFault>
-        ensures held { IfOk result (λ file. Keeps (held self.now path.now) (Self.File.state file).left) }
-        ensures fresh { IfOk result (λ file. (Self.File.state file).failed ≡ false) };
+        ensures { IfOk result (λ file. Keeps (held self.now path.now) (Self.File.remaining file)) };
 }
 
 /// The files of the machine. No clause knows what they hold.
@@ -37,13 +37,13 @@ pub struct Disk<'a, R: Files>(pub &'a R);
 impl<R: Files> Storage for Disk<'_, R> {
     ghost use Rattle.std.specs.Prelude.{None};
 
-    type File = FromRead<R::File>;
+    type File = R::File;
 
     ghost held = { λ _ _. None };
 
-    fn open(&self, path: &str) -> Result<FromRead<R::File>, EndFault> {
+    fn open(&self, path: &str) -> Result<R::File, EndFault> {
         match File::open(self.0, path) {
-            Ok(file) => Ok(FromRead::new(file)),
+            Ok(file) => Ok(file),
             Err(_) => Err(EndFault),
         }
     }
@@ -91,7 +91,7 @@ fn read_file<S: Storage>(
     ensures refused { IfErr result (RefusesFile (S.held storage.now path.now) limit) }
 {
     match storage.open(path) {
-        Ok(mut file) => read_all(alloc, &mut file, limit),
+        Ok(file) => read_all(alloc, &mut FromRead::new(file), limit),
         Err(EndFault) => Err(RunFault::Read),
     }
 }

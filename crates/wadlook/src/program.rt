@@ -3,16 +3,17 @@ ghost use Rattle.std.specs.Prelude.{◌≡◌, ◌+◌, ◌⊎◌, Err, length, 
 ghost use Rattle.wad_look.specs.Job.{IsJob};
 ghost use Rattle.wad_look.specs.Opening.{bytes_of};
 ghost use Rattle.wad_look.specs.declared.fault.RunFault.TheVariants.{Memory};
-ghost use Rattle.wadlook.specs.Program.{DoesWords, RunsFiles, program_end};
-ghost use Rattle.wadlook.specs.Tied.{tied_sink, tied_source};
+ghost use Rattle.wad_look.specs.declared.command.Cmd.TheVariants.{Lmp};
+ghost use Rattle.wadlook.specs.Program.{DoesWords, IsRefused, ListsFile, RunsFiles, program_end};
+ghost use Rattle.wadlook.specs.Tied.{file_source, tied_sink, tied_source};
 
 use crate::files::{Storage, read_files};
 use crate::refusal::Refusal;
-use crate::tied::{TiedReader, TiedWriter};
+use crate::tied::{BUFFER, TiedReader, TiedWriter};
 use le_rec::{FromRead, ToWrite};
 use std::alloc::Global;
-use std::io::{Read, Write};
-use wad_look::{Job, RunFault, job, run};
+use std::io::{BufReader, Read, Write};
+use wad_look::{Cmd, Job, RunFault, job, run};
 
 /// Does what the words ask for: whether it was done without a fault found.
 pub fn do_words<D: Storage, I: Read + Drop, O: Write + Drop>(
@@ -22,12 +23,15 @@ pub fn do_words<D: Storage, I: Read + Drop, O: Write + Drop>(
     reader: I,
     writer: O,
 ) -> Result<bool, Refusal>
-    ensures { DoesWords (tied_source I O I.remaining) (tied_sink O) (D.held storage.now)
-        (I.remaining reader) (map string_bytes words.now) result }
+    ensures { DoesWords (tied_source I O I.remaining) (file_source D.File Global D.File.remaining) (tied_sink O)
+        (D.held storage.now) (I.remaining reader) (map string_bytes words.now) result }
 {
     let Some(job) = job(words) else {
         return Err(Refusal::Usage);
     };
+    if job.command == Cmd::Lmp {
+        return list_file(alloc, words, job, storage, writer);
+    }
     let files = read_files(alloc, storage, job.paths(words))?;
     run_files(alloc, words, job, &files, reader, writer)
 }
@@ -53,6 +57,34 @@ fn run_files<I: Read + Drop, O: Write + Drop>(
     let mut out = ToWrite::new(&output);
     let outcome = run(alloc, words, job, files, &mut input, &mut out);
     program_end(output.close(outcome))
+}
+
+// Lists the demo in the file of the words while it is read, with standard input left alone.
+fn list_file<D: Storage, O: Write + Drop>(
+    alloc: Global,
+    words: &[String],
+    job: Job,
+    storage: &D,
+    writer: O,
+) -> Result<bool, Refusal>
+    requires job { IsJob (map string_bytes words.now) job }
+    requires lmp { job.command ≡ Lmp }
+    ensures { IsRefused (D.held storage.now) (map string_bytes words.now) result
+        ⊎ ListsFile (file_source D.File Global D.File.remaining) (tied_sink O) (D.held storage.now) (map string_bytes words.now) result }
+{
+    let Ok(file) = storage.open(words[job.first].as_str()) else {
+        return Err(Refusal::Unreadable(1));
+    };
+    let Ok(buffer) = BufReader::with_capacity(alloc, BUFFER, file) else {
+        return Err(Refusal::Run(RunFault::Memory));
+    };
+    let Ok(output) = TiedWriter::new(alloc, writer) else {
+        return Err(Refusal::Run(RunFault::Memory));
+    };
+    let mut demo = FromRead::new(buffer);
+    let mut listing = ToWrite::new(&output);
+    let ended = run(alloc, words, job, &[], &mut demo, &mut listing);
+    program_end(output.close(ended))
 }
 
 // The end of a run, as that of the program.

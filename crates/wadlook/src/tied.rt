@@ -9,7 +9,7 @@ use std::io::{BufWriter, Read, Write};
 use wad_look::RunFault;
 
 /// The most bytes that the output holds back.
-const BUFFER: usize = 65536;
+pub const BUFFER: usize = 65536;
 
 /// A writer behind a buffer that a reader can empty.
 #[derive(Drop)]

@@ -95,6 +95,8 @@ def words(width, height, body):
     """a BLOCKMAP of the whole room: its head, and these words again and again"""
     def fill(out, size): out.write(w(0, 0, width, height)); again(out, body, size - 8)
     return fill
+def one_list(out, size):
+    out.write(w(0, 0, 1, 1, 5)); again(out, w(7), size - 12); out.write(w(-1))
 def text(piece):
     def make(out, part): again(out, piece, int(INPUT*part))
     return make
@@ -129,12 +131,13 @@ job('levels: 1,525,201 levels of one label', 'levels F', directory(None, [b'E1M1
 job('levels: as many of different labels', 'levels F', numbered_labels(False))
 job('levels: as many of labels with small letters', 'levels F', numbered_labels(True))
 for name, fill in (('in a chain', CHAIN), ('in a ring', RING), ('that all name one', ONE)):
-    job('audit: 9,5 million nodes ' + name, 'audit E1M1 F', big_level(MANY_SSECTORS, [b'NODES'], whole(28), fill), ends=1)
+    job('audit: 9.5 million nodes ' + name, 'audit E1M1 F', big_level(MANY_SSECTORS, [b'NODES'], whole(28), fill), ends=1)
 job('points: the same, refused', 'points E1M1 F', big_level(MANY_SSECTORS, [b'NODES'], whole(28), ONE), ends=2)
 b = [b'BLOCKMAP']
 job('blocks: 134 million words without an end', 'blocks E1M1 F', big_level({}, b, whole(2), words(32767, 4095, w(4))), text(b'0 5\n'))
-job('audit: the same, a list for each block', 'audit E1M1 F', big_level({}, b, whole(2), words(32767, 4095, w(4))))
-job('audit: the same, one block', 'audit E1M1 F', big_level({}, b, whole(2), words(1, 1, w(5))))
+job('blocks: one list of 134 million words', 'blocks E1M1 F', big_level({}, b, whole(2), one_list), lambda out, part: out.write(b'0 5\n'))
+job('audit: 134 million words without an end, all of them blocks', 'audit E1M1 F', big_level({}, b, whole(2), words(32767, 4095, w(4))))
+job('audit: the same, with one block', 'audit E1M1 F', big_level({}, b, whole(2), words(1, 1, w(5))))
 job('audit: 134 million ends', 'audit E1M1 F', big_level({}, b, whole(2), words(32767, 4095, w(-1))))
 for k, record in ((b'SEGS', 12), (b'LINEDEFS', 14), (b'SSECTORS', 4)):
     job('audit: %s of bytes 255' % k.decode(), 'audit E1M1 F', big_level({}, [k], whole(record), lambda out, n: again(out, b'\xff', n)), ends=1)

@@ -1,6 +1,8 @@
 //! Audits of levels, and which levels are accepted.
 
-use crate::sample::{NODES, base, base_with, base_with_node, lumps};
+use crate::sample::{
+    LINE_WITHOUT_SIDE_1, base, base_not_reached, base_with, base_with_node, lumps, nodes_with,
+};
 use le_rec::Name8;
 use map_audit::{Refused, accept, audit};
 use map_geo::Point;
@@ -9,7 +11,7 @@ use map_tree::tree_findings;
 use std::process::Abort;
 use std::test::Fail;
 use test_alloc::Refusing;
-use wad_dir::{Packer, Set};
+use wad_dir::Set;
 
 fn finding(code: Code, index: u32) -> Finding {
     Finding { code, index }
@@ -103,33 +105,16 @@ fn no_nodes(rt: HostRuntime) -> Result<(), Fail> {
     check(&rt, file, &[finding(Code::F17, 0)], 1)
 }
 
-// Nodes of the sample level's geometry with these children.
-fn nodes_with(rt: &impl AllocGlobal, children: &[(u16, u16)]) -> Result<Vec<u8>, Fail> {
-    let mut nodes = Vec::new(rt.alloc());
-    for (front, back) in children {
-        nodes.extend_from_slice(&NODES[..24])?;
-        nodes.extend_from_slice(&front.to_le_bytes())?;
-        nodes.extend_from_slice(&back.to_le_bytes())?;
-    }
-    Ok(nodes)
-}
-
-const FOUR_SSECTORS: [u8; 16] = [1, 0, 0, 0, 1, 0, 0, 0, 1, 0, 0, 0, 1, 0, 0, 0];
-
 #[test]
 fn nodes_not_reached(rt: HostRuntime) -> Result<(), Fail> {
-    let nodes = nodes_with(&rt, &[(1, 32770), (0, 32771), (32768, 32769)])?;
-    let file = base_with(rt.alloc(), &[(6, &FOUR_SSECTORS), (7, &nodes)])?;
     let expected = [
         finding(Code::F14, 0),
         finding(Code::F14, 1),
         finding(Code::F16, 2),
         finding(Code::F16, 3),
     ];
-    check(&rt, file, &expected, 4)
+    check(&rt, base_not_reached(rt.alloc())?, &expected, 4)
 }
-
-const LINE_WITHOUT_SIDE_1: [u8; 14] = [0, 0, 1, 0, 4, 0, 0, 0, 0, 0, 0, 0, 255, 255];
 
 #[test]
 fn side_missing(rt: HostRuntime) -> Result<(), Fail> {
@@ -160,13 +145,13 @@ fn bytes_left_over(rt: HostRuntime) -> Result<(), Fail> {
 
 #[test]
 fn children(rt: HostRuntime) -> Result<(), Fail> {
-    let nodes = nodes_with(&rt, &[(32768, 32768)])?;
+    let nodes = nodes_with(rt.alloc(), &[(32768, 32768)])?;
     let twice = [finding(Code::F15, 0), finding(Code::F16, 1)];
     check(&rt, base_with(rt.alloc(), &[(7, &nodes)])?, &twice, 2)?;
-    let nodes = nodes_with(&rt, &[(0, 32769)])?;
+    let nodes = nodes_with(rt.alloc(), &[(0, 32769)])?;
     let root = [finding(Code::F13, 0), finding(Code::F16, 0)];
     check(&rt, base_with(rt.alloc(), &[(7, &nodes)])?, &root, 2)?;
-    let nodes = nodes_with(&rt, &[(32770, 32769)])?;
+    let nodes = nodes_with(rt.alloc(), &[(32770, 32769)])?;
     let nothing = [finding(Code::F11, 0), finding(Code::F16, 0)];
     check(&rt, base_with(rt.alloc(), &[(7, &nodes)])?, &nothing, 2)?;
     let file = base_with_node(rt.alloc(), 16384, 0, 0, 64)?;
@@ -247,24 +232,6 @@ fn later_lump_cut_by_one(rt: HostRuntime) -> Result<(), Fail> {
     check_cut(&rt, 10, &[finding(Code::N10, 0)], 0)
 }
 
-// What `extract` writes of a level: its label and its ten lumps as they are.
-#[test]
-fn extract_keeps_rest(rt: HostRuntime) -> Result<(), Fail> {
-    let mut sectors = Vec::from_slice(rt.alloc(), lumps()[8].1)?;
-    sectors.push(0)?;
-    let files = vec![in rt.alloc(); base_with(rt.alloc(), &[(8, &sectors)])?]?;
-    let set = Set::new(rt.alloc(), &files)?;
-    let label = set.find(Name8::query(b"E1M1")).ok_or("no label")?;
-    let mut packer = Packer::new(rt.alloc());
-    packer.add(Name8::query(b"E1M1"), &[])?;
-    for k in 1..11 {
-        assert!(rt; label < 100);
-        let name = set.name(label + k).ok_or("no name")?;
-        packer.add(name, set.lump(label + k)?)?;
-    }
-    check(&rt, packer.pack(rt.alloc())?, &[finding(Code::N2, 8)], 0)
-}
-
 // Whether `audit` of the level met growth `n` refused: then it answers so.
 fn is_audit_refused(rt: &(impl Abort + AllocGlobal), level: &Level<'_>, n: u64) -> bool {
     let heap = Refusing::new(rt.alloc(), n);
@@ -297,9 +264,7 @@ fn growths(rt: &(impl Abort + AllocGlobal), file: Vec<u8>) -> Result<(u64, u64),
 fn growth_refused(rt: HostRuntime) -> Result<(), Fail> {
     let (audits, accepts) = growths(&rt, base(rt.alloc())?)?;
     assert_eq!(rt; audits, accepts, "no memory for no findings");
-    let nodes = nodes_with(&rt, &[(1, 32770), (0, 32771), (32768, 32769)])?;
-    let file = base_with(rt.alloc(), &[(6, &FOUR_SSECTORS), (7, &nodes)])?;
-    growths(&rt, file)?;
+    growths(&rt, base_not_reached(rt.alloc())?)?;
     growths(&rt, base_with(rt.alloc(), &[(2, &LINE_WITHOUT_SIDE_1)])?)?;
     growths(&rt, base_with(rt.alloc(), &[(9, &[])])?)?;
     Ok(())

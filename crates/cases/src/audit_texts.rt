@@ -1,6 +1,8 @@
 //! The command `audit`.
 
-use crate::sample::{base, base_with, base_with_node, lumps, pack};
+use crate::sample::{
+    LINE_WITHOUT_SIDE_1, base, base_not_reached, base_with, base_with_node, lumps, pack,
+};
 use map_level::{LevelFault, Reading};
 use std::process::Abort;
 use std::test::Fail;
@@ -51,12 +53,16 @@ fn no_nodes(rt: HostRuntime) -> Result<(), Fail> {
 
 #[test]
 fn side_missing(rt: HostRuntime) -> Result<(), Fail> {
-    let linedef = [0, 0, 1, 0, 4, 0, 0, 0, 0, 0, 0, 0, 255, 255];
     let text = b"F9 1 seg's linedef has no side there
 N3 0 two-sided flag without side 1
 faults 1 notes 1
 ";
-    check(&rt, base_with(rt.alloc(), &[(2, &linedef)])?, text, false)
+    check(
+        &rt,
+        base_with(rt.alloc(), &[(2, &LINE_WITHOUT_SIDE_1)])?,
+        text,
+        false,
+    )
 }
 
 #[test]
@@ -97,23 +103,37 @@ fn extract_keeps_rest(rt: HostRuntime) -> Result<(), Fail> {
     check(&rt, Vec::from_slice(rt.alloc(), out.taken())?, text, true)
 }
 
-#[test]
-fn growth_refused(rt: HostRuntime) -> Result<(), Fail> {
-    let files = vec![in rt.alloc(); base(rt.alloc())?]?;
-    let mut growths = 0;
+// How many growths `audit` of the level asks for: each refused in turn, then it has written nothing.
+fn growths(rt: &(impl Abort + AllocGlobal), file: Vec<u8>, faultless: bool) -> Result<u64, Fail> {
+    let files = vec![in rt.alloc(); file]?;
     for n in 1..20 {
         let heap = Refusing::new(rt.alloc(), n);
-        let mut room = [0; 20];
+        let mut room = [0; 200];
         let mut out = SliceSink::new(&mut room);
         let result = audit_text(&heap, &files, b"E1M1", Reading::Signed, &mut out);
         if !heap.has_refused() {
-            assert_eq!(rt; result, Ok(true));
-            break;
+            assert_eq!(rt; result, Ok(faultless));
+            return Ok(n - 1);
         }
         assert_eq!(rt; result, Err(RunFault::Memory));
+        assert_eq!(rt; status(&result), 3);
         assert!(rt; out.taken().is_empty());
-        growths = n;
     }
-    assert!(rt; growths > 1 && growths < 19);
+    Ok(20)
+}
+
+#[test]
+fn growth_refused(rt: HostRuntime) -> Result<(), Fail> {
+    let side_missing = base_with(rt.alloc(), &[(2, &LINE_WITHOUT_SIDE_1)])?;
+    let sight_bits = base_with(rt.alloc(), &[(9, &[])])?;
+    for (file, faultless) in [
+        (base(rt.alloc())?, true),
+        (base_not_reached(rt.alloc())?, false),
+        (side_missing, false),
+        (sight_bits, true),
+    ] {
+        let found = growths(&rt, file, faultless)?;
+        assert!(rt; found > 1 && found < 20);
+    }
     Ok(())
 }

@@ -1,5 +1,6 @@
 //! The commands `show` and `extract`.
 
+use crate::levels::nodes_outside;
 use crate::sample::{base, base_with};
 use map_level::{LevelFault, Reading};
 use std::alloc::Global;
@@ -152,4 +153,17 @@ fn packed(rt: HostRuntime) -> Result<(), Fail> {
     assert!(rt; iwad.len() == 409);
     iwad[0] = b'I';
     extracted(&rt, rt.alloc(), iwad, &text)
+}
+
+#[test]
+fn lump_places(rt: HostRuntime) -> Result<(), Fail> {
+    let files = vec![in rt.alloc(); nodes_outside(&rt)?]?;
+    let mut room = [0; 64];
+    let mut out = SliceSink::new(&mut room);
+    let fault = RunFault::Level(LevelFault::Outside(7));
+    assert_eq!(rt; extract(rt.alloc(), &files, b"E1M1", &mut out), Err(fault));
+    assert!(rt; out.taken().is_empty());
+    let line = format!(in rt.alloc(); "refused: {fault}")?;
+    assert_eq!(rt; line.as_str(), "refused: F2 7");
+    Ok(())
 }

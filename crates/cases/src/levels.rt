@@ -59,7 +59,7 @@ fn lumps_missing(rt: HostRuntime) -> Result<(), Fail> {
 }
 
 // The sample level's file with filepos -1 in the entry NODES.
-fn nodes_outside(rt: &(impl Abort + AllocGlobal)) -> Result<Vec<u8>, Fail> {
+pub fn nodes_outside(rt: &(impl Abort + AllocGlobal)) -> Result<Vec<u8>, Fail> {
     let mut file = base(rt.alloc())?;
     assert_eq!(rt; file.len(), 409);
     for at in 345..349 {

@@ -32,6 +32,8 @@ mod listing;
 #[cfg(test)]
 mod memory;
 #[cfg(test)]
+mod plenty;
+#[cfg(test)]
 mod points;
 #[cfg(test)]
 mod sample;

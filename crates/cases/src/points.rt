@@ -1,6 +1,6 @@
 //! The command `points` over the sample level.
 
-use crate::sample::{base, base_with, base_with_node, lumps, pack};
+use crate::sample::{base, base_not_reached, base_with, base_with_node, lumps, pack};
 use map_level::{LevelFault, Reading};
 use std::alloc::Global;
 use std::process::Abort;
@@ -182,6 +182,27 @@ fn unsound_levels(rt: HostRuntime) -> Result<(), Fail> {
     )?;
     let no_segs = base_with(rt.alloc(), &[(5, &[])])?;
     refused(&rt, no_segs, RunFault::Audit, "refused: audit")
+}
+
+#[test]
+fn nodes_not_reached(rt: HostRuntime) -> Result<(), Fail> {
+    let files = vec![in rt.alloc(); base_not_reached(rt.alloc())?]?;
+    let mut room = [0; 64];
+    let mut out = SliceSink::new(&mut room);
+    let mut source = SliceSource::new(b"0 5\n");
+    let result = points(
+        rt.alloc(),
+        &files,
+        b"E1M1",
+        Reading::Signed,
+        &mut source,
+        LIMIT,
+        &mut out,
+    );
+    assert_eq!(rt; result, Err(RunFault::Audit));
+    assert_eq!(rt; source.left().len(), 4);
+    assert!(rt; out.taken().is_empty());
+    Ok(())
 }
 
 #[test]

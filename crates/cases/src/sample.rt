@@ -87,6 +87,28 @@ fn changed<'a>(changes: &[(usize, &'a [u8])], k: usize, bytes: &'a [u8]) -> &'a 
     bytes
 }
 
+/// Nodes of the sample level's geometry with these children.
+pub fn nodes_with(alloc: Global, children: &[(u16, u16)]) -> Result<Vec<u8>, Fail> {
+    let mut nodes = Vec::new(alloc);
+    for (front, back) in children {
+        nodes.extend_from_slice(&NODES[..24])?;
+        nodes.extend_from_slice(&front.to_le_bytes())?;
+        nodes.extend_from_slice(&back.to_le_bytes())?;
+    }
+    Ok(nodes)
+}
+
+const FOUR_SSECTORS: [u8; 16] = [1, 0, 0, 0, 1, 0, 0, 0, 1, 0, 0, 0, 1, 0, 0, 0];
+
+/// The sample level's file with two nodes and two ssectors that the root doesn't lead to.
+pub fn base_not_reached(alloc: Global) -> Result<Vec<u8>, Fail> {
+    let nodes = nodes_with(alloc, &[(1, 32770), (0, 32771), (32768, 32769)])?;
+    base_with(alloc, &[(6, &FOUR_SSECTORS), (7, &nodes)])
+}
+
+/// The sample level's linedef with two sides by its flags and one by its fields.
+pub const LINE_WITHOUT_SIDE_1: [u8; 14] = [0, 0, 1, 0, 4, 0, 0, 0, 0, 0, 0, 0, 255, 255];
+
 /// The sample level's file with a node of these first four fields.
 pub fn base_with_node(alloc: Global, x: i16, y: i16, dx: i16, dy: i16) -> Result<Vec<u8>, Fail> {
     let mut node = NODES;

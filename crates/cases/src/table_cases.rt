@@ -1,6 +1,6 @@
 //! Findings on REJECT and BLOCKMAP.
 
-use crate::sample::{base_with, lumps};
+use crate::sample::{LINE_WITHOUT_SIDE_1, base, base_not_reached, base_with, lumps};
 use le_rec::Name8;
 use map_level::{Code, Finding, Level, Reading};
 use map_tables::table_findings;
@@ -123,15 +123,20 @@ fn lists_without_end(rt: HostRuntime) -> Result<(), Fail> {
     check_lump(&rt, BLOCKMAP, &bytes, &expected)
 }
 
-// Whether the findings of the level without REJECT met growth `n` refused.
-fn is_refused(rt: &(impl Abort + AllocGlobal), set: &Set<'_>, n: u64) -> Result<bool, Fail> {
+// Whether the findings of the level met growth `n` refused.
+fn is_refused(
+    rt: &(impl Abort + AllocGlobal),
+    set: &Set<'_>,
+    n: u64,
+    expected: &[Finding],
+) -> Result<bool, Fail> {
     let level = Level::open(set, Name8::query(b"E1M1"), Reading::Signed)?;
     let heap = Refusing::new(rt.alloc(), n);
     let result = table_findings(&heap, &level);
     let refused = heap.has_refused();
     assert_eq!(rt; result.is_err(), refused);
     if let Ok(found) = result {
-        assert_eq!(rt; found.as_slice(), [finding(Code::N8, 0)].as_slice());
+        assert_eq!(rt; found.as_slice(), expected);
     }
     Ok(refused)
 }
@@ -140,8 +145,27 @@ fn is_refused(rt: &(impl Abort + AllocGlobal), set: &Set<'_>, n: u64) -> Result<
 fn growth_refused(rt: HostRuntime) -> Result<(), Fail> {
     let files = vec![in rt.alloc(); base_with(rt.alloc(), &[(REJECT, &[])])?]?;
     let set = Set::new(rt.alloc(), &files)?;
-    assert!(rt; is_refused(&rt, &set, 1)?);
-    assert!(rt; !is_refused(&rt, &set, 2)?);
-    assert!(rt; !is_refused(&rt, &set, 0)?, "it counts and refuses none");
+    let expected = [finding(Code::N8, 0)];
+    assert!(rt; is_refused(&rt, &set, 1, &expected)?);
+    assert!(rt; !is_refused(&rt, &set, 2, &expected)?);
+    assert!(rt;
+        !is_refused(&rt, &set, 0, &expected)?,
+        "it counts and refuses none"
+    );
+    Ok(())
+}
+
+#[test]
+fn growth_refused_without_findings(rt: HostRuntime) -> Result<(), Fail> {
+    let side_missing = base_with(rt.alloc(), &[(2, &LINE_WITHOUT_SIDE_1)])?;
+    for file in [
+        base(rt.alloc())?,
+        base_not_reached(rt.alloc())?,
+        side_missing,
+    ] {
+        let files = vec![in rt.alloc(); file]?;
+        let set = Set::new(rt.alloc(), &files)?;
+        assert!(rt; !is_refused(&rt, &set, 1, &[])?, "it asks for none");
+    }
     Ok(())
 }

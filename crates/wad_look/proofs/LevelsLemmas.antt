@@ -17,7 +17,7 @@ use Rattle.std.proofs.lemmas.Slice.Eq.{bytes_eq-Decides, slice_eq-Decides}
 use Rattle.le_rec.specs.Name.{name_of, padded, query_of}
 use Rattle.le_rec.proofs.NameLemmas.{name_of-name_of}
 use Rattle.wad_dir.specs.Winner.{Wins}
-use Rattle.wad_look.proofs.LumpsLemmas.{drop-at}
+use Rattle.wad_look.proofs.RestLemmas.{drop-at}
 use Rattle.wad_look.specs.Engines.Levels.{AreListed, ArePlaces, HasLabels, HasNames, IsLabel, IsListed, IsPlace, PutsPlace, level_line, place_at}
 use Rattle.wad_look.specs.declared.engines.levels.Listed.{Listed}
 

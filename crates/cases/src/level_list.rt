@@ -43,7 +43,7 @@ fn labels_with_ten_lumps(rt: HostRuntime) -> Result<(), Fail> {
     other[10] = (b"BLOCKMAQ", &[]);
     let files = vec![in rt.alloc(); pack(rt.alloc(), &other)?]?;
     assert_eq!(rt; run(&rt, rt.alloc(), &files, b""), Ok(()));
-    let files = vec![in rt.alloc(); pack(rt.alloc(), &all[..10])?]?;
+    let files = vec![in rt.alloc(); pack(rt.alloc(), &lumps()[..10])?]?;
     assert_eq!(rt; run(&rt, rt.alloc(), &files, b""), Ok(()));
     assert_eq!(rt; run(&rt, rt.alloc(), &[], b""), Ok(()));
     Ok(())

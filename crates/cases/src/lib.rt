@@ -6,6 +6,8 @@ mod audit_cases;
 #[cfg(test)]
 mod audit_texts;
 #[cfg(test)]
+mod census_cases;
+#[cfg(test)]
 mod census_texts;
 #[cfg(test)]
 mod commands;

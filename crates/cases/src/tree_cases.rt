@@ -12,10 +12,10 @@ use test_alloc::Refusing;
 use wad_dir::Set;
 
 // The sample level's partition.
-const BASE: [i16; 4] = [0, 0, 0, 64];
+pub const BASE: [i16; 4] = [0, 0, 0, 64];
 
 // A node of these first four fields and children.
-fn node(line: [i16; 4], children: [u16; 2]) -> Node {
+pub fn node(line: [i16; 4], children: [u16; 2]) -> Node {
     let [x, y, dx, dy] = line;
     let [child0, child1] = children;
     Node {
@@ -31,7 +31,7 @@ fn node(line: [i16; 4], children: [u16; 2]) -> Node {
 }
 
 // The bytes of nodes.
-fn nodes(alloc: Global, all: &[Node]) -> Result<Vec<u8>, Fail> {
+pub fn nodes(alloc: Global, all: &[Node]) -> Result<Vec<u8>, Fail> {
     let mut lump = Vec::new(alloc);
     for node in all {
         let mut bytes = [0; 28];
@@ -42,7 +42,7 @@ fn nodes(alloc: Global, all: &[Node]) -> Result<Vec<u8>, Fail> {
 }
 
 // The bytes of so many ssectors (1, 0).
-fn ssectors(alloc: Global, count: usize) -> Result<Vec<u8>, Fail> {
+pub fn ssectors(alloc: Global, count: usize) -> Result<Vec<u8>, Fail> {
     let mut lump = Vec::new(alloc);
     for _ in 0..count {
         lump.extend_from_slice(&[1, 0, 0, 0])?;

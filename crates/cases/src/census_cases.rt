@@ -1,0 +1,264 @@
+//! Censuses of rectangles: counts and work, each growth refused in turn, and a plain loop over points.
+
+use crate::sample::{base_with, base_with_node};
+use crate::tree_cases::{BASE, node, nodes, ssectors};
+use le_rec::{Name8, Record};
+use map_geo::{Point, Rect};
+use map_level::{Level, Reading, link_findings};
+use map_tree::{Counts, Tree, is_sound, tree_findings};
+use std::alloc::{Allocator, Global};
+use std::process::Abort;
+use std::test::Fail;
+use test_alloc::Refusing;
+use wad_dir::Set;
+
+// A rectangle, the pairs of its census, and its tests and pending pieces, where a case names them.
+type Case = (
+    [i32; 4],
+    &'static [(u16, u32)],
+    Option<(u64, u32)>,
+);
+
+fn rect_of(rt: &impl Abort, bounds: [i32; 4]) -> Rect {
+    let [x0, y0, x1, y1] = bounds;
+    Rect::new(x0, y0, x1, y1).expect(rt, "a rectangle")
+}
+
+fn check_counts<A: Allocator>(rt: &impl Abort, counts: &Counts<A>, pairs: &[(u16, u32)]) {
+    assert_eq!(rt; counts.len(), pairs.len());
+    for (i, pair) in pairs.iter().enumerate() {
+        assert_eq!(rt; counts.get(i), Some(*pair), "pair {i}");
+    }
+    assert_eq!(rt; counts.get(pairs.len()), None);
+}
+
+// Opens the level of a file and compares the censuses of rectangles.
+fn check_censuses(
+    rt: &(impl Abort + AllocGlobal),
+    file: Vec<u8>,
+    cases: &[Case],
+) -> Result<(), Fail> {
+    let files = vec![in rt.alloc(); file]?;
+    let set = Set::new(rt.alloc(), &files)?;
+    let level = Level::open(&set, Name8::query(b"E1M1"), Reading::Signed)?;
+    let links = link_findings(rt.alloc(), &level)?;
+    let found = tree_findings(rt.alloc(), &level)?;
+    assert!(rt; is_sound(&level, &links, &found));
+    let tree = Tree::of(&level);
+    for (bounds, pairs, work) in cases {
+        let counts = tree.census(rt.alloc(), rect_of(rt, *bounds))?;
+        check_counts(rt, &counts, pairs);
+        if let Some((tests, pending)) = *work {
+            assert_eq!(rt; counts.tests(), tests);
+            assert_eq!(rt; counts.pending(), pending);
+        }
+    }
+    Ok(())
+}
+
+#[test]
+fn census_base(rt: HostRuntime) -> Result<(), Fail> {
+    check_censuses(
+        &rt,
+        base_with(rt.alloc(), &[])?,
+        &[
+            ([-1, 0, 1, 1], &[(0, 2), (1, 4)], None),
+            ([0, 0, 0, 0], &[(1, 1)], None),
+            ([0, 0, 1023, 1023], &[(0, 1_047_552), (1, 1024)], None),
+        ],
+    )?;
+    assert!(rt; Rect::new(0, 0, 1024, 1023).is_none());
+    assert!(rt; Rect::new(1, 0, 0, 0).is_none());
+    Ok(())
+}
+
+#[test]
+fn census_diagonal(rt: HostRuntime) -> Result<(), Fail> {
+    check_censuses(
+        &rt,
+        base_with_node(rt.alloc(), 0, 0, -1, 1)?,
+        &[([-1, -1, 1, 1], &[(0, 4), (1, 5)], None)],
+    )
+}
+
+#[test]
+fn census_square(rt: HostRuntime) -> Result<(), Fail> {
+    check_censuses(
+        &rt,
+        base_with(rt.alloc(), &[])?,
+        &[([-512, -512, 511, 511], &[(0, 523_264), (1, 525_312)], None)],
+    )
+}
+
+#[test]
+fn census_no_direction(rt: HostRuntime) -> Result<(), Fail> {
+    check_censuses(
+        &rt,
+        base_with_node(rt.alloc(), 3, 3, 0, 0)?,
+        &[([-1, 0, 1, 1], &[(0, 6)], None)],
+    )
+}
+
+// The accepted level without nodes.
+fn no_nodes(alloc: Global) -> Result<Vec<u8>, Fail> {
+    base_with(alloc, &[(6, &[1, 0, 0, 0]), (7, &[])])
+}
+
+// A column's node below a row's.
+fn two_nodes(alloc: Global) -> Result<Vec<u8>, Fail> {
+    let all = nodes(
+        alloc,
+        &[node(BASE, [32768, 32769]), node([0, 10, 64, 0], [0, 32770])],
+    )?;
+    let three = [1, 0, 0, 0, 1, 0, 1, 0, 1, 0, 1, 0];
+    base_with(alloc, &[(6, &three), (7, &all)])
+}
+
+// So many nodes of the sample level's geometry, each the front child of the next, at most 32767.
+fn chain(rt: &(impl Abort + AllocGlobal), count: u16) -> Result<Vec<u8>, Fail> {
+    assert!(rt; 0 < count && count <= 32767);
+    let mut lump = nodes(rt.alloc(), &[node(BASE, [32768, 32769])])?;
+    for i in 1..count {
+        let mut bytes = [0; 28];
+        node(BASE, [i - 1, 32769 + i]).write(&mut bytes);
+        lump.extend_from_slice(&bytes)?;
+    }
+    let leaves = ssectors(rt.alloc(), usize::from(count) + 1)?;
+    base_with(rt.alloc(), &[(6, &leaves), (7, &lump)])
+}
+
+#[test]
+fn census_work(rt: HostRuntime) -> Result<(), Fail> {
+    check_censuses(
+        &rt,
+        base_with(rt.alloc(), &[])?,
+        &[
+            ([5, 0, 9, 9], &[(0, 50)], Some((1, 1))),
+            (
+                [0, 0, 1023, 1023],
+                &[(0, 1_047_552), (1, 1024)],
+                Some((12287, 12)),
+            ),
+            ([-1, 0, 1, 1], &[(0, 2), (1, 4)], Some((7, 3))),
+        ],
+    )?;
+    check_censuses(
+        &rt,
+        no_nodes(rt.alloc())?,
+        &[([5, 0, 9, 9], &[(0, 50)], Some((0, 1)))],
+    )?;
+    check_censuses(
+        &rt,
+        two_nodes(rt.alloc())?,
+        &[([-1, 9, 1, 11], &[(0, 2), (1, 7)], Some((11, 3)))],
+    )?;
+    check_censuses(
+        &rt,
+        chain(&rt, 32767)?,
+        &[([1, 0, 1024, 1023], &[(0, 1_048_576)], Some((32767, 1)))],
+    )
+}
+
+// How many points of a rectangle lie in sectors 0 and 1, point by point.
+fn plain_counts(rt: &impl Abort, tree: &Tree<'_, '_>, rect: Rect) -> [u32; 2] {
+    let mut counts = [0u32; 2];
+    for y in rect.y0()..rect.y1() + 1 {
+        for x in rect.x0()..rect.x1() + 1 {
+            let point = Point::new(x, y).expect(rt, "a point in range");
+            match tree.sector(point) {
+                0 => counts[0] = counts[0].wrapping_add(1),
+                1 => counts[1] = counts[1].wrapping_add(1),
+                _ => assert!(rt; false, "a sector of the sample level"),
+            }
+        }
+    }
+    counts
+}
+
+// Compares a census with the plain counts.
+fn check_plain(
+    rt: &(impl Abort + AllocGlobal),
+    tree: &Tree<'_, '_>,
+    rect: Rect,
+) -> Result<(), Fail> {
+    let counts = tree.census(rt.alloc(), rect)?;
+    let [zeros, ones] = plain_counts(rt, tree, rect);
+    let both = [(0, zeros), (1, ones)];
+    let pairs = match (zeros > 0, ones > 0) {
+        (true, true) => both.as_slice(),
+        (true, false) => &both[..1],
+        (false, _) => &both[1..],
+    };
+    check_counts(rt, &counts, pairs);
+    Ok(())
+}
+
+// A number that looks random.
+fn shuffled(seed: u64) -> u64 {
+    let mixed = (seed ^ (seed >> 15)).wrapping_mul(0x9e37_79b9_7f4a_7c15);
+    (mixed ^ (mixed >> 29)).wrapping_mul(0xbf58_476d_1ce4_e5b9) >> 20
+}
+
+// A rectangle of at most 64 columns and rows about the origin.
+fn small_rect(rt: &impl Abort, seed: u64) -> Rect {
+    let x0 = (shuffled(seed) & 127) as i32 - 96;
+    let y0 = (shuffled(seed ^ 1000) & 127) as i32 - 96;
+    let columns = (shuffled(seed ^ 2000) & 63) as i32;
+    let rows = (shuffled(seed ^ 3000) & 63) as i32;
+    rect_of(rt, [x0, y0, x0 + columns, y0 + rows])
+}
+
+// Compares the censuses of 400 rectangles of a level with plain counts.
+fn check_all_plain(
+    rt: &(impl Abort + AllocGlobal),
+    file: Vec<u8>,
+    first: u64,
+) -> Result<(), Fail> {
+    let files = vec![in rt.alloc(); file]?;
+    let set = Set::new(rt.alloc(), &files)?;
+    let level = Level::open(&set, Name8::query(b"E1M1"), Reading::Signed)?;
+    let links = link_findings(rt.alloc(), &level)?;
+    let found = tree_findings(rt.alloc(), &level)?;
+    assert!(rt; is_sound(&level, &links, &found));
+    let tree = Tree::of(&level);
+    for i in 0..400u64 {
+        check_plain(rt, &tree, small_rect(rt, first ^ i))?;
+    }
+    Ok(())
+}
+
+#[test]
+fn censuses_are_plain_counts(rt: HostRuntime) -> Result<(), Fail> {
+    check_all_plain(&rt, base_with(rt.alloc(), &[])?, 1 << 20)?;
+    check_all_plain(&rt, base_with_node(rt.alloc(), 0, 0, -1, 1)?, 2 << 20)?;
+    check_all_plain(&rt, two_nodes(rt.alloc())?, 3 << 20)?;
+    check_all_plain(&rt, no_nodes(rt.alloc())?, 4 << 20)?;
+    check_all_plain(&rt, chain(&rt, 20)?, 5 << 20)
+}
+
+// Whether the census of a small rectangle met growth `n` refused.
+fn is_refused(rt: &impl Abort, heap: &Refusing, tree: &Tree<'_, '_>) -> bool {
+    let result = tree.census(heap, rect_of(rt, [-1, 0, 1, 1]));
+    assert_eq!(rt; result.is_err(), heap.has_refused());
+    if let Ok(counts) = result {
+        check_counts(rt, &counts, &[(0, 2), (1, 4)]);
+    }
+    heap.has_refused()
+}
+
+#[test]
+fn growth_refused(rt: HostRuntime) -> Result<(), Fail> {
+    let files = vec![in rt.alloc(); base_with(rt.alloc(), &[])?]?;
+    let set = Set::new(rt.alloc(), &files)?;
+    let level = Level::open(&set, Name8::query(b"E1M1"), Reading::Signed)?;
+    let links = link_findings(rt.alloc(), &level)?;
+    let found = tree_findings(rt.alloc(), &level)?;
+    assert!(rt; is_sound(&level, &links, &found));
+    let tree = Tree::of(&level);
+    for n in 1..4 {
+        assert!(rt; is_refused(&rt, &Refusing::new(rt.alloc(), n), &tree), "growth {n}");
+        assert!(rt; !is_refused(&rt, &Refusing::new(rt.alloc(), 0), &tree));
+    }
+    assert!(rt; !is_refused(&rt, &Refusing::new(rt.alloc(), 4), &tree));
+    Ok(())
+}

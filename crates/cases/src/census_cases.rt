@@ -184,12 +184,11 @@ fn check_plain(
     let counts = tree.census(rt.alloc(), rect)?;
     let [zeros, ones] = plain_counts(rt, tree, rect);
     let both = [(0, zeros), (1, ones)];
-    let pairs = match (zeros > 0, ones > 0) {
-        (true, true) => both.as_slice(),
-        (true, false) => &both[..1],
-        (false, _) => &both[1..],
-    };
-    check_counts(rt, &counts, pairs);
+    match (zeros > 0, ones > 0) {
+        (true, true) => check_counts(rt, &counts, &both),
+        (true, false) => check_counts(rt, &counts, &both[..1]),
+        (false, _) => check_counts(rt, &counts, &both[1..]),
+    }
     Ok(())
 }
 

@@ -7,6 +7,7 @@ pub mod NumberAnswersLemmas
 pub mod PartsLemmas
 pub mod ProgressLemmas
 pub mod ReadingLemmas
+pub mod SmallLemmas
 pub mod TextLemmas
 pub mod WriteLemmas
 pub mod WriteProgressLemmas

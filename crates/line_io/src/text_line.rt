@@ -1,6 +1,6 @@
 //! The text of an answer line.
 
-ghost use Rattle.std.specs.Prelude.{◌≡◌, ◌+◌, ◌≤◌, [], ◌++◌, decimal, length};
+ghost use Rattle.std.specs.Prelude.{◌≡◌, ◌+◌, ◌≤◌, [], ◌++◌, decimal, drop, length};
 ghost use Rattle.std.specs.Fmt.{signed_decimal};
 
 use itoa::write_digits;
@@ -84,7 +84,21 @@ impl TextLine {
         ensures text { self.new ≡ decimal number ++ self.old }
         ensures length { length self.new ≤ length self.old + 3 }
     {
-        self.start = write_digits(number as u64, &mut self.bytes, self.start);
+        self.start = write_small(number, &mut self.bytes, self.start);
+    }
+
+    /// The same of a number that may be negative, with `-` then, and needs less room.
+    #[inline]
+    pub fn put_small_integer(&mut self, number: i8)
+        requires { length self.old + 4 ≤ ROOM }
+        ensures text { self.new ≡ signed_decimal number ++ self.old }
+        ensures length { length self.new ≤ length self.old + 4 }
+    {
+        let below = number < 0;
+        self.put_small(number.unsigned_abs());
+        if below {
+            self.put_bytes(b"-");
+        }
     }
 
     /// The same of a number that may be negative, with `-` then.
@@ -99,6 +113,23 @@ impl TextLine {
             self.put_bytes(b"-");
         }
     }
+}
+
+// Writes the digits of a number so that they end at `end`, and tells where they start. All three are written and the leading
+// zeros left out, so that no branch is taken on what the number is.
+#[inline]
+fn write_small(number: u8, bytes: &mut [u8], end: usize) -> usize
+    requires { (3 ≤ end) × (end ≤ length bytes.old) }
+    ensures start { result + length (decimal number) ≡ end }
+    ensures written { drop result bytes.new ≡ decimal number ++ drop end bytes.old }
+    ensures length { length bytes.new ≡ length bytes.old }
+{
+    bytes[end - 1] = b'0' + number % 10;
+    bytes[end - 2] = b'0' + number / 10 % 10;
+    bytes[end - 3] = b'0' + number / 100;
+    let wide = number as usize;
+    // One more digit from 10 on, and one more from 100 on.
+    end - 1 - (wide + 246) / 256 - (wide + 156) / 256
 }
 
 #[cfg(test)]

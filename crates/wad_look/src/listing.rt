@@ -16,11 +16,11 @@ pub fn put_command(line: &mut TextLine, tic: u64, player: u8, command: &Command)
     line.put_bytes(b"\n");
     put_hex(line, command.buttons);
     line.put_bytes(b" ");
-    line.put_natural(u64::from(command.turn));
+    put_turn(line, command.turn);
     line.put_bytes(b" ");
-    line.put_integer(i64::from(command.side));
+    line.put_small_integer(command.side);
     line.put_bytes(b" ");
-    line.put_integer(i64::from(command.forward));
+    line.put_small_integer(command.forward);
     line.put_bytes(b" ");
     line.put_small(player);
     line.put_bytes(b" ");
@@ -72,6 +72,20 @@ fn put_field(line: &mut TextLine, words: &[u8], number: u8)
 {
     line.put_small(number);
     line.put_bytes(words);
+}
+
+// Puts a turn. It is one byte but in the long form.
+#[inline]
+fn put_turn(line: &mut TextLine, turn: u16)
+    requires { length line.old + 20 ≤ 144 }
+    ensures text { line.new ≡ decimal turn ++ line.old }
+    ensures length { length line.new ≤ length line.old + 20 }
+{
+    if turn < 256 {
+        line.put_small(turn as u8);
+    } else {
+        line.put_natural(u64::from(turn));
+    }
 }
 
 // Puts two hexadecimal digits.

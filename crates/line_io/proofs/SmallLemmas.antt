@@ -1,0 +1,69 @@
+-- The digits of a number below 256, of which three are written and the leading zeros left out.
+use Rattle.std.proofs.Common.{◌≡◌, ◌≢◌, ℕ, ◌+◌, ◌-◌, ◌/◌, ◌%◌, ◌<◌, ◌≤◌, ◌⊎◌, inl, inr, List, [], ◌∷◌, ◌++◌, decimal, length, drop, set, refl, sym, ap, ◌∙◌, arith, length-set, subst}
+use Rattle.std.proofs.lemmas.Bool.{cases_lt}
+use Rattle.std.proofs.lemmas.Fmt.{decimal_digit, decimal_step}
+use Rattle.std.proofs.lemmas.List.{drop-set, drop-drop}
+
+-- the number of digits
+abbrev pub small_digits : ℕ → ℕ
+small_digits n = 1 + (n + 246) / 256 + (n + 156) / 256
+
+-- the three digits
+abbrev pub three_written : List ℕ → ℕ → ℕ → List ℕ
+three_written bytes end n = set (set (set bytes (end - 1) (48 + n % 10)) (end - 2) (48 + n / 10 % 10)) (end - 3) (48 + n / 100)
+
+three_stand : (bytes : List ℕ) (end n : ℕ) → 3 ≤ end → end ≤ length bytes
+    → drop (end - 3) (three_written bytes end n) ≡ (48 + n / 100) ∷ (48 + n / 10 % 10) ∷ (48 + n % 10) ∷ drop end bytes
+three_stand bytes end n some fits =
+    let a = 48 + n / 100 in
+    let b = 48 + n / 10 % 10 in
+    let c = 48 + n % 10 in
+    let one = set bytes (end - 1) c in
+    let two = set one (end - 2) b in
+    let long1 : length one ≡ length bytes = length-set bytes (end - 1) c in
+    let long2 : length two ≡ length bytes = length-set one (end - 2) b ∙ long1 in
+    let e1 : end - 1 + 1 ≡ end = omega arith in
+    let e2 : end - 2 + 1 ≡ end - 1 = omega arith in
+    let e3 : end - 3 + 1 ≡ end - 2 = omega arith in
+    drop-set two (end - 3) a (omega (arith, long2)) ∙ ap (λ k. a ∷ drop k two) e3
+    ∙ ap (λ t. a ∷ t) (drop-set one (end - 2) b (omega (arith, long1)) ∙ ap (λ k. b ∷ drop k one) e2
+    ∙ ap (λ t. b ∷ t) (drop-set bytes (end - 1) c (omega arith) ∙ ap (λ k. c ∷ drop k bytes) e1))
+
+-- what follows the first of them
+later : (bytes : List ℕ) (end n k at : ℕ) → 3 ≤ end → end ≤ length bytes → at ≡ end - 3 + k
+    → drop at (three_written bytes end n) ≡ drop k ((48 + n / 100) ∷ (48 + n / 10 % 10) ∷ (48 + n % 10) ∷ drop end bytes)
+later bytes end n k at some fits place =
+    ap (λ p. drop p (three_written bytes end n)) place ∙ sym (drop-drop k (end - 3) (three_written bytes end n)) ∙ ap (drop k) (three_stand bytes end n some fits)
+
+two_digits : (n : ℕ) → 10 ≤ n → n < 100 → decimal n ≡ (48 + n / 10) ∷ (48 + n % 10) ∷ []
+two_digits n least most = decimal_step n least (omega arith) ∙ ap (λ ds. ds ++ (48 + n % 10) ∷ []) (decimal_digit (n / 10) (omega arith))
+
+three_digits : (n : ℕ) → 100 ≤ n → n < 256 → decimal n ≡ (48 + n / 100) ∷ (48 + n / 10 % 10) ∷ (48 + n % 10) ∷ []
+three_digits n least most =
+    let hundreds : n / 10 / 10 ≡ n / 100 = omega arith in
+    decimal_step n (omega arith) (omega arith)
+    ∙ ap (λ ds. ds ++ (48 + n % 10) ∷ []) (two_digits (n / 10) (omega arith) (omega arith) ∙ ap (λ d. (48 + d) ∷ (48 + n / 10 % 10) ∷ []) hundreds)
+
+-- the digits are those of the number, and what stood behind them stays
+pub small_written : (bytes : List ℕ) (end n : ℕ) → n < 256 → 3 ≤ end → end ≤ length bytes
+    → (length (decimal n) ≡ small_digits n) × (drop (end - small_digits n) (three_written bytes end n) ≡ decimal n ++ drop end bytes)
+small_written bytes end n small some fits = elim (cases_lt n 10) [
+    inl one ↦
+      let digits : small_digits n ≡ 1 = omega arith in
+      let place : end - 1 ≡ end - 3 + 2 = omega arith in
+      let same : 48 + n % 10 ≡ 48 + n = omega arith in
+      let is : decimal n ≡ (48 + n) ∷ [] = decimal_digit n one in
+      (ap length is ∙ sym digits, rw (digits, is) (later bytes end n 2 (end - 1) some fits place ∙ ap (λ d. d ∷ drop end bytes) same))
+  | inr more ↦ elim (cases_lt n 100) [
+      inl two ↦
+        let digits : small_digits n ≡ 2 = omega arith in
+        let place : end - 2 ≡ end - 3 + 1 = omega arith in
+        let same : n / 10 % 10 ≡ n / 10 = omega arith in
+        let is = two_digits n more two in
+        (ap length is ∙ sym digits, rw (digits, is) (later bytes end n 1 (end - 2) some fits place ∙ ap (λ d. (48 + d) ∷ (48 + n % 10) ∷ drop end bytes) same))
+    | inr three ↦
+        let digits : small_digits n ≡ 3 = omega arith in
+        let is = three_digits n three small in
+        (ap length is ∙ sym digits, rw (digits, is) (three_stand bytes end n some fits))
+    ]
+  ]

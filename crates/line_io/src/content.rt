@@ -131,27 +131,6 @@ fn digits(bytes: &[u8]) -> (usize, u64)
         if !byte.is_ascii_digit() {
             return (count, value);
         }
-        if value >= CAP / 10 {
-            return digits_to_cap(bytes);
-        }
-        value = value * 10 + u64::from(*byte - b'0');
-    }
-    (bytes.len(), value)
-}
-
-// The same, of digits that may reach the cap.
-#[cold]
-fn digits_to_cap(bytes: &[u8]) -> (usize, u64)
-    ensures within { result.0 ≤ length bytes.now }
-    ensures each { All IsDigit (take result.0 bytes.now) }
-    ensures end { result.0 < length bytes.now → IsDigit (slice_index bytes.now result.0) → ⊥ }
-    ensures value { result.1 ≡ min (value_of (take result.0 bytes.now)) CAP }
-{
-    let mut value = 0;
-    for (count, byte) in bytes.iter().enumerate() {
-        if !byte.is_ascii_digit() {
-            return (count, value);
-        }
         value = (value * 10 + u64::from(*byte - b'0')).min(CAP);
     }
     (bytes.len(), value)

@@ -11,10 +11,10 @@ loop-count-preserved c =
     let below : count < length bytes = omega arith in
     let more = value_of-take_more bytes count below in
     let digit = c.if-not-is_ascii_digit.ensures in
+    let value = c.min-value.ensures in
     let so_far = c.loop-count.invariant.so_far in
     let bounds = digit.cases in
     record {
       each = All-more IsDigit bytes count 0 below c.loop-count.invariant.each digit.cases;
       so_far = omega arith;
-      below = omega arith;
     }

@@ -29,7 +29,7 @@ returns-in_err-write_words g c =
     let from = c.parts.from in
     let to = from + 11 in
     rw (p.1, p.2) (SoFar-stop (numbers_text (take (to - from) (drop from words))) (numbers_text (drop to words) ++ 10 ∷ []) c.parts.invariant.so_far
-        (words-part words from to (10 ∷ []) (omega arith)) c.in_err-write_words.ensures)
+    (words-part words from to (10 ∷ []) (omega arith)) c.in_err-write_words.ensures)
 
 pub parts-preserved : goal.parts-preserved
 parts-preserved g c =

@@ -1,5 +1,5 @@
 -- How the text of `audit` goes on from a finding.
-use Rattle.std.proofs.Common.{◌≡◌, ℕ, ◌+◌, Bool, true, false, IsTrue, List, [], ◌∷◌, ◌++◌, drop, Some, Ok, Err, Result, IfOk, ◌↔◌, ◌∙◌, refl, sym, ap, subst, arith}
+use Rattle.std.proofs.Common.{◌≡◌, ℕ, ◌+◌, Bool, false, IsTrue, List, [], ◌∷◌, ◌++◌, drop, Some, Ok, Err, Result, IfOk, ◌↔◌, ◌∙◌, refl, sym, subst, arith}
 use Rattle.std.proofs.lemmas.List.{append-nil}
 use Rattle.std.proofs.lemmas.Bool.{false≢true}
 use Rattle.std.specs.List.{slice_get, flat_map}
@@ -7,7 +7,6 @@ use Rattle.le_rec.specs.Sink.{SinkState}
 use Rattle.line_io.specs.Writes.{Writes}
 use Rattle.line_io.specs.declared.fault.IoFault.{IoFault}
 use Rattle.map_level.specs.declared.finding.Finding.{Finding}
-use Rattle.map_level.specs.declared.finding.Code.{Code}
 use Rattle.map_level.specs.declared.finding.Code.TheVariants.{F1, F2}
 use Rattle.wad_look.specs.Engines.Audit.{TellsFindings, finding_line, totals_line}
 use Rattle.wad_look.proofs.RestLemmas.{drop-at}

@@ -1,5 +1,5 @@
 -- How the text of `lumps` goes on from an entry and from a file.
-use Rattle.std.proofs.Common.{◌≡◌, ℕ, zero, suc, ◌+◌, List, [], ◌∷◌, ◌++◌, length, drop, Some, None, refl, arith}
+use Rattle.std.proofs.Common.{◌≡◌, ℕ, ◌+◌, List, ◌++◌, length, drop, Some, refl, arith}
 use Rattle.std.specs.List.{slice_get}
 use Rattle.le_rec.specs.Name.{name_of}
 use Rattle.le_rec.specs.declared.records.Entry.{Entry}

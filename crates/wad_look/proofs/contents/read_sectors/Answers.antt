@@ -1,4 +1,4 @@
-use Rattle.std.proofs.Common.{◌≡◌, pos, ◌∷◌, [], sym, subst, rules, w32, FitsSigned}
+use Rattle.std.proofs.Common.{◌∷◌, [], sym, subst, rules, w32, FitsSigned}
 use Rattle.std.proofs.lemmas.Int.{to_z-of_z}
 use Rattle.map_level.specs.Links.{Names}
 use Rattle.line_io.proofs.NumberAnswersLemmas.{both_allowed}

@@ -1,4 +1,4 @@
-use Rattle.std.proofs.Common.{◌≡◌, ◌+◌, ◌-◌, ◌≤◌, List, ℕ, [], ◌∷◌, ◌++◌, length, take, drop, Result, Ok, Err, codes, refl, sym, arith}
+use Rattle.std.proofs.Common.{◌+◌, ◌-◌, List, ℕ, [], ◌∷◌, ◌++◌, take, drop, Result, Ok, Err, codes, refl, sym, arith}
 use Rattle.std.proofs.lemmas.Result.{err_from_is_err_and}
 use Rattle.std.proofs.lemmas.List.{append-nil}
 use Rattle.le_rec.specs.Sink.{SinkState}

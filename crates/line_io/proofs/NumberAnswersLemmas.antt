@@ -33,17 +33,6 @@ module _ (Allowed : ℤ → Type 0) (is_near : IsNearAllowed Allowed) where
       rw (x_is ∙ is_near.exact x (subst Allowed x_is first), y_is ∙ is_near.exact y (subst Allowed y_is second)) form
   both_allowed content (x ∷ y ∷ z ∷ more) values form are first second = absurd (omega (arith, form.counted))
 
-  -- two numbers, of which one isn't
-  pub not_both_allowed : (content : List ℕ) (exact values : List ℤ) → HasForm 2 content exact → values ≡ map nearest exact
-      → ¬ (Allowed (get_or values 0 (pos 0)) × Allowed (get_or values 1 (pos 0))) → RefusesContent 2 (OfTwo (λ x y. Allowed x × Allowed y)) content Range
-  not_both_allowed content [] values form are not_both = absurd (omega (arith, form.counted))
-  not_both_allowed content (x ∷ []) values form are not_both = absurd (omega (arith, form.counted))
-  not_both_allowed content (x ∷ y ∷ []) values form are not_both =
-      let x_is : get_or values 0 (pos 0) ≡ nearest x = ap (λ (vs : List ℤ). get_or vs 0 (pos 0)) are in
-      let y_is : get_or values 1 (pos 0) ≡ nearest y = ap (λ (vs : List ℤ). get_or vs 1 (pos 0)) are in
-      (x ∷ y ∷ [], form, λ both. not_both (rw (x_is ∙ is_near.near x both.0, y_is ∙ is_near.near y both.1) both))
-  not_both_allowed content (x ∷ y ∷ z ∷ more) values form are not_both = absurd (omega (arith, form.counted))
-
 -- there are answers to lines of so many numbers where it can be told which are allowed, and those have a text
 module _ {count : ℕ} {Allowed : List ℤ → Type 0} {Tells : List ℤ → List ℕ → Type 0}
     (decide : (numbers : List ℤ) → length numbers ≡ count → Allowed numbers ⊎ (¬ Allowed numbers))

@@ -1,7 +1,7 @@
 use Rattle.std.proofs.Common.{◌∷◌, [], refl, rules, w32, FitsSigned}
 use Rattle.std.proofs.lemmas.Int.{to_z-of_z}
 use Rattle.map_geo.specs.Point.{IsInRange}
-use Rattle.line_io.proofs.NumberAnswersLemmas.{both_allowed, not_both_allowed}
+use Rattle.line_io.proofs.NumberAnswersLemmas.{both_allowed}
 use Rattle.wad_look.proofs.ContentsLemmas.{coordinates_near}
 use Rattle.wad_look.proofs.contents.read_point.Goals as goal
 

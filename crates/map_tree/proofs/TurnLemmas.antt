@@ -40,10 +40,6 @@ sum_zeros (n ∷ counts) zeros =
     let first : n ≡ 0 = zeros 0 in
     omega (arith, first, sum_zeros counts (λ s. zeros (suc s)), sum_by-cons (λ x. x) n counts)
 
-pub empty : (ps : List Piece) → length ps ≡ 0 → ps ≡ []
-empty [] e = refl
-empty (p ∷ ps) e = absurd (omega arith)
-
 same_most : (m k n r : ℕ) → r ≡ max m (n + 1) → n ≡ suc k → max m (k + 2) ≡ r
 same_most m k n r h e = omega arith
 

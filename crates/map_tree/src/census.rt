@@ -1,6 +1,6 @@
 //! The census of a rectangle: how many of its points lie in each sector.
 
-ghost use Rattle.std.specs.Prelude.{◌≡◌, ◌<◌, ◌≤◌, ◌≢◌, ℕ, IfOk, Some, length, slice_index};
+ghost use Rattle.std.specs.Prelude.{◌≡◌, ◌<◌, ◌≤◌, ◌++◌, ◌∷◌, [], ℕ, IfOk, IfSome, Some, None, length, slice_index};
 ghost use Rattle.map_geo.specs.Rect.{IsRect};
 ghost use Rattle.map_level.specs.SectorOf.{sector_of};
 ghost use Rattle.map_tree.specs.Child.{place_of, root};
@@ -103,7 +103,7 @@ fn tally<A: Allocator>(
             }
             Step::AtSsector(t, points) => {
                 counts[usize::from(level.ssector_sector(u32::from(t)))] += points;
-                match pending.pop() {
+                match take_newest(&mut pending) {
                     Some(next) => next,
                     None => return Ok(Work {
                         tests,
@@ -113,4 +113,13 @@ fn tally<A: Allocator>(
             }
         };
     }
+}
+
+// Takes the newest of the pending pieces.
+#[inline]
+fn take_newest<A: Allocator>(pending: &mut Vec<Piece, A>) -> Option<Piece>
+    ensures some { IfSome result (λ p. pending.old.items ≡ pending.new.items ++ p ∷ []) }
+    ensures none { result ≡ None → pending.old.items ≡ [] }
+{
+    pending.pop()
 }

@@ -3,7 +3,7 @@ use Rattle.std.proofs.lemmas.List.{length-reverse}
 use Rattle.map_tree.specs.declared.pieces.Piece.{Piece}
 use Rattle.map_tree.specs.Sizes.{size_of}
 use Rattle.map_tree.proofs.HeldLemmas.{sized-from_sound, Held-start}
-use Rattle.map_tree.proofs.TurnLemmas.{pushed, empty, sum_zeros, tests_fit, most_fits, done, leaf_fits, turn-leaf, turn-down, turn-apart, turn-pushed, fewer-down, fewer-apart}
+use Rattle.map_tree.proofs.TurnLemmas.{pushed, sum_zeros, tests_fit, most_fits, done, leaf_fits, turn-leaf, turn-down, turn-apart, turn-pushed, fewer-down, fewer-apart}
 use Rattle.map_tree.proofs.census.tally.Goals as goal
 
 pub loop-next-init : goal.loop-next-init
@@ -50,7 +50,7 @@ returns-in-None-clause-tally g c =
     let within = c.requires.within _ _ c.ssector_sector.ensures small in
     let sector_is = rw (c.from.ensures ∙ leaf.1, ← c.from-in-AtSsector.ensures) at c.ssector_sector.ensures in
     let held = turn-leaf c.args.level.now (size_of c.args.level.now) c.args.rect sized valid c.loop-next.hand _ _ _ _ c.loop-next.invariant.held c.from-in-AtSsector.result c.in-AtSsector.points leaf.0 sector_is (rw (c.from-in-AtSsector.ensures, c.loop-next.invariant.long) within) leaf.2 in
-    let none = empty c.loop-next.pending.items (omega (arith, c.loop-next.pending.ok.0, c.in-None.ensures.cases.0)) in
+    let none = c.in-None.ensures.none refl in
     done c.args.level.now (size_of c.args.level.now) c.args.rect sized valid _ _ _ (rw none at held)
 
 pub loop-next-smaller-in-Down : goal.loop-next-smaller-in-Down
@@ -93,5 +93,5 @@ loop-next-preserved g c =
     let within = c.requires.within _ _ c.ssector_sector.ensures small in
     let sector_is = rw (c.from.ensures ∙ leaf.1, ← c.from-in-AtSsector.ensures) at c.ssector_sector.ensures in
     let held = turn-leaf c.args.level.now (size_of c.args.level.now) c.args.rect sized c.start-hand.ensures.valid c.loop-next.hand _ _ _ _ c.loop-next.invariant.held c.from-in-AtSsector.result c.in-AtSsector.points leaf.0 sector_is (rw (c.from-in-AtSsector.ensures, c.loop-next.invariant.long) within) leaf.2 in
-    let popped = pushed c.pop.new.self.items c.loop-next.pending.items c.in-Some.next c.in-Some.ensures.items in
+    let popped = pushed c.take_newest.new.pending.items c.loop-next.pending.items c.in-Some.next c.in-Some.ensures.some in
     record { held = rw popped at held; long = length-set c.loop-next.counts c.from-in-AtSsector.result (get_or c.loop-next.counts c.from-in-AtSsector.result 0 + c.in-AtSsector.points) ∙ c.loop-next.invariant.long }

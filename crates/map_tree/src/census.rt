@@ -1,6 +1,7 @@
 //! The census of a rectangle: how many of its points lie in each sector.
 
-ghost use Rattle.std.specs.Prelude.{◌≡◌, ◌<◌, ◌≤◌, ◌++◌, ◌∷◌, [], ℕ, IfOk, IfSome, Some, None, length, slice_index};
+ghost use Rattle.std.specs.Prelude.{◌≡◌, ◌<◌, ◌≤◌, ◌++◌, ◌∷◌, [], ℕ, length, slice_index};
+ghost use Rattle.std.specs.Prelude.{IfOk, IfSome, Some, None};
 ghost use Rattle.map_geo.specs.Rect.{IsRect};
 ghost use Rattle.map_level.specs.SectorOf.{sector_of};
 ghost use Rattle.map_tree.specs.Child.{place_of, root};
@@ -16,15 +17,15 @@ use map_geo::Rect;
 use map_level::Level;
 use std::alloc::{AllocError, Allocator};
 
-// How many sectors a child of a sidedef can name.
+// How many sectors the sector number of a sidedef can name.
 const SECTOR_NUMBERS: usize = 65_536;
 
 impl<'l, 'a> Tree<'l, 'a> {
     /// How many points of a rectangle lie in each sector.
     ///
-    /// It keeps a list of pending pieces, begins with the whole rectangle at the root, and takes the
-    /// newest first. A piece that a node's partition leaves whole goes to that side's child, another is
-    /// cut into its lower and upper rows, or as a row into two where its side changes.
+    /// It keeps a list of pending pieces, begins with the whole rectangle at the root, and takes
+    /// the newest first. A piece that lies on one side of a node's partition goes to that side's
+    /// child, another is cut into its lower and upper rows, or as a row where its side changes.
     pub fn census<A: Allocator + Copy>(&self, alloc: A, rect: Rect) -> Result<Counts<A>, AllocError>
         ensures { IfOk result (IsCensus self.now rect) }
     {
@@ -79,10 +80,12 @@ fn tally<A: Allocator>(
 ) -> Result<Work, AllocError>
     requires sound { IsSound level.now }
     requires zeros { (s : ℕ) → slice_index counts.old s ≡ 0 }
-    requires within { (t k : ℕ) → sector_of level.now t ≡ Some k → k < 65536 → k < length counts.old }
+    requires within { (t k : ℕ)
+        → sector_of level.now t ≡ Some k → k < 65536 → k < length counts.old }
     ensures long { length counts.new ≡ length counts.old }
     ensures valid { IsRect rect }
-    ensures tally { IfOk result (λ work. IsTally level.now rect counts.new work.tests work.pending) }
+    ensures tally { IfOk result
+        (λ work. IsTally level.now rect counts.new work.tests work.pending) }
 {
     let nodes = level.nodes();
     let mut pending = Vec::new(alloc);

@@ -73,7 +73,8 @@ fn add_pair<A: Allocator>(
     sector: u16,
     count: u32,
 ) -> Result<(), AllocError>
-    ensures some { OnOk result (0 < count → pairs.new.items ≡ pairs.old.items ++ (sector, count) ∷ []) }
+    ensures some { OnOk result
+        (0 < count → pairs.new.items ≡ pairs.old.items ++ (sector, count) ∷ []) }
     ensures none { OnOk result (count ≡ 0 → pairs.new.items ≡ pairs.old.items) }
 {
     if count > 0 {

@@ -13,8 +13,8 @@ use crate::row::{last_of_side, middle};
 use le_rec::{Node, Table};
 use map_geo::{Partition, Point, Rect, side, whole_side};
 
-/// What becomes of a piece: its points are counted where it has come to an ssector; at a node it goes
-/// whole to the child of its side, or is cut where it has both sides.
+/// What becomes of a piece: its points are counted where it has come to an ssector; at a node it
+/// goes whole to the child of its side, or is cut where it has both sides.
 #[inline]
 pub fn step(nodes: &Table<'_, Node>, piece: Piece) -> Step
     requires { IsWord nodes.now.records piece.word }

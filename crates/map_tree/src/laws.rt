@@ -20,16 +20,17 @@ pub fn sound_is_faultless()
     ensures { SoundIsFaultless }
 {}
 
-/// A piece of a census takes one number of tests and is one deep. In a sound level a rectangle at the
-/// root takes at most 18 tests for each row and node, and is at most as deep as there are nodes and 16.
+/// A piece of a census takes one number of tests and is one deep. In a sound level a rectangle at
+/// the root takes at most 18 tests for each row and node, and is at most as deep as there are
+/// nodes and 16.
 pub fn one_work()
     ensures one { OneWork }
     ensures few_tests { FewTests }
     ensures few_pending { FewPending }
 {}
 
-/// In a sound level a function gives each point its sector, how many points of a rectangle lie in each sector is told
-/// by exactly one list of pairs, and they add up to the rectangle's points.
+/// In a sound level a function gives each point its sector, how many points of a rectangle lie in
+/// each sector is told by exactly one list of pairs, and they add up to the rectangle's points.
 pub fn plain_counts()
     ensures told { SectorsAreTold }
     ensures one { OneCounting }

@@ -285,7 +285,13 @@ fn demo_cut(rt: HostRuntime) {
             17..=20 => (LINES[1], DemoFault::NoMarker(17)),
             _ => (LINES[2], DemoFault::NoMarker(21)),
         };
-        lists(&rt, &TWO[..n], 100, &TEXT[..lines], Err(RunFault::Demo(fault)));
+        lists(
+            &rt,
+            &TWO[..n],
+            100,
+            &TEXT[..lines],
+            Err(RunFault::Demo(fault)),
+        );
     }
     let mut text = [0; 167];
     text.copy_from_slice(TEXT);

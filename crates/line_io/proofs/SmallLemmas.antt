@@ -48,14 +48,14 @@ three_digits n least most =
 pub small_written : (bytes : List ℕ) (end n : ℕ) → n < 256 → 3 ≤ end → end ≤ length bytes
     → (length (decimal n) ≡ small_digits n) × (drop (end - small_digits n) (three_written bytes end n) ≡ decimal n ++ drop end bytes)
 small_written bytes end n small some fits = elim (cases_lt n 10) [
-    inl one ↦
+  | inl one ↦
       let digits : small_digits n ≡ 1 = omega arith in
       let place : end - 1 ≡ end - 3 + 2 = omega arith in
       let same : 48 + n % 10 ≡ 48 + n = omega arith in
       let is : decimal n ≡ (48 + n) ∷ [] = decimal_digit n one in
       (ap length is ∙ sym digits, rw (digits, is) (later bytes end n 2 (end - 1) some fits place ∙ ap (λ d. d ∷ drop end bytes) same))
   | inr more ↦ elim (cases_lt n 100) [
-      inl two ↦
+    | inl two ↦
         let digits : small_digits n ≡ 2 = omega arith in
         let place : end - 2 ≡ end - 3 + 1 = omega arith in
         let same : n / 10 % 10 ≡ n / 10 = omega arith in
@@ -65,5 +65,5 @@ small_written bytes end n small some fits = elim (cases_lt n 10) [
         let digits : small_digits n ≡ 3 = omega arith in
         let is = three_digits n three small in
         (ap length is ∙ sym digits, rw (digits, is) (three_stand bytes end n some fits))
-    ]
   ]
+]

@@ -115,8 +115,8 @@ impl TextLine {
     }
 }
 
-// Writes the digits of a number so that they end at `end`, and tells where they start. All three are written and the leading
-// zeros left out, so that no branch is taken on what the number is.
+// Writes the digits of a number so that they end at `end`, and tells where they start. All three are written
+// and the leading zeros left out, so that no branch is taken on what the number is.
 #[inline]
 fn write_small(number: u8, bytes: &mut [u8], end: usize) -> usize
     requires { (3 ≤ end) × (end ≤ length bytes.old) }

@@ -59,15 +59,15 @@ ended_with Q (Some xs) (Some more) bytes given end h = subst Q (sym (given ∙ a
 
 cases_eq : (a b : ℕ) → (a ≡ b) ⊎ (a ≢ b)
 cases_eq a b = elim (cases_order a b) [
-    inl same ↦ inl same
+  | inl same ↦ inl same
   | inr other ↦ inr (λ e. elim other [ inl less ↦ omega (arith, less, e) | inr more ↦ omega (arith, more, e) ])
-  ]
+]
 
 next_command : (version : ℕ) (bytes : List ℕ) → NoneBegins (IsCommand version) bytes ⊎ ((c : Command) × (front : List ℕ) × (rest : List ℕ) × (bytes ≡ front ++ rest) × IsCommand version front c)
 next_command version bytes = elim (cases_lt (length bytes) (command_size version)) [
-    inl short ↦ inl (short_stops version bytes short)
+  | inl short ↦ inl (short_stops version bytes short)
   | inr fits ↦ elim (cases_eq (slice_index bytes 0) 128) [
-      inl marked ↦ inl (marked_stops version bytes marked)
+    | inl marked ↦ inl (marked_stops version bytes marked)
     | inr unmarked ↦
         let size = command_size version in
         let split : take size bytes ++ drop size bytes ≡ bytes = take-append-drop size bytes in
@@ -75,8 +75,8 @@ next_command version bytes = elim (cases_lt (length bytes) (command_size version
         let some : 0 < length (take size bytes) = omega (arith, long, (command_size-some version).0) in
         let first : slice_index bytes 0 ≡ slice_index (take size bytes) 0 = ap (λ t. slice_index t 0) (sym split) ∙ first-append (take size bytes) (drop size bytes) some in
         inr (command_of version (take size bytes), take size bytes, drop size bytes, sym split, record { long = long; unmarked = λ e. unmarked (first ∙ e); reads = refl })
-    ]
   ]
+]
 
 record Most (version : ℕ) (bytes : List ℕ) : Type 0 where
   pub commands : List Command
@@ -88,11 +88,15 @@ record Most (version : ℕ) (bytes : List ℕ) : Type 0 where
 
 most_from : (version fuel : ℕ) (bytes : List ℕ) → length bytes ≤ fuel → Most version bytes
 most_from version zero bytes h = record {
-  commands = []; body = []; rest = bytes; joined = refl; follow = refl;
+  commands = [];
+  body = [];
+  rest = bytes;
+  joined = refl;
+  follow = refl;
   most = short_stops version bytes (omega (arith, (command_size-some version).0));
 }
 most_from version (suc fuel) bytes h = elim (next_command version bytes) [
-    inl none ↦ record { commands = []; body = []; rest = bytes; joined = refl; follow = refl; most = none }
+  | inl none ↦ record { commands = []; body = []; rest = bytes; joined = refl; follow = refl; most = none }
   | inr (c, front, rest, split, is) ↦
       let next = most_from version fuel rest (omega (arith, ap length split, length-append front rest, is.long, (command_size-some version).0)) in
       record {
@@ -103,7 +107,7 @@ most_from version (suc fuel) bytes h = elim (next_command version bytes) [
         follow = (front, next.body, refl, is, next.follow);
         most = next.most;
       }
-  ]
+]
 
 most_commands : (version : ℕ) (bytes : List ℕ) → Most version bytes
 most_commands version bytes = most_from version (length bytes) bytes (omega arith)
@@ -116,9 +120,9 @@ AreCommands-append version body more (c ∷ commands) others h k =
 marker_or_not : (bytes : List ℕ) → ((more : List ℕ) × (bytes ≡ 128 ∷ more)) ⊎ ((more : List ℕ) → bytes ≢ 128 ∷ more)
 marker_or_not [] = inr (λ more e. cc)
 marker_or_not (b ∷ bytes) = elim (cases_eq b 128) [
-    inl is ↦ inl (bytes, ap (λ x. x ∷ bytes) is)
+  | inl is ↦ inl (bytes, ap (λ x. x ∷ bytes) is)
   | inr other ↦ inr (λ more e. other (ap (λ t. slice_index t 0) e))
-  ]
+]
 
 -- ---- The text for an input whose header and first commands are known: it begins with their lines
 
@@ -132,42 +136,70 @@ module _ (front body more : List ℕ) (header : Header) (commands : List Command
       let all = commands ++ m.commands in
       let players = header.players in
       let joined : front ++ (body ++ more) ≡ front ++ ((body ++ m.body) ++ m.rest) =
-          ap (λ t. front ++ t) (ap (λ t. body ++ t) m.joined ∙ sym (append_assoc body m.body m.rest)) in
+      ap (λ t. front ++ t) (ap (λ t. body ++ t) m.joined ∙ sym (append_assoc body m.body m.rest)) in
       let follows = AreCommands-append header.version body m.body commands m.commands follow m.follow in
       let shown : header_line header ++ commands_text players 0 all ≡ lines ++ commands_text players (0 + length commands) m.commands =
-          ap (λ t. header_line header ++ t) (commands_text-append players 0 commands m.commands) ∙ sym (append_assoc (header_line header) _ _) in
+      ap (λ t. header_line header ++ t) (commands_text-append players 0 commands m.commands) ∙ sym (append_assoc (header_line header) _ _) in
       elim (marker_or_not m.rest) [
-        inl (after, marked) ↦
-          let demo : Demo = record { header = header; commands = all; after = length after } in
-          let totals = totals_text players (length all) (length after) in
-          let read : IsRead (front ++ (body ++ more)) demo = record {
-            rest = after;
-            reads = record { front = front; body = body ++ m.body; joined = joined ∙ ap (λ t. front ++ ((body ++ m.body) ++ t)) marked; begins = begins; follow = follows };
-            counted = refl;
-          } in
-          (listing demo, commands_text players (0 + length commands) m.commands ++ totals, inl (demo, read, refl),
-            sym (append_assoc (header_line header) (commands_text players 0 all) totals) ∙ ap (λ t. t ++ totals) shown ∙ append_assoc lines _ totals)
-      | inr unmarked ↦
-          let cut_at : IsCutAt (front ++ (body ++ more)) (length front + length (body ++ m.body)) = record {
-            header = header; commands = all; front = front; body = body ++ m.body; rest = m.rest; joined = joined; begins = begins; follow = follows; most = m.most; unmarked = unmarked; placed = refl;
-          } in
-          let has : HasLines (front ++ (body ++ more)) (header_line header ++ commands_text players 0 all) = record {
-            header = header; commands = all; front = front; body = body ++ m.body; rest = m.rest; joined = joined; begins = begins; follow = follows; most = m.most; is = refl;
-          } in
-          (header_line header ++ commands_text players 0 all, commands_text players (0 + length commands) m.commands,
-            inr ((λ demo h. IsDemo-not_refused (front ++ (body ++ more)) demo.header demo.commands h.rest (NoMarker (length front + length (body ++ m.body))) h.reads cut_at), inr has), shown)
+        | inl (after, marked) ↦
+            let demo : Demo = record { header = header; commands = all; after = length after } in
+            let totals = totals_text players (length all) (length after) in
+            let read : IsRead (front ++ (body ++ more)) demo = record {
+              rest = after;
+              reads = record { front = front; body = body ++ m.body; joined = joined ∙ ap (λ t. front ++ ((body ++ m.body) ++ t)) marked; begins = begins; follow = follows };
+              counted = refl;
+            } in (
+              listing demo,
+              commands_text players (0 + length commands) m.commands ++ totals,
+              inl (demo, read, refl),
+              sym (append_assoc (header_line header) (commands_text players 0 all) totals) ∙ ap (λ t. t ++ totals) shown ∙ append_assoc lines _ totals,
+            )
+        | inr unmarked ↦
+            let cut_at : IsCutAt (front ++ (body ++ more)) (length front + length (body ++ m.body)) = record {
+              header = header;
+              commands = all;
+              front = front;
+              body = body ++ m.body;
+              rest = m.rest;
+              joined = joined;
+              begins = begins;
+              follow = follows;
+              most = m.most;
+              unmarked = unmarked;
+              placed = refl;
+            } in
+            let has : HasLines (front ++ (body ++ more)) (header_line header ++ commands_text players 0 all) = record {
+              header = header;
+              commands = all;
+              front = front;
+              body = body ++ m.body;
+              rest = m.rest;
+              joined = joined;
+              begins = begins;
+              follow = follows;
+              most = m.most;
+              is = refl;
+            } in (
+              header_line header ++ commands_text players 0 all,
+              commands_text players (0 + length commands) m.commands,
+              inr ((λ demo h. IsDemo-not_refused (front ++ (body ++ more)) demo.header demo.commands h.rest (NoMarker (length front + length (body ++ m.body))) h.reads cut_at), inr has),
+              shown,
+            )
       ]
 
   -- a front of the lines is one of that text
   front_of_text : (out out' : SinkState) → TakesFront out out' lines → (text : List ℕ) × IsText (front ++ (body ++ more)) text × TakesFront out out' text
   front_of_text out out' a =
-      let t = text_after in
-      (t.0, t.2, record {
-        front = a.front;
-        rest = a.rest ++ t.1;
-        splits = t.3 ∙ ap (λ s. s ++ t.1) a.splits ∙ append_assoc a.front a.rest t.1;
-        added = a.added;
-      })
+      let t = text_after in (
+        t.0,
+        t.2,
+        record {
+          front = a.front;
+          rest = a.rest ++ t.1;
+          splits = t.3 ∙ ap (λ s. s ++ t.1) a.splits ∙ append_assoc a.front a.rest t.1;
+          added = a.added;
+        },
+      )
 
 -- ---- Commands that were read and listed
 
@@ -222,8 +254,11 @@ module _ {header : Header} {limit : ℕ} {source mid source' : SourceState} {out
   reading_fault stream.Read r = (rw (← bound) r.reads.fault, none_within stream.Read r r.reads.read r.reads.none, listed.wrote)
   reading_fault stream.TooLong r = (rw (← bound) r.reads.fault, none_within stream.TooLong r r.reads.read r.reads.none, listed.wrote)
   reading_fault (stream.Demo why) r = (
-    (r.reads.fault.0, omega (arith, r.reads.fault.1, bound),
-      taken_then (λ more. RefusesNext header.version (old.taken + length listed.body) more why) (λ left. (more : List ℕ) × (left ≡ listed.body ++ more) × RefusesNext header.version (old.taken + length listed.body) more why) source.left mid.left listed.body listed.given (λ more h. (more, refl, h)) (rw (← listed.counted) r.reads.fault.2)),
+    (
+      r.reads.fault.0,
+      omega (arith, r.reads.fault.1, bound),
+      taken_then (λ more. RefusesNext header.version (old.taken + length listed.body) more why) (λ left. (more : List ℕ) × (left ≡ listed.body ++ more) × RefusesNext header.version (old.taken + length listed.body) more why) source.left mid.left listed.body listed.given (λ more h. (more, refl, h)) (rw (← listed.counted) r.reads.fault.2),
+    ),
     none_within (stream.Demo why) r r.reads.read r.reads.none,
     listed.wrote,
   )
@@ -336,7 +371,14 @@ stops_at_marker version (suc k) rest = marker_stops version (take k rest)
 cut_refuses : (header : Header) (front body rest : List ℕ) (commands : List Command) (place : ℕ) (why : DemoFault) → IsHeader front header → AreCommands header.version body commands → place ≡ length front + length body
     → RefusesNext header.version place rest why → RefusesDemo (front ++ (body ++ rest)) why
 cut_refuses header front body rest commands place (NoMarker at) begins follow is h = record {
-  header = header; commands = commands; front = front; body = body; rest = rest; joined = refl; begins = begins; follow = follow;
+  header = header;
+  commands = commands;
+  front = front;
+  body = body;
+  rest = rest;
+  joined = refl;
+  begins = begins;
+  follow = follow;
   most = λ c piece more same k. h.1 (Some c) piece more same k;
   unmarked = λ more same. h.1 None (128 ∷ []) more same refl;
   placed = h.0 ∙ is;
@@ -357,7 +399,10 @@ module _ (header : Header) (front : List ℕ) (start : SourceState) (out : SinkS
   ends_header limit source out' io.Write room given w = record {
     read = front;
     given = given;
-    whole = tt; all_read = tt; within = tt; sound = tt;
+    whole = tt;
+    all_read = tt;
+    within = tt;
+    sound = tt;
     bounded = omega (arith, room);
     fault = w.ends.fault;
     lines = begun_with (λ left. (text : List ℕ) × IsText left text × TakesFront out out' text) start.left source.left front given (λ more.
@@ -375,8 +420,16 @@ module _ (header : Header) (front : List ℕ) (start : SourceState) (out : SinkS
     lines_of tail most = (
       header_line header ++ commands_text header.players 0 commands,
       inr (record {
-        header = header; commands = commands; front = front; body = body; rest = take (limit - (length front + length body)) tail;
-        joined = within_limit limit front body tail room; begins = begins; follow = follow; most = most; is = refl;
+        header = header;
+        commands = commands;
+        front = front;
+        body = body;
+        rest = take (limit - (length front + length body)) tail;
+        joined = within_limit limit front body tail room;
+        begins = begins;
+        follow = follow;
+        most = most;
+        is = refl;
       }),
       Appends-trans out.taken between.taken out'.taken (header_line header) (commands_text header.players 0 commands) headed wrote,
     )
@@ -399,13 +452,16 @@ module _ (header : Header) (front : List ℕ) (start : SourceState) (out : SinkS
       stop_lines none wrote =
           let place : length front + length l.body ≡ old.taken + length l.body = omega (arith, begun) in
           lines_of limit l.body l.commands l.follow stop_room between out' headed wrote l.tail
-              (λ c piece more same k. none (Some c) piece more (ap (λ n. take (limit - n) l.tail) (sym place) ∙ same) k)
+          (λ c piece more same k. none (Some c) piece more (ap (λ n. take (limit - n) l.tail) (sym place) ∙ same) k)
 
     pub ends_commands : (e : RunFault) → ListsCommands header limit source source' between out' old new (Err e) → ListsDemo limit start source' out out' (Err e)
     ends_commands fault.Write l = record {
       read = front ++ (l.body ++ l.tail);
       given = stop_given l;
-      whole = tt; all_read = tt; within = tt; sound = tt;
+      whole = tt;
+      all_read = tt;
+      within = tt;
+      sound = tt;
       bounded = omega (arith, stop_count l, l.fault.2);
       fault = l.fault.0;
       lines = begun_with (λ left. (text : List ℕ) × IsText left text × TakesFront out out' text) start.left source'.left (front ++ (l.body ++ l.tail)) (stop_given l) (λ more.
@@ -415,7 +471,10 @@ module _ (header : Header) (front : List ℕ) (start : SourceState) (out : SinkS
     ends_commands fault.Read l = record {
       read = front ++ (l.body ++ l.tail);
       given = stop_given l;
-      whole = tt; all_read = tt; within = tt; sound = tt;
+      whole = tt;
+      all_read = tt;
+      within = tt;
+      sound = tt;
       bounded = omega (arith, stop_count l, l.fault.0.1);
       fault = (l.fault.0.0, omega (arith, stop_count l, l.fault.0.1));
       lines = stop_lines l l.fault.1 l.fault.2;
@@ -423,7 +482,10 @@ module _ (header : Header) (front : List ℕ) (start : SourceState) (out : SinkS
     ends_commands fault.TooLong l = record {
       read = front ++ (l.body ++ l.tail);
       given = stop_given l;
-      whole = tt; all_read = tt; within = tt; sound = tt;
+      whole = tt;
+      all_read = tt;
+      within = tt;
+      sound = tt;
       bounded = omega (arith, stop_count l, l.fault.0.1);
       fault = (l.fault.0.0, omega (arith, stop_count l, l.fault.0.1));
       lines = stop_lines l l.fault.1 l.fault.2;
@@ -431,13 +493,19 @@ module _ (header : Header) (front : List ℕ) (start : SourceState) (out : SinkS
     ends_commands (fault.Demo why) l = record {
       read = front ++ (l.body ++ l.tail);
       given = stop_given l;
-      whole = tt; all_read = tt; within = tt; sound = tt;
+      whole = tt;
+      all_read = tt;
+      within = tt;
+      sound = tt;
       bounded = omega (arith, stop_count l, l.fault.0.1);
-      fault = (l.fault.0.0, omega (arith, stop_count l, l.fault.0.1),
+      fault = (
+        l.fault.0.0,
+        omega (arith, stop_count l, l.fault.0.1),
         taken_then (λ left. (more : List ℕ) × (left ≡ l.body ++ more) × RefusesNext header.version (old.taken + length l.body) more why) (λ left. RefusesDemo left why) start.left source.left front given
             (λ left h. subst (λ (b : List ℕ). RefusesDemo (front ++ b) why) (sym h.1)
-                (cut_refuses header front l.body h.0 l.commands (old.taken + length l.body) why begins l.follow (omega (arith, begun)) h.2))
-            l.fault.0.2);
+            (cut_refuses header front l.body h.0 l.commands (old.taken + length l.body) why begins l.follow (omega (arith, begun)) h.2))
+            l.fault.0.2,
+      );
       lines = stop_lines l l.fault.1 l.fault.2;
     }
     ends_commands (fault.Set n why) l = absurd l.fault
@@ -456,9 +524,9 @@ module _ (header : Header) (front : List ℕ) (start : SourceState) (out : SinkS
       rest_given : (last : SourceState) (rest : List ℕ) → Consumes source'.left last.left rest → Consumes start.left last.left (front ++ (l.body ++ 128 ∷ rest))
       rest_given last rest after =
           let all : (front ++ (l.body ++ l.tail)) ++ rest ≡ front ++ (l.body ++ 128 ∷ rest) =
-              ap (λ t. (front ++ (l.body ++ t)) ++ rest) l.marked ∙ simp append_assoc in
+          ap (λ t. (front ++ (l.body ++ t)) ++ rest) l.marked ∙ simp append_assoc in
           subst (Consumes start.left last.left) all
-              (Consumes-trans start.left source'.left last.left (front ++ (l.body ++ l.tail)) rest (Consumes-trans start.left source.left source'.left front (l.body ++ l.tail) given l.given) after)
+          (Consumes-trans start.left source'.left last.left (front ++ (l.body ++ l.tail)) rest (Consumes-trans start.left source.left source'.left front (l.body ++ l.tail) given l.given) after)
 
       rest_count : (end : DemoReader) (rest : List ℕ) → end.taken ≡ new.taken + length rest → length (front ++ (l.body ++ 128 ∷ rest)) ≡ end.taken
       rest_count end rest counted = omega (arith, length-read front l.body (128 ∷ rest), counted, l.counted, ap length l.marked, begun)
@@ -471,7 +539,10 @@ module _ (header : Header) (front : List ℕ) (start : SourceState) (out : SinkS
         ends_rest stream.Read r = record {
           read = front ++ (l.body ++ 128 ∷ r.reads.read);
           given = rest_given last r.reads.read r.reads.given;
-          whole = tt; all_read = tt; within = tt; sound = tt;
+          whole = tt;
+          all_read = tt;
+          within = tt;
+          sound = tt;
           bounded = omega (arith, rest_count end r.reads.read r.reads.counted, r.reads.fault.1, rest_limit);
           fault = (r.reads.fault.0, omega (arith, rest_count end r.reads.read r.reads.counted, r.reads.fault.1, rest_limit));
           lines = rest_lines r.reads.read;
@@ -479,7 +550,10 @@ module _ (header : Header) (front : List ℕ) (start : SourceState) (out : SinkS
         ends_rest stream.TooLong r = record {
           read = front ++ (l.body ++ 128 ∷ r.reads.read);
           given = rest_given last r.reads.read r.reads.given;
-          whole = tt; all_read = tt; within = tt; sound = tt;
+          whole = tt;
+          all_read = tt;
+          within = tt;
+          sound = tt;
           bounded = omega (arith, rest_count end r.reads.read r.reads.counted, r.reads.fault.1, rest_limit);
           fault = (r.reads.fault.0, omega (arith, rest_count end r.reads.read r.reads.counted, r.reads.fault.1, rest_limit));
           lines = rest_lines r.reads.read;
@@ -526,7 +600,10 @@ module _ (header : Header) (front : List ℕ) (start : SourceState) (out : SinkS
           ends_totals after io.Write w = record {
             read = read_all;
             given = rest_given last r.reads.read r.reads.given;
-            whole = tt; all_read = tt; within = tt; sound = tt;
+            whole = tt;
+            all_read = tt;
+            within = tt;
+            sound = tt;
             bounded = omega (arith, rest_count end r.reads.read r.reads.counted, r.reads.within, rest_limit);
             fault = w.ends.fault;
             lines = ended_with (λ left. (text : List ℕ) × IsText left text × TakesFront out after text) start.left last.left read_all (rest_given last r.reads.read r.reads.given) r.reads.ended
@@ -546,21 +623,39 @@ no_lines limit old out bound start read none =
 module _ {limit : ℕ} {source source' : SourceState} {old new : DemoReader} (out : SinkState) (bound : old.limit ≡ limit) (start : old.taken ≡ 0) where
   pub ends_before : (e : StreamFault) → ReadsHeader source source' old new (Err e) → ListsDemo limit source source' out out (Err (stream_fault e))
   ends_before stream.Read r = record {
-    read = r.reads.read; given = r.reads.given; whole = tt; all_read = tt; within = tt; sound = tt;
+    read = r.reads.read;
+    given = r.reads.given;
+    whole = tt;
+    all_read = tt;
+    within = tt;
+    sound = tt;
     bounded = omega (arith, r.reads.counted, r.reads.fault.1, bound, start);
     fault = (r.reads.fault.0, omega (arith, r.reads.counted, r.reads.fault.1, bound, start));
     lines = no_lines limit old out bound start r.reads.read r.reads.none;
   }
   ends_before stream.TooLong r = record {
-    read = r.reads.read; given = r.reads.given; whole = tt; all_read = tt; within = tt; sound = tt;
+    read = r.reads.read;
+    given = r.reads.given;
+    whole = tt;
+    all_read = tt;
+    within = tt;
+    sound = tt;
     bounded = omega (arith, r.reads.counted, r.reads.fault.1, bound, start);
     fault = (r.reads.fault.0, omega (arith, r.reads.counted, r.reads.fault.1, bound, start));
     lines = no_lines limit old out bound start r.reads.read r.reads.none;
   }
   ends_before (stream.Demo why) r = record {
-    read = r.reads.read; given = r.reads.given; whole = tt; all_read = tt; within = tt; sound = tt;
+    read = r.reads.read;
+    given = r.reads.given;
+    whole = tt;
+    all_read = tt;
+    within = tt;
+    sound = tt;
     bounded = omega (arith, r.reads.counted, r.reads.fault.1, bound, start);
-    fault = (r.reads.fault.0, omega (arith, r.reads.counted, r.reads.fault.1, bound, start),
-      taken_then (λ left. RefusesHeader left why) (λ left. RefusesDemo left why) source.left source.left [] (Consumes-nil source.left) (λ left h. RefusesDemo-header left why h) r.reads.fault.2);
+    fault = (
+      r.reads.fault.0,
+      omega (arith, r.reads.counted, r.reads.fault.1, bound, start),
+      taken_then (λ left. RefusesHeader left why) (λ left. RefusesDemo left why) source.left source.left [] (Consumes-nil source.left) (λ left h. RefusesDemo-header left why h) r.reads.fault.2,
+    );
     lines = no_lines limit old out bound start r.reads.read r.reads.none;
   }

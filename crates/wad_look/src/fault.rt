@@ -106,8 +106,14 @@ mod tests {
             (RunFault::Audit, "audit"),
             (RunFault::NoBlockMap, "no blockmap"),
             (RunFault::Demo(DemoFault::Empty), "demo 1"),
-            (RunFault::Demo(DemoFault::Version(108)), "demo 2 version 108"),
-            (RunFault::from(StreamFault::Demo(DemoFault::ShortHeader)), "demo 3"),
+            (
+                RunFault::Demo(DemoFault::Version(108)),
+                "demo 2 version 108",
+            ),
+            (
+                RunFault::from(StreamFault::Demo(DemoFault::ShortHeader)),
+                "demo 3",
+            ),
             (RunFault::Demo(DemoFault::NoPlayers), "demo 4"),
             (RunFault::Demo(DemoFault::NoMarker(21)), "demo 5 at 21"),
             (RunFault::from(StreamFault::Read), "read"),

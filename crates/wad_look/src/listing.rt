@@ -103,5 +103,9 @@ fn hex_digit(number: u8) -> u8
     requires { number < 16 }
     ensures { result ≡ hex_digit number }
 {
-    if number < 10 { b'0' + number } else { b'a' + number - 10 }
+    if number < 10 {
+        b'0' + number
+    } else {
+        b'a' + number - 10
+    }
 }

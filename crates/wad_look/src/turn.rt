@@ -27,7 +27,8 @@ impl Model for Turn {
 
     ghost view = { λ t. record { players = t.players; index = t.tic * t.count + t.seat } };
 
-    ghost invariant = { λ t. (t.seat < t.count) × (t.count ≤ 4) × (t.count ≡ players_in t.players) × (take t.count t.seats ≡ seats_from 1 t.players) };
+    ghost invariant = { λ t. (t.seat < t.count) × (t.count ≤ 4) × (t.count ≡ players_in t.players)
+        × (take t.count t.seats ≡ seats_from 1 t.players) };
 }
 
 impl Turn {

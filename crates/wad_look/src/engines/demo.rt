@@ -68,7 +68,9 @@ fn write_demo<W: Sink>(demo: &Demo<'_>, out: &mut W) -> Result<(), IoFault>
     emit(out, line.as_bytes())?;
     let mut turn = Turn::new(demo.header().players);
     'commands: for i in 0..demo.commands() {
-        let Some(command) = demo.command(i) else { break };
+        let Some(command) = demo.command(i) else {
+            break
+        };
         line.clear();
         put_command(&mut line, turn.tic(), turn.player(), &command);
         emit(out, line.as_bytes())?;

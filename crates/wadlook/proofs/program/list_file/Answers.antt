@@ -14,15 +14,15 @@ returns g c =
     let made = c.in-Ok-with_capacity.ensures in
     let remaining = g.D.File.Read.remaining in
     let whole : reader_remaining remaining c.in-Ok-with_capacity.buffer ≡ remaining c.in-Ok.file =
-        buffered_whole remaining c.in-Ok-with_capacity.buffer c.in-Ok.file made.capacity made.empty made.inner in
+    buffered_whole remaining c.in-Ok-with_capacity.buffer c.in-Ok.file made.capacity made.empty made.inner in
     let left : (file_source _ _ remaining c.new-demo.result).left ≡ remaining c.in-Ok.file = ap (reader_remaining remaining) c.new-demo.ensures.reader ∙ whole in
     let opened : Keeps (held (string_bytes {Z = Global} c.index-words-job.result)) (remaining c.in-Ok.file) =
-        subst (λ (p : List ℕ). Keeps (held p) (remaining c.in-Ok.file)) c.as_str.ensures.value c.in-Ok.ensures in
+    subst (λ (p : List ℕ). Keeps (held p) (remaining c.in-Ok.file)) c.as_str.ensures.value c.in-Ok.ensures in
     let j = c.requires.job in
     let long = length-map c.args.words.now (string_bytes {Z = Global}) in
     let named : file_in words c.args.job ≡ string_bytes {Z = Global} c.index-words-job.result =
-        get_or-map (string_bytes {Z = Global}) c.args.words.now c.args.job.first c.index-words-job.result [] (omega (arith, j.first, j.some_file, long))
-        ∙ ap (string_bytes {Z = Global}) (sym c.index-words-job.is) in
+    get_or-map (string_bytes {Z = Global}) c.args.words.now c.args.job.first c.index-words-job.result [] (omega (arith, j.first, j.some_file, long))
+    ∙ ap (string_bytes {Z = Global}) (sym c.index-words-job.is) in
     inr (record {
       job = c.args.job;
       asked = c.requires.job;

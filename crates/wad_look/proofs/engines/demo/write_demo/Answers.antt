@@ -60,9 +60,9 @@ returns g c =
     let i = c.commands.invariant in
     let d = c.args.demo.now in
     let past : drop c.commands.i d.commands ≡ [] = elim c.commands-test.branch [
-        else-commands-test w ↦ drop_of_length-le d.commands {i = c.commands.i} (omega (arith, c.commands-i-end.ensures.commands, w.commands-test.false))
+      | else-commands-test w ↦ drop_of_length-le d.commands {i = c.commands.i} (omega (arith, c.commands-i-end.ensures.commands, w.commands-test.false))
       | then-commands-test+in_default w ↦ drop_past d.commands c.commands.i (sym w.command.ensures ∙ w.in_default.is)
-      ] in
+    ] in
     let so_far = rw past at i.so_far in
     let w = rw (c.as_bytes-2.ensures, c.put_totals.ensures, c.full_tics.ensures, c.odd_commands-odd.ensures, c.after.ensures) at c.emit-2.ensures in
     SoFar-last _ so_far w

@@ -13,11 +13,7 @@ use test_alloc::Refusing;
 use wad_dir::Set;
 
 // A rectangle, the pairs of its census, and its tests and pending pieces, where a case names them.
-type Case = (
-    [i32; 4],
-    &'static [(u16, u32)],
-    Option<(u64, u32)>,
-);
+type Case = ([i32; 4], &'static [(u16, u32)], Option<(u64, u32)>);
 
 fn rect_of(rt: &impl Abort, bounds: [i32; 4]) -> Rect {
     let [x0, y0, x1, y1] = bounds;
@@ -208,11 +204,7 @@ fn small_rect(rt: &impl Abort, seed: u64) -> Rect {
 }
 
 // Compares the censuses of 400 rectangles of a level with plain counts.
-fn check_all_plain(
-    rt: &(impl Abort + AllocGlobal),
-    file: Vec<u8>,
-    first: u64,
-) -> Result<(), Fail> {
+fn check_all_plain(rt: &(impl Abort + AllocGlobal), file: Vec<u8>, first: u64) -> Result<(), Fail> {
     let files = vec![in rt.alloc(); file]?;
     let set = Set::new(rt.alloc(), &files)?;
     let level = Level::open(&set, Name8::query(b"E1M1"), Reading::Signed)?;
@@ -255,7 +247,10 @@ fn growth_refused(rt: HostRuntime) -> Result<(), Fail> {
     assert!(rt; is_sound(&level, &links, &found));
     let tree = Tree::of(&level);
     for n in 1..4 {
-        assert!(rt; is_refused(&rt, &Refusing::new(rt.alloc(), n), &tree), "growth {n}");
+        assert!(rt;
+            is_refused(&rt, &Refusing::new(rt.alloc(), n), &tree),
+            "growth {n}"
+        );
         assert!(rt; !is_refused(&rt, &Refusing::new(rt.alloc(), 0), &tree));
     }
     assert!(rt; !is_refused(&rt, &Refusing::new(rt.alloc(), 4), &tree));

@@ -38,7 +38,8 @@ fn answers(
 #[test]
 fn census_base(rt: HostRuntime) -> Result<(), Fail> {
     let input = b"-1 0 1 1\n0 0 0 0\n0 0 1023 1023\n0 0 1024 1023\n1 0 0 0\n";
-    let text = b"-1 0 1 1 points 6 0:2 1:4\n0 0 0 0 points 1 1:1\n0 0 1023 1023 points 1048576 0:1047552 1:1024\nrefused: range\nrefused: range\n";
+    let text =
+        b"-1 0 1 1 points 6 0:2 1:4\n0 0 0 0 points 1 1:1\n0 0 1023 1023 points 1048576 0:1047552 1:1024\nrefused: range\nrefused: range\n";
     answers(&rt, base(rt.alloc())?, input, text)
 }
 
@@ -68,6 +69,7 @@ fn census_forms(rt: HostRuntime) -> Result<(), Fail> {
 }
 
 const LINES: &[u8] = b"-1 0 1 1\n0 0 0 0\n";
+
 const TEXT: &[u8] = b"-1 0 1 1 points 6 0:2 1:4\n0 0 0 0 points 1 1:1\n";
 
 // Whether `census` met growth `n` refused; then it has written whole answers, or a front of them.
@@ -78,15 +80,7 @@ fn census_refused(rt: &(impl Abort + AllocGlobal), files: &[Vec<u8>], n: u64) ->
     let mut out = SliceSink::new(&mut room);
     let mut source = SliceSource::new(LINES);
     let reading = Reading::Signed;
-    let result = census_text(
-        &heap,
-        files,
-        b"E1M1",
-        reading,
-        &mut source,
-        LIMIT,
-        &mut out,
-    );
+    let result = census_text(&heap, files, b"E1M1", reading, &mut source, LIMIT, &mut out);
     if !heap.has_refused() {
         assert_eq!(rt; result, Ok(()));
         assert_eq!(rt; out.taken(), TEXT);

@@ -45,13 +45,16 @@ not_rect content [] values form are not = absurd (omega (arith, form.counted))
 not_rect content (a ∷ []) values form are not = absurd (omega (arith, form.counted))
 not_rect content (a ∷ b ∷ []) values form are not = absurd (omega (arith, form.counted))
 not_rect content (a ∷ b ∷ c ∷ []) values form are not = absurd (omega (arith, form.counted))
-not_rect content (a ∷ b ∷ c ∷ d ∷ []) values form are not =
-    (a ∷ b ∷ c ∷ d ∷ [], form, λ (rect : IsRect (rect_at a b c d)).
-        let a_is = coordinates_near.near a rect.columns.first_in in
-        let b_is = coordinates_near.near b rect.rows.first_in in
-        let c_is = coordinates_near.near c rect.columns.last_in in
-        let d_is = coordinates_near.near d rect.rows.last_in in
-        not (rw (are, a_is, b_is, c_is, d_is) rect))
+not_rect content (a ∷ b ∷ c ∷ d ∷ []) values form are not = (
+  a ∷ b ∷ c ∷ d ∷ [],
+  form,
+  λ (rect : IsRect (rect_at a b c d)).
+      let a_is = coordinates_near.near a rect.columns.first_in in
+      let b_is = coordinates_near.near b rect.rows.first_in in
+      let c_is = coordinates_near.near c rect.columns.last_in in
+      let d_is = coordinates_near.near d rect.rows.last_in in
+      not (rw (are, a_is, b_is, c_is, d_is) rect),
+)
 not_rect content (a ∷ b ∷ c ∷ d ∷ e ∷ more) values form are not = absurd (omega (arith, form.counted))
 
 -- the pairs from a place on

@@ -1,14 +1,17 @@
-//! Opening what a command is over. What takes memory is the set alone.
+//! Opening what a command is over. What takes memory is the set, and the audit of a level.
 
 ghost use Rattle.std.specs.Prelude.{◌≡◌, ◌≤◌, Err, IfErr, IfOk, IfSome, IfNone, length};
 ghost use Rattle.le_rec.specs.Name.{query_of};
 ghost use Rattle.map_level.specs.Opening.{IsLevel, RefusesLevel};
-ghost use Rattle.wad_look.specs.Opening.{AreRead, IsOpened, RefusesFiles, RefusesName, bytes_of};
+ghost use Rattle.map_tree.specs.Sound.{IsSound};
+ghost use Rattle.wad_look.specs.Opening.{AreRead, IsOpened, RefusesAudit, RefusesFiles, RefusesName, bytes_of};
 ghost use Rattle.wad_look.specs.declared.fault.RunFault.TheVariants as fault;
 
 use crate::fault::RunFault;
 use le_rec::Name8;
-use map_level::{Level, LevelFault, Reading};
+use map_audit::{Refused, accept};
+use map_level::{Level, Reading};
+use map_tree::Tree;
 use std::alloc::Allocator;
 use wad_dir::{Set, SetFault};
 
@@ -40,5 +43,20 @@ pub fn open_level<'a, A: Allocator>(
     match Level::open(&set, Name8::query(name), reading) {
         Ok(level) => Ok(level),
         Err(fault) => Err(RunFault::Level(fault)),
+    }
+}
+
+/// The tree of a level that is accepted.
+pub fn sound_tree<'l, 'a, A: Allocator + Copy>(
+    alloc: A,
+    level: &'l Level<'a>,
+) -> Result<Tree<'l, 'a>, RunFault>
+    ensures ok { IfOk result (λ tree. (tree ≡ level.now) × IsSound level.now) }
+    ensures err { IfErr result (RefusesAudit level.now) }
+{
+    match accept(alloc, level) {
+        Ok(tree) => Ok(tree),
+        Err(Refused::Faults(_report)) => Err(RunFault::Audit),
+        Err(Refused::Memory) => Err(RunFault::Memory),
     }
 }

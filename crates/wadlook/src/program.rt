@@ -71,7 +71,7 @@ fn list_file<D: Storage, O: Write + Drop>(
     requires lmp { job.command ≡ Lmp }
     ensures { IsRefused (D.held storage.now) (map string_bytes words.now) result
         ⊎ ListsFile (file_source D.File Global D.File.remaining) (tied_sink O)
-            (D.held storage.now) (map string_bytes words.now) result }
+        (D.held storage.now) (map string_bytes words.now) result }
 {
     let Ok(file) = storage.open(words[job.first].as_str()) else {
         return Err(Refusal::Unreadable(1));

@@ -6,17 +6,17 @@ ghost use Rattle.line_io.specs.NumberAnswers.{RefusesContent};
 ghost use Rattle.line_io.specs.Numbers.{HasForm};
 ghost use Rattle.line_io.specs.Writes.{Writes};
 ghost use Rattle.map_geo.specs.Rect.{IsRect};
-ghost use Rattle.map_tree.specs.Sound.{IsSound};
 ghost use Rattle.wad_look.specs.Engines.Census.{AreRect, RunsCensus, TellsCensus, count_text, counts_text, rect_text};
-ghost use Rattle.wad_look.specs.Opening.{RefusesAudit, bytes_of};
+ghost use Rattle.wad_look.specs.Opening.{bytes_of};
 
-use crate::fault::RunFault;
-use crate::opening::open_level;
+use crate::fault::{RunFault, ended};
+use crate::opening::{open_level, sound_tree};
 use le_rec::{Sink, Source};
-use line_io::{IoFault, LIMIT, LineCommand, LineRefusal, TextLine, answer_lines, emit, read_numbers};
-use map_audit::{Refused, accept};
+use line_io::{
+    IoFault, LIMIT, LineCommand, LineRefusal, TextLine, answer_lines, emit, read_numbers,
+};
 use map_geo::Rect;
-use map_level::{Level, Reading};
+use map_level::Reading;
 use map_tree::{Counts, Tree, points_in};
 use std::alloc::Allocator;
 
@@ -81,7 +81,9 @@ fn write_pairs<A: Allocator, W: Sink>(counts: &Counts<A>, out: &mut W) -> Result
     ensures { Writes (W.state out.old) (W.state out.new) (flat_map count_text counts.now.pairs) result }
 {
     'pairs: for i in 0..counts.len() {
-        let Some((sector, count)) = counts.get(i) else { break };
+        let Some((sector, count)) = counts.get(i) else {
+            break
+        };
         write_count(sector, count, out)?;
     }
     Ok(())
@@ -141,23 +143,5 @@ pub fn census_text<A: Allocator + Copy, S: Source, W: Sink>(
 {
     let level = open_level(alloc, files, name, reading)?;
     let tree = sound_tree(alloc, &level)?;
-    match answer_lines(&CensusCommand { tree, alloc }, input, limit, out) {
-        Ok(()) => Ok(()),
-        Err(fault) => Err(RunFault::from(fault)),
-    }
-}
-
-// The tree of the level.
-fn sound_tree<'l, 'a, A: Allocator + Copy>(
-    alloc: A,
-    level: &'l Level<'a>,
-) -> Result<Tree<'l, 'a>, RunFault>
-    ensures ok { IfOk result (λ tree. (tree ≡ level.now) × IsSound level.now) }
-    ensures err { IfErr result (RefusesAudit level.now) }
-{
-    match accept(alloc, level) {
-        Ok(tree) => Ok(tree),
-        Err(Refused::Faults(_report)) => Err(RunFault::Audit),
-        Err(Refused::Memory) => Err(RunFault::Memory),
-    }
+    ended(answer_lines(&CensusCommand { tree, alloc }, input, limit, out))
 }

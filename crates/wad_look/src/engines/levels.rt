@@ -13,7 +13,7 @@ ghost use Rattle.wad_look.specs.Engines.Levels.{RunsLevels, level_line, levels_t
 ghost use Rattle.wad_look.specs.Opening.{bytes_of};
 
 use crate::engines::lumps::put_name;
-use crate::fault::RunFault;
+use crate::fault::{RunFault, ended};
 use crate::opening::open_set;
 use le_rec::{Name8, Sink};
 use line_io::{IoFault, TextLine, emit};
@@ -48,10 +48,7 @@ pub fn levels<A: Allocator + Copy, W: Sink>(
         Ok(found) => found,
         Err(_) => return Err(RunFault::Memory),
     };
-    match write_levels(&found, out) {
-        Ok(()) => Ok(()),
-        Err(fault) => Err(RunFault::from(fault)),
-    }
+    ended(write_levels(&found, out))
 }
 
 // The levels of the files.

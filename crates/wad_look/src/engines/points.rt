@@ -9,10 +9,9 @@ ghost use Rattle.wad_look.specs.Opening.{RefusesAudit, bytes_of};
 
 use crate::contents::read_point;
 use crate::fault::{RunFault, ended};
-use crate::opening::open_level;
+use crate::opening::{open_level, sound_tree};
 use le_rec::{Sink, Source};
 use line_io::{IoFault, LIMIT, LineCommand, TextLine, answer_lines, emit};
-use map_audit::{Refused, accept};
 use map_geo::Point;
 use map_level::{Level, Reading};
 use map_tree::Tree;
@@ -134,11 +133,7 @@ fn site<'l, 'a, A: Allocator + Copy>(
     ensures ok { IfOk result (λ sited. (sited ≡ level.now) × IsSound level.now) }
     ensures err { IfErr result (RefusesAudit level.now) }
 {
-    let tree = match accept(alloc, level) {
-        Ok(tree) => tree,
-        Err(Refused::Faults(_report)) => return Err(RunFault::Audit),
-        Err(Refused::Memory) => return Err(RunFault::Memory),
-    };
+    let tree = sound_tree(alloc, level)?;
     match ssector_sectors(alloc, level) {
         Ok(sectors) => Ok(Sited { tree, sectors }),
         Err(_) => Err(RunFault::Memory),

@@ -25,4 +25,4 @@ returns g c =
     let pairs = flat_map count_text c.args.counts.now.pairs in
     rw (rect_text-before c.args.rect (pairs ++ (10 ∷ [])))
     (Writes-then (state c.args.out.now) (state c.write_rect.new.out) (state c.emit.new.out) (rect_text c.args.rect []) c.emit.result c.in_ok-write_rect.ensures.takes.whole
-        (Writes-then (state c.write_rect.new.out) (state c.write_pairs.new.out) (state c.emit.new.out) pairs c.emit.result c.in_ok-write_pairs.ensures.takes.whole c.emit.ensures))
+    (Writes-then (state c.write_rect.new.out) (state c.write_pairs.new.out) (state c.emit.new.out) pairs c.emit.result c.in_ok-write_pairs.ensures.takes.whole c.emit.ensures))

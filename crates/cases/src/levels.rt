@@ -58,7 +58,7 @@ fn lumps_missing(rt: HostRuntime) -> Result<(), Fail> {
     Ok(())
 }
 
-// The sample level's file with filepos -1 in the entry NODES.
+/// The sample level's file with filepos -1 in the entry NODES.
 pub fn nodes_outside(rt: &(impl Abort + AllocGlobal)) -> Result<Vec<u8>, Fail> {
     let mut file = base(rt.alloc())?;
     assert_eq!(rt; file.len(), 409);

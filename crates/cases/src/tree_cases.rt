@@ -14,7 +14,7 @@ use wad_dir::Set;
 // The sample level's partition.
 pub const BASE: [i16; 4] = [0, 0, 0, 64];
 
-// A node of these first four fields and children.
+/// A node of these first four fields and children.
 pub fn node(line: [i16; 4], children: [u16; 2]) -> Node {
     let [x, y, dx, dy] = line;
     let [child0, child1] = children;
@@ -30,7 +30,7 @@ pub fn node(line: [i16; 4], children: [u16; 2]) -> Node {
     }
 }
 
-// The bytes of nodes.
+/// The bytes of nodes.
 pub fn nodes(alloc: Global, all: &[Node]) -> Result<Vec<u8>, Fail> {
     let mut lump = Vec::new(alloc);
     for node in all {
@@ -41,7 +41,7 @@ pub fn nodes(alloc: Global, all: &[Node]) -> Result<Vec<u8>, Fail> {
     Ok(lump)
 }
 
-// The bytes of so many ssectors (1, 0).
+/// The bytes of so many ssectors (1, 0).
 pub fn ssectors(alloc: Global, count: usize) -> Result<Vec<u8>, Fail> {
     let mut lump = Vec::new(alloc);
     for _ in 0..count {

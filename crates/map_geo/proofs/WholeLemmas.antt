@@ -1,5 +1,5 @@
 -- Two sides that agree, and the rectangle that they decide.
-use Rattle.std.proofs.Common.{◌≡◌, ◌↔◌, Option, Some, None, IsNone, IfSome, rules, refl, arith}
+use Rattle.std.proofs.Common.{◌≡◌, ◌↔◌, ◌&&◌, Option, Some, None, IsNone, IfSome, rules, refl, arith}
 use Rattle.std.proofs.lemmas.Int.{ints}
 use Rattle.std.specs.Bool.{then_some}
 use denote.Enum.Bare.{sameb}
@@ -10,12 +10,17 @@ use Rattle.map_geo.specs.Partition.{Partition}
 use Rattle.map_geo.specs.Rect.{Rect, IsRect, AreCornersOn, IsWholeSide}
 use Rattle.map_geo.proofs.AlongLemmas.{sides_by_corners}
 
--- what the code's `(a == b).then_some(a)` gives
-pub some_of_both : (a b s : Side) → (then_some (sameb the_type a b) a ≡ Some s) ↔ (a ≡ s) × (b ≡ s)
-some_of_both Front Front s = (λ h. (cc, cc), λ h. cc)
-some_of_both Front Back s = (λ h. cc, λ h. cc)
-some_of_both Back Front s = (λ h. cc, λ h. cc)
-some_of_both Back Back s = (λ h. (cc, cc), λ h. cc)
+-- what the code's `(a == b & a == c & a == d).then_some(a)` gives
+pub some_of_four : (a b c d s : Side)
+    → (then_some (sameb the_type a b && sameb the_type a c && sameb the_type a d) a ≡ Some s) ↔ (a ≡ s) × (b ≡ s) × (c ≡ s) × (d ≡ s)
+some_of_four Front Front Front Front s = (λ h. (cc, cc, cc, cc), λ h. cc)
+some_of_four Front Front Front Back s = (λ h. cc, λ h. cc)
+some_of_four Front Front Back d s = (λ h. cc, λ h. cc)
+some_of_four Front Back c d s = (λ h. cc, λ h. cc)
+some_of_four Back Back Back Back s = (λ h. (cc, cc, cc, cc), λ h. cc)
+some_of_four Back Back Back Front s = (λ h. cc, λ h. cc)
+some_of_four Back Back Front d s = (λ h. cc, λ h. cc)
+some_of_four Back Front c d s = (λ h. cc, λ h. cc)
 
 none_or_some : (answer : Option Side) → ((s : Side) → ¬ (answer ≡ Some s)) ↔ IsNone answer
 none_or_some None = (λ h. refl, λ e s f. cc)

@@ -1,9 +1,10 @@
 //! Partitions of nodes, and on which side of one a point lies.
 
-ghost use Rattle.std.specs.Prelude.{◌≡◌, ◌↔◌, IsSome, IfSome, ◌*ℤ◌, ◌-ℤ◌, ◌≤◌, unsigned_abs};
+ghost use Rattle.std.specs.Prelude.{◌≡◌, ◌↔◌, pos, IsSome, IfSome, ◌*ℤ◌, ◌-ℤ◌, ◌≤◌, unsigned_abs};
+ghost use Rattle.std.specs.Ordering.{int_cmp};
 ghost use Rattle.map_geo.specs.Point.{IsInRange};
 ghost use Rattle.map_geo.specs.Partition.{IsStep, partition_of};
-ghost use Rattle.map_geo.specs.Side.{cross, is_origin, side_on_line, side_of};
+ghost use Rattle.map_geo.specs.Side.{cross, is_origin, side_of_tie, side_of};
 
 use crate::point::{Point, is_in_range};
 use crate::sides::Side;
@@ -69,23 +70,6 @@ impl Partition {
         product(self.dy, self.x, point.x()) - product(self.dx, self.y, point.y())
     }
 
-    // The side of a point of the line itself, where the cross product is 0.
-    #[cold]
-    fn side_on_line(self, point: Point) -> Side
-        ensures { result ≡ side_on_line self point }
-    {
-        match (self.dx.cmp(&0), self.dy.cmp(&0)) {
-            (Ordering::Equal, Ordering::Greater) => Side::Back,
-            (Ordering::Equal, _) => Side::Front,
-            (Ordering::Less, Ordering::Equal) => Side::Back,
-            (Ordering::Greater, Ordering::Equal) => Side::Front,
-            (Ordering::Less, Ordering::Greater) if self.is_origin(point) => Side::Front,
-            (Ordering::Less, Ordering::Greater) => Side::Back,
-            (Ordering::Less, Ordering::Less) => Side::Back,
-            (Ordering::Greater, _) => Side::Back,
-        }
-    }
-
     fn is_origin(self, point: Point) -> bool
         ensures { result ≡ is_origin self point }
     {
@@ -105,6 +89,23 @@ fn product(step: i32, from: i32, to: i32) -> i32
     step * (to - from)
 }
 
+// The side of a point of the line itself, where the cross product is 0.
+#[cold]
+fn side_of_tie(dx: i32, dy: i32, at_origin: bool) -> Side
+    ensures { result ≡ side_of_tie (int_cmp dx (pos 0)) (int_cmp dy (pos 0)) at_origin }
+{
+    match (dx.cmp(&0), dy.cmp(&0)) {
+        (Ordering::Equal, Ordering::Greater) => Side::Back,
+        (Ordering::Equal, _) => Side::Front,
+        (Ordering::Less, Ordering::Equal) => Side::Back,
+        (Ordering::Greater, Ordering::Equal) => Side::Front,
+        (Ordering::Less, Ordering::Greater) if at_origin => Side::Front,
+        (Ordering::Less, Ordering::Greater) => Side::Back,
+        (Ordering::Less, Ordering::Less) => Side::Back,
+        (Ordering::Greater, _) => Side::Back,
+    }
+}
+
 /// The side of the partition on which the point lies, as R_PointOnSide of linuxdoom 1.10 gives it
 /// for whole map units.
 #[inline]
@@ -113,7 +114,7 @@ pub fn side(point: Point, partition: Partition) -> Side
 {
     let c = partition.cross(point);
     if c == 0 {
-        return partition.side_on_line(point);
+        return side_of_tie(partition.dx, partition.dy, partition.is_origin(point));
     }
     // Either side is as likely, so that this is to be chosen and not branched on.
     if c < 0 { Side::Back } else { Side::Front }

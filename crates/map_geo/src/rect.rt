@@ -158,20 +158,17 @@ fn corner_side(rect: Rect, partition: Partition) -> Option<Side>
     ensures corners { (s : Side) → (result ≡ Some s) ↔ AreCornersOn rect partition s }
     ensures valid { IsRect rect }
 {
-    let low = row_side(rect, rect.y0(), partition)?;
-    let high = row_side(rect, rect.y1(), partition)?;
-    (low == high).then_some(low)
+    let low_left = side(Point::at(rect.x0(), rect.y0()), partition);
+    let low_right = side(Point::at(rect.x1(), rect.y0()), partition);
+    let high_left = side(Point::at(rect.x0(), rect.y1()), partition);
+    let high_right = side(Point::at(rect.x1(), rect.y1()), partition);
+    one_side(low_left, low_right, high_left, high_right)
 }
 
-// The side that both ends of a row of the rectangle have.
+// The side that all four are. Which of them differ can't be told ahead, so nothing is branched on.
 #[inline]
-fn row_side(rect: Rect, y: i32, partition: Partition) -> Option<Side>
-    requires { IsInRange y }
-    ensures { (s : Side) → (result ≡ Some s)
-        ↔ (side_of partition (point_at rect.x0 y) ≡ s)
-        × (side_of partition (point_at rect.x1 y) ≡ s) }
+fn one_side(a: Side, b: Side, c: Side, d: Side) -> Option<Side>
+    ensures { (s : Side) → (result ≡ Some s) ↔ (a ≡ s) × (b ≡ s) × (c ≡ s) × (d ≡ s) }
 {
-    let left = side(Point::at(rect.x0(), y), partition);
-    let right = side(Point::at(rect.x1(), y), partition);
-    (left == right).then_some(left)
+    ((a == b) & (a == c) & (a == d)).then_some(a)
 }

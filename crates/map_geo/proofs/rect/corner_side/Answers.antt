@@ -1,32 +1,30 @@
-use Rattle.std.proofs.Common.{FitsSigned, w32, Some, ◌∙◌, ap, rules}
+use Rattle.std.proofs.Common.{FitsSigned, w32, rules, ap, sym, ◌∙◌}
 use Rattle.std.proofs.lemmas.Int.{to_z-of_z}
-use Rattle.map_geo.proofs.WholeLemmas.{some_of_both}
+use Rattle.map_geo.specs.Side.{side_of}
 use Rattle.map_geo.proofs.rect.corner_side.Goals as goal
-
-pub returns-in_err-low-clause-corners : goal.returns-in_err-low-clause-corners
-returns-in_err-low-clause-corners c = λ s.
-    let y0 : FitsSigned w32 c.y0.result = search rules in
-    let low = rw c.y0.ensures.value at (simp to_z-of_z at c.in_err-low.ensures) in
-    (λ e. cc, λ h. c.from_residual.ensures ∙ (low s).1 (h.low_left, h.low_right))
-
-pub returns-in_err-high-clause-corners : goal.returns-in_err-high-clause-corners
-returns-in_err-high-clause-corners c = λ s.
-    let y1 : FitsSigned w32 c.y1.result = search rules in
-    let high = rw c.y1.ensures.value at (simp to_z-of_z at c.in_err-high.ensures) in
-    (λ e. cc, λ h. c.from_residual-in_err-high.ensures ∙ (high s).1 (h.high_left, h.high_right))
 
 pub returns-clause-corners : goal.returns-clause-corners
 returns-clause-corners c = λ s.
+    let x0 : FitsSigned w32 c.x0.result = search rules in
+    let x1 : FitsSigned w32 c.x1.result = search rules in
+    let x0' : FitsSigned w32 c.x0-2.result = search rules in
+    let x1' : FitsSigned w32 c.x1-2.result = search rules in
     let y0 : FitsSigned w32 c.y0.result = search rules in
+    let y0' : FitsSigned w32 c.y0-2.result = search rules in
     let y1 : FitsSigned w32 c.y1.result = search rules in
-    let low = rw c.y0.ensures.value at (simp to_z-of_z at c.in_ok-low.ensures) in
-    let high = rw c.y1.ensures.value at (simp to_z-of_z at c.in_ok-high.ensures) in
-    let both = some_of_both c.in_ok-low.low c.in_ok-high.high s in
-    rw (c.then_some.ensures, c.eq.ensures) (
-      λ e. let p = (low s).0 (ap Some (both.0 e).0) in
-          let q = (high s).0 (ap Some (both.0 e).1) in
-          record { low_left = p.0; low_right = p.1; high_left = q.0; high_right = q.1 },
-      λ h. let p = (low s).1 (h.low_left, h.low_right) in
-          let q = (high s).1 (h.high_left, h.high_right) in
-          both.1 (cc, cc),
+    let y1' : FitsSigned w32 c.y1-2.result = search rules in
+    let side_at = side_of c.args.partition in
+    let low_left = c.side-low_left.ensures ∙ ap side_at (rw (c.x0.ensures.value, c.y0.ensures.value) at (simp to_z-of_z at c.at.ensures)) in
+    let low_right = c.side-low_right.ensures ∙ ap side_at (rw (c.x1.ensures.value, c.y0-2.ensures.value) at (simp to_z-of_z at c.at-2.ensures)) in
+    let high_left = c.side-high_left.ensures ∙ ap side_at (rw (c.x0-2.ensures.value, c.y1.ensures.value) at (simp to_z-of_z at c.at-3.ensures)) in
+    let high_right = c.side-high_right.ensures ∙ ap side_at (rw (c.x1-2.ensures.value, c.y1-2.ensures.value) at (simp to_z-of_z at c.at-4.ensures)) in
+    let four = c.one_side.ensures s in (
+      λ e. let h = four.0 e in
+          record {
+            low_left = sym low_left ∙ h.0;
+            low_right = sym low_right ∙ h.1;
+            high_left = sym high_left ∙ h.2;
+            high_right = sym high_right ∙ h.3;
+          },
+      λ h. four.1 (low_left ∙ h.low_left, low_right ∙ h.low_right, high_left ∙ h.high_left, high_right ∙ h.high_right),
     )

@@ -246,13 +246,13 @@ fn growth_refused(rt: HostRuntime) -> Result<(), Fail> {
     let found = tree_findings(rt.alloc(), &level)?;
     assert!(rt; is_sound(&level, &links, &found));
     let tree = Tree::of(&level);
-    for n in 1..4 {
+    for n in 1..5 {
         assert!(rt;
             is_refused(&rt, &Refusing::new(rt.alloc(), n), &tree),
             "growth {n}"
         );
         assert!(rt; !is_refused(&rt, &Refusing::new(rt.alloc(), 0), &tree));
     }
-    assert!(rt; !is_refused(&rt, &Refusing::new(rt.alloc(), 4), &tree));
+    assert!(rt; !is_refused(&rt, &Refusing::new(rt.alloc(), 5), &tree));
     Ok(())
 }

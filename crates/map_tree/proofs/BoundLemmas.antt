@@ -13,7 +13,7 @@ use Rattle.map_geo.specs.Rect.{Rect}
 use Rattle.map_level.specs.Level.{Level}
 use Rattle.map_tree.specs.Paths.{Place, node}
 use Rattle.map_tree.specs.Child.{node_count, child}
-use Rattle.map_tree.specs.Sizes.{AreSizes}
+use Rattle.map_tree.proofs.Sizes.{AreSizes}
 use Rattle.map_tree.specs.PlainCount.{rows_of}
 use Rattle.map_tree.specs.Cuts.{other, Halvings, beside, in_right, in_left, IsMiddle, IsMiddleRow, rows_to, rows_above, columns_to, columns_right}
 use Rattle.map_tree.specs.Work.{partition_at, Work, at_ssector, to_child, by_rows, in_row}

@@ -21,7 +21,7 @@ use Rattle.map_tree.specs.declared.pieces.Piece.{Piece}
 use Rattle.map_tree.specs.Paths.{Place, node, ssector}
 use Rattle.map_tree.specs.Child.{node_count, place_of, word_at, has, side_at, root}
 use Rattle.map_tree.specs.Sound.{IsTree, IsSound}
-use Rattle.map_tree.specs.Sizes.{size_of, AreSizes, Falls, there, down}
+use Rattle.map_tree.proofs.Sizes.{size_of, AreSizes, Falls, there, down}
 use Rattle.map_tree.specs.PlainCount.{TellsSectors, one_at, rows_of, columns_of, points_in, plain_count}
 use Rattle.map_tree.specs.Cuts.{other, IsCut, IsLast, Halvings, IsMiddleRow, rows_to, rows_above, columns_to, columns_right}
 use Rattle.map_tree.specs.Work.{partition_at, Work, at_ssector, to_child, by_rows, in_row}

@@ -15,7 +15,7 @@ use Rattle.map_tree.specs.Leaf.{IsLeaf, CountsAncestors}
 use Rattle.map_tree.proofs.ChainLemmas.{go_on}
 use Rattle.map_tree.specs.Child.{node_count, child, root}
 use Rattle.map_tree.specs.Laws.{OneLeaf, AncestorsByDepth, DepthAtMostNodes, SoundIsFaultless, OneWork, FewTests, FewPending, SectorsAreTold, CountsAddUp, OneCounting}
-use Rattle.map_tree.specs.Sizes.{size_of}
+use Rattle.map_tree.proofs.Sizes.{size_of}
 use Rattle.map_tree.proofs.WorkLemmas.{Work-once}
 use Rattle.map_tree.proofs.HeldLemmas.{area_from_rect, sized-from_sound}
 use Rattle.map_tree.proofs.TurnLemmas.{work_few_tests, work_few_pending}

@@ -4,6 +4,8 @@ pub mod SoundLemmas
 pub mod ReachLemmas
 pub mod LeafLemmas
 pub mod DescentLemmas
+pub mod SectorListLemmas
+pub mod Sizes
 pub mod SizeLemmas
 pub mod FaultLemmas
 pub mod LawLemmas

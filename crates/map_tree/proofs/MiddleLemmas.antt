@@ -1,55 +1,35 @@
 -- The middle of two numbers, and what fits.
-use Rattle.std.proofs.Common.{ℤ, pos, negsuc, ◌+ℤ◌, ◌-ℤ◌, ◌≤ℤ◌, ◌<ℤ◌, ◌≡◌, FitsSigned, to_z, of_z, w32, arith}
+use Rattle.std.proofs.Common.{ℤ, pos, negsuc, ◌+ℤ◌, ◌≤ℤ◌, ◌<ℤ◌, ◌≡◌, FitsSigned, to_z, of_z, w32, refl, arith}
 use Rattle.std.proofs.lemmas.Int.{ints, to_z-of_z}
-use Rattle.std.specs.Prelude.{int_div}
+use Rattle.std.specs.Int.Signed.{shr_z}
 use Rattle.map_geo.specs.Point.{IsInRange}
 use Rattle.map_tree.specs.Cuts.{IsMiddle}
 
-pub half_of : (d : ℤ) → pos 0 ≤ℤ d → IsMiddle (int_div d (pos 2)) d (pos 0)
-half_of (pos n) h = record { lower = omega (arith, ints); upper = omega (arith, ints) }
-half_of (negsuc n) h = absurd (omega (arith, ints))
+half_of : (low high sum : ℤ) → sum ≡ low +ℤ high → IsMiddle (shr_z sum 2) low high
+half_of low high (pos n) e = record { lower = omega (arith, ints, e); upper = omega (arith, ints, e) }
+half_of low high (negsuc n) e = record { lower = omega (arith, ints, e); upper = omega (arith, ints, e) }
 
-module _ (low high : ℤ) (low_in : IsInRange low) (high_in : IsInRange high) (ordered : low ≤ℤ high) where
-  pub half : IsMiddle (int_div (high -ℤ low) (pos 2)) (high -ℤ low) (pos 0)
-  half = half_of (high -ℤ low) (omega (arith, ints))
+module _ (low high : ℤ) (low_in : IsInRange low) (high_in : IsInRange high) where
+  pub middle_is : IsMiddle (shr_z (low +ℤ high) 2) low high
+  middle_is = half_of low high (low +ℤ high) refl
 
-  pub middle_is : IsMiddle (low +ℤ int_div (high -ℤ low) (pos 2)) low high
-  middle_is =
-      let lower = half.lower in
-      let upper = half.upper in
-      record { lower = omega (arith, ints); upper = omega (arith, ints) }
+  pub middle_in : IsInRange (shr_z (low +ℤ high) 2)
+  middle_in = record {
+    least = omega (arith, ints, middle_is.lower, middle_is.upper, low_in.least, high_in.least);
+    greatest = omega (arith, ints, middle_is.lower, middle_is.upper, low_in.greatest, high_in.greatest);
+  }
 
-  pub middle_in : IsInRange (low +ℤ int_div (high -ℤ low) (pos 2))
-  middle_in =
-      let lower = half.lower in
-      let upper = half.upper in
-      let least = low_in.least in
-      let greatest = high_in.greatest in
-      record { least = omega (arith, ints); greatest = omega (arith, ints) }
+  sum_fits : FitsSigned w32 (low +ℤ high)
+  sum_fits = omega (arith, ints, low_in.least, low_in.greatest, high_in.least, high_in.greatest)
 
-  difference_fits : FitsSigned w32 (high -ℤ low)
-  difference_fits = omega (arith, ints, low_in.least, high_in.greatest)
-
-  half_fits : FitsSigned w32 (int_div (high -ℤ low) (pos 2))
-  half_fits = omega (arith, ints, half.lower, half.upper, low_in.least, high_in.greatest)
-
-  pub middle_fits : FitsSigned w32 (low +ℤ int_div (high -ℤ low) (pos 2))
+  middle_fits : FitsSigned w32 (shr_z (low +ℤ high) 2)
   middle_fits = omega (arith, ints, middle_in.least, middle_in.greatest)
 
-  pub middle_inner_fits : FitsSigned w32 (to_z w32 (of_z w32 low) +ℤ to_z w32 (of_z w32 (int_div (to_z w32 (of_z w32 (to_z w32 (of_z w32 high) -ℤ to_z w32 (of_z w32 low)))) (pos 2))))
-  middle_inner_fits =
-      let low_fits : FitsSigned w32 low = omega (arith, ints, low_in.least, low_in.greatest) in
-      let high_fits : FitsSigned w32 high = omega (arith, ints, high_in.least, high_in.greatest) in
-      let d = difference_fits in
-      let h = half_fits in
-      simp to_z-of_z middle_fits
-
-  pub middle_read : to_z w32 (of_z w32 (to_z w32 (of_z w32 low) +ℤ to_z w32 (of_z w32 (int_div (to_z w32 (of_z w32 (to_z w32 (of_z w32 high) -ℤ to_z w32 (of_z w32 low)))) (pos 2))))) ≡ low +ℤ int_div (high -ℤ low) (pos 2)
+  pub middle_read : to_z w32 (of_z w32 (shr_z (to_z w32 (of_z w32 (to_z w32 (of_z w32 low) +ℤ to_z w32 (of_z w32 high)))) 2)) ≡ shr_z (low +ℤ high) 2
   middle_read =
       let low_fits : FitsSigned w32 low = omega (arith, ints, low_in.least, low_in.greatest) in
       let high_fits : FitsSigned w32 high = omega (arith, ints, high_in.least, high_in.greatest) in
-      let d = difference_fits in
-      let h = half_fits in
+      let s = sum_fits in
       let m = middle_fits in
       simp to_z-of_z
 

@@ -9,7 +9,7 @@ use Rattle.map_level.specs.Level.{Level}
 use Rattle.map_tree.specs.Paths.{Place, node, ssector, Leads}
 use Rattle.map_tree.specs.Child.{node_count, has, child, root}
 use Rattle.map_tree.specs.Leaf.{IsLeaf}
-use Rattle.map_tree.specs.Sizes.{size_in, size_of, AreSizes, Falls, there, down}
+use Rattle.map_tree.proofs.Sizes.{size_in, size_of, AreSizes, Falls, there, down}
 use Rattle.map_tree.specs.Sound.{IsTree, IsSound}
 use Rattle.map_tree.proofs.ChainLemmas.{Turn, go, Mem, Apart, nodes_of, pigeons, Chain, go_on}
 use Rattle.map_tree.proofs.TreeLemmas.{chain_once, chain_apart, node_deep, not_above}

@@ -1,7 +1,8 @@
 -- One turn of a census's loop.
-use Rattle.std.proofs.Common.{ℕ, suc, ◌+◌, ◌*◌, ◌-◌, ◌<◌, ◌≤◌, max, ◌≡◌, inl, inr, refl, sym, ◌∙◌, subst, List, [], ◌∷◌, ◌++◌, reverse, length, get_or, set, Fits, w32, w64, Option, Some, None, IsTrue, arith}
+use Rattle.std.proofs.Common.{ℕ, suc, ◌+◌, ◌*◌, ◌-◌, ◌<◌, ◌≤◌, max, ◌≡◌, inl, inr, refl, sym, ap, ◌∙◌, subst, List, [], ◌∷◌, ◌++◌, reverse, length, get_or, set, Fits, w16, w32, w64, Option, Some, None, IsTrue, arith}
 use Rattle.std.specs.Prelude.{IsSomeAnd, slice_index}
 use Rattle.std.specs.List.{sum, sum_by, slice_get, Contains}
+use Rattle.std.proofs.Math.Facts.{Fits-lt-pow}
 use Rattle.std.proofs.Math.Nat.{mul-le-mul_left}
 use Rattle.std.proofs.lemmas.List.{reverse-append}
 use Rattle.std.proofs.lemmas.Bool.{ltb-true}
@@ -16,12 +17,14 @@ use Rattle.map_tree.specs.declared.pieces.Halves.{Halves}
 use Rattle.map_tree.specs.Paths.{Place}
 use Rattle.map_tree.specs.Child.{node_count, ssector_count, has, root}
 use Rattle.map_tree.specs.PlainCount.{rows_of}
-use Rattle.map_tree.specs.Sizes.{size_of}
+use Rattle.map_tree.specs.SectorList.{ListsSectors}
+use Rattle.map_tree.proofs.Sizes.{size_of}
 use Rattle.map_tree.specs.Sound.{IsSound}
 use Rattle.map_tree.specs.Counts.{ArePairs, IsCensus}
 use Rattle.map_tree.specs.Steps.{IsWord, IsTally, IsDown, IsApart}
 use Rattle.map_tree.specs.Work.{Work}
 use Rattle.map_tree.proofs.DescentLemmas.{place_below}
+use Rattle.map_tree.proofs.SectorListLemmas.{listed_sector}
 use Rattle.map_tree.proofs.BoundLemmas.{most_tests, tests-most, depth-most}
 use Rattle.map_tree.proofs.CountLemmas.{area_fits, rows_few}
 use Rattle.map_tree.proofs.HeldLemmas.{IsSized, sized-from_sound, area_from_rect, ssector_place, Held, Held-down, Held-rows, Held-row, Held-leaf, measure, less-down, less-rows, less-row, area}
@@ -98,6 +101,15 @@ module _ (level : Level) (size : Place → ℕ) (rect : Rect) (sized : IsSized l
   module _ (p : Piece) (rest : List Piece) (counts : List ℕ) (tests most : ℕ) (held : Held level size rect (p ∷ rest) counts tests most) where
     pub ssector_in : 32768 ≤ p.word → p.word - 32768 < ssector_count level
     ssector_in above = ltb-true (p.word - 32768) (ssector_count level) (subst (λ q. IsTrue (has level q)) (ssector_place p.word above) held.good.0.is_there)
+
+    -- the sector of the ssector, as listed, has its number in the counts
+    pub sector_in : (start sectors : List ℕ) (t k : ℕ) → ((u s : ℕ) → sector_of level u ≡ Some s → s < 65536 → s < length start) → length counts ≡ length start
+        → ListsSectors level sectors → ((u : ℕ) → Fits w16 (get_or sectors u 0)) → 32768 ≤ p.word → t ≡ p.word - 32768 → k ≡ get_or sectors t 0
+        → (sector_of level (p.word - 32768) ≡ Some k) × (k < length counts)
+    sector_in start sectors t k within long lists fit above t_is at =
+        let sector_is = listed_sector level sectors (p.word - 32768) 0 k lists (ssector_in above) (at ∙ ap (λ n. get_or sectors n 0) t_is) in
+        let small : k < 65536 = rw at (Fits-lt-pow (fit t)) in
+        (sector_is, rw long (within _ k sector_is small))
 
     pub node_there : p.word < 32768 → p.word < node_count level
     node_there below = ltb-true p.word (node_count level) (subst (λ q. IsTrue (has level q)) (place_below p.word below) held.good.0.is_there)

@@ -3,7 +3,7 @@ pub mod Child
 pub mod TreeFaults
 pub mod Sound
 pub mod Leaf
-pub mod Sizes
+pub mod SectorList
 pub mod Cuts
 pub mod Work
 pub mod PlainCount

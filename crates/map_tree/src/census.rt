@@ -5,6 +5,7 @@ ghost use Rattle.std.specs.Prelude.{IfOk, IfSome, Some, None};
 ghost use Rattle.map_geo.specs.Rect.{IsRect};
 ghost use Rattle.map_level.specs.SectorOf.{sector_of};
 ghost use Rattle.map_tree.specs.Child.{place_of, root};
+ghost use Rattle.map_tree.specs.SectorList.{ListsSectors};
 ghost use Rattle.map_tree.specs.Sound.{IsSound};
 ghost use Rattle.map_tree.specs.Counts.{IsCensus};
 ghost use Rattle.map_tree.specs.Steps.{IsTally};
@@ -12,6 +13,7 @@ ghost use Rattle.map_tree.specs.Steps.{IsTally};
 use crate::counts::{Counts, pairs};
 use crate::cut::step;
 use crate::pieces::{Piece, Step};
+use crate::sector_tree::SectorTree;
 use crate::tree::{Tree, root_word};
 use map_geo::Rect;
 use map_level::Level;
@@ -20,7 +22,18 @@ use std::alloc::{AllocError, Allocator};
 // How many sectors the sector number of a sidedef can name.
 const SECTOR_NUMBERS: usize = 65_536;
 
-impl<'l, 'a> Tree<'l, 'a> {
+impl Tree<'_, '_> {
+    /// How many points of a rectangle lie in each sector, by a list of the ssectors' sectors. For
+    /// many rectangles make that list once, as a `SectorTree`.
+    pub fn census<A: Allocator + Copy>(&self, alloc: A, rect: Rect) -> Result<Counts<A>, AllocError>
+        ensures { IfOk result (IsCensus self.now rect) }
+    {
+        let tree = SectorTree::of(alloc, Tree::of(self.level()))?;
+        tree.census(alloc, rect)
+    }
+}
+
+impl<B: Allocator> SectorTree<'_, '_, B> {
     /// How many points of a rectangle lie in each sector.
     ///
     /// It keeps a list of pending pieces, begins with the whole rectangle at the root, and takes
@@ -31,7 +44,7 @@ impl<'l, 'a> Tree<'l, 'a> {
     {
         let level = self.level();
         let mut counts = vec![in alloc; 0; sector_count(level)]?;
-        let work = tally(alloc, level, rect, &mut counts)?;
+        let work = tally(alloc, level, self.sectors(), rect, &mut counts)?;
         let pairs = pairs(alloc, &counts)?;
         Ok(Counts {
             pairs,
@@ -71,14 +84,17 @@ struct Work {
     pending: u32,
 }
 
-// Adds the points of a rectangle to the counts of their sectors.
+// Adds the points of a rectangle to the counts of their sectors. On its own it has the registers to itself.
+#[inline(never)]
 fn tally<A: Allocator>(
     alloc: A,
     level: &Level<'_>,
+    sectors: &[u16],
     rect: Rect,
     counts: &mut [u32],
 ) -> Result<Work, AllocError>
     requires sound { IsSound level.now }
+    requires listed { ListsSectors level.now sectors.now }
     requires zeros { (s : ℕ) → slice_index counts.old s ≡ 0 }
     requires within { (t k : ℕ)
         → sector_of level.now t ≡ Some k → k < 65536 → k < length counts.old }
@@ -105,7 +121,7 @@ fn tally<A: Allocator>(
                 halves.second
             }
             Step::AtSsector(t, points) => {
-                counts[usize::from(level.ssector_sector(u32::from(t)))] += points;
+                counts[usize::from(sectors[usize::from(t)])] += points;
                 match take_newest(&mut pending) {
                     Some(next) => next,
                     None => return Ok(Work {

@@ -9,6 +9,7 @@ mod marks;
 mod pieces;
 mod places;
 mod row;
+mod sector_tree;
 mod soundness;
 mod tree;
 mod tree_codes;
@@ -17,6 +18,7 @@ mod words;
 
 pub use counts::Counts;
 pub use pieces::points_in;
+pub use sector_tree::SectorTree;
 pub use soundness::is_sound;
 pub use tree::Tree;
 pub use tree_codes::tree_findings;

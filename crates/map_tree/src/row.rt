@@ -1,6 +1,6 @@
 //! Where the side of a partition changes in a row.
 
-ghost use Rattle.std.specs.Prelude.{◌≡◌, ◌<ℤ◌, ◌≤ℤ◌, ◌≤◌};
+ghost use Rattle.std.specs.Prelude.{◌≡◌, ◌<ℤ◌, ◌≤◌};
 ghost use Rattle.map_geo.specs.Point.{IsInRange, point_at};
 ghost use Rattle.map_geo.specs.Side.{side_of};
 ghost use Rattle.map_tree.specs.Cuts.{other, IsMiddle, IsLast, Halvings};
@@ -19,11 +19,10 @@ pub struct Last {
 pub fn middle(low: i32, high: i32) -> i32
     requires low_in { IsInRange low }
     requires high_in { IsInRange high }
-    requires ordered { low ≤ℤ high }
     ensures middle { IsMiddle result low high }
     ensures in_range { IsInRange result }
 {
-    low + (high - low) / 2
+    (low + high) >> 1
 }
 
 /// The last column with side `s` of row `y`, from column `x0`, which has it, to `x1`, which doesn't:

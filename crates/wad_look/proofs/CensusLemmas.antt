@@ -1,6 +1,5 @@
 -- The rectangle of a content, how a census's line goes on, and what `census` answers to a content.
-use Rattle.std.proofs.Common.{◌≡◌, ℕ, ◌+◌, ◌≤◌, ℤ, pos, List, [], ◌∷◌, ◌++◌, length, map, get_or, drop, codes, Some, ◌⊎◌, refl, sym, ap, ◌∙◌, subst, append_assoc, arith}
-use Rattle.std.specs.Fmt.{decimal, signed_decimal}
+use Rattle.std.proofs.Common.{◌≡◌, ℕ, ◌+◌, ℤ, pos, List, [], ◌∷◌, ◌++◌, length, map, get_or, drop, Some, ◌⊎◌, refl, ap, append_assoc, arith}
 use Rattle.std.specs.List.{slice_get, flat_map}
 use Rattle.line_io.specs.Numbers.{HasForm, nearest}
 use Rattle.line_io.specs.NumberAnswers.{RefusesContent}

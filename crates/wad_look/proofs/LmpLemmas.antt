@@ -1,6 +1,6 @@
 -- Commands that were read and listed, and how the listing of a demo ends.
-use Rattle.std.specs.Prelude.{IfSome, OnOk, IfOk, IfErr}
-use Rattle.std.proofs.Common.{◌≡◌, ◌≢◌, ℕ, zero, suc, ◌+◌, ◌-◌, ◌*◌, ◌≤◌, ◌<◌, Bool, true, false, List, [], ◌∷◌, ◌++◌, length, take, drop, slice_index, Option, Some, None, Result, Ok, Err, inl, inr, ◌⊎◌, refl, sym, ap, ◌∙◌, arith, subst, length-append}
+use Rattle.std.specs.Prelude.{IfSome}
+use Rattle.std.proofs.Common.{◌≡◌, ◌≢◌, ℕ, zero, suc, ◌+◌, ◌-◌, ◌*◌, ◌≤◌, ◌<◌, true, false, List, [], ◌∷◌, ◌++◌, length, take, drop, slice_index, Option, Some, None, Result, Ok, Err, inl, inr, ◌⊎◌, refl, sym, ap, ◌∙◌, arith, subst, length-append}
 use Rattle.std.proofs.KnownBytes.{Appends-nil, Appends-trans, Consumes-nil, Consumes-trans}
 use Rattle.std.proofs.Math.Nat.{mul-le-mul_left}
 use Rattle.std.proofs.Math.Seq.{take-append-add}
@@ -30,7 +30,7 @@ use Rattle.line_io.specs.declared.fault.IoFault.{IoFault}
 use Rattle.line_io.specs.declared.fault.IoFault.TheVariants as io
 use Rattle.wad_look.proofs.DemoLemmas.{commands_text-append, commands_text-last}
 use Rattle.wad_look.specs.Engines.Demo.{Turn, command_line, commands_text, header_line, listing, player_of, tic_of, totals_text}
-use Rattle.wad_look.specs.Engines.Lmp.{AreLines, CommandsFault, HasLines, IsText, LeavesLines, ListsCommands, ListsDemo, LmpFault}
+use Rattle.wad_look.specs.Engines.Lmp.{AreLines, CommandsFault, HasLines, IsText, ListsCommands, ListsDemo}
 use Rattle.wad_look.specs.Faults.{run_fault, stream_fault}
 use Rattle.wad_look.specs.declared.fault.RunFault.{RunFault}
 use Rattle.wad_look.specs.declared.fault.RunFault.TheVariants as fault

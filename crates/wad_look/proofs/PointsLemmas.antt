@@ -1,31 +1,22 @@
 -- What `points` answers to a content, by its numbers.
-use Rattle.std.proofs.Common.{◌≡◌, ◌≢◌, ℕ, ℤ, pos, neg_ℤ, Bool, true, false, ◌&&◌, cond, List, [], ◌∷◌, length, get_or, Option, Some, None, refl, sym, ap, ◌∙◌, arith}
-use Rattle.std.specs.Prelude.{int_le}
-use Rattle.std.proofs.lemmas.Bool.{false≢true}
-use Rattle.std.proofs.lemmas.Int.{ints}
-use Rattle.line_io.specs.LineAnswers.{form_refused}
-use Rattle.line_io.specs.NumberAnswers.{OfTwo, range_refused}
-use Rattle.line_io.specs.Numbers.{AreNumbers, numbers_of}
+use Rattle.std.proofs.Common.{◌≡◌, ℕ, List, [], ◌∷◌, length, Some, refl, sym, ap, ◌∙◌}
 use Rattle.line_io.proofs.NumberAnswersLemmas.{decide_two, some_answers, two_texts}
-use Rattle.map_geo.specs.Point.{Point, IsInRange, point_at}
+use Rattle.map_geo.specs.Point.{Point, point_at}
 use Rattle.map_level.specs.Level.{Level}
 use Rattle.map_level.specs.Links.{ssectors_of}
 use Rattle.map_level.specs.SectorOf.{sector_of}
 use Rattle.map_level.proofs.LinkedLemmas.{linked_sector}
-use Rattle.map_tree.specs.Child.{ssector_count}
 use Rattle.map_tree.specs.Leaf.{IsLeaf}
 use Rattle.map_tree.specs.Sound.{IsSound}
 use Rattle.map_tree.proofs.DescentLemmas.{leaf_within}
 use Rattle.map_tree.proofs.LeafLemmas.{one_leaf, some_leaf}
 use Rattle.map_tree.proofs.SoundLemmas.{linked_from_sound}
 use Rattle.std.specs.Prelude.{◌<◌}
-use Rattle.std.specs.List.{slice_get}
 use Rattle.std.proofs.lemmas.List.{length-map}
-use Rattle.std.proofs.lemmas.Option.{get_or_from_slice_get}
+use Rattle.std.proofs.lemmas.Option.{same_Some}
 use Rattle.wad_look.proofs.ContentsLemmas.{coordinates_or_not}
 use Rattle.wad_look.specs.Laws.{LinesNameTheLeaf}
-use Rattle.wad_look.specs.Contents.{AreCoordinates}
-use Rattle.wad_look.specs.Engines.Points.{AnswersPoints, ListsSectors, PlacesPoints, TellsPoints, point_text}
+use Rattle.wad_look.specs.Engines.Points.{AnswersPoints, PlacesPoints, TellsPoints, point_text}
 use Rattle.wad_look.specs.declared.engines.points.Leaf.{Leaf}
 
 answered_at : (place : Point → Leaf) → (answer : List ℕ → List ℕ) × AnswersPoints place answer
@@ -59,12 +50,10 @@ same_leaf {s = s} {leaf = leaf} e f =
     let by_sector : ℕ → Leaf = λ m. record { ssector = leaf.ssector; sector = m } in
     ap by_ssector e ∙ ap by_sector f
 
--- in a sound level the leaf that was found, with its listed sector, is that of each way to place points
-pub placed_at : (level : Level) (sectors : List ℕ) (place : Point → Leaf) (point : Point) (t s : ℕ) → IsSound level → ListsSectors level sectors → PlacesPoints level place
-    → IsLeaf level point t → s ≡ get_or sectors t s → (record { ssector = t; sector = s }) ≡ place point
-placed_at level sectors place point t s sound lists places leaf at =
+-- a leaf that was found, with its sector, is that of each way to place points
+pub placed_at : (level : Level) (place : Point → Leaf) (point : Point) (t s : ℕ) → PlacesPoints level place
+    → ((u : ℕ) → IsLeaf level point u → u ≡ t) → sector_of level t ≡ Some s → (record { ssector = t; sector = s }) ≡ place point
+placed_at level place point t s places only sector_is =
     let lies = places point in
-    let same : t ≡ (place point).ssector = one_leaf level point t (place point).ssector leaf lies.0 in
-    let there : t < ssector_count level = leaf_within level point t sound leaf in
-    let listed : slice_get sectors t ≡ Some (place point).sector = sym (lists.each t there) ∙ ap (sector_of level) same ∙ lies.1 in
-    same_leaf same (at ∙ get_or_from_slice_get sectors t (place point).sector s listed)
+    let same : t ≡ (place point).ssector = sym (only (place point).ssector lies.0) in
+    same_leaf same (same_Some s (place point).sector (sym sector_is ∙ ap (sector_of level) same ∙ lies.1))

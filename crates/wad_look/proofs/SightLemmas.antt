@@ -1,5 +1,5 @@
 -- There are answers of `sight` over each level.
-use Rattle.std.proofs.Common.{◌≡◌, ℕ, ℤ, pos, negsuc, List, refl, ap, ◌∙◌, sym}
+use Rattle.std.proofs.Common.{◌≡◌, ℕ, ℤ, pos, negsuc, List, refl}
 use Rattle.line_io.proofs.NumberAnswersLemmas.{decide_two, some_answers, two_texts}
 use Rattle.map_tables.specs.Reject.{Reject, sight_bit}
 use Rattle.wad_look.specs.Contents.{AreSectors}

@@ -11,7 +11,7 @@ use crate::fault::RunFault;
 use le_rec::Name8;
 use map_audit::{Refused, accept};
 use map_level::{Level, Reading};
-use map_tree::Tree;
+use map_tree::SectorTree;
 use std::alloc::Allocator;
 use wad_dir::{Set, SetFault};
 
@@ -46,16 +46,19 @@ pub fn open_level<'a, A: Allocator>(
     }
 }
 
-/// The tree of a level that is accepted.
-pub fn sound_tree<'l, 'a, A: Allocator + Copy>(
+/// The tree of a level that is accepted, with its ssectors' sectors.
+pub fn sector_tree<'l, 'a, A: Allocator + Copy>(
     alloc: A,
     level: &'l Level<'a>,
-) -> Result<Tree<'l, 'a>, RunFault>
+) -> Result<SectorTree<'l, 'a, A>, RunFault>
     ensures ok { IfOk result (λ tree. (tree ≡ level.now) × IsSound level.now) }
     ensures err { IfErr result (RefusesAudit level.now) }
 {
     match accept(alloc, level) {
-        Ok(tree) => Ok(tree),
+        Ok(tree) => match SectorTree::of(alloc, tree) {
+            Ok(tree) => Ok(tree),
+            Err(_) => Err(RunFault::Memory),
+        },
         Err(Refused::Faults(_report)) => Err(RunFault::Audit),
         Err(Refused::Memory) => Err(RunFault::Memory),
     }

@@ -1,5 +1,5 @@
 -- The command `demo`: the text of a demo's listing (ours), and what its run does.
-use Rattle.std.specs.Prelude.{◌≡◌, ◌≢◌, ℕ, ◌+◌, ◌/◌, ◌%◌, ◌<◌, ◌==◌, nat_lt, if◌then◌else◌, List, [], ◌∷◌, ◌++◌, length, codes, slice_index, Some, Result}
+use Rattle.std.specs.Prelude.{◌≡◌, ◌≢◌, ℕ, ◌+◌, ◌/◌, ◌%◌, ◌==◌, nat_lt, if◌then◌else◌, List, [], ◌∷◌, ◌++◌, length, codes, slice_index, Some, Result}
 use Rattle.std.specs.Fmt.{decimal, signed_decimal}
 use Rattle.std.specs.List.{slice_get}
 use Rattle.demo_lump.specs.Demo.{Demo, IsRead, RefusesDemo}
@@ -9,7 +9,7 @@ use Rattle.demo_lump.specs.declared.header.Header.{Header}
 use Rattle.le_rec.specs.Name.{query_of}
 use Rattle.le_rec.specs.Sink.{SinkState}
 use Rattle.line_io.specs.Writes.{Writes}
-use Rattle.wad_dir.specs.Entries.{joined, names}
+use Rattle.wad_dir.specs.Entries.{names}
 use Rattle.wad_dir.specs.Slice.{IsLump}
 use Rattle.wad_dir.specs.Wad.{Wad}
 use Rattle.wad_dir.specs.Winner.{Wins}

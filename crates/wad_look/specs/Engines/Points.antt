@@ -1,6 +1,5 @@
 -- The command `points`: its answers (ours), and what its run does.
-use Rattle.std.specs.Prelude.{◌≡◌, ℕ, ◌<◌, ℤ, false, List, [], ◌∷◌, ◌++◌, length, Some, Result, codes}
-use Rattle.std.specs.List.{slice_get}
+use Rattle.std.specs.Prelude.{◌≡◌, ℕ, ℤ, false, List, [], ◌∷◌, ◌++◌, Some, Result, codes}
 use Rattle.std.specs.Fmt.{decimal}
 use Rattle.le_rec.specs.Sink.{SinkState}
 use Rattle.le_rec.specs.Source.{SourceState}
@@ -9,7 +8,6 @@ use Rattle.line_io.specs.NumberAnswers.{AnswersPairs}
 use Rattle.map_geo.specs.Point.{Point, point_at}
 use Rattle.map_level.specs.Level.{Level}
 use Rattle.map_level.specs.SectorOf.{sector_of}
-use Rattle.map_tree.specs.Child.{ssector_count}
 use Rattle.map_tree.specs.Leaf.{IsLeaf}
 use Rattle.map_level.specs.declared.reading.Reading.{Reading}
 use Rattle.wad_look.specs.Contents.{AreCoordinates, pair_text}
@@ -40,11 +38,6 @@ pub record TellsPoints (level : Level) (answer : List ℕ → List ℕ) : Type 0
   pub place : Point → Leaf
   pub places : PlacesPoints level place
   pub answers : AnswersPoints place answer
-
--- the sector of each ssector of a level, in order
-pub record ListsSectors (level : Level) (sectors : List ℕ) : Type 0 where
-  pub long : length sectors ≡ ssector_count level
-  pub each : (t : ℕ) → t < ssector_count level → sector_of level t ≡ slice_get sectors t
 
 -- over files of these bytes, a source and a sink, of which clauses see their states
 abbrev pub RunsPoints : {S W : Type 0} → (S → SourceState) → (W → SinkState) → List (List ℕ) → List ℕ → Reading → ℕ → S → S → W → W → Result (Unit {0}) RunFault → Type 0

@@ -10,20 +10,20 @@ ghost use Rattle.wad_look.specs.Engines.Census.{AreRect, RunsCensus, TellsCensus
 ghost use Rattle.wad_look.specs.Opening.{bytes_of};
 
 use crate::fault::{RunFault, ended};
-use crate::opening::{open_level, sound_tree};
+use crate::opening::{open_level, sector_tree};
 use le_rec::{Sink, Source};
 use line_io::{
     IoFault, LIMIT, LineCommand, LineRefusal, TextLine, answer_lines, emit, read_numbers,
 };
 use map_geo::Rect;
 use map_level::Reading;
-use map_tree::{Counts, Tree, points_in};
+use map_tree::{Counts, SectorTree, points_in};
 use std::alloc::Allocator;
 
 /// Answers rectangles.
 #[derive(Drop)]
 struct CensusCommand<'l, 'a, A: Allocator + Copy> {
-    tree: Tree<'l, 'a>,
+    tree: SectorTree<'l, 'a, A>,
     alloc: A,
 }
 
@@ -142,6 +142,6 @@ pub fn census_text<A: Allocator + Copy, S: Source, W: Sink>(
     ensures { RunsCensus S.state W.state (bytes_of files.now) name.now reading limit input.old input.new out.old out.new result }
 {
     let level = open_level(alloc, files, name, reading)?;
-    let tree = sound_tree(alloc, &level)?;
+    let tree = sector_tree(alloc, &level)?;
     ended(answer_lines(&CensusCommand { tree, alloc }, input, limit, out))
 }

@@ -1,22 +1,20 @@
 //! The command `points`: the sector and the ssector of each point of its input.
 
-ghost use Rattle.std.specs.Prelude.{◌≡◌, ◌≤◌, [], false, length, IfOk, IfErr};
-ghost use Rattle.map_level.specs.SectorOf.{sector_of};
-ghost use Rattle.map_tree.specs.Child.{ssector_count};
-ghost use Rattle.map_tree.specs.Sound.{IsSound};
-ghost use Rattle.wad_look.specs.Engines.Points.{ListsSectors, RunsPoints, leaf_text};
-ghost use Rattle.wad_look.specs.Opening.{RefusesAudit, bytes_of};
+ghost use Rattle.std.specs.Prelude.{◌≡◌, ◌≤◌, [], false, length};
+ghost use Rattle.map_geo.specs.Point as geo;
+ghost use Rattle.wad_look.specs.Engines.Points.{PlacesPoints, RunsPoints, leaf_text};
+ghost use Rattle.wad_look.specs.Opening.{bytes_of};
+ghost use Rattle.wad_look.specs.declared.engines.points.Leaf as placed;
 
 use crate::contents::read_point;
 use crate::fault::{RunFault, ended};
-use crate::opening::{open_level, sound_tree};
+use crate::opening::{open_level, sector_tree};
 use le_rec::{Sink, Source};
 use line_io::{IoFault, LIMIT, LineCommand, TextLine, answer_lines, emit};
 use map_geo::Point;
-use map_level::{Level, Reading};
-use map_tree::Tree;
-use std::alloc::{AllocError, Allocator};
-use std::marker::Model;
+use map_level::Reading;
+use map_tree::SectorTree;
+use std::alloc::Allocator;
 
 /// Where a point lies: an ssector and its sector.
 #[derive(Clone, Copy, Debug, PartialEq, Eq)]
@@ -25,52 +23,16 @@ pub struct Leaf {
     pub sector: u16,
 }
 
-/// The tree of a sound level, with the sector of each ssector, so that no link is followed once the input is read.
-#[derive(Drop)]
-struct Sited<'l, 'a, A: Allocator> {
-    tree: Tree<'l, 'a>,
-    sectors: Vec<u16, A>,
-}
-
-impl<'l, 'a, A: Allocator> Model for Sited<'l, 'a, A> {
-    ghost use Rattle.map_level.specs.Level.{Level};
-    ghost use Rattle.map_tree.specs.Sound.{IsSound};
-    ghost use Rattle.wad_look.specs.Engines.Points.{ListsSectors};
-
-    ghost Value = { Level };
-
-    ghost view = { λ sited. sited.tree };
-
-    ghost invariant = { λ sited. IsSound sited.tree × ListsSectors sited.tree sited.sectors.items };
-}
-
-impl<A: Allocator> Sited<'_, '_, A> {
-    ghost use Rattle.wad_look.specs.Engines.Points.{PlacesPoints};
-    ghost use Rattle.map_geo.specs.Point as geo;
-    ghost use Rattle.wad_look.specs.declared.engines.points.Leaf as placed;
-
-    // The leaf of a point.
-    fn leaf(&self, point: Point) -> Leaf
-        ensures { (place : geo.Point → placed.Leaf) → PlacesPoints self.now place → result ≡ place point }
-    {
-        let (ssector, _tests) = self.tree.leaf(point);
-        Leaf {
-            ssector,
-            sector: self.sectors[usize::from(ssector)],
-        }
-    }
-}
-
 /// Answers points.
 #[derive(Drop)]
 struct PointCommand<'l, 'a, A: Allocator> {
-    sited: Sited<'l, 'a, A>,
+    tree: SectorTree<'l, 'a, A>,
 }
 
 impl<A: Allocator> LineCommand for PointCommand<'_, '_, A> {
     ghost use Rattle.wad_look.specs.Engines.Points.{TellsPoints};
 
-    ghost Answers = { λ command. TellsPoints command.sited };
+    ghost Answers = { λ command. TellsPoints command.tree };
 
     ghost takes_memory = { false };
 
@@ -78,13 +40,21 @@ impl<A: Allocator> LineCommand for PointCommand<'_, '_, A> {
         match read_point(content) {
             Ok(pair) => {
                 let mut line = TextLine::new();
-                put_leaf(&mut line, self.sited.leaf(Point::at(pair.x, pair.y)));
+                put_leaf(&mut line, leaf_at(&self.tree, Point::at(pair.x, pair.y)));
                 pair.put(&mut line);
                 emit(out, line.as_bytes())
             }
             Err(refusal) => emit(out, refusal.text()),
         }
     }
+}
+
+// The leaf of a point.
+fn leaf_at<A: Allocator>(tree: &SectorTree<'_, '_, A>, point: Point) -> Leaf
+    ensures { (place : geo.Point → placed.Leaf) → PlacesPoints tree.now place → result ≡ place point }
+{
+    let (ssector, sector) = tree.leaf(point);
+    Leaf { ssector, sector }
 }
 
 // ` sector <s> ssector <t>`
@@ -121,34 +91,6 @@ pub fn points<A: Allocator + Copy, S: Source, W: Sink>(
     ensures { RunsPoints S.state W.state (bytes_of files.now) name.now reading limit input.old input.new out.old out.new result }
 {
     let level = open_level(alloc, files, name, reading)?;
-    let sited = site(alloc, &level)?;
-    ended(answer_lines(&PointCommand { sited }, input, limit, out))
-}
-
-// The tree of the level with its ssectors' sectors.
-fn site<'l, 'a, A: Allocator + Copy>(
-    alloc: A,
-    level: &'l Level<'a>,
-) -> Result<Sited<'l, 'a, A>, RunFault>
-    ensures ok { IfOk result (λ sited. (sited ≡ level.now) × IsSound level.now) }
-    ensures err { IfErr result (RefusesAudit level.now) }
-{
-    let tree = sound_tree(alloc, level)?;
-    match ssector_sectors(alloc, level) {
-        Ok(sectors) => Ok(Sited { tree, sectors }),
-        Err(_) => Err(RunFault::Memory),
-    }
-}
-
-// The sector of each ssector.
-fn ssector_sectors<A: Allocator>(alloc: A, level: &Level<'_>) -> Result<Vec<u16, A>, AllocError>
-    requires { IsSound level.now }
-    ensures { IfOk result (λ sectors. ListsSectors level.now sectors.items) }
-{
-    let count = level.ssectors().len();
-    let mut sectors = Vec::with_capacity(alloc, count)?;
-    for t in 0..count {
-        sectors.push(level.ssector_sector(t as u32))?;
-    }
-    Ok(sectors)
+    let tree = sector_tree(alloc, &level)?;
+    ended(answer_lines(&PointCommand { tree }, input, limit, out))
 }

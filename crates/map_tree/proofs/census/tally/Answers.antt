@@ -1,9 +1,9 @@
-use Rattle.std.proofs.Common.{◌+◌, ◌<◌, length-set, get_or, refl, ◌∙◌, rules, arith}
+use Rattle.std.proofs.Common.{◌+◌, length-set, get_or, refl, ◌∙◌, arith}
 use Rattle.std.proofs.lemmas.List.{length-reverse}
 use Rattle.map_tree.specs.declared.pieces.Piece.{Piece}
-use Rattle.map_tree.specs.Sizes.{size_of}
+use Rattle.map_tree.proofs.Sizes.{size_of}
 use Rattle.map_tree.proofs.HeldLemmas.{sized-from_sound, Held-start}
-use Rattle.map_tree.proofs.TurnLemmas.{pushed, sum_zeros, tests_fit, most_fits, done, leaf_fits, turn-leaf, turn-down, turn-apart, turn-pushed, fewer-down, fewer-apart}
+use Rattle.map_tree.proofs.TurnLemmas.{pushed, sum_zeros, tests_fit, most_fits, done, sector_in, leaf_fits, turn-leaf, turn-down, turn-apart, turn-pushed, fewer-down, fewer-apart}
 use Rattle.map_tree.proofs.census.tally.Goals as goal
 
 pub loop-next-init : goal.loop-next-init
@@ -28,13 +28,26 @@ overflow_add-tests-in-Apart g c =
     let step = rw c.nodes-nodes.ensures.is at c.in-Apart.ensures in
     tests_fit c.args.level.now (size_of c.args.level.now) c.args.rect sized valid _ _ _ _ (turn-apart c.args.level.now (size_of c.args.level.now) c.args.rect sized valid c.loop-next.hand _ _ _ _ c.loop-next.invariant.held c.in-Apart.halves step)
 
+pub bounds-counts-from : goal.bounds-counts-from
+bounds-counts-from g c =
+    let sized = sized-from_sound c.args.level.now c.requires.sound in
+    let leaf = c.in-AtSsector.ensures in
+    let in_counts = sector_in c.args.level.now (size_of c.args.level.now) c.args.rect sized c.start-hand.ensures.valid c.loop-next.hand _ _ _ _ c.loop-next.invariant.held c.args.counts.now c.args.sectors.now c.from.result c.from-in-AtSsector.result c.requires.within c.loop-next.invariant.long c.requires.listed c.type_inv.sectors leaf.0 (c.from.ensures ∙ leaf.1) c.from-in-AtSsector.ensures in
+    in_counts.1
+
+pub bounds-counts-from-in-AtSsector : goal.bounds-counts-from-in-AtSsector
+bounds-counts-from-in-AtSsector g c =
+    let sized = sized-from_sound c.args.level.now c.requires.sound in
+    let leaf = c.in-AtSsector.ensures in
+    let in_counts = sector_in c.args.level.now (size_of c.args.level.now) c.args.rect sized c.start-hand.ensures.valid c.loop-next.hand _ _ _ _ c.loop-next.invariant.held c.args.counts.now c.args.sectors.now c.from.result c.from-in-AtSsector.result c.requires.within c.loop-next.invariant.long c.requires.listed c.type_inv.sectors leaf.0 (c.from.ensures ∙ leaf.1) c.from-in-AtSsector.ensures in
+    in_counts.1
+
 pub overflow_add-counts : goal.overflow_add-counts
 overflow_add-counts g c =
     let sized = sized-from_sound c.args.level.now c.requires.sound in
     let leaf = c.in-AtSsector.ensures in
-    let small : c.ssector_sector.result < 65536 = search rules in
-    let within = c.requires.within _ _ c.ssector_sector.ensures small in
-    leaf_fits c.args.level.now (size_of c.args.level.now) c.args.rect sized c.start-hand.ensures.valid c.loop-next.hand _ _ _ _ c.loop-next.invariant.held c.from-in-AtSsector.result c.in-AtSsector.points (rw (c.from-in-AtSsector.ensures, c.loop-next.invariant.long) within) leaf.2
+    let in_counts = sector_in c.args.level.now (size_of c.args.level.now) c.args.rect sized c.start-hand.ensures.valid c.loop-next.hand _ _ _ _ c.loop-next.invariant.held c.args.counts.now c.args.sectors.now c.from.result c.from-in-AtSsector.result c.requires.within c.loop-next.invariant.long c.requires.listed c.type_inv.sectors leaf.0 (c.from.ensures ∙ leaf.1) c.from-in-AtSsector.ensures in
+    leaf_fits c.args.level.now (size_of c.args.level.now) c.args.rect sized c.start-hand.ensures.valid c.loop-next.hand _ _ _ _ c.loop-next.invariant.held c.from-in-AtSsector.result c.in-AtSsector.points in_counts.1 leaf.2
 
 pub overflow_cast-result : goal.overflow_cast-result
 overflow_cast-result g c =
@@ -46,10 +59,8 @@ returns-in-None-clause-tally g c =
     let sized = sized-from_sound c.args.level.now c.requires.sound in
     let valid = c.start-hand.ensures.valid in
     let leaf = c.in-AtSsector.ensures in
-    let small : c.ssector_sector.result < 65536 = search rules in
-    let within = c.requires.within _ _ c.ssector_sector.ensures small in
-    let sector_is = rw (c.from.ensures ∙ leaf.1, ← c.from-in-AtSsector.ensures) at c.ssector_sector.ensures in
-    let held = turn-leaf c.args.level.now (size_of c.args.level.now) c.args.rect sized valid c.loop-next.hand _ _ _ _ c.loop-next.invariant.held c.from-in-AtSsector.result c.in-AtSsector.points leaf.0 sector_is (rw (c.from-in-AtSsector.ensures, c.loop-next.invariant.long) within) leaf.2 in
+    let in_counts = sector_in c.args.level.now (size_of c.args.level.now) c.args.rect sized c.start-hand.ensures.valid c.loop-next.hand _ _ _ _ c.loop-next.invariant.held c.args.counts.now c.args.sectors.now c.from.result c.from-in-AtSsector.result c.requires.within c.loop-next.invariant.long c.requires.listed c.type_inv.sectors leaf.0 (c.from.ensures ∙ leaf.1) c.from-in-AtSsector.ensures in
+    let held = turn-leaf c.args.level.now (size_of c.args.level.now) c.args.rect sized valid c.loop-next.hand _ _ _ _ c.loop-next.invariant.held c.from-in-AtSsector.result c.in-AtSsector.points leaf.0 in_counts.0 in_counts.1 leaf.2 in
     let none = c.in-None.ensures.none refl in
     done c.args.level.now (size_of c.args.level.now) c.args.rect sized valid _ _ _ (rw none at held)
 
@@ -89,9 +100,7 @@ pub loop-next-preserved : goal.loop-next-preserved
 loop-next-preserved g c =
     let sized = sized-from_sound c.args.level.now c.requires.sound in
     let leaf = c.in-AtSsector.ensures in
-    let small : c.ssector_sector.result < 65536 = search rules in
-    let within = c.requires.within _ _ c.ssector_sector.ensures small in
-    let sector_is = rw (c.from.ensures ∙ leaf.1, ← c.from-in-AtSsector.ensures) at c.ssector_sector.ensures in
-    let held = turn-leaf c.args.level.now (size_of c.args.level.now) c.args.rect sized c.start-hand.ensures.valid c.loop-next.hand _ _ _ _ c.loop-next.invariant.held c.from-in-AtSsector.result c.in-AtSsector.points leaf.0 sector_is (rw (c.from-in-AtSsector.ensures, c.loop-next.invariant.long) within) leaf.2 in
+    let in_counts = sector_in c.args.level.now (size_of c.args.level.now) c.args.rect sized c.start-hand.ensures.valid c.loop-next.hand _ _ _ _ c.loop-next.invariant.held c.args.counts.now c.args.sectors.now c.from.result c.from-in-AtSsector.result c.requires.within c.loop-next.invariant.long c.requires.listed c.type_inv.sectors leaf.0 (c.from.ensures ∙ leaf.1) c.from-in-AtSsector.ensures in
+    let held = turn-leaf c.args.level.now (size_of c.args.level.now) c.args.rect sized c.start-hand.ensures.valid c.loop-next.hand _ _ _ _ c.loop-next.invariant.held c.from-in-AtSsector.result c.in-AtSsector.points leaf.0 in_counts.0 in_counts.1 leaf.2 in
     let popped = pushed c.take_newest.new.pending.items c.loop-next.pending.items c.in-Some.next c.in-Some.ensures.some in
     record { held = rw popped at held; long = length-set c.loop-next.counts c.from-in-AtSsector.result (get_or c.loop-next.counts c.from-in-AtSsector.result 0 + c.in-AtSsector.points) ∙ c.loop-next.invariant.long }

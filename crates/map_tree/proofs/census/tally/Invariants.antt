@@ -1,5 +1,5 @@
 use Rattle.std.proofs.Common.{◌≡◌, ◌∷◌, length, reverse}
-use Rattle.map_tree.specs.Sizes.{size_of}
+use Rattle.map_tree.proofs.Sizes.{size_of}
 use Rattle.map_tree.proofs.HeldLemmas.{Held, measure}
 use Rattle.map_tree.proofs.census.tally.Given as goal
 

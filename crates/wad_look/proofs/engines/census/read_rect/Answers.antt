@@ -1,4 +1,4 @@
-use Rattle.std.proofs.Common.{◌≡◌, false, pos, get_or, refl, rules, w32, FitsSigned}
+use Rattle.std.proofs.Common.{pos, get_or, refl, rules, w32, FitsSigned}
 use Rattle.std.proofs.lemmas.Bool.{false≢true}
 use Rattle.std.proofs.lemmas.Int.{to_z-of_z}
 use Rattle.wad_look.proofs.CensusLemmas.{read_rect, not_rect}

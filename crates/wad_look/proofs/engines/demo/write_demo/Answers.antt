@@ -1,9 +1,9 @@
-use Rattle.std.proofs.Common.{◌≡◌, ◌+◌, ◌++◌, ◌<◌, ◌^◌, ℕ, List, [], ◌∷◌, length, drop, Some, None, refl, sym, ap, ◌∙◌, arith, false}
+use Rattle.std.proofs.Common.{◌≡◌, ◌+◌, ◌++◌, [], length, drop, Some, refl, sym, ap, ◌∙◌, arith}
 use Rattle.std.proofs.Math.ListN.{drop_of_length-le}
 use Rattle.std.proofs.lemmas.Result.{err_from_is_err_and}
 use Rattle.std.specs.List.{slice_get}
 use Rattle.demo_lump.specs.declared.header.Header.{Header}
-use Rattle.line_io.proofs.WriteProgressLemmas.{SoFar, SoFar-none, SoFar-more, SoFar-stop}
+use Rattle.line_io.proofs.WriteProgressLemmas.{SoFar-none, SoFar-more, SoFar-stop}
 use Rattle.wad_look.proofs.DemoLemmas.{commands_text-drop, drop_past, SoFar-last}
 use Rattle.wad_look.specs.Engines.Demo.{Turn, commands_text, listing, totals_text}
 use Rattle.wad_look.proofs.engines.demo.write_demo.Goals as goal

@@ -1,7 +1,7 @@
-use Rattle.std.proofs.Common.{◌≡◌, ◌+◌, ℕ, arith, sym, ap, ◌∙◌}
+use Rattle.std.proofs.Common.{◌+◌, arith, ap, ◌∙◌}
 use Rattle.std.proofs.lemmas.Result.{err_from_is_err_and}
 use Rattle.demo_lump.specs.DemoReader.{DemoReader}
-use Rattle.wad_look.proofs.LmpLemmas.{Listed-few, Listed-more, next_reads, stops_reading, stops_writing, ends_marked, state_more}
+use Rattle.wad_look.proofs.LmpLemmas.{Listed-few, Listed-more, next_reads, stops_writing, state_more}
 use Rattle.wad_look.specs.Engines.Demo.{Turn}
 use Rattle.wad_look.proofs.engines.lmp.list_commands.Goals as goal
 

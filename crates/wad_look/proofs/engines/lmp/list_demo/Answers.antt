@@ -1,4 +1,4 @@
-use Rattle.std.proofs.Common.{◌≡◌, ap, ◌∙◌, arith}
+use Rattle.std.proofs.Common.{ap, ◌∙◌, arith}
 use Rattle.std.proofs.lemmas.Result.{err_from_is_err_and}
 use Rattle.demo_lump.specs.DemoReader.{DemoReader}
 use Rattle.wad_look.proofs.LmpLemmas.{ends_header, ends_commands, ends_rest, ends_whole, ends_totals}

@@ -1,7 +1,5 @@
-use Rattle.std.proofs.Common.{◌≡◌, ◌+◌, ◌≤◌, ◌<◌, ℕ, length, take, arith, rules, sym, ap, ◌∙◌, refl, get_or, set}
+use Rattle.std.proofs.Common.{◌≡◌, ◌+◌, ◌<◌, length, arith, rules, sym, ap, ◌∙◌}
 use Rattle.std.proofs.lemmas.List.{take_more_set, length-set}
-use Rattle.demo_lump.specs.Header.{players_in}
-use Rattle.wad_look.specs.Engines.Demo.{seats_from}
 use Rattle.wad_look.proofs.TurnLemmas.{seats_more_no, seats_more_yes, players_more_no, players_more_yes}
 use Rattle.wad_look.proofs.turn.Turn.new.Goals as goal
 use Rattle.wad_look.proofs.turn.Turn.new.Goals.{then-players-i-ne0, else-players-i-ne0}

@@ -1,7 +1,7 @@
 use Rattle.std.proofs.Common.{ℕ, ◌≡◌, ◌++◌, List, length, take, arith}
 use Rattle.std.proofs.Math.Seq.{take-append_seam}
 use Rattle.map_tree.proofs.TurnLemmas.{census_from_tally}
-use Rattle.map_tree.proofs.tree.Tree.census.Goals as goal
+use Rattle.map_tree.proofs.sector_tree.SectorTree.census.Goals as goal
 
 -- a list of so many cells after a call has filled them
 kept : (len : ℕ) (now rest : List ℕ) → len ≡ length now → take len (now ++ rest) ≡ now

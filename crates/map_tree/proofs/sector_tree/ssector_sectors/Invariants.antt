@@ -1,7 +1,7 @@
 use Rattle.std.proofs.Common.{◌≡◌, ℕ, ◌<◌, length}
 use Rattle.std.specs.List.{slice_get}
 use Rattle.map_level.specs.SectorOf.{sector_of}
-use Rattle.wad_look.proofs.engines.points.ssector_sectors.Given as goal
+use Rattle.map_tree.proofs.sector_tree.ssector_sectors.Given as goal
 
 abbrev pub invariant-loop-t : goal.invariant-loop-t
 invariant-loop-t g l = record {

@@ -1,0 +1,84 @@
+//! The tree of a sound level with the sector of each of its ssectors (`P_GroupLines` of linuxdoom 1.10).
+
+ghost use Rattle.std.specs.Prelude.{◌≡◌, ℕ, Some, IfOk};
+ghost use Rattle.map_level.specs.SectorOf.{sector_of};
+ghost use Rattle.map_tree.specs.Leaf.{IsLeaf};
+ghost use Rattle.map_tree.specs.SectorList.{ListsSectors};
+ghost use Rattle.map_tree.specs.Sound.{IsSound};
+
+use crate::tree::Tree;
+use map_geo::Point;
+use map_level::Level;
+use std::alloc::{AllocError, Allocator, Global};
+use std::marker::Model;
+
+/// The tree of a sound level with the sectors of its ssectors listed once, two bytes each, so that no link is followed
+/// for a point or a rectangle.
+#[derive(Drop)]
+pub struct SectorTree<'l, 'a, A: Allocator = Global> {
+    tree: Tree<'l, 'a>,
+    sectors: Vec<u16, A>,
+}
+
+impl<'l, 'a, A: Allocator> Model for SectorTree<'l, 'a, A> {
+    ghost use Rattle.map_level.specs.Level.{Level};
+    ghost use Rattle.map_tree.specs.SectorList.{ListsSectors};
+    ghost use Rattle.map_tree.specs.Sound.{IsSound};
+
+    ghost Value = { Level };
+
+    ghost view = { λ s. s.tree };
+
+    ghost invariant = { λ s. IsSound s.tree × ListsSectors s.tree s.sectors.items };
+}
+
+impl<'l, 'a, A: Allocator> SectorTree<'l, 'a, A> {
+    /// The tree with each ssector's sector.
+    pub fn of(alloc: A, tree: Tree<'l, 'a>) -> Result<SectorTree<'l, 'a, A>, AllocError>
+        ensures { IfOk result (λ found. found ≡ tree.entry) }
+    {
+        let sectors = ssector_sectors(alloc, tree.level())?;
+        Ok(SectorTree { tree, sectors })
+    }
+
+    /// The numbers of the ssector and of the sector in which the point lies.
+    #[inline]
+    pub fn leaf(&self, point: Point) -> (u16, u16)
+        ensures leaf { IsLeaf self.now point result.0 }
+        ensures only { (t : ℕ) → IsLeaf self.now point t → t ≡ result.0 }
+        ensures sector { sector_of self.now result.0 ≡ Some result.1 }
+    {
+        let (t, _tests) = self.tree.leaf(point);
+        (t, self.sectors[usize::from(t)])
+    }
+
+    // The level.
+    #[inline]
+    pub(crate) fn level(&self) -> &'l Level<'a>
+        ensures is { result.now ≡ self.now }
+        ensures sound { IsSound self.now }
+    {
+        self.tree.level()
+    }
+
+    // The sector of each ssector.
+    #[inline]
+    pub(crate) fn sectors(&self) -> &[u16]
+        ensures { ListsSectors self.now result.now }
+    {
+        &self.sectors
+    }
+}
+
+// The sector of each ssector.
+fn ssector_sectors<A: Allocator>(alloc: A, level: &Level<'_>) -> Result<Vec<u16, A>, AllocError>
+    requires { IsSound level.now }
+    ensures { IfOk result (λ sectors. ListsSectors level.now sectors.items) }
+{
+    let count = level.ssectors().len();
+    let mut sectors = Vec::with_capacity(alloc, count)?;
+    for t in 0..count {
+        sectors.push(level.ssector_sector(t as u32))?;
+    }
+    Ok(sectors)
+}

@@ -3,7 +3,7 @@
 this file, built with gcc -O3) on the same inputs, interleaved, and prints the
 ratio wadlook/baseline. Best of --repeat runs (5) of user time, of user plus
 system time and of wall time; peak memory; whether the output bytes agree.
-A command that isn't there yet is said so and skipped. Needs Freedoom's WADs."""
+A job in which the two end with different statuses is told and skipped. Needs Freedoom's WADs."""
 import argparse, hashlib, json, math, os, random, struct, subprocess, sys, tempfile
 
 A = argparse.ArgumentParser()
@@ -152,7 +152,7 @@ for name, argvs, inp, base in J:
     try: x = once(BASE, swap(argvs[:1], base), inp); y = once(o.wadlook, argvs[:1], inp)
     except Slow: print('%-44s a run over %d s' % (name, o.limit)); rows.append(dict(job=name, state='slow')); continue
     if x[4] != y[4]:
-        print('%-44s not there yet: status %d and not %d, %s' % (name, y[4][0], x[4][0], y[5][:60] or 'no word')); rows.append(dict(job=name, state='missing')); continue
+        print('%-44s status %d and not %d, %s' % (name, y[4][0], x[4][0], y[5][:60] or 'no word')); rows.append(dict(job=name, state='other status')); continue
     a, b = digest(BASE, swap(argvs, base), inp), digest(o.wadlook, argvs, inp)
     B, L = [], []
     for _ in range(o.repeat):
@@ -164,7 +164,7 @@ for name, argvs, inp, base in J:
 def mean(i):
     v = [r['ratio'][i] for r in rows if 'ratio' in r and r['ratio'][i] and not r['aside']]
     return '%.2f (%d jobs)' % (math.exp(sum(map(math.log, v))/len(v)), len(v)) if v else '-'
-print('geometric mean of wadlook/C: user %s, user+system %s, wall %s; outputs differ in %d, not there or too slow %d' % (
+print('geometric mean of wadlook/C: user %s, user+system %s, wall %s; outputs differ in %d, other status or too slow %d' % (
     mean(0), mean(1), mean(2), sum(r.get('same') is False for r in rows), sum('state' in r for r in rows)))
 print('The job "C point by point" stands aside of the means. User time alone is told from 20 ms on.')
 if o.json: json.dump(rows, open(o.json, 'w'), indent=1)

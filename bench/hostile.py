@@ -2,7 +2,7 @@
 """hostile.py --wadlook PATH: runs wadlook on inputs of its limits that no editor
 writes, each at half its size and at its whole size, and prints user plus system
 time, peak memory, and the ratio of the two times, which is near 2 where time
-grows with the input. A command that isn't there yet is said so and skipped.
+grows with the input.
 Needs gcc (runner.c beside this file) and about 600 MB in --dir; what a run
 prints goes to /dev/null."""
 import argparse, os, struct, subprocess, sys, tempfile
@@ -181,7 +181,6 @@ else: print('%-58s %9s %9s %6s %9s  %s' % ('input', 'half, s', 'whole, s', 'rati
 for name, words, make, lines, ends in J:
     if o.only and not any(k in name for k in o.only.split(',')): continue
     half, all_ = best(words, make, lines, o.scale/2), best(words, make, lines, o.scale)
-    if all_[3] == 'refused: usage': print('%s: there is no such command yet' % name, flush=True); continue
     slow = -1 in (half[2], all_[2])
     ratio = '%.2f' % (all_[0]/half[0]) if min(half[0], all_[0]) >= 0.02 and not slow else '-'
     told = 'over %d s' % o.limit if slow else 'status %d%s%s' % (all_[2], ' ' + all_[3] if all_[3] else '', '' if all_[2] == ends else ' (NOT %d)' % ends)

@@ -16,7 +16,7 @@ mod to_write;
 
 pub use ends::{EndFault, Sink, Source};
 pub use from_read::FromRead;
-pub use name::Name8;
+pub use name::{Name8, hex_digit};
 pub use record::Record;
 pub use records::{Entry, LineDef, Node, SSector, Sector, Seg, SideDef, Thing, Vertex, Word};
 pub use table::Table;

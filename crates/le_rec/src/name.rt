@@ -3,7 +3,7 @@
 ghost use Rattle.std.specs.Prelude.{◌≡◌, ◌<◌, ◌≤◌, ◌++◌, ◌==◌, length, drop, take};
 ghost use Rattle.std.specs.List.{position_or_len};
 ghost use Rattle.le_rec.specs.Name.{name_of, padded, query_of};
-ghost use Rattle.le_rec.specs.Name.{hex_digit as digit_of, shown_byte, shown_name};
+ghost use Rattle.le_rec.specs.Name.{hex_digit, shown_byte, shown_name};
 
 use std::marker::Model;
 
@@ -112,9 +112,11 @@ fn put_shown(text: &mut [u8], byte: u8) -> usize
     4
 }
 
-fn hex_digit(digit: u8) -> u8
+/// The lower-case hexadecimal digit of a number below 16.
+#[inline]
+pub fn hex_digit(digit: u8) -> u8
     requires { digit < 16 }
-    ensures { result ≡ digit_of digit }
+    ensures { result ≡ hex_digit digit }
 {
     if digit < 10 {
         b'0' + digit

@@ -1,10 +1,12 @@
 -- Facts about numbers of two and four bytes.
-use Rattle.std.proofs.Common.{◌≡◌, ℕ, ◌+◌, ◌*◌, ◌<◌, ◌/◌, ◌%◌, List, ◌∷◌, [], arith, ℤ, ◌-◌, take, drop, length, slice_index}
+use Rattle.std.proofs.Common.{◌≡◌, ℕ, ◌+◌, ◌*◌, ◌<◌, ◌/◌, ◌%◌, List, ◌∷◌, ◌++◌, [], ap, sym, ◌∙◌, ◌≤◌, arith, ℤ, ◌-◌, take, drop, length, slice_index}
 use Rattle.std.proofs.lemmas.Int.{ints}
 use Rattle.std.proofs.lemmas.Bool.Decides.{nat_tests}
 use Rattle.std.specs.Prelude.{FitsSigned}
 use Rattle.byteorder.specs.Endian.{little_number}
-use Rattle.std.proofs.lemmas.List.{take_rest, get_or-drop}
+use Rattle.std.proofs.lemmas.List.{append-nil, drop_at, drop-drop, get_or-drop, length-drop, length-take, take_rest}
+use Rattle.std.proofs.Math.ListN.{drop_of_length-le}
+use borrow.Rule.Slice.PartMut.{put_mid}
 use Rattle.std.proofs.Math.Nat.{add-zero}
 use Rattle.std.specs.Int.{w16, w32, cast_unsigned, cast_signed}
 use Rattle.le_rec.specs.Number.{unsigned16, signed16, unsigned32, signed32, bytes16, bytes32, signed_bytes16, signed_bytes32}
@@ -96,6 +98,28 @@ FitsSigned-signed32 b0 b1 b2 b3 h0 h1 h2 h3 = grind (arith, ints, nat_tests)
 pub unsigned16-lt : (b0 b1 : ℕ) → b0 < 256 → b1 < 256 → unsigned16 b0 b1 < 65536
 unfolding unsigned16
 unsigned16-lt b0 b1 h0 h1 = omega arith
+
+-- behind bytes that are put at the front of the slice from an offset on stands what stood there
+pub drop-put : (bytes back : List ℕ) (at n : ℕ) → at + n ≤ length bytes
+    → drop n back ≡ drop n (take (length bytes - at) (drop at bytes))
+    → drop (at + n) (put_mid at (length bytes - at) bytes back) ≡ drop (at + n) bytes
+drop-put bytes back at n fits kept =
+    let past = drop (length bytes - at) (drop at bytes) in
+    let front_end : length (take at bytes) ≡ at = simp length-take (omega arith) in
+    let none : past ≡ [] = drop_of_length-le (drop at bytes) (simp length-drop (omega arith)) in
+    sym (drop-drop n at (put_mid at (length bytes - at) bytes back))
+    ∙ ap (drop n) (drop_at (take at bytes) (back ++ past) at front_end
+    ∙ ap (λ rest. back ++ rest) none ∙ append-nil back)
+    ∙ kept ∙ ap (drop n) (take_rest bytes at) ∙ drop-drop n at bytes
+
+-- lists that agree from an offset on agree from a later one on
+pub drop-later : {X : Type 0} (xs ys : List X) (at later : ℕ) → at ≤ later
+    → drop at xs ≡ drop at ys → drop later xs ≡ drop later ys
+drop-later xs ys at later h same =
+    let between : later ≡ at + (later - at) = omega arith in
+    ap (λ n. drop n xs) between ∙ sym (drop-drop (later - at) at xs)
+    ∙ ap (drop (later - at)) same
+    ∙ drop-drop (later - at) at ys ∙ ap (λ n. drop n ys) (sym between)
 
 -- a slice from an offset on reads as the number there
 pub little_number2-slice : (bytes : List ℕ) (at : ℕ)

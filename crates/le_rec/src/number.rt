@@ -1,6 +1,6 @@
 //! Numbers, magics and names at an offset of a record's bytes.
 
-ghost use Rattle.std.specs.Prelude.{◌≡◌, ◌+◌, ◌≤◌, ◌++◌, length, take};
+ghost use Rattle.std.specs.Prelude.{◌≡◌, ◌+◌, ◌≤◌, ◌++◌, drop, length, take};
 ghost use Rattle.le_rec.specs.Number.{unsigned16_at, signed16_at, signed32_at, magic_at, name_at};
 ghost use Rattle.le_rec.specs.Number.{bytes16, signed_bytes16, signed_bytes32};
 ghost use Rattle.le_rec.specs.FieldBytes.{box_at, box_bytes, magic_bytes, name_bytes};
@@ -48,7 +48,7 @@ pub fn magic_bytes_at(bytes: &[u8], at: usize) -> [u8; 4]
 
 /// The eight bytes of the name at `at`.
 #[inline]
-pub fn name_bytes_at(bytes: &[u8], at: usize) -> [u8; 8]
+pub(crate) fn name_bytes_at(bytes: &[u8], at: usize) -> [u8; 8]
     requires { at + 8 ≤ length bytes.now }
     ensures { result ≡ name_at bytes.now at }
 {
@@ -58,17 +58,19 @@ pub fn name_bytes_at(bytes: &[u8], at: usize) -> [u8; 8]
 }
 
 /// Writes the two bytes of an unsigned number at `at`.
-pub fn put_u16(bytes: &mut [u8], at: usize, number: u16)
+pub(crate) fn put_u16(bytes: &mut [u8], at: usize, number: u16)
     requires { at + 2 ≤ length bytes.old }
-    ensures { take (at + 2) bytes.new ≡ take at bytes.old ++ bytes16 number }
+    ensures front { take (at + 2) bytes.new ≡ take at bytes.old ++ bytes16 number }
+    ensures rest { drop (at + 2) bytes.new ≡ drop (at + 2) bytes.old }
 {
     LittleEndian::write_u16(&mut bytes[at..], number);
 }
 
 /// Writes the two bytes of a signed number at `at`.
-pub fn put_i16(bytes: &mut [u8], at: usize, number: i16)
+pub(crate) fn put_i16(bytes: &mut [u8], at: usize, number: i16)
     requires { at + 2 ≤ length bytes.old }
-    ensures { take (at + 2) bytes.new ≡ take at bytes.old ++ signed_bytes16 number }
+    ensures front { take (at + 2) bytes.new ≡ take at bytes.old ++ signed_bytes16 number }
+    ensures rest { drop (at + 2) bytes.new ≡ drop (at + 2) bytes.old }
 {
     LittleEndian::write_i16(&mut bytes[at..], number);
 }
@@ -76,7 +78,8 @@ pub fn put_i16(bytes: &mut [u8], at: usize, number: i16)
 /// Writes the four bytes of a signed number at `at`.
 pub fn put_i32(bytes: &mut [u8], at: usize, number: i32)
     requires { at + 4 ≤ length bytes.old }
-    ensures { take (at + 4) bytes.new ≡ take at bytes.old ++ signed_bytes32 number }
+    ensures front { take (at + 4) bytes.new ≡ take at bytes.old ++ signed_bytes32 number }
+    ensures rest { drop (at + 4) bytes.new ≡ drop (at + 4) bytes.old }
 {
     LittleEndian::write_i32(&mut bytes[at..], number);
 }
@@ -84,22 +87,24 @@ pub fn put_i32(bytes: &mut [u8], at: usize, number: i32)
 /// Writes the four bytes of a magic at `at`.
 pub fn put_magic(bytes: &mut [u8], at: usize, magic: &[u8; 4])
     requires { at + 4 ≤ length bytes.old }
-    ensures { take (at + 4) bytes.new ≡ take at bytes.old ++ magic_bytes magic.now }
+    ensures front { take (at + 4) bytes.new ≡ take at bytes.old ++ magic_bytes magic.now }
+    ensures rest { drop (at + 4) bytes.new ≡ drop (at + 4) bytes.old }
 {
     bytes[at..at + 4].copy_from_slice(magic);
 }
 
 /// Writes the eight bytes of a name at `at`.
-pub fn put_name(bytes: &mut [u8], at: usize, name: &[u8; 8])
+pub(crate) fn put_name(bytes: &mut [u8], at: usize, name: &[u8; 8])
     requires { at + 8 ≤ length bytes.old }
-    ensures { take (at + 8) bytes.new ≡ take at bytes.old ++ name_bytes name.now }
+    ensures front { take (at + 8) bytes.new ≡ take at bytes.old ++ name_bytes name.now }
+    ensures rest { drop (at + 8) bytes.new ≡ drop (at + 8) bytes.old }
 {
     bytes[at..at + 8].copy_from_slice(name);
 }
 
 /// The four numbers of the bounding box at `at`: top, bottom, left, right.
 #[inline]
-pub fn box_numbers_at(bytes: &[u8], at: usize) -> [i16; 4]
+pub(crate) fn box_numbers_at(bytes: &[u8], at: usize) -> [i16; 4]
     requires { at + 8 ≤ length bytes.now }
     ensures { result ≡ box_at bytes.now at }
 {
@@ -112,9 +117,10 @@ pub fn box_numbers_at(bytes: &[u8], at: usize) -> [i16; 4]
 }
 
 /// Writes the eight bytes of the four numbers of a bounding box at `at`.
-pub fn put_box(bytes: &mut [u8], at: usize, numbers: &[i16; 4])
+pub(crate) fn put_box(bytes: &mut [u8], at: usize, numbers: &[i16; 4])
     requires { at + 8 ≤ length bytes.old }
-    ensures { take (at + 8) bytes.new ≡ take at bytes.old ++ box_bytes numbers.now }
+    ensures front { take (at + 8) bytes.new ≡ take at bytes.old ++ box_bytes numbers.now }
+    ensures rest { drop (at + 8) bytes.new ≡ drop (at + 8) bytes.old }
 {
     put_i16(bytes, at, numbers[0]);
     put_i16(bytes, at + 2, numbers[1]);

@@ -3,7 +3,7 @@ use Rattle.std.proofs.lemmas.Grind.{common_steps}
 use Rattle.le_rec.proofs.FieldLemmas.{name_bytes-is}
 use Rattle.le_rec.proofs.number.put_name.Goals as goal
 
-pub returns : goal.returns
-returns c =
+pub returns-clause-front : goal.returns-clause-front
+returns-clause-front c =
     let eight : length c.args.name.now ≡ 8 = search rules in
     rw (name_bytes-is c.args.name.now eight) (grind (arith, common_steps))

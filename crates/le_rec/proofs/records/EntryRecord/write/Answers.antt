@@ -10,7 +10,7 @@ returns c =
     let v = c.args.self.now in
     let filepos : FitsSigned w32 v.filepos = search rules in
     let size : FitsSigned w32 v.size = search rules in
-    let put_filepos = simp to_z-of_z at c.put_i32.ensures in
-    let put_size = simp to_z-of_z at c.put_i32-2.ensures in
+    let put_filepos = simp to_z-of_z at c.put_i32.ensures.front in
+    let put_size = simp to_z-of_z at c.put_i32-2.ensures.front in
     sym (take_all 16 c.put_name.new.bytes (omega arith))
-    ∙ rw (c.put_name.ensures, put_size, put_filepos) refl
+    ∙ rw (c.put_name.ensures.front, put_size, put_filepos) refl

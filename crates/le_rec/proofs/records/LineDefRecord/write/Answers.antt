@@ -15,12 +15,12 @@ returns c =
     let tag : FitsSigned w16 v.tag = search rules in
     let side0 : FitsSigned w16 v.side0 = search rules in
     let side1 : FitsSigned w16 v.side1 = search rules in
-    let put_v1 = simp to_z-of_z at c.put_i16.ensures in
-    let put_v2 = simp to_z-of_z at c.put_i16-2.ensures in
-    let put_flags = simp to_z-of_z at c.put_i16-3.ensures in
-    let put_special = simp to_z-of_z at c.put_i16-4.ensures in
-    let put_tag = simp to_z-of_z at c.put_i16-5.ensures in
-    let put_side0 = simp to_z-of_z at c.put_i16-6.ensures in
-    let put_side1 = simp to_z-of_z at c.put_i16-7.ensures in
+    let put_v1 = simp to_z-of_z at c.put_i16.ensures.front in
+    let put_v2 = simp to_z-of_z at c.put_i16-2.ensures.front in
+    let put_flags = simp to_z-of_z at c.put_i16-3.ensures.front in
+    let put_special = simp to_z-of_z at c.put_i16-4.ensures.front in
+    let put_tag = simp to_z-of_z at c.put_i16-5.ensures.front in
+    let put_side0 = simp to_z-of_z at c.put_i16-6.ensures.front in
+    let put_side1 = simp to_z-of_z at c.put_i16-7.ensures.front in
     sym (take_all 14 c.put_i16-7.new.bytes (omega arith))
     ∙ rw (put_side1, put_side0, put_tag, put_special, put_flags, put_v2, put_v1) refl

@@ -12,16 +12,16 @@ returns c =
     let y : FitsSigned w16 v.y = search rules in
     let dx : FitsSigned w16 v.dx = search rules in
     let dy : FitsSigned w16 v.dy = search rules in
-    let put_x = simp to_z-of_z at c.put_i16.ensures in
-    let put_y = simp to_z-of_z at c.put_i16-2.ensures in
-    let put_dx = simp to_z-of_z at c.put_i16-3.ensures in
-    let put_dy = simp to_z-of_z at c.put_i16-4.ensures in
+    let put_x = simp to_z-of_z at c.put_i16.ensures.front in
+    let put_y = simp to_z-of_z at c.put_i16-2.ensures.front in
+    let put_dx = simp to_z-of_z at c.put_i16-3.ensures.front in
+    let put_dy = simp to_z-of_z at c.put_i16-4.ensures.front in
     sym (take_all 28 c.put_u16-2.new.bytes (omega arith))
     ∙ rw (
-      c.put_u16-2.ensures,
-      c.put_u16.ensures,
-      c.put_box-2.ensures,
-      c.put_box.ensures,
+      c.put_u16-2.ensures.front,
+      c.put_u16.ensures.front,
+      c.put_box-2.ensures.front,
+      c.put_box.ensures.front,
       put_dy,
       put_dx,
       put_y,

@@ -13,18 +13,18 @@ returns c =
     let light : FitsSigned w16 v.light = search rules in
     let special : FitsSigned w16 v.special = search rules in
     let tag : FitsSigned w16 v.tag = search rules in
-    let put_floor = simp to_z-of_z at c.put_i16.ensures in
-    let put_ceiling = simp to_z-of_z at c.put_i16-2.ensures in
-    let put_light = simp to_z-of_z at c.put_i16-3.ensures in
-    let put_special = simp to_z-of_z at c.put_i16-4.ensures in
-    let put_tag = simp to_z-of_z at c.put_i16-5.ensures in
+    let put_floor = simp to_z-of_z at c.put_i16.ensures.front in
+    let put_ceiling = simp to_z-of_z at c.put_i16-2.ensures.front in
+    let put_light = simp to_z-of_z at c.put_i16-3.ensures.front in
+    let put_special = simp to_z-of_z at c.put_i16-4.ensures.front in
+    let put_tag = simp to_z-of_z at c.put_i16-5.ensures.front in
     sym (take_all 26 c.put_i16-5.new.bytes (omega arith))
     ∙ rw (
       put_tag,
       put_special,
       put_light,
-      c.put_name-2.ensures,
-      c.put_name.ensures,
+      c.put_name-2.ensures.front,
+      c.put_name.ensures.front,
       put_ceiling,
       put_floor,
     ) refl

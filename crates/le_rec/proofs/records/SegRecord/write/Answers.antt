@@ -14,11 +14,11 @@ returns c =
     let linedef : FitsSigned w16 v.linedef = search rules in
     let side : FitsSigned w16 v.side = search rules in
     let offset : FitsSigned w16 v.offset = search rules in
-    let put_v1 = simp to_z-of_z at c.put_i16.ensures in
-    let put_v2 = simp to_z-of_z at c.put_i16-2.ensures in
-    let put_angle = simp to_z-of_z at c.put_i16-3.ensures in
-    let put_linedef = simp to_z-of_z at c.put_i16-4.ensures in
-    let put_side = simp to_z-of_z at c.put_i16-5.ensures in
-    let put_offset = simp to_z-of_z at c.put_i16-6.ensures in
+    let put_v1 = simp to_z-of_z at c.put_i16.ensures.front in
+    let put_v2 = simp to_z-of_z at c.put_i16-2.ensures.front in
+    let put_angle = simp to_z-of_z at c.put_i16-3.ensures.front in
+    let put_linedef = simp to_z-of_z at c.put_i16-4.ensures.front in
+    let put_side = simp to_z-of_z at c.put_i16-5.ensures.front in
+    let put_offset = simp to_z-of_z at c.put_i16-6.ensures.front in
     sym (take_all 12 c.put_i16-6.new.bytes (omega arith))
     ∙ rw (put_offset, put_side, put_linedef, put_angle, put_v2, put_v1) refl

@@ -11,15 +11,15 @@ returns c =
     let xoff : FitsSigned w16 v.xoff = search rules in
     let yoff : FitsSigned w16 v.yoff = search rules in
     let sector : FitsSigned w16 v.sector = search rules in
-    let put_xoff = simp to_z-of_z at c.put_i16.ensures in
-    let put_yoff = simp to_z-of_z at c.put_i16-2.ensures in
-    let put_sector = simp to_z-of_z at c.put_i16-3.ensures in
+    let put_xoff = simp to_z-of_z at c.put_i16.ensures.front in
+    let put_yoff = simp to_z-of_z at c.put_i16-2.ensures.front in
+    let put_sector = simp to_z-of_z at c.put_i16-3.ensures.front in
     sym (take_all 30 c.put_i16-3.new.bytes (omega arith))
     ∙ rw (
       put_sector,
-      c.put_name-3.ensures,
-      c.put_name-2.ensures,
-      c.put_name.ensures,
+      c.put_name-3.ensures.front,
+      c.put_name-2.ensures.front,
+      c.put_name.ensures.front,
       put_yoff,
       put_xoff,
     ) refl

@@ -13,10 +13,10 @@ returns c =
     let angle : FitsSigned w16 v.angle = search rules in
     let kind : FitsSigned w16 v.kind = search rules in
     let options : FitsSigned w16 v.options = search rules in
-    let put_x = simp to_z-of_z at c.put_i16.ensures in
-    let put_y = simp to_z-of_z at c.put_i16-2.ensures in
-    let put_angle = simp to_z-of_z at c.put_i16-3.ensures in
-    let put_kind = simp to_z-of_z at c.put_i16-4.ensures in
-    let put_options = simp to_z-of_z at c.put_i16-5.ensures in
+    let put_x = simp to_z-of_z at c.put_i16.ensures.front in
+    let put_y = simp to_z-of_z at c.put_i16-2.ensures.front in
+    let put_angle = simp to_z-of_z at c.put_i16-3.ensures.front in
+    let put_kind = simp to_z-of_z at c.put_i16-4.ensures.front in
+    let put_options = simp to_z-of_z at c.put_i16-5.ensures.front in
     sym (take_all 10 c.put_i16-5.new.bytes (omega arith))
     ∙ rw (put_options, put_kind, put_angle, put_y, put_x) refl

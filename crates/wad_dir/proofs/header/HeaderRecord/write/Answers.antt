@@ -10,7 +10,7 @@ returns c =
     let v = c.args.self.now in
     let count : FitsSigned w32 v.count = search rules in
     let offset : FitsSigned w32 v.offset = search rules in
-    let put_count = simp to_z-of_z at c.put_i32.ensures in
-    let put_offset = simp to_z-of_z at c.put_i32-2.ensures in
+    let put_count = simp to_z-of_z at c.put_i32.ensures.front in
+    let put_offset = simp to_z-of_z at c.put_i32-2.ensures.front in
     sym (take_all 12 c.put_i32-2.new.bytes (omega arith))
-    ∙ rw (put_offset, put_count, c.put_magic.ensures) refl
+    ∙ rw (put_offset, put_count, c.put_magic.ensures.front) refl

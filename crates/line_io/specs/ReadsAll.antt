@@ -6,10 +6,10 @@ use Rattle.le_rec.specs.Source.{SourceState}
 use Rattle.line_io.specs.declared.fault.IoFault.{IoFault}
 use Rattle.line_io.specs.declared.fault.IoFault.TheVariants.{Read, TooLong, Memory}
 
--- `Read` comes only where the source has failed, `TooLong` only where a byte past the limit was
--- read, and `Memory` only where some byte was read and none past the limit
+-- when each fault may come: `Read` where the source has failed before a byte past the limit,
+-- `TooLong` where such a byte was read, `Memory` where some byte was read and none past the limit
 abbrev pub ReadFault : ℕ → SourceState → List ℕ → IoFault → Type 0
-ReadFault limit after read Read = after.failed ≡ true
+ReadFault limit after read Read = (after.failed ≡ true) × (length read ≤ limit)
 ReadFault limit after read TooLong = (limit < length read) × (after.failed ≡ false)
 ReadFault limit after read Memory =
     (0 < length read) × (length read ≤ limit) × (after.failed ≡ false)

@@ -43,7 +43,7 @@ returns-in_err-more g c =
       within = tt;
       all_read = tt;
       sound = tt;
-      fault = e.1;
+      fault = (e.1, omega (arith, c.turns.bytes.ok.0));
     })
 
 pub returns-then-is_empty : goal.returns-then-is_empty

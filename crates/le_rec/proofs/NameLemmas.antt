@@ -1,10 +1,12 @@
 -- Facts about names.
-use Rattle.std.proofs.Common.{◌≡◌, ℕ, zero, suc, ◌-◌, ◌+◌, ◌==◌, not, min, inl, inr, Bool, true, false, cond, eqb, List, [], ◌∷◌, ◌++◌, length, map, replicate, take, refl, sym, ap, ◌∙◌, arith}
+use Rattle.std.proofs.Common.{◌≡◌, ℕ, zero, suc, ◌-◌, ◌+◌, ◌≤◌, ◌==◌, not, min, inl, inr, Bool, true, false, cond, eqb, List, [], ◌∷◌, ◌++◌, length, map, replicate, take, refl, sym, ap, ◌∙◌, arith}
 use Rattle.std.proofs.lemmas.Bool.Decides.{nat_tests}
-use Rattle.std.proofs.lemmas.Bool.{cases_lt}
+use Rattle.std.proofs.lemmas.Bool.{cases_lt, le-ltb, lt-ltb}
 use Rattle.std.proofs.lemmas.List.{map-append, length-map, take_all}
 use Rattle.std.proofs.Math.Numerals.{one-add}
 use Rattle.std.specs.List.{position_or_len}
+use Rattle.std.specs.Option.{unwrap_or}
+use Rattle.std.specs.Prelude.{nat_lt, if◌then◌else◌, Some, None}
 use Rattle.std.specs.Char.{to_ascii_uppercase}
 use Rattle.le_rec.specs.Name.{name_of, padded}
 
@@ -96,4 +98,15 @@ take-min-length n bytes =
       | inr shorter ↦
           let all : min (length bytes) n ≡ length bytes = omega arith in
           rw all (take_all (length bytes) bytes (omega arith) ∙ sym (take_all n bytes shorter))
+    ]
+
+-- a place that was found, or the bound where there is none
+pub found_or : (place bound : ℕ) → place ≤ bound
+    → unwrap_or (if nat_lt place bound then Some place else None) bound ≡ place
+found_or place bound h =
+    elim (cases_lt place bound) [
+      | inl below ↦ rw (lt-ltb place bound below) refl
+      | inr past ↦
+          let same : bound ≡ place = omega arith in
+          rw (le-ltb place bound past) same
     ]

@@ -30,7 +30,7 @@ impl Model for Name8 {
 }
 
 impl Name8 {
-    /// The name that a record holds: its bytes before the first NUL, or all eight.
+    /// The name in a record's eight bytes: it ends before the first NUL, where there is one.
     pub fn stored(bytes: [u8; 8]) -> Name8
         ensures { result ≡ name_of bytes }
     {
@@ -58,7 +58,7 @@ impl Name8 {
     }
 
     /// Writes the name as it is shown to the front of `text`, and answers how many bytes that
-    /// takes: visible ASCII characters but `\\` as they are, the others as `\\x` and two
+    /// takes: visible ASCII characters but `\` as they are, the others as `\x` and two lower-case
     /// hexadecimal digits.
     pub fn shown(&self, text: &mut [u8; 32]) -> usize
         ensures len { result ≡ length (shown_name self.now) }
@@ -88,12 +88,7 @@ fn name_end(bytes: &[u8]) -> usize
     ensures end { result ≡ position_or_len (λ b. b == 0) bytes.now }
     ensures within { result ≤ length bytes.now }
 {
-    for (i, byte) in bytes.iter().enumerate() {
-        if *byte == 0 {
-            return i;
-        }
-    }
-    bytes.len()
+    bytes.iter().position(|b| *b == 0).unwrap_or(bytes.len())
 }
 
 fn put_shown(text: &mut [u8], byte: u8) -> usize

@@ -1,14 +1,17 @@
-use Rattle.std.proofs.Common.{◌==◌, length, sym, arith, rules}
-use Rattle.std.proofs.lemmas.List.Sums.{position_or_len_is}
+use Rattle.std.proofs.Common.{◌∙◌, ◌==◌, ap, length, not, rules, tests}
+use Rattle.std.proofs.lemmas.Iterator.{YieldsList-from_slice}
+use Rattle.std.proofs.lemmas.Iterator.Search.{position_from_yields_List}
+use Rattle.std.proofs.lemmas.List.Sums.{prefix_len-le-length}
+use Rattle.std.specs.Option.{unwrap_or}
+use Rattle.le_rec.proofs.NameLemmas.{found_or}
 use Rattle.le_rec.proofs.name.name_end.Goals as goal
-
-pub returns-then-byte-eq0-clause-end : goal.returns-then-byte-eq0-clause-end
-returns-then-byte-eq0-clause-end c =
-    sym (position_or_len_is (λ b. b == 0) c.args.bytes.now c.loop-i.i 0
-    (omega arith) c.loop-i.invariant (λ _. search rules))
 
 pub returns-clause-end : goal.returns-clause-end
 returns-clause-end c =
-    let all = c.loop-i.invariant in
-    sym (position_or_len_is (λ b. b == 0) c.args.bytes.now (length c.args.bytes.now) 0 (omega arith)
-    (λ k lt. all k (omega arith)) (λ lt. absurd (omega arith)))
+    let bytes = c.args.bytes.now in
+    let found =
+    position_from_yields_List (λ b. b == 0) _ _ c.position.result c.position.ensures.ran
+    (YieldsList-from_slice bytes c.iter.ensures.rest) (λ x b q k. search (rules, tests)) in
+    c.unwrap_or.ensures
+    ∙ ap (λ place. unwrap_or place (length bytes)) found
+    ∙ found_or _ (length bytes) (prefix_len-le-length (λ b. not (b == 0)) bytes)

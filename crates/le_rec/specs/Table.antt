@@ -11,7 +11,7 @@ pub record Rows (R : Type 0) : Type 0 where
 abbrev pub piece : ℕ → List ℕ → ℕ → List ℕ
 piece size bytes index = take size (drop (index * size) bytes)
 
--- the records of bytes, cut at the greatest multiple of the size
+-- the records that bytes hold, as many as are whole
 abbrev pub records_of : {R : Type 0} → ℕ → (List ℕ → R) → List ℕ → List R
 records_of size read bytes =
     map (λ index. read (piece size bytes index)) (range_with_len 0 (length bytes / size))

@@ -8,8 +8,8 @@ ghost use Rattle.le_rec.specs.Table.{records_of, rows_of};
 use crate::record::Record;
 use std::marker::{Model, PhantomData};
 
-/// Records one after another. The table lends the bytes and decodes a record when it is asked for.
-/// The bytes after the last whole record are left over.
+/// Records one after another, decoded from the lent bytes at each call. The bytes after the last
+/// whole record are left over.
 #[derive(Drop)]
 pub struct Table<'a, R: Record> {
     bytes: &'a [u8],

@@ -262,6 +262,11 @@ fn whole_inputs(rt: HostRuntime) -> Result<(), Fail> {
         read_all(rt.alloc(), &mut input, 3).err(),
         Some(IoFault::TooLong)
     );
+    Ok(())
+}
+
+#[test]
+fn whole_inputs_that_fail(rt: HostRuntime) {
     for call in 1..=5 {
         let mut input = SliceSource::new(b"1 5\n").at_most(1).failing_at(call);
         assert_eq!(rt;
@@ -271,6 +276,10 @@ fn whole_inputs(rt: HostRuntime) -> Result<(), Fail> {
         assert!(rt; input.failed());
         assert_eq!(rt; input.left().len(), 4 - (call as usize - 1));
     }
+}
+
+#[test]
+fn whole_inputs_without_memory(rt: HostRuntime) -> Result<(), Fail> {
     let bytes = [b'1'; 200000];
     for growth in 1..=3 {
         let refusing = Refusing::new(rt.alloc(), growth);

@@ -9,7 +9,7 @@ use super::fault::IoFault;
 use le_rec::Source;
 use std::alloc::Allocator;
 
-/// The next bytes of `input`, as many as `block` has room for; none only at its end.
+/// The next bytes of `input`, at most as many as `block` has room for; none only at its end.
 pub fn next_block<'b, S: Source>(input: &mut S, block: &'b mut [u8]) -> Result<&'b [u8], IoFault>
     requires { 0 < length block.old }
     ensures bound { IfOk result (λ bytes. length bytes.now ≤ length block.old) }

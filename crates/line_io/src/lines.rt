@@ -15,15 +15,15 @@ use super::refusal::LineRefusal;
 use le_rec::{Sink, Source};
 use memchr::memchr;
 
-/// The most bytes of a line's content.
+/// The most bytes of a line's content, 64.
 pub const CONTENT: usize = 64;
 
 /// A command that answers each line of its input by itself.
 pub trait LineCommand {
-    // Whether its answers are told by a function of a line's content, its byte 10 too.
+    /// Which functions tell its answers: from a line's content to the answer with its byte 10.
     ghost Answers: { Self → (List ℕ → List ℕ) → Type 0 };
 
-    // Whether an answer takes memory.
+    /// Whether an answer takes memory.
     ghost takes_memory: { Bool };
 
     /// Writes the answer to a line with that content.

@@ -6,8 +6,8 @@ ghost use Rattle.std.specs.Fmt.{signed_decimal};
 use itoa::write_digits;
 use std::marker::Model;
 
-/// The most bytes of a line.
-const ROOM: usize = 144;
+/// The most bytes of a [`TextLine`], 144.
+pub const ROOM: usize = 144;
 
 /// A line of text in the making, kept on the stack. It is filled from its end to its start, so that
 /// the digits of a number are written where they stay. Contracts see the bytes so far.
@@ -19,12 +19,13 @@ pub struct TextLine {
 
 impl Model for TextLine {
     ghost use Rattle.std.specs.Prelude.{◌≡◌, ◌≤◌, List, ℕ, drop, length};
+    ghost use Rattle.line_io.specs.declared.text_line.TheConstants.{ROOM};
 
     ghost Value = { List ℕ };
 
     ghost view = { λ line. drop line.start line.bytes };
 
-    ghost invariant = { λ line. (line.start ≤ 144) × (length line.bytes ≡ 144) };
+    ghost invariant = { λ line. (line.start ≤ ROOM) × (length line.bytes ≡ ROOM) };
 }
 
 impl TextLine {
@@ -67,7 +68,8 @@ impl TextLine {
         self.start = start;
     }
 
-    /// Puts the decimal text of a number before the other bytes, with no leading zero.
+    /// Puts the decimal text of a number before the other bytes, with no leading zero; it needs 20
+    /// bytes of room.
     #[inline]
     pub fn put_natural(&mut self, number: u64)
         requires { length self.old + 20 ≤ ROOM }
@@ -77,7 +79,7 @@ impl TextLine {
         self.start = write_digits(number, &mut self.bytes, self.start);
     }
 
-    /// The same of a number below 256, which needs less room.
+    /// Puts the decimal text of a number below 256 before the other bytes; it needs 3 bytes of room.
     #[inline]
     pub fn put_small(&mut self, number: u8)
         requires { length self.old + 3 ≤ ROOM }
@@ -87,21 +89,22 @@ impl TextLine {
         self.start = write_small(number, &mut self.bytes, self.start);
     }
 
-    /// The same of a number that may be negative, with `-` then, and needs less room.
+    /// Puts the decimal text of a number of eight bits before the other bytes, with `-` where it is
+    /// negative; it needs 4 bytes of room.
     #[inline]
     pub fn put_small_integer(&mut self, number: i8)
         requires { length self.old + 4 ≤ ROOM }
         ensures text { self.new ≡ signed_decimal number ++ self.old }
         ensures length { length self.new ≤ length self.old + 4 }
     {
-        let below = number < 0;
         self.put_small(number.unsigned_abs());
-        if below {
+        if number < 0 {
             self.put_bytes(b"-");
         }
     }
 
-    /// The same of a number that may be negative, with `-` then.
+    /// Puts the decimal text of a number before the other bytes, with `-` where it is negative; it
+    /// needs 21 bytes of room.
     #[inline]
     pub fn put_integer(&mut self, number: i64)
         requires { length self.old + 21 ≤ ROOM }

@@ -8,8 +8,9 @@ use Rattle.line_io.specs.declared.fault.IoFault.TheVariants.{Read, Write, TooLon
 use Rattle.line_io.specs.LineAnswers.{answers_from, text_of}
 use Rattle.line_io.specs.Writes.{TakesFront}
 
--- `Read` comes only where the source has failed, `Write` only where the sink has, `TooLong` only
--- where a byte past the limit was read, `Memory` only where an answer takes memory
+-- when each fault may come: `Read` where the source has failed before a byte past the limit,
+-- `Write` where the sink has failed, `TooLong` where there was such a byte, and `Memory` where an
+-- answer takes memory
 abbrev pub EngineFault : Bool → ℕ → List ℕ → SourceState → SinkState → IoFault → Type 0
 EngineFault memory limit read input' out' Read = (input'.failed ≡ true) × (length read ≤ limit)
 EngineFault memory limit read input' out' Write = out'.failed ≡ true

@@ -14,7 +14,7 @@ last_from part [] = part
 last_from part (b ∷ input) =
     if b == 10 then last_from [] input else last_from (part ++ b ∷ []) input
 
--- a last part is a line only if it isn't empty
+-- the last part, which is a line unless it is empty
 abbrev pub last_line : List ℕ → List (List ℕ)
 last_line [] = []
 last_line (b ∷ part) = (b ∷ part) ∷ []

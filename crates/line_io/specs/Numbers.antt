@@ -32,7 +32,7 @@ pub record IsNumber (text : List ℕ) (number : ℤ) : Type 0 where
   pub all_digits : All IsDigit digits
   pub stands_for : number ≡ signed negative (value_of digits)
 
--- the texts of the numbers, with exactly one space between two and none elsewhere
+-- the texts of the numbers, joined by single spaces
 pub record AreNumbers (content : List ℕ) (numbers : List ℤ) : Type 0 where
   pub texts : List (List ℕ)
   pub each : AllZip IsNumber texts numbers

@@ -58,8 +58,8 @@ impl Name8 {
     }
 
     /// Writes the name as it is shown to the front of `text`, and answers how many bytes that
-    /// takes: visible ASCII characters but `\` as they are, the others as `\x` and two lower-case
-    /// hexadecimal digits.
+    /// takes: a visible ASCII character but `\` as it is, any other byte as `\x` with its
+    /// hexadecimal digits, two and in lower case.
     pub fn shown(&self, text: &mut [u8; 32]) -> usize
         ensures len { result ≡ length (shown_name self.now) }
         ensures text { text.new ≡ shown_name self.now ++ drop result text.old }

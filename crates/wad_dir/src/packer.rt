@@ -90,7 +90,7 @@ impl<'a, A: Allocator> Packer<'a, A> {
     pub fn pack<B: Allocator>(&self, alloc: B) -> Result<Vec<u8, B>, PackFault>
         ensures ok { IfOk result (λ file. file.items ≡ packed self.now) }
         ensures too_large { IsErrOf result PackFault.TooLarge
-            ↔ (MAX_BYTES < length (packed self.now)) }
+            ↔ (2 ^ 31 ≤ length (packed self.now)) }
 
         // What the file reads as: each entry has its lump's name and its lump's bytes.
         ensures directory { IfOk result (λ file.
@@ -115,8 +115,8 @@ impl<'a, A: Allocator> Packer<'a, A> {
 // The number of bytes of the packed file, unless it would have too many.
 fn file_size(lumps: &[NamedLump]) -> Option<usize>
     ensures some { IfSome result (λ size. size ≡ length (packed lumps.now)) }
-    ensures most { IfSome result (λ size. size ≤ MAX_BYTES) }
-    ensures none { IfNone result (MAX_BYTES < length (packed lumps.now)) }
+    ensures most { IfSome result (λ size. size < 2 ^ 31) }
+    ensures none { IfNone result (2 ^ 31 ≤ length (packed lumps.now)) }
 {
     let mut size = Header::SIZE;
     for lump in lumps {
@@ -133,7 +133,7 @@ fn file_size(lumps: &[NamedLump]) -> Option<usize>
 
 fn put_file<B: Allocator>(file: &mut Vec<u8, B>, lumps: &[NamedLump], size: usize)
     requires whole { size ≡ length (packed lumps.now) }
-    requires most { size ≤ MAX_BYTES }
+    requires most { size < 2 ^ 31 }
     requires room { vec_len file.old + size ≤ vec_capacity file.old }
     ensures file { file.new.items ≡ file.old.items ++ packed lumps.now }
     ensures names { All (λ lump. IsName lump.name) lumps.now }

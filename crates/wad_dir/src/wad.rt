@@ -40,7 +40,7 @@ pub struct Wad<'a> {
 }
 
 impl<'a> Model for Wad<'a> {
-    ghost use Rattle.std.specs.Prelude.{◌<◌, ◌^◌, length};
+    ghost use Rattle.std.specs.Prelude.{◌≡◌, ◌<◌, ◌^◌, ◌%◌, length};
     ghost use Rattle.le_rec.specs.Record.{entry, entry_size};
     ghost use Rattle.le_rec.specs.Table.{records_of};
     ghost use Rattle.wad_dir.specs.Wad as wad;
@@ -53,7 +53,8 @@ impl<'a> Model for Wad<'a> {
       entries = records_of entry_size entry w.table.now;
     } };
 
-    ghost invariant = { λ w. length w.table.now < 2 ^ 35 };
+    ghost invariant = { λ w. (length w.table.now < 2 ^ 35)
+        × (length w.table.now % entry_size ≡ 0) };
 }
 
 impl<'a> Wad<'a> {
@@ -147,6 +148,7 @@ impl<'a> Wad<'a> {
     pub fn entries(&self) -> Table<'a, Entry>
         ensures entries { result.records ≡ self.now.entries }
         ensures bound { length result.records < 2 ^ 31 }
+        ensures rest { result.rest ≡ 0 }
     {
         Table::of(self.table)
     }

@@ -112,10 +112,8 @@ impl<'a> Wad<'a> {
         let wanted = through_nul(&bytes);
         let entries = self.entries();
         for i in (0..entries.len()).rev() {
-            if let Some(entry) = entries.get(i) {
-                if entry.name.starts_with(wanted) {
-                    return Some(i);
-                }
+            if entries.at(i).name.starts_with(wanted) {
+                return Some(i);
             }
         }
         None

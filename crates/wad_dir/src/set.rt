@@ -63,9 +63,9 @@ impl<'a, A: Allocator> Set<'a, A> {
     ghost use Rattle.wad_dir.specs.Slice.{IsLump};
     ghost use Rattle.wad_dir.specs.Place.{place_of};
 
-    /// The set of the files, at most 64 of them. Room for its list is made first, which alone can
-    /// answer `Memory`; then the files are read in order, and the first that is refused is
-    /// answered.
+    /// The set of the files, at most 64 of them. First it makes room for its list, the only step
+    /// that answers `Memory`. Then it reads one file after another; the first refused one is the
+    /// answer.
     pub fn new(alloc: A, files: &'a [Vec<u8>]) -> Result<Set<'a, A>, SetFault>
         requires { length files.now ≤ MAX_FILES }
         ensures bytes { IfOk result (λ set.

@@ -7,8 +7,8 @@ ghost use Rattle.demo_lump.specs.declared.intake.TheConstants.{LIMIT};
 use crate::fault::StreamFault;
 use le_rec::Source;
 
-/// The most bytes of a demo.
-pub(crate) const LIMIT: u64 = 268_435_456;
+/// The greatest limit of a reader: 268,435,456 bytes.
+pub const LIMIT: u64 = 268_435_456;
 
 /// The most bytes that are pulled at once behind the marker.
 const BLOCK: usize = 4096;

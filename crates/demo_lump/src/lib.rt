@@ -18,5 +18,6 @@ pub use command::Command;
 pub use demo::Demo;
 pub use fault::{DemoFault, StreamFault};
 pub use header::Header;
+pub use intake::LIMIT;
 pub use reader::DemoReader;
 pub use write::write_demo;

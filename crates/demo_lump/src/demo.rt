@@ -167,9 +167,8 @@ fn behind_marker(bytes: &[u8]) -> Option<&[u8]>
     ensures { MatchOption result ((more : List ℕ) → bytes.now ≢ MARKER ∷ more)
         (λ more. bytes.now ≡ MARKER ∷ more.now) }
 {
-    if bytes.len() > 0 && bytes[0] == MARKER {
-        Some(&bytes[1..])
-    } else {
-        None
+    match bytes.split_first() {
+        Some((&MARKER, rest)) => Some(rest),
+        _ => None,
     }
 }

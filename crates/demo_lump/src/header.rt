@@ -31,7 +31,7 @@ pub struct Header {
 pub(crate) fn is_version(version: u8) -> bool
     ensures { IsTrue result ↔ IsVersion version }
 {
-    109 <= version && version <= 111
+    (109..=111).contains(&version)
 }
 
 /// The header that a version and the 12 bytes behind it hold.

@@ -22,6 +22,8 @@ pub struct Command {
     pub side: i8,
     /// Under version 111 a whole 16-bit angle, under the others its high byte alone.
     pub turn: u16,
+    /// Bits (`BT_ATTACK` and the others of `d_event.h`): 1 attacks, 2 uses, 4 changes to the weapon
+    /// whose number bits 3 to 5 hold, and 128 makes the others a request to the game, as to pause.
     pub buttons: u8,
 }
 

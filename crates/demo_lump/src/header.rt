@@ -16,9 +16,13 @@ pub struct Header {
     pub skill: u8,
     pub episode: u8,
     pub map: u8,
+    /// Where not 0, the players fight one another.
     pub deathmatch: u8,
+    /// Where not 0, killed monsters come back.
     pub respawn: u8,
+    /// Where not 0, monsters and their shots are faster.
     pub fast: u8,
+    /// Where not 0, the level has no monsters.
     pub no_monsters: u8,
     /// The player whose view is shown, from 0.
     pub viewpoint: u8,

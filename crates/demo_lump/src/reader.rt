@@ -11,9 +11,9 @@ use crate::piece::{read_command, read_header};
 use le_rec::Source;
 use std::marker::Model;
 
-/// Reads a demo from a source piece by piece, up to a limit. It asks the source only for
-/// bytes that the header or the next command still needs, and leaves those after the
-/// marker unread until `after`. Once a call of `header`, `next` or `after` answered a
+/// Reads a demo from a source piece by piece, up to a limit. It pulls no byte that the piece in
+/// hand, the header or a command, can do without, and leaves those after the marker unread until
+/// `after`. Once a call of `header`, `next` or `after` answered a
 /// fault, each later one answers that fault.
 ///
 /// One source serves all calls. Before the first fault it hasn't failed.
@@ -45,7 +45,8 @@ impl Model for DemoReader {
 }
 
 impl DemoReader {
-    /// A reader that takes at most `limit` bytes.
+    /// A reader of a demo of at most `limit` bytes, 268,435,456 at most. It takes one byte past
+    /// that at most, and answers `TooLong` then.
     pub fn new(limit: u64) -> DemoReader
         requires { limit ≤ LIMIT }
         ensures { result ≡ record {
@@ -147,7 +148,8 @@ impl DemoReader {
         self.command(version, source)
     }
 
-    /// How many bytes follow the marker: the first call reads to the end of the input and counts.
+    /// The number of bytes after the marker, once that was read. The first call pulls and counts
+    /// them, up to the input's end.
     pub fn after<S: Source>(&mut self, source: &mut S) -> Result<u64, StreamFault>
         requires ended { self.old.ended ≡ true }
         requires sound { self.old.fault ≡ None → (S.state source.old).failed ≡ false }

@@ -10,7 +10,8 @@ use crate::command::{Command, LONG, MARKER, size_of_command};
 use crate::header::{HEADER, Header};
 use std::alloc::{AllocError, Allocator};
 
-/// The demo of a header and commands: the bytes of these and the marker, and no more.
+/// The demo of a header and commands: the bytes of these and the marker, and no more. Room for all
+/// is made first, which alone can fail.
 pub fn write_demo<A: Allocator>(
     alloc: A,
     header: &Header,

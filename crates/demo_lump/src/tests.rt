@@ -182,6 +182,10 @@ fn demo_written(rt: HostRuntime) -> Result<(), Fail> {
         (demo.header(), demo.commands(), demo.after()),
         (header_of(109), 2, 0)
     );
+    assert_eq!(rt;
+        (demo.command(0), demo.command(1)),
+        (Some(commands[0]), Some(commands[1]))
+    );
     let bytes = write_demo(rt.alloc(), &header_of(109), &[])?;
     assert_eq!(rt; bytes.len(), 14);
     Ok(())

@@ -7,7 +7,7 @@ ghost use Rattle.demo_lump.specs.Scanning.{Scans};
 
 use crate::command::{Command, MARKER, command_from, size_of_command};
 use crate::fault::DemoFault;
-use crate::header::{HEADER, Header, count_players, header_from, is_version};
+use crate::header::{HEADER, Header, count_players, is_version, read_fields};
 use std::marker::Model;
 
 /// A demo. It lends the bytes, and reads a command when it is asked for.
@@ -133,11 +133,7 @@ fn read_header(bytes: &[u8]) -> Result<Header, DemoFault>
     if bytes.len() < HEADER {
         return Err(DemoFault::ShortHeader);
     }
-    let header = header_from(*version, &bytes[1..HEADER]);
-    if count_players(&header.players) == 0 {
-        return Err(DemoFault::NoPlayers);
-    }
-    Ok(header)
+    read_fields(*version, &bytes[1..HEADER])
 }
 
 // Whether the bytes begin with a command.

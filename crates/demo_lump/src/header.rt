@@ -1,7 +1,9 @@
 //! The header of a demo.
 
-ghost use Rattle.std.specs.Prelude.{◌≡◌, ◌+◌, ◌↔◌, ◌∷◌, length, IsTrue};
-ghost use Rattle.demo_lump.specs.Header.{IsVersion, header_of, players_in};
+ghost use Rattle.std.specs.Prelude.{◌≡◌, ◌+◌, ◌↔◌, ◌∷◌, length, IfOk, IfErr, IsTrue};
+ghost use Rattle.demo_lump.specs.Header.{IsHeader, IsVersion, header_of, players_in};
+
+use crate::fault::DemoFault;
 
 /// The number of bytes of a header.
 pub(crate) const HEADER: usize = 13;
@@ -38,8 +40,24 @@ pub(crate) fn is_version(version: u8) -> bool
     (109..=111).contains(&version)
 }
 
+/// The header that a version and the 12 bytes behind it hold, or `NoPlayers`.
+pub(crate) fn read_fields(version: u8, bytes: &[u8]) -> Result<Header, DemoFault>
+    requires long { length bytes.now + 1 ≡ HEADER }
+    requires version { IsVersion version }
+    ensures ok { IfOk result (IsHeader (version ∷ bytes.now)) }
+    ensures fault { IfErr result (λ fault. fault ≡ DemoFault.NoPlayers) }
+    ensures no_players { IfErr result (λ _.
+        players_in (header_of (version ∷ bytes.now)).players ≡ 0) }
+{
+    let header = header_from(version, bytes);
+    if count_players(&header.players) == 0 {
+        return Err(DemoFault::NoPlayers);
+    }
+    Ok(header)
+}
+
 /// The header that a version and the 12 bytes behind it hold.
-pub(crate) fn header_from(version: u8, bytes: &[u8]) -> Header
+fn header_from(version: u8, bytes: &[u8]) -> Header
     requires { length bytes.now + 1 ≡ HEADER }
     ensures { result ≡ header_of (version ∷ bytes.now) }
 {

@@ -6,7 +6,7 @@ ghost use Rattle.demo_lump.specs.Reads.{Reads};
 
 use crate::command::{Command, MARKER, command_from, size_of_command};
 use crate::fault::{DemoFault, StreamFault};
-use crate::header::{HEADER, Header, count_players, header_from, is_version};
+use crate::header::{HEADER, Header, is_version, read_fields};
 use crate::intake::Intake;
 use le_rec::Source;
 
@@ -31,11 +31,10 @@ pub(crate) fn read_header<S: Source>(
     if !intake.fill(source, &mut rest)? {
         return Err(StreamFault::Demo(DemoFault::ShortHeader));
     }
-    let header = header_from(version, &rest);
-    if count_players(&header.players) == 0 {
-        return Err(StreamFault::Demo(DemoFault::NoPlayers));
+    match read_fields(version, &rest) {
+        Ok(header) => Ok(header),
+        Err(fault) => Err(StreamFault::Demo(fault)),
     }
-    Ok(header)
 }
 
 /// Reads the next command, or the marker.

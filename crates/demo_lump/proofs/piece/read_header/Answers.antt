@@ -1,8 +1,7 @@
-use Rattle.std.proofs.Common.{◌≡◌, ◌<◌, ◌∷◌, ap, arith, rules, subst, sym, ◌∙◌}
+use Rattle.std.proofs.Common.{rules}
 use Rattle.std.proofs.lemmas.Result.{err_from_is_err_and}
-use Rattle.demo_lump.specs.Header.{IsHeader, IsVersion, header_of, players_in}
+use Rattle.demo_lump.specs.Header.{IsVersion}
 use Rattle.demo_lump.specs.NextPiece.{header_piece}
-use Rattle.demo_lump.specs.declared.header.Header.{Header}
 use Rattle.demo_lump.proofs.ReadsLemmas.{Reads-bad, Reads-no_rest, Reads-short, Reads-whole, header_goes_on, header_has_byte, no_players, no_players_refused, short_header}
 use Rattle.demo_lump.proofs.piece.read_header.Goals as goal
 
@@ -26,33 +25,21 @@ returns-then-not-branch-clause-reads g c =
     (header_goes_on c.in-Some.version version) byte
     _ _ c.fill.auto.buf (λ more few. short_header c.in-Some.version more version few) fill
 
-pub returns-then-count_players-eq0-clause-reads : goal.returns-then-count_players-eq0-clause-reads
-returns-then-count_players-eq0-clause-reads g c =
+pub returns-in-Err-clause-reads : goal.returns-in-Err-clause-reads
+returns-in-Err-clause-reads g c =
     let byte = rw c.in-Some.is at c.in_ok-version.ensures.takes in
     let fill = rw (c.byte.ensures.limit, c.if-not-branch.false) at c.in_ok-fill.ensures.takes in
     let version : IsVersion c.in-Some.version = search rules in
-    let none : players_in (header_of (c.in-Some.version ∷ c.fill.new.buf)).players ≡ 0 =
-    ap (λ (h : Header). players_in h.players) (sym c.header_from-header.ensures)
-    ∙ sym c.count_players.ensures ∙ c.if-count_players-eq0.true in
-    Reads-bad header_piece header_has_byte 12 c.in-Some.version
+    let none = c.in-Err.ensures.no_players in
+    rw c.in-Err.ensures.fault (Reads-bad header_piece header_has_byte 12 c.in-Some.version
     (header_goes_on c.in-Some.version version) byte
     _ _ (no_players c.in-Some.version c.fill.new.buf c.fill.auto.buf none)
-    (no_players_refused c.in-Some.version c.fill.new.buf c.fill.auto.buf version none) fill
+    (no_players_refused c.in-Some.version c.fill.new.buf c.fill.auto.buf version none) fill)
 
-pub returns-clause-reads : goal.returns-clause-reads
-returns-clause-reads g c =
+pub returns-in-Ok-clause-reads : goal.returns-in-Ok-clause-reads
+returns-in-Ok-clause-reads g c =
     let byte = rw c.in-Some.is at c.in_ok-version.ensures.takes in
     let fill = rw (c.byte.ensures.limit, c.if-not-branch.false) at c.in_ok-fill.ensures.takes in
     let version : IsVersion c.in-Some.version = search rules in
-    let some : 0 < players_in c.header_from-header.result.players =
-    omega (arith, c.count_players.ensures, c.if-count_players-eq0.false) in
-    let is : IsHeader (c.in-Some.version ∷ c.fill.new.buf) c.header_from-header.result = record {
-      long = omega (arith, c.fill.auto.buf);
-      reads = sym c.header_from-header.ensures;
-      version =
-          subst IsVersion
-          (ap (λ (h : Header). h.version) (sym c.header_from-header.ensures)) version;
-      players = some;
-    } in
     Reads-whole header_piece header_has_byte 12 c.in-Some.version
-    (header_goes_on c.in-Some.version version) byte _ _ is fill
+    (header_goes_on c.in-Some.version version) byte _ _ c.in-Ok.ensures.ok fill

@@ -24,7 +24,7 @@ pub const MAX_BYTES: usize = 2_147_483_647;
 /// Why lumps can't be packed.
 #[derive(Clone, Copy, Debug, PartialEq, Eq, Error)]
 pub enum PackFault {
-    /// The file would have more than 2,147,483,647 bytes.
+    /// A file of the lumps would be larger than 2,147,483,647 bytes.
     #[error("7 too large")]
     TooLarge,
     /// A growth was refused.

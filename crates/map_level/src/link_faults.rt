@@ -24,6 +24,18 @@ use crate::links::{
 use crate::reading::number;
 use le_rec::{LineDef, Name8, SSector, Seg, Vertex};
 
+// The flag of a linedef that has two sides (ML_TWOSIDED of doomdata.h).
+const TWO_SIDED: i16 = 4;
+
+// The most nodes of a sound level: the number of each is below NF_SUBSECTOR of doomdata.h, which
+// tells an ssector.
+const MAX_NODES: usize = 32_767;
+
+// The coordinates for which R_PointOnSide of r_main.c doesn't wrap.
+const MIN_COORDINATE: i16 = -16384;
+
+const MAX_COORDINATE: i16 = 16383;
+
 // Whether a word names no vertex.
 #[inline]
 fn names_no_vertex(level: &Level<'_>, word: i16) -> bool
@@ -34,10 +46,10 @@ fn names_no_vertex(level: &Level<'_>, word: i16) -> bool
 
 /// F3 at that index: a linedef's v1 or v2 names no vertex.
 #[inline]
-pub fn linedef_vertex_names_none(level: &Level<'_>, i: usize) -> bool
+pub fn linedef_vertex_names_none(level: &Level<'_>, i: u32) -> bool
     ensures { IsTrue result ↔ LinedefVertexNamesNone level.now i }
 {
-    match linedef_at(level, i) {
+    match linedef_at(level, i as usize) {
         Some(linedef) => names_no_vertex(level, linedef.v1) || names_no_vertex(level, linedef.v2),
         None => false,
     }
@@ -45,10 +57,10 @@ pub fn linedef_vertex_names_none(level: &Level<'_>, i: usize) -> bool
 
 /// F7 at that index: a seg's linedef names none.
 #[inline]
-pub fn seg_linedef_names_none(level: &Level<'_>, i: usize) -> bool
+pub fn seg_linedef_names_none(level: &Level<'_>, i: u32) -> bool
     ensures { IsTrue result ↔ SegLinedefNamesNone level.now i }
 {
-    match seg_at(level, i) {
+    match seg_at(level, i as usize) {
         Some(seg) => names_none(number(seg.linedef, level.reading()), linedef_count(level)),
         None => false,
     }
@@ -56,10 +68,10 @@ pub fn seg_linedef_names_none(level: &Level<'_>, i: usize) -> bool
 
 /// F4 at that index: a linedef's side0 or side1 is there and names no sidedef.
 #[inline]
-pub fn linedef_side_names_none(level: &Level<'_>, i: usize) -> bool
+pub fn linedef_side_names_none(level: &Level<'_>, i: u32) -> bool
     ensures { IsTrue result ↔ LinedefSideNamesNone level.now i }
 {
-    match linedef_at(level, i) {
+    match linedef_at(level, i as usize) {
         Some(linedef) => side_names_none(level, linedef.side0)
             || side_names_none(level, linedef.side1),
         None => false,
@@ -76,10 +88,10 @@ fn side_names_none(level: &Level<'_>, word: i16) -> bool
 
 /// F5 at that index: a sidedef's sector names none.
 #[inline]
-pub fn sidedef_sector_names_none(level: &Level<'_>, i: usize) -> bool
+pub fn sidedef_sector_names_none(level: &Level<'_>, i: u32) -> bool
     ensures { IsTrue result ↔ SidedefSectorNamesNone level.now i }
 {
-    match sidedef_at(level, i) {
+    match sidedef_at(level, i as usize) {
         Some(sidedef) => names_none(
             number(sidedef.sector, level.reading()),
             level.sectors().len(),
@@ -90,10 +102,10 @@ pub fn sidedef_sector_names_none(level: &Level<'_>, i: usize) -> bool
 
 /// F6 at that index: a seg's v1 or v2 names no vertex.
 #[inline]
-pub fn seg_vertex_names_none(level: &Level<'_>, i: usize) -> bool
+pub fn seg_vertex_names_none(level: &Level<'_>, i: u32) -> bool
     ensures { IsTrue result ↔ SegVertexNamesNone level.now i }
 {
-    match seg_at(level, i) {
+    match seg_at(level, i as usize) {
         Some(seg) => names_no_vertex(level, seg.v1) || names_no_vertex(level, seg.v2),
         None => false,
     }
@@ -101,10 +113,10 @@ pub fn seg_vertex_names_none(level: &Level<'_>, i: usize) -> bool
 
 /// F8 at that index: a seg's side is not 0 or 1.
 #[inline]
-pub fn seg_side_other(level: &Level<'_>, i: usize) -> bool
+pub fn seg_side_other(level: &Level<'_>, i: u32) -> bool
     ensures { IsTrue result ↔ SegSideOther level.now i }
 {
-    match seg_at(level, i) {
+    match seg_at(level, i as usize) {
         Some(seg) => seg.side != 0 && seg.side != 1,
         None => false,
     }
@@ -112,10 +124,10 @@ pub fn seg_side_other(level: &Level<'_>, i: usize) -> bool
 
 /// F9 at that index: a seg's linedef is there and has no side at the seg's side number, 0 or 1.
 #[inline]
-pub fn seg_without_side(level: &Level<'_>, i: usize) -> bool
+pub fn seg_without_side(level: &Level<'_>, i: u32) -> bool
     ensures { IsTrue result ↔ SegWithoutSide level.now i }
 {
-    match seg_at(level, i) {
+    match seg_at(level, i as usize) {
         Some(seg) => has_no_side(level, &seg),
         None => false,
     }
@@ -135,10 +147,10 @@ fn has_no_side(level: &Level<'_>, seg: &Seg) -> bool
 
 /// F10 at that index: an ssector's segs are not all there.
 #[inline]
-pub fn ssector_out_of_range(level: &Level<'_>, i: usize) -> bool
+pub fn ssector_out_of_range(level: &Level<'_>, i: u32) -> bool
     ensures { IsTrue result ↔ SsectorOutOfRange level.now i }
 {
-    match ssector_at(level, i) {
+    match ssector_at(level, i as usize) {
         Some(ssector) => is_out_of_range(level, &ssector),
         None => false,
     }
@@ -169,7 +181,7 @@ fn goes_past(count: i32, first: i32, segs: usize) -> bool
 
 /// F17 at that index: there is no ssector.
 #[inline]
-pub fn no_ssector(level: &Level<'_>, i: usize) -> bool
+pub fn no_ssector(level: &Level<'_>, i: u32) -> bool
     ensures { IsTrue result ↔ NoSsector level.now i }
 {
     i == 0 && ssector_count(level) == 0
@@ -177,20 +189,20 @@ pub fn no_ssector(level: &Level<'_>, i: usize) -> bool
 
 /// F18 at that index: there are more than 32767 nodes.
 #[inline]
-pub fn too_many_nodes(level: &Level<'_>, i: usize) -> bool
+pub fn too_many_nodes(level: &Level<'_>, i: u32) -> bool
     ensures { IsTrue result ↔ TooManyNodes level.now i }
 {
-    i == 0 && level.nodes().len() > 32767
+    i == 0 && level.nodes().len() > MAX_NODES
 }
 
 /// N1 at that index: the name of lump k, from 1 to 10, is not the usual one.
-pub fn lump_name_differs(level: &Level<'_>, k: usize) -> bool
+pub fn lump_name_differs(level: &Level<'_>, k: u32) -> bool
     ensures { IsTrue result ↔ LumpNameDiffers level.now k }
 {
     if k < 1 || k > 10 {
         return false;
     }
-    level.name(k) != usual_name(k)
+    level.name(k as usize) != usual_name(k as usize)
 }
 
 /// The usual name of lump k, from 1 to 10 (`ML_THINGS` to `ML_BLOCKMAP` of doomdata.h).
@@ -214,7 +226,7 @@ pub fn usual_name(k: usize) -> Name8
 }
 
 /// N2 at that index: bytes are left over in lump k, from 1 to 8.
-pub fn bytes_left_over(level: &Level<'_>, k: usize) -> bool
+pub fn bytes_left_over(level: &Level<'_>, k: u32) -> bool
     ensures { IsTrue result ↔ BytesLeftOver level.now k }
 {
     match k {
@@ -232,10 +244,10 @@ pub fn bytes_left_over(level: &Level<'_>, k: usize) -> bool
 
 /// N3 at that index: a linedef is flagged as two-sided and has no side 1.
 #[inline]
-pub fn two_sided_without_side(level: &Level<'_>, i: usize) -> bool
+pub fn two_sided_without_side(level: &Level<'_>, i: u32) -> bool
     ensures { IsTrue result ↔ TwoSidedWithoutSide level.now i }
 {
-    match linedef_at(level, i) {
+    match linedef_at(level, i as usize) {
         Some(linedef) => is_two_sided(linedef.flags) && is_no_side(level, linedef.side1),
         None => false,
     }
@@ -245,15 +257,15 @@ pub fn two_sided_without_side(level: &Level<'_>, i: usize) -> bool
 fn is_two_sided(flags: i16) -> bool
     ensures { IsTrue result ↔ IsTwoSided flags }
 {
-    flags & 4 != 0
+    flags & TWO_SIDED != 0
 }
 
 /// N4 at that index: a linedef has no side 0.
 #[inline]
-pub fn no_side0(level: &Level<'_>, i: usize) -> bool
+pub fn no_side0(level: &Level<'_>, i: u32) -> bool
     ensures { IsTrue result ↔ NoSide0 level.now i }
 {
-    match linedef_at(level, i) {
+    match linedef_at(level, i as usize) {
         Some(linedef) => is_no_side(level, linedef.side0),
         None => false,
     }
@@ -261,10 +273,10 @@ pub fn no_side0(level: &Level<'_>, i: usize) -> bool
 
 /// N5 at that index: a linedef's vertexes exist and have the same x and y.
 #[inline]
-pub fn linedef_of_no_length(level: &Level<'_>, i: usize) -> bool
+pub fn linedef_of_no_length(level: &Level<'_>, i: u32) -> bool
     ensures { IsTrue result ↔ LinedefOfNoLength level.now i }
 {
-    match linedef_at(level, i) {
+    match linedef_at(level, i as usize) {
         Some(linedef) => is_of_no_length(level, &linedef),
         None => false,
     }
@@ -296,10 +308,10 @@ fn is_one_place(a: &Vertex, b: &Vertex) -> bool
 
 /// N6 at that index: an ssector has no segs.
 #[inline]
-pub fn ssector_without_segs(level: &Level<'_>, i: usize) -> bool
+pub fn ssector_without_segs(level: &Level<'_>, i: u32) -> bool
     ensures { IsTrue result ↔ SsectorWithoutSegs level.now i }
 {
-    match ssector_at(level, i) {
+    match ssector_at(level, i as usize) {
         Some(ssector) => number(ssector.count, level.reading()) == 0,
         None => false,
     }
@@ -307,7 +319,7 @@ pub fn ssector_without_segs(level: &Level<'_>, i: usize) -> bool
 
 /// N11 at that index: no thing is a start of player 1.
 #[inline]
-pub fn no_start(level: &Level<'_>, i: usize) -> bool
+pub fn no_start(level: &Level<'_>, i: u32) -> bool
     ensures { IsTrue result ↔ NoStart level.now i }
 {
     i == 0 && !has_start(level)
@@ -337,10 +349,10 @@ fn is_start(level: &Level<'_>, k: usize) -> bool
 
 /// N12 at that index: a vertex is out of range.
 #[inline]
-pub fn vertex_outside(level: &Level<'_>, i: usize) -> bool
+pub fn vertex_outside(level: &Level<'_>, i: u32) -> bool
     ensures { IsTrue result ↔ VertexOutside level.now i }
 {
-    match level.vertexes().get(i) {
+    match level.vertexes().get(i as usize) {
         Some(vertex) => is_outside(vertex.x) || is_outside(vertex.y),
         None => false,
     }
@@ -350,5 +362,5 @@ pub fn vertex_outside(level: &Level<'_>, i: usize) -> bool
 fn is_outside(z: i16) -> bool
     ensures { IsTrue result ↔ IsOutside z }
 {
-    z < -16384 || z > 16383
+    z < MIN_COORDINATE || z > MAX_COORDINATE
 }

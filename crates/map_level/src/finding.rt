@@ -77,7 +77,7 @@ impl Code {
     pub fn is_fault(self) -> bool
         ensures { result ≡ is_fault self }
     {
-        self.place() < 18
+        self.place() < Code::N1.place()
     }
 
     /// The code's place in the order of a report, from 0.
@@ -88,7 +88,8 @@ impl Code {
     }
 }
 
-/// A code, and the number of the lump, record or block at which it holds.
+/// A code, and the number of the lump (1 to 10), record or block at which it holds; 0 where a code
+/// can hold only once.
 #[derive(Clone, Copy, Debug, PartialEq, Eq)]
 pub struct Finding {
     pub code: Code,
@@ -142,7 +143,7 @@ impl<A: Allocator> Findings<A> {
     }
 
     /// Adds one at the end.
-    pub fn push(&mut self, finding: Finding) -> Result<(), AllocError>
+    pub(crate) fn push(&mut self, finding: Finding) -> Result<(), AllocError>
         ensures ok { OnOk result (self.new ≡ self.old ++ finding ∷ []) }
         ensures err { OnErr result (self.new ≡ self.old) }
     {

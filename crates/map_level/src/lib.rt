@@ -1,7 +1,7 @@
 //! Levels of WAD files: opening one, and the links between its records.
 #![tactic(auto)]
 
-pub mod finding;
+mod finding;
 pub mod laws;
 mod level;
 mod link_codes;
@@ -9,7 +9,7 @@ mod link_faults;
 mod links;
 mod reading;
 pub mod search;
-pub mod sector_of;
+mod sector_of;
 
 pub use finding::{Code, Finding, Findings};
 pub use level::{Level, LevelFault};

@@ -35,14 +35,14 @@ abbrev pub AreThereBelow : List Wad → ℕ → ℕ → Type 0
 AreThereBelow files label k =
     (j : ℕ) → 1 ≤ j → j < k → (lump : List ℕ) × IsLump files (label + j) lump
 
--- lump k of the ten is the first that isn't there: no entry has its
--- number, or its entry has no lump
+-- lump k is the first that isn't there: no entry has its number
 pub record IsMissing (files : List Wad) (label k : ℕ) : Type 0 where
   pub from : 1 ≤ k
   pub to : k ≤ 10
   pub before : AreThereBelow files label k
   pub past : length (joined files) ≤ label + k
 
+-- lump k is the first that isn't there: its entry has no lump
 pub record IsOutsideFile (files : List Wad) (label k : ℕ) : Type 0 where
   pub from : 1 ≤ k
   pub to : k ≤ 10

@@ -1,5 +1,5 @@
--- The sector of an ssector: that of the sidedef that the linedef of its first seg has at that seg's
--- side number (P_GroupLines of p_setup.c).
+-- The sector of an ssector (P_GroupLines of p_setup.c). Follow its first seg to the linedef, take
+-- the sidedef on the seg's side of it, and that sidedef's sector.
 use Rattle.std.specs.Prelude.{ℕ, ◌≤◌, ℤ, pos, negsuc, length, Option, Some, None, nat_lt, if◌then◌else◌}
 use Rattle.std.specs.Ordering.{int_eq}
 use Rattle.std.specs.List.{slice_get}

@@ -26,8 +26,8 @@ pub enum LevelFault {
     Outside(u32),
 }
 
-/// A level of several files. It lends the bytes of its lumps and decodes a record when it is asked
-/// for.
+/// A level of several files. It keeps no records: its tables stand on the lumps' bytes, and read a
+/// record from them each time it is wanted.
 #[derive(Drop)]
 pub struct Level<'a> {
     label: usize,
@@ -198,9 +198,7 @@ struct Lumps<'a> {
 ghost use Rattle.map_level.specs.Level.{AreShort};
 ghost use Rattle.le_rec.specs.Layout.{read_by};
 ghost use Rattle.le_rec.specs.Table.{rows_of};
-ghost use Rattle.map_level.specs.Opening.{AreLumps, AreNames, AreThereBelow, IsMissing};
-ghost use Rattle.map_level.specs.Opening.{IsOutsideFile};
-ghost use Rattle.map_level.specs.Opening.{RefusesLump};
+ghost use Rattle.map_level.specs.Opening.{AreLumps, AreNames, RefusesLump};
 
 // The lumps of the ten entries after a label, or the first that isn't there.
 fn lumps_after<'a, A: Allocator>(set: &Set<'a, A>, label: usize) -> Result<Lumps<'a>, LevelFault>

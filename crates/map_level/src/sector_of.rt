@@ -3,7 +3,7 @@
 ghost use Rattle.std.specs.Prelude.{◌≡◌, ◌<◌, ◌<ℤ◌, ◌↔◌, pos, length, Some, All, IsTrue};
 ghost use Rattle.std.specs.Option.{option_map};
 ghost use Rattle.map_level.specs.Reading.{seg_under, sidedef_under};
-ghost use Rattle.map_level.specs.Links.{segs_of, sidedefs_of, ssectors_of, named};
+ghost use Rattle.map_level.specs.Links.{segs_of, ssectors_of, named};
 ghost use Rattle.map_level.specs.Findings.{AreFindings};
 ghost use Rattle.map_level.specs.LinkFaults.{LinkHolds};
 ghost use Rattle.map_level.specs.SectorOf.{IsLinkFault, IsLinked, first_seg, number_named};
@@ -11,7 +11,7 @@ ghost use Rattle.map_level.specs.SectorOf.{sector_of, sidedef_named, sidedef_of}
 
 use crate::finding::{Code, Finding, Findings};
 use crate::level::Level;
-use crate::links::{no_side, seg_at, side_of, sidedef_at, ssector_at};
+use crate::links::{names_none, no_side, seg_at, side_of, sidedef_at, ssector_at};
 use crate::reading::number;
 use le_rec::{Seg, SideDef};
 use std::alloc::Allocator;
@@ -103,7 +103,7 @@ fn number_named(index: i32, count: usize) -> Option<u16>
     requires { index <ℤ pos 65536 }
     ensures { result ≡ number_named count index }
 {
-    if index < 0 || index as usize >= count {
+    if names_none(index, count) {
         return None;
     }
     Some(index as u16)

@@ -18,8 +18,8 @@ cross partition point =
 abbrev pub is_origin : Partition → Point → Bool
 is_origin partition point = int_eq point.x partition.x && int_eq point.y partition.y
 
--- the side of a point on the line itself (R_PointOnSide of r_main.c): how dx and dy stand to 0,
--- and whether it is the origin
+-- the side of a point on the line itself (ours; R_PointOnSide of r_main.c gives the same for whole
+-- units): how dx and dy stand to 0, and whether it is the origin
 abbrev pub side_of_tie : Ordering → Ordering → Bool → Side
 side_of_tie Equal Greater _ = Back
 side_of_tie Equal _ _ = Front

@@ -106,8 +106,8 @@ fn side_of_tie(dx: i32, dy: i32, at_origin: bool) -> Side
     }
 }
 
-/// The side of the partition on which the point lies, as R_PointOnSide of linuxdoom 1.10 gives it
-/// for whole map units.
+/// The side of the partition on which the point lies. The rule for a point on the line is ours;
+/// R_PointOnSide of linuxdoom 1.10 gives the same for whole map units.
 #[inline]
 pub fn side(point: Point, partition: Partition) -> Side
     ensures { result ≡ side_of partition point }

@@ -1,9 +1,7 @@
 //! Rectangles of a map, and on which side of a partition all their points lie.
 
-ghost use Rattle.std.specs.Prelude.{◌≡◌, ◌↔◌, ◌≤ℤ◌, IsSome, IfSome, IsNone, IsTrue};
+ghost use Rattle.std.specs.Prelude.{◌≡◌, ◌↔◌, ◌≤ℤ◌, IsSome, IfSome, IsNone};
 ghost use Rattle.map_geo.specs.declared.sides.Side.{Side};
-ghost use Rattle.map_geo.specs.Point.{IsInRange, point_at};
-ghost use Rattle.map_geo.specs.Side.{side_of};
 ghost use Rattle.map_geo.specs.Rect.{rect_at, span, IsSpan, IsRect, AreCornersOn, IsWholeSide};
 
 use crate::partition::{Partition, side};

@@ -1,3 +1,5 @@
+//! The list of a block, read from the words of the lump.
+
 ghost use Rattle.std.specs.Prelude.{◌≡◌, length};
 ghost use Rattle.std.specs.List.{slice_get};
 ghost use Rattle.std.specs.Iterator.{YieldsFirst, item_count};
@@ -8,8 +10,8 @@ use le_rec::number::i16_at;
 use map_level::{Reading, number};
 use std::marker::Model;
 
-/// The linedefs of a block, in the order of its list. The first word, which builders usually write
-/// as 0, is one of them.
+/// The linedefs of a block, in the order of its list, with the first word too, which most builders
+/// set to 0. The words as they stand under the reading; whether they name linedefs isn't tested.
 #[derive(Drop)]
 pub struct BlockLines<'a> {
     bytes: &'a [u8],

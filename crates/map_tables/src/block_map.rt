@@ -1,3 +1,5 @@
+//! A level's BLOCKMAP: its square blocks, and the list of linedefs of each.
+
 ghost use Rattle.std.specs.Prelude.{◌≡◌, ◌↔◌, ◌⊎◌, ℕ, ◌^◌, ◌+◌, ◌<◌, ◌≤◌, pos, length, IfSome};
 ghost use Rattle.std.specs.Prelude.{IfNone, IsNone, IfOk, IsErrOf, IsTrue};
 ghost use Rattle.std.specs.Int.{int_div_euclid};
@@ -13,6 +15,9 @@ use le_rec::{Table, Word};
 use map_geo::Point;
 use map_level::Reading;
 use std::marker::Model;
+
+// The width and the height of a block, in map units (MAPBLOCKUNITS of p_local.h).
+const BLOCK_UNITS: i32 = 128;
 
 /// Why a block has no list.
 #[derive(Clone, Copy, Debug, PartialEq, Eq)]
@@ -75,7 +80,7 @@ impl<'a> BlockMap<'a> {
         })
     }
 
-    /// How many blocks a row has, as the lump says it.
+    /// How many blocks a row has, as the lump says it. Negative: there are no blocks.
     #[inline]
     pub fn width(&self) -> i16
         ensures { result ≡ self.now.width }
@@ -83,7 +88,7 @@ impl<'a> BlockMap<'a> {
         self.width
     }
 
-    /// How many blocks a column has, as the lump says it.
+    /// How many blocks a column has, as the lump says it. Negative: there are no blocks.
     #[inline]
     pub fn height(&self) -> i16
         ensures { result ≡ self.now.height }
@@ -101,7 +106,7 @@ impl<'a> BlockMap<'a> {
         Some((bx, by))
     }
 
-    /// The list of the block in column bx and row by.
+    /// The list of the block in column bx and row by. `BlockFault` says why there is none.
     pub fn list(&self, bx: u16, by: u16) -> Result<BlockLines<'a>, BlockFault>
         requires column { bx < count_of self.now.width }
         requires row { by < count_of self.now.height }
@@ -137,10 +142,7 @@ impl<'a> BlockMap<'a> {
     {
         let blocks = self.block_count();
         let offsets = self.words.len().saturating_sub(4);
-        if offsets < blocks as usize {
-            return offsets as u32;
-        }
-        blocks
+        offsets.min(blocks as usize) as u32
     }
 
     // Whether block n has a word for its offset and no list.
@@ -179,10 +181,7 @@ fn list_of<'a>(words: &Words<'a>, reach: usize, n: u32) -> Result<BlockLines<'a>
     if place >= reach {
         return Err(BlockFault::NoEnd);
     }
-    match words.list_at(place) {
-        Some(lines) => Ok(lines),
-        None => Err(BlockFault::NoEnd),
-    }
+    words.list_at(place).ok_or(BlockFault::NoEnd)
 }
 
 // Signed word k of a lump.
@@ -225,5 +224,5 @@ fn block_along(origin: i16, blocks: i16, z: i32) -> Option<u16>
 fn floor_blocks(distance: i32) -> i32
     ensures { result ≡ int_div_euclid distance (pos 128) }
 {
-    distance.div_euclid(128)
+    distance.div_euclid(BLOCK_UNITS)
 }

@@ -1,3 +1,5 @@
+//! A level's REJECT: from which sector another can't be seen.
+
 ghost use Rattle.std.specs.Prelude.{◌≡◌, ◌<◌};
 ghost use Rattle.std.specs.List.{slice_get};
 ghost use Rattle.map_tables.specs.Reject.{bits_of, sight_bit};

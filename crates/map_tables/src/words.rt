@@ -1,6 +1,6 @@
 //! The words of a BLOCKMAP.
 
-ghost use Rattle.std.specs.Prelude.{◌≡◌, ◌↔◌, ℕ, ◌<◌, ℤ, pos, ◌<ℤ◌, ◌-◌, ◌≤◌, List, length, take};
+ghost use Rattle.std.specs.Prelude.{◌≡◌, ◌↔◌, ◌<◌, ℤ, pos, ◌<ℤ◌, ◌-◌, ◌≤◌, List, length, take};
 ghost use Rattle.std.specs.Prelude.{drop, IfSome, IfNone, IsTrue, Some};
 ghost use Rattle.std.specs.List.{slice_get};
 ghost use Rattle.map_tables.specs.Words.{words_under, IsListAt, ListsBeginBelow, HasOffset};
@@ -92,10 +92,8 @@ impl<'a> Words<'a> {
         ensures some { IfSome result (IsListAt self.now place) }
         ensures none { IfNone result ((list : List ℤ) → ¬ IsListAt self.now place list) }
     {
-        match self.end_from(place) {
-            Some(end) => Some(self.part(place, end)),
-            None => None,
-        }
+        let end = self.end_from(place)?;
+        Some(self.part(place, end))
     }
 
     // The first end word from a word on.

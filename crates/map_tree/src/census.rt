@@ -70,6 +70,7 @@ fn start(level: &Level<'_>, rect: Rect) -> Piece
     ensures word { place_of result.word ≡ root level.now }
     ensures valid { IsRect rect }
 {
+    // A rectangle's bounds tell that it is valid, which the clause says.
     let _column = rect.x0();
     Piece {
         rect,

@@ -1,8 +1,7 @@
 //! The places of a level, its nodes and ssectors, by their numbers in one row.
 
-ghost use Rattle.std.specs.Prelude.{◌≡◌, ◌<◌, ◌+◌, ◌^◌, IfSome, Some, length};
+ghost use Rattle.std.specs.Prelude.{◌≡◌, ◌<◌, ◌+◌, ◌^◌, IfSome, Some};
 ghost use Rattle.std.specs.Option.{option_map};
-ghost use Rattle.std.specs.List.{slice_get};
 ghost use Rattle.map_geo.specs.declared.sides.Side.TheVariants.{Front, Back};
 ghost use Rattle.map_tree.specs.Child.{node_count, ssector_count, place_of, where_there};
 ghost use Rattle.map_tree.specs.Slots.{slot, slot_count, child_slot, root_slot};
@@ -93,14 +92,10 @@ impl<'l, 'a> Places<'l, 'a> {
     {
         if word < NF_SUBSECTOR {
             let n = usize::from(word);
-            if n < self.nodes { Some(n) } else { None }
+            (n < self.nodes).then_some(n)
         } else {
             let t = usize::from(word - NF_SUBSECTOR);
-            if t < self.ssectors {
-                Some(self.nodes + t)
-            } else {
-                None
-            }
+            (t < self.ssectors).then_some(self.nodes + t)
         }
     }
 

@@ -19,6 +19,7 @@ pub fn is_sound<A: Allocator, B: Allocator>(
     requires nodes { AreFindings (TreeHolds level.now) nodes.now }
     ensures { IsTrue result ↔ IsSound level.now }
 {
+    // Only the clauses speak of the level.
     let _level = level;
     has_no_fault(links) && has_no_fault(nodes)
 }

@@ -16,7 +16,8 @@ use std::alloc::{AllocError, Allocator};
 
 /// The findings on a level's nodes, F11 to F16 and N7, by code and then by index.
 ///
-/// It takes two bytes for each node and ssector, and what the findings take.
+/// It takes two bytes for each node and ssector, four for each place that waits to be visited, and
+/// what the findings take.
 pub fn tree_findings<A: Allocator + Copy>(
     alloc: A,
     level: &Level<'_>,

@@ -57,7 +57,8 @@ fn is_root(places: &Places<'_, '_>, n: usize) -> bool
     requires { n < node_count places.now }
     ensures { IsTrue result ↔ (root places.now ≡ node n) }
 {
-    places.nodes() - n == 1
+    let nodes = places.nodes();
+    n + 1 == nodes
 }
 
 // Whether a child word names node n, which is there.
@@ -67,6 +68,7 @@ fn is_node_named(places: &Places<'_, '_>, counts: &[u8], n: usize) -> bool
     requires there { n < node_count places.now }
     ensures { IsTrue result ↔ IsNamed places.now (node n) }
 {
+    // Only the clauses speak of the places.
     let _places = places;
     counts[n] > 0
 }
@@ -87,6 +89,7 @@ fn is_node_reached(places: &Places<'_, '_>, reached: &[bool], n: usize) -> bool
     requires there { n < node_count places.now }
     ensures { IsTrue result ↔ IsReached places.now (node n) }
 {
+    // Only the clauses speak of the places.
     let _places = places;
     reached[n]
 }

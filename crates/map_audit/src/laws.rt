@@ -1,15 +1,20 @@
 //! Laws over the definitions alone, each the contract of a function that does nothing: a caller
 //! gets the law from a call.
 
-ghost use Rattle.map_audit.specs.Laws.{SoundIsNoFault, WideKeepsSound};
+ghost use Rattle.map_audit.specs.Laws.{SoundIsNoFault, OneReport, WideKeepsSound};
 
 /// A level is sound exactly where none of the faults F3 to F18 holds of it.
 pub fn sound_is_no_fault()
     ensures { SoundIsNoFault }
 {}
 
-/// A level that is sound under the signed reading is sound under the wide one, with the same leaf
-/// for each point and the same sector for each ssector.
+/// A level has at most one report.
+pub fn one_report()
+    ensures { OneReport }
+{}
+
+/// Soundness under the signed reading carries over to the wide one; the leaf of each point and the
+/// sector of each ssector stay.
 pub fn wide_keeps_sound()
     ensures { WideKeepsSound }
 {}

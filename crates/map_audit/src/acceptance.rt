@@ -1,14 +1,12 @@
+//! Which levels are accepted: those without a fault.
+
 ghost use Rattle.std.specs.Prelude.{◌≡◌, IfOk, OnOk, IfErr};
-ghost use Rattle.map_level.specs.Findings.{AreFindings};
-ghost use Rattle.map_level.specs.LinkFaults.{LinkHolds};
-ghost use Rattle.map_tree.specs.TreeFaults.{TreeHolds};
 ghost use Rattle.map_tree.specs.Sound.{IsSound};
-ghost use Rattle.map_audit.specs.Findings.{AuditHolds};
 ghost use Rattle.map_audit.specs.Refusal.{Refuses};
 
+use crate::auditing::whole_report;
 use crate::report::Report;
-use map_level::{Findings, Level, link_findings};
-use map_tables::table_findings;
+use map_level::{Level, link_findings};
 use map_tree::{Tree, is_sound, tree_findings};
 use std::alloc::{AllocError, Allocator, Global};
 
@@ -48,19 +46,4 @@ pub fn accept<'l, 'a, A: Allocator + Copy>(
     }
     let report = whole_report(alloc, level, &links, &nodes)?;
     Err(Refused::Faults(report))
-}
-
-// The report of a level whose links and nodes were looked at.
-fn whole_report<A: Allocator + Copy>(
-    alloc: A,
-    level: &Level<'_>,
-    links: &Findings<A>,
-    nodes: &Findings<A>,
-) -> Result<Report<A>, AllocError>
-    requires links { AreFindings (LinkHolds level.now) links.now }
-    requires nodes { AreFindings (TreeHolds level.now) nodes.now }
-    ensures { IfOk result (AreFindings (AuditHolds level.now)) }
-{
-    let tables = table_findings(alloc, level)?;
-    Report::of(alloc, level, links, nodes, &tables)
 }

@@ -1,3 +1,5 @@
+//! The report of a level: the findings of its parts in one order.
+
 ghost use Rattle.std.specs.Prelude.{◌≡◌, ◌++◌, length, count_by, not, nat_lt, IfOk, AllPairs};
 ghost use Rattle.std.specs.List.{slice_get, flat_map};
 ghost use Rattle.map_level.specs.Findings.{place, is_fault, StandsBefore, AreFindings};
@@ -103,6 +105,7 @@ fn joined<A: Allocator>(
     requires tables { AreFindings (TableHolds level.now) tables.now }
     ensures { IfOk result (λ all. AreFindings (AuditHolds level.now) all.items) }
 {
+    // Only the clauses speak of the level.
     let _level = level;
     let (to_f10, from_f17) = cut(links, Code::F11);
     let (to_n6, from_n11) = cut(from_f17, Code::N7);

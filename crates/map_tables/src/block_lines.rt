@@ -6,7 +6,7 @@ ghost use Rattle.std.specs.Iterator.{YieldsFirst, item_count};
 ghost use Rattle.map_tables.specs.Words.{words_under};
 
 use crate::words::Words;
-use le_rec::number::i16_at;
+use le_rec::{Record, Word};
 use map_level::{Reading, number};
 use std::marker::Model;
 
@@ -63,6 +63,6 @@ impl<'a> Iterator for BlockLines<'a> {
     fn next(&mut self) -> Option<i32> {
         let (word, after) = self.bytes.split_at_checked(2)?;
         self.bytes = after;
-        Some(number(i16_at(word, 0), self.reading))
+        Some(number(Word::read(word).number, self.reading))
     }
 }

@@ -8,7 +8,10 @@ ghost use Rattle.map_tree.specs.Marks.{AreReached};
 
 use crate::marks::reached_places;
 use crate::places::Places;
-use crate::tree_faults;
+use crate::tree_faults::{
+    child_names_nothing, no_direction, node_named_twice, node_not_reached, origin_outside,
+    ssector_named_twice, ssector_not_reached,
+};
 use crate::words::word_counts;
 use map_level::search::{CODES, add_where};
 use map_level::{Code, Findings, Level};
@@ -64,26 +67,22 @@ fn add_code<A: Allocator>(
     let ssectors = places.ssectors() as u32;
     match code {
         Code::F11 => add_where(found, places, code, nodes, |n| {
-            tree_faults::child_names_nothing(places, n as usize)
+            child_names_nothing(places, n)
         }),
-        Code::F12 => add_where(found, places, code, nodes, |n| {
-            tree_faults::origin_outside(places, n as usize)
-        }),
+        Code::F12 => add_where(found, places, code, nodes, |n| origin_outside(places, n)),
         Code::F13 => add_where(found, places, code, nodes, |n| {
-            tree_faults::node_named_twice(places, counts, n as usize)
+            node_named_twice(places, counts, n)
         }),
         Code::F14 => add_where(found, places, code, nodes, |n| {
-            tree_faults::node_not_reached(places, reached, n as usize)
+            node_not_reached(places, reached, n)
         }),
         Code::F15 => add_where(found, places, code, ssectors, |t| {
-            tree_faults::ssector_named_twice(places, counts, t as usize)
+            ssector_named_twice(places, counts, t)
         }),
         Code::F16 => add_where(found, places, code, ssectors, |t| {
-            tree_faults::ssector_not_reached(places, reached, t as usize)
+            ssector_not_reached(places, reached, t)
         }),
-        Code::N7 => add_where(found, places, code, nodes, |n| {
-            tree_faults::no_direction(places, n as usize)
-        }),
+        Code::N7 => add_where(found, places, code, nodes, |n| no_direction(places, n)),
         _ => add_where(found, places, code, 0, |_| false),
     }
 }

@@ -14,9 +14,10 @@ use map_geo::Partition;
 
 /// F11 at that index: child 0 or child 1 of a node names no node and no ssector.
 #[inline]
-pub fn child_names_nothing(places: &Places<'_, '_>, n: usize) -> bool
+pub fn child_names_nothing(places: &Places<'_, '_>, n: u32) -> bool
     ensures { IsTrue result ↔ ChildNamesNothing places.now n }
 {
+    let n = n as usize;
     if n >= places.nodes() {
         return false;
     }
@@ -26,10 +27,10 @@ pub fn child_names_nothing(places: &Places<'_, '_>, n: usize) -> bool
 
 /// F12 at that index: a node's origin is out of range.
 #[inline]
-pub fn origin_outside(places: &Places<'_, '_>, n: usize) -> bool
+pub fn origin_outside(places: &Places<'_, '_>, n: u32) -> bool
     ensures { IsTrue result ↔ OriginOutside places.now n }
 {
-    match places.table().get(n) {
+    match places.table().get(n as usize) {
         Some(node) => Partition::of(&node).is_none(),
         None => false,
     }
@@ -38,10 +39,11 @@ pub fn origin_outside(places: &Places<'_, '_>, n: usize) -> bool
 /// F13 at that index: a node is named by two child words, or is the root and is named by one.
 #[inline]
 #[tactic(auto, using(crate::proofs::WordLemmas::named_from_twice))]
-pub fn node_named_twice(places: &Places<'_, '_>, counts: &[u8], n: usize) -> bool
+pub fn node_named_twice(places: &Places<'_, '_>, counts: &[u8], n: u32) -> bool
     requires { AreWordCounts places.now counts.now }
     ensures { IsTrue result ↔ NodeNamedTwice places.now n }
 {
+    let n = n as usize;
     if n >= places.nodes() {
         return false;
     }
@@ -75,10 +77,11 @@ fn is_node_named(places: &Places<'_, '_>, counts: &[u8], n: usize) -> bool
 
 /// F14 at that index: a node is not reached from the root.
 #[inline]
-pub fn node_not_reached(places: &Places<'_, '_>, reached: &[bool], n: usize) -> bool
+pub fn node_not_reached(places: &Places<'_, '_>, reached: &[bool], n: u32) -> bool
     requires { AreReached places.now reached.now }
     ensures { IsTrue result ↔ NodeNotReached places.now n }
 {
+    let n = n as usize;
     n < places.nodes() && !is_node_reached(places, reached, n)
 }
 
@@ -96,10 +99,11 @@ fn is_node_reached(places: &Places<'_, '_>, reached: &[bool], n: usize) -> bool
 
 /// F15 at that index: an ssector is named by two child words.
 #[inline]
-pub fn ssector_named_twice(places: &Places<'_, '_>, counts: &[u8], t: usize) -> bool
+pub fn ssector_named_twice(places: &Places<'_, '_>, counts: &[u8], t: u32) -> bool
     requires { AreWordCounts places.now counts.now }
     ensures { IsTrue result ↔ SsectorNamedTwice places.now t }
 {
+    let t = t as usize;
     if t >= places.ssectors() {
         return false;
     }
@@ -109,10 +113,11 @@ pub fn ssector_named_twice(places: &Places<'_, '_>, counts: &[u8], t: usize) -> 
 /// F16 at that index: an ssector is not reached from the root, which
 /// is ssector 0 where there are no nodes.
 #[inline]
-pub fn ssector_not_reached(places: &Places<'_, '_>, reached: &[bool], t: usize) -> bool
+pub fn ssector_not_reached(places: &Places<'_, '_>, reached: &[bool], t: u32) -> bool
     requires { AreReached places.now reached.now }
     ensures { IsTrue result ↔ SsectorNotReached places.now t }
 {
+    let t = t as usize;
     t < places.ssectors() && !is_ssector_reached(places, reached, t)
 }
 
@@ -128,10 +133,10 @@ fn is_ssector_reached(places: &Places<'_, '_>, reached: &[bool], t: usize) -> bo
 
 /// N7 at that index: the partition of a node has no direction.
 #[inline]
-pub fn no_direction(places: &Places<'_, '_>, n: usize) -> bool
+pub fn no_direction(places: &Places<'_, '_>, n: u32) -> bool
     ensures { IsTrue result ↔ NoDirection places.now n }
 {
-    match places.table().get(n) {
+    match places.table().get(n as usize) {
         Some(node) => node.dx == 0 && node.dy == 0,
         None => false,
     }

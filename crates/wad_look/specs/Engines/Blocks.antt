@@ -1,5 +1,5 @@
 -- The command `blocks`: its answers (ours), and what its run does.
-use Rattle.std.specs.Prelude.{◌≡◌, ℕ, ◌<◌, ℤ, false, List, [], ◌∷◌, ◌++◌, length, Result, codes}
+use Rattle.std.specs.Prelude.{◌≡◌, ℕ, ◌<◌, ◌≤◌, ℤ, false, List, [], ◌∷◌, ◌++◌, length, Result, codes}
 use Rattle.std.specs.Fmt.{decimal}
 use Rattle.le_rec.specs.Sink.{SinkState}
 use Rattle.le_rec.specs.Source.{SourceState}
@@ -47,10 +47,11 @@ pub record AnswersBlock (map : BlockMap) (x y : ℤ) (text : List ℕ) : Type 0 
 abbrev pub AnswersBlocks : BlockMap → (List ℕ → List ℕ) → Type 0
 AnswersBlocks map = AnswersPairs AreCoordinates (AnswersBlock map)
 
--- the blockmap of the level of the files' name
+-- the blockmap of the level of the files' name, of which a lump shorter than 8 bytes has none
 pub record HasBlockMap (bytes : List (List ℕ)) (asked : List ℕ) (reading : Reading) (map : BlockMap) : Type 0 where
   pub level : Level
   pub opened : IsOpened bytes asked reading level
+  pub long : 8 ≤ length level.blockmap
   pub is : map ≡ block_map_of reading level.blockmap
 
 -- why there is none: the lump has fewer than 8 bytes

@@ -72,11 +72,12 @@ module _ (bytes : List (List ℕ)) (asked : List ℕ) (files : List Wad) (level 
   has_lumps = record { files = files; level = level; lumps = opened.lumps; read = read; opened = opened; stand = opened.stand; are = refl }
 
   pub level_packed : (file : List ℕ) → ((lumps : List (List ℕ)) → AreLumps files level.label lumps → file ≡ packed (extracted level.names lumps))
-      → ((lumps : List (List ℕ)) → AreLumps files level.label lumps → HoldsLumps file (extracted level.names lumps)) → IsPacked bytes asked file
-  level_packed file is holds = record {
+      → length file ≤ 2147483647 → ((lumps : List (List ℕ)) → AreLumps files level.label lumps → HoldsLumps file (extracted level.names lumps)) → IsPacked bytes asked file
+  level_packed file is fits holds = record {
     named = extracted level.names opened.lumps;
     has = has_lumps;
     is = is opened.lumps opened.stand;
+    fits = fits;
     holds = holds opened.lumps opened.stand;
   }
 

@@ -1,5 +1,5 @@
 -- The command `extract`: what it writes (ours), and what its run does.
-use Rattle.std.specs.Prelude.{◌≡◌, ℕ, ◌<◌, List, [], ◌∷◌, length, map, Result}
+use Rattle.std.specs.Prelude.{◌≡◌, ℕ, ◌<◌, ◌≤◌, List, [], ◌∷◌, length, map, Result}
 use Rattle.std.specs.List.{AllZip}
 use Rattle.le_rec.specs.Name.{name_of, query_of}
 use Rattle.le_rec.specs.declared.records.Entry.{Entry}
@@ -45,11 +45,12 @@ pub record HoldsLumps (file : List ℕ) (lumps : List NamedLump) : Type 0 where
   pub named : map (λ entry. name_of entry.name) entries ≡ map (λ lump. lump.name) lumps
   pub slices : AllZip (λ entry lump. IsSlice file entry lump.bytes) entries lumps
 
--- the file that they are packed into, which holds them
+-- the file that they are packed into, which holds them and isn't too large
 pub record IsPacked (bytes : List (List ℕ)) (asked file : List ℕ) : Type 0 where
   pub named : List NamedLump
   pub has : HasLumps bytes asked named
   pub is : file ≡ packed named
+  pub fits : length file ≤ 2147483647
   pub holds : HoldsLumps file named
 
 -- why there is none: it would be too large, or a growth was refused

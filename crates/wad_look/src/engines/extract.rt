@@ -14,8 +14,8 @@ use map_level::{Level, Reading};
 use std::alloc::Allocator;
 use wad_dir::{PackFault, Packer, Set};
 
-/// Writes a PWAD of the level's label, with no bytes, and its ten lumps under the names that their entries have. `Set`,
-/// `Memory`, `Level` and `Pack` come before anything is written.
+/// Writes a PWAD of eleven lumps: the level's label, which has no bytes, and the ten behind it, each with its entry's
+/// name. `Set`, `Memory`, `Level` and `Pack` come before anything is written.
 pub fn extract<A: Allocator + Copy, W: Sink>(
     alloc: A,
     files: &[Vec<u8>],
@@ -61,6 +61,7 @@ fn pack_level<'a, A: Allocator + Copy>(
     requires named { AreNames set.now level.now.label level.now.names }
     ensures ok { (lumps : List (List ℕ)) → AreLumps set.now level.now.label lumps
         → IfOk result (λ file. file.items ≡ packed (extracted level.now.names lumps)) }
+    ensures fits { IfOk result (λ file. length file.items ≤ 2147483647) }
     ensures holds { (lumps : List (List ℕ)) → AreLumps set.now level.now.label lumps
         → IfOk result (λ file. HoldsLumps file.items (extracted level.now.names lumps)) }
     ensures too_large { (lumps : List (List ℕ)) → AreLumps set.now level.now.label lumps
@@ -69,7 +70,7 @@ fn pack_level<'a, A: Allocator + Copy>(
     packer_of(alloc, set, level)?.pack(alloc)
 }
 
-// The level's label, with no bytes, and its ten lumps under the names that their entries have.
+// The lumps of the new file: the label, which has no bytes, and the ten behind it, each with its entry's name.
 fn packer_of<'a, A: Allocator>(
     alloc: A,
     set: &Set<'a, A>,

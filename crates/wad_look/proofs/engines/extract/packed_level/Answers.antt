@@ -6,7 +6,7 @@ use Rattle.wad_look.proofs.engines.extract.packed_level.Goals as goal
 pub returns-in-Ok-pack_level-clause-ok : goal.returns-in-Ok-pack_level-clause-ok
 returns-in-Ok-pack_level-clause-ok g c =
     level_packed (bytes_of c.args.files.now) c.args.name.now c.in_ok-set.set c.in-Ok.level c.in_ok-set.ensures.ok (rw c.query.ensures at c.in-Ok.ensures.level)
-    c.in-Ok-pack_level.file.items (λ lumps are. c.in-Ok-pack_level.ensures.ok lumps are) (λ lumps are. c.in-Ok-pack_level.ensures.holds lumps are)
+    c.in-Ok-pack_level.file.items (λ lumps are. c.in-Ok-pack_level.ensures.ok lumps are) c.in-Ok-pack_level.ensures.fits (λ lumps are. c.in-Ok-pack_level.ensures.holds lumps are)
 
 pub returns-clause-err : goal.returns-clause-err
 returns-clause-err g c =

@@ -15,11 +15,18 @@ use Rattle.wad_look.specs.Engines.Show.{RunsShow}
 use Rattle.wad_look.specs.Engines.Sight.{RunsSight}
 use Rattle.wad_look.specs.Job.{name_in, reading_of}
 use Rattle.wad_look.specs.Runs.{EndsAs}
-use Rattle.wad_look.specs.declared.engines.TheConstants.{DEMO_LIMIT, INPUT_LIMIT}
 use Rattle.wad_look.specs.declared.command.Cmd.{Cmd}
 use Rattle.wad_look.specs.declared.command.Cmd.TheVariants.{Lumps, Levels, Show, Audit, Points, Census, Sight, Blocks, Extract, Demo, Lmp}
 use Rattle.wad_look.specs.declared.command.Job.{Job}
 use Rattle.wad_look.specs.declared.fault.RunFault.{RunFault}
+
+-- the most bytes of line input
+abbrev pub input_limit : ℕ
+input_limit = 16777216
+
+-- the most bytes of a demo's file
+abbrev pub demo_limit : ℕ
+demo_limit = 268435456
 
 -- over files of these bytes, a source and a sink, of which clauses see their states: a command of files leaves the input alone
 abbrev pub RunsCommand : {S W : Type 0} → (S → SourceState) → (W → SinkState) → Cmd → List (List ℕ) → Job → List (List ℕ) → S → S → W → W → Result Bool RunFault → Type 0
@@ -32,20 +39,20 @@ RunsCommand source sink Show words job bytes input input' out out' result =
 RunsCommand source sink Audit words job bytes input input' out out' result =
     (input' ≡ input) × RunsAudit sink bytes (name_in words job) (reading_of job) out out' result
 RunsCommand source sink Points words job bytes input input' out out' result =
-    EndsAs (RunsPoints source sink bytes (name_in words job) (reading_of job) INPUT_LIMIT input input' out out') result
+    EndsAs (RunsPoints source sink bytes (name_in words job) (reading_of job) input_limit input input' out out') result
 RunsCommand source sink Census words job bytes input input' out out' result =
-    EndsAs (RunsCensus source sink bytes (name_in words job) (reading_of job) INPUT_LIMIT input input' out out') result
+    EndsAs (RunsCensus source sink bytes (name_in words job) (reading_of job) input_limit input input' out out') result
 RunsCommand source sink Sight words job bytes input input' out out' result =
-    EndsAs (RunsSight source sink bytes (name_in words job) INPUT_LIMIT input input' out out') result
+    EndsAs (RunsSight source sink bytes (name_in words job) input_limit input input' out out') result
 RunsCommand source sink Blocks words job bytes input input' out out' result =
-    EndsAs (RunsBlocks source sink bytes (name_in words job) (reading_of job) INPUT_LIMIT input input' out out') result
+    EndsAs (RunsBlocks source sink bytes (name_in words job) (reading_of job) input_limit input input' out out') result
 RunsCommand source sink Extract words job bytes input input' out out' result =
     (input' ≡ input) × EndsAs (RunsExtract sink bytes (name_in words job) out out') result
 RunsCommand source sink Demo words job bytes input input' out out' result =
     (input' ≡ input) × EndsAs (RunsDemo sink bytes (name_in words job) out out') result
 -- the demo's file is the input
 RunsCommand source sink Lmp words job bytes input input' out out' result =
-    EndsAs (RunsLmp source sink DEMO_LIMIT input input' out out') result
+    EndsAs (RunsLmp source sink demo_limit input input' out out') result
 
 -- the command of the job
 abbrev pub RunsJob : {S W : Type 0} → (S → SourceState) → (W → SinkState) → List (List ℕ) → Job → List (List ℕ) → S → S → W → W → Result Bool RunFault → Type 0

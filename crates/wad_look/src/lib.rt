@@ -9,6 +9,7 @@ mod fault;
 mod input;
 pub mod laws;
 mod listing;
+mod names;
 mod opening;
 mod outcome;
 mod turn;

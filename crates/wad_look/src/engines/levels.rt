@@ -1,9 +1,9 @@
 //! The command `levels`: the labels of levels.
 
-ghost use Rattle.std.specs.Prelude.{◌≡◌, ◌≤◌, ◌<◌, ◌^◌, ◌+◌, ◌-◌, ◌++◌, ◌↔◌, ℕ, List, [], false, length};
+ghost use Rattle.std.specs.Prelude.{◌≡◌, ◌≤◌, ◌<◌, ◌^◌, ◌+◌, ◌-◌, ◌↔◌, ℕ, List, [], false, length};
 ghost use Rattle.std.specs.Prelude.{IfOk, IfSome, IfNone, IsSome, IsTrue, None, Some};
-ghost use Rattle.std.specs.List.{flat_map, slice_get};
-ghost use Rattle.le_rec.specs.Name.{query_of, shown_name};
+ghost use Rattle.std.specs.List.{slice_get};
+ghost use Rattle.le_rec.specs.Name.{query_of};
 ghost use Rattle.line_io.specs.Writes.{Writes};
 ghost use Rattle.map_level.specs.LinkFaults.{usual_names};
 ghost use Rattle.wad_dir.specs.Entries.{joined, names};
@@ -12,8 +12,8 @@ ghost use Rattle.wad_look.specs.Engines.Levels.{AreListed, ArePlaces, HasLabels,
 ghost use Rattle.wad_look.specs.Engines.Levels.{RunsLevels, level_line, levels_text, place_at};
 ghost use Rattle.wad_look.specs.Opening.{bytes_of};
 
-use crate::engines::lumps::put_name;
 use crate::fault::{RunFault, ended};
+use crate::names::put_name;
 use crate::opening::open_set;
 use le_rec::{Name8, Sink};
 use line_io::{IoFault, TextLine, emit};

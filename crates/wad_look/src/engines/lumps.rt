@@ -1,12 +1,13 @@
 //! The command `lumps`: the files and their entries.
 
-ghost use Rattle.std.specs.Prelude.{◌≡◌, ◌≤◌, ◌<◌, ◌^◌, ◌+◌, ◌++◌, [], false, length};
-ghost use Rattle.le_rec.specs.Name.{name_of, shown_name};
+ghost use Rattle.std.specs.Prelude.{◌≡◌, ◌≤◌, ◌<◌, ◌^◌, [], false, length};
+ghost use Rattle.le_rec.specs.Name.{name_of};
 ghost use Rattle.line_io.specs.Writes.{Writes};
 ghost use Rattle.wad_look.specs.Engines.Lumps.{RunsLumps, entry_line, file_line, file_text, lumps_text};
 ghost use Rattle.wad_look.specs.Opening.{bytes_of};
 
 use crate::fault::{RunFault, ended};
+use crate::names::put_name;
 use crate::opening::open_set;
 use le_rec::{Entry, Name8, Sink};
 use line_io::{IoFault, TextLine, emit};
@@ -53,8 +54,7 @@ fn write_file<W: Sink>(n: usize, first: usize, wad: &Wad<'_>, out: &mut W) -> Re
     emit(out, line.as_bytes())?;
     let entries = wad.entries();
     'entries: for i in 0..entries.len() {
-        let Some(entry) = entries.get(i) else { break };
-        write_entry(first + i, &entry, out)?;
+        write_entry(first + i, &entries.at(i), out)?;
     }
     Ok(())
 }
@@ -100,15 +100,4 @@ fn put_file(line: &mut TextLine, n: usize, kind: Kind, count: usize)
     });
     line.put_natural(n as u64);
     line.put_bytes(b"file ");
-}
-
-/// Puts a name as it is shown.
-pub fn put_name(line: &mut TextLine, name: &Name8)
-    requires { length line.old + 32 ≤ 128 }
-    ensures text { line.new ≡ shown_name name.now ++ line.old }
-    ensures length { length line.new ≤ length line.old + 32 }
-{
-    let mut text = [0; 32];
-    let len = name.shown(&mut text);
-    line.put_bytes(&text[..len]);
 }

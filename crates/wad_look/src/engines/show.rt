@@ -9,6 +9,7 @@ ghost use Rattle.wad_look.specs.Engines.Show.{record_line, show_text, table_line
 ghost use Rattle.wad_look.specs.Opening.{bytes_of};
 
 use crate::fault::{RunFault, ended};
+use crate::names::put_name;
 use crate::opening::open_level;
 use le_rec::{
     LineDef, Name8, Node, Record, SSector, Sector, Seg, SideDef, Sink, Table, Thing, Vertex,
@@ -52,13 +53,11 @@ fn write_label<W: Sink>(level: &Level<'_>, out: &mut W) -> Result<(), IoFault>
     ensures { Writes (W.state out.old) (W.state out.new)
         (level_line (slice_index_or level.now.names 0 []) level.now.label) result }
 {
-    let mut text = [0; 32];
-    let len = level.name(0).shown(&mut text);
     let mut line = TextLine::new();
     line.put_bytes(b"\n");
     line.put_natural(level.label() as u64);
     line.put_bytes(b" at ");
-    line.put_bytes(&text[..len]);
+    put_name(&mut line, &level.name(0));
     line.put_bytes(b"level ");
     emit(out, line.as_bytes())
 }
@@ -209,14 +208,12 @@ fn put_box(line: &mut TextLine, bounds: &[i16; 4])
 }
 
 // Puts a space and a name as it is shown.
-fn put_name(line: &mut TextLine, name: &[u8; 8])
+fn put_stored(line: &mut TextLine, name: &[u8; 8])
     requires { length line.old + 33 ≤ 144 }
     ensures text { line.new ≡ name_text name.now ++ line.old }
     ensures length { length line.new ≤ length line.old + 33 }
 {
-    let mut text = [0; 32];
-    let len = Name8::stored(*name).shown(&mut text);
-    line.put_bytes(&text[..len]);
+    put_name(line, &Name8::stored(*name));
     line.put_bytes(b" ");
 }
 
@@ -255,9 +252,9 @@ impl Shown for SideDef {
 
     fn put_fields(&self, reading: Reading, line: &mut TextLine) {
         put_index(line, reading, &self.sector);
-        put_name(line, &self.middle);
-        put_name(line, &self.bottom);
-        put_name(line, &self.top);
+        put_stored(line, &self.middle);
+        put_stored(line, &self.bottom);
+        put_stored(line, &self.top);
         put_word(line, &self.yoff);
         put_word(line, &self.xoff);
     }
@@ -320,8 +317,8 @@ impl Shown for Sector {
         put_word(line, &self.tag);
         put_word(line, &self.special);
         put_word(line, &self.light);
-        put_name(line, &self.ceiling_name);
-        put_name(line, &self.floor_name);
+        put_stored(line, &self.ceiling_name);
+        put_stored(line, &self.floor_name);
         put_word(line, &self.ceiling);
         put_word(line, &self.floor);
     }

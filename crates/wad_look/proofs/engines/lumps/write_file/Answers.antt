@@ -1,12 +1,11 @@
-use Rattle.std.proofs.Common.{◌≡◌, ◌+◌, drop, length, Some, None, refl, sym, ◌∙◌}
+use Rattle.std.proofs.Common.{◌≡◌, ◌+◌, drop, length, Some, refl, ◌∙◌}
 use Rattle.std.proofs.lemmas.Result.{err_from_is_err_and}
 use Rattle.std.specs.List.{slice_get}
 use Rattle.le_rec.specs.Name.{name_of}
 use Rattle.line_io.proofs.WriteLemmas.{Writes-stop}
-use Rattle.line_io.proofs.WriteProgressLemmas.{SoFar-more, SoFar-stop, SoFar-end}
+use Rattle.line_io.proofs.WriteProgressLemmas.{SoFar-more, SoFar-stop}
 use Rattle.wad_look.specs.Engines.Lumps.{entry_line, entries_text, file_line}
 use Rattle.wad_look.proofs.LumpsLemmas.{entries_text-drop}
-use Rattle.wad_look.proofs.RestLemmas.{drop_past}
 use Rattle.wad_look.proofs.engines.lumps.write_file.Goals as goal
 
 pub returns-in_err-emit : goal.returns-in_err-emit
@@ -21,8 +20,8 @@ returns-in_err-write_entry g c =
     let p = err_from_is_err_and c.from_residual-in_err-write_entry.result c.from_residual-in_err-write_entry.ensures.1 in
     let entries = c.args.wad.now.entries in
     let i = c.entries.i in
-    let e = c.in-Some.entry in
-    let at : slice_get entries i ≡ Some e = rw (← c.entries-entries.ensures.entries) (sym c.get.ensures ∙ c.in-Some.is) in
+    let e = c.at.result in
+    let at : slice_get entries i ≡ Some e = rw (← c.entries-entries.ensures.entries) c.at.ensures in
     rw (p.1, p.2) (SoFar-stop (entry_line (c.args.first + i) e.filepos e.size (name_of e.name)) (entries_text (c.args.first + (i + 1)) (drop (i + 1) entries))
     c.entries.invariant.so_far (entries_text-drop entries c.args.first i e at) c.in_err-write_entry.ensures)
 
@@ -30,16 +29,10 @@ pub entries-preserved : goal.entries-preserved
 entries-preserved g c =
     let entries = c.args.wad.now.entries in
     let i = c.entries.i in
-    let e = c.in-Some.entry in
-    let at : slice_get entries i ≡ Some e = rw (← c.entries-entries.ensures.entries) (sym c.get.ensures ∙ c.in-Some.is) in
+    let e = c.at.result in
+    let at : slice_get entries i ≡ Some e = rw (← c.entries-entries.ensures.entries) c.at.ensures in
     record {
       sound = c.in_ok-write_entry.ensures.ends.sound;
       so_far = SoFar-more _ (entry_line (c.args.first + i) e.filepos e.size (name_of e.name)) (entries_text (c.args.first + (i + 1)) (drop (i + 1) entries))
           c.entries.invariant.so_far (entries_text-drop entries c.args.first i e at) c.in_ok-write_entry.ensures.takes.whole;
     }
-
-pub returns-in_default : goal.returns-in_default
-returns-in_default g c =
-    let entries = c.args.wad.now.entries in
-    let at : slice_get entries c.entries.i ≡ None = rw (← c.entries-entries.ensures.entries) (sym c.get.ensures ∙ c.in_default.is) in
-    SoFar-end tt c.entries.invariant.so_far (rw (drop_past entries c.entries.i at) refl) c.entries.invariant.sound

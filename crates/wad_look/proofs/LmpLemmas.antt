@@ -31,7 +31,7 @@ use Rattle.line_io.specs.declared.fault.IoFault.TheVariants as io
 use Rattle.wad_look.proofs.DemoLemmas.{commands_text-append, commands_text-last}
 use Rattle.wad_look.specs.Engines.Demo.{Turn, command_line, commands_text, header_line, listing, player_of, tic_of, totals_text}
 use Rattle.wad_look.specs.Engines.Lmp.{AreLines, CommandsFault, HasLines, IsText, ListsCommands, ListsDemo}
-use Rattle.wad_look.specs.Faults.{run_fault, stream_fault}
+use Rattle.wad_look.specs.Faults.{run_end, run_fault, stream_fault}
 use Rattle.wad_look.specs.declared.fault.RunFault.{RunFault}
 use Rattle.wad_look.specs.declared.fault.RunFault.TheVariants as fault
 
@@ -583,7 +583,7 @@ module _ (header : Header) (front : List ℕ) (start : SourceState) (out : SinkS
           listed_is : (header_line header ++ commands_text header.players 0 l.commands) ++ totals ≡ listing demo_read
           listed_is = append_assoc (header_line header) (commands_text header.players 0 l.commands) totals
 
-          pub ends_whole : (after : SinkState) (x : Unit {0}) → Writes out' after totals (Ok x) → ListsDemo limit start last out after (Ok x)
+          ends_whole : (after : SinkState) (x : Unit {0}) → Writes out' after totals (Ok x) → ListsDemo limit start last out after (Ok x)
           ends_whole after x w = record {
             read = read_all;
             given = rest_given last r.reads.read r.reads.given;
@@ -596,7 +596,7 @@ module _ (header : Header) (front : List ℕ) (start : SourceState) (out : SinkS
             lines = tt;
           }
 
-          pub ends_totals : (after : SinkState) (e : IoFault) → Writes {T = Unit {0}} out' after totals (Err e) → ListsDemo limit start last out after (Err (run_fault e))
+          ends_totals : (after : SinkState) (e : IoFault) → Writes {T = Unit {0}} out' after totals (Err e) → ListsDemo limit start last out after (Err (run_fault e))
           ends_totals after io.Write w = record {
             read = read_all;
             given = rest_given last r.reads.read r.reads.given;
@@ -612,6 +612,10 @@ module _ (header : Header) (front : List ℕ) (start : SourceState) (out : SinkS
           ends_totals after io.Memory w = absurd (let f : ⊥ = cc (w.ends.fault.0) in f)
           ends_totals after io.Read w = absurd w.ends.fault
           ends_totals after io.TooLong w = absurd w.ends.fault
+
+          pub ends_after : (after : SinkState) (outcome : Result (Unit {0}) IoFault) → Writes out' after totals outcome → ListsDemo limit start last out after (run_end outcome)
+          ends_after after (Ok x) w = ends_whole after x w
+          ends_after after (Err e) w = ends_totals after e w
 
 no_lines : (limit : ℕ) (old : DemoReader) (out : SinkState) → old.limit ≡ limit → old.taken ≡ 0 → (read : List ℕ) → NoneBegins IsHeader (take (old.limit - old.taken) read)
     → (text : List ℕ) × AreLines (take limit read) text × Appends out.taken out.taken text

@@ -5,7 +5,7 @@ ghost use Rattle.line_io.specs.Writes.{Writes};
 ghost use Rattle.wad_look.specs.Engines.Demo.{IsNamedDemo, RefusesNamedDemo, RunsDemo, listing};
 ghost use Rattle.wad_look.specs.Opening.{bytes_of};
 
-use crate::fault::RunFault;
+use crate::fault::{RunFault, ended};
 use crate::listing::{put_command, put_header, put_totals};
 use crate::opening::open_set;
 use crate::turn::Turn;
@@ -28,10 +28,7 @@ pub fn demo_text<A: Allocator, W: Sink>(
     ensures { RunsDemo W.state (bytes_of files.now) name.now out.old out.new result }
 {
     let demo = named_demo(alloc, files, name)?;
-    match write_demo(&demo, out) {
-        Ok(()) => Ok(()),
-        Err(fault) => Err(RunFault::from(fault)),
-    }
+    ended(write_demo(&demo, out))
 }
 
 // The demo in the lump of the name.

@@ -1,4 +1,4 @@
-//! The command `lmp`: the listing of a demo that is the whole input, while it is read.
+//! The command `lmp`: the listing of the demo that an input is, line by line as its bytes come.
 
 ghost use Rattle.std.specs.Prelude.{◌≡◌, ◌<◌, ◌≤◌, false, List, ℕ, None, Some, length};
 ghost use Rattle.std.specs.Io.KnownBytes.{Consumes};
@@ -6,7 +6,7 @@ ghost use Rattle.demo_lump.specs.Header.{IsHeader, players_in};
 ghost use Rattle.le_rec.specs.Source.{SourceState};
 ghost use Rattle.wad_look.specs.Engines.Lmp.{ListsCommands, ListsDemo, RunsLmp};
 
-use crate::fault::RunFault;
+use crate::fault::{RunFault, ended};
 use crate::listing::{put_command, put_header, put_totals};
 use crate::turn::Turn;
 use demo_lump::{DemoReader, Header};
@@ -55,10 +55,7 @@ fn list_demo<S: Source, W: Sink>(
     let after = reader.after(input)?;
     line.clear();
     put_totals(&mut line, turn.tic(), turn.odd(), after);
-    match emit(out, line.as_bytes()) {
-        Ok(()) => Ok(()),
-        Err(fault) => Err(RunFault::from(fault)),
-    }
+    ended(emit(out, line.as_bytes()))
 }
 
 // Lists the commands, up to the marker, and tells whose turn it would be there.

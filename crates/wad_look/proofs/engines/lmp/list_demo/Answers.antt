@@ -1,7 +1,7 @@
 use Rattle.std.proofs.Common.{ap, ◌∙◌, arith}
 use Rattle.std.proofs.lemmas.Result.{err_from_is_err_and}
 use Rattle.demo_lump.specs.DemoReader.{DemoReader}
-use Rattle.wad_look.proofs.LmpLemmas.{ends_header, ends_commands, ends_rest, ends_whole, ends_totals}
+use Rattle.wad_look.proofs.LmpLemmas.{ends_header, ends_commands, ends_rest, ends_after}
 use Rattle.wad_look.proofs.engines.lmp.list_demo.Goals as goal
 
 pub returns-in_err-emit : goal.returns-in_err-emit
@@ -24,18 +24,10 @@ returns-in_err-after g c front start begins begun fresh given =
     let r = c.in_err-after.ensures.first (ap (λ (x : DemoReader). x.fault) l.state ∙ c.requires.going) (ap (λ (x : DemoReader). x.counted) l.state ∙ fresh) in
     rw (p.1, p.2) (ends_rest c.args.header.now front start _ begins begun given w.takes.whole c.requires.bound l _ r)
 
-pub returns-in-Ok : goal.returns-in-Ok
-returns-in-Ok g c front start begins begun fresh given =
+pub returns : goal.returns
+returns g c front start begins begun fresh given =
     let w = rw (c.as_bytes.ensures ∙ c.put_header.ensures) at c.in_ok-emit.ensures in
     let l = c.in_ok-turn.ensures in
     let r = c.in_ok-after.ensures.first (ap (λ (x : DemoReader). x.fault) l.state ∙ c.requires.going) (ap (λ (x : DemoReader). x.counted) l.state ∙ fresh) in
-    let v = rw (c.as_bytes-2.ensures ∙ c.put_totals.ensures, c.tic.ensures, c.odd.ensures, l.turn, r.reads.found) at c.in-Ok.ensures in
-    ends_whole c.args.header.now front start _ begins begun given w.takes.whole c.requires.bound l _ r _ _ v
-
-pub returns-in-Err : goal.returns-in-Err
-returns-in-Err g c front start begins begun fresh given =
-    let w = rw (c.as_bytes.ensures ∙ c.put_header.ensures) at c.in_ok-emit.ensures in
-    let l = c.in_ok-turn.ensures in
-    let r = c.in_ok-after.ensures.first (ap (λ (x : DemoReader). x.fault) l.state ∙ c.requires.going) (ap (λ (x : DemoReader). x.counted) l.state ∙ fresh) in
-    let v = rw (c.as_bytes-2.ensures ∙ c.put_totals.ensures, c.tic.ensures, c.odd.ensures, l.turn, r.reads.found) at c.in-Err.ensures in
-    rw c.from.ensures (ends_totals c.args.header.now front start _ begins begun given w.takes.whole c.requires.bound l _ r _ _ v)
+    let v = rw (c.as_bytes-2.ensures ∙ c.put_totals.ensures, c.tic.ensures, c.odd.ensures, l.turn, r.reads.found) at c.emit-2.ensures in
+    rw c.ended.ensures (ends_after c.args.header.now front start _ begins begun given w.takes.whole c.requires.bound l _ r _ _ v)

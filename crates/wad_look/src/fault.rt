@@ -14,7 +14,7 @@ pub enum RunFault {
     /// The file of this number, counted from 1, has no directory.
     #[error("file {0}: {1}")]
     Set(u32, WadFault),
-    /// A lump isn't there.
+    /// The lump of the name isn't there, or isn't inside its file.
     #[error("{0}")]
     Lump(LumpFault),
     /// There is no level of the name.
@@ -29,7 +29,7 @@ pub enum RunFault {
     /// What came is no demo.
     #[error("demo {0}")]
     Demo(DemoFault),
-    /// The lumps make no file.
+    /// The lumps make too large a file, or there is no memory for it.
     #[error("{0}")]
     Pack(PackFault),
     /// The input failed.

@@ -16,8 +16,7 @@ pub fn sight_is_answered()
     ensures { law.SightIsAnswered }
 {}
 
-/// Over a sound level the line that answers a point in range names the sector of the only ssector on whose side every
-/// partition above it puts the point.
+/// The line that answers a point in range has the sector of its leaf, and the point has no other leaf.
 pub fn lines_name_the_leaf()
     ensures { law.LinesNameTheLeaf }
 {}

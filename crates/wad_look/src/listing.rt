@@ -1,6 +1,6 @@
 //! The lines of a demo's listing.
 
-ghost use Rattle.std.specs.Prelude.{◌≡◌, ◌+◌, ◌<◌, ◌≤◌, [], ◌∷◌, ◌++◌, decimal, length};
+ghost use Rattle.std.specs.Prelude.{◌≡◌, ◌+◌, ◌<◌, ◌≤◌, [], ◌++◌, decimal, length};
 ghost use Rattle.wad_look.specs.Engines.Demo.{command_line, header_line, hex_byte, hex_digit, totals_line};
 
 use demo_lump::{Command, Header};

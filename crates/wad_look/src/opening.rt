@@ -1,8 +1,7 @@
-//! Opening what a command is over. What takes memory is the set, and the audit of a level.
+//! Opening what a command is over. What takes memory is the set, the audit of a level and the list of its ssectors'
+//! sectors.
 
-ghost use Rattle.std.specs.Prelude.{◌≡◌, ◌≤◌, Err, IfErr, IfOk, IfSome, IfNone, length};
-ghost use Rattle.le_rec.specs.Name.{query_of};
-ghost use Rattle.map_level.specs.Opening.{IsLevel, RefusesLevel};
+ghost use Rattle.std.specs.Prelude.{◌≡◌, ◌≤◌, Err, IfErr, IfOk, length};
 ghost use Rattle.map_tree.specs.Sound.{IsSound};
 ghost use Rattle.wad_look.specs.Opening.{AreRead, IsOpened, RefusesAudit, RefusesFiles, RefusesName, bytes_of};
 ghost use Rattle.wad_look.specs.declared.fault.RunFault.TheVariants as fault;

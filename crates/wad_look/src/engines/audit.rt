@@ -1,10 +1,10 @@
 //! The command `audit`: the faults and notes of a level.
 
-ghost use Rattle.std.specs.Prelude.{◌≡◌, ◌≤◌, ◌↔◌, ◌++◌, [], false, length, IfOk, IfErr, IsTrue};
+ghost use Rattle.std.specs.Prelude.{◌≡◌, ◌≤◌, ◌++◌, [], false, length, IfOk, IfErr};
 ghost use Rattle.std.specs.List.{flat_map};
 ghost use Rattle.line_io.specs.Writes.{Writes};
 ghost use Rattle.wad_look.specs.Engines.Audit.{AreAuditFindings, RefusesAuditing, RunsAudit, TellsFindings};
-ghost use Rattle.wad_look.specs.Engines.Audit.{audit_text_of, code_name, fault_count, finding_line, findings_of, meaning, totals_line};
+ghost use Rattle.wad_look.specs.Engines.Audit.{code_name, finding_line, findings_of, meaning, totals_line};
 ghost use Rattle.wad_look.specs.Opening.{bytes_of};
 
 use crate::fault::{RunFault, ended};

@@ -3,7 +3,7 @@ use Rattle.std.proofs.Common.{◌≡◌, ℕ, ◌+◌, ◌-◌, ◌<◌, ◌≤�
 use Rattle.std.specs.Io.KnownBytes.{Keeps}
 use Rattle.std.proofs.lemmas.List.Sums.{sum_by_push}
 use Rattle.std.proofs.lemmas.List.{take_more, drop_more, take-append-drop, map_push, map-append, length-map, length-take-le}
-use Rattle.wadlook.specs.Files.{AreHeld, IsTooLong, RefusesFile, most_bytes, total_length}
+use Rattle.wadlook.specs.Files.{AreHeld, IsReached, IsTooLong, RefusesFile, most_bytes, total_length}
 use Rattle.wad_look.specs.declared.fault.RunFault.TheVariants.{TooLong}
 
 -- one more file
@@ -23,9 +23,8 @@ module _ {P : Type 0} (held : List ℕ → Option (List ℕ)) (path_of : P → L
       ∙ sym (map_push path_of (take i paths) (get_or paths i path)) ∙ ap (map path_of) (sym (take_more paths i path within)) in
       subst (λ ps. AreHeld held ps (files ++ file ∷ [])) e (AreHeld-push held (map path_of (take i paths)) files (path_of path) file so_far one)
 
-  pub too_long : (files : List (List ℕ)) → AreHeld held (map path_of (take i paths)) files
-      → IfSome (held (path_of path)) (λ file. most_bytes < total_length files + length file) → IsTooLong held (map path_of paths) (i + 1)
-  too_long files so_far over = record {
+  abbrev pub reached : (files : List (List ℕ)) → AreHeld held (map path_of (take i paths)) files → total_length files ≤ most_bytes → IsReached held (map path_of paths) (i + 1)
+  reached files so_far fits = record {
     before = map path_of (take i paths);
     path = path_of path;
     after = map path_of (drop (i + 1) paths);
@@ -36,8 +35,12 @@ module _ {P : Type 0} (held : List ℕ → Option (List ℕ)) (path_of : P → L
     number = ap (λ n. n + 1) (sym (length-map (take i paths) path_of ∙ length-take-le i paths (omega arith)));
     files = files;
     read = so_far;
-    over = over;
+    fits = fits;
   }
+
+  pub too_long : (files : List (List ℕ)) → AreHeld held (map path_of (take i paths)) files → total_length files ≤ most_bytes
+      → IfSome (held (path_of path)) (λ file. most_bytes < total_length files + length file) → IsTooLong held (map path_of paths) (i + 1)
+  too_long files so_far fits over = record { reached = reached files so_far fits; over = over }
 
 pub is_over : (held : Option (List ℕ)) (limit read : ℕ) → read + limit ≡ most_bytes → RefusesFile held limit TooLong
     → IfSome held (λ file. most_bytes < read + length file)

@@ -20,8 +20,8 @@ AreHeld held [] [] = ⊤
 AreHeld held (path ∷ paths) (file ∷ files) = Keeps (held path) (Some file) × AreHeld held paths files
 AreHeld held _ _ = ⊥
 
--- file n, counted from 1, has more bytes than those before it leave
-pub record IsTooLong (held : List ℕ → Option (List ℕ)) (paths : List (List ℕ)) (n : ℕ) : Type 0 where
+-- the files before file n, counted from 1, are read, and fit
+pub record IsReached (held : List ℕ → Option (List ℕ)) (paths : List (List ℕ)) (n : ℕ) : Type 0 where
   pub before : List (List ℕ)
   pub path : List ℕ
   pub after : List (List ℕ)
@@ -29,11 +29,17 @@ pub record IsTooLong (held : List ℕ → Option (List ℕ)) (paths : List (List
   pub number : n ≡ length before + 1
   pub files : List (List ℕ)
   pub read : AreHeld held before files
-  pub over : IfSome (held path) (λ file. most_bytes < total_length files + length file)
+  pub fits : total_length files ≤ most_bytes
 
--- why the files aren't read: one of them can't be, they are too long, or a growth was refused
+-- file n is the first that has more bytes than those before it leave
+pub record IsTooLong (held : List ℕ → Option (List ℕ)) (paths : List (List ℕ)) (n : ℕ) : Type 0 where
+  pub reached : IsReached held paths n
+  pub over : IfSome (held reached.path) (λ file. most_bytes < total_length reached.files + length file)
+
+-- why the files aren't read: one of them can't be, they are too long, or a growth was refused; no file is told behind one
+-- that is too long
 abbrev pub RefusesPaths : (List ℕ → Option (List ℕ)) → List (List ℕ) → Refusal → Type 0
-RefusesPaths held paths (Unreadable n) = (0 < n) × (n ≤ length paths)
+RefusesPaths held paths (Unreadable n) = IsReached held paths n
 RefusesPaths held paths (TooLong n) = IsTooLong held paths n
 RefusesPaths held paths (Run fault.Memory) = ⊤
 RefusesPaths held paths _ = ⊥

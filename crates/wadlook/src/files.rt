@@ -49,7 +49,8 @@ impl<R: Files> Storage for Disk<'_, R> {
     }
 }
 
-/// Reads the files under the paths whole and in order. A file named twice counts twice towards the limit.
+/// Reads the files under the paths, each to its end and in order. Where a path is given twice, its file's bytes count both
+/// times.
 pub fn read_files<S: Storage>(
     alloc: Global,
     storage: &S,

@@ -2,7 +2,7 @@ use Rattle.std.proofs.Common.{rules, ◌≡◌, ◌<◌, ℕ, ◌+◌, [], ◌�
 use Rattle.std.specs.Io.KnownBytes.{Keeps}
 use Rattle.std.proofs.lemmas.List.{map_push}
 use Rattle.wadlook.specs.Files.{RefusesFile, most_bytes, total_length}
-use Rattle.wadlook.proofs.FileLemmas.{held_more, too_long, is_over, total_length-push}
+use Rattle.wadlook.proofs.FileLemmas.{held_more, reached, too_long, is_over, total_length-push}
 use Rattle.wadlook.proofs.files.read_files.Goals as goal
 
 pub returns-in-Err-TooLong-clause-refused : goal.returns-in-Err-TooLong-clause-refused
@@ -11,9 +11,15 @@ returns-in-Err-TooLong-clause-refused g c =
     let inv = c.loop-i.invariant in
     let fault = subst (RefusesFile (held c.as_str.result.now) c.loop-i.left) c.in-Err-TooLong.field-0-is c.in-Err-TooLong.ensures.refused in
     too_long held string_bytes c.args.paths.now c.index-paths-i.result c.loop-i.i (omega arith) c.index-paths-i.is
-    (map (λ (f : Vec ℕ Global). f.items) c.loop-i.files.items) inv.0
+    (map (λ (f : Vec ℕ Global). f.items) c.loop-i.files.items) inv.0 (omega (arith, inv.1))
     (subst (λ p. IfSome (held p) (λ file. most_bytes < total_length (map (λ (f : Vec ℕ Global). f.items) c.loop-i.files.items) + length file)) c.as_str.ensures.value
     (is_over (held c.as_str.result.now) c.loop-i.left _ inv.1 fault))
+
+pub returns-in-Err-clause-refused : goal.returns-in-Err-clause-refused
+returns-in-Err-clause-refused g c =
+    let inv = c.loop-i.invariant in
+    reached (g.S.Storage.held c.args.storage.now) string_bytes c.args.paths.now c.index-paths-i.result c.loop-i.i (omega arith) c.index-paths-i.is
+    (map (λ (f : Vec ℕ Global). f.items) c.loop-i.files.items) inv.0 (omega (arith, inv.1))
 
 pub loop-i-preserved : goal.loop-i-preserved
 loop-i-preserved g c =

@@ -1,5 +1,5 @@
 -- What the program does with its words (ours).
-use Rattle.std.specs.Prelude.{◌≡◌, ◌≢◌, ◌⊎◌, ℕ, Bool, List, [], drop, slice_index_or, Option, Result, Ok, Err}
+use Rattle.std.specs.Prelude.{◌≡◌, ◌≢◌, ◌≤◌, ◌⊎◌, ℕ, Bool, List, [], drop, slice_index_or, Option, Result, Ok, Err}
 use Rattle.std.specs.Io.KnownBytes.{Keeps}
 use Rattle.le_rec.specs.Sink.{SinkState}
 use Rattle.le_rec.specs.Source.{SourceState}
@@ -9,7 +9,7 @@ use Rattle.wad_look.specs.declared.command.Cmd.TheVariants.{Lmp}
 use Rattle.wad_look.specs.declared.command.Job.{Job}
 use Rattle.wad_look.specs.declared.fault.RunFault.{RunFault}
 use Rattle.wad_look.specs.declared.fault.RunFault.TheVariants.{Write}
-use Rattle.wadlook.specs.Files.{AreHeld, IsTooLong, RefusesPaths}
+use Rattle.wadlook.specs.Files.{AreHeld, IsTooLong, RefusesPaths, most_bytes, total_length}
 use Rattle.wadlook.specs.declared.refusal.Refusal.{Refusal}
 use Rattle.wadlook.specs.declared.refusal.Refusal.TheVariants.{Usage, TooLong, Run}
 
@@ -43,6 +43,7 @@ pub record RunsWords {S W : Type 0} (source : S → SourceState) (sink : W → S
   pub over_files : job.command ≢ Lmp
   pub files : List (List ℕ)
   pub read : AreHeld held (drop job.first words) files
+  pub within : total_length files ≤ most_bytes
   pub runs : RunsFiles source sink left words job files result
 
 -- the first file of the words

@@ -1,6 +1,6 @@
 -- Labels, the places of their names, and the levels so far.
 use Rattle.std.proofs.Common.{◌≡◌, ◌≢◌, ◌⊎◌, inl, inr, ◌↔◌, ℕ, ◌+◌, ◌<◌, ◌≤◌, Bool, true, false, eqb, not, IsTrue, List, [], ◌∷◌, ◌++◌, length, take, drop, get_or, Option, Some, None, IsSome, refl, sym, ap, ◌∙◌, subst, arith}
-use Rattle.std.specs.Prelude.{AllPairs, Contains, nat_eq}
+use Rattle.std.specs.Prelude.{All, AllPairs, Contains, map, nat_eq}
 use Rattle.std.specs.BTreeMap.{BTreeMap, Updates}
 use Rattle.std.specs.Cmp.Lexicographic.{pointwise, slice_cmp}
 use Rattle.std.specs.List.{slice_get, flat_map}
@@ -8,8 +8,8 @@ use Rattle.std.specs.Ordering.{is_eq, nat_cmp}
 use Rattle.std.specs.Str.{bytes_eq}
 use Rattle.std.proofs.lemmas.Bool.{cases_eq, cases_lt, false≢true}
 use Rattle.std.proofs.lemmas.Bool.Decides.{Decides-eqb, nat_tests}
-use Rattle.std.proofs.lemmas.List.{take_all, length-append}
-use Rattle.std.proofs.lemmas.List.Elements.{Contains-append_left, Contains-get_or, Contains-push, Contains-push_cases}
+use Rattle.std.proofs.lemmas.List.{get_or-map, length-append, length-map, map_push, take_all}
+use Rattle.std.proofs.lemmas.List.Elements.{All-contains, All-push, Contains-append_left, Contains-get_or, Contains-push, Contains-push_cases}
 use Rattle.std.proofs.lemmas.List.Quantifiers.{all_pairs_push}
 use Rattle.std.proofs.lemmas.Map.Text.{is_eq-slice_cmp}
 use Rattle.std.proofs.lemmas.Option.{slice_get_within, slice_get-get_or, none-some}
@@ -18,7 +18,7 @@ use Rattle.le_rec.specs.Name.{name_of, padded, query_of}
 use Rattle.le_rec.proofs.NameLemmas.{name_of-name_of}
 use Rattle.wad_dir.specs.Winner.{Wins}
 use Rattle.wad_look.proofs.RestLemmas.{drop-at}
-use Rattle.wad_look.specs.Engines.Levels.{AreListed, ArePlaces, HasLabels, HasNames, IsLabel, IsListed, IsPlace, PutsPlace, level_line, place_at}
+use Rattle.wad_look.specs.Engines.Levels.{AreLabels, AreListed, ArePlaces, HasNames, HasNamesOf, IsLabel, IsListed, IsPlace, PutsPlace, level_line, place_at}
 use Rattle.wad_look.specs.declared.engines.levels.Listed.{Listed}
 
 -- ten entries are behind a label
@@ -89,20 +89,22 @@ module _ (all : List (List ℕ)) (g : ℕ) (bytes : List ℕ) (at : slice_get al
   pub ArePlaces-first : {before after : BTreeMap (List ℕ) ℕ} → PutsPlace before after bytes g → ArePlaces all 0 before → ArePlaces all 0 after
   ArePlaces-first puts are = ArePlaces-put puts all 0 IsPlace-first (λ other place differs is. are other place is)
 
-  pub HasLabels-more : {before after : BTreeMap (List ℕ) ℕ} → PutsPlace before after bytes g → HasLabels all g before → HasLabels all (g + 1) after
-  HasLabels-more {before} {after} puts has h name below label named = elim (cases_eq h g) [
-    | inl here ↦ (
-        let both : Some (name_of bytes) ≡ Some name = sym at ∙ (rw here at named) in
+  -- its name is one more
+  pub HasNamesOf-more : {before after : BTreeMap (List ℕ) ℕ} → PutsPlace before after bytes g → (entries : List ℕ) → HasNamesOf all entries before → HasNamesOf all (entries ++ g ∷ []) after
+  HasNamesOf-more {before} {after} puts entries has h name there named = elim (Contains-push_cases entries g h there) [
+    | inl old ↦ HasNames-put puts (padded name) (has h name old named)
+    | inr here ↦ (
+        let both : Some (name_of bytes) ≡ Some name = sym at ∙ (rw here named) in
         let one : name_of bytes ≡ name = cc in
         let is : padded name ≡ bytes = ap padded (sym one) ∙ sym stored in
         rw (is, puts.put) refl)
-    | inr other ↦ HasNames-put puts (padded name) (has h name (omega (arith, other)) label named)
   ]
 
-pub HasLabels-skip : (all : List (List ℕ)) (g : ℕ) (places : BTreeMap (List ℕ) ℕ) → ¬ IsLabel all g → HasLabels all g places → HasLabels all (g + 1) places
-HasLabels-skip all g places none has h name below label named = elim (cases_eq h g) [
-  | inl here ↦ absurd (none (subst (IsLabel all) here label))
-  | inr other ↦ has h name (omega (arith, other)) label named
+pub HasNamesOf-skip : (all : List (List ℕ)) (g : ℕ) (entries : List ℕ) (places : BTreeMap (List ℕ) ℕ) → slice_get all g ≡ None → HasNamesOf all entries places
+    → HasNamesOf all (entries ++ g ∷ []) places
+HasNamesOf-skip all g entries places none has h name there named = elim (Contains-push_cases entries g h there) [
+  | inl old ↦ has h name old named
+  | inr here ↦ absurd (none-some name (sym none ∙ (rw here named)))
 ]
 
 pub ArePlaces-less : (all : List (List ℕ)) (n m : ℕ) (places : BTreeMap (List ℕ) ℕ) → m ≤ n → ArePlaces all n places → ArePlaces all m places
@@ -177,10 +179,52 @@ module _ (all : List (List ℕ)) (places : BTreeMap (List ℕ) ℕ) (bytes : Lis
         | inr other ↦ ((λ differs wins. wins_not place is other (rw query at wins)), λ none. grind (arith, nat_tests))
       ]
 
--- the levels whose labels are below a number
-pub record AreListedBelow (all : List (List ℕ)) (n : ℕ) (found : List Listed) : Type 0 where
-  pub ascending : AllPairs (λ a b. a.label < b.label) found
-  pub exact : (level : Listed) → Contains found level ↔ (IsListed all level × (level.label < n))
+-- the labels below a number
+pub record AreLabelsBelow (all : List (List ℕ)) (n : ℕ) (labels : List ℕ) : Type 0 where
+  pub ascending : AllPairs (λ a b. a < b) labels
+  pub exact : (g : ℕ) → Contains labels g ↔ (IsLabel all g × (g < n))
+
+pub labels_skip : (all : List (List ℕ)) (n : ℕ) (labels : List ℕ) → AreLabelsBelow all n labels → ¬ IsLabel all n → AreLabelsBelow all (n + 1) labels
+labels_skip all n labels so_far none = record {
+  ascending = so_far.ascending;
+  exact = λ g. (
+    (λ there. let is = (so_far.exact g).0 there in (is.0, omega (arith, is.1))),
+    λ is. (so_far.exact g).1 (
+      is.0,
+      elim (cases_eq g n) [
+        | inl here ↦ absurd (none (subst (IsLabel all) here is.0))
+        | inr other ↦ omega (arith, is.1, other)
+      ],
+    ),
+  );
+}
+
+pub labels_more : (all : List (List ℕ)) (n : ℕ) (labels : List ℕ) → AreLabelsBelow all n labels → IsLabel all n → AreLabelsBelow all (n + 1) (labels ++ n ∷ [])
+labels_more all n labels so_far is = record {
+  ascending = all_pairs_push (λ (a b : ℕ). a < b) labels n so_far.ascending (λ k d below. ((so_far.exact (get_or labels k d)).0 (Contains-get_or labels k d below)).1);
+  exact = λ g. (
+    (λ there. elim (Contains-push_cases labels n g there) [
+      | inl old ↦ (let told = (so_far.exact g).0 old in (told.0, omega (arith, told.1)))
+      | inr same ↦ subst (λ (m : ℕ). IsLabel all m × (m < n + 1)) same (is, omega arith)
+    ]),
+    λ told. elim (cases_eq g n) [
+      | inl at ↦ subst (λ (m : ℕ). Contains (labels ++ n ∷ []) m) (sym at) (Contains-push labels n)
+      | inr apart ↦ Contains-append_left labels (n ∷ []) g ((so_far.exact g).1 (told.0, omega (arith, told.1, apart)))
+    ],
+  );
+}
+
+pub labels_all : (all : List (List ℕ)) (n : ℕ) (labels : List ℕ) → length all ≤ n + 10 → AreLabelsBelow all n labels → AreLabels all labels
+labels_all all n labels whole so_far = record {
+  ascending = so_far.ascending;
+  exact = λ g. ((λ there. ((so_far.exact g).0 there).0), λ is. (so_far.exact g).1 (is, omega (arith, label_within all g is)));
+}
+
+-- a label has a name
+pub label_named : (all : List (List ℕ)) (g : ℕ) → IsLabel all g → slice_get all g ≡ None → ⊥
+label_named all g label none =
+    let within = label_within all g label in
+    none-some (get_or all g []) (sym none ∙ slice_get-get_or all g [] (omega (arith, within)))
 
 same_hidden : (a b : Bool) (P : Type 0) → IsTrue a ↔ P → IsTrue b ↔ P → a ≡ b
 same_hidden true true P p q = refl
@@ -198,52 +242,44 @@ one_listed all a b p q same =
     ∙ ap (λ n. let x : Listed = record { label = b.label; name = n; hidden = a.hidden } in x) name
     ∙ ap (λ h. let x : Listed = record { label = b.label; name = b.name; hidden = h } in x) hidden
 
-pub listed_none : (all : List (List ℕ)) → AreListedBelow all 0 []
-listed_none all = record {
-  ascending = λ i j d below within. absurd (omega (arith, within));
-  exact = λ level. ((λ there. absurd (omega (arith, there.1))), λ is. absurd (omega (arith, is.1)));
+-- the levels of labels
+pub record AreLevelsOf (all : List (List ℕ)) (labels : List ℕ) (found : List Listed) : Type 0 where
+  pub labelled : map (λ (level : Listed). level.label) found ≡ labels
+  pub each : All (IsListed all) found
+
+pub levels_more : (all : List (List ℕ)) (labels : List ℕ) (found : List Listed) (level : Listed) → AreLevelsOf all labels found → IsListed all level
+    → AreLevelsOf all (labels ++ level.label ∷ []) (found ++ level ∷ [])
+levels_more all labels found level so_far is = record {
+  labelled = map_push (λ (l : Listed). l.label) found level ∙ ap (λ xs. xs ++ level.label ∷ []) so_far.labelled;
+  each = All-push (IsListed all) found level so_far.each is;
 }
 
-pub listed_skip : (all : List (List ℕ)) (g : ℕ) (found : List Listed) → AreListedBelow all g found → ¬ IsLabel all g → AreListedBelow all (g + 1) found
-listed_skip all g found so_far none = record {
-  ascending = so_far.ascending;
-  exact = λ level. (
-    (λ there. let is = (so_far.exact level).0 there in (is.0, omega (arith, is.1))),
-    λ is. (so_far.exact level).1 (
-      is.0,
-      elim (cases_eq level.label g) [
-        | inl here ↦ absurd (none (subst (IsLabel all) here is.0.label))
-        | inr other ↦ omega (arith, is.1, other)
-      ],
-    ),
-  );
-}
+module _ (all : List (List ℕ)) (labels : List ℕ) (found : List Listed) (are : AreLabels all labels) (levels : AreLevelsOf all labels found) where
+  as_many : length labels ≡ length found
+  as_many = ap length (sym levels.labelled) ∙ length-map found (λ (l : Listed). l.label)
 
-pub listed_more : (all : List (List ℕ)) (g : ℕ) (found : List Listed) (level : Listed) → AreListedBelow all g found → level.label ≡ g → IsListed all level
-    → AreListedBelow all (g + 1) (found ++ level ∷ [])
-listed_more all g found level so_far here is = record {
-  ascending = all_pairs_push (λ (a b : Listed). a.label < b.label) found level so_far.ascending (λ k d below.
-      let before = ((so_far.exact (get_or found k d)).0 (Contains-get_or found k d below)).1 in omega (arith, before, here));
-  exact = λ other. (
-    (λ there. elim (Contains-push_cases found level other there) [
-      | inl old ↦ (let told = (so_far.exact other).0 old in (told.0, omega (arith, told.1)))
-      | inr same ↦ subst (λ (l : Listed). IsListed all l × (l.label < g + 1)) same (is, omega (arith, here))
-    ]),
-    λ told. elim (cases_eq other.label g) [
-      | inl at ↦ subst (λ (l : Listed). Contains (found ++ level ∷ []) l) (one_listed all level other is told.0 (here ∙ sym at)) (Contains-push found level)
-      | inr apart ↦ Contains-append_left found (level ∷ []) other ((so_far.exact other).1 (told.0, omega (arith, told.1, apart)))
-    ],
-  );
-}
+  label-at : (i : ℕ) (d : Listed) (e : ℕ) → i < length found → get_or labels i e ≡ (get_or found i d).label
+  label-at i d e below = ap (λ (xs : List ℕ). get_or xs i e) (sym levels.labelled) ∙ get_or-map (λ (l : Listed). l.label) found i d e below
 
-pub listed_all : (all : List (List ℕ)) (n : ℕ) (found : List Listed) → length all ≤ n + 10 → AreListedBelow all n found → AreListed all found
-listed_all all n found whole so_far = record {
-  ascending = so_far.ascending;
-  exact = λ level. (
-    (λ there. ((so_far.exact level).0 there).0),
-    λ is. (so_far.exact level).1 (is, omega (arith, label_within all level.label is.label)),
-  );
-}
+  pub levels_all : AreListed all found
+  levels_all = record {
+    ascending = λ i j d below within.
+        let first = label-at i d d.label (omega (arith, within)) in
+        let second = label-at j d d.label within in
+        let before = are.ascending i j d.label below (omega (arith, as_many)) in
+        omega (arith, first, second, before);
+    exact = λ level. (
+      (λ there. All-contains (IsListed all) found level levels.each there),
+      λ is.
+          let there = (are.exact level.label).1 is.label in
+          let k = there.0 in
+          let within : k < length found = omega (arith, there.1, as_many) in
+          let other = get_or found k level in
+          let same : level.label ≡ other.label = sym there.2 ∙ label-at k level level.label within in
+          let other_is = All-contains (IsListed all) found other levels.each (Contains-get_or found k level within) in
+          subst (Contains found) (sym (one_listed all level other is other_is same)) (Contains-get_or found k level within),
+    );
+  }
 
 -- the lines of the levels from a place on
 pub level_lines-drop : (found : List Listed) (i : ℕ) (level : Listed) → slice_get found i ≡ Some level

@@ -21,6 +21,11 @@ use Rattle.wad_look.specs.declared.fault.RunFault.{RunFault}
 abbrev pub IsLabel : List (List ℕ) → ℕ → Type 0
 IsLabel all g = (k : ℕ) → 1 ≤ k → k ≤ 10 → slice_get all (g + k) ≡ slice_get usual_names (k - 1)
 
+-- the numbers of the labels, ascending, and no others
+pub record AreLabels (all : List (List ℕ)) (labels : List ℕ) : Type 0 where
+  pub ascending : AllPairs (λ a b. a < b) labels
+  pub exact : (g : ℕ) → Contains labels g ↔ IsLabel all g
+
 -- a level as it is listed: it is hidden where its name, looked up, doesn't give its label
 pub record IsListed (all : List (List ℕ)) (level : Listed) : Type 0 where
   pub label : IsLabel all level.label
@@ -58,9 +63,9 @@ HasName places name = IsSome (place_at places (padded name))
 abbrev pub HasNames : BTreeMap (List ℕ) ℕ → BTreeMap (List ℕ) ℕ → Type 0
 HasNames before after = (bytes : List ℕ) → IsSome (place_at before bytes) → IsSome (place_at after bytes)
 
--- the names of the labels below n are among those of a map
-abbrev pub HasLabels : List (List ℕ) → ℕ → BTreeMap (List ℕ) ℕ → Type 0
-HasLabels all n places = (g : ℕ) (name : List ℕ) → g < n → IsLabel all g → slice_get all g ≡ Some name → HasName places name
+-- the names of entries are among those of a map
+abbrev pub HasNamesOf : List (List ℕ) → List ℕ → BTreeMap (List ℕ) ℕ → Type 0
+HasNamesOf all entries places = (g : ℕ) (name : List ℕ) → Contains entries g → slice_get all g ≡ Some name → HasName places name
 
 -- what a line ends with
 abbrev pub hidden_text : Bool → List ℕ

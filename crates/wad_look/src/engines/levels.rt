@@ -1,14 +1,14 @@
 //! The command `levels`: the labels of levels.
 
 ghost use Rattle.std.specs.Prelude.{◌≡◌, ◌≤◌, ◌<◌, ◌^◌, ◌+◌, ◌-◌, ◌↔◌, ℕ, List, [], false, length};
-ghost use Rattle.std.specs.Prelude.{IfOk, IfSome, IfNone, IsSome, IsTrue, None, Some};
+ghost use Rattle.std.specs.Prelude.{IfOk, IsSome, IsTrue, None, Some};
 ghost use Rattle.std.specs.List.{slice_get};
 ghost use Rattle.le_rec.specs.Name.{query_of};
 ghost use Rattle.line_io.specs.Writes.{Writes};
 ghost use Rattle.map_level.specs.LinkFaults.{usual_names};
 ghost use Rattle.wad_dir.specs.Entries.{joined, names};
 ghost use Rattle.wad_dir.specs.Winner.{Wins};
-ghost use Rattle.wad_look.specs.Engines.Levels.{AreListed, ArePlaces, HasLabels, HasName, HasNames, IsLabel, PutsPlace};
+ghost use Rattle.wad_look.specs.Engines.Levels.{AreLabels, AreListed, ArePlaces, HasName, HasNames, HasNamesOf, IsLabel, PutsPlace};
 ghost use Rattle.wad_look.specs.Engines.Levels.{RunsLevels, level_line, levels_text, place_at};
 ghost use Rattle.wad_look.specs.Opening.{bytes_of};
 
@@ -58,34 +58,38 @@ fn listed_levels<A: Allocator + Copy>(
 ) -> Result<Vec<Listed, A>, AllocError>
     ensures { IfOk result (λ found. AreListed (names set.now) found.items) }
 {
-    let mut places = label_places(alloc, set)?;
+    let labels = find_labels(alloc, set)?;
+    let mut places = label_places(alloc, set, &labels)?;
     move_to_last(&mut places, set);
-    let mut found = Vec::new(alloc);
-    'labels: for g in 0..set.total().saturating_sub(10) {
-        if let Some(name) = label_at(set, g) {
-            let hidden = is_hidden(&places, &name, g);
-            found.push(Listed {
-                label: g,
-                name,
-                hidden,
-            })?;
-        }
-    }
-    Ok(found)
+    list_labels(alloc, set, &labels, &places)
 }
 
-// The names of all labels, each with the place of an entry of the name.
+// The numbers of all labels.
+fn find_labels<A: Allocator + Copy>(alloc: A, set: &Set<'_, A>) -> Result<Vec<usize, A>, AllocError>
+    ensures { IfOk result (λ labels. AreLabels (names set.now) labels.items) }
+{
+    let mut labels = Vec::new(alloc);
+    'entries: for g in 0..set.total().saturating_sub(10) {
+        if is_label(set, g) {
+            labels.push(g)?;
+        }
+    }
+    Ok(labels)
+}
+
+// The names of labels, each with the place of an entry of the name.
 fn label_places<A: Allocator + Copy>(
     alloc: A,
     set: &Set<'_, A>,
+    labels: &[usize],
 ) -> Result<BTreeMap<[u8; 8], usize, A>, AllocError>
     ensures places { IfOk result (ArePlaces (names set.now) 0) }
-    ensures labels { IfOk result (HasLabels (names set.now) (length (joined set.now) - 10)) }
+    ensures names { IfOk result (HasNamesOf (names set.now) labels.now) }
 {
     let mut places = BTreeMap::new(alloc);
-    'labels: for g in 0..set.total().saturating_sub(10) {
-        if let Some(name) = label_at(set, g) {
-            places.insert(name.bytes(), g)?;
+    'labels: for g in labels {
+        if let Some(name) = entry_name(set, *g) {
+            places.insert(name.bytes(), *g)?;
         }
     }
     Ok(places)
@@ -115,17 +119,30 @@ fn move_place<A: Allocator>(places: &mut BTreeMap<[u8; 8], usize, A>, bytes: &[u
     }
 }
 
-// The name of the label of that number, where it is one.
-fn label_at<A: Allocator>(set: &Set<'_, A>, g: usize) -> Option<Name8>
-    requires { g + 10 < 2 ^ 64 }
-    ensures some { IfSome result (λ name. (slice_get (names set.now) g ≡ Some name) × IsLabel (names set.now) g) }
-    ensures none { IfNone result (¬ IsLabel (names set.now) g) }
+// The levels of the labels, by the last places of their names.
+fn list_labels<A: Allocator + Copy>(
+    alloc: A,
+    set: &Set<'_, A>,
+    labels: &[usize],
+    places: &BTreeMap<[u8; 8], usize, A>,
+) -> Result<Vec<Listed, A>, AllocError>
+    requires labels { AreLabels (names set.now) labels.now }
+    requires last { ArePlaces (names set.now) (length (joined set.now)) places.now }
+    requires names { HasNamesOf (names set.now) labels.now places.now }
+    ensures { IfOk result (λ found. AreListed (names set.now) found.items) }
 {
-    if is_label(set, g) {
-        entry_name(set, g)
-    } else {
-        None
+    let mut found = Vec::new(alloc);
+    'labels: for g in labels {
+        if let Some(name) = entry_name(set, *g) {
+            let hidden = is_hidden(places, &name, *g);
+            found.push(Listed {
+                label: *g,
+                name,
+                hidden,
+            })?;
+        }
     }
+    Ok(found)
 }
 
 // Whether the ten entries after a number have the usual names.

@@ -1,9 +1,10 @@
 //! The lines of a demo's listing.
 
 ghost use Rattle.std.specs.Prelude.{◌≡◌, ◌+◌, ◌<◌, ◌≤◌, [], ◌++◌, decimal, length};
-ghost use Rattle.wad_look.specs.Engines.Demo.{command_line, header_line, hex_byte, hex_digit, totals_line};
+ghost use Rattle.wad_look.specs.Engines.Demo.{command_line, header_line, hex_byte, totals_line};
 
 use demo_lump::{Command, Header};
+use le_rec::hex_digit;
 use line_io::TextLine;
 
 /// `<tic> <player> <forward> <side> <turn> <buttons>`
@@ -96,16 +97,4 @@ fn put_hex(line: &mut TextLine, byte: u8)
     ensures length { length line.new ≡ length line.old + 2 }
 {
     line.put_bytes(&[hex_digit(byte / 16), hex_digit(byte % 16)]);
-}
-
-#[inline]
-fn hex_digit(number: u8) -> u8
-    requires { number < 16 }
-    ensures { result ≡ hex_digit number }
-{
-    if number < 10 {
-        b'0' + number
-    } else {
-        b'a' + number - 10
-    }
 }

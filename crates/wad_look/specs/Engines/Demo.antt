@@ -6,7 +6,7 @@ use Rattle.demo_lump.specs.Demo.{Demo, IsRead, RefusesDemo}
 use Rattle.demo_lump.specs.Header.{players_in}
 use Rattle.demo_lump.specs.declared.command.Command.{Command}
 use Rattle.demo_lump.specs.declared.header.Header.{Header}
-use Rattle.le_rec.specs.Name.{query_of}
+use Rattle.le_rec.specs.Name.{hex_digit, query_of}
 use Rattle.le_rec.specs.Sink.{SinkState}
 use Rattle.line_io.specs.Writes.{Writes}
 use Rattle.wad_dir.specs.Entries.{names}
@@ -20,9 +20,6 @@ use Rattle.wad_look.specs.declared.fault.RunFault.{RunFault}
 use Rattle.wad_look.specs.declared.fault.RunFault.TheVariants as fault
 
 -- two lower-case hexadecimal digits
-abbrev pub hex_digit : ℕ → ℕ
-hex_digit n = if nat_lt n 10 then 48 + n else 87 + n
-
 abbrev pub hex_byte : ℕ → List ℕ
 hex_byte byte = hex_digit (byte / 16) ∷ hex_digit (byte % 16) ∷ []
 

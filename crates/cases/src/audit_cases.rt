@@ -1,21 +1,19 @@
 //! Audits of levels, and which levels are accepted.
 
+use crate::findings::{NOT_REACHED, Pair, SIDE_MISSING, finding};
 use crate::sample::{
-    LINE_WITHOUT_SIDE_1, base, base_not_reached, base_with, base_with_node, lumps, nodes_with,
+    LINE_WITHOUT_SIDE_1, base, base_many_segs, base_not_reached, base_with, base_with_children,
+    base_with_node, base_with_rest, lumps,
 };
 use le_rec::Name8;
 use map_audit::{Refused, accept, audit};
 use map_geo::Point;
-use map_level::{Code, Finding, Level, Reading};
+use map_level::{Code, Level, Reading};
 use map_tree::tree_findings;
 use std::process::Abort;
 use std::test::Fail;
 use test_alloc::Refusing;
 use wad_dir::Set;
-
-fn finding(code: Code, index: u32) -> Finding {
-    Finding { code, index }
-}
 
 // The level E1M1 of a file has these findings, so many of them faults, and is accepted exactly where
 // it has no fault.
@@ -23,7 +21,7 @@ fn check_under(
     rt: &(impl Abort + AllocGlobal),
     file: Vec<u8>,
     reading: Reading,
-    expected: &[Finding],
+    expected: &[Pair],
     faults: usize,
 ) -> Result<(), Fail> {
     let files = vec![in rt.alloc(); file]?;
@@ -31,8 +29,8 @@ fn check_under(
     let level = Level::open(&set, Name8::query(b"E1M1"), reading)?;
     let report = audit(rt.alloc(), &level)?;
     assert_eq!(rt; report.len(), expected.len());
-    for (i, found) in expected.iter().enumerate() {
-        assert_eq!(rt; report.get(i), Some(*found));
+    for (i, (code, index)) in expected.iter().enumerate() {
+        assert_eq!(rt; report.get(i), Some(finding(*code, *index)), "finding {i}");
     }
     assert_eq!(rt; report.faults(), faults);
     assert_eq!(rt; report.faults() + report.notes(), expected.len());
@@ -42,7 +40,8 @@ fn check_under(
         Err(Refused::Faults(report)) => {
             assert!(rt; faults > 0);
             assert_eq!(rt; report.len(), expected.len());
-            assert_eq!(rt; report.get(0), expected.first().copied());
+            let first = expected.first().map(|(code, index)| finding(*code, *index));
+            assert_eq!(rt; report.get(0), first);
         }
     }
     Ok(())
@@ -51,7 +50,7 @@ fn check_under(
 fn check(
     rt: &(impl Abort + AllocGlobal),
     file: Vec<u8>,
-    expected: &[Finding],
+    expected: &[Pair],
     faults: usize,
 ) -> Result<(), Fail> {
     check_under(rt, file, Reading::Signed, expected, faults)
@@ -87,7 +86,7 @@ fn base_points(rt: HostRuntime) -> Result<(), Fail> {
 #[test]
 fn no_direction(rt: HostRuntime) -> Result<(), Fail> {
     let file = base_with_node(rt.alloc(), 3, 3, 0, 0)?;
-    check(&rt, file, &[finding(Code::N7, 0)], 0)?;
+    check(&rt, file, &[(Code::N7, 0)], 0)?;
     let file = base_with_node(rt.alloc(), 3, 3, 0, 0)?;
     assert_eq!(rt; place_of(&rt, file, Reading::Signed, -9, 7)?, (0, 1, 0));
     Ok(())
@@ -96,66 +95,55 @@ fn no_direction(rt: HostRuntime) -> Result<(), Fail> {
 #[test]
 fn no_nodes(rt: HostRuntime) -> Result<(), Fail> {
     let file = base_with(rt.alloc(), &[(7, &[])])?;
-    check(&rt, file, &[finding(Code::F16, 1)], 1)?;
+    check(&rt, file, &[(Code::F16, 1)], 1)?;
     let one: &[(usize, &[u8])] = &[(7, &[]), (6, &[1, 0, 0, 0])];
     check(&rt, base_with(rt.alloc(), one)?, &[], 0)?;
     let file = base_with(rt.alloc(), one)?;
     assert_eq!(rt; place_of(&rt, file, Reading::Signed, -9, 7)?, (0, 0, 0));
     let file = base_with(rt.alloc(), &[(7, &[]), (6, &[])])?;
-    check(&rt, file, &[finding(Code::F17, 0)], 1)
+    check(&rt, file, &[(Code::F17, 0)], 1)
 }
 
 #[test]
 fn nodes_not_reached(rt: HostRuntime) -> Result<(), Fail> {
-    let expected = [
-        finding(Code::F14, 0),
-        finding(Code::F14, 1),
-        finding(Code::F16, 2),
-        finding(Code::F16, 3),
-    ];
-    check(&rt, base_not_reached(rt.alloc())?, &expected, 4)
+    check(&rt, base_not_reached(rt.alloc())?, &NOT_REACHED, 4)
 }
 
 #[test]
 fn side_missing(rt: HostRuntime) -> Result<(), Fail> {
-    let expected = [finding(Code::F9, 1), finding(Code::N3, 0)];
     let file = base_with(rt.alloc(), &[(2, &LINE_WITHOUT_SIDE_1)])?;
-    check(&rt, file, &expected, 1)?;
+    check(&rt, file, &SIDE_MISSING, 1)?;
     let mut segs = Vec::from_slice(rt.alloc(), lumps()[5].1)?;
     assert_eq!(rt; segs.len(), 24);
     segs[20] = 2;
     let file = base_with(rt.alloc(), &[(5, &segs)])?;
-    check(&rt, file, &[finding(Code::F8, 1)], 1)
+    check(&rt, file, &[(Code::F8, 1)], 1)
 }
 
 #[test]
 fn wide_no_side(rt: HostRuntime) -> Result<(), Fail> {
-    let expected = [finding(Code::F9, 1), finding(Code::N3, 0)];
     let file = base_with(rt.alloc(), &[(2, &LINE_WITHOUT_SIDE_1)])?;
-    check_under(&rt, file, Reading::Wide, &expected, 1)
+    check_under(&rt, file, Reading::Wide, &SIDE_MISSING, 1)
 }
 
 #[test]
 fn bytes_left_over(rt: HostRuntime) -> Result<(), Fail> {
-    let mut sectors = Vec::from_slice(rt.alloc(), lumps()[8].1)?;
-    sectors.push(0)?;
-    let file = base_with(rt.alloc(), &[(8, &sectors)])?;
-    check(&rt, file, &[finding(Code::N2, 8)], 0)
+    check(&rt, base_with_rest(rt.alloc())?, &[(Code::N2, 8)], 0)
 }
 
 #[test]
 fn children(rt: HostRuntime) -> Result<(), Fail> {
-    let nodes = nodes_with(rt.alloc(), &[(32768, 32768)])?;
-    let twice = [finding(Code::F15, 0), finding(Code::F16, 1)];
-    check(&rt, base_with(rt.alloc(), &[(7, &nodes)])?, &twice, 2)?;
-    let nodes = nodes_with(rt.alloc(), &[(0, 32769)])?;
-    let root = [finding(Code::F13, 0), finding(Code::F16, 0)];
-    check(&rt, base_with(rt.alloc(), &[(7, &nodes)])?, &root, 2)?;
-    let nodes = nodes_with(rt.alloc(), &[(32770, 32769)])?;
-    let nothing = [finding(Code::F11, 0), finding(Code::F16, 0)];
-    check(&rt, base_with(rt.alloc(), &[(7, &nodes)])?, &nothing, 2)?;
+    let file = base_with_children(rt.alloc(), 32768, 32768)?;
+    let twice = [(Code::F15, 0), (Code::F16, 1)];
+    check(&rt, file, &twice, 2)?;
+    let file = base_with_children(rt.alloc(), 0, 32769)?;
+    let root = [(Code::F13, 0), (Code::F16, 0)];
+    check(&rt, file, &root, 2)?;
+    let file = base_with_children(rt.alloc(), 32770, 32769)?;
+    let nothing = [(Code::F11, 0), (Code::F16, 0)];
+    check(&rt, file, &nothing, 2)?;
     let file = base_with_node(rt.alloc(), 16384, 0, 0, 64)?;
-    check(&rt, file, &[finding(Code::F12, 0)], 1)
+    check(&rt, file, &[(Code::F12, 0)], 1)
 }
 
 #[test]
@@ -171,19 +159,9 @@ fn too_many_nodes(rt: HostRuntime) -> Result<(), Fail> {
 
 #[test]
 fn wide_ssectors(rt: HostRuntime) -> Result<(), Fail> {
-    let (_, segs) = lumps()[5];
-    assert_eq!(rt; segs.len(), 24);
-    let mut many = Vec::with_capacity(rt.alloc(), 393_228)?;
-    for _ in 0..32768 {
-        many.extend_from_slice(&segs[..12])?;
-    }
-    many.extend_from_slice(&segs[12..])?;
-    let changes: &[(usize, &[u8])] = &[(5, &many), (6, &[1, 0, 0, 0, 1, 0, 0, 128])];
-    let expected = [finding(Code::F10, 1)];
-    check(&rt, base_with(rt.alloc(), changes)?, &expected, 1)?;
-    let file = base_with(rt.alloc(), changes)?;
-    check_under(&rt, file, Reading::Wide, &[], 0)?;
-    let file = base_with(rt.alloc(), changes)?;
+    let file = base_many_segs(rt.alloc())?;
+    check(&rt, file.clone()?, &[(Code::F10, 1)], 1)?;
+    check_under(&rt, file.clone()?, Reading::Wide, &[], 0)?;
     assert_eq!(rt; place_of(&rt, file, Reading::Wide, 0, 5)?, (1, 1, 1));
     Ok(())
 }
@@ -192,7 +170,7 @@ fn wide_ssectors(rt: HostRuntime) -> Result<(), Fail> {
 fn check_cut(
     rt: &(impl Abort + AllocGlobal),
     k: usize,
-    expected: &[Finding],
+    expected: &[Pair],
     faults: usize,
 ) -> Result<(), Fail> {
     assert!(rt; k <= 10);
@@ -205,31 +183,22 @@ fn check_cut(
 
 #[test]
 fn lump_cut_by_one(rt: HostRuntime) -> Result<(), Fail> {
-    check_cut(&rt, 1, &[finding(Code::N2, 1), finding(Code::N11, 0)], 0)?;
-    let linedefs = [
-        finding(Code::F7, 0),
-        finding(Code::F7, 1),
-        finding(Code::N2, 2),
-    ];
+    check_cut(&rt, 1, &[(Code::N2, 1), (Code::N11, 0)], 0)?;
+    let linedefs = [(Code::F7, 0), (Code::F7, 1), (Code::N2, 2)];
     check_cut(&rt, 2, &linedefs, 2)?;
-    check_cut(&rt, 3, &[finding(Code::F4, 0), finding(Code::N2, 3)], 1)?;
-    let vertexes = [
-        finding(Code::F3, 0),
-        finding(Code::F6, 0),
-        finding(Code::F6, 1),
-        finding(Code::N2, 4),
-    ];
+    check_cut(&rt, 3, &[(Code::F4, 0), (Code::N2, 3)], 1)?;
+    let vertexes = [(Code::F3, 0), (Code::F6, 0), (Code::F6, 1), (Code::N2, 4)];
     check_cut(&rt, 4, &vertexes, 3)?;
-    check_cut(&rt, 5, &[finding(Code::F10, 1), finding(Code::N2, 5)], 1)
+    check_cut(&rt, 5, &[(Code::F10, 1), (Code::N2, 5)], 1)
 }
 
 #[test]
 fn later_lump_cut_by_one(rt: HostRuntime) -> Result<(), Fail> {
-    check_cut(&rt, 6, &[finding(Code::F11, 0), finding(Code::N2, 6)], 1)?;
-    check_cut(&rt, 7, &[finding(Code::F16, 1), finding(Code::N2, 7)], 1)?;
-    check_cut(&rt, 8, &[finding(Code::F5, 1), finding(Code::N2, 8)], 1)?;
-    check_cut(&rt, 9, &[finding(Code::N8, 0)], 0)?;
-    check_cut(&rt, 10, &[finding(Code::N10, 0)], 0)
+    check_cut(&rt, 6, &[(Code::F11, 0), (Code::N2, 6)], 1)?;
+    check_cut(&rt, 7, &[(Code::F16, 1), (Code::N2, 7)], 1)?;
+    check_cut(&rt, 8, &[(Code::F5, 1), (Code::N2, 8)], 1)?;
+    check_cut(&rt, 9, &[(Code::N8, 0)], 0)?;
+    check_cut(&rt, 10, &[(Code::N10, 0)], 0)
 }
 
 // Whether `audit` of the level met growth `n` refused: then it answers so.

@@ -1,7 +1,9 @@
 //! The command `audit`.
 
+use crate::levels::nodes_outside;
 use crate::sample::{
-    LINE_WITHOUT_SIDE_1, base, base_not_reached, base_with, base_with_node, lumps, pack,
+    LINE_WITHOUT_SIDE_1, base, base_not_reached, base_with, base_with_node, base_with_rest, lumps,
+    pack,
 };
 use map_level::{LevelFault, Reading};
 use std::process::Abort;
@@ -51,18 +53,16 @@ fn no_nodes(rt: HostRuntime) -> Result<(), Fail> {
     )
 }
 
-#[test]
-fn side_missing(rt: HostRuntime) -> Result<(), Fail> {
-    let text = b"F9 1 seg's linedef has no side there
+/// What `audit` writes of the sample level with the linedef `LINE_WITHOUT_SIDE_1`.
+pub const SIDE_MISSING: &[u8] = b"F9 1 seg's linedef has no side there
 N3 0 two-sided flag without side 1
 faults 1 notes 1
 ";
-    check(
-        &rt,
-        base_with(rt.alloc(), &[(2, &LINE_WITHOUT_SIDE_1)])?,
-        text,
-        false,
-    )
+
+#[test]
+fn side_missing(rt: HostRuntime) -> Result<(), Fail> {
+    let file = base_with(rt.alloc(), &[(2, &LINE_WITHOUT_SIDE_1)])?;
+    check(&rt, file, SIDE_MISSING, false)
 }
 
 #[test]
@@ -80,22 +80,14 @@ fn lumps_missing(rt: HostRuntime) -> Result<(), Fail> {
 
 #[test]
 fn lump_places(rt: HostRuntime) -> Result<(), Fail> {
-    let mut file = base(rt.alloc())?;
-    assert_eq!(rt; file.len(), 409);
-    // The place of the entry NODES.
-    for byte in &mut file[345..349] {
-        *byte = 255;
-    }
     let text = b"F2 7 lump outside its file\nfaults 1 notes 0\n";
-    check(&rt, file, text, false)
+    check(&rt, nodes_outside(&rt)?, text, false)
 }
 
 // `extract` keeps the byte that is left over, so the audit of what it writes finds it.
 #[test]
 fn extract_keeps_rest(rt: HostRuntime) -> Result<(), Fail> {
-    let mut sectors = Vec::from_slice(rt.alloc(), lumps()[8].1)?;
-    sectors.push(0)?;
-    let files = vec![in rt.alloc(); base_with(rt.alloc(), &[(8, &sectors)])?]?;
+    let files = vec![in rt.alloc(); base_with_rest(rt.alloc())?]?;
     let mut room = [0; 1024];
     let mut out = SliceSink::new(&mut room);
     assert_eq!(rt; extract(rt.alloc(), &files, b"E1M1", &mut out), Ok(()));

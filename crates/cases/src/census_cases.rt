@@ -1,8 +1,7 @@
 //! Censuses of rectangles: counts and work, each growth refused in turn, and a plain loop over points.
 
-use crate::sample::{base_with, base_with_node};
-use crate::tree_cases::{BASE, node, nodes, ssectors};
-use le_rec::{Name8, Record};
+use crate::sample::{base_chain, base_two_nodes, base_with, base_with_node};
+use le_rec::Name8;
 use map_geo::{Point, Rect};
 use map_level::{Level, Reading, link_findings};
 use map_tree::{Counts, Tree, is_sound, tree_findings};
@@ -100,29 +99,6 @@ fn no_nodes(alloc: Global) -> Result<Vec<u8>, Fail> {
     base_with(alloc, &[(6, &[1, 0, 0, 0]), (7, &[])])
 }
 
-// A column's node below a row's.
-fn two_nodes(alloc: Global) -> Result<Vec<u8>, Fail> {
-    let all = nodes(
-        alloc,
-        &[node(BASE, [32768, 32769]), node([0, 10, 64, 0], [0, 32770])],
-    )?;
-    let three = [1, 0, 0, 0, 1, 0, 1, 0, 1, 0, 1, 0];
-    base_with(alloc, &[(6, &three), (7, &all)])
-}
-
-// So many nodes of the sample level's geometry, each the front child of the next, at most 32767.
-fn chain(rt: &(impl Abort + AllocGlobal), count: u16) -> Result<Vec<u8>, Fail> {
-    assert!(rt; 0 < count && count <= 32767);
-    let mut lump = nodes(rt.alloc(), &[node(BASE, [32768, 32769])])?;
-    for i in 1..count {
-        let mut bytes = [0; 28];
-        node(BASE, [i - 1, 32769 + i]).write(&mut bytes);
-        lump.extend_from_slice(&bytes)?;
-    }
-    let leaves = ssectors(rt.alloc(), usize::from(count) + 1)?;
-    base_with(rt.alloc(), &[(6, &leaves), (7, &lump)])
-}
-
 #[test]
 fn census_work(rt: HostRuntime) -> Result<(), Fail> {
     check_censuses(
@@ -145,12 +121,12 @@ fn census_work(rt: HostRuntime) -> Result<(), Fail> {
     )?;
     check_censuses(
         &rt,
-        two_nodes(rt.alloc())?,
+        base_two_nodes(rt.alloc())?,
         &[([-1, 9, 1, 11], &[(0, 2), (1, 7)], Some((11, 3)))],
     )?;
     check_censuses(
         &rt,
-        chain(&rt, 32767)?,
+        base_chain(&rt, 32767)?,
         &[([1, 0, 1024, 1023], &[(0, 1_048_576)], Some((32767, 1)))],
     )
 }
@@ -222,9 +198,9 @@ fn check_all_plain(rt: &(impl Abort + AllocGlobal), file: Vec<u8>, first: u64) -
 fn censuses_are_plain_counts(rt: HostRuntime) -> Result<(), Fail> {
     check_all_plain(&rt, base_with(rt.alloc(), &[])?, 1 << 20)?;
     check_all_plain(&rt, base_with_node(rt.alloc(), 0, 0, -1, 1)?, 2 << 20)?;
-    check_all_plain(&rt, two_nodes(rt.alloc())?, 3 << 20)?;
+    check_all_plain(&rt, base_two_nodes(rt.alloc())?, 3 << 20)?;
     check_all_plain(&rt, no_nodes(rt.alloc())?, 4 << 20)?;
-    check_all_plain(&rt, chain(&rt, 20)?, 5 << 20)
+    check_all_plain(&rt, base_chain(&rt, 20)?, 5 << 20)
 }
 
 // Whether the census of a small rectangle met growth `n` refused.

@@ -1,6 +1,7 @@
 //! The commands `demo` and `lmp`.
 
-use crate::sample::{base, base_with, pack};
+use crate::levels::nodes_outside;
+use crate::sample::{base, pack};
 use demo_lump::DemoFault;
 use le_rec::{Sink, Source};
 use std::process::Abort;
@@ -190,13 +191,7 @@ fn lumps_missing(rt: HostRuntime) -> Result<(), Fail> {
     let mut out = SliceSink::new(&mut room);
     let result = demo_text(rt.alloc(), &files, b"E2M9", &mut out);
     assert_eq!(rt; result, Err(RunFault::Lump(LumpFault::NoSuch)));
-    // The place of the entry NODES becomes -1.
-    let mut file = base_with(rt.alloc(), &[])?;
-    assert_eq!(rt; file.len(), 409);
-    for byte in &mut file[345..349] {
-        *byte = 255;
-    }
-    let files = vec![in rt.alloc(); file]?;
+    let files = vec![in rt.alloc(); nodes_outside(&rt)?]?;
     let result = demo_text(rt.alloc(), &files, b"NODES", &mut out);
     assert_eq!(rt; result, Err(RunFault::Lump(LumpFault::Outside)));
     assert!(rt; out.taken().is_empty());

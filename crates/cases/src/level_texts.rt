@@ -1,7 +1,7 @@
 //! The commands `show` and `extract`.
 
 use crate::levels::nodes_outside;
-use crate::sample::{base, base_with};
+use crate::sample::{LINE_WITHOUT_SIDE_1, base, base_with};
 use map_level::{LevelFault, Reading};
 use std::alloc::Global;
 use std::process::Abort;
@@ -95,8 +95,7 @@ fn bytes_left_over(rt: HostRuntime) -> Result<(), Fail> {
 
 #[test]
 fn wide_no_side(rt: HostRuntime) -> Result<(), Fail> {
-    let linedef = [0, 0, 1, 0, 4, 0, 0, 0, 0, 0, 0, 0, 255, 255];
-    let file = base_with(rt.alloc(), &[(2, &linedef)])?;
+    let file = base_with(rt.alloc(), &[(2, &LINE_WITHOUT_SIDE_1)])?;
     assert!(rt;
         has_lines(
             &rt,
@@ -106,7 +105,7 @@ fn wide_no_side(rt: HostRuntime) -> Result<(), Fail> {
             b"\n0 0 1 4 0 0 0 -1\n"
         )?
     );
-    let file = base_with(rt.alloc(), &[(2, &linedef)])?;
+    let file = base_with(rt.alloc(), &[(2, &LINE_WITHOUT_SIDE_1)])?;
     assert!(rt;
         has_lines(
             &rt,

@@ -18,6 +18,8 @@ mod ends;
 #[cfg(test)]
 mod files;
 #[cfg(test)]
+mod findings;
+#[cfg(test)]
 mod level_list;
 #[cfg(test)]
 mod level_memory;

@@ -1,6 +1,6 @@
 //! The commands `sight` and `blocks`.
 
-use crate::sample::base_with;
+use crate::sample::{LINE_WITHOUT_SIDE_1, base_with, map_of_wide_list};
 use map_level::Reading;
 use std::alloc::Global;
 use std::process::Abort;
@@ -55,8 +55,7 @@ fn sight_bits(rt: HostRuntime) -> Result<(), Fail> {
 
 #[test]
 fn sight_in_a_faulty_level(rt: HostRuntime) -> Result<(), Fail> {
-    let linedef = [0, 0, 1, 0, 4, 0, 0, 0, 0, 0, 0, 0, 255, 255];
-    let file = base_with(rt.alloc(), &[(2, &linedef)])?;
+    let file = base_with(rt.alloc(), &[(2, &LINE_WITHOUT_SIDE_1)])?;
     seen(&rt, rt.alloc(), file, b"0 1\n", b"0 1 clear\n")
 }
 
@@ -198,12 +197,7 @@ fn blockmap_past_end(rt: HostRuntime) -> Result<(), Fail> {
 
 #[test]
 fn wide_blockmap(rt: HostRuntime) -> Result<(), Fail> {
-    let mut map = Vec::new(rt.alloc());
-    map.extend_from_slice(&[0, 0, 0, 0, 1, 0, 1, 0, 0, 128])?;
-    for _ in 5..32768 {
-        map.extend_from_slice(&[0, 0])?;
-    }
-    map.extend_from_slice(&[7, 0, 255, 255])?;
+    let map = map_of_wide_list(rt.alloc())?;
     let text = b"127 127 block 0 0 fault 1\n";
     listed(&rt, rt.alloc(), &map, Reading::Signed, b"127 127\n", text)?;
     let text = b"127 127 block 0 0 lines 7\n";

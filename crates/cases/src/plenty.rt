@@ -2,8 +2,8 @@
 //! is wanting.
 
 use crate::sample::{
-    LINE_WITHOUT_SIDE_1, NODES, base, base_not_reached, base_with, base_with_node, lumps,
-    nodes_with, pack,
+    LINE_WITHOUT_SIDE_1, base, base_chain, base_not_reached, base_with, base_with_children,
+    base_with_node, base_with_rest, lumps, pack,
 };
 use le_rec::Name8;
 use map_audit::{Refused, accept, audit};
@@ -112,17 +112,16 @@ fn levels_with_and_without_findings(rt: HostRuntime) -> Result<(), Fail> {
     check(&rt, base_with_node(rt.alloc(), 3, 3, 0, 0)?)?;
     check(&rt, base_with_node(rt.alloc(), 16384, 0, 0, 64)?)?;
     check(&rt, pack(rt.alloc(), &lumps()[..10])?)?;
-    for children in [(32768, 32768), (0, 32769), (32770, 32769)] {
-        let nodes = nodes_with(rt.alloc(), &[children])?;
-        check(&rt, base_with(rt.alloc(), &[(7, &nodes)])?)?;
+    for (front, back) in [(32768, 32768), (0, 32769), (32770, 32769)] {
+        check(&rt, base_with_children(rt.alloc(), front, back)?)?;
     }
-    let changes: [&[(usize, &[u8])]; 6] = [
+    check(&rt, base_with_rest(rt.alloc())?)?;
+    let changes: [&[(usize, &[u8])]; 5] = [
         &[(7, &[])],
         &[(6, &[1, 0, 0, 0]), (7, &[])],
         &[(6, &[]), (7, &[])],
         &[(2, &LINE_WITHOUT_SIDE_1)],
         &[(1, &[])],
-        &[(8, &[0; 53])],
     ];
     for change in changes {
         check(&rt, base_with(rt.alloc(), change)?)?;
@@ -161,15 +160,5 @@ fn large_levels(rt: HostRuntime) -> Result<(), Fail> {
     for k in 1..11 {
         check(&rt, base_with(rt.alloc(), &[(k, &bytes)])?)?;
     }
-    let mut chain = Vec::from_slice(rt.alloc(), &NODES)?;
-    for i in 1..32767u16 {
-        chain.extend_from_slice(&NODES[..24])?;
-        chain.extend_from_slice(&(i - 1).to_le_bytes())?;
-        chain.extend_from_slice(&(32769 + i).to_le_bytes())?;
-    }
-    let mut ssectors = Vec::new(rt.alloc());
-    for _ in 0..32768 {
-        ssectors.extend_from_slice(&[1, 0, 0, 0])?;
-    }
-    check(&rt, base_with(rt.alloc(), &[(6, &ssectors), (7, &chain)])?)
+    check(&rt, base_chain(&rt, 32767)?)
 }

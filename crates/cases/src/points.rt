@@ -1,6 +1,8 @@
 //! The command `points` over the sample level.
 
-use crate::sample::{base, base_not_reached, base_with, base_with_node, lumps, pack};
+use crate::sample::{
+    base, base_not_reached, base_two_nodes, base_with, base_with_node, lumps, pack,
+};
 use map_level::{LevelFault, Reading};
 use std::alloc::Global;
 use std::process::Abort;
@@ -135,17 +137,9 @@ fn no_nodes(rt: HostRuntime) -> Result<(), Fail> {
 
 #[test]
 fn two_nodes(rt: HostRuntime) -> Result<(), Fail> {
-    let mut nodes = [0; 56];
-    nodes[..28].copy_from_slice(&crate::sample::NODES);
-    // Node 1 goes through (0, 10) along (64, 0); its children are node 0 and ssector 2.
-    nodes[30] = 10;
-    nodes[32] = 64;
-    nodes[54] = 2;
-    nodes[55] = 128;
-    let ssectors = [1, 0, 0, 0, 1, 0, 1, 0, 1, 0, 1, 0];
     answers(
         &rt,
-        base_with(rt.alloc(), &[(6, &ssectors), (7, &nodes)])?,
+        base_two_nodes(rt.alloc())?,
         b"1 5\n1 10\n0 5\n1 11\n",
         b"1 5 sector 0 ssector 0\n1 10 sector 0 ssector 0\n0 5 sector 1 ssector 1\n1 11 sector 1 ssector 2\n",
     )

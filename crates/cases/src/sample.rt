@@ -1,7 +1,8 @@
 //! The sample level and files made of it.
 
 use le_rec::Name8;
-use std::alloc::Global;
+use std::alloc::{AllocError, Global};
+use std::process::Abort;
 use std::test::Fail;
 use wad_dir::Packer;
 
@@ -91,11 +92,20 @@ fn changed<'a>(changes: &[(usize, &'a [u8])], k: usize, bytes: &'a [u8]) -> &'a 
 pub fn nodes_with(alloc: Global, children: &[(u16, u16)]) -> Result<Vec<u8>, Fail> {
     let mut nodes = Vec::new(alloc);
     for (front, back) in children {
-        nodes.extend_from_slice(&NODES[..24])?;
-        nodes.extend_from_slice(&front.to_le_bytes())?;
-        nodes.extend_from_slice(&back.to_le_bytes())?;
+        push_node(&mut nodes, *front, *back)?;
     }
     Ok(nodes)
+}
+
+fn push_node(nodes: &mut Vec<u8>, front: u16, back: u16) -> Result<(), AllocError> {
+    nodes.extend_from_slice(&NODES[..24])?;
+    nodes.extend_from_slice(&front.to_le_bytes())?;
+    nodes.extend_from_slice(&back.to_le_bytes())
+}
+
+/// The sample level's file with other children of its node.
+pub fn base_with_children(alloc: Global, front: u16, back: u16) -> Result<Vec<u8>, Fail> {
+    base_with(alloc, &[(7, &nodes_with(alloc, &[(front, back)])?)])
 }
 
 const FOUR_SSECTORS: [u8; 16] = [1, 0, 0, 0, 1, 0, 0, 0, 1, 0, 0, 0, 1, 0, 0, 0];
@@ -104,6 +114,57 @@ const FOUR_SSECTORS: [u8; 16] = [1, 0, 0, 0, 1, 0, 0, 0, 1, 0, 0, 0, 1, 0, 0, 0]
 pub fn base_not_reached(alloc: Global) -> Result<Vec<u8>, Fail> {
     let nodes = nodes_with(alloc, &[(1, 32770), (0, 32771), (32768, 32769)])?;
     base_with(alloc, &[(6, &FOUR_SSECTORS), (7, &nodes)])
+}
+
+// A node that goes through (0, 10) along (64, 0); its children are node 0 and ssector 2.
+const ROOT_OF_TWO: [u8; 28] = [
+    0, 0, 10, 0, 64, 0, 0, 0, 0, 0, 0, 0, 0, 0, 0, 0, 0, 0, 0, 0, 0, 0, 0, 0, 0, 0, 2, 128,
+];
+
+const THREE_SSECTORS: [u8; 12] = [1, 0, 0, 0, 1, 0, 1, 0, 1, 0, 1, 0];
+
+/// The sample level's file with a second node above its own, and a third ssector.
+pub fn base_two_nodes(alloc: Global) -> Result<Vec<u8>, Fail> {
+    let mut nodes = Vec::from_slice(alloc, &NODES)?;
+    nodes.extend_from_slice(&ROOT_OF_TWO)?;
+    base_with(alloc, &[(6, &THREE_SSECTORS), (7, &nodes)])
+}
+
+/// The sample level's file with so many nodes, at most 32767, each the front child of the next.
+pub fn base_chain(rt: &(impl Abort + AllocGlobal), count: u16) -> Result<Vec<u8>, Fail> {
+    assert!(rt; 0 < count && count <= 32767);
+    let mut nodes = nodes_with(rt.alloc(), &[(32768, 32769)])?;
+    let mut ssectors = Vec::from_slice(rt.alloc(), &[1, 0, 0, 0, 1, 0, 0, 0])?;
+    for i in 1..count {
+        push_node(&mut nodes, i - 1, 32769 + i)?;
+        ssectors.extend_from_slice(&[1, 0, 0, 0])?;
+    }
+    base_with(rt.alloc(), &[(6, &ssectors), (7, &nodes)])
+}
+
+/// The sample level's file with SEGS of 32768 copies of its seg 0 and then its seg 1, the first of the second ssector.
+pub fn base_many_segs(alloc: Global) -> Result<Vec<u8>, Fail> {
+    let mut segs = Vec::with_capacity(alloc, 393_228)?;
+    for _ in 0..32_768 {
+        segs.extend_from_slice(&SEGS[..12])?;
+    }
+    segs.extend_from_slice(&SEGS[12..])?;
+    base_with(alloc, &[(5, &segs), (6, &[1, 0, 0, 0, 1, 0, 0, 128])])
+}
+
+/// The sample level's file with one byte 0 more in SECTORS.
+pub fn base_with_rest(alloc: Global) -> Result<Vec<u8>, Fail> {
+    let mut sectors = Vec::from_slice(alloc, &SECTORS)?;
+    sectors.push(0)?;
+    base_with(alloc, &[(8, &sectors)])
+}
+
+/// A BLOCKMAP of one block, whose list begins at word 32768.
+pub fn map_of_wide_list(alloc: Global) -> Result<Vec<u8>, Fail> {
+    let mut map = Vec::from_slice(alloc, &[0, 0, 0, 0, 1, 0, 1, 0, 0, 128])?;
+    map.resize(65536, 0)?;
+    map.extend_from_slice(&[7, 0, 255, 255])?;
+    Ok(map)
 }
 
 /// The sample level's linedef with two sides by its flags and one by its fields.

@@ -1,6 +1,9 @@
 //! Findings on REJECT and BLOCKMAP.
 
-use crate::sample::{LINE_WITHOUT_SIDE_1, base, base_not_reached, base_with, lumps};
+use crate::findings::finding;
+use crate::sample::{
+    LINE_WITHOUT_SIDE_1, base, base_not_reached, base_with, lumps, map_of_wide_list,
+};
 use le_rec::Name8;
 use map_level::{Code, Finding, Level, Reading};
 use map_tables::table_findings;
@@ -13,10 +16,6 @@ use wad_dir::Set;
 const REJECT: usize = 9;
 
 const BLOCKMAP: usize = 10;
-
-fn finding(code: Code, index: u32) -> Finding {
-    Finding { code, index }
-}
 
 // The bytes of words.
 fn bytes_of(alloc: Global, words: &[i16]) -> Result<Vec<u8>, AllocError> {
@@ -94,9 +93,7 @@ fn blockmap_past_end(rt: HostRuntime) -> Result<(), Fail> {
 
 #[test]
 fn wide_blockmap(rt: HostRuntime) -> Result<(), Fail> {
-    let mut bytes = bytes_of(rt.alloc(), &[0, 0, 1, 1, -32768])?;
-    bytes.resize(65536, 0)?;
-    bytes.extend_from_slice(&[7, 0, 255, 255])?;
+    let bytes = map_of_wide_list(rt.alloc())?;
     check_lump(&rt, BLOCKMAP, &bytes, &[finding(Code::N10, 0)])?;
     check(&rt, rt.alloc(), &[(BLOCKMAP, &bytes)], Reading::Wide, &[])
 }

@@ -1,21 +1,22 @@
 //! Trees of levels: findings on nodes, leaves, and each growth refused in turn.
 
-use crate::sample::{base_with, base_with_node};
+use crate::findings::{NOT_REACHED, Pair, check_list};
+use crate::sample::{
+    LINE_WITHOUT_SIDE_1, base_chain, base_not_reached, base_two_nodes, base_with,
+    base_with_children, base_with_node,
+};
 use le_rec::{Name8, Node, Record};
 use map_geo::Point;
-use map_level::{Code, Finding, Findings, Level, Reading, link_findings};
+use map_level::{Code, Level, Reading, link_findings};
 use map_tree::{Tree, is_sound, tree_findings};
-use std::alloc::{AllocError, Allocator, Global};
+use std::alloc::Global;
 use std::process::Abort;
 use std::test::Fail;
 use test_alloc::Refusing;
 use wad_dir::Set;
 
-// The sample level's partition.
-pub const BASE: [i16; 4] = [0, 0, 0, 64];
-
-/// A node of these first four fields and children.
-pub fn node(line: [i16; 4], children: [u16; 2]) -> Node {
+// A node of these first four fields and children.
+fn node(line: [i16; 4], children: [u16; 2]) -> Node {
     let [x, y, dx, dy] = line;
     let [child0, child1] = children;
     Node {
@@ -30,8 +31,8 @@ pub fn node(line: [i16; 4], children: [u16; 2]) -> Node {
     }
 }
 
-/// The bytes of nodes.
-pub fn nodes(alloc: Global, all: &[Node]) -> Result<Vec<u8>, Fail> {
+// The bytes of nodes.
+fn nodes(alloc: Global, all: &[Node]) -> Result<Vec<u8>, Fail> {
     let mut lump = Vec::new(alloc);
     for node in all {
         let mut bytes = [0; 28];
@@ -41,31 +42,11 @@ pub fn nodes(alloc: Global, all: &[Node]) -> Result<Vec<u8>, Fail> {
     Ok(lump)
 }
 
-/// The bytes of so many ssectors (1, 0).
-pub fn ssectors(alloc: Global, count: usize) -> Result<Vec<u8>, Fail> {
-    let mut lump = Vec::new(alloc);
-    for _ in 0..count {
-        lump.extend_from_slice(&[1, 0, 0, 0])?;
-    }
-    Ok(lump)
-}
-
-fn check_list<A: Allocator>(rt: &impl Abort, found: &Findings<A>, expected: &[(Code, u32)]) {
-    assert_eq!(rt; found.len(), expected.len());
-    for (i, (code, index)) in expected.iter().enumerate() {
-        let finding = Finding {
-            code: *code,
-            index: *index,
-        };
-        assert_eq!(rt; found.get(i), Some(finding), "finding {i}");
-    }
-}
-
 // Opens the level of a file and compares the findings on its nodes.
 fn check_findings(
     rt: &(impl Abort + AllocGlobal),
     file: Vec<u8>,
-    expected: &[(Code, u32)],
+    expected: &[Pair],
 ) -> Result<(), Fail> {
     let files = vec![in rt.alloc(); file]?;
     let set = Set::new(rt.alloc(), &files)?;
@@ -165,14 +146,9 @@ fn no_nodes(rt: HostRuntime) -> Result<(), Fail> {
 
 #[test]
 fn two_nodes(rt: HostRuntime) -> Result<(), Fail> {
-    let all = nodes(
-        rt.alloc(),
-        &[node(BASE, [32768, 32769]), node([0, 10, 64, 0], [0, 32770])],
-    )?;
-    let three = [1, 0, 0, 0, 1, 0, 1, 0, 1, 0, 1, 0];
     check_leaves(
         &rt,
-        base_with(rt.alloc(), &[(6, &three), (7, &all)])?,
+        base_two_nodes(rt.alloc())?,
         &[
             ([1, 5], (0, 2), 0),
             ([1, 10], (0, 2), 0),
@@ -182,26 +158,21 @@ fn two_nodes(rt: HostRuntime) -> Result<(), Fail> {
     )
 }
 
-// The sample level's file with other children of its node.
-fn base_with_children(alloc: Global, children: [u16; 2]) -> Result<Vec<u8>, Fail> {
-    base_with(alloc, &[(7, &nodes(alloc, &[node(BASE, children)])?)])
-}
-
 #[test]
 fn children(rt: HostRuntime) -> Result<(), Fail> {
     check_findings(
         &rt,
-        base_with_children(rt.alloc(), [32768, 32768])?,
+        base_with_children(rt.alloc(), 32768, 32768)?,
         &[(Code::F15, 0), (Code::F16, 1)],
     )?;
     check_findings(
         &rt,
-        base_with_children(rt.alloc(), [0, 32769])?,
+        base_with_children(rt.alloc(), 0, 32769)?,
         &[(Code::F13, 0), (Code::F16, 0)],
     )?;
     check_findings(
         &rt,
-        base_with_children(rt.alloc(), [32770, 32769])?,
+        base_with_children(rt.alloc(), 32770, 32769)?,
         &[(Code::F11, 0), (Code::F16, 0)],
     )?;
     check_findings(
@@ -225,29 +196,9 @@ fn origins(rt: HostRuntime) -> Result<(), Fail> {
     Ok(())
 }
 
-// A level with two nodes and two ssectors that the root doesn't lead to.
-fn not_reached(alloc: Global) -> Result<Vec<u8>, Fail> {
-    let three = [
-        node(BASE, [1, 32770]),
-        node(BASE, [0, 32771]),
-        node(BASE, [32768, 32769]),
-    ];
-    base_with(
-        alloc,
-        &[(6, &ssectors(alloc, 4)?), (7, &nodes(alloc, &three)?)],
-    )
-}
-
-const NOT_REACHED: [(Code, u32); 4] = [
-    (Code::F14, 0),
-    (Code::F14, 1),
-    (Code::F16, 2),
-    (Code::F16, 3),
-];
-
 #[test]
 fn nodes_not_reached(rt: HostRuntime) -> Result<(), Fail> {
-    check_findings(&rt, not_reached(rt.alloc())?, &NOT_REACHED)
+    check_findings(&rt, base_not_reached(rt.alloc())?, &NOT_REACHED)
 }
 
 #[test]
@@ -257,18 +208,9 @@ fn too_many_nodes(rt: HostRuntime) -> Result<(), Fail> {
 
 #[test]
 fn chain(rt: HostRuntime) -> Result<(), Fail> {
-    let mut lump = nodes(rt.alloc(), &[node(BASE, [32768, 32769])])?;
-    for i in 1..32767u16 {
-        let mut bytes = [0; 28];
-        node(BASE, [i - 1, 32769 + i]).write(&mut bytes);
-        lump.extend_from_slice(&bytes)?;
-    }
     check_leaves(
         &rt,
-        base_with(
-            rt.alloc(),
-            &[(6, &ssectors(rt.alloc(), 32768)?), (7, &lump)],
-        )?,
+        base_chain(&rt, 32767)?,
         &[([1, 5], (0, 32767), 0), ([0, 5], (32767, 1), 0)],
     )
 }
@@ -315,7 +257,7 @@ fn is_refused(
     rt: &(impl Abort + AllocGlobal),
     level: &Level<'_>,
     n: u64,
-    expected: &[(Code, u32)],
+    expected: &[Pair],
 ) -> bool {
     let heap = Refusing::new(rt.alloc(), n);
     let result = tree_findings(&heap, level);
@@ -331,7 +273,7 @@ fn check_growths(
     rt: &(impl Abort + AllocGlobal),
     file: Vec<u8>,
     growths: u8,
-    expected: &[(Code, u32)],
+    expected: &[Pair],
 ) -> Result<(), Fail> {
     let files = vec![in rt.alloc(); file]?;
     let set = Set::new(rt.alloc(), &files)?;
@@ -350,9 +292,8 @@ fn check_growths(
 fn growth_refused(rt: HostRuntime) -> Result<(), Fail> {
     let base = base_with(rt.alloc(), &[])?;
     check_growths(&rt, base, 3, &[])?;
-    check_growths(&rt, not_reached(rt.alloc())?, 4, &NOT_REACHED)?;
-    let linedef = [0, 0, 1, 0, 4, 0, 0, 0, 0, 0, 0, 0, 255, 255];
-    let side_missing = base_with(rt.alloc(), &[(2, &linedef)])?;
+    check_growths(&rt, base_not_reached(rt.alloc())?, 4, &NOT_REACHED)?;
+    let side_missing = base_with(rt.alloc(), &[(2, &LINE_WITHOUT_SIDE_1)])?;
     check_growths(&rt, side_missing, 3, &[])?;
     let sight_bits = base_with(rt.alloc(), &[(9, &[])])?;
     check_growths(&rt, sight_bits, 3, &[])

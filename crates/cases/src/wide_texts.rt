@@ -1,7 +1,7 @@
 //! Levels that differ under the two readings, as engines print them.
 
-use crate::link_cases::many_segs;
-use crate::sample::base_with;
+use crate::audit_texts::SIDE_MISSING;
+use crate::sample::{LINE_WITHOUT_SIDE_1, base_many_segs, base_with, map_of_wide_list};
 use map_level::Reading;
 use std::alloc::Global;
 use std::process::Abort;
@@ -93,7 +93,7 @@ BLOCKMAP 16
 
 #[test]
 fn wide_ssectors(rt: HostRuntime) -> Result<(), Fail> {
-    let files = vec![in rt.alloc(); many_segs(rt.alloc())?]?;
+    let files = vec![in rt.alloc(); base_many_segs(rt.alloc())?]?;
     let text = b"F10 1 ssector's segs out of range\nfaults 1 notes 0\n";
     audited(&rt, &files, Reading::Signed, text, false);
     audited(&rt, &files, Reading::Wide, b"faults 0 notes 0\n", true);
@@ -108,12 +108,7 @@ fn wide_ssectors(rt: HostRuntime) -> Result<(), Fail> {
 
 #[test]
 fn wide_blockmap(rt: HostRuntime) -> Result<(), Fail> {
-    let mut map = Vec::new(rt.alloc());
-    map.extend_from_slice(&[0, 0, 0, 0, 1, 0, 1, 0, 0, 128])?;
-    for _ in 5..32768 {
-        map.extend_from_slice(&[0, 0])?;
-    }
-    map.extend_from_slice(&[7, 0, 255, 255])?;
+    let map = map_of_wide_list(rt.alloc())?;
     let files = vec![in rt.alloc(); base_with(rt.alloc(), &[(10, &map)])?]?;
     let text = b"N10 0 block list faulty\nfaults 0 notes 1\n";
     audited(&rt, &files, Reading::Signed, text, true);
@@ -123,13 +118,8 @@ fn wide_blockmap(rt: HostRuntime) -> Result<(), Fail> {
 
 #[test]
 fn wide_no_side(rt: HostRuntime) -> Result<(), Fail> {
-    let linedef = [0, 0, 1, 0, 4, 0, 0, 0, 0, 0, 0, 0, 255, 255];
-    let files = vec![in rt.alloc(); base_with(rt.alloc(), &[(2, &linedef)])?]?;
-    let text = b"F9 1 seg's linedef has no side there
-N3 0 two-sided flag without side 1
-faults 1 notes 1
-";
-    audited(&rt, &files, Reading::Signed, text, false);
-    audited(&rt, &files, Reading::Wide, text, false);
+    let files = vec![in rt.alloc(); base_with(rt.alloc(), &[(2, &LINE_WITHOUT_SIDE_1)])?]?;
+    audited(&rt, &files, Reading::Signed, SIDE_MISSING, false);
+    audited(&rt, &files, Reading::Wide, SIDE_MISSING, false);
     Ok(())
 }

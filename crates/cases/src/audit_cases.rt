@@ -6,14 +6,49 @@ use crate::sample::{
     base_with_node, base_with_rest, lumps,
 };
 use le_rec::Name8;
-use map_audit::{Refused, accept, audit};
+use map_audit::{Refused, Report, accept, audit};
 use map_geo::Point;
 use map_level::{Code, Level, Reading};
-use map_tree::tree_findings;
+use map_tree::{Tree, tree_findings};
+use std::alloc::Allocator;
 use std::process::Abort;
 use std::test::Fail;
 use test_alloc::Refusing;
 use wad_dir::Set;
+
+// A report has these findings, so many of them faults.
+fn check_report<A: Allocator>(
+    rt: &impl Abort,
+    report: &Report<A>,
+    expected: &[Pair],
+    faults: usize,
+) {
+    assert_eq!(rt; report.len(), expected.len());
+    for (i, (code, index)) in expected.iter().enumerate() {
+        assert_eq!(rt; report.get(i), Some(finding(*code, *index)), "finding {i}");
+    }
+    assert_eq!(rt; report.faults(), faults);
+    assert_eq!(rt; report.faults() + report.notes(), expected.len());
+}
+
+// A level with these findings, so many of them faults, is accepted exactly where it has no fault.
+// Whether memory was wanting instead.
+fn wants_memory<A: Allocator>(
+    rt: &impl Abort,
+    accepted: Result<Tree<'_, '_>, Refused<A>>,
+    expected: &[Pair],
+    faults: usize,
+) -> bool {
+    match accepted {
+        Ok(_) => assert_eq!(rt; faults, 0),
+        Err(Refused::Memory) => return true,
+        Err(Refused::Faults(report)) => {
+            assert!(rt; faults > 0);
+            check_report(rt, &report, expected, faults);
+        }
+    }
+    false
+}
 
 // The level E1M1 of a file has these findings, so many of them faults, and is accepted exactly where
 // it has no fault.
@@ -27,23 +62,9 @@ fn check_under(
     let files = vec![in rt.alloc(); file]?;
     let set = Set::new(rt.alloc(), &files)?;
     let level = Level::open(&set, Name8::query(b"E1M1"), reading)?;
-    let report = audit(rt.alloc(), &level)?;
-    assert_eq!(rt; report.len(), expected.len());
-    for (i, (code, index)) in expected.iter().enumerate() {
-        assert_eq!(rt; report.get(i), Some(finding(*code, *index)), "finding {i}");
-    }
-    assert_eq!(rt; report.faults(), faults);
-    assert_eq!(rt; report.faults() + report.notes(), expected.len());
-    match accept(rt.alloc(), &level) {
-        Ok(_) => assert_eq!(rt; faults, 0),
-        Err(Refused::Memory) => assert!(rt; false, "there is memory"),
-        Err(Refused::Faults(report)) => {
-            assert!(rt; faults > 0);
-            assert_eq!(rt; report.len(), expected.len());
-            let first = expected.first().map(|(code, index)| finding(*code, *index));
-            assert_eq!(rt; report.get(0), first);
-        }
-    }
+    check_report(rt, &audit(rt.alloc(), &level)?, expected, faults);
+    let accepted = accept(rt.alloc(), &level);
+    assert!(rt; !wants_memory(rt, accepted, expected, faults));
     Ok(())
 }
 
@@ -201,40 +222,71 @@ fn later_lump_cut_by_one(rt: HostRuntime) -> Result<(), Fail> {
     check_cut(&rt, 10, &[(Code::N10, 0)], 0)
 }
 
-// Whether `audit` of the level met growth `n` refused: then it answers so.
-fn is_audit_refused(rt: &(impl Abort + AllocGlobal), level: &Level<'_>, n: u64) -> bool {
+// Whether `audit` of the level met growth `n` refused: then it answers so, and else with these findings.
+fn is_audit_refused(
+    rt: &(impl Abort + AllocGlobal),
+    level: &Level<'_>,
+    n: u64,
+    expected: &[Pair],
+    faults: usize,
+) -> bool {
     let heap = Refusing::new(rt.alloc(), n);
     let result = audit(&heap, level);
     assert_eq!(rt; result.is_err(), heap.has_refused());
+    if let Ok(report) = result {
+        check_report(rt, &report, expected, faults);
+    }
     heap.has_refused()
 }
 
 // The same of `accept`.
-fn is_accept_refused(rt: &(impl Abort + AllocGlobal), level: &Level<'_>, n: u64) -> bool {
+fn is_accept_refused(
+    rt: &(impl Abort + AllocGlobal),
+    level: &Level<'_>,
+    n: u64,
+    expected: &[Pair],
+    faults: usize,
+) -> bool {
     let heap = Refusing::new(rt.alloc(), n);
-    let is_memory = matches!(accept(&heap, level), Err(Refused::Memory));
+    let is_memory = wants_memory(rt, accept(&heap, level), expected, faults);
     assert_eq!(rt; is_memory, heap.has_refused());
     heap.has_refused()
 }
 
-// The growths of `audit` and of `accept`: each is refused in turn, until a run meets no refusal.
-fn growths(rt: &(impl Abort + AllocGlobal), file: Vec<u8>) -> Result<(u64, u64), Fail> {
+// How many growths `audit` and `accept` ask for: numbers 1 to 98 are refused in turn, and after each one none.
+fn growths(
+    rt: &(impl Abort + AllocGlobal),
+    file: Vec<u8>,
+    expected: &[Pair],
+    faults: usize,
+) -> Result<(u64, u64), Fail> {
     let files = vec![in rt.alloc(); file]?;
     let set = Set::new(rt.alloc(), &files)?;
     let level = Level::open(&set, Name8::query(b"E1M1"), Reading::Signed)?;
-    assert!(rt; is_audit_refused(rt, &level, 1) && is_accept_refused(rt, &level, 1));
-    let audits = (2..99).find(|n| !is_audit_refused(rt, &level, *n));
-    let accepts = (2..99).find(|n| !is_accept_refused(rt, &level, *n));
-    assert!(rt; !is_audit_refused(rt, &level, 0) && !is_accept_refused(rt, &level, 0));
-    Ok((audits.ok_or("audit")?, accepts.ok_or("accept")?))
+    let mut met = (0, 0);
+    for n in 1..99 {
+        if is_audit_refused(rt, &level, n, expected, faults) {
+            met.0 = n;
+        }
+        assert!(rt; !is_audit_refused(rt, &level, 0, expected, faults));
+        if is_accept_refused(rt, &level, n, expected, faults) {
+            met.1 = n;
+        }
+        assert!(rt; !is_accept_refused(rt, &level, 0, expected, faults));
+    }
+    let (audits, accepts) = met;
+    assert!(rt; 0 < audits && audits < 98 && 0 < accepts && accepts < 98);
+    Ok(met)
 }
 
 #[test]
 fn growth_refused(rt: HostRuntime) -> Result<(), Fail> {
-    let (audits, accepts) = growths(&rt, base(rt.alloc())?)?;
+    let (audits, accepts) = growths(&rt, base(rt.alloc())?, &[], 0)?;
     assert_eq!(rt; audits, accepts, "no memory for no findings");
-    growths(&rt, base_not_reached(rt.alloc())?)?;
-    growths(&rt, base_with(rt.alloc(), &[(2, &LINE_WITHOUT_SIDE_1)])?)?;
-    growths(&rt, base_with(rt.alloc(), &[(9, &[])])?)?;
+    growths(&rt, base_not_reached(rt.alloc())?, &NOT_REACHED, 4)?;
+    let side_missing = base_with(rt.alloc(), &[(2, &LINE_WITHOUT_SIDE_1)])?;
+    growths(&rt, side_missing, &SIDE_MISSING, 1)?;
+    let sight_bits = base_with(rt.alloc(), &[(9, &[])])?;
+    growths(&rt, sight_bits, &[(Code::N8, 0)], 0)?;
     Ok(())
 }

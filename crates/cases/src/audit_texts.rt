@@ -95,36 +95,66 @@ fn extract_keeps_rest(rt: HostRuntime) -> Result<(), Fail> {
     check(&rt, Vec::from_slice(rt.alloc(), out.taken())?, text, true)
 }
 
-// How many growths `audit` of the level asks for: each refused in turn, then it has written nothing.
-fn growths(rt: &(impl Abort + AllocGlobal), file: Vec<u8>, faultless: bool) -> Result<u64, Fail> {
+// Whether `audit` met growth `n` refused; then it has written nothing, and else this text.
+fn is_refused(
+    rt: &(impl Abort + AllocGlobal),
+    files: &[Vec<u8>],
+    n: u64,
+    text: &[u8],
+    faultless: bool,
+) -> bool {
+    assert!(rt; files.len() <= 64);
+    let heap = Refusing::new(rt.alloc(), n);
+    let mut room = [0; 200];
+    let mut out = SliceSink::new(&mut room);
+    let result = audit_text(&heap, files, b"E1M1", Reading::Signed, &mut out);
+    if !heap.has_refused() {
+        assert_eq!(rt; result, Ok(faultless));
+        assert_eq!(rt; out.taken(), text);
+        return false;
+    }
+    assert_eq!(rt; result, Err(RunFault::Memory));
+    assert_eq!(rt; status(&result), 3);
+    assert!(rt; out.taken().is_empty());
+    true
+}
+
+// How many growths `audit` of the level asks for: each refused in turn, and then none.
+fn growths(
+    rt: &(impl Abort + AllocGlobal),
+    file: Vec<u8>,
+    text: &[u8],
+    faultless: bool,
+) -> Result<u64, Fail> {
     let files = vec![in rt.alloc(); file]?;
     for n in 1..20 {
-        let heap = Refusing::new(rt.alloc(), n);
-        let mut room = [0; 200];
-        let mut out = SliceSink::new(&mut room);
-        let result = audit_text(&heap, &files, b"E1M1", Reading::Signed, &mut out);
-        if !heap.has_refused() {
-            assert_eq!(rt; result, Ok(faultless));
+        if !is_refused(rt, &files, n, text, faultless) {
             return Ok(n - 1);
         }
-        assert_eq!(rt; result, Err(RunFault::Memory));
-        assert_eq!(rt; status(&result), 3);
-        assert!(rt; out.taken().is_empty());
+        assert!(rt; !is_refused(rt, &files, 0, text, faultless));
     }
     Ok(20)
 }
+
+const NOT_REACHED: &[u8] = b"F14 0 node not reached
+F14 1 node not reached
+F16 2 ssector not reached
+F16 3 ssector not reached
+faults 4 notes 0
+";
 
 #[test]
 fn growth_refused(rt: HostRuntime) -> Result<(), Fail> {
     let side_missing = base_with(rt.alloc(), &[(2, &LINE_WITHOUT_SIDE_1)])?;
     let sight_bits = base_with(rt.alloc(), &[(9, &[])])?;
-    for (file, faultless) in [
-        (base(rt.alloc())?, true),
-        (base_not_reached(rt.alloc())?, false),
-        (side_missing, false),
-        (sight_bits, true),
-    ] {
-        let found = growths(&rt, file, faultless)?;
+    let cases: [(Vec<u8>, &[u8], bool); 4] = [
+        (base(rt.alloc())?, b"faults 0 notes 0\n", true),
+        (base_not_reached(rt.alloc())?, NOT_REACHED, false),
+        (side_missing, SIDE_MISSING, false),
+        (sight_bits, b"N8 0 REJECT size\nfaults 0 notes 1\n", true),
+    ];
+    for (file, text, faultless) in cases {
+        let found = growths(&rt, file, text, faultless)?;
         assert!(rt; found > 1 && found < 20);
     }
     Ok(())

@@ -1,17 +1,23 @@
 //! Each growth and each write of the engines that print levels, refused in turn.
 
+use crate::level_texts::TEXT;
 use crate::sample::base;
 use map_level::Reading;
 use std::process::Abort;
 use std::test::Fail;
 use test_alloc::Refusing;
 use test_ends::{SliceSink, SliceSource};
-use wad_dir::PackFault;
 use wad_look::{LIMIT, RunFault, blocks, extract, show, sight, status};
 
 // Whether `show`, `extract`, `sight` or `blocks`, by its number, met growth `n` refused; then it has read and written
-// nothing.
-fn level_refused(rt: &(impl Abort + AllocGlobal), files: &[Vec<u8>], command: u8, n: u64) -> bool {
+// nothing, and else written this text.
+fn level_refused(
+    rt: &(impl Abort + AllocGlobal),
+    files: &[Vec<u8>],
+    command: u8,
+    n: u64,
+    text: &[u8],
+) -> bool {
     assert!(rt; files.len() <= 64);
     let heap = Refusing::new(rt.alloc(), n);
     let mut room = [0; 1024];
@@ -34,14 +40,10 @@ fn level_refused(rt: &(impl Abort + AllocGlobal), files: &[Vec<u8>], command: u8
     };
     if !heap.has_refused() {
         assert_eq!(rt; result, Ok(()));
-        assert!(rt; !out.taken().is_empty());
+        assert_eq!(rt; out.taken(), text);
         return false;
     }
-    let Err(fault) = result else {
-        return false;
-    };
-    assert!(rt; matches!(fault, RunFault::Memory | RunFault::Pack(PackFault::Memory)));
-    assert_eq!(rt; status(&Err(fault)), 3);
+    assert_eq!(rt; status(&result.map(|()| true)), 3);
     assert!(rt; out.taken().is_empty());
     assert_eq!(rt; source.left().len(), 4);
     true
@@ -50,12 +52,20 @@ fn level_refused(rt: &(impl Abort + AllocGlobal), files: &[Vec<u8>], command: u8
 #[test]
 fn growth_refused_in_level_engines(rt: HostRuntime) -> Result<(), Fail> {
     let files = vec![in rt.alloc(); base(rt.alloc())?]?;
-    for command in 0..4 {
+    let packed = base(rt.alloc())?;
+    let cases: [(u8, &[u8]); 4] = [
+        (0, TEXT),
+        (1, &packed),
+        (2, b"0 1 clear\n"),
+        (3, b"0 1 block 0 0 lines 0 0\n"),
+    ];
+    for (command, text) in cases {
         let mut met = 0;
         for n in 1..100 {
-            if !level_refused(&rt, &files, command, n) {
+            if !level_refused(&rt, &files, command, n, text) {
                 break;
             }
+            assert!(rt; !level_refused(&rt, &files, command, 0, text));
             met = n;
         }
         assert!(rt; 0 < met && met < 99);

@@ -25,7 +25,8 @@ fn run(
     result
 }
 
-const TEXT: &[u8] = b"level E1M1 at 0
+/// What `show` writes of the sample level.
+pub const TEXT: &[u8] = b"level E1M1 at 0
 THINGS 1 rest 0
 0 8 8 0 1 7
 LINEDEFS 1 rest 0

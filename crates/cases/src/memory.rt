@@ -1,5 +1,6 @@
 //! Each growth refused in turn.
 
+use crate::listing::TEXT;
 use crate::sample::base;
 use map_level::Reading;
 use std::process::Abort;
@@ -19,7 +20,7 @@ fn lumps_refused(rt: &(impl Abort + AllocGlobal), files: &[Vec<u8>], n: u64) -> 
     let result = lumps(&heap, files, &mut out);
     if !heap.has_refused() {
         assert_eq!(rt; result, Ok(()));
-        assert_eq!(rt; out.taken().len(), 189);
+        assert_eq!(rt; out.taken(), TEXT);
         return false;
     }
     assert_eq!(rt; result, Err(RunFault::Memory));
@@ -50,20 +51,26 @@ fn points_refused(rt: &(impl Abort + AllocGlobal), files: &[Vec<u8>], n: u64) ->
         return false;
     }
     assert_eq!(rt; result, Err(RunFault::Memory));
+    assert_eq!(rt; status(&result.map(|()| true)), 3);
     assert!(rt; out.taken().is_empty());
     assert_eq!(rt; source.left().len(), 4);
     true
 }
 
+// Whether `read_all` met growth `n` refused.
 fn read_all_refused(rt: &(impl Abort + AllocGlobal), n: u64) -> bool {
     let heap = Refusing::new(rt.alloc(), n);
     let result = read_all(&heap, &mut SliceSource::new(b"1 5\n").at_most(1), 4);
-    if !heap.has_refused() {
-        assert!(rt; result.is_ok());
-        return false;
+    match result {
+        Ok(bytes) => assert_eq!(rt; bytes.as_slice(), b"1 5\n".as_slice()),
+        Err(fault) => {
+            assert!(rt; heap.has_refused());
+            assert_eq!(rt; fault, RunFault::Memory);
+            return true;
+        }
     }
-    assert_eq!(rt; result.err(), Some(RunFault::Memory));
-    true
+    assert!(rt; !heap.has_refused());
+    false
 }
 
 #[test]
@@ -76,6 +83,7 @@ fn growth_refused(rt: HostRuntime) -> Result<(), Fail> {
         if !points_refused(&rt, &files, n) {
             break;
         }
+        assert!(rt; !points_refused(&rt, &files, 0));
         growths = n;
     }
     assert!(rt; growths > 1 && growths < 19);

@@ -40,6 +40,10 @@ fn refused_directories(rt: HostRuntime) -> Result<(), Fail> {
     let files = vec![in rt.alloc(); base(rt.alloc())?, short]?;
     let fault = Set::new(rt.alloc(), &files).err();
     assert_eq!(rt; fault, Some(SetFault::File(2, WadFault::Short)));
+    let file = base(rt.alloc())?;
+    let (_, cut) = file.split_last().ok_or("an empty file")?;
+    assert_eq!(rt; cut.len(), 408);
+    assert_eq!(rt; Wad::read(cut).err(), Some(WadFault::Directory));
     Ok(())
 }
 

@@ -1,7 +1,7 @@
 //! The commands `show` and `extract`.
 
 use crate::levels::nodes_outside;
-use crate::sample::{LINE_WITHOUT_SIDE_1, base, base_with};
+use crate::sample::{LINE_WITHOUT_SIDE_1, base, base_with, base_with_rest};
 use map_level::{LevelFault, Reading};
 use std::alloc::Global;
 use std::process::Abort;
@@ -87,9 +87,13 @@ fn stand_in(lines: &[u8], text: &[u8]) -> bool {
 
 #[test]
 fn bytes_left_over(rt: HostRuntime) -> Result<(), Fail> {
-    let sectors = [0; 53];
-    let file = base_with(rt.alloc(), &[(8, &sectors)])?;
-    let lines = b"\nSECTORS 2 rest 1\n0 0 0   0 0 0\n1 0 0   0 0 0\nREJECT 1\n";
+    let lines = b"
+SECTORS 2 rest 1
+0 0 128 FLAT1 FLAT1 160 0 0
+1 0 128 FLAT1 FLAT1 160 0 0
+REJECT 1
+";
+    let file = base_with_rest(rt.alloc())?;
     assert!(rt; has_lines(&rt, rt.alloc(), file, Reading::Signed, lines)?);
     Ok(())
 }

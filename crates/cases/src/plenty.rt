@@ -7,6 +7,7 @@ use crate::sample::{
 };
 use le_rec::Name8;
 use map_audit::{Refused, accept, audit};
+use map_geo::Rect;
 use map_level::{Level, Reading, link_findings};
 use map_tables::table_findings;
 use map_tree::tree_findings;
@@ -15,7 +16,10 @@ use std::test::Fail;
 use test_alloc::Refusing;
 use test_ends::{SliceSink, SliceSource};
 use wad_dir::Set;
-use wad_look::{RunFault, audit_text, blocks, extract, lumps as list, points, show, sight, status};
+use wad_look::{
+    RunFault, audit_text, blocks, census_text, extract, levels, lumps as list, points, show, sight,
+    status,
+};
 
 // The most bytes of a test's input.
 const LIMIT: u64 = 64;
@@ -36,7 +40,13 @@ fn check_calls(
     assert!(rt; tree_findings(&heap, &level).is_ok());
     assert!(rt; table_findings(&heap, &level).is_ok());
     assert!(rt; audit(&heap, &level).is_ok());
-    assert!(rt; !matches!(accept(&heap, &level), Err(Refused::Memory)));
+    match accept(&heap, &level) {
+        Ok(tree) => {
+            let rect = Rect::new(0, 0, 1, 1).ok_or("no rectangle")?;
+            assert!(rt; tree.census(&heap, rect).is_ok());
+        }
+        Err(fault) => assert!(rt; !matches!(fault, Refused::Memory)),
+    }
     Ok(())
 }
 
@@ -51,6 +61,8 @@ fn check_files(rt: &(impl Abort + AllocGlobal), files: &[Vec<u8>], reading: Read
     let mut room = [0; 64];
     let listed = list(&heap, files, &mut SliceSink::new(&mut room));
     assert!(rt; !is_want_of_memory(listed));
+    let labelled = levels(&heap, files, &mut SliceSink::new(&mut room));
+    assert!(rt; !is_want_of_memory(labelled));
     let shown = show(
         &heap,
         files,
@@ -80,6 +92,10 @@ fn check_lines(rt: &(impl Abort + AllocGlobal), files: &[Vec<u8>], reading: Read
     let out = &mut SliceSink::new(&mut room);
     let placed = points(&heap, files, b"E1M1", reading, &mut input, LIMIT, out);
     assert!(rt; !is_want_of_memory(placed));
+    let mut input = SliceSource::new(b"0 0 1 1\n");
+    let out = &mut SliceSink::new(&mut room);
+    let counted = census_text(&heap, files, b"E1M1", reading, &mut input, LIMIT, out);
+    assert!(rt; !is_want_of_memory(counted));
     let mut input = SliceSource::new(b"0 1\n");
     let out = &mut SliceSink::new(&mut room);
     let seen = sight(&heap, files, b"E1M1", &mut input, LIMIT, out);

@@ -1,5 +1,6 @@
 pub mod Point
 pub mod Partition
 pub mod Side
+pub mod Columns
 pub mod Rect
 pub mod Laws

@@ -10,7 +10,7 @@ mod sides;
 #[cfg(test)]
 mod tests;
 
-pub use partition::{Partition, side};
+pub use partition::{Columns, Partition, side};
 pub use point::Point;
 pub use rect::{Rect, whole_side};
 pub use sides::Side;

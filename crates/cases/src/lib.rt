@@ -44,8 +44,12 @@ mod sample;
 #[cfg(test)]
 mod table_cases;
 #[cfg(test)]
+mod tables;
+#[cfg(test)]
 mod tree_cases;
 #[cfg(test)]
 mod wide_texts;
+#[cfg(test)]
+mod words;
 #[cfg(test)]
 mod writers;

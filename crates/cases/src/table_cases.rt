@@ -17,8 +17,8 @@ const REJECT: usize = 9;
 
 const BLOCKMAP: usize = 10;
 
-// The bytes of words.
-fn bytes_of(alloc: Global, words: &[i16]) -> Result<Vec<u8>, AllocError> {
+/// The bytes of words.
+pub fn bytes_of(alloc: Global, words: &[i16]) -> Result<Vec<u8>, AllocError> {
     let mut bytes = Vec::new(alloc);
     for word in words {
         bytes.extend_from_slice(&word.to_le_bytes())?;

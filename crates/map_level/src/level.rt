@@ -237,22 +237,3 @@ fn names_from<A: Allocator>(set: &Set<'_, A>, label: usize, name: Name8) -> [Nam
     }
     names
 }
-
-#[cfg(test)]
-mod tests {
-    use super::*;
-    use std::test::Fail;
-
-    #[test]
-    fn fault_texts(rt: HostRuntime) -> Result<(), Fail> {
-        for (fault, text) in [
-            (LevelFault::NoLabel, "8 no label"),
-            (LevelFault::Missing(1), "F1 1"),
-            (LevelFault::Missing(10), "F1 10"),
-            (LevelFault::Outside(7), "F2 7"),
-        ] {
-            assert_eq!(rt; format!(in rt.alloc(); "{fault}")?.as_str(), text);
-        }
-        Ok(())
-    }
-}

@@ -7,8 +7,6 @@ mod block_map;
 mod findings;
 pub mod laws;
 mod reject;
-#[cfg(test)]
-mod tests;
 mod words;
 
 pub use block_lines::BlockLines;

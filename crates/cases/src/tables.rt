@@ -1,27 +1,15 @@
-ghost use Rattle.std.specs.Prelude.{◌≡◌, IfOk};
+//! Bits of REJECT, and blocks and lists of BLOCKMAP.
 
-use crate::block_lines::BlockLines;
-use crate::block_map::{BlockFault, BlockMap};
-use crate::reject::Reject;
+use crate::table_cases::bytes_of;
 use map_geo::Point;
 use map_level::Reading;
+use map_tables::{BlockFault, BlockLines, BlockMap, Reject};
 use std::alloc::{AllocError, Global};
 use std::process::Abort;
 use std::test::Fail;
 
-// The bytes of words.
-fn bytes_of(alloc: Global, words: &[i16]) -> Result<Vec<u8>, AllocError> {
-    let mut bytes = Vec::new(alloc);
-    for word in words {
-        bytes.extend_from_slice(&word.to_le_bytes())?;
-    }
-    Ok(bytes)
-}
-
-// The lines of a list: a caller knows them from the iterator's contract.
-fn collected(alloc: Global, lines: BlockLines<'_>) -> Result<Vec<i32>, AllocError>
-    ensures { IfOk result (λ v. v.items ≡ lines.entry) }
-{
+// The lines of a list.
+fn collected(alloc: Global, lines: BlockLines<'_>) -> Result<Vec<i32>, AllocError> {
     let mut all = Vec::new(alloc);
     for line in lines {
         all.push(line)?;

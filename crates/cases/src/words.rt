@@ -1,0 +1,113 @@
+//! The words of the program's line, and what each fault prints.
+
+use demo_lump::{DemoFault, StreamFault};
+use line_io::IoFault;
+use map_level::LevelFault;
+use std::test::Fail;
+use wad_dir::{LumpFault, PackFault, WadFault};
+use wad_look::{Cmd, Job, RunFault, job};
+
+// The job of words with a space between them.
+fn job_of(rt: &HostRuntime, line: &str) -> Result<Option<Job>, Fail> {
+    let mut words = Vec::new(rt.alloc());
+    for word in line.split(' ') {
+        words.push(String::from_str(rt.alloc(), word)?)?;
+    }
+    Ok(job(&words))
+}
+
+#[test]
+fn jobs(rt: HostRuntime) -> Result<(), Fail> {
+    let points = Job {
+        command: Cmd::Points,
+        first: 2,
+        wide: false,
+    };
+    let lumps = Job {
+        command: Cmd::Lumps,
+        first: 1,
+        wide: false,
+    };
+    let wide_points = Job {
+        command: Cmd::Points,
+        first: 3,
+        wide: true,
+    };
+    assert_eq!(rt; job_of(&rt, "points E1M1 a b")?, Some(points));
+    assert_eq!(rt; job_of(&rt, "lumps a")?, Some(lumps));
+    assert_eq!(rt; job_of(&rt, "points E1M1")?, None);
+    assert_eq!(rt; job_of(&rt, "Points E1M1 a")?, None);
+    assert_eq!(rt; job_of(&rt, "lmp a b")?, None);
+    let lmp = Job {
+        command: Cmd::Lmp,
+        first: 1,
+        wide: false,
+    };
+    assert_eq!(rt; job_of(&rt, "lmp a")?, Some(lmp));
+    assert_eq!(rt; job_of(&rt, "lumps -x")?, None);
+    assert_eq!(rt; job_of(&rt, "points --wide E1M1 a")?, Some(wide_points));
+    assert_eq!(rt; job_of(&rt, "sight --wide E1M1 a")?, None);
+    assert_eq!(rt; job_of(&rt, "points E1M1 --wide a")?, None);
+    Ok(())
+}
+
+#[test]
+fn other_words(rt: HostRuntime) -> Result<(), Fail> {
+    assert_eq!(rt; job_of(&rt, "")?, None);
+    assert_eq!(rt; job_of(&rt, "lumps")?, None);
+    assert_eq!(rt; job_of(&rt, "lumps --wide a")?, None);
+    assert_eq!(rt; job_of(&rt, "points --wide E1M1")?, None);
+    assert_eq!(rt; job_of(&rt, "points --wide --wide a")?, None);
+    let mut words = Vec::new(rt.alloc());
+    words.push(String::from_str(rt.alloc(), "lumps")?)?;
+    for _ in 0..64 {
+        words.push(String::from_str(rt.alloc(), "a")?)?;
+    }
+    assert!(rt; job(&words).is_some());
+    words.push(String::from_str(rt.alloc(), "a")?)?;
+    assert!(rt; job(&words).is_none());
+    Ok(())
+}
+
+#[test]
+fn texts(rt: HostRuntime) -> Result<(), Fail> {
+    for (fault, text) in [
+        (RunFault::Set(1, WadFault::Short), "file 1: 1 short"),
+        (RunFault::Set(2, WadFault::Magic), "file 2: 2 magic"),
+        (RunFault::Set(3, WadFault::Count), "file 3: 3 count"),
+        (
+            RunFault::Set(64, WadFault::Directory),
+            "file 64: 4 directory",
+        ),
+        (RunFault::Lump(LumpFault::NoSuch), "5 no such lump"),
+        (RunFault::Lump(LumpFault::Outside), "6 outside file"),
+        (RunFault::Pack(PackFault::TooLarge), "7 too large"),
+        (RunFault::Pack(PackFault::Memory), "memory"),
+        (RunFault::Level(LevelFault::NoLabel), "8 no label"),
+        (RunFault::Level(LevelFault::Missing(1)), "F1 1"),
+        (RunFault::Level(LevelFault::Missing(10)), "F1 10"),
+        (RunFault::Level(LevelFault::Outside(7)), "F2 7"),
+        (RunFault::Audit, "audit"),
+        (RunFault::NoBlockMap, "no blockmap"),
+        (RunFault::Demo(DemoFault::Empty), "demo 1"),
+        (
+            RunFault::Demo(DemoFault::Version(108)),
+            "demo 2 version 108",
+        ),
+        (
+            RunFault::from(StreamFault::Demo(DemoFault::ShortHeader)),
+            "demo 3",
+        ),
+        (RunFault::Demo(DemoFault::NoPlayers), "demo 4"),
+        (RunFault::Demo(DemoFault::NoMarker(21)), "demo 5 at 21"),
+        (RunFault::from(StreamFault::Read), "read"),
+        (RunFault::from(StreamFault::TooLong), "too long"),
+        (RunFault::from(IoFault::Read), "read"),
+        (RunFault::from(IoFault::Write), "write"),
+        (RunFault::from(IoFault::TooLong), "too long"),
+        (RunFault::from(IoFault::Memory), "memory"),
+    ] {
+        assert_eq!(rt; fault.to_string(rt.alloc())?.as_str(), text);
+    }
+    Ok(())
+}

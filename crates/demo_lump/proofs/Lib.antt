@@ -5,5 +5,4 @@ pub mod LawLemmas
 pub mod PieceLemmas
 pub mod ReadingLemmas
 pub mod ReadsLemmas
-pub mod TestLemmas
 pub mod WritingLemmas

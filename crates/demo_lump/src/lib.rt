@@ -10,8 +10,6 @@ mod intake;
 pub mod laws;
 mod piece;
 mod reader;
-#[cfg(test)]
-mod tests;
 mod write;
 
 pub use command::Command;

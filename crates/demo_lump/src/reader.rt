@@ -175,6 +175,3 @@ impl DemoReader {
         read
     }
 }
-
-#[cfg(test)]
-mod tests;

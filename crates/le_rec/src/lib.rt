@@ -10,8 +10,6 @@ pub mod number;
 mod record;
 mod records;
 mod table;
-#[cfg(test)]
-mod tests;
 mod to_write;
 
 pub use ends::{EndFault, Sink, Source};

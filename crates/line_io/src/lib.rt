@@ -11,8 +11,6 @@ mod line_part;
 mod lines;
 mod output;
 mod refusal;
-#[cfg(test)]
-mod tests;
 mod text_line;
 
 pub use content::{Numbers, read_numbers};

@@ -134,25 +134,3 @@ fn write_small(number: u8, bytes: &mut [u8], end: usize) -> usize
     // One more digit from 10 on, and one more from 100 on.
     end - 1 - (wide + 246) / 256 - (wide + 156) / 256
 }
-
-#[cfg(test)]
-mod tests {
-    use super::*;
-
-    #[test]
-    fn answers(rt: HostRuntime) {
-        let mut line = TextLine::new();
-        line.put_bytes(b"\n");
-        line.put_natural(18446744073709551615);
-        line.put_bytes(b" ssector ");
-        line.put_natural(0);
-        line.put_bytes(b" sector ");
-        line.put_integer(-5);
-        line.put_bytes(b" ");
-        line.put_integer(-9223372036854775808);
-        assert_eq!(rt;
-            line.as_bytes(),
-            b"-9223372036854775808 -5 sector 0 ssector 18446744073709551615\n".as_slice()
-        );
-    }
-}

@@ -7,8 +7,6 @@ mod partition;
 mod point;
 mod rect;
 mod sides;
-#[cfg(test)]
-mod tests;
 
 pub use partition::{Columns, Partition, side};
 pub use point::Point;

@@ -104,34 +104,3 @@ impl Sink for SliceSink<'_> {
         self.failed
     }
 }
-
-#[cfg(test)]
-mod tests {
-    use super::*;
-
-    #[test]
-    fn takes_at_most_two_and_fails_at_its_second_call(rt: HostRuntime) {
-        let mut buffer = [0; 8];
-        let mut sink = SliceSink::new(&mut buffer).at_most(2).failing_at(2);
-        assert_eq!(rt; sink.put(b"0 5"), Ok(2));
-        assert!(rt; !sink.failed());
-        assert_eq!(rt; sink.put(b"5\n"), Err(EndFault));
-        assert!(rt; sink.failed());
-        assert_eq!(rt; sink.put(b"5"), Ok(1));
-        assert_eq!(rt; sink.taken(), b"0 5".as_slice());
-        assert!(rt; sink.failed());
-    }
-
-    #[test]
-    fn fails_once_it_is_full(rt: HostRuntime) {
-        let mut buffer = [0; 4];
-        let mut sink = SliceSink::new(&mut buffer);
-        assert_eq!(rt; sink.put(b"0 5"), Ok(3));
-        assert_eq!(rt; sink.put(b"\n0 5"), Ok(1));
-        assert_eq!(rt; sink.put(b""), Ok(0));
-        assert!(rt; !sink.failed());
-        assert_eq!(rt; sink.put(b"0 5"), Err(EndFault));
-        assert!(rt; sink.failed());
-        assert_eq!(rt; sink.taken(), b"0 5\n".as_slice());
-    }
-}

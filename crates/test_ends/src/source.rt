@@ -117,36 +117,3 @@ impl Source for RepeatSource {
         false
     }
 }
-
-#[cfg(test)]
-mod tests {
-    use super::*;
-
-    #[test]
-    fn gives_at_most_two_and_fails_at_its_third_call(rt: HostRuntime) {
-        let mut buf = [0; 3];
-        let mut source = SliceSource::new(b"0 5\n").at_most(2).failing_at(3);
-        assert_eq!(rt; source.pull(&mut buf), Ok(2));
-        assert_eq!(rt; &buf[..2], b"0 ".as_slice());
-        assert_eq!(rt; source.pull(&mut buf[..1]), Ok(1));
-        assert_eq!(rt; buf[0], b'5');
-        assert!(rt; !source.failed());
-        assert_eq!(rt; source.pull(&mut buf), Err(EndFault));
-        assert!(rt; source.failed());
-        assert_eq!(rt; source.left(), b"\n".as_slice());
-        assert_eq!(rt; source.pull(&mut buf), Ok(1));
-        assert_eq!(rt; source.pull(&mut buf), Ok(0));
-        assert!(rt; source.failed());
-    }
-
-    #[test]
-    fn repeats_a_byte_for_ever(rt: HostRuntime) {
-        let mut buf = [0; 3];
-        let mut source = RepeatSource { byte: b'1' };
-        for _ in 0..4 {
-            assert_eq!(rt; source.pull(&mut buf), Ok(3));
-            assert_eq!(rt; buf.as_slice(), b"111".as_slice());
-        }
-        assert!(rt; !source.failed());
-    }
-}

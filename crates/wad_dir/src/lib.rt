@@ -15,6 +15,3 @@ pub use lump::LumpFault;
 pub use packer::{MAX_BYTES, PackFault, Packer};
 pub use set::{MAX_FILES, Place, Set, SetFault};
 pub use wad::{Wad, WadFault};
-
-#[cfg(test)]
-mod tests;

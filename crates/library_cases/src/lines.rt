@@ -1,10 +1,11 @@
-//! The engine over a command that answers a line with its content's length.
+//! Lines answered by a command that tells their content's length.
 ghost use Rattle.std.specs.Prelude.{◌≡◌, ℕ, List, ◌++◌, ◌∷◌, [], length, false, None, decimal};
 
-use super::{IoFault, LIMIT, LineCommand, answer_lines, emit, read_all};
 use itoa::Buffer;
 use le_rec::{EndFault, Sink, Source};
+use line_io::{IoFault, LIMIT, LineCommand, answer_lines, emit, read_all};
 use std::cell::Cell;
+use std::process::Abort;
 use std::test::Fail;
 use test_alloc::Refusing;
 use test_ends::{RepeatSource, SliceSink, SliceSource};
@@ -28,17 +29,23 @@ const INPUT: &[u8] = b"0 5\n\n007 -0\r\n\r\nlast";
 
 const TEXT: &[u8] = b"3\n0\n6\n0\n4\n";
 
+// Compares what the lines of a source are told with what is expected.
+fn check_answers(rt: &impl Abort, mut input: SliceSource<'_>, text: &[u8]) {
+    let mut room = [0; 100];
+    let mut out = SliceSink::new(&mut room);
+    assert_eq!(rt; answer_lines(&Length, &mut input, LIMIT, &mut out), Ok(()));
+    assert_eq!(rt; out.taken(), text);
+    assert!(rt; input.left().is_empty() && !input.failed() && !out.failed());
+}
+
 #[test]
 fn lines_are_answered(rt: HostRuntime) {
     for most in [1, 2, 3, 100] {
         let mut room = [0; 100];
         let mut out = SliceSink::new(&mut room).at_most(most);
         let mut input = SliceSource::new(INPUT).at_most(most);
-        assert_eq!(rt;
-            answer_lines(&Length, &mut input, LIMIT, &mut out),
-            Ok(()),
-            "{most} a call"
-        );
+        let ended = answer_lines(&Length, &mut input, LIMIT, &mut out);
+        assert_eq!(rt; ended, Ok(()), "{most} a call");
         assert_eq!(rt; out.taken(), TEXT);
         assert!(rt; input.left().is_empty() && !input.failed() && !out.failed());
     }
@@ -54,17 +61,12 @@ fn last_parts(rt: HostRuntime) {
         (b"5\n\r", b"1\n0\n"),
     ];
     for (input, text) in cases {
-        let mut room = [0; 100];
-        let mut out = SliceSink::new(&mut room);
-        let mut source = SliceSource::new(input);
-        assert_eq!(rt; answer_lines(&Length, &mut source, LIMIT, &mut out), Ok(()));
-        assert_eq!(rt; out.taken(), text);
+        check_answers(&rt, SliceSource::new(input), text);
     }
 }
 
 #[test]
-fn line_lengths(rt: HostRuntime) {
-    let zeros = [b'0'; 67];
+fn line_lengths(rt: HostRuntime) -> Result<(), Fail> {
     let cases: [(usize, &[u8], &[u8]); 7] = [
         (63, b"\r\n", b"63\n"),
         (64, b"\n", b"64\n"),
@@ -75,17 +77,13 @@ fn line_lengths(rt: HostRuntime) {
         (67, b"\r", b"refused: form\n"),
     ];
     for (count, end, text) in cases {
+        let mut line = Vec::from_elem(rt.alloc(), b'0', count)?;
+        line.extend_from_slice(end)?;
         for most in [1, 100] {
-            let mut line = [0; 70];
-            line[..count].copy_from_slice(&zeros[..count]);
-            line[count..count + end.len()].copy_from_slice(end);
-            let mut room = [0; 100];
-            let mut out = SliceSink::new(&mut room);
-            let mut input = SliceSource::new(&line[..count + end.len()]).at_most(most);
-            assert_eq!(rt; answer_lines(&Length, &mut input, LIMIT, &mut out), Ok(()));
-            assert_eq!(rt; out.taken(), text, "{count} bytes");
+            check_answers(&rt, SliceSource::new(&line).at_most(most), text);
         }
     }
+    Ok(())
 }
 
 // How many lines of INPUT end within its first `count` bytes, as the length of their answers.

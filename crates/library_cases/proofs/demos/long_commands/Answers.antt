@@ -1,8 +1,8 @@
 use Rattle.std.proofs.Common.{[], ◌∷◌, ◌∙◌, refl, sym}
 use Rattle.std.proofs.lemmas.List.Elements.{All-cons, All-nil}
 use Rattle.demo_lump.specs.Writable.{IsWritable}
-use Rattle.demo_lump.proofs.TestLemmas.{forwards, backwards}
-use Rattle.demo_lump.proofs.tests.long_commands.Goals as goal
+use Rattle.library_cases.proofs.CommandLemmas.{forwards, backwards}
+use Rattle.library_cases.proofs.demos.long_commands.Goals as goal
 
 pub returns : goal.returns
 returns c =

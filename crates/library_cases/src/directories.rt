@@ -1,12 +1,12 @@
-//! Worked cases over files of a few bytes.
+//! Directories and lumps of files of a few bytes.
 
-use super::*;
 use le_rec::Name8;
 use std::alloc::Allocator;
 use std::fmt::Display;
 use std::process::Abort;
 use std::test::Fail;
 use test_alloc::Refusing;
+use wad_dir::{Kind, LumpFault, MAX_FILES, PackFault, Packer, Place, Set, SetFault, Wad, WadFault};
 
 // A name, and a lump under it.
 type Lump = (&'static [u8], &'static [u8]);

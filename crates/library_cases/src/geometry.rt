@@ -1,5 +1,7 @@
-use super::*;
+//! Sides of points and of rectangles.
+
 use le_rec::Node;
+use map_geo::{Partition, Point, Rect, Side, side, whole_side};
 use std::process::Abort;
 
 // A node whose partition goes through (x, y) in the direction (dx, dy).
@@ -28,26 +30,35 @@ fn rect(rt: &impl Abort, x0: i32, y0: i32, x1: i32, y1: i32) -> Rect {
     Rect::new(x0, y0, x1, y1).expect(rt, "a rectangle")
 }
 
+// Compares the side of a point with what is expected.
+fn check_side(rt: &impl Abort, x: i32, y: i32, line: Partition, expected: Side) {
+    assert_eq!(rt;
+        side(point(rt, x, y), line),
+        expected,
+        "{line:?} at {x} {y}"
+    );
+}
+
 #[test]
 fn base_points(rt: HostRuntime) {
     let base = partition(&rt, 0, 0, 0, 64);
-    assert_eq!(rt; side(point(&rt, 1, 5), base), Side::Front);
-    assert_eq!(rt; side(point(&rt, 0, 5), base), Side::Back);
-    assert_eq!(rt; side(point(&rt, -1, 5), base), Side::Back);
+    check_side(&rt, 1, 5, base, Side::Front);
+    check_side(&rt, 0, 5, base, Side::Back);
+    check_side(&rt, -1, 5, base, Side::Back);
 }
 
 #[test]
 fn diagonal_ties(rt: HostRuntime) {
     let diagonal = partition(&rt, 0, 0, -1, 1);
-    assert_eq!(rt; side(point(&rt, 0, 0), diagonal), Side::Front);
-    assert_eq!(rt; side(point(&rt, 1, -1), diagonal), Side::Back);
-    assert_eq!(rt; side(point(&rt, -1, 1), diagonal), Side::Back);
+    check_side(&rt, 0, 0, diagonal, Side::Front);
+    check_side(&rt, 1, -1, diagonal, Side::Back);
+    check_side(&rt, -1, 1, diagonal, Side::Back);
 }
 
 #[test]
 fn greatest_products(rt: HostRuntime) {
     let steepest = partition(&rt, -16384, 16383, 32767, -32768);
-    assert_eq!(rt; side(point(&rt, 16383, -16384), steepest), Side::Back);
+    check_side(&rt, 16383, -16384, steepest, Side::Back);
 }
 
 #[test]
@@ -55,7 +66,7 @@ fn no_direction(rt: HostRuntime) {
     let nowhere = partition(&rt, 3, 3, 0, 0);
     for x in 2..5 {
         for y in 2..5 {
-            assert_eq!(rt; side(point(&rt, x, y), nowhere), Side::Front, "at {x} {y}");
+            check_side(&rt, x, y, nowhere, Side::Front);
         }
     }
 }
@@ -73,24 +84,19 @@ const TIES: [(i16, i16, Side, Side); 9] = [
     (-1, -1, Side::Back, Side::Back),
 ];
 
+// Compares the sides of three points of a line: its origin, and one on each side of it.
+fn check_ties(rt: &impl Abort, dx: i16, dy: i16, at_origin: Side, elsewhere: Side) {
+    let line = partition(rt, 5, -7, dx, dy);
+    let (right, up) = (i32::from(dx), i32::from(dy));
+    check_side(rt, 5, -7, line, at_origin);
+    check_side(rt, 5 + right, up - 7, line, elsewhere);
+    check_side(rt, 5 - right, -7 - up, line, elsewhere);
+}
+
 #[test]
 fn ties(rt: HostRuntime) {
     for (dx, dy, at_origin, elsewhere) in TIES {
-        let line = partition(&rt, 5, -7, dx, dy);
-        let (right, up) = (i32::from(dx), i32::from(dy));
-        assert_eq!(rt;
-            side(point(&rt, 5, -7), line),
-            at_origin,
-            "direction {dx} {dy}"
-        );
-        for (x, y) in [(5 + right, -7 + up), (5 - right, -7 - up)] {
-            let place = point(&rt, x, y);
-            assert_eq!(rt;
-                side(place, line),
-                elsewhere,
-                "direction {dx} {dy} at {x} {y}"
-            );
-        }
+        check_ties(&rt, dx, dy, at_origin, elsewhere);
     }
 }
 
@@ -147,14 +153,32 @@ fn rectangles(rt: HostRuntime) {
     }
 }
 
+// Compares the pieces of a rectangle up to a row and from it on.
+fn check_rows(rt: &impl Abort, whole: Rect, y: i32, to: Option<Rect>, from: Option<Rect>) {
+    assert!(rt; whole.y0() <= y && y <= whole.y1());
+    assert_eq!(rt; Some(whole.rows_to(y)), to);
+    assert_eq!(rt; Some(whole.rows_from(y)), from);
+}
+
+// Compares the pieces of a rectangle up to a column and from it on.
+fn check_columns(rt: &impl Abort, whole: Rect, x: i32, to: Option<Rect>, from: Option<Rect>) {
+    assert!(rt; whole.x0() <= x && x <= whole.x1());
+    assert_eq!(rt; Some(whole.columns_to(x)), to);
+    assert_eq!(rt; Some(whole.columns_from(x)), from);
+}
+
 #[test]
 fn rectangles_cut(rt: HostRuntime) {
     let whole = rect(&rt, -3, 10, 5, 20);
-    assert!(rt; whole.x0() <= 2 && 2 <= whole.x1() && whole.y0() <= 12 && 12 <= whole.y1());
-    assert_eq!(rt; Some(whole.rows_to(12)), Rect::new(-3, 10, 5, 12));
-    assert_eq!(rt; Some(whole.rows_from(12)), Rect::new(-3, 12, 5, 20));
-    assert_eq!(rt; Some(whole.columns_to(2)), Rect::new(-3, 10, 2, 20));
-    assert_eq!(rt; Some(whole.columns_from(2)), Rect::new(2, 10, 5, 20));
+    let (to, from) = (Rect::new(-3, 10, 5, 12), Rect::new(-3, 12, 5, 20));
+    check_rows(&rt, whole, 12, to, from);
+    let (to, from) = (Rect::new(-3, 10, 2, 20), Rect::new(2, 10, 5, 20));
+    check_columns(&rt, whole, 2, to, from);
+}
+
+// Compares the side of a whole rectangle with what is expected.
+fn check_whole(rt: &impl Abort, place: Rect, line: Partition, expected: Option<Side>) {
+    assert_eq!(rt; whole_side(place, line), expected, "{place:?} {line:?}");
 }
 
 #[test]
@@ -162,17 +186,12 @@ fn whole_sides(rt: HostRuntime) {
     let base = partition(&rt, 0, 0, 0, 64);
     let nowhere = partition(&rt, 3, 3, 0, 0);
     let diagonal = partition(&rt, 0, 0, -1, 1);
-    let cases = [
-        (rect(&rt, 1, 0, 3, 2), base, Some(Side::Front)),
-        (rect(&rt, -3, 0, 0, 2), base, Some(Side::Back)),
-        (rect(&rt, -9, -9, 9, 9), nowhere, Some(Side::Front)),
-        (rect(&rt, 0, 0, 3, 2), base, None),
-        (rect(&rt, -2, -2, 0, 0), diagonal, None),
-        (rect(&rt, 0, 0, 2, 2), diagonal, Some(Side::Front)),
-    ];
-    for (place, line, expected) in cases {
-        assert_eq!(rt; whole_side(place, line), expected, "{place:?} {line:?}");
-    }
+    check_whole(&rt, rect(&rt, 1, 0, 3, 2), base, Some(Side::Front));
+    check_whole(&rt, rect(&rt, -3, 0, 0, 2), base, Some(Side::Back));
+    check_whole(&rt, rect(&rt, -9, -9, 9, 9), nowhere, Some(Side::Front));
+    check_whole(&rt, rect(&rt, 0, 0, 3, 2), base, None);
+    check_whole(&rt, rect(&rt, -2, -2, 0, 0), diagonal, None);
+    check_whole(&rt, rect(&rt, 0, 0, 2, 2), diagonal, Some(Side::Front));
 }
 
 // The side that each point of a rectangle has, found point by point.
@@ -196,8 +215,7 @@ fn compare_in_grid(rt: &impl Abort, line: Partition) {
             for y1 in y0..3 {
                 for x1 in x0..3 {
                     let place = rect(rt, x0, y0, x1, y1);
-                    let expected = side_of_each(rt, (x0, y0, x1, y1), line);
-                    assert_eq!(rt; whole_side(place, line), expected, "{place:?} {line:?}");
+                    check_whole(rt, place, line, side_of_each(rt, (x0, y0, x1, y1), line));
                 }
             }
         }

@@ -1,10 +1,10 @@
-//! Worked cases.
+//! Demos in memory.
 
 ghost use Rattle.std.specs.Prelude.{◌≡◌, ◌<◌, All};
 ghost use Rattle.demo_lump.specs.Header.{players_in};
 ghost use Rattle.demo_lump.specs.Writable.{IsWritable};
 
-use super::*;
+use demo_lump::{Command, Demo, DemoFault, Header, write_demo};
 use std::test::Fail;
 use test_alloc::Refusing;
 

@@ -1,4 +1,8 @@
-use super::*;
+//! Records, tables and names.
+
+use le_rec::{
+    Entry, LineDef, Name8, Node, Record, SSector, Sector, Seg, SideDef, Table, Thing, Vertex, Word,
+};
 
 // The record of the bytes, through the bound, and whether writing it gives the bytes back.
 fn read_and_write<R: Record>(bytes: &[u8]) -> Option<(R, bool)> {

@@ -1,11 +1,10 @@
-//! Worked cases over sources that give one byte a pull, or fail.
+//! Demos from sources that give one byte a pull, or fail.
 
 ghost use Rattle.std.specs.Prelude.{◌≡◌, ◌≤◌, false, None};
 ghost use Rattle.test_ends.specs.SliceSource.{pull_failed};
 
-use super::*;
-use crate::fault::DemoFault;
-use crate::tests::{LONG, TWO, command_of, fault_of, header_of};
+use crate::demos::{LONG, TWO, command_of, fault_of, header_of};
+use demo_lump::{Command, DemoFault, DemoReader, Header, LIMIT, StreamFault};
 use test_ends::SliceSource;
 
 // A reader with its source, of which a test is to know nothing before it asks.

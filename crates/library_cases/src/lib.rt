@@ -1,0 +1,27 @@
+//! Worked cases of one library each. It holds tests alone.
+#![tactic(auto)]
+
+#[cfg(test)]
+mod demos;
+#[cfg(test)]
+mod directories;
+#[cfg(test)]
+mod geometry;
+#[cfg(test)]
+mod growths;
+#[cfg(test)]
+mod lines;
+#[cfg(test)]
+mod memory_ends;
+#[cfg(test)]
+mod numbers;
+#[cfg(test)]
+mod readers;
+#[cfg(test)]
+mod records;
+#[cfg(test)]
+mod streamed_demos;
+#[cfg(test)]
+mod text_lines;
+#[cfg(test)]
+mod writers;

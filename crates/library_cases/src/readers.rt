@@ -1,0 +1,47 @@
+//! A source over a reader that ends, or fails.
+
+use le_rec::{EndFault, FromRead, Source};
+use std::io;
+use std::io::Read;
+
+// Its first read fails, and each later one gives what there is room for.
+#[derive(Drop)]
+struct FailsOnce {
+    has_failed: bool,
+}
+
+impl Read for FailsOnce {
+    fn read(&mut self, buf: &mut [u8]) -> io::Result<usize> {
+        if self.has_failed {
+            return Ok(buf.len());
+        }
+        self.has_failed = true;
+        Err(io::Error::from(io::ErrorKind::Other))
+    }
+}
+
+// How many bytes two pulls of three give, or None where one fails.
+fn two_pulls<S: Source>(source: &mut S) -> Option<usize> {
+    let mut buf = [0; 3];
+    let first = source.pull(&mut buf).ok()?;
+    let second = source.pull(&mut buf).ok()?;
+    Some(first + second)
+}
+
+#[test]
+fn a_reader_is_pulled_to_its_end(rt: HostRuntime) {
+    let mut source = FromRead::new(b"0 5\n".as_slice());
+    assert_eq!(rt; two_pulls(&mut source), Some(4));
+    assert_eq!(rt; source.pull(&mut [0; 3]), Ok(0));
+    assert!(rt; !source.failed());
+}
+
+#[test]
+fn a_failed_read_is_a_failed_pull(rt: HostRuntime) {
+    let mut source = FromRead::new(FailsOnce { has_failed: false });
+    assert!(rt; !source.failed());
+    assert_eq!(rt; source.pull(&mut [0; 3]), Err(EndFault));
+    assert!(rt; source.failed());
+    assert_eq!(rt; two_pulls(&mut source), Some(6));
+    assert!(rt; source.failed());
+}

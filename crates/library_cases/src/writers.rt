@@ -1,0 +1,60 @@
+//! A sink over a writer that is full, or fails.
+
+use le_rec::{EndFault, Sink, ToWrite};
+use std::io;
+use std::io::Write;
+
+// Its first write fails, and each later one takes all.
+#[derive(Drop)]
+struct FailsOnce {
+    has_failed: bool,
+}
+
+impl Write for FailsOnce {
+    fn write(&mut self, bytes: &[u8]) -> io::Result<usize> {
+        if self.has_failed {
+            return Ok(bytes.len());
+        }
+        self.has_failed = true;
+        Err(io::Error::from(io::ErrorKind::Other))
+    }
+
+    fn flush(&mut self) -> io::Result<()> {
+        Ok(())
+    }
+}
+
+// How many bytes two puts of `bytes` take, or None where one fails.
+fn two_puts<W: Sink>(sink: &mut W, bytes: &[u8]) -> Option<usize> {
+    let first = sink.put(bytes).ok()?;
+    let second = sink.put(bytes).ok()?;
+    Some(first + second)
+}
+
+#[test]
+fn a_writer_that_takes_none_has_failed(rt: HostRuntime) {
+    let mut room = [0; 3];
+    let mut sink = ToWrite::new(room.as_mut_slice());
+    assert_eq!(rt; two_puts(&mut sink, b"0 5"), None);
+    assert!(rt; sink.failed());
+    assert_eq!(rt; sink.put(b""), Ok(0));
+    assert!(rt; sink.failed());
+}
+
+#[test]
+fn a_failed_write_is_a_failed_put(rt: HostRuntime) {
+    let mut sink = ToWrite::new(FailsOnce { has_failed: false });
+    assert!(rt; !sink.failed());
+    assert_eq!(rt; sink.put(b"0 5"), Err(EndFault));
+    assert!(rt; sink.failed());
+    assert_eq!(rt; two_puts(&mut sink, b"0 5"), Some(6));
+    assert!(rt; sink.failed());
+}
+
+#[test]
+fn a_writer_takes_what_it_has_room_for(rt: HostRuntime) {
+    let mut room = [0; 5];
+    let mut sink = ToWrite::new(room.as_mut_slice());
+    assert_eq!(rt; two_puts(&mut sink, b"0 5"), Some(5));
+    assert!(rt; !sink.failed());
+}

@@ -29,8 +29,9 @@ const INPUT: &[u8] = b"0 5\n\n007 -0\r\n\r\nlast";
 
 const TEXT: &[u8] = b"3\n0\n6\n0\n4\n";
 
-// Compares what the lines of a source are told with what is expected.
+// Compares what the lines of a source that hasn't failed are told with what is expected.
 fn check_answers(rt: &impl Abort, mut input: SliceSource<'_>, text: &[u8]) {
+    assert!(rt; !input.failed());
     let mut room = [0; 100];
     let mut out = SliceSink::new(&mut room);
     assert_eq!(rt; answer_lines(&Length, &mut input, LIMIT, &mut out), Ok(()));

@@ -5,12 +5,25 @@ use crate::sample::{
     LINE_WITHOUT_SIDE_1, base, base_not_reached, base_with, base_with_node, base_with_rest, lumps,
     pack,
 };
+use le_rec::Sink;
 use map_level::{LevelFault, Reading};
 use std::process::Abort;
 use std::test::Fail;
 use test_alloc::Refusing;
 use test_ends::SliceSink;
 use wad_look::{RunFault, audit_text, extract, status};
+
+// What `audit` of E1M1 on these files answers.
+fn audited(
+    rt: &(impl Abort + AllocGlobal),
+    files: &[Vec<u8>],
+    out: &mut SliceSink<'_>,
+) -> Result<bool, RunFault> {
+    assert!(rt; files.len() <= 64);
+    let fresh = !out.failed();
+    assert!(rt; fresh);
+    audit_text(rt.alloc(), files, b"E1M1", Reading::Signed, out)
+}
 
 // What `audit` of E1M1 answers, and that it writes this text.
 fn check(
@@ -22,7 +35,7 @@ fn check(
     let files = vec![in rt.alloc(); file]?;
     let mut room = [0; 200];
     let mut out = SliceSink::new(&mut room);
-    let result = audit_text(rt.alloc(), &files, b"E1M1", Reading::Signed, &mut out);
+    let result = audited(rt, &files, &mut out);
     assert_eq!(rt; out.taken(), text);
     assert_eq!(rt; result, Ok(faultless));
     assert_eq!(rt; status(&result), u8::from(!faultless));

@@ -134,8 +134,8 @@ fn census_work(rt: HostRuntime) -> Result<(), Fail> {
 // How many points of a rectangle lie in sectors 0 and 1, point by point.
 fn plain_counts(rt: &impl Abort, tree: &Tree<'_, '_>, rect: Rect) -> [u32; 2] {
     let mut counts = [0u32; 2];
-    for y in rect.y0()..rect.y1() + 1 {
-        for x in rect.x0()..rect.x1() + 1 {
+    for y in rect.y0()..=rect.y1() {
+        for x in rect.x0()..=rect.x1() {
             let point = Point::new(x, y).expect(rt, "a point in range");
             match tree.sector(point) {
                 0 => counts[0] = counts[0].wrapping_add(1),

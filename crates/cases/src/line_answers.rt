@@ -11,7 +11,18 @@ use wad_look::{RunFault, blocks, sight};
 // The most bytes of a test's input.
 const LIMIT: u64 = 64;
 
-// What `sight` answers to lines on a file.
+// Compares what `sight` answers to lines on files with a text.
+fn check_sight(rt: &impl Abort, alloc: Global, files: &[Vec<u8>], lines: &[u8], text: &[u8]) {
+    assert!(rt; files.len() <= 64);
+    let mut input = SliceSource::new(lines);
+    let mut room = [0; 256];
+    let mut out = SliceSink::new(&mut room);
+    let ended = sight(alloc, files, b"E1M1", &mut input, LIMIT, &mut out);
+    assert_eq!(rt; ended, Ok(()));
+    assert_eq!(rt; out.taken(), text);
+}
+
+// The same on one file.
 fn seen(
     rt: &impl Abort,
     alloc: Global,
@@ -20,14 +31,7 @@ fn seen(
     text: &[u8],
 ) -> Result<(), Fail> {
     let files = vec![in alloc; file]?;
-    let mut input = SliceSource::new(lines);
-    let mut room = [0; 256];
-    let mut out = SliceSink::new(&mut room);
-    assert_eq!(rt;
-        sight(alloc, &files, b"E1M1", &mut input, LIMIT, &mut out),
-        Ok(())
-    );
-    assert_eq!(rt; out.taken(), text);
+    check_sight(rt, alloc, &files, lines, text);
     Ok(())
 }
 
@@ -74,7 +78,25 @@ fn lumps_overlap(rt: HostRuntime) -> Result<(), Fail> {
     )
 }
 
-// What `blocks` answers to lines on the sample level with another BLOCKMAP.
+// Compares what `blocks` answers to lines on files with a text.
+fn check_blocks(
+    rt: &impl Abort,
+    alloc: Global,
+    files: &[Vec<u8>],
+    reading: Reading,
+    lines: &[u8],
+    text: &[u8],
+) {
+    assert!(rt; files.len() <= 64);
+    let mut input = SliceSource::new(lines);
+    let mut room = [0; 256];
+    let mut out = SliceSink::new(&mut room);
+    let ended = blocks(alloc, files, b"E1M1", reading, &mut input, LIMIT, &mut out);
+    assert_eq!(rt; ended, Ok(()));
+    assert_eq!(rt; out.taken(), text);
+}
+
+// The same on the sample level with another BLOCKMAP.
 fn listed(
     rt: &impl Abort,
     alloc: Global,
@@ -84,14 +106,7 @@ fn listed(
     text: &[u8],
 ) -> Result<(), Fail> {
     let files = vec![in alloc; base_with(alloc, &[(10, blockmap)])?]?;
-    let mut input = SliceSource::new(lines);
-    let mut room = [0; 256];
-    let mut out = SliceSink::new(&mut room);
-    assert_eq!(rt;
-        blocks(alloc, &files, b"E1M1", reading, &mut input, LIMIT, &mut out),
-        Ok(())
-    );
-    assert_eq!(rt; out.taken(), text);
+    check_blocks(rt, alloc, &files, reading, lines, text);
     Ok(())
 }
 

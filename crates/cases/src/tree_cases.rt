@@ -51,7 +51,8 @@ fn check_findings(
     let files = vec![in rt.alloc(); file]?;
     let set = Set::new(rt.alloc(), &files)?;
     let level = Level::open(&set, Name8::query(b"E1M1"), Reading::Signed)?;
-    check_list(rt, &tree_findings(rt.alloc(), &level)?, expected);
+    let found = tree_findings(rt.alloc(), &level)?;
+    check_list(rt, &found, expected);
     Ok(())
 }
 

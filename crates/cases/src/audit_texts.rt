@@ -1,29 +1,17 @@
 //! The command `audit`.
 
+use crate::engines::{audit_text, extract};
 use crate::levels::nodes_outside;
 use crate::sample::{
     LINE_WITHOUT_SIDE_1, base, base_not_reached, base_with, base_with_node, base_with_rest, lumps,
     pack,
 };
-use le_rec::Sink;
 use map_level::{LevelFault, Reading};
 use std::process::Abort;
 use std::test::Fail;
 use test_alloc::Refusing;
 use test_ends::SliceSink;
-use wad_look::{RunFault, audit_text, extract, status};
-
-// What `audit` of E1M1 on these files answers.
-fn audited(
-    rt: &(impl Abort + AllocGlobal),
-    files: &[Vec<u8>],
-    out: &mut SliceSink<'_>,
-) -> Result<bool, RunFault> {
-    assert!(rt; files.len() <= 64);
-    let fresh = !out.failed();
-    assert!(rt; fresh);
-    audit_text(rt.alloc(), files, b"E1M1", Reading::Signed, out)
-}
+use wad_look::{RunFault, status};
 
 // What `audit` of E1M1 answers, and that it writes this text.
 fn check(
@@ -35,7 +23,7 @@ fn check(
     let files = vec![in rt.alloc(); file]?;
     let mut room = [0; 200];
     let mut out = SliceSink::new(&mut room);
-    let result = audited(rt, &files, &mut out);
+    let result = audit_text(rt, rt.alloc(), &files, Reading::Signed, &mut out);
     assert_eq!(rt; out.taken(), text);
     assert_eq!(rt; result, Ok(faultless));
     assert_eq!(rt; status(&result), u8::from(!faultless));
@@ -85,7 +73,7 @@ fn lumps_missing(rt: HostRuntime) -> Result<(), Fail> {
     let files = vec![in rt.alloc(); base(rt.alloc())?]?;
     let mut room = [0; 20];
     let mut out = SliceSink::new(&mut room);
-    let result = audit_text(rt.alloc(), &files, b"E2M9", Reading::Signed, &mut out);
+    let result = wad_look::audit_text(rt.alloc(), &files, b"E2M9", Reading::Signed, &mut out);
     assert_eq!(rt; result, Err(RunFault::Level(LevelFault::NoLabel)));
     assert!(rt; out.taken().is_empty());
     Ok(())
@@ -103,7 +91,7 @@ fn extract_keeps_rest(rt: HostRuntime) -> Result<(), Fail> {
     let files = vec![in rt.alloc(); base_with_rest(rt.alloc())?]?;
     let mut room = [0; 1024];
     let mut out = SliceSink::new(&mut room);
-    assert_eq!(rt; extract(rt.alloc(), &files, b"E1M1", &mut out), Ok(()));
+    assert_eq!(rt; extract(&rt, rt.alloc(), &files, &mut out), Ok(()));
     let text = b"N2 8 bytes left over\nfaults 0 notes 1\n";
     check(&rt, Vec::from_slice(rt.alloc(), out.taken())?, text, true)
 }
@@ -116,11 +104,10 @@ fn is_refused(
     text: &[u8],
     faultless: bool,
 ) -> bool {
-    assert!(rt; files.len() <= 64);
     let heap = Refusing::new(rt.alloc(), n);
     let mut room = [0; 200];
     let mut out = SliceSink::new(&mut room);
-    let result = audit_text(&heap, files, b"E1M1", Reading::Signed, &mut out);
+    let result = audit_text(rt, &heap, files, Reading::Signed, &mut out);
     if !heap.has_refused() {
         assert_eq!(rt; result, Ok(faultless));
         assert_eq!(rt; out.taken(), text);

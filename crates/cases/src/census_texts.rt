@@ -1,12 +1,13 @@
 //! The command `census` over the sample level.
 
+use crate::engines::census_text;
 use crate::sample::{base, base_with_node};
 use map_level::Reading;
 use std::process::Abort;
 use std::test::Fail;
 use test_alloc::Refusing;
 use test_ends::{SliceSink, SliceSource};
-use wad_look::{LIMIT, RunFault, census_text, status};
+use wad_look::{RunFault, status};
 
 // `census` answers the input with the text.
 fn answers(
@@ -16,20 +17,11 @@ fn answers(
     text: &[u8],
 ) -> Result<(), Fail> {
     let files = vec![in rt.alloc(); file]?;
-    assert!(rt; files.len() <= 64);
     let mut room = [0; 1024];
     let mut out = SliceSink::new(&mut room);
     let mut source = SliceSource::new(input);
-    let reading = Reading::Signed;
-    let result = census_text(
-        rt.alloc(),
-        &files,
-        b"E1M1",
-        reading,
-        &mut source,
-        LIMIT,
-        &mut out,
-    );
+    let signed = Reading::Signed;
+    let result = census_text(rt, rt.alloc(), &files, signed, &mut source, &mut out);
     assert_eq!(rt; result, Ok(()));
     assert_eq!(rt; out.taken(), text);
     Ok(())
@@ -74,13 +66,11 @@ const TEXT: &[u8] = b"-1 0 1 1 points 6 0:2 1:4\n0 0 0 0 points 1 1:1\n";
 
 // Whether `census` met growth `n` refused; then it has written whole answers, or a front of them.
 fn census_refused(rt: &(impl Abort + AllocGlobal), files: &[Vec<u8>], n: u64) -> bool {
-    assert!(rt; files.len() <= 64);
     let heap = Refusing::new(rt.alloc(), n);
     let mut room = [0; 100];
     let mut out = SliceSink::new(&mut room);
     let mut source = SliceSource::new(LINES);
-    let reading = Reading::Signed;
-    let result = census_text(&heap, files, b"E1M1", reading, &mut source, LIMIT, &mut out);
+    let result = census_text(rt, &heap, files, Reading::Signed, &mut source, &mut out);
     if !heap.has_refused() {
         assert_eq!(rt; result, Ok(()));
         assert_eq!(rt; out.taken(), TEXT);
@@ -108,20 +98,12 @@ fn growth_refused_in_census(rt: HostRuntime) -> Result<(), Fail> {
 
 // `census` with a writer that takes a byte a call and fails at call `n`: written are the bytes before.
 fn census_fails_at(rt: &(impl Abort + AllocGlobal), files: &[Vec<u8>], n: usize) {
-    assert!(rt; files.len() <= 64 && 0 < n && n <= TEXT.len());
+    assert!(rt; 0 < n && n <= TEXT.len());
     let mut room = [0; 100];
     let mut out = SliceSink::new(&mut room).at_most(1).failing_at(n as u32);
     let mut source = SliceSource::new(LINES);
-    let reading = Reading::Signed;
-    let result = census_text(
-        rt.alloc(),
-        files,
-        b"E1M1",
-        reading,
-        &mut source,
-        LIMIT,
-        &mut out,
-    );
+    let signed = Reading::Signed;
+    let result = census_text(rt, rt.alloc(), files, signed, &mut source, &mut out);
     assert_eq!(rt; result, Err(RunFault::Write));
     assert_eq!(rt; out.taken(), &TEXT[..n - 1]);
 }

@@ -1,5 +1,6 @@
 //! Each growth and each write of the engines that print levels, refused in turn.
 
+use crate::engines::{blocks, extract, show, sight};
 use crate::level_texts::TEXT;
 use crate::sample::base;
 use map_level::Reading;
@@ -7,7 +8,7 @@ use std::process::Abort;
 use std::test::Fail;
 use test_alloc::Refusing;
 use test_ends::{SliceSink, SliceSource};
-use wad_look::{LIMIT, RunFault, blocks, extract, show, sight, status};
+use wad_look::{RunFault, status};
 
 // Whether `show`, `extract`, `sight` or `blocks`, by its number, met growth `n` refused; then it has read and written
 // nothing, and else written this text.
@@ -18,25 +19,16 @@ fn level_refused(
     n: u64,
     text: &[u8],
 ) -> bool {
-    assert!(rt; files.len() <= 64);
     let heap = Refusing::new(rt.alloc(), n);
     let mut room = [0; 1024];
     let mut out = SliceSink::new(&mut room);
     let mut source = SliceSource::new(b"0 1\n");
     let input = &mut source;
     let result = match command {
-        0 => show(&heap, files, b"E1M1", Reading::Signed, &mut out),
-        1 => extract(&heap, files, b"E1M1", &mut out),
-        2 => sight(&heap, files, b"E1M1", input, LIMIT, &mut out),
-        _ => blocks(
-            &heap,
-            files,
-            b"E1M1",
-            Reading::Signed,
-            input,
-            LIMIT,
-            &mut out,
-        ),
+        0 => show(rt, &heap, files, Reading::Signed, &mut out),
+        1 => extract(rt, &heap, files, &mut out),
+        2 => sight(rt, &heap, files, input, &mut out),
+        _ => blocks(rt, &heap, files, Reading::Signed, input, &mut out),
     };
     if !heap.has_refused() {
         assert_eq!(rt; result, Ok(()));
@@ -75,10 +67,10 @@ fn growth_refused_in_level_engines(rt: HostRuntime) -> Result<(), Fail> {
 
 // `show` with a writer that takes a byte a call and fails at call `n`: written are the bytes before.
 fn show_fails_at(rt: &(impl Abort + AllocGlobal), files: &[Vec<u8>], n: usize) {
-    assert!(rt; files.len() <= 64 && 0 < n && n <= TEXT.len());
+    assert!(rt; 0 < n && n <= TEXT.len());
     let mut room = [0; 1024];
     let mut out = SliceSink::new(&mut room).at_most(1).failing_at(n as u32);
-    let result = show(rt.alloc(), files, b"E1M1", Reading::Signed, &mut out);
+    let result = show(rt, rt.alloc(), files, Reading::Signed, &mut out);
     assert_eq!(rt; result, Err(RunFault::Write));
     assert_eq!(rt; out.taken(), &TEXT[..n - 1]);
 }

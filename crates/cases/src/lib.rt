@@ -16,6 +16,8 @@ mod demo_cases;
 #[cfg(test)]
 mod ends;
 #[cfg(test)]
+mod engines;
+#[cfg(test)]
 mod files;
 #[cfg(test)]
 mod findings;

@@ -1,23 +1,19 @@
 //! The commands `sight` and `blocks`.
 
+use crate::engines::{blocks, sight};
 use crate::sample::{LINE_WITHOUT_SIDE_1, base_with, map_of_wide_list};
 use map_level::Reading;
 use std::alloc::Global;
 use std::process::Abort;
 use std::test::Fail;
 use test_ends::{SliceSink, SliceSource};
-use wad_look::{RunFault, blocks, sight};
-
-// The most bytes of a test's input.
-const LIMIT: u64 = 64;
+use wad_look::RunFault;
 
 // Compares what `sight` answers to lines on files with a text.
 fn check_sight(rt: &impl Abort, alloc: Global, files: &[Vec<u8>], lines: &[u8], text: &[u8]) {
-    assert!(rt; files.len() <= 64);
-    let mut input = SliceSource::new(lines);
     let mut room = [0; 256];
     let mut out = SliceSink::new(&mut room);
-    let ended = sight(alloc, files, b"E1M1", &mut input, LIMIT, &mut out);
+    let ended = sight(rt, alloc, files, &mut SliceSource::new(lines), &mut out);
     assert_eq!(rt; ended, Ok(()));
     assert_eq!(rt; out.taken(), text);
 }
@@ -87,11 +83,10 @@ fn check_blocks(
     lines: &[u8],
     text: &[u8],
 ) {
-    assert!(rt; files.len() <= 64);
     let mut input = SliceSource::new(lines);
     let mut room = [0; 256];
     let mut out = SliceSink::new(&mut room);
-    let ended = blocks(alloc, files, b"E1M1", reading, &mut input, LIMIT, &mut out);
+    let ended = blocks(rt, alloc, files, reading, &mut input, &mut out);
     assert_eq!(rt; ended, Ok(()));
     assert_eq!(rt; out.taken(), text);
 }
@@ -143,12 +138,11 @@ fn no_blockmap(rt: HostRuntime) -> Result<(), Fail> {
     let mut room = [0; 64];
     let mut out = SliceSink::new(&mut room);
     let ended = blocks(
+        &rt,
         rt.alloc(),
         &files,
-        b"E1M1",
         Reading::Signed,
         &mut input,
-        LIMIT,
         &mut out,
     );
     assert_eq!(rt; ended, Err(RunFault::NoBlockMap));

@@ -1,5 +1,6 @@
 //! Each growth refused in turn.
 
+use crate::engines::{lumps, points};
 use crate::listing::TEXT;
 use crate::sample::base;
 use map_level::Reading;
@@ -7,17 +8,16 @@ use std::process::Abort;
 use std::test::Fail;
 use test_alloc::Refusing;
 use test_ends::{SliceSink, SliceSource};
-use wad_look::{LIMIT, RunFault, lumps, points, read_all, status};
+use wad_look::{LIMIT, RunFault, read_all, status};
 
 const POINT: &[u8] = b"0 5 sector 1 ssector 1\n";
 
 // Whether `lumps` met growth `n` refused; then it has written nothing.
 fn lumps_refused(rt: &(impl Abort + AllocGlobal), files: &[Vec<u8>], n: u64) -> bool {
-    assert!(rt; files.len() <= 64);
     let heap = Refusing::new(rt.alloc(), n);
     let mut room = [0; 1024];
     let mut out = SliceSink::new(&mut room);
-    let result = lumps(&heap, files, &mut out);
+    let result = lumps(rt, &heap, files, &mut out);
     if !heap.has_refused() {
         assert_eq!(rt; result, Ok(()));
         assert_eq!(rt; out.taken(), TEXT);
@@ -31,20 +31,11 @@ fn lumps_refused(rt: &(impl Abort + AllocGlobal), files: &[Vec<u8>], n: u64) -> 
 
 // Whether `points` met growth `n` refused; then it has read and written nothing.
 fn points_refused(rt: &(impl Abort + AllocGlobal), files: &[Vec<u8>], n: u64) -> bool {
-    assert!(rt; files.len() <= 64);
     let heap = Refusing::new(rt.alloc(), n);
     let mut room = [0; 100];
     let mut out = SliceSink::new(&mut room);
     let mut source = SliceSource::new(b"0 5\n");
-    let result = points(
-        &heap,
-        files,
-        b"E1M1",
-        Reading::Signed,
-        &mut source,
-        LIMIT,
-        &mut out,
-    );
+    let result = points(rt, &heap, files, Reading::Signed, &mut source, &mut out);
     if !heap.has_refused() {
         assert_eq!(rt; result, Ok(()));
         assert_eq!(rt; out.taken(), POINT);

@@ -1,12 +1,12 @@
 //! Engines of files and of lines over a writer that takes a byte a call and fails at each of its calls in turn.
 
+use crate::engines::{audit_text, blocks, extract, levels, lumps, sight};
 use crate::sample::base;
-use le_rec::Sink;
 use map_level::Reading;
 use std::process::Abort;
 use std::test::Fail;
 use test_ends::{SliceSink, SliceSource};
-use wad_look::{LIMIT, RunFault, audit_text, blocks, extract, levels, lumps, sight};
+use wad_look::RunFault;
 
 const INPUT: &[u8] = b"0 1\n1 0\nx\n";
 
@@ -17,19 +17,16 @@ fn run(
     command: u8,
     out: &mut SliceSink<'_>,
 ) -> Result<bool, RunFault> {
-    let fresh = !out.failed();
-    assert!(rt; files.len() <= 64 && fresh);
     let heap = rt.alloc();
     let mut source = SliceSource::new(INPUT);
     let input = &mut source;
-    let signed = Reading::Signed;
     let ended = match command {
-        0 => lumps(heap, files, out),
-        1 => levels(heap, files, out),
-        2 => return audit_text(heap, files, b"E1M1", signed, out),
-        3 => extract(heap, files, b"E1M1", out),
-        4 => sight(heap, files, b"E1M1", input, LIMIT, out),
-        _ => blocks(heap, files, b"E1M1", signed, input, LIMIT, out),
+        0 => lumps(rt, heap, files, out),
+        1 => levels(rt, heap, files, out),
+        2 => return audit_text(rt, heap, files, Reading::Signed, out),
+        3 => extract(rt, heap, files, out),
+        4 => sight(rt, heap, files, input, out),
+        _ => blocks(rt, heap, files, Reading::Signed, input, out),
     };
     match ended {
         Ok(()) => Ok(true),

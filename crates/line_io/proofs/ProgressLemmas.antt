@@ -1,5 +1,5 @@
 -- An input, answered one block after another.
-use Rattle.std.proofs.Common.{◌≡◌, ℕ, ◌+◌, ◌≤◌, ◌<◌, Bool, true, false, List, [], ◌++◌, length, take, drop, Result, Ok, Err, refl, sym, ap, ◌∙◌, subst, arith, length-append}
+use Rattle.std.proofs.Common.{◌≡◌, ℕ, ◌+◌, ◌≤◌, ◌<◌, Bool, true, false, List, [], ◌++◌, length, take, drop, Result, Ok, Err, inl, inr, ◌⊎◌, refl, sym, ap, ◌∙◌, subst, arith, length-append}
 use Rattle.std.proofs.KnownBytes.{Appends-nil, Appends-trans, Consumes-kept, Consumes-nil, Consumes-trans, Consumes-whole}
 use Rattle.std.proofs.lemmas.List.{append-nil, append_assoc, take-append-drop, take_all}
 use Rattle.std.proofs.Math.Seq.{take-append-add}
@@ -9,10 +9,11 @@ use Rattle.le_rec.specs.Source.{SourceState}
 use Rattle.le_rec.proofs.SourceLemmas.{Consumes-front}
 use Rattle.line_io.specs.declared.fault.IoFault.{IoFault}
 use Rattle.line_io.specs.declared.fault.IoFault.TheVariants.{Read, Write, TooLong, Memory}
-use Rattle.line_io.specs.AnswersLines.{AnswersLines, EngineFault, LeavesAnswers, WritesAnswers}
+use Rattle.line_io.specs.AnswersLines.{AnswersLines, EndsLines, EngineFault, LeavesAnswers, LeavesWhole, LinesFault, WritesAnswers}
 use Rattle.line_io.specs.LineAnswers.{answers_from, last_answer, text_of}
 use Rattle.line_io.specs.Lines.{last_from}
-use Rattle.line_io.specs.Writes.{EndsWriting, TakesFront, TakesText, WriteFault}
+use Rattle.line_io.specs.Writes.{EndsAnswer, TakesFront, TakesText}
+use Rattle.line_io.proofs.BlockLemmas.{EndsAnswer-lines, EndsAnswer-memory, EndsAnswer-sound}
 use Rattle.line_io.proofs.LineLemmas.{answers_from-append, answers_from-take, last_answer-take, last_from-append, last_from-take, text_of-append, text_of-parts}
 use Rattle.line_io.proofs.WriteLemmas.{TakesFront-after, TakesFront-longer, TakesFront-whole}
 
@@ -38,27 +39,28 @@ Progress-none Answers input out = record {
   answered = λ f _. Appends-nil out.taken;
 }
 
--- the faults of a writer are faults of an engine of lines, and say nothing of the answers
-fault_of_writer : (memory : Bool) (limit : ℕ) (read : List ℕ) (input : SourceState)
-    (out : SinkState) (e : IoFault)
-    → WriteFault memory out e → EngineFault memory limit read input out e
-fault_of_writer memory limit read input out Write h = h
-fault_of_writer memory limit read input out Memory h = h.0
-fault_of_writer memory limit read input out _ h = absurd h
+-- why lines weren't answered is a fault of an engine of lines, and says nothing of all answers
+fault_of_lines : (memory : Bool) (limit : ℕ) (read : List ℕ) (input : SourceState)
+    (out : SinkState) (e : IoFault) → input.failed ≡ false
+    → LinesFault memory out e → EngineFault memory limit read input out e
+fault_of_lines memory limit read input out Write works h = (works, h)
+fault_of_lines memory limit read input out Memory works h = (works, h.1, h.0)
+fault_of_lines memory limit read input out _ works h = absurd h
 
-answers_of_writer : (memory : Bool) (out : SinkState) (e : IoFault) → WriteFault memory out e
+answers_of_lines : (memory : Bool) (out : SinkState) (e : IoFault) → LinesFault memory out e
     → LeavesAnswers e → ⊥
-answers_of_writer memory out Write h l = l
-answers_of_writer memory out Memory h l = l
-answers_of_writer memory out _ h l = h
+answers_of_lines memory out Write h l = l
+answers_of_lines memory out Memory h l = l
+answers_of_lines memory out _ h l = h
 
 stopped : (f : List ℕ → List ℕ) (limit : ℕ) (read : List ℕ) (input input' : SourceState)
     (out out' : SinkState) (e : IoFault)
     → Consumes input.left input'.left read
     → ((rest : List ℕ) → TakesFront out out' (text_of f (read ++ rest)))
     → (LeavesAnswers e → Appends out.taken out'.taken (answers_from f [] (take limit read)))
+    → (e ≡ Memory → LeavesWhole f [] (take limit read) out out')
     → WritesAnswers f limit read input out out' (Err e)
-stopped f limit read input input' out out' e gave front answered = record {
+stopped f limit read input input' out out' e gave front answered unbroken = record {
   whole = tt;
   front =
       let here : TakesFront out out' (text_of f (read ++ [])) = front [] in rw append-nil at here;
@@ -66,6 +68,7 @@ stopped f limit read input input' out out' e gave front answered = record {
       Consumes-front input.left input'.left read
       (λ left. TakesFront out out' (text_of f left)) gave front;
   answered = answered;
+  unbroken = unbroken;
 }
 
 module _ {Answers : (List ℕ → List ℕ) → Type 0} {count : ℕ} {input input' : SourceState}
@@ -116,9 +119,9 @@ module _ {Answers : (List ℕ → List ℕ) → Type 0} {count : ℕ} {input inp
 
   -- the source failed
   pub ends_read : (memory : Bool) (limit : ℕ) (input'' : SourceState) → count ≤ limit
-      → Keeps input'.left input''.left → input''.failed ≡ true
+      → Keeps input'.left input''.left → input''.failed ≡ true → out'.failed ≡ false
       → AnswersLines Answers memory limit input input'' out out' (Err Read)
-  ends_read memory limit input'' within stays failed =
+  ends_read memory limit input'' within stays failed sound =
       let short : length p.read ≤ limit = omega (arith, p.counted) in
       let gave = Consumes-kept input.left input'.left input''.left p.read p.given stays in
       record {
@@ -128,13 +131,14 @@ module _ {Answers : (List ℕ → List ℕ) → Type 0} {count : ℕ} {input inp
         within = tt;
         all_read = tt;
         sound = tt;
-        fault = (failed, short);
+        fault = (failed, sound, short);
         written = λ f told. stopped f limit p.read input input'' out out' Read gave
             (λ rest. rw (text_of-append f p.read rest) (TakesFront-whole out out' _ _
             (p.answered f told)))
             (λ _.
             subst (λ r. Appends out.taken out'.taken (answers_from f [] r))
-            (sym (take_all limit p.read short)) (p.answered f told));
+            (sym (take_all limit p.read short)) (p.answered f told))
+            (λ is. absurd (let f : ⊥ = cc is in f));
       }
 
   last-kept : (f : List ℕ → List ℕ)
@@ -147,15 +151,15 @@ module _ {Answers : (List ℕ → List ℕ) → Type 0} {count : ℕ} {input inp
   pub ends_all : (memory : Bool) (limit : ℕ) (input'' : SourceState) (out'' : SinkState)
       (r : Result (Unit {0}) IoFault)
       → count ≤ limit → Consumes input'.left input''.left [] → IsAtEnd input''.left
-      → input''.failed ≡ false → EndsWriting memory out'' r
+      → input''.failed ≡ false → out'.failed ≡ false → EndsAnswer memory out' out'' r
       → ((f : List ℕ → List ℕ) → Answers f → TakesText out' out'' (last_answer f part) r)
       → AnswersLines Answers memory limit input input'' out out'' r
-  ends_all memory limit input'' out'' r within same end works ends w =
+  ends_all memory limit input'' out'' r within same end works sound ends w =
       let short : length p.read ≤ limit = omega (arith, p.counted) in
       let joined = Consumes-trans input.left input'.left input''.left p.read [] p.given same in
       let gave : Consumes input.left input''.left p.read = rw append-nil at joined in
       elim r
-      as (λ r. EndsWriting memory out'' r
+      as (λ r. EndsAnswer memory out' out'' r
       → ((f : List ℕ → List ℕ) → Answers f → TakesText out' out'' (last_answer f part) r)
       → AnswersLines Answers memory limit input input'' out out'' r) [
         | Ok x ↦ λ ends w. record {
@@ -164,7 +168,7 @@ module _ {Answers : (List ℕ → List ℕ) → Type 0} {count : ℕ} {input inp
           bounded = omega arith;
           within = short;
           all_read = end;
-          sound = (works, ends.sound);
+          sound = (works, EndsAnswer-sound memory out' out'' x ends);
           fault = tt;
           written = λ f told. record {
             whole =
@@ -175,36 +179,62 @@ module _ {Answers : (List ℕ → List ℕ) → Type 0} {count : ℕ} {input inp
             front_of_all =
                 Consumes-front input.left input''.left p.read (λ _. Unit {0}) gave (λ _. tt);
             answered = tt;
+            unbroken = tt;
           };
         }
-        | Err e ↦ λ ends w. record {
-          read = p.read;
-          given = gave;
-          bounded = omega arith;
-          within = tt;
-          all_read = tt;
-          sound = tt;
-          fault = fault_of_writer memory limit p.read input'' out'' e ends.fault;
-          written = λ f told.
-              let front : TakesFront out out'' (text_of f p.read) =
-              rw (← last-kept f)
-              (TakesFront-after out out' out'' _ (p.answered f told) (w f told).front) in
-              record {
-                whole = tt;
-                front = front;
-                front_of_all =
-                    Consumes-whole input.left input''.left p.read
-                    (λ left. TakesFront out out'' (text_of f left)) gave end front;
-                answered = λ l. absurd (answers_of_writer memory out'' e ends.fault l);
-              };
-        }
+        | Err e ↦ λ ends w.
+            let why : EndsLines {T = Unit {0}} memory out'' (Err e) =
+            EndsAnswer-lines memory out' out'' e sound ends in
+            record {
+              read = p.read;
+              given = gave;
+              bounded = omega arith;
+              within = tt;
+              all_read = tt;
+              sound = tt;
+              fault = fault_of_lines memory limit p.read input'' out'' e works why.fault;
+              written = λ f told.
+                  let front : TakesFront out out'' (text_of f p.read) =
+                  rw (← last-kept f)
+                  (TakesFront-after out out' out'' _ (p.answered f told) (w f told).front) in
+                  record {
+                    whole = tt;
+                    front = front;
+                    front_of_all =
+                        Consumes-whole input.left input''.left p.read
+                        (λ left. TakesFront out out'' (text_of f left)) gave end front;
+                    answered = λ l. absurd (answers_of_lines memory out'' e why.fault l);
+                    unbroken =
+                        λ is.
+                        rw (
+                          EndsAnswer-memory memory out' out'' e ends is,
+                          take_all limit p.read short,
+                        ) (record {
+                          front = p.read;
+                          rest = [];
+                          splits = sym (append-nil p.read);
+                          added = p.answered f told;
+                        });
+                  };
+            }
       ] ends w
+
+  -- of a block the bytes within the limit: all, or all but the last
+  pub cut_at : (limit : ℕ) (block : List ℕ) (within : ℕ)
+      → (count + within ≡ limit) ⊎ ((count + length block ≤ limit) × (within ≡ length block))
+      → take limit (p.read ++ block) ≡ p.read ++ take within block
+  cut_at limit block within (inl full) =
+      let sum : length p.read + within ≡ limit = omega (arith, full, p.counted) in
+      rw sum at (take-append-add p.read block within)
+  cut_at limit block within (inr short) =
+      take_all limit (p.read ++ block) (omega (arith, length-append p.read block, short.0, p.counted))
+      ∙ ap (λ b. p.read ++ b) (sym (take_all within block (omega (arith, short.1))))
 
   -- a block was read, of which the first `within` bytes are within the limit,
   -- and its lines are answered
   module _ (limit : ℕ) (block : List ℕ) (input'' : SourceState) (out'' : SinkState) (within : ℕ)
       (room : count + length block ≤ limit + 1)
-      (gave : Consumes input'.left input''.left block) where
+      (gave : Consumes input'.left input''.left block) (works : input''.failed ≡ false) where
     whole_given : Consumes input.left input''.left (p.read ++ block)
     whole_given = Consumes-trans input.left input'.left input''.left p.read block p.given gave
 
@@ -225,35 +255,46 @@ module _ {Answers : (List ℕ → List ℕ) → Type 0} {count : ℕ} {input inp
         rw (cut rest) (front_of f out'' (take within block) (drop within block ++ rest) told a)
 
     -- the writer stopped
-    pub ends_block : {T : Type 0} (memory : Bool) (e : IoFault)
-        → EndsWriting {T = T} memory out'' (Err e)
+    pub ends_block : (memory : Bool) (e : IoFault)
+        → take limit (p.read ++ block) ≡ p.read ++ take within block
+        → EndsLines {T = Unit {0}} memory out'' (Err e)
         → ((f : List ℕ → List ℕ) → Answers f
-        → TakesText {T = T} out' out'' (answers_from f part (take within block)) (Err e))
+        → TakesText {T = Unit {0}} out' out'' (answers_from f part (take within block)) (Err e))
+        → ((f : List ℕ → List ℕ) → Answers f → e ≡ Memory
+        → LeavesWhole f part (take within block) out' out'')
         → AnswersLines Answers memory limit input input'' out out'' (Err e)
-    ends_block memory e ends w = record {
+    ends_block memory e at_limit ends w unbroken = record {
       read = p.read ++ block;
       given = whole_given;
       bounded = omega (arith, length-read);
       within = tt;
       all_read = tt;
       sound = tt;
-      fault = fault_of_writer memory limit (p.read ++ block) input'' out'' e ends.fault;
+      fault = fault_of_lines memory limit (p.read ++ block) input'' out'' e works ends.fault;
       written =
           λ f told.
           stopped f limit (p.read ++ block) input input'' out out'' e whole_given
           (λ rest. front_cut f rest told (w f told).front)
-          (λ l. absurd (answers_of_writer memory out'' e ends.fault l));
+          (λ l. absurd (answers_of_lines memory out'' e ends.fault l))
+          (λ is.
+          let u = unbroken f told is in
+          rw at_limit (record {
+            front = p.read ++ u.front;
+            rest = u.rest;
+            splits =
+                ap (λ b. p.read ++ b) u.splits ∙ sym (append_assoc p.read u.front u.rest);
+            added = answered-more f out'' u.front told u.added;
+          }));
     }
 
     -- the last byte of the block is past the limit
     pub ends_long : (memory : Bool) → limit < count + length block → within + 1 ≡ length block
+        → out''.failed ≡ false
         → ((f : List ℕ → List ℕ) → Answers f
         → Appends out'.taken out''.taken (answers_from f part (take within block)))
         → AnswersLines Answers memory limit input input'' out out'' (Err TooLong)
-    ends_long memory long all_but_one wrote =
-        let full : length p.read + within ≡ limit = omega (arith, p.counted) in
-        let at_limit : take limit (p.read ++ block) ≡ p.read ++ take within block =
-        rw full at (take-append-add p.read block within) in
+    ends_long memory long all_but_one sound wrote =
+        let at_limit = cut_at limit block within (inl (omega arith)) in
         record {
           read = p.read ++ block;
           given = whole_given;
@@ -261,7 +302,7 @@ module _ {Answers : (List ℕ → List ℕ) → Type 0} {count : ℕ} {input inp
           within = tt;
           all_read = tt;
           sound = tt;
-          fault = omega (arith, length-read);
+          fault = (works, sound, omega (arith, length-read));
           written =
               λ f told.
               stopped f limit (p.read ++ block) input input'' out out'' TooLong whole_given
@@ -273,5 +314,6 @@ module _ {Answers : (List ℕ → List ℕ) → Type 0} {count : ℕ} {input inp
               }))
               (λ _.
               subst (λ r. Appends out.taken out''.taken (answers_from f [] r)) (sym at_limit)
-              (answered-more f out'' (take within block) told (wrote f told)));
+              (answered-more f out'' (take within block) told (wrote f told)))
+              (λ is. absurd (let f : ⊥ = cc is in f));
         }

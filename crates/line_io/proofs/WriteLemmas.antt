@@ -1,12 +1,11 @@
 -- How one write after another comes together.
-use Rattle.std.proofs.Common.{Bool, false, ℕ, List, [], ◌++◌, Result, Ok, Err, refl, sym, ap, ◌∙◌}
+use Rattle.std.proofs.Common.{ℕ, List, [], ◌++◌, Result, Ok, Err, refl, sym, ap, ◌∙◌}
 use Rattle.std.proofs.KnownBytes.{Appends-nil, Appends-trans}
 use Rattle.std.proofs.lemmas.List.{append_assoc}
 use Rattle.std.specs.Io.KnownBytes.{Appends}
 use Rattle.le_rec.specs.Sink.{SinkState}
 use Rattle.line_io.specs.declared.fault.IoFault.{IoFault}
-use Rattle.line_io.specs.declared.fault.IoFault.TheVariants.{Write, Memory}
-use Rattle.line_io.specs.Writes.{EndsWriting, TakesFront, TakesText, WriteFault, Writes}
+use Rattle.line_io.specs.Writes.{TakesFront, TakesText, Writes}
 
 -- a front of the next text, behind a whole one
 pub TakesFront-after : (before between after : SinkState) (text : List ℕ) {more : List ℕ}
@@ -78,17 +77,3 @@ Writes-stop more w =
       takes = TakesText-stop more w.takes;
       ends = record { sound = tt; fault = w.ends.fault };
     }
-
--- a writer that takes no memory is one that may
-WriteFault-memory : (after : SinkState) (memory : Bool) (e : IoFault) → WriteFault false after e
-    → WriteFault memory after e
-WriteFault-memory after memory Write h = h
-WriteFault-memory after memory Memory h = cc
-WriteFault-memory after memory _ h = absurd h
-
-pub EndsWriting-memory : {T : Type 0} (after : SinkState) (memory : Bool)
-    (result : Result T IoFault)
-    → EndsWriting false after result → EndsWriting memory after result
-EndsWriting-memory after memory (Ok x) w = record { sound = w.sound; fault = tt }
-EndsWriting-memory after memory (Err e) w =
-    record { sound = tt; fault = WriteFault-memory after memory e w.fault }

@@ -1,27 +1,44 @@
 -- What an engine of lines does between the input that it reads and the output that it writes.
-use Rattle.std.specs.Prelude.{◌≡◌, ℕ, ◌+◌, ◌<◌, ◌≤◌, Bool, true, false, List, [], length, take, Result, IfSome, OnOk, OnErr, IfErr}
+use Rattle.std.specs.Prelude.{◌≡◌, ℕ, ◌+◌, ◌<◌, ◌≤◌, Bool, true, false, List, [], ◌++◌, length, take, Result, IfSome, OnOk, OnErr, IfErr}
 use Rattle.std.specs.Io.KnownBytes.{Appends, Consumes, IsAtEnd}
 use Rattle.le_rec.specs.Sink.{SinkState}
 use Rattle.le_rec.specs.Source.{SourceState}
 use Rattle.line_io.specs.declared.fault.IoFault.{IoFault}
 use Rattle.line_io.specs.declared.fault.IoFault.TheVariants.{Read, Write, TooLong, Memory}
 use Rattle.line_io.specs.LineAnswers.{answers_from, text_of}
-use Rattle.line_io.specs.Writes.{TakesFront}
+use Rattle.line_io.specs.Writes.{TakesFront, WriteFault}
 
--- when each fault may come: `Read` where the source has failed before a byte past the limit,
--- `Write` where the sink has failed, `TooLong` where there was such a byte, and `Memory` where an
--- answer takes memory
+-- when each fault may come: `Read` where the source has failed before a byte past the limit, `Write` where the sink has
+-- failed, `TooLong` where there was such a byte, and `Memory` where an answer takes memory; the other end hasn't failed
 abbrev pub EngineFault : Bool → ℕ → List ℕ → SourceState → SinkState → IoFault → Type 0
-EngineFault memory limit read input' out' Read = (input'.failed ≡ true) × (length read ≤ limit)
-EngineFault memory limit read input' out' Write = out'.failed ≡ true
-EngineFault memory limit read input' out' TooLong = limit < length read
-EngineFault memory limit read input' out' Memory = memory ≡ true
+EngineFault memory limit read input' out' Read = (input'.failed ≡ true) × (out'.failed ≡ false) × (length read ≤ limit)
+EngineFault memory limit read input' out' Write = (input'.failed ≡ false) × (out'.failed ≡ true)
+EngineFault memory limit read input' out' TooLong = (input'.failed ≡ false) × (out'.failed ≡ false) × (limit < length read)
+EngineFault memory limit read input' out' Memory = (input'.failed ≡ false) × (out'.failed ≡ false) × (memory ≡ true)
 
 -- after these faults the answers to all lines wholly read within the limit were written
 abbrev pub LeavesAnswers : IoFault → Type 0
 LeavesAnswers Read = Unit {0}
 LeavesAnswers TooLong = Unit {0}
 LeavesAnswers _ = ⊥
+
+-- whole answers alone were written: those to the lines that end in a front of `bytes`, the first of them begun by `part`
+pub record LeavesWhole (answer : List ℕ → List ℕ) (part bytes : List ℕ) (out out' : SinkState) : Type 0 where
+  pub front : List ℕ
+  pub rest : List ℕ
+  pub splits : bytes ≡ front ++ rest
+  pub added : Appends out.taken out'.taken (answers_from answer part front)
+
+-- why the lines of a block weren't all answered: their writer stopped, or there was no memory
+abbrev pub LinesFault : Bool → SinkState → IoFault → Type 0
+LinesFault memory after Memory = (memory ≡ true) × (after.failed ≡ false)
+LinesFault memory after fault = WriteFault after fault
+
+-- how answering the lines of a block ends
+pub record EndsLines {T : Type 0} (memory : Bool) (after : SinkState)
+    (result : Result T IoFault) : Type 0 where
+  pub sound : OnOk result (after.failed ≡ false)
+  pub fault : IfErr result (LinesFault memory after)
 
 -- of an input from which `read` was read up to `limit`, which had `left` left where that is known,
 -- the lines are answered by `answer`
@@ -35,6 +52,8 @@ pub record WritesAnswers (answer : List ℕ → List ℕ) (limit : ℕ) (read : 
       (λ left. OnErr result (TakesFront out out' (text_of answer left)))
   pub answered : IfErr result (λ e. LeavesAnswers e
       → Appends out.taken out'.taken (answers_from answer [] (take limit read)))
+  -- at `Memory` no answer was written in part
+  pub unbroken : IfErr result (λ e. e ≡ Memory → LeavesWhole answer [] (take limit read) out out')
 
 -- the engine whose answers are told by each function of a line's content of which `Answers` holds,
 -- which take memory or not, reads up to `limit` and answers `result`

@@ -1,5 +1,5 @@
 -- What writing a text does to a sink.
-use Rattle.std.specs.Prelude.{◌≡◌, Bool, true, false, ℕ, List, ◌++◌, Result, OnOk, OnErr, IfErr}
+use Rattle.std.specs.Prelude.{◌≡◌, ◌⊎◌, Bool, true, false, ℕ, List, ◌++◌, Result, Err, OnOk, OnErr, IfErr}
 use Rattle.std.specs.Io.KnownBytes.{Appends}
 use Rattle.le_rec.specs.Sink.{SinkState}
 use Rattle.line_io.specs.declared.fault.IoFault.{IoFault}
@@ -18,21 +18,23 @@ pub record TakesText {T : Type 0} (before after : SinkState) (text : List ℕ)
   pub whole : OnOk result (Appends before.taken after.taken text)
   pub front : OnErr result (TakesFront before after text)
 
--- a writer ends with `Write` only where the sink has failed, with `Memory` only where it takes
--- memory, and with no other fault
-abbrev pub WriteFault : Bool → SinkState → IoFault → Type 0
-WriteFault memory after Write = after.failed ≡ true
-WriteFault memory after Memory = (memory ≡ true) × (after.failed ≡ false)
-WriteFault memory after _ = ⊥
+-- a writer ends with `Write`, only where the sink has failed, and with no other fault
+abbrev pub WriteFault : SinkState → IoFault → Type 0
+WriteFault after Write = after.failed ≡ true
+WriteFault after _ = ⊥
 
--- how a writer ends that takes memory or not: the sink hasn't failed at Ok
-pub record EndsWriting {T : Type 0} (memory : Bool) (after : SinkState)
-    (result : Result T IoFault) : Type 0 where
+-- how a writer ends, which takes no memory: the sink hasn't failed at Ok
+pub record EndsWriting {T : Type 0} (after : SinkState) (result : Result T IoFault) : Type 0 where
   pub sound : OnOk result (after.failed ≡ false)
-  pub fault : IfErr result (WriteFault memory after)
+  pub fault : IfErr result (WriteFault after)
 
--- the writer of `text`, which takes no memory, answers `result`
+-- how an answer ends that takes memory or not: as its writer does, or with `Memory` and nothing written
+abbrev pub EndsAnswer : {T : Type 0} → Bool → SinkState → SinkState → Result T IoFault → Type 0
+EndsAnswer memory before after result =
+    EndsWriting after result ⊎ ((memory ≡ true) × (result ≡ Err Memory) × (after ≡ before))
+
+-- the writer of `text` answers `result`
 pub record Writes {T : Type 0} (before after : SinkState) (text : List ℕ)
     (result : Result T IoFault) : Type 0 where
   pub takes : TakesText before after text result
-  pub ends : EndsWriting false after result
+  pub ends : EndsWriting after result

@@ -1,11 +1,12 @@
 //! The engine of lines, on which every command over lines of input stands.
 ghost use Rattle.std.specs.Prelude.{◌≡◌, ◌≢◌, ℕ, ◌≤◌, Bool, false, List, [], ◌∷◌, ◌++◌, length};
-ghost use Rattle.std.specs.Prelude.{take, OnOk, MatchOption};
+ghost use Rattle.std.specs.Prelude.{take, IfErr, OnOk, MatchOption};
 ghost use Rattle.std.specs.List.{All};
-ghost use Rattle.line_io.specs.AnswersLines.{AnswersLines};
+ghost use Rattle.line_io.specs.AnswersLines.{AnswersLines, EndsLines, LeavesWhole};
 ghost use Rattle.line_io.specs.LineAnswers.{answers_from, last_answer, line_answer};
 ghost use Rattle.line_io.specs.Lines.{content, last_from};
-ghost use Rattle.line_io.specs.Writes.{EndsWriting, TakesText};
+ghost use Rattle.line_io.specs.Writes.{EndsAnswer, TakesText};
+ghost use Rattle.line_io.specs.declared.fault.IoFault.TheVariants.{Memory};
 
 use super::fault::IoFault;
 use super::input::{BLOCK, LIMIT, next_block};
@@ -32,7 +33,7 @@ pub trait LineCommand {
         requires sound { (W.state out.old).failed ≡ false }
         ensures takes { (answer : List ℕ → List ℕ) → Answers self.now answer
             → TakesText (W.state out.old) (W.state out.new) (answer content.now) result }
-        ensures ends { EndsWriting takes_memory (W.state out.new) result };
+        ensures ends { EndsAnswer takes_memory (W.state out.old) (W.state out.new) result };
 }
 
 fn content_of(line: &[u8]) -> &[u8]
@@ -53,7 +54,7 @@ fn answer_line<C: LineCommand, W: Sink>(
     requires { (W.state out.old).failed ≡ false }
     ensures takes { (answer : List ℕ → List ℕ) → C.Answers command.now answer
         → TakesText (W.state out.old) (W.state out.new) (line_answer answer line.now) result }
-    ensures ends { EndsWriting C.takes_memory (W.state out.new) result }
+    ensures ends { EndsAnswer C.takes_memory (W.state out.old) (W.state out.new) result }
 {
     let content = content_of(line);
     if content.len() > CONTENT {
@@ -74,7 +75,7 @@ fn answer_ended<C: LineCommand, W: Sink>(
     ensures takes { (answer : List ℕ → List ℕ) → C.Answers command.now answer
         → TakesText (W.state out.old) (W.state out.new)
         (line_answer answer (part.old ++ line.now)) result }
-    ensures ends { EndsWriting C.takes_memory (W.state out.new) result }
+    ensures ends { EndsAnswer C.takes_memory (W.state out.old) (W.state out.new) result }
     ensures cleared { part.new ≡ [] }
 {
     if part.is_empty() {
@@ -107,7 +108,10 @@ fn answer_block<C: LineCommand, W: Sink>(
     ensures takes { (answer : List ℕ → List ℕ) → C.Answers command.now answer
         → TakesText (W.state out.old) (W.state out.new)
         (answers_from answer part.old block.now) result }
-    ensures ends { EndsWriting C.takes_memory (W.state out.new) result }
+    ensures unbroken { (answer : List ℕ → List ℕ) → C.Answers command.now answer
+        → IfErr result (λ e. e ≡ Memory
+        → LeavesWhole answer part.old block.now (W.state out.old) (W.state out.new)) }
+    ensures ends { EndsLines C.takes_memory (W.state out.new) result }
     ensures kept { OnOk result (part.new ≡ take KEPT (last_from part.old block.now)) }
 {
     let mut rest = block;
@@ -128,7 +132,7 @@ fn answer_last<C: LineCommand, W: Sink>(
     requires { (W.state out.old).failed ≡ false }
     ensures takes { (answer : List ℕ → List ℕ) → C.Answers command.now answer
         → TakesText (W.state out.old) (W.state out.new) (last_answer answer part.now) result }
-    ensures ends { EndsWriting C.takes_memory (W.state out.new) result }
+    ensures ends { EndsAnswer C.takes_memory (W.state out.old) (W.state out.new) result }
 {
     if part.is_empty() {
         Ok(())

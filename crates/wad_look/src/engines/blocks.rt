@@ -47,7 +47,7 @@ impl BlockCommand<'_> {
         requires sound { (W.state out.old).failed ≡ false }
         ensures takes { (text : List ℕ) → AnswersBlock self.now.map pair.entry.x pair.entry.y text
             → TakesText (W.state out.old) (W.state out.new) text result }
-        ensures ends { EndsWriting false (W.state out.new) result }
+        ensures ends { EndsWriting (W.state out.new) result }
     {
         let Some((bx, by)) = self.map.block_of(Point::at(pair.x, pair.y)) else {
             return write_no_block(pair, out);

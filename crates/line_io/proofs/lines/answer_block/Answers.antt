@@ -1,45 +1,52 @@
-use Rattle.std.proofs.Common.{refl, take, ap, sym, ◌∙◌}
+use Rattle.std.proofs.Common.{◌≡◌, refl, take, ap, sym, ◌∙◌, subst}
 use Rattle.std.proofs.lemmas.Result.{err_from_is_err_and}
-use Rattle.line_io.proofs.BlockLemmas.{Answered-end, Answered-line, Answered-none, Answered-stop, IsCut-line, last-end}
+use Rattle.le_rec.specs.Sink.{SinkState}
+use Rattle.line_io.specs.AnswersLines.{LeavesWhole}
+use Rattle.line_io.proofs.BlockLemmas.{Answered-end, Answered-line, Answered-none, Answered-stop, Answered-whole, EndsAnswer-lines, EndsAnswer-memory, EndsAnswer-sound, last-end}
 use Rattle.line_io.proofs.lines.answer_block.Goals as goal
 
 pub lines-init : goal.lines-init
-lines-init g c =
-    record {
-      sound = c.requires;
-      cut = record { last = refl };
-      so_far = λ f told. Answered-none f _ _ _;
-    }
+lines-init g c = record { sound = c.requires; so_far = Answered-none _ _ _ _ }
 
 pub returns-in_err-answer_ended-clause-takes : goal.returns-in_err-answer_ended-clause-takes
 returns-in_err-answer_ended-clause-takes g c =
     let p = err_from_is_err_and c.from_residual.result c.from_residual.ensures.1 in
     rw (p.1, p.2)
     (λ f told.
-    Answered-stop (c.lines.invariant.so_far f told) _ c.in-Some.line.now c.in-Some.after.now
-    c.in-Some.ensures.0 c.in-Some.ensures.1 (c.in_err-answer_ended.ensures.takes f told))
+    Answered-stop c.lines.invariant.so_far c.in-Some.line.now c.in-Some.after.now
+    c.in-Some.ensures.0 c.in-Some.ensures.1 _ f told (c.in_err-answer_ended.ensures.takes f told))
+
+pub returns-in_err-answer_ended-clause-unbroken : goal.returns-in_err-answer_ended-clause-unbroken
+returns-in_err-answer_ended-clause-unbroken g c =
+    let p = err_from_is_err_and c.from_residual.result c.from_residual.ensures.1 in
+    rw (p.1, p.2)
+    (λ f told is.
+    subst (LeavesWhole f _ _ _)
+    (sym (EndsAnswer-memory _ _ _ _ c.in_err-answer_ended.ensures.ends is))
+    (Answered-whole c.lines.invariant.so_far f told))
+
+pub returns-in_err-answer_ended-clause-ends : goal.returns-in_err-answer_ended-clause-ends
+returns-in_err-answer_ended-clause-ends g c =
+    let p = err_from_is_err_and c.from_residual.result c.from_residual.ensures.1 in
+    rw (p.1, p.2) (EndsAnswer-lines _ _ _ _ c.lines.invariant.sound c.in_err-answer_ended.ensures.ends)
 
 pub lines-preserved : goal.lines-preserved
 lines-preserved g c = record {
-  sound = c.in_ok-answer_ended.ensures.ends.sound;
-  cut =
-      rw c.in_ok-answer_ended.ensures.cleared
-      (IsCut-line c.in-Some.line.now c.in-Some.after.now c.lines.invariant.cut c.in-Some.ensures.0
-      c.in-Some.ensures.1);
+  sound = EndsAnswer-sound _ _ _ _ c.in_ok-answer_ended.ensures.ends;
   so_far =
-      λ f told.
       rw c.in_ok-answer_ended.ensures.cleared
-      (Answered-line (c.lines.invariant.so_far f told) _ c.in-Some.line.now c.in-Some.after.now
-      c.in-Some.ensures.0 c.in-Some.ensures.1 (c.in_ok-answer_ended.ensures.takes f told).whole);
+      (Answered-line c.lines.invariant.so_far c.in-Some.line.now c.in-Some.after.now
+      c.in-Some.ensures.0 c.in-Some.ensures.1 _
+      (λ f told. (c.in_ok-answer_ended.ensures.takes f told).whole));
 }
 
 pub returns-clause-takes : goal.returns-clause-takes
 returns-clause-takes g c =
     λ f told. record {
-      whole = Answered-end (c.lines.invariant.so_far f told) c.in_default.ensures;
+      whole = Answered-end c.lines.invariant.so_far f told c.in_default.ensures;
       front = tt;
     }
 
 pub returns-clause-kept : goal.returns-clause-kept
 returns-clause-kept g c =
-    c.keep.ensures ∙ ap (take 66) (sym (last-end c.lines.invariant.cut c.in_default.ensures))
+    c.keep.ensures ∙ ap (take 66) (sym (last-end c.lines.invariant.so_far c.in_default.ensures))

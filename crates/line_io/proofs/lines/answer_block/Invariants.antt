@@ -1,13 +1,12 @@
-use Rattle.std.proofs.Common.{◌≡◌, ℕ, List, false, length}
-use Rattle.line_io.proofs.BlockLemmas.{Answered, IsCut}
+use Rattle.std.proofs.Common.{◌≡◌, false, length}
+use Rattle.line_io.proofs.BlockLemmas.{Answered}
 use Rattle.line_io.proofs.lines.answer_block.Given as goal
 
 abbrev pub invariant-lines : goal.invariant-lines
 invariant-lines g l = record {
   sound : (g.W.Sink.state l.out).failed ≡ false;
-  cut : IsCut l.fn.part l.block l.part l.rest;
-  so_far : (f : List ℕ → List ℕ) → g.C.LineCommand.Answers l.command f
-      → Answered f l.fn.part l.block (g.W.Sink.state l.fn.out) l.part l.rest (g.W.Sink.state l.out);
+  so_far : Answered (g.C.LineCommand.Answers l.command) l.fn.part l.block
+      (g.W.Sink.state l.fn.out) l.part l.rest (g.W.Sink.state l.out);
 }
 
 abbrev pub decreases-lines : goal.decreases-lines

@@ -1,7 +1,6 @@
-use Rattle.std.proofs.Common.{◌<◌, ◌≤◌, length, arith, ap}
+use Rattle.std.proofs.Common.{◌<◌, ◌≤◌, length, arith, ap, inl}
 use Rattle.line_io.specs.Lines.{content}
 use Rattle.line_io.proofs.LineLemmas.{line_answer_long, line_answer_short}
-use Rattle.line_io.proofs.WriteLemmas.{EndsWriting-memory}
 use Rattle.line_io.proofs.lines.answer_line.Goals as goal
 
 pub returns-then-content-gt-CONTENT : goal.returns-then-content-gt-CONTENT
@@ -10,7 +9,7 @@ returns-then-content-gt-CONTENT g c =
     omega (arith, ap length c.content_of-content.ensures) in
     record {
       takes = λ f told. rw (line_answer_long f c.args.line.now long) (rw c.text.ensures at c.emit.ensures.takes);
-      ends = EndsWriting-memory _ _ _ c.emit.ensures.ends;
+      ends = inl c.emit.ensures.ends;
     }
 
 pub returns-else-content-gt-CONTENT : goal.returns-else-content-gt-CONTENT

@@ -34,7 +34,11 @@ impl Intake {
         let room = self.limit - self.taken;
         let most = (buf.len() as u64).min(room + 1) as usize;
         let mut filled = 0;
-        'turns: while filled < buf.len() {
+        // Each turn but the last takes a byte.
+        'turns: for _turn in 0..most + 1 {
+            if filled == buf.len() {
+                return Ok(true);
+            }
             match source.pull(&mut buf[filled..most]) {
                 Ok(count) => {
                     if count == 0 {
@@ -49,7 +53,7 @@ impl Intake {
                 Err(_) => return Err(StreamFault::Read),
             }
         }
-        Ok(true)
+        unreachable!()
     }
 
     /// Takes one byte, or none at the end.
@@ -78,7 +82,7 @@ impl Intake {
     {
         let mut block = [0; BLOCK];
         let before = self.taken;
-        'turns: while self.taken <= self.limit {
+        'turns: for _turn in before..self.limit + 1 {
             let room = (self.limit + 1 - self.taken).min(BLOCK as u64) as usize;
             match source.pull(&mut block[..room]) {
                 Ok(count) => {
@@ -86,10 +90,13 @@ impl Intake {
                         return Ok(self.taken - before);
                     }
                     self.taken += count as u64;
+                    if self.taken == self.limit + 1 {
+                        return Err(StreamFault::TooLong);
+                    }
                 }
                 Err(_) => return Err(StreamFault::Read),
             }
         }
-        Err(StreamFault::TooLong)
+        unreachable!()
     }
 }

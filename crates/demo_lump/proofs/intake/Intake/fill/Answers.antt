@@ -72,6 +72,7 @@ turns-preserved g c =
     filled_more c.turns.filled c.in-Ok.count (c.min-most.result - c.turns.filled) c.turns.buf
     c.pull.new.buf i.room c.in-Ok.ensures.bound in
     record {
+      turns = omega arith;
       sound = c.in-Ok.ensures.gives.fault ∙ rw i.sound refl;
       room =
           rw
@@ -80,7 +81,7 @@ turns-preserved g c =
             arith,
             c.min-most.ensures,
             c.turns.auto.buf,
-            c.turns-test.true,
+            c.if-filled-buf.false,
             part,
             c.in-Ok.ensures.bound,
             c.if-count-eq0.false,
@@ -111,6 +112,6 @@ returns-in-Err-clause-takes g c =
       fault = (
         c.in-Err.ensures.gives.fault ∙ rw i.sound refl,
         omega (arith, i.limit, i.within),
-        omega (arith, long, c.turns-test.true, c.turns.auto.buf),
+        omega (arith, long, c.if-filled-buf.false, c.turns.auto.buf),
       );
     }

@@ -1,9 +1,10 @@
-use Rattle.std.proofs.Common.{◌≡◌, ◌+◌, ◌-◌, ◌≤◌, false, length, take}
+use Rattle.std.proofs.Common.{◌≡◌, ◌+◌, ◌≤◌, false, length, take}
 use Rattle.std.specs.Io.KnownBytes.{Consumes}
 use Rattle.demo_lump.proofs.intake.Intake.fill.Given as goal
 
 abbrev pub invariant-turns : goal.invariant-turns
 invariant-turns g l = record {
+  turns : l._turn ≤ l.filled;
   sound : (g.S.Source.state l.source).failed ≡ false;
   room : l.filled ≤ length l.buf;
   limit : l.self.limit ≡ l.fn.self.limit;
@@ -12,6 +13,3 @@ invariant-turns g l = record {
   given : Consumes (g.S.Source.state l.fn.source).left (g.S.Source.state l.source).left
       (take l.filled l.buf);
 }
-
-abbrev pub decreases-turns : goal.decreases-turns
-decreases-turns g l = length l.buf - l.filled

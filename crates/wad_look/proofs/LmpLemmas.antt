@@ -30,7 +30,7 @@ use Rattle.line_io.specs.declared.fault.IoFault.{IoFault}
 use Rattle.line_io.specs.declared.fault.IoFault.TheVariants as io
 use Rattle.wad_look.proofs.DemoLemmas.{commands_text-append, commands_text-last}
 use Rattle.wad_look.specs.Engines.Demo.{Turn, command_line, commands_text, header_line, listing, player_of, tic_of, totals_text}
-use Rattle.wad_look.specs.Engines.Lmp.{AreLines, CommandsFault, HasLines, IsText, ListsCommands, ListsDemo}
+use Rattle.wad_look.specs.Engines.Lmp.{AreLines, CommandsFault, HasLines, IsText, ListsCommands, ListsDemo, in_command, in_header, in_totals}
 use Rattle.wad_look.specs.Faults.{run_end, run_fault, stream_fault}
 use Rattle.wad_look.specs.declared.fault.RunFault.{RunFault}
 use Rattle.wad_look.specs.declared.fault.RunFault.TheVariants as fault
@@ -249,13 +249,22 @@ module _ {header : Header} {limit : ℕ} {source mid source' : SourceState} {out
       → NoneBegins (IsNext header.version) (take (limit - (old.taken + length listed.body)) tail)
   none_within e r tail none = rw (← bound, ← listed.counted) none
 
-  reading_fault : (e : StreamFault) (r : ReadsNext header.version mid source' reader new (Err e))
+  reading_fault : (e : StreamFault) → out'.failed ≡ false → (r : ReadsNext header.version mid source' reader new (Err e))
       → CommandsFault header limit source source'.failed out out' listed.body r.reads.read (old.taken + length listed.body) new.taken listed.commands (stream_fault e)
-  reading_fault stream.Read r = (rw (← bound) r.reads.fault, none_within stream.Read r r.reads.read r.reads.none, listed.wrote)
-  reading_fault stream.TooLong r = (rw (← bound) r.reads.fault, none_within stream.TooLong r r.reads.read r.reads.none, listed.wrote)
-  reading_fault (stream.Demo why) r = (
+  reading_fault stream.Read sound r = (
+    (r.reads.fault.0, sound, rw (← bound) r.reads.fault.1),
+    none_within stream.Read r r.reads.read r.reads.none,
+    listed.wrote,
+  )
+  reading_fault stream.TooLong sound r = (
+    (r.reads.fault.0, sound, rw (← bound) r.reads.fault.1),
+    none_within stream.TooLong r r.reads.read r.reads.none,
+    listed.wrote,
+  )
+  reading_fault (stream.Demo why) sound r = (
     (
       r.reads.fault.0,
+      sound,
       omega (arith, r.reads.fault.1, bound),
       taken_then (λ more. RefusesNext header.version (old.taken + length listed.body) more why) (λ left. (more : List ℕ) × (left ≡ listed.body ++ more) × RefusesNext header.version (old.taken + length listed.body) more why) source.left mid.left listed.body listed.given (λ more h. (more, refl, h)) (rw (← listed.counted) r.reads.fault.2),
     ),
@@ -264,9 +273,9 @@ module _ {header : Header} {limit : ℕ} {source mid source' : SourceState} {out
   )
 
   -- a reading that failed
-  pub stops_reading : (e : StreamFault) → ReadsNext header.version mid source' reader new (Err e)
+  pub stops_reading : (e : StreamFault) → out'.failed ≡ false → ReadsNext header.version mid source' reader new (Err e)
       → ListsCommands header limit source source' out out' old new (Err (stream_fault e))
-  stops_reading e r = record {
+  stops_reading e sound r = record {
     commands = listed.commands;
     body = listed.body;
     tail = r.reads.read;
@@ -280,7 +289,7 @@ module _ {header : Header} {limit : ℕ} {source mid source' : SourceState} {out
     state = tt;
     within = tt;
     sound = tt;
-    fault = reading_fault e r;
+    fault = reading_fault e sound r;
   }
 
   -- the marker
@@ -348,9 +357,25 @@ module _ {header : Header} {limit : ℕ} {source mid source' : SourceState} {out
       state = tt;
       within = tt;
       sound = tt;
-      fault = (w.ends.fault, refl, omega (arith, r.reads.within, bound), subst (TakesFront out after) (sym text_is) (TakesFront-after out out' after _ listed.wrote w.takes.front));
+      fault = (
+        (r.reads.sound, w.ends.fault),
+        refl,
+        omega (arith, r.reads.within, bound),
+        subst (TakesFront out after) (sym text_is) (TakesFront-after out out' after _ listed.wrote w.takes.front),
+        record {
+          told = listed.commands;
+          last = c;
+          are = refl;
+          stops = (
+            out',
+            listed.wrote,
+            subst (λ n. TakesFront out' after (command_line (tic_of header.players n) (player_of header.players n) c))
+                (sym listed.listed) w.takes.front,
+          );
+        },
+      );
     }
-    stops_writing after io.Memory w = absurd (let f : ⊥ = cc (w.ends.fault.0) in f)
+    stops_writing after io.Memory w = absurd w.ends.fault
     stops_writing after io.Read w = absurd w.ends.fault
     stops_writing after io.TooLong w = absurd w.ends.fault
 
@@ -394,9 +419,9 @@ length-read front body tail = omega (arith, length-append front (body ++ tail), 
 -- a header was read: `start` is the source before it, and `out` the sink
 module _ (header : Header) (front : List ℕ) (start : SourceState) (out : SinkState) (begins : IsHeader front header) where
   -- its line couldn't be written
-  pub ends_header : {T : Type 0} (limit : ℕ) (source : SourceState) (out' : SinkState) (e : IoFault) → length front ≤ limit → Consumes start.left source.left front
+  pub ends_header : {T : Type 0} (limit : ℕ) (source : SourceState) (out' : SinkState) (e : IoFault) → source.failed ≡ false → length front ≤ limit → Consumes start.left source.left front
       → Writes {T = T} out out' (header_line header) (Err e) → ListsDemo limit start source out out' (Err (run_fault e))
-  ends_header limit source out' io.Write room given w = record {
+  ends_header limit source out' io.Write works room given w = record {
     read = front;
     given = given;
     whole = tt;
@@ -404,13 +429,16 @@ module _ (header : Header) (front : List ℕ) (start : SourceState) (out : SinkS
     within = tt;
     sound = tt;
     bounded = omega (arith, room);
-    fault = w.ends.fault;
-    lines = begun_with (λ left. (text : List ℕ) × IsText left text × TakesFront out out' text) start.left source.left front given (λ more.
-        front_of_text front [] more header [] begins refl out out' (rw (append-nil (header_line header)) w.takes.front));
+    fault = (works, w.ends.fault);
+    lines = (
+      begun_with (λ left. (text : List ℕ) × IsText left text × TakesFront out out' text) start.left source.left front given (λ more.
+          front_of_text front [] more header [] begins refl out out' (rw (append-nil (header_line header)) w.takes.front)),
+      in_header header begins w.takes.front,
+    );
   }
-  ends_header limit source out' io.Memory room given w = absurd (let f : ⊥ = cc (w.ends.fault.0) in f)
-  ends_header limit source out' io.Read room given w = absurd w.ends.fault
-  ends_header limit source out' io.TooLong room given w = absurd w.ends.fault
+  ends_header limit source out' io.Memory works room given w = absurd w.ends.fault
+  ends_header limit source out' io.Read works room given w = absurd w.ends.fault
+  ends_header limit source out' io.TooLong works room given w = absurd w.ends.fault
 
   -- the lines of the commands that were read
   module _ (limit : ℕ) (body : List ℕ) (commands : List Command) (follow : AreCommands header.version body commands) (room : length front + length body ≤ limit)
@@ -464,9 +492,13 @@ module _ (header : Header) (front : List ℕ) (start : SourceState) (out : SinkS
       sound = tt;
       bounded = omega (arith, stop_count l, l.fault.2);
       fault = l.fault.0;
-      lines = begun_with (λ left. (text : List ℕ) × IsText left text × TakesFront out out' text) start.left source'.left (front ++ (l.body ++ l.tail)) (stop_given l) (λ more.
-          let all : (front ++ (l.body ++ l.tail)) ++ more ≡ front ++ (l.body ++ (l.tail ++ more)) = simp append_assoc in
-          rw all (front_of_text front l.body (l.tail ++ more) header l.commands begins l.follow out out' (TakesFront-after out between out' (header_line header) headed l.fault.3)));
+      lines = (
+        begun_with (λ left. (text : List ℕ) × IsText left text × TakesFront out out' text) start.left source'.left (front ++ (l.body ++ l.tail)) (stop_given l) (λ more.
+            let all : (front ++ (l.body ++ l.tail)) ++ more ≡ front ++ (l.body ++ (l.tail ++ more)) = simp append_assoc in
+            rw all (front_of_text front l.body (l.tail ++ more) header l.commands begins l.follow out out' (TakesFront-after out between out' (header_line header) headed l.fault.3))),
+        in_command header l.commands front l.body between
+            (ap (λ t. front ++ (l.body ++ t)) l.fault.1 ∙ ap (λ b. front ++ b) (append-nil l.body)) begins l.follow headed l.fault.4,
+      );
     }
     ends_commands fault.Read l = record {
       read = front ++ (l.body ++ l.tail);
@@ -475,8 +507,8 @@ module _ (header : Header) (front : List ℕ) (start : SourceState) (out : SinkS
       all_read = tt;
       within = tt;
       sound = tt;
-      bounded = omega (arith, stop_count l, l.fault.0.1);
-      fault = (l.fault.0.0, omega (arith, stop_count l, l.fault.0.1));
+      bounded = omega (arith, stop_count l, l.fault.0.2);
+      fault = (l.fault.0.0, l.fault.0.1, omega (arith, stop_count l, l.fault.0.2));
       lines = stop_lines l l.fault.1 l.fault.2;
     }
     ends_commands fault.TooLong l = record {
@@ -486,8 +518,8 @@ module _ (header : Header) (front : List ℕ) (start : SourceState) (out : SinkS
       all_read = tt;
       within = tt;
       sound = tt;
-      bounded = omega (arith, stop_count l, l.fault.0.1);
-      fault = (l.fault.0.0, omega (arith, stop_count l, l.fault.0.1));
+      bounded = omega (arith, stop_count l, l.fault.0.2);
+      fault = (l.fault.0.0, l.fault.0.1, omega (arith, stop_count l, l.fault.0.2));
       lines = stop_lines l l.fault.1 l.fault.2;
     }
     ends_commands (fault.Demo why) l = record {
@@ -497,14 +529,15 @@ module _ (header : Header) (front : List ℕ) (start : SourceState) (out : SinkS
       all_read = tt;
       within = tt;
       sound = tt;
-      bounded = omega (arith, stop_count l, l.fault.0.1);
+      bounded = omega (arith, stop_count l, l.fault.0.2);
       fault = (
         l.fault.0.0,
-        omega (arith, stop_count l, l.fault.0.1),
+        l.fault.0.1,
+        omega (arith, stop_count l, l.fault.0.2),
         taken_then (λ left. (more : List ℕ) × (left ≡ l.body ++ more) × RefusesNext header.version (old.taken + length l.body) more why) (λ left. RefusesDemo left why) start.left source.left front given
             (λ left h. subst (λ (b : List ℕ). RefusesDemo (front ++ b) why) (sym h.1)
             (cut_refuses header front l.body h.0 l.commands (old.taken + length l.body) why begins l.follow (omega (arith, begun)) h.2))
-            l.fault.0.2,
+            l.fault.0.3,
       );
       lines = stop_lines l l.fault.1 l.fault.2;
     }
@@ -544,7 +577,7 @@ module _ (header : Header) (front : List ℕ) (start : SourceState) (out : SinkS
           within = tt;
           sound = tt;
           bounded = omega (arith, rest_count end r.reads.read r.reads.counted, r.reads.fault.1, rest_limit);
-          fault = (r.reads.fault.0, omega (arith, rest_count end r.reads.read r.reads.counted, r.reads.fault.1, rest_limit));
+          fault = (r.reads.fault.0, l.sound.1, omega (arith, rest_count end r.reads.read r.reads.counted, r.reads.fault.1, rest_limit));
           lines = rest_lines r.reads.read;
         }
         ends_rest stream.TooLong r = record {
@@ -555,7 +588,7 @@ module _ (header : Header) (front : List ℕ) (start : SourceState) (out : SinkS
           within = tt;
           sound = tt;
           bounded = omega (arith, rest_count end r.reads.read r.reads.counted, r.reads.fault.1, rest_limit);
-          fault = (r.reads.fault.0, omega (arith, rest_count end r.reads.read r.reads.counted, r.reads.fault.1, rest_limit));
+          fault = (r.reads.fault.0, l.sound.1, omega (arith, rest_count end r.reads.read r.reads.counted, r.reads.fault.1, rest_limit));
           lines = rest_lines r.reads.read;
         }
         ends_rest (stream.Demo why) r = absurd r.reads.fault
@@ -605,11 +638,14 @@ module _ (header : Header) (front : List ℕ) (start : SourceState) (out : SinkS
             within = tt;
             sound = tt;
             bounded = omega (arith, rest_count end r.reads.read r.reads.counted, r.reads.within, rest_limit);
-            fault = w.ends.fault;
-            lines = ended_with (λ left. (text : List ℕ) × IsText left text × TakesFront out after text) start.left last.left read_all (rest_given last r.reads.read r.reads.given) r.reads.ended
-                (listing demo_read, inl (demo_read, is_read, refl), subst (TakesFront out after) listed_is (TakesFront-after out out' after _ lines_then w.takes.front));
+            fault = (r.reads.sound, w.ends.fault);
+            lines = (
+              ended_with (λ left. (text : List ℕ) × IsText left text × TakesFront out after text) start.left last.left read_all (rest_given last r.reads.read r.reads.given) r.reads.ended
+                  (listing demo_read, inl (demo_read, is_read, refl), subst (TakesFront out after) listed_is (TakesFront-after out out' after _ lines_then w.takes.front)),
+              in_totals demo_read is_read (out', lines_then, w.takes.front),
+            );
           }
-          ends_totals after io.Memory w = absurd (let f : ⊥ = cc (w.ends.fault.0) in f)
+          ends_totals after io.Memory w = absurd w.ends.fault
           ends_totals after io.Read w = absurd w.ends.fault
           ends_totals after io.TooLong w = absurd w.ends.fault
 
@@ -624,7 +660,7 @@ no_lines limit old out bound start read none =
     ([], inl (subst (λ n. NoneBegins IsHeader (take n read)) all none, refl), Appends-nil out.taken)
 
 -- no header was read
-module _ {limit : ℕ} {source source' : SourceState} {old new : DemoReader} (out : SinkState) (bound : old.limit ≡ limit) (start : old.taken ≡ 0) where
+module _ {limit : ℕ} {source source' : SourceState} {old new : DemoReader} (out : SinkState) (sound : out.failed ≡ false) (bound : old.limit ≡ limit) (start : old.taken ≡ 0) where
   pub ends_before : (e : StreamFault) → ReadsHeader source source' old new (Err e) → ListsDemo limit source source' out out (Err (stream_fault e))
   ends_before stream.Read r = record {
     read = r.reads.read;
@@ -634,7 +670,7 @@ module _ {limit : ℕ} {source source' : SourceState} {old new : DemoReader} (ou
     within = tt;
     sound = tt;
     bounded = omega (arith, r.reads.counted, r.reads.fault.1, bound, start);
-    fault = (r.reads.fault.0, omega (arith, r.reads.counted, r.reads.fault.1, bound, start));
+    fault = (r.reads.fault.0, sound, omega (arith, r.reads.counted, r.reads.fault.1, bound, start));
     lines = no_lines limit old out bound start r.reads.read r.reads.none;
   }
   ends_before stream.TooLong r = record {
@@ -645,7 +681,7 @@ module _ {limit : ℕ} {source source' : SourceState} {old new : DemoReader} (ou
     within = tt;
     sound = tt;
     bounded = omega (arith, r.reads.counted, r.reads.fault.1, bound, start);
-    fault = (r.reads.fault.0, omega (arith, r.reads.counted, r.reads.fault.1, bound, start));
+    fault = (r.reads.fault.0, sound, omega (arith, r.reads.counted, r.reads.fault.1, bound, start));
     lines = no_lines limit old out bound start r.reads.read r.reads.none;
   }
   ends_before (stream.Demo why) r = record {
@@ -658,6 +694,7 @@ module _ {limit : ℕ} {source source' : SourceState} {old new : DemoReader} (ou
     bounded = omega (arith, r.reads.counted, r.reads.fault.1, bound, start);
     fault = (
       r.reads.fault.0,
+      sound,
       omega (arith, r.reads.counted, r.reads.fault.1, bound, start),
       taken_then (λ left. RefusesHeader left why) (λ left. RefusesDemo left why) source.left source.left [] (Consumes-nil source.left) (λ left h. RefusesDemo-header left why h) r.reads.fault.2,
     );

@@ -12,7 +12,7 @@ use Rattle.demo_lump.specs.declared.header.Header.{Header}
 use Rattle.le_rec.specs.Sink.{SinkState}
 use Rattle.le_rec.specs.Source.{SourceState}
 use Rattle.line_io.specs.Writes.{TakesFront}
-use Rattle.wad_look.specs.Engines.Demo.{Turn, commands_text, header_line, listing}
+use Rattle.wad_look.specs.Engines.Demo.{Turn, command_line, commands_text, header_line, listing, player_of, tic_of, totals_text}
 use Rattle.wad_look.specs.declared.fault.RunFault.{RunFault}
 use Rattle.wad_look.specs.declared.fault.RunFault.TheVariants as fault
 
@@ -38,20 +38,44 @@ abbrev pub IsText : List ℕ → List ℕ → Type 0
 IsText bytes text = ((demo : Demo) × IsRead bytes demo × (text ≡ listing demo)) ⊎ (((demo : Demo) → ¬ IsRead bytes demo) × AreLines bytes text)
 
 -- `Read` comes only where the source has failed, `Write` only where the sink has, `TooLong` only where the byte past the
--- limit was given, and a demo's fault is the input's; no other fault comes
+-- limit was given, and a demo's fault is the input's; the other end hasn't failed, and no other fault comes
 abbrev pub LmpFault : ℕ → SourceState → Bool → Bool → ℕ → RunFault → Type 0
 LmpFault limit source failed sink_failed taken (fault.Demo why) =
-    (failed ≡ false) × (taken ≤ limit) × IfSome source.left (λ left. RefusesDemo left why)
-LmpFault limit source failed sink_failed taken fault.Read = (failed ≡ true) × (taken ≤ limit)
-LmpFault limit source failed sink_failed taken fault.TooLong = (failed ≡ false) × (taken ≡ limit + 1)
-LmpFault limit source failed sink_failed taken fault.Write = sink_failed ≡ true
+    (failed ≡ false) × (sink_failed ≡ false) × (taken ≤ limit) × IfSome source.left (λ left. RefusesDemo left why)
+LmpFault limit source failed sink_failed taken fault.Read = (failed ≡ true) × (sink_failed ≡ false) × (taken ≤ limit)
+LmpFault limit source failed sink_failed taken fault.TooLong = (failed ≡ false) × (sink_failed ≡ false) × (taken ≡ limit + 1)
+LmpFault limit source failed sink_failed taken fault.Write = (failed ≡ false) × (sink_failed ≡ true)
 LmpFault limit source failed sink_failed taken _ = ⊥
 
--- after `Write` a front of the input's text was written, and after the other faults exactly the lines of the bytes that were
--- read within the limit
+-- the sink took all of `whole` and then a front of `line`
+abbrev pub StopsIn : SinkState → SinkState → List ℕ → List ℕ → Type 0
+StopsIn out out' whole line = (between : SinkState) × Appends out.taken between.taken whole × TakesFront between out' line
+
+-- the sink failed in a command's line, the last that was read
+pub record StopsInCommand (header : Header) (commands : List Command) (out out' : SinkState) : Type 0 where
+  pub told : List Command
+  pub last : Command
+  pub are : commands ≡ told ++ last ∷ []
+  pub stops : StopsIn out out' (commands_text header.players 0 told)
+      (command_line (tic_of header.players (length told)) (player_of header.players (length told)) last)
+
+-- the bytes read are no more than the line needs in which the sink failed: the header's, a command's, or the totals'
+pub data StopsAt (read : List ℕ) (out out' : SinkState) : Type 0 where
+  in_header : (header : Header) → IsHeader read header → TakesFront out out' (header_line header) → StopsAt read out out'
+  in_command : (header : Header) (commands : List Command) (front body : List ℕ) (between : SinkState)
+      → read ≡ front ++ body → IsHeader front header → AreCommands header.version body commands
+      → Appends out.taken between.taken (header_line header) → StopsInCommand header commands between out'
+      → StopsAt read out out'
+  in_totals : (demo : Demo) → IsRead read demo
+      → StopsIn out out' (header_line demo.header ++ commands_text demo.header.players 0 demo.commands)
+      (totals_text demo.header.players (length demo.commands) demo.after)
+      → StopsAt read out out'
+
+-- after `Write` a front of the input's text was written, and no byte was read behind the line that stopped; after the other
+-- faults exactly the lines of the bytes that were read within the limit were written
 abbrev pub LeavesLines : ℕ → SourceState → SinkState → SinkState → List ℕ → RunFault → Type 0
 LeavesLines limit source out out' read fault.Write =
-    IfSome source.left (λ left. (text : List ℕ) × IsText left text × TakesFront out out' text)
+    IfSome source.left (λ left. (text : List ℕ) × IsText left text × TakesFront out out' text) × StopsAt read out out'
 LeavesLines limit source out out' read _ =
     (text : List ℕ) × AreLines (take limit read) text × Appends out.taken out'.taken text
 
@@ -75,18 +99,19 @@ abbrev pub RunsLmp : {S W : Type 0} → (S → SourceState) → (W → SinkState
 RunsLmp source sink limit input input' out out' result = ListsDemo limit (source input) (source input') (sink out) (sink out') result
 
 -- what stopped the listing of commands, of which `tail` was read and is no whole piece: after `Write` a front of the lines
--- of the commands was written, and after the other faults all of them
+-- of the commands was written, all but the last whole, and after the other faults all of them
 abbrev pub CommandsFault : Header → ℕ → SourceState → Bool → SinkState → SinkState → List ℕ → List ℕ → ℕ → ℕ → List Command → RunFault → Type 0
 CommandsFault header limit source failed out out' body tail place taken commands fault.Write =
-    (out'.failed ≡ true) × (tail ≡ []) × (taken ≤ limit) × TakesFront out out' (commands_text header.players 0 commands)
+    ((failed ≡ false) × (out'.failed ≡ true)) × (tail ≡ []) × (taken ≤ limit) × TakesFront out out' (commands_text header.players 0 commands)
+    × StopsInCommand header commands out out'
 CommandsFault header limit source failed out out' body tail place taken commands fault.Read =
-    ((failed ≡ true) × (taken ≤ limit)) × NoneBegins (IsNext header.version) (take (limit - place) tail)
+    ((failed ≡ true) × (out'.failed ≡ false) × (taken ≤ limit)) × NoneBegins (IsNext header.version) (take (limit - place) tail)
     × Appends out.taken out'.taken (commands_text header.players 0 commands)
 CommandsFault header limit source failed out out' body tail place taken commands fault.TooLong =
-    ((failed ≡ false) × (taken ≡ limit + 1)) × NoneBegins (IsNext header.version) (take (limit - place) tail)
+    ((failed ≡ false) × (out'.failed ≡ false) × (taken ≡ limit + 1)) × NoneBegins (IsNext header.version) (take (limit - place) tail)
     × Appends out.taken out'.taken (commands_text header.players 0 commands)
 CommandsFault header limit source failed out out' body tail place taken commands (fault.Demo why) =
-    ((failed ≡ false) × (taken ≤ limit)
+    ((failed ≡ false) × (out'.failed ≡ false) × (taken ≤ limit)
     × IfSome source.left (λ left. (more : List ℕ) × (left ≡ body ++ more) × RefusesNext header.version place more why))
     × NoneBegins (IsNext header.version) (take (limit - place) tail)
     × Appends out.taken out'.taken (commands_text header.players 0 commands)

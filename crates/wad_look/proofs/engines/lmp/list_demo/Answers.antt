@@ -8,7 +8,7 @@ pub returns-in_err-emit : goal.returns-in_err-emit
 returns-in_err-emit g c front start begins begun fresh given =
     let p = err_from_is_err_and c.from_residual.result c.from_residual.ensures.1 in
     let w = rw (c.as_bytes.ensures ∙ c.put_header.ensures) at c.in_err-emit.ensures in
-    rw (p.1, p.2) (ends_header c.args.header.now front start _ begins c.args.limit _ _ _ (omega (arith, begun, c.requires.room)) given w)
+    rw (p.1, p.2) (ends_header c.args.header.now front start _ begins c.args.limit _ _ _ c.requires.input (omega (arith, begun, c.requires.room)) given w)
 
 pub returns-in_err-turn : goal.returns-in_err-turn
 returns-in_err-turn g c front start begins begun fresh given =

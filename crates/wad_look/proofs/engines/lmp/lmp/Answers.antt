@@ -9,4 +9,4 @@ returns-in_err-header g c =
     let p = err_from_is_err_and c.from_residual.result c.from_residual.ensures.1 in
     let fresh = c.new-reader.ensures in
     let r = c.in_err-header.ensures.first (ap (λ (x : DemoReader). x.fault) fresh) (ap (λ (x : DemoReader). x.header) fresh) in
-    rw (p.1, p.2) (ends_before _ (ap (λ (x : DemoReader). x.limit) fresh) (ap (λ (x : DemoReader). x.taken) fresh) _ r)
+    rw (p.1, p.2) (ends_before _ c.requires.out (ap (λ (x : DemoReader). x.limit) fresh) (ap (λ (x : DemoReader). x.taken) fresh) _ r)

@@ -15,7 +15,8 @@ pub trait Source {
     ghost state: { Self → SourceState };
 
     /// Moves the next bytes to the front of `buf` and answers how many: 0 only for an empty `buf`
-    /// or at the end. At an Err it moves none.
+    /// or at the end; what stands in `buf` behind them isn't told. At an Err it moves none, and `buf` may
+    /// hold anything.
     fn pull(&mut self, buf: &mut [u8]) -> Result<usize, EndFault>
         ensures bound { IfOk result (λ n. n ≤ length buf.new) }
         ensures gives { Gives (state self.old) (state self.new) result buf.new };

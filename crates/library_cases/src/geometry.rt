@@ -232,31 +232,3 @@ fn whole_sides_in_a_grid(rt: HostRuntime) {
     }
     compare_in_grid(&rt, partition(&rt, -16384, 16383, 32767, -32768));
 }
-
-// Compares the columns of each row within -2 and 2 with the side of each point.
-fn compare_columns(rt: &impl Abort, line: Partition) {
-    for y in -2..3 {
-        for x in -2..3 {
-            let at = point(rt, x, y);
-            for s in [Side::Front, Side::Back] {
-                let expected = side(at, line) == s;
-                assert_eq!(rt;
-                    line.columns(at.y(), s).has(at.x()),
-                    expected,
-                    "{at:?} {line:?}"
-                );
-            }
-        }
-    }
-}
-
-#[test]
-fn columns_in_a_grid(rt: HostRuntime) {
-    for dx in -2..3 {
-        for dy in -2..3 {
-            compare_columns(&rt, partition(&rt, 0, 0, dx, dy));
-            compare_columns(&rt, partition(&rt, 1, -1, dx, dy));
-        }
-    }
-    compare_columns(&rt, partition(&rt, -16384, 16383, 32767, -32768));
-}

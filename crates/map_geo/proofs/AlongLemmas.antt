@@ -76,7 +76,7 @@ difference_gt : (a b k : ℤ) → a <ℤ b → (k -ℤ b) <ℤ (k -ℤ a)
 difference_gt a b k h = omega (arith, ints)
 
 -- ---- a row
-pub side_of_tie-row : (o : Ordering) (p q : Bool) → side_of_tie o Equal p ≡ side_of_tie o Equal q
+side_of_tie-row : (o : Ordering) (p q : Bool) → side_of_tie o Equal p ≡ side_of_tie o Equal q
 side_of_tie-row Less p q = refl
 side_of_tie-row Equal p q = refl
 side_of_tie-row Greater p q = refl

@@ -1,7 +1,6 @@
 pub mod ProductLemmas
 pub mod SignLemmas
 pub mod AlongLemmas
-pub mod BoundLemmas
 pub mod SpanLemmas
 pub mod WholeLemmas
 pub mod CutLemmas

@@ -37,18 +37,6 @@ product_fits step from to s f t =
     fits_signed_mul w32 step (to -ℤ from) 32768 32767 s (unsigned_abs-difference from to f t)
     (omega arith)
 
--- a component by a coordinate
-pub unsigned_abs-multiple : (step z : ℤ) → unsigned_abs step ≤ 32768 → IsInRange z
-    → unsigned_abs (step *ℤ z) ≤ 536870912
-unsigned_abs-multiple step z s f =
-    rw unsigned_abs-mul (mul-le (unsigned_abs step) (unsigned_abs z) 32768 16384 s
-    (omega (arith, ints, f.least, f.greatest)))
-
-pub multiple_fits : (step z : ℤ) → unsigned_abs step ≤ 32768 → IsInRange z
-    → FitsSigned w32 (step *ℤ z)
-multiple_fits step z s f =
-    fits_signed_mul w32 step z 32768 16384 s (omega (arith, ints, f.least, f.greatest)) (omega arith)
-
 -- a positive factor keeps the order
 pub mul-lt_positive : (k a b : ℤ) → pos 0 <ℤ k → a <ℤ b → (k *ℤ a) <ℤ (k *ℤ b)
 mul-lt_positive (pos zero) a b above h = absurd (omega (arith, ints))

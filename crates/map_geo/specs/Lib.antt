@@ -1,6 +1,5 @@
 pub mod Point
 pub mod Partition
 pub mod Side
-pub mod Columns
 pub mod Rect
 pub mod Laws

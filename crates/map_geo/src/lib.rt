@@ -8,7 +8,7 @@ mod point;
 mod rect;
 mod sides;
 
-pub use partition::{Columns, Partition, side};
+pub use partition::{Partition, side};
 pub use point::Point;
 pub use rect::{Rect, whole_side};
 pub use sides::Side;

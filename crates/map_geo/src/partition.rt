@@ -1,10 +1,10 @@
 //! Partitions of nodes, and on which side of one a point lies.
 
-ghost use Rattle.std.specs.Prelude.{IsTrue, ◌≡◌, ◌↔◌, pos, IsSome, IfSome, ◌+ℤ◌, ◌*ℤ◌, ◌-ℤ◌, ◌≤◌, unsigned_abs};
+ghost use Rattle.std.specs.Prelude.{◌≡◌, ◌↔◌, pos, IsSome, IfSome, ◌*ℤ◌, ◌-ℤ◌, ◌≤◌, unsigned_abs};
 ghost use Rattle.std.specs.Ordering.{int_cmp};
-ghost use Rattle.map_geo.specs.Point.{IsInRange, point_at};
+ghost use Rattle.map_geo.specs.Point.{IsInRange};
 ghost use Rattle.map_geo.specs.Partition.{IsStep, partition_of};
-ghost use Rattle.map_geo.specs.Side.{cross, is_origin, side_of_tie, side_on_line, side_of};
+ghost use Rattle.map_geo.specs.Side.{cross, is_origin, side_of_tie, side_of};
 
 use crate::point::{Point, is_in_range};
 use crate::sides::Side;
@@ -69,86 +69,10 @@ impl Partition {
         product(self.dy, self.x, point.x()) - product(self.dx, self.y, point.y())
     }
 
-    /// The columns of row `y` whose points lie on this side of the partition.
-    #[inline]
-    pub fn columns(self, y: i32, side: Side) -> Columns
-        requires { IsInRange y }
-        ensures { result ≡ record { partition = self; y = y; side = side } }
-    {
-        // The line's points in one row all have one side.
-        let tie = i32::from(self.side_on_line(Point::at(self.x, y)) == side);
-        let line = self.line_in_row(y);
-        let dy = self.dy;
-        let (step, line) = match side {
-            Side::Front => (-dy, -line),
-            Side::Back => (dy, line),
-        };
-        Columns {
-            partition: self,
-            y,
-            side,
-            step,
-            bound: line + tie,
-        }
-    }
-
-    // dy by the column in which the line meets the row.
-    #[inline]
-    fn line_in_row(self, y: i32) -> i32
-        requires { IsInRange y }
-        ensures value { result ≡ self.dx *ℤ (y -ℤ self.y) +ℤ self.dy *ℤ self.x }
-        ensures size { unsigned_abs result ≤ 1610579968 }
-    {
-        product(self.dx, self.y, y) + multiple(self.dy, self.x)
-    }
-
-    // The side of a point of the line itself.
-    #[inline]
-    fn side_on_line(self, point: Point) -> Side
-        ensures { result ≡ side_on_line self point }
-    {
-        side_of_tie(self.dx, self.dy, self.is_origin(point))
-    }
-
     fn is_origin(self, point: Point) -> bool
         ensures { result ≡ is_origin self point }
     {
         point.x() == self.x && point.y() == self.y
-    }
-}
-
-/// The columns of a row whose points lie on one side of a partition: one product tells each.
-#[derive(Drop)]
-pub struct Columns {
-    partition: Partition,
-    y: i32,
-    side: Side,
-    step: i32,
-    bound: i32,
-}
-
-impl Model for Columns {
-    ghost use Rattle.map_geo.specs.Partition.{IsStep};
-    ghost use Rattle.map_geo.specs.Columns as columns;
-    ghost use Rattle.map_geo.specs.Columns.{Separates};
-
-    ghost Value = { columns.Columns };
-
-    ghost view = { λ c. record { partition = c.partition; y = c.y; side = c.side } };
-
-    ghost invariant = { λ c.
-        IsStep c.step × Separates c.partition c.y c.side c.step c.bound };
-}
-
-impl Columns {
-    /// Whether column `x` is one of them.
-    #[inline]
-    pub fn has(&self, x: i32) -> bool
-        requires { IsInRange x }
-        ensures { IsTrue result
-            ↔ (side_of self.now.partition (point_at x self.now.y) ≡ self.now.side) }
-    {
-        multiple(self.step, x) < self.bound
     }
 }
 
@@ -164,20 +88,8 @@ fn product(step: i32, from: i32, to: i32) -> i32
     step * (to - from)
 }
 
-// A component of a direction by a coordinate: at most 32,768 by 16,384 in size.
-#[inline]
-fn multiple(step: i32, z: i32) -> i32
-    requires step_in { IsStep step }
-    requires in_range { IsInRange z }
-    ensures value { result ≡ step *ℤ z }
-    ensures size { unsigned_abs result ≤ 536870912 }
-{
-    step * z
-}
-
-// The side of a point of the line itself, where the cross product is 0. Which way a line goes can't
-// be told ahead, so that nothing is branched on.
-#[inline]
+// The side of a point of the line itself, where the cross product is 0.
+#[cold]
 fn side_of_tie(dx: i32, dy: i32, at_origin: bool) -> Side
     ensures { result ≡ side_of_tie (int_cmp dx (pos 0)) (int_cmp dy (pos 0)) at_origin }
 {
@@ -191,14 +103,6 @@ fn side_of_tie(dx: i32, dy: i32, at_origin: bool) -> Side
     }
 }
 
-// The same, kept out of the way of the many points that are not on the line.
-#[cold]
-fn cold_side_of_tie(dx: i32, dy: i32, at_origin: bool) -> Side
-    ensures { result ≡ side_of_tie (int_cmp dx (pos 0)) (int_cmp dy (pos 0)) at_origin }
-{
-    side_of_tie(dx, dy, at_origin)
-}
-
 /// The side of the partition on which the point lies. The rule for a point on the line is ours;
 /// R_PointOnSide of linuxdoom 1.10 gives the same for whole map units.
 #[inline]
@@ -207,7 +111,7 @@ pub fn side(point: Point, partition: Partition) -> Side
 {
     let c = partition.cross(point);
     if c == 0 {
-        return cold_side_of_tie(partition.dx, partition.dy, partition.is_origin(point));
+        return side_of_tie(partition.dx, partition.dy, partition.is_origin(point));
     }
     // Either side is as likely, so that this is to be chosen and not branched on.
     if c < 0 { Side::Back } else { Side::Front }

@@ -1,6 +1,8 @@
 -- The search in one row, and the ends of a row that isn't whole.
-use Rattle.std.proofs.Common.{ℕ, suc, ◌+◌, ℤ, pos, ◌+ℤ◌, ◌-ℤ◌, ◌≤ℤ◌, ◌<ℤ◌, ◌≡◌, ◌≢◌, ◌⊎◌, inl, inr, refl, sym, ap, ◌∙◌, subst, arith}
+use Rattle.std.proofs.Common.{ℕ, suc, ◌+◌, ℤ, pos, ◌+ℤ◌, ◌-ℤ◌, ◌≤ℤ◌, ◌<ℤ◌, ◌≡◌, ◌≢◌, ◌⊎◌, inl, inr, refl, sym, ap, ◌∙◌, subst, true, false, arith}
 use Rattle.std.proofs.lemmas.Int.{ints, by_lt_z}
+use Rattle.map_geo.specs.contracts.sides.Side.{the_type}
+use denote.Enum.Bare.{sameb}
 use Rattle.map_geo.specs.declared.sides.Side.{Side}
 use Rattle.map_geo.specs.declared.sides.Side.TheVariants.{Front, Back}
 use Rattle.map_geo.specs.Point.{point_at}
@@ -10,11 +12,17 @@ use Rattle.map_geo.specs.Rect.{Rect, IsWholeSide}
 use Rattle.map_geo.proofs.AlongLemmas.{sides_along_rows}
 use Rattle.map_tree.specs.Cuts.{other, IsCut, Halvings, beside, in_right, in_left, IsMiddle, IsLast}
 
-pub differs_is_other : (a b : Side) → a ≢ b → a ≡ other b
-differs_is_other Front Front differs = absurd (differs refl)
-differs_is_other Front Back differs = refl
-differs_is_other Back Front differs = refl
-differs_is_other Back Back differs = absurd (differs refl)
+pub same_side : (a b : Side) → sameb the_type a b ≡ true → a ≡ b
+same_side Front Front e = refl
+same_side Front Back e = cc
+same_side Back Front e = cc
+same_side Back Back e = refl
+
+pub other_side : (a b : Side) → sameb the_type a b ≡ false → a ≡ other b
+other_side Front Front e = cc
+other_side Front Back e = refl
+other_side Back Front e = refl
+other_side Back Back e = cc
 
 pub other_differs : (a s : Side) → a ≡ other s → a ≢ s
 other_differs Front Front e f = cc

@@ -38,8 +38,7 @@ impl<A: Allocator> Counts<A> {
         self.pairs.get(number).copied()
     }
 
-    /// How many sides the census asked for: of a rectangle by `whole_side`, or of a point by `side`
-    /// and, in a halving, by `Columns::has`.
+    /// How many calls of `whole_side` and `side` the census made.
     pub fn tests(&self) -> u64
         ensures { result ≡ self.now.tests }
     {

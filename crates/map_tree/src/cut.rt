@@ -91,9 +91,10 @@ fn cut_row(node: &Node, piece: Piece) -> Halves
     let rect = piece.rect;
     let partition = Partition::at(node);
     let left = rect.x0();
+    let right = rect.x1();
     let y = rect.y0();
     let s = side(Point::at(left, y), partition);
-    let last = last_of_side(&partition.columns(y, s), left, rect.x1());
+    let last = last_of_side(partition, y, s, left, right);
     Halves {
         first: Piece {
             rect: rect.columns_to(last.column),

@@ -5,7 +5,7 @@ ghost use Rattle.map_geo.specs.Point.{IsInRange, point_at};
 ghost use Rattle.map_geo.specs.Side.{side_of};
 ghost use Rattle.map_tree.specs.Cuts.{other, IsMiddle, IsLast, Halvings};
 
-use map_geo::Columns;
+use map_geo::{Partition, Point, Side, side};
 
 /// The last column of a row with the side of its left end, and how many halvings found it.
 #[derive(Clone, Copy)]
@@ -25,18 +25,17 @@ pub fn middle(low: i32, high: i32) -> i32
     (low + high) >> 1
 }
 
-/// The last of a row's columns on one side, from column `x0`, which is one, to `x1`, which isn't: a
-/// row's side changes once.
-pub fn last_of_side(columns: &Columns, x0: i32, x1: i32) -> Last
+/// The last column with side `s` of row `y`, from column `x0`, which has it, to `x1`, which doesn't:
+/// a row's side changes once.
+pub fn last_of_side(partition: Partition, y: i32, s: Side, x0: i32, x1: i32) -> Last
+    requires row_in { IsInRange y }
     requires left_in { IsInRange x0 }
     requires right_in { IsInRange x1 }
     requires ordered { x0 <ℤ x1 }
-    requires left { side_of columns.now.partition (point_at x0 columns.now.y) ≡ columns.now.side }
-    requires right { side_of columns.now.partition (point_at x1 columns.now.y)
-        ≡ other columns.now.side }
-    ensures last { IsLast columns.now.partition columns.now.y columns.now.side x0 x1 result.column }
-    ensures halvings { Halvings columns.now.partition columns.now.y columns.now.side x0 x1
-        result.halvings }
+    requires left { side_of partition (point_at x0 y) ≡ s }
+    requires right { side_of partition (point_at x1 y) ≡ other s }
+    ensures last { IsLast partition y s x0 x1 result.column }
+    ensures halvings { Halvings partition y s x0 x1 result.halvings }
     ensures few { result.halvings ≤ 32767 }
 {
     let mut l = x0;
@@ -44,7 +43,7 @@ pub fn last_of_side(columns: &Columns, x0: i32, x1: i32) -> Last
     let mut halvings = 0;
     while l + 1 < e {
         let m = middle(l, e);
-        if columns.has(m) {
+        if side(Point::at(m, y), partition) == s {
             l = m;
         } else {
             e = m;

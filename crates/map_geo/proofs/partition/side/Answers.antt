@@ -11,7 +11,7 @@ returns-then-c-eq0 c =
     let inside = c.partition.inside in
     let dx : FitsSigned w32 inside.dx = search rules in
     let dy : FitsSigned w32 inside.dy = search rules in
-    let tie = simp to_z-of_z at c.cold_side_of_tie.ensures in
+    let tie = simp to_z-of_z at c.side_of_tie.ensures in
     tie
     ∙ ap (side_of_tie (int_cmp inside.dx (pos 0)) (int_cmp inside.dy (pos 0))) c.is_origin.ensures
     ∙ ap (λ (p : Partition). side_of_tie (int_cmp p.dx (pos 0)) (int_cmp p.dy (pos 0)) (is_origin c.args.partition c.args.point)) c.partition.view_is

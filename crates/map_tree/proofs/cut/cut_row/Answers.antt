@@ -9,32 +9,17 @@ pub last_of_side-last-requires-clause-ordered : goal.last_of_side-last-requires-
 last_of_side-last-requires-clause-ordered c =
     let valid = c.x0-left.ensures.valid in
     let left : FitsSigned w32 c.x0-left.result = rw c.x0-left.ensures.value (in_fits _ valid.columns.first_in) in
-    let right : FitsSigned w32 c.x1.result = rw c.x1.ensures.value (in_fits _ valid.columns.last_in) in
-    simp to_z-of_z (rw (c.x0-left.ensures.value, c.x1.ensures.value) (ends_ordered (partition_of c.args.node.now) c.args.piece.rect valid.columns.ordered c.requires.flat c.requires.cut))
+    let right : FitsSigned w32 c.x1-right.result = rw c.x1-right.ensures.value (in_fits _ valid.columns.last_in) in
+    simp to_z-of_z (rw (c.x0-left.ensures.value, c.x1-right.ensures.value) (ends_ordered (partition_of c.args.node.now) c.args.piece.rect valid.columns.ordered c.requires.flat c.requires.cut))
 
 pub last_of_side-last-requires-clause-right : goal.last_of_side-last-requires-clause-right
 last_of_side-last-requires-clause-right c =
     let valid = c.x0-left.ensures.valid in
     let left : FitsSigned w32 c.x0-left.result = rw c.x0-left.ensures.value (in_fits _ valid.columns.first_in) in
-    let right : FitsSigned w32 c.x1.result = rw c.x1.ensures.value (in_fits _ valid.columns.last_in) in
+    let right : FitsSigned w32 c.x1-right.result = rw c.x1-right.ensures.value (in_fits _ valid.columns.last_in) in
     let y : FitsSigned w32 c.y0-y.result = rw c.y0-y.ensures.value (in_fits _ valid.rows.first_in) in
     let at = rw (c.x0-left.ensures.value, c.y0-y.ensures.value) at (simp to_z-of_z at c.at.ensures) in
-    let side = rw (at, c.at-partition.ensures) at c.side-s.ensures in
-    let columns = rw (c.y0-y.ensures.value, c.at-partition.ensures) at (simp to_z-of_z at c.columns.ensures) in
-    simp to_z-of_z (rw (c.x1.ensures.value, columns, side) (ends_differ (partition_of c.args.node.now) c.args.piece.rect c.requires.flat c.requires.cut))
-
-next_from : (l c : ℤ) → l ≤ℤ c → l ≤ℤ (c +ℤ pos 1)
-next_from l c h = omega (arith, ints)
-
-pub columns_from-requires-clause-from : goal.columns_from-requires-clause-from
-columns_from-requires-clause-from c =
-    let valid = c.x0-left.ensures.valid in
-    let left : FitsSigned w32 c.x0-left.result = rw c.x0-left.ensures.value (in_fits _ valid.columns.first_in) in
-    let right : FitsSigned w32 c.x1.result = rw c.x1.ensures.value (in_fits _ valid.columns.last_in) in
-    let last = rw (c.x0-left.ensures.value, c.x1.ensures.value) at (simp to_z-of_z at c.last_of_side-last.ensures.last) in
-    let column = between_fits _ _ _ valid.columns.first_in valid.columns.last_in last.from last.below in
-    let next = next_fits _ _ _ valid.columns.first_in valid.columns.last_in last.from last.below in
-    simp to_z-of_z (next_from _ _ last.from)
+    simp to_z-of_z (rw (c.x1-right.ensures.value, c.y0-y.ensures.value, c.side-s.ensures, at, c.at-partition.ensures) (ends_differ (partition_of c.args.node.now) c.args.piece.rect c.requires.flat c.requires.cut))
 
 next_to : (y b : ℤ) → y <ℤ b → (y +ℤ pos 1) ≤ℤ b
 next_to y b h = omega (arith, ints)
@@ -43,8 +28,8 @@ pub columns_from-requires-clause-to : goal.columns_from-requires-clause-to
 columns_from-requires-clause-to c =
     let valid = c.x0-left.ensures.valid in
     let left : FitsSigned w32 c.x0-left.result = rw c.x0-left.ensures.value (in_fits _ valid.columns.first_in) in
-    let right : FitsSigned w32 c.x1.result = rw c.x1.ensures.value (in_fits _ valid.columns.last_in) in
-    let last = rw (c.x0-left.ensures.value, c.x1.ensures.value) at (simp to_z-of_z at c.last_of_side-last.ensures.last) in
+    let right : FitsSigned w32 c.x1-right.result = rw c.x1-right.ensures.value (in_fits _ valid.columns.last_in) in
+    let last = rw (c.x0-left.ensures.value, c.x1-right.ensures.value) at (simp to_z-of_z at c.last_of_side-last.ensures.last) in
     let column = between_fits _ _ _ valid.columns.first_in valid.columns.last_in last.from last.below in
     let next = next_fits _ _ _ valid.columns.first_in valid.columns.last_in last.from last.below in
     simp to_z-of_z (next_to _ _ last.below)
@@ -53,13 +38,11 @@ pub returns : goal.returns
 returns c =
     let valid = c.x0-left.ensures.valid in
     let left : FitsSigned w32 c.x0-left.result = rw c.x0-left.ensures.value (in_fits _ valid.columns.first_in) in
-    let right : FitsSigned w32 c.x1.result = rw c.x1.ensures.value (in_fits _ valid.columns.last_in) in
+    let right : FitsSigned w32 c.x1-right.result = rw c.x1-right.ensures.value (in_fits _ valid.columns.last_in) in
     let y : FitsSigned w32 c.y0-y.result = rw c.y0-y.ensures.value (in_fits _ valid.rows.first_in) in
     let at = rw (c.x0-left.ensures.value, c.y0-y.ensures.value) at (simp to_z-of_z at c.at.ensures) in
-    let side = rw (at, c.at-partition.ensures) at c.side-s.ensures in
-    let columns = rw (c.y0-y.ensures.value, c.at-partition.ensures) at (simp to_z-of_z at c.columns.ensures) in
-    let last = rw (c.x0-left.ensures.value, c.x1.ensures.value, columns) at (simp to_z-of_z at c.last_of_side-last.ensures.last) in
-    let halvings = rw (c.x0-left.ensures.value, c.x1.ensures.value, columns) at (simp to_z-of_z at c.last_of_side-last.ensures.halvings) in
+    let last = rw (c.x0-left.ensures.value, c.x1-right.ensures.value, c.y0-y.ensures.value, c.at-partition.ensures) at (simp to_z-of_z at c.last_of_side-last.ensures.last) in
+    let halvings = rw (c.x0-left.ensures.value, c.x1-right.ensures.value, c.y0-y.ensures.value, c.at-partition.ensures) at (simp to_z-of_z at c.last_of_side-last.ensures.halvings) in
     let column = between_fits _ _ _ valid.columns.first_in valid.columns.last_in last.from last.below in
     let next = next_fits _ _ _ valid.columns.first_in valid.columns.last_in last.from last.below in
     let first = simp to_z-of_z at c.columns_to.ensures in
@@ -68,7 +51,7 @@ returns c =
       s = c.side-s.result;
       c = c.last_of_side-last.result.column;
       h = c.last_of_side-last.result.halvings;
-      left = sym side;
+      left = sym (rw (at, c.at-partition.ensures) at c.side-s.ensures);
       last = last;
       halvings = halvings;
       first = rw (first, c.word_at.ensures);

@@ -5,6 +5,7 @@ pub mod LineLemmas
 pub mod LinesLemmas
 pub mod NumberAnswersLemmas
 pub mod PartsLemmas
+pub mod PrintedLemmas
 pub mod ProgressLemmas
 pub mod ReadingLemmas
 pub mod SmallLemmas

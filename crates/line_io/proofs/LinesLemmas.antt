@@ -7,7 +7,7 @@ use Rattle.std.specs.List.{All, flat_map}
 use Rattle.line_io.specs.Lines.{AreLines, IsContent, content, ended_from, last_from, last_line, lines}
 use Rattle.line_io.proofs.LineLemmas.{ended_from-append, ended_from_unbroken, last_from-append, last_from_unbroken}
 
-abbrev Unbroken : List ℕ → Type 0
+abbrev pub Unbroken : List ℕ → Type 0
 Unbroken xs = All (λ b. b ≢ 10) xs
 
 abbrev with_break : List ℕ → List ℕ

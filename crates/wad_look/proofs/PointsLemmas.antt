@@ -1,7 +1,12 @@
 -- What `points` answers to a content, by its numbers.
-use Rattle.std.proofs.Common.{◌≡◌, ℕ, List, [], ◌∷◌, length, Some, refl, sym, ap, ◌∙◌}
+use Rattle.std.proofs.Common.{◌≡◌, ◌≤◌, ℕ, ℤ, pos, negsuc, List, [], ◌∷◌, ◌++◌, length, Some, refl, sym, ap, ◌∙◌, subst, arith, FitsSigned, w64, length-append}
+use Rattle.line_io.specs.LineAnswers.{line_answer}
+use Rattle.line_io.specs.Lines.{lines}
+use Rattle.line_io.specs.Numbers.{printed}
+use Rattle.line_io.proofs.LineLemmas.{line_answer_short}
 use Rattle.line_io.proofs.NumberAnswersLemmas.{decide_two, some_answers, two_texts}
-use Rattle.map_geo.specs.Point.{Point, point_at}
+use Rattle.line_io.proofs.PrintedLemmas.{printed_are_read, printed_content, printed_lines}
+use Rattle.map_geo.specs.Point.{IsInRange, Point, point_at}
 use Rattle.map_level.specs.Level.{Level}
 use Rattle.map_level.specs.Links.{ssectors_of}
 use Rattle.map_level.specs.SectorOf.{sector_of}
@@ -12,10 +17,14 @@ use Rattle.map_tree.proofs.DescentLemmas.{leaf_within}
 use Rattle.map_tree.proofs.LeafLemmas.{one_leaf, some_leaf}
 use Rattle.map_tree.proofs.SoundLemmas.{linked_from_sound}
 use Rattle.std.specs.Prelude.{◌<◌}
+use Rattle.std.proofs.lemmas.Int.{ints}
 use Rattle.std.proofs.lemmas.List.{length-map}
 use Rattle.std.proofs.lemmas.Option.{same_Some}
+use Rattle.std.specs.Fmt.{signed_decimal}
+use Rattle.std.specs.List.{AllByRecursion}
 use Rattle.wad_look.proofs.ContentsLemmas.{coordinates_or_not}
-use Rattle.wad_look.specs.Laws.{LinesNameTheLeaf}
+use Rattle.wad_look.proofs.ShowLemmas.{signed_decimal-short}
+use Rattle.wad_look.specs.Laws.{EachPointIsAnswered, LinesNameTheLeaf, NamesTheLeaf}
 use Rattle.wad_look.specs.Engines.Points.{AnswersPoints, PlacesPoints, TellsPoints, point_text}
 use Rattle.wad_look.specs.declared.engines.points.Leaf.{Leaf}
 
@@ -43,6 +52,34 @@ lines_name_the_leaf level answer sound told content x y are x_in y_in =
     let leaf = told.place point in
     let lies = told.places point in
     (leaf.ssector, leaf.sector, told.answers.told content (x ∷ y ∷ []) are refl (x_in, y_in), lies.0, (λ u other. one_leaf level point u leaf.ssector other lies.0), lies.1)
+
+coordinate-fits : (z : ℤ) → IsInRange z → FitsSigned w64 z
+coordinate-fits (pos n) h = let greatest = h.greatest in record { sfits = omega (arith, ints) }
+coordinate-fits (negsuc n) h = let least = h.least in record { sfits = omega (arith, ints) }
+
+coordinate-short : (z : ℤ) → IsInRange z → length (signed_decimal z) ≤ 6
+coordinate-short z h = let least = h.least in let greatest = h.greatest in signed_decimal-short z (omega (arith, ints)) (omega (arith, ints))
+
+-- two coordinates as they are printed
+module _ (x y : ℤ) (x_in : IsInRange x) (y_in : IsInRange y) where
+  both_fit : AllByRecursion (FitsSigned w64) (x ∷ y ∷ [])
+  both_fit = (coordinate-fits x x_in, (coordinate-fits y y_in, tt))
+
+  pub points_are_lines : lines (printed (x ∷ y ∷ []) ++ 10 ∷ []) ≡ printed (x ∷ y ∷ []) ∷ []
+  points_are_lines = printed_lines (x ∷ y ∷ []) both_fit
+
+  point_is_answered : (answer : List ℕ → List ℕ) → line_answer answer (printed (x ∷ y ∷ [])) ≡ answer (printed (x ∷ y ∷ []))
+  point_is_answered answer =
+      let same = printed_content (x ∷ y ∷ []) both_fit in
+      let long = length-append (signed_decimal x) (32 ∷ signed_decimal y) in
+      let short : length (printed (x ∷ y ∷ [])) ≤ 64 = omega (arith, coordinate-short x x_in, coordinate-short y y_in) in
+      line_answer_short answer (printed (x ∷ y ∷ [])) (rw same short) ∙ ap answer same
+
+pub each_point_is_answered : EachPointIsAnswered
+each_point_is_answered level answer sound told x y x_in y_in =
+    let are = printed_are_read (x ∷ y ∷ []) (both_fit x y x_in y_in) in
+    subst (NamesTheLeaf level x y) (sym (point_is_answered x y x_in y_in answer))
+    (lines_name_the_leaf level answer sound told (printed (x ∷ y ∷ [])) x y are x_in y_in)
 
 same_leaf : {t s : ℕ} {leaf : Leaf} → t ≡ leaf.ssector → s ≡ leaf.sector → (record { ssector = t; sector = s }) ≡ leaf
 same_leaf {s = s} {leaf = leaf} e f =

@@ -1,8 +1,10 @@
 -- The laws of this crate's definitions.
-use Rattle.std.specs.Prelude.{◌≡◌, ◌≢◌, ◌↔◌, ℕ, ◌≤◌, ℤ, List, [], ◌∷◌, IsTrue, Some}
+use Rattle.std.specs.Prelude.{◌≡◌, ◌≢◌, ◌↔◌, ℕ, ◌≤◌, ℤ, List, [], ◌∷◌, ◌++◌, IsTrue, Some}
 use Rattle.std.specs.List.{slice_get}
 use Rattle.le_rec.specs.Name.{query_of}
-use Rattle.line_io.specs.Numbers.{AreNumbers}
+use Rattle.line_io.specs.LineAnswers.{line_answer}
+use Rattle.line_io.specs.Lines.{lines}
+use Rattle.line_io.specs.Numbers.{AreNumbers, printed}
 use Rattle.map_geo.specs.Point.{IsInRange, point_at}
 use Rattle.map_audit.specs.Findings.{AuditHolds}
 use Rattle.map_level.specs.Findings.{is_fault}
@@ -38,14 +40,29 @@ CensusIsAnswered = (level : Level) → IsSound level → (answer : List ℕ → 
 abbrev pub SightIsAnswered : Type 0
 SightIsAnswered = (reject : Reject) → (answer : List ℕ → List ℕ) × AnswersSight reject answer
 
--- over a sound level a content of two coordinates is answered by the line that names an ssector and a sector: the ssector
--- is the point's leaf, the only one, and the sector is that ssector's
+-- the text is the line of a point: it names an ssector and a sector, the ssector is the point's leaf, the only one, and the
+-- sector is that ssector's
+abbrev pub NamesTheLeaf : Level → ℤ → ℤ → List ℕ → Type 0
+NamesTheLeaf level x y text =
+    (t : ℕ) × (s : ℕ) × (text ≡ point_text x y (record { ssector = t; sector = s }))
+    × IsLeaf level (point_at x y) t × ((u : ℕ) → IsLeaf level (point_at x y) u → u ≡ t) × (sector_of level t ≡ Some s)
+
+-- over a sound level a content of two coordinates is answered by the line of their point
 abbrev pub LinesNameTheLeaf : Type 0
 LinesNameTheLeaf =
     (level : Level) (answer : List ℕ → List ℕ) → IsSound level → TellsPoints level answer
     → (content : List ℕ) (x y : ℤ) → AreNumbers content (x ∷ y ∷ []) → IsInRange x → IsInRange y
-    → (t : ℕ) × (s : ℕ) × (answer content ≡ point_text x y (record { ssector = t; sector = s }))
-    × IsLeaf level (point_at x y) t × ((u : ℕ) → IsLeaf level (point_at x y) u → u ≡ t) × (sector_of level t ≡ Some s)
+    → NamesTheLeaf level x y (answer content)
+
+-- the coordinates of a point in range, as they are printed, are a line
+abbrev pub PointsAreLines : Type 0
+PointsAreLines = (x y : ℤ) → IsInRange x → IsInRange y → lines (printed (x ∷ y ∷ []) ++ 10 ∷ []) ≡ printed (x ∷ y ∷ []) ∷ []
+
+-- over a sound level that line is answered by the line of the point
+abbrev pub EachPointIsAnswered : Type 0
+EachPointIsAnswered =
+    (level : Level) (answer : List ℕ → List ℕ) → IsSound level → TellsPoints level answer
+    → (x y : ℤ) → IsInRange x → IsInRange y → NamesTheLeaf level x y (line_answer answer (printed (x ∷ y ∷ [])))
 
 -- what `extract` writes is a WAD; its label opens there as entry 0, with the ten lumps that it has in the files, where none
 -- of the ten has the label's name

@@ -21,6 +21,13 @@ pub fn lines_name_the_leaf()
     ensures { law.LinesNameTheLeaf }
 {}
 
+/// The coordinates of each point in range, as they are printed, are a line, which over a sound level is answered by the line
+/// with them, the sector of the point's leaf and that ssector.
+pub fn each_point_has_a_line()
+    ensures line { law.PointsAreLines }
+    ensures answered { law.EachPointIsAnswered }
+{}
+
 /// There are answers of `blocks` over every level with a BLOCKMAP: every content is told one.
 pub fn blocks_are_answered()
     ensures { law.BlocksAreAnswered }

@@ -1,11 +1,11 @@
 -- Numbers as they are printed are one line of an input, which is its own content and is read as these numbers.
-use Rattle.std.proofs.Common.{◌≡◌, ◌≢◌, ℕ, ◌+◌, ◌-◌, ◌<◌, ◌≤◌, ℤ, inl, inr, Bool, true, false, List, [], ◌∷◌, ◌++◌, length, map, get_or, refl, sym, ap, subst, ◌∙◌, arith, w64}
+use Rattle.std.proofs.Common.{◌≡◌, ◌≢◌, ℕ, ◌-◌, ◌≤◌, ℤ, inl, inr, Bool, true, false, List, [], ◌∷◌, ◌++◌, length, map, get_or, refl, sym, subst, ◌∙◌, arith, w64}
 use Rattle.std.proofs.lemmas.Bool.Decides.{eqb_tells}
 use Rattle.std.proofs.lemmas.List.{append-nil}
 use Rattle.std.proofs.lemmas.List.Elements.{All-append, All-cons, All-nil, All-weaker}
 use Rattle.std.specs.Fmt.{signed_decimal}
 use Rattle.std.specs.Int.RustNames.{FitsSigned}
-use Rattle.std.specs.List.{All, AllByRecursion, AllZip, join_with_byte}
+use Rattle.std.specs.List.{All, AllByRecursion, AllZip}
 use Rattle.line_io.specs.Lines.{content, lines}
 use Rattle.line_io.specs.Numbers.{AreNumbers, IsDigit, IsNumber, printed, sign_text}
 use Rattle.line_io.proofs.LinesLemmas.{Unbroken, lines_only}

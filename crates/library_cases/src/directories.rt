@@ -72,7 +72,8 @@ fn empty_directory(rt: HostRuntime) -> Result<(), Fail> {
     let set = Set::new(rt.alloc(), &files)?;
     assert_eq!(rt; set.files(), 1);
     assert_eq!(rt; set.total(), 0);
-    assert_eq!(rt; Set::new(rt.alloc(), &[])?.total(), 0);
+    let none: [Vec<u8>; 0] = [];
+    assert_eq!(rt; Set::new(rt.alloc(), &none)?.total(), 0);
     Ok(())
 }
 

@@ -66,7 +66,7 @@ impl<'a, A: Allocator> Set<'a, A> {
     /// The set of the files, at most 64 of them. First it makes room for its list, the only step
     /// that answers `Memory`. Then it reads one file after another; the first refused one is the
     /// answer.
-    pub fn new(alloc: A, files: &'a [Vec<u8>]) -> Result<Set<'a, A>, SetFault>
+    pub fn new<F: Allocator>(alloc: A, files: &'a [Vec<u8, F>]) -> Result<Set<'a, A>, SetFault>
         requires { length files.now ≤ MAX_FILES }
         ensures bytes { IfOk result (λ set.
             map (λ file. file.bytes) set ≡ map (λ file. file.items) files.now) }
@@ -185,9 +185,9 @@ impl<'a, A: Allocator> Set<'a, A> {
 
 // The files' directories in order, put into a list that has room for them; or the number, counted
 // from 1, of the first file that has none, and why.
-fn read_files<'a, A: Allocator>(
+fn read_files<'a, A: Allocator, F: Allocator>(
     room: Vec<Wad<'a>, A>,
-    files: &'a [Vec<u8>],
+    files: &'a [Vec<u8, F>],
 ) -> Result<Vec<Wad<'a>, A>, (u32, WadFault)>
     requires empty { room.items ≡ [] }
     requires enough { length files.now ≤ vec_capacity room }

@@ -16,3 +16,4 @@ pub mod DemoLemmas
 pub mod LmpLemmas
 pub mod TurnLemmas
 pub mod BlocksAnsweredLemmas
+pub mod OpeningLemmas

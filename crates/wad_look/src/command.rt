@@ -2,6 +2,7 @@
 ghost use Rattle.std.specs.Prelude.{◌≡◌};
 
 use map_level::Reading;
+use std::alloc::Allocator;
 
 /// A command.
 #[derive(Clone, Copy, Debug, PartialEq, Eq)]
@@ -46,7 +47,7 @@ impl Job {
     ghost use Rattle.wad_look.specs.Job.{IsJob, reading_of};
 
     /// The paths of the files, of the words that were read.
-    pub fn paths(self, words: &[String]) -> &[String]
+    pub fn paths<F: Allocator>(self, words: &[String<F>]) -> &[String<F>]
         requires { IsJob (map string_bytes words.now) self }
         ensures paths { result.now ≡ drop self.first words.now }
         ensures counted { self.first + length result.now ≡ length words.now }

@@ -42,11 +42,11 @@ pub const DEMO_LIMIT: u64 = 268_435_456;
 
 /// Runs the command of the words, which are those of `job`, over what their files hold: whether it was done without a
 /// fault found. The file of `lmp` is its input, and no other file is looked at.
-pub fn run<A: Allocator + Copy, S: Source, W: Sink>(
+pub fn run<A: Allocator + Copy, F: Allocator, S: Source, W: Sink>(
     alloc: A,
-    words: &[String],
+    words: &[String<F>],
     job: Job,
-    files: &[Vec<u8>],
+    files: &[Vec<u8, F>],
     input: &mut S,
     out: &mut W,
 ) -> Result<bool, RunFault>
@@ -95,7 +95,7 @@ fn done(ended: Result<(), RunFault>) -> Result<bool, RunFault>
 }
 
 // The word before the first file.
-fn name_of(words: &[String], job: Job) -> &[u8]
+fn name_of<F: Allocator>(words: &[String<F>], job: Job) -> &[u8]
     requires { IsJob (map string_bytes words.now) job }
     ensures { result.now ≡ name_in (map string_bytes words.now) job }
 {

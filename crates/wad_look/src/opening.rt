@@ -15,7 +15,10 @@ use std::alloc::Allocator;
 use wad_dir::{Set, SetFault};
 
 /// The directories of the files.
-pub fn open_set<'a, A: Allocator>(alloc: A, files: &'a [Vec<u8>]) -> Result<Set<'a, A>, RunFault>
+pub fn open_set<'a, A: Allocator, F: Allocator>(
+    alloc: A,
+    files: &'a [Vec<u8, F>],
+) -> Result<Set<'a, A>, RunFault>
     requires { length files.now ≤ 64 }
     ensures ok { IfOk result (AreRead (bytes_of files.now)) }
     ensures err { IfErr result (RefusesFiles (bytes_of files.now)) }
@@ -28,9 +31,9 @@ pub fn open_set<'a, A: Allocator>(alloc: A, files: &'a [Vec<u8>]) -> Result<Set<
 }
 
 /// The level of a name, of the files.
-pub fn open_level<'a, A: Allocator>(
+pub fn open_level<'a, A: Allocator, F: Allocator>(
     alloc: A,
-    files: &'a [Vec<u8>],
+    files: &'a [Vec<u8, F>],
     name: &[u8],
     reading: Reading,
 ) -> Result<Level<'a>, RunFault>

@@ -4,6 +4,7 @@ ghost use Rattle.std.specs.Prelude.{◌≡◌, ◌-◌, ◌<◌, ◌≤◌, ◌�
 ghost use Rattle.wad_look.specs.Job.{IsJob, IsPlain, word_of, form_of, wide_words};
 
 use crate::command::{Cmd, Job};
+use std::alloc::Allocator;
 
 /// What the words after a command's own are.
 #[derive(Clone, Copy)]
@@ -66,7 +67,7 @@ impl Cmd {
 
 impl Form {
     // Whether the words can be the names and the files.
-    fn takes(self, operands: &[String]) -> bool
+    fn takes<F: Allocator>(self, operands: &[String<F>]) -> bool
         ensures { IsTrue result
             ↔ ((self.names < length operands.now) × (length operands.now - self.names ≤ self.files)
             × All (λ word. IsPlain (string_bytes word)) operands.now) }
@@ -84,7 +85,7 @@ fn is_plain(word: &str) -> bool
 }
 
 // Whether `--wide` stands first, and the words after it.
-fn after_wide(allowed: bool, words: &[String]) -> (bool, &[String])
+fn after_wide<F: Allocator>(allowed: bool, words: &[String<F>]) -> (bool, &[String<F>])
     ensures spelled { map string_bytes words.now ≡ wide_words result.0 ++ map string_bytes result.1.now }
     ensures allowed { IsTrue result.0 → IsTrue allowed }
     ensures absent { result.0 ≡ false → allowed ≡ true → slice_index_or (map string_bytes words.now) 0 [] ≢ codes "--wide" }
@@ -96,7 +97,7 @@ fn after_wide(allowed: bool, words: &[String]) -> (bool, &[String])
 }
 
 /// What the words of a command line ask for, without the name of the program: None where they are no form of a command.
-pub fn job(words: &[String]) -> Option<Job>
+pub fn job<F: Allocator>(words: &[String<F>]) -> Option<Job>
     ensures { (job : Job) → (result ≡ Some job) ↔ IsJob (map string_bytes words.now) job }
 {
     let (word, rest) = words.split_first()?;

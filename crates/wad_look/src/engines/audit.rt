@@ -27,9 +27,9 @@ enum Audited<A: Allocator> {
 /// where there is no fault. A lump that isn't there or isn't inside its file is the only finding, `F1` or `F2`.
 ///
 /// `Set`, `Memory` and, where no entry has the name, `Level` come before anything is written.
-pub fn audit_text<A: Allocator + Copy, W: Sink>(
+pub fn audit_text<A: Allocator + Copy, F: Allocator, W: Sink>(
     alloc: A,
-    files: &[Vec<u8>],
+    files: &[Vec<u8, F>],
     name: &[u8],
     reading: Reading,
     out: &mut W,
@@ -43,9 +43,9 @@ pub fn audit_text<A: Allocator + Copy, W: Sink>(
 }
 
 // The findings on the level of the name.
-fn findings_on_name<A: Allocator + Copy>(
+fn findings_on_name<A: Allocator + Copy, F: Allocator>(
     alloc: A,
-    files: &[Vec<u8>],
+    files: &[Vec<u8, F>],
     name: &[u8],
     reading: Reading,
 ) -> Result<Audited<A>, RunFault>

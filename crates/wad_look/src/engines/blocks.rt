@@ -189,9 +189,9 @@ fn put_words(line: &mut TextLine, lines: &BlockLines<'_>, from: usize, to: usize
 ///
 /// `Set`, `Memory`, `Level` and `NoBlockMap`, where the lump has fewer than 8 bytes, come before anything is read or
 /// written; then `Read`, `Write` and `TooLong`.
-pub fn blocks<A: Allocator, S: Source, W: Sink>(
+pub fn blocks<A: Allocator, F: Allocator, S: Source, W: Sink>(
     alloc: A,
-    files: &[Vec<u8>],
+    files: &[Vec<u8, F>],
     name: &[u8],
     reading: Reading,
     input: &mut S,
@@ -209,9 +209,9 @@ pub fn blocks<A: Allocator, S: Source, W: Sink>(
 }
 
 // The blockmap of the level of the name.
-fn open_block_map<'a, A: Allocator>(
+fn open_block_map<'a, A: Allocator, F: Allocator>(
     alloc: A,
-    files: &'a [Vec<u8>],
+    files: &'a [Vec<u8, F>],
     name: &[u8],
     reading: Reading,
 ) -> Result<BlockMap<'a>, RunFault>

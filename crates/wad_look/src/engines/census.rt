@@ -126,9 +126,9 @@ fn write_count<W: Sink>(sector: u16, count: u32, out: &mut W) -> Result<(), IoFa
 ///
 /// `Set`, `Memory`, `Level` and `Audit` come before anything is read or written; then `Read`, `Write`, `TooLong`, and
 /// `Memory` where a census is refused a growth.
-pub fn census_text<A: Allocator + Copy, S: Source, W: Sink>(
+pub fn census_text<A: Allocator + Copy, F: Allocator, S: Source, W: Sink>(
     alloc: A,
-    files: &[Vec<u8>],
+    files: &[Vec<u8, F>],
     name: &[u8],
     reading: Reading,
     input: &mut S,

@@ -17,9 +17,9 @@ use wad_dir::LumpFault;
 
 /// Writes the listing of the demo in the lump of the name: the header, a line for each command and the totals. `Set`,
 /// `Memory`, `Lump` (`NoSuch` where no entry has the name) and `Demo` come before anything is written.
-pub fn demo_text<A: Allocator, W: Sink>(
+pub fn demo_text<A: Allocator, F: Allocator, W: Sink>(
     alloc: A,
-    files: &[Vec<u8>],
+    files: &[Vec<u8, F>],
     name: &[u8],
     out: &mut W,
 ) -> Result<(), RunFault>
@@ -32,9 +32,9 @@ pub fn demo_text<A: Allocator, W: Sink>(
 }
 
 // The demo in the lump of the name.
-fn named_demo<'a, A: Allocator>(
+fn named_demo<'a, A: Allocator, F: Allocator>(
     alloc: A,
-    files: &'a [Vec<u8>],
+    files: &'a [Vec<u8, F>],
     name: &[u8],
 ) -> Result<Demo<'a>, RunFault>
     requires { length files.now ≤ 64 }

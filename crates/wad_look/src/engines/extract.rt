@@ -16,9 +16,9 @@ use wad_dir::{PackFault, Packer, Set};
 
 /// Writes a PWAD of eleven lumps: the level's label, which has no bytes, and the ten behind it, each with its entry's
 /// name. `Set`, `Memory`, `Level` and `Pack` come before anything is written.
-pub fn extract<A: Allocator + Copy, W: Sink>(
+pub fn extract<A: Allocator + Copy, F: Allocator, W: Sink>(
     alloc: A,
-    files: &[Vec<u8>],
+    files: &[Vec<u8, F>],
     name: &[u8],
     out: &mut W,
 ) -> Result<(), RunFault>
@@ -31,9 +31,9 @@ pub fn extract<A: Allocator + Copy, W: Sink>(
 }
 
 // The file of the level of the name.
-fn packed_level<A: Allocator + Copy>(
+fn packed_level<A: Allocator + Copy, F: Allocator>(
     alloc: A,
-    files: &[Vec<u8>],
+    files: &[Vec<u8, F>],
     name: &[u8],
 ) -> Result<Vec<u8, A>, RunFault>
     requires { length files.now ≤ 64 }

@@ -34,9 +34,9 @@ pub struct Listed {
 
 /// Writes a line for each label that ten entries of the usual names follow: its number, its name, and `hidden` where
 /// looking the name up gives another entry or none. `Set` and `Memory` come before anything is written.
-pub fn levels<A: Allocator + Copy, W: Sink>(
+pub fn levels<A: Allocator + Copy, F: Allocator, W: Sink>(
     alloc: A,
-    files: &[Vec<u8>],
+    files: &[Vec<u8, F>],
     out: &mut W,
 ) -> Result<(), RunFault>
     requires few { length files.now ≤ 64 }

@@ -16,9 +16,9 @@ use wad_dir::{Kind, Set, Wad};
 
 /// Writes the files, each with its kind and number of entries, and their entries, each with its number, place, size and
 /// name. `Set` and `Memory` come before anything is written.
-pub fn lumps<A: Allocator, W: Sink>(
+pub fn lumps<A: Allocator, F: Allocator, W: Sink>(
     alloc: A,
-    files: &[Vec<u8>],
+    files: &[Vec<u8, F>],
     out: &mut W,
 ) -> Result<(), RunFault>
     requires few { length files.now ≤ 64 }

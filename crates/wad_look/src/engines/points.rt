@@ -75,9 +75,9 @@ fn put_leaf(line: &mut TextLine, leaf: Leaf)
 ///
 /// In the order in which they are tested, `Set`, `Level` and `Audit` come before anything is read or written, as does
 /// `Memory`; then `Read`, `Write` and `TooLong`.
-pub fn points<A: Allocator + Copy, S: Source, W: Sink>(
+pub fn points<A: Allocator + Copy, F: Allocator, S: Source, W: Sink>(
     alloc: A,
-    files: &[Vec<u8>],
+    files: &[Vec<u8, F>],
     name: &[u8],
     reading: Reading,
     input: &mut S,

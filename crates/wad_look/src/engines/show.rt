@@ -20,9 +20,9 @@ use std::alloc::Allocator;
 
 /// Writes the level's label and place, and of each of its lumps the number of records, of bytes left over and the records,
 /// or the number of bytes. `Set`, `Memory` and `Level` come before anything is written. Links aren't tested.
-pub fn show<A: Allocator, W: Sink>(
+pub fn show<A: Allocator, F: Allocator, W: Sink>(
     alloc: A,
-    files: &[Vec<u8>],
+    files: &[Vec<u8, F>],
     name: &[u8],
     reading: Reading,
     out: &mut W,

@@ -57,9 +57,9 @@ fn put_word(line: &mut TextLine, bit: Option<bool>)
 /// REJECT ends before their bit. The level may have faults.
 ///
 /// `Set`, `Memory` and `Level` come before anything is read or written; then `Read`, `Write` and `TooLong`.
-pub fn sight<A: Allocator, S: Source, W: Sink>(
+pub fn sight<A: Allocator, F: Allocator, S: Source, W: Sink>(
     alloc: A,
-    files: &[Vec<u8>],
+    files: &[Vec<u8, F>],
     name: &[u8],
     input: &mut S,
     limit: u64,

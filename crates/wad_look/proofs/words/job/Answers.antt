@@ -6,7 +6,7 @@ use Rattle.wad_look.proofs.JobLemmas.{IsRead, IsTaken, job_of, only_job, is_job,
 use Rattle.wad_look.proofs.words.job.Goals as goal
 
 pub returns-then-not-takes : goal.returns-then-not-takes
-returns-then-not-takes c = λ job.
+returns-then-not-takes g c = λ job.
     let texts = map string_bytes c.args.words.now in
     let operands = map string_bytes c.after_wide-wide.result.1.now in
     let in_order = ap (map string_bytes) c.in_ok-word.ensures.cases.0 in
@@ -34,7 +34,7 @@ returns-then-not-takes c = λ job.
     )
 
 pub returns : goal.returns
-returns c = λ job.
+returns g c = λ job.
     let texts = map string_bytes c.args.words.now in
     let operands = map string_bytes c.after_wide-wide.result.1.now in
     let in_order = ap (map string_bytes) c.in_ok-word.ensures.cases.0 in

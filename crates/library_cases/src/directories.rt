@@ -77,15 +77,35 @@ fn empty_directory(rt: HostRuntime) -> Result<(), Fail> {
     Ok(())
 }
 
+// Bytes that are no file are neither read alone nor as a set of one.
+fn check_refused(rt: &(impl Abort + AllocGlobal), bytes: &[u8], fault: WadFault) {
+    assert_eq!(rt; Wad::read(bytes).err(), Some(fault));
+    assert_eq!(rt;
+        Set::one(rt.alloc(), bytes).err(),
+        Some(SetFault::File(1, fault))
+    );
+}
+
 #[test]
-fn refused_directories(rt: HostRuntime) -> Result<(), Fail> {
+fn refused_directories(rt: HostRuntime) {
     let short = [80u8, 87, 65, 68, 0, 0, 0, 0, 0, 0, 0];
     let other = [88u8, 87, 65, 68, 255, 255, 255, 255, 0, 0, 0, 0];
     let negative = [80u8, 87, 65, 68, 255, 255, 255, 255, 0, 0, 0, 0];
-    assert_eq!(rt; Wad::read(&short).err(), Some(WadFault::Short));
-    assert_eq!(rt; Wad::read(&[]).err(), Some(WadFault::Short));
-    assert_eq!(rt; Wad::read(&other).err(), Some(WadFault::Magic));
-    assert_eq!(rt; Wad::read(&negative).err(), Some(WadFault::Count));
+    check_refused(&rt, &short, WadFault::Short);
+    check_refused(&rt, &[], WadFault::Short);
+    check_refused(&rt, &other, WadFault::Magic);
+    check_refused(&rt, &negative, WadFault::Count);
+    check_refused(&rt, &TWO_PACKED[..46], WadFault::Directory);
+}
+
+#[test]
+fn one_file(rt: HostRuntime) -> Result<(), Fail> {
+    let set = Set::one(rt.alloc(), &TWO_PACKED)?;
+    assert_eq!(rt; set.files(), 1);
+    assert_eq!(rt; set.total(), 2);
+    assert_eq!(rt; set.find(Name8::query(b"B")), Some(1));
+    assert_eq!(rt; set.lump(0)?, b"xyz".as_slice());
+    assert_eq!(rt; set.place(0).ok_or("no entry 0")?.file, 1);
     Ok(())
 }
 
@@ -199,6 +219,19 @@ fn growth_refused_in_new(rt: HostRuntime) -> Result<(), Fail> {
     assert_eq!(rt; Set::new(&refusing, &files)?.total(), 2);
     assert!(rt; !refusing.has_refused());
     assert_eq!(rt; Set::new(rt.alloc(), &files)?.total(), 2);
+    Ok(())
+}
+
+#[test]
+fn growth_refused_in_one(rt: HostRuntime) -> Result<(), Fail> {
+    let refusing = Refusing::new(rt.alloc(), 1);
+    assert_eq!(rt;
+        Set::one(&refusing, &TWO_PACKED).err(),
+        Some(SetFault::Memory)
+    );
+    let refusing = Refusing::new(rt.alloc(), 2);
+    assert_eq!(rt; Set::one(&refusing, &TWO_PACKED)?.total(), 2);
+    assert!(rt; !refusing.has_refused());
     Ok(())
 }
 

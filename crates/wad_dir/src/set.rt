@@ -1,11 +1,11 @@
 //! Several WAD files, whose entries are numbered on in one list.
 
-ghost use Rattle.std.specs.Prelude.{◌≡◌, ◌≢◌, ℕ, ◌<◌, ◌^◌, ◌≤◌, ◌↔◌, Some, List, [], length, map};
+ghost use Rattle.std.specs.Prelude.{◌≡◌, ◌≢◌, ℕ, ◌<◌, ◌^◌, ◌≤◌, ◌↔◌, Some, List, [], ◌∷◌, length, map};
 ghost use Rattle.std.specs.Prelude.{IfOk, IfErr, IsOk, IfSome, IfNone, IsErrOf, vec_capacity};
 ghost use Rattle.std.specs.List.{All, slice_get};
 ghost use Rattle.std.specs.Option.{option_map};
 ghost use Rattle.wad_dir.specs.Wad.{IsRead};
-ghost use Rattle.wad_dir.specs.Refusal.{IsFirstRefused};
+ghost use Rattle.wad_dir.specs.Refusal.{IsFirstRefused, RefusesWad};
 
 use crate::lump::{Found, LumpFault, lump_of};
 use crate::wad::{Wad, WadFault};
@@ -81,6 +81,25 @@ impl<'a, A: Allocator> Set<'a, A> {
         match read_files(room, files) {
             Ok(wads) => Ok(Set { wads }),
             Err((number, fault)) => Err(SetFault::File(number, fault)),
+        }
+    }
+
+    /// The set of one file, whose bytes are lent as they stand. It makes room for its list, the only
+    /// step that answers `Memory`, before it reads the file, which is number 1.
+    pub fn one(alloc: A, bytes: &'a [u8]) -> Result<Set<'a, A>, SetFault>
+        ensures bytes { IfOk result (λ set. map (λ file. file.bytes) set ≡ bytes.now ∷ []) }
+        ensures read { IfOk result (All IsRead) }
+        ensures refused { (n : ℕ) (fault : _) → result ≡ Err (SetFault.File n fault)
+            → (n ≡ 1) × RefusesWad bytes.now fault }
+        ensures first { (n : ℕ) (fault : _) → result ≡ Err (SetFault.File n fault)
+            → IsFirstRefused (bytes.now ∷ []) n fault }
+    {
+        let Ok(room) = Vec::with_capacity(alloc, 1) else {
+            return Err(SetFault::Memory);
+        };
+        match read_one(room, bytes) {
+            Ok(wads) => Ok(Set { wads }),
+            Err(fault) => Err(SetFault::File(1, fault)),
         }
     }
 
@@ -205,5 +224,22 @@ fn read_files<'a, A: Allocator, F: Allocator>(
             Err(fault) => return Err((i as u32 + 1, fault)),
         }
     }
+    Ok(wads)
+}
+
+// The directory of one file, put into a list that has room for it.
+fn read_one<'a, A: Allocator>(
+    room: Vec<Wad<'a>, A>,
+    bytes: &'a [u8],
+) -> Result<Vec<Wad<'a>, A>, WadFault>
+    requires empty { room.items ≡ [] }
+    requires enough { 1 ≤ vec_capacity room }
+    ensures bytes { IfOk result (λ wads. map (λ file. file.bytes) wads.items ≡ bytes.now ∷ []) }
+    ensures read { IfOk result (λ wads. All IsRead wads.items) }
+    ensures refused { IfErr result (RefusesWad bytes.now) }
+{
+    let mut wads = room;
+    let wad = Wad::read(bytes)?;
+    wads.push_reserved(wad);
     Ok(wads)
 }

@@ -49,6 +49,52 @@ fn level_opened(rt: HostRuntime) -> Result<(), Fail> {
     Ok(())
 }
 
+// Why there is no level at an entry.
+fn fault_at(
+    rt: &(impl Abort + AllocGlobal),
+    files: &[Vec<u8>],
+    label: usize,
+) -> Result<Option<LevelFault>, Fail> {
+    assert!(rt; files.len() <= 64);
+    let set = Set::new(rt.alloc(), files)?;
+    assert!(rt; label < set.total());
+    Ok(Level::at(&set, label, Reading::Signed).err())
+}
+
+fn check_at(rt: &impl Abort, set: &Set<'_>, label: usize) -> Result<(), Fail> {
+    assert!(rt; label < set.total());
+    let level = Level::at(set, label, Reading::Wide)?;
+    assert_eq!(rt; level.label(), label);
+    assert_eq!(rt; level.reading(), Reading::Wide);
+    assert_eq!(rt; level.name(0), Name8::query(b"E1M1"));
+    assert_eq!(rt; level.name(10), Name8::query(b"BLOCKMAP"));
+    check_tables(rt, &level);
+    Ok(())
+}
+
+// Of two levels of one name each is opened at its label; by name only the second is.
+#[test]
+fn levels_of_one_name(rt: HostRuntime) -> Result<(), Fail> {
+    let files = vec![in rt.alloc(); base(rt.alloc())?, base(rt.alloc())?]?;
+    let set = Set::new(rt.alloc(), &files)?;
+    check_at(&rt, &set, 0)?;
+    check_at(&rt, &set, 11)?;
+    let level = Level::open(&set, Name8::query(b"E1M1"), Reading::Signed)?;
+    assert_eq!(rt; level.label(), 11);
+    Ok(())
+}
+
+// Of a whole level's entry 1 the ten lumps would be those from entry 2 on: the last is missing.
+#[test]
+fn lumps_missing_at(rt: HostRuntime) -> Result<(), Fail> {
+    let files = vec![in rt.alloc(); pack(rt.alloc(), &lumps()[..10])?]?;
+    assert_eq!(rt; fault_at(&rt, &files, 0)?, Some(LevelFault::Missing(10)));
+    assert_eq!(rt; fault_at(&rt, &files, 9)?, Some(LevelFault::Missing(1)));
+    let files = vec![in rt.alloc(); base(rt.alloc())?]?;
+    assert_eq!(rt; fault_at(&rt, &files, 1)?, Some(LevelFault::Missing(10)));
+    Ok(())
+}
+
 #[test]
 fn lumps_missing(rt: HostRuntime) -> Result<(), Fail> {
     let files = vec![in rt.alloc(); pack(rt.alloc(), &lumps()[..10])?]?;
@@ -72,6 +118,8 @@ pub fn nodes_outside(rt: &(impl Abort + AllocGlobal)) -> Result<Vec<u8>, Fail> {
 fn lump_places(rt: HostRuntime) -> Result<(), Fail> {
     let files = vec![in rt.alloc(); nodes_outside(&rt)?]?;
     assert_eq!(rt; fault(&rt, &files)?, Some(LevelFault::Outside(7)));
+    assert_eq!(rt; fault_at(&rt, &files, 0)?, Some(LevelFault::Outside(7)));
+    assert_eq!(rt; fault_at(&rt, &files, 5)?, Some(LevelFault::Outside(2)));
     Ok(())
 }
 

@@ -35,21 +35,18 @@ law_sound_is_no_fault level = (
 pub law_wide_keeps_sound : WideKeepsSound
 law_wide_keeps_sound files name signed wide are is_signed is_wide sound =
     let label = signed.label in
-    let found = is_signed.found in
-    let lumps = is_signed.lumps in
+    let here = is_signed.there in
+    let found = here.found in
+    let lumps = here.lumps in
     let other : IsLevel files name Wide (level_of label Wide found lumps) = record {
       wins = is_signed.wins;
-      found = found;
-      named = is_signed.named;
-      lumps = lumps;
-      stand = is_signed.stand;
-      is = refl;
+      there = record { found = found; named = here.named; lumps = lumps; stand = here.stand; is = refl };
     } in
     let same : level_of label Wide found lumps ≡ wide =
     IsLevel-one files name Wide _ _ other is_wide in
     let bytes =
     lump_bytes files are (label + 2) (lump_of lumps 2)
-    (is_signed.stand.each 2 (omega arith) (omega arith)) in
-    let kept = wide_keeps_sound label found lumps bytes (subst IsSound is_signed.is sound) in
-    subst (λ (level : Level). KeepsSound level wide) (sym is_signed.is)
+    (here.stand.each 2 (omega arith) (omega arith)) in
+    let kept = wide_keeps_sound label found lumps bytes (subst IsSound here.is sound) in
+    subst (λ (level : Level). KeepsSound level wide) (sym here.is)
     (subst (λ (level : Level). KeepsSound (level_of label Signed found lumps) level) same kept)

@@ -1,5 +1,5 @@
 -- Facts about levels: that files and a name have at most one, and none where they are refused.
-use Rattle.std.proofs.Common.{◌≡◌, ◌≢◌, ℕ, ◌+◌, ◌-◌, ◌<◌, ◌≤◌, inl, inr, List, [], length, get_or, Some, None, refl, sym, ap, ◌∙◌, arith}
+use Rattle.std.proofs.Common.{◌≡◌, ◌≢◌, ◌↔◌, ℕ, ◌+◌, ◌-◌, ◌<◌, ◌≤◌, inl, inr, List, [], length, get_or, Some, None, Result, Ok, Err, IfOk, IfErr, refl, sym, subst, ap, ◌∙◌, arith}
 use Rattle.std.specs.List.{slice_get}
 use Rattle.std.proofs.lemmas.Bool.{cases_lt}
 use Rattle.std.proofs.lemmas.Option.{unwrap_or-slice_get, slice_get_past}
@@ -12,7 +12,7 @@ use Rattle.wad_dir.specs.Slice.{IsLump}
 use Rattle.wad_dir.proofs.LumpLemmas.{IsLump-one}
 use Rattle.wad_dir.proofs.WinnerLemmas.{Wins-one}
 use Rattle.map_level.specs.Level.{Level, lump_of}
-use Rattle.map_level.specs.Opening.{AreNames, AreLumps, AreThereBelow, IsLevel, RefusesLevel}
+use Rattle.map_level.specs.Opening.{AreNames, AreLumps, AreThereBelow, IsLevel, IsLevelAt, RefusesLevel, RefusesLevelAt}
 use Rattle.map_level.specs.declared.level.LevelFault.{LevelFault}
 use Rattle.map_level.specs.declared.level.LevelFault.TheVariants.{NoLabel, Missing, Outside}
 use Rattle.map_level.specs.declared.reading.Reading.{Reading}
@@ -40,14 +40,20 @@ AreNames-one files label a b p q =
     p.each i (omega arith) ∙ sym (q.each i (omega arith)) in
     sym (unwrap_or-slice_get a i []) ∙ ap (λ o. unwrap_or o []) both ∙ unwrap_or-slice_get b i [])
 
--- files and a name have at most one level under a reading
+-- a label has at most one level under a reading, and so have files and a name
+pub IsLevelAt-one : (files : List Wad) (label : ℕ) (reading : Reading) (a b : Level)
+    → IsLevelAt files label reading a → IsLevelAt files label reading b → a ≡ b
+IsLevelAt-one files label reading a b p q =
+    let found = AreNames-one files label p.found q.found p.named q.named in
+    let lumps = AreLumps-one files label p.lumps q.lumps p.stand q.stand in
+    p.is ∙ rw (found, lumps) (sym q.is)
+
 pub IsLevel-one : (files : List Wad) (name : List ℕ) (reading : Reading) (a b : Level)
     → IsLevel files name reading a → IsLevel files name reading b → a ≡ b
 IsLevel-one files name reading a b p q =
     let label = Wins-one (names files) name a.label b.label p.wins q.wins in
-    let found = AreNames-one files b.label p.found q.found (rw label at p.named) q.named in
-    let lumps = AreLumps-one files b.label p.lumps q.lumps (rw label at p.stand) q.stand in
-    p.is ∙ rw (label, found, lumps) (sym q.is)
+    IsLevelAt-one files b.label reading a b
+    (subst (λ l. IsLevelAt files l reading a) label p.there) q.there
 
 -- where they are refused they have none
 there_and_missing : (files : List Wad) (g : ℕ) (lump : List ℕ) → IsLump files g lump
@@ -57,19 +63,25 @@ there_and_missing files g lump there past =
     sym (slice_get_past (joined files) g past) ∙ there.numbered in
     cc
 
+pub RefusesLevelAt-no_level : (files : List Wad) (label : ℕ) (reading : Reading)
+    (fault : LevelFault) (level : Level)
+    → RefusesLevelAt files label fault → IsLevelAt files label reading level → ⊥
+RefusesLevelAt-no_level files label reading NoLabel level r p = r
+RefusesLevelAt-no_level files label reading (Missing k) level r p =
+    there_and_missing files (label + k) (lump_of p.lumps k) (p.stand.each k r.from r.to) r.past
+RefusesLevelAt-no_level files label reading (Outside k) level r p =
+    r.refused (lump_of p.lumps k) (p.stand.each k r.from r.to)
+
 pub RefusesLevel-no_level : (files : List Wad) (name : List ℕ) (reading : Reading)
     (fault : LevelFault) (level : Level)
     → RefusesLevel files name fault → IsLevel files name reading level → ⊥
 RefusesLevel-no_level files name reading NoLabel level r p = r level.label p.wins.named
 RefusesLevel-no_level files name reading (Missing k) level r p =
     let label = Wins-one (names files) name r.0 level.label r.1 p.wins in
-    let missing = rw label at r.2 in
-    there_and_missing files (level.label + k) (lump_of p.lumps k)
-    (p.stand.each k missing.from missing.to) missing.past
+    RefusesLevelAt-no_level files level.label reading (Missing k) level (rw label at r.2) p.there
 RefusesLevel-no_level files name reading (Outside k) level r p =
     let label = Wins-one (names files) name r.0 level.label r.1 p.wins in
-    let outside = rw label at r.2 in
-    outside.refused (lump_of p.lumps k) (p.stand.each k outside.from outside.to)
+    RefusesLevelAt-no_level files level.label reading (Outside k) level (rw label at r.2) p.there
 
 -- a missing entry has no lump
 no_lump_past : (files : List Wad) (g : ℕ) → length (joined files) ≤ g → (lump : List ℕ)
@@ -90,6 +102,38 @@ one_first files label k j before_k before_j from_k from_j none_k none_j =
       ]
     ]
 
+-- a label is refused for one reason, and so are files and a name
+pub RefusesLevelAt-one : (files : List Wad) (label : ℕ) (a b : LevelFault)
+    → RefusesLevelAt files label a → RefusesLevelAt files label b → a ≡ b
+RefusesLevelAt-one files label NoLabel b r s = absurd r
+RefusesLevelAt-one files label (Missing k) NoLabel r s = absurd s
+RefusesLevelAt-one files label (Outside k) NoLabel r s = absurd s
+RefusesLevelAt-one files label (Missing k) (Missing j) r s =
+    ap Missing (one_first files label k j r.before s.before r.from s.from
+    (no_lump_past files (label + k) r.past) (no_lump_past files (label + j) s.past))
+RefusesLevelAt-one files label (Missing k) (Outside j) r s =
+    let same =
+    one_first files label k j r.before s.before r.from s.from
+    (no_lump_past files (label + k) r.past) s.refused in
+    absurd (omega (arith, same, r.past, s.listed))
+RefusesLevelAt-one files label (Outside k) (Missing j) r s =
+    let same =
+    one_first files label k j r.before s.before r.from s.from r.refused
+    (no_lump_past files (label + j) s.past) in
+    absurd (omega (arith, same, r.listed, s.past))
+RefusesLevelAt-one files label (Outside k) (Outside j) r s =
+    ap Outside (one_first files label k j r.before s.before r.from s.from r.refused s.refused)
+
+-- the level at a winner is refused
+abbrev RefusesWinner : List Wad → List ℕ → LevelFault → Type 0
+RefusesWinner files name fault = (label : ℕ) × Wins (names files) name label × RefusesLevelAt files label fault
+
+RefusesWinner-one : (files : List Wad) (name : List ℕ) (a b : LevelFault)
+    → RefusesWinner files name a → RefusesWinner files name b → a ≡ b
+RefusesWinner-one files name a b r s =
+    let label = Wins-one (names files) name r.0 s.0 r.1 s.1 in
+    RefusesLevelAt-one files s.0 a b (rw label at r.2) s.2
+
 no_winner : {A : Type 0} (files : List Wad) (name : List ℕ) (label : ℕ)
     → ((g : ℕ) → slice_get (names files) g ≢ Some name) → Wins (names files) name label → A
 no_winner files name label none wins = absurd (none label wins.named)
@@ -102,27 +146,56 @@ RefusesLevel-one files name NoLabel (Missing j) r s = no_winner files name s.0 r
 RefusesLevel-one files name NoLabel (Outside j) r s = no_winner files name s.0 r s.1
 RefusesLevel-one files name (Missing k) NoLabel r s = no_winner files name r.0 s r.1
 RefusesLevel-one files name (Outside k) NoLabel r s = no_winner files name r.0 s r.1
-RefusesLevel-one files name (Missing k) (Missing j) r s =
-    let label = Wins-one (names files) name r.0 s.0 r.1 s.1 in
-    let first = rw label at r.2 in
-    ap Missing (one_first files s.0 k j first.before s.2.before first.from s.2.from
-    (no_lump_past files (s.0 + k) first.past) (no_lump_past files (s.0 + j) s.2.past))
-RefusesLevel-one files name (Missing k) (Outside j) r s =
-    let label = Wins-one (names files) name r.0 s.0 r.1 s.1 in
-    let first = rw label at r.2 in
-    let same =
-    one_first files s.0 k j first.before s.2.before first.from s.2.from
-    (no_lump_past files (s.0 + k) first.past) s.2.refused in
-    absurd (omega (arith, same, first.past, s.2.listed))
-RefusesLevel-one files name (Outside k) (Missing j) r s =
-    let label = Wins-one (names files) name r.0 s.0 r.1 s.1 in
-    let first = rw label at r.2 in
-    let same =
-    one_first files s.0 k j first.before s.2.before first.from s.2.from first.refused
-    (no_lump_past files (s.0 + j) s.2.past) in
-    absurd (omega (arith, same, first.listed, s.2.past))
-RefusesLevel-one files name (Outside k) (Outside j) r s =
-    let label = Wins-one (names files) name r.0 s.0 r.1 s.1 in
-    let first = rw label at r.2 in
-    ap Outside
-    (one_first files s.0 k j first.before s.2.before first.from s.2.from first.refused s.2.refused)
+RefusesLevel-one files name (Missing k) (Missing j) r s = RefusesWinner-one files name (Missing k) (Missing j) r s
+RefusesLevel-one files name (Missing k) (Outside j) r s = RefusesWinner-one files name (Missing k) (Outside j) r s
+RefusesLevel-one files name (Outside k) (Missing j) r s = RefusesWinner-one files name (Outside k) (Missing j) r s
+RefusesLevel-one files name (Outside k) (Outside j) r s = RefusesWinner-one files name (Outside k) (Outside j) r s
+
+-- an answer that is the level at a label, or the reason why there is none, is the only one
+module _ (files : List Wad) (label : ℕ) (reading : Reading) where
+  pub only_level : (level : Level) → IsLevelAt files label reading level → (other : Level)
+      → (◌≡◌ {A = Result Level LevelFault} (Ok level) (Ok other)) ↔ IsLevelAt files label reading other
+  only_level level is other = (
+    λ e. let same : level ≡ other = cc in subst (IsLevelAt files label reading) same is,
+    λ h. ap (λ l. Ok l) (IsLevelAt-one files label reading level other is h),
+  )
+
+  pub no_fault : (level : Level) → IsLevelAt files label reading level → (fault : LevelFault)
+      → (◌≡◌ {A = Result Level LevelFault} (Ok level) (Err fault)) ↔ RefusesLevelAt files label fault
+  no_fault level is fault = (
+    λ e. absurd (let f : ⊥ = cc in f),
+    λ r. absurd (RefusesLevelAt-no_level files label reading fault level r is),
+  )
+
+  pub no_level : (fault : LevelFault) → RefusesLevelAt files label fault → (level : Level)
+      → (◌≡◌ {A = Result Level LevelFault} (Err fault) (Ok level)) ↔ IsLevelAt files label reading level
+  no_level fault refused level = (
+    λ e. absurd (let f : ⊥ = cc in f),
+    λ is. absurd (RefusesLevelAt-no_level files label reading fault level refused is),
+  )
+
+  pub only_fault : (fault : LevelFault) → RefusesLevelAt files label fault → (other : LevelFault)
+      → (◌≡◌ {A = Result Level LevelFault} (Err fault) (Err other)) ↔ RefusesLevelAt files label other
+  only_fault fault refused other = (
+    λ e. let same : fault ≡ other = cc in subst (RefusesLevelAt files label) same refused,
+    λ r. ap (λ f. Err f) (RefusesLevelAt-one files label fault other refused r),
+  )
+
+  -- at the winner of a name it is the name's
+  pub level_of_winner : (name : List ℕ) (result : Result Level LevelFault) → Wins (names files) name label
+      → ((level : Level) → (result ≡ Ok level) ↔ IsLevelAt files label reading level) → IfOk result (IsLevel files name reading)
+  level_of_winner name (Ok level) wins is =
+      let there = (is level).0 refl in
+      let same : level.label ≡ label = ap (λ (l : Level). l.label) there.is in
+      record {
+        wins = subst (Wins (names files) name) (sym same) wins;
+        there = subst (λ l. IsLevelAt files l reading level) (sym same) there;
+      }
+  level_of_winner name (Err fault) wins is = tt
+
+  pub refusal_of_winner : (name : List ℕ) (result : Result Level LevelFault) → Wins (names files) name label
+      → ((fault : LevelFault) → (result ≡ Err fault) ↔ RefusesLevelAt files label fault) → IfErr result (RefusesLevel files name)
+  refusal_of_winner name (Ok level) wins is = tt
+  refusal_of_winner name (Err NoLabel) wins is = absurd ((is NoLabel).0 refl)
+  refusal_of_winner name (Err (Missing k)) wins is = (label, wins, (is (Missing k)).0 refl)
+  refusal_of_winner name (Err (Outside k)) wins is = (label, wins, (is (Outside k)).0 refl)

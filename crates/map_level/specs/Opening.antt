@@ -20,15 +20,18 @@ pub record AreLumps (files : List Wad) (label : ℕ) (lumps : List (List ℕ)) :
   pub ten : length lumps ≡ 10
   pub each : (k : ℕ) → 1 ≤ k → k ≤ 10 → IsLump files (label + k) (lump_of lumps k)
 
--- the level of files and a name: the winner's, of the ten entries after it
-pub record IsLevel (files : List Wad) (name : List ℕ) (reading : Reading)
-    (level : Level) : Type 0 where
-  pub wins : Wins (names files) name level.label
+-- the level at a label, whatever its name: that of the ten entries after it
+pub record IsLevelAt (files : List Wad) (label : ℕ) (reading : Reading) (level : Level) : Type 0 where
   pub found : List (List ℕ)
-  pub named : AreNames files level.label found
+  pub named : AreNames files label found
   pub lumps : List (List ℕ)
-  pub stand : AreLumps files level.label lumps
-  pub is : level ≡ level_of level.label reading found lumps
+  pub stand : AreLumps files label lumps
+  pub is : level ≡ level_of label reading found lumps
+
+-- the level of files and a name: the one at the winner
+pub record IsLevel (files : List Wad) (name : List ℕ) (reading : Reading) (level : Level) : Type 0 where
+  pub wins : Wins (names files) name level.label
+  pub there : IsLevelAt files level.label reading level
 
 -- the lumps before k are there
 abbrev pub AreThereBelow : List Wad → ℕ → ℕ → Type 0
@@ -50,16 +53,13 @@ pub record IsOutsideFile (files : List Wad) (label k : ℕ) : Type 0 where
   pub listed : label + k < length (joined files)
   pub refused : (lump : List ℕ) → ¬ IsLump files (label + k) lump
 
--- why there is no level of a name
+-- why there is no level at a label: the first lump after it that isn't there
+abbrev pub RefusesLevelAt : List Wad → ℕ → LevelFault → Type 0
+RefusesLevelAt files label NoLabel = ⊥
+RefusesLevelAt files label (Missing k) = IsMissing files label k
+RefusesLevelAt files label (Outside k) = IsOutsideFile files label k
+
+-- why there is no level of a name: it has no winner, or there is none at the winner
 abbrev pub RefusesLevel : List Wad → List ℕ → LevelFault → Type 0
 RefusesLevel files name NoLabel = (g : ℕ) → slice_get (names files) g ≢ Some name
-RefusesLevel files name (Missing k) =
-    (label : ℕ) × Wins (names files) name label × IsMissing files label k
-RefusesLevel files name (Outside k) =
-    (label : ℕ) × Wins (names files) name label × IsOutsideFile files label k
-
--- the first lump after a label that isn't there, and why
-abbrev pub RefusesLump : List Wad → ℕ → LevelFault → Type 0
-RefusesLump files label NoLabel = ⊥
-RefusesLump files label (Missing k) = IsMissing files label k
-RefusesLump files label (Outside k) = IsOutsideFile files label k
+RefusesLevel files name fault = (label : ℕ) × Wins (names files) name label × RefusesLevelAt files label fault

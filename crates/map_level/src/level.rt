@@ -1,6 +1,6 @@
 //! A level: a label and the ten lumps after it.
 
-ghost use Rattle.std.specs.Prelude.{◌≡◌, ◌+◌, ◌<◌, ◌≤◌, ◌^◌, length, map, IfOk, IfErr, OnOk};
+ghost use Rattle.std.specs.Prelude.{◌≡◌, ◌+◌, ◌<◌, ◌≤◌, ◌^◌, ◌↔◌, length, map, Ok, Err, IfOk, IfErr, OnOk};
 ghost use Rattle.std.specs.Prelude.{Some};
 ghost use Rattle.std.specs.List.{slice_get};
 ghost use Rattle.wad_dir.specs.Entries.{joined};
@@ -50,7 +50,8 @@ impl<'a> Model for Level<'a> {
 }
 
 impl<'a> Level<'a> {
-    ghost use Rattle.map_level.specs.Opening.{IsLevel, RefusesLevel};
+    ghost use Rattle.map_level.specs.Level as level;
+    ghost use Rattle.map_level.specs.Opening.{IsLevel, IsLevelAt, RefusesLevel, RefusesLevelAt};
 
     /// The level whose label has the name, of the last entry where there are several: the ten lumps
     /// are those of the ten entries after it, whatever their names, and may lie in a later file
@@ -66,8 +67,24 @@ impl<'a> Level<'a> {
         let Some(label) = set.find(name) else {
             return Err(LevelFault::NoLabel);
         };
+        Level::at(set, label, reading)
+    }
+
+    /// The level whose label is the entry of this number, also where a later entry has the label's
+    /// name. The ten lumps are those of the ten entries after it, as for `open`, and the answer is
+    /// never `NoLabel`.
+    pub fn at<A: Allocator>(
+        set: &Set<'a, A>,
+        label: usize,
+        reading: Reading,
+    ) -> Result<Level<'a>, LevelFault>
+        requires { label < length (joined set.now) }
+        ensures level { (found : level.Level)
+            → (result ≡ Ok found) ↔ IsLevelAt set.now label reading found }
+        ensures refused { (fault : _) → (result ≡ Err fault) ↔ RefusesLevelAt set.now label fault }
+    {
         let Lumps { bytes: lumps } = lumps_after(set, label)?;
-        let names = names_from(set, label, name);
+        let names = names_from(set, label);
         Ok(Level {
             label,
             reading,
@@ -198,14 +215,14 @@ struct Lumps<'a> {
 ghost use Rattle.map_level.specs.Level.{AreShort};
 ghost use Rattle.le_rec.specs.Layout.{read_by};
 ghost use Rattle.le_rec.specs.Table.{rows_of};
-ghost use Rattle.map_level.specs.Opening.{AreLumps, AreNames, RefusesLump};
+ghost use Rattle.map_level.specs.Opening.{AreLumps, AreNames, RefusesLevelAt};
 
 // The lumps of the ten entries after a label, or the first that isn't there.
 fn lumps_after<'a, A: Allocator>(set: &Set<'a, A>, label: usize) -> Result<Lumps<'a>, LevelFault>
     requires { label < length (joined set.now) }
     ensures ok { IfOk result (λ lumps.
         AreLumps set.now label (map (λ lump. lump.now) lumps.bytes)) }
-    ensures err { IfErr result (RefusesLump set.now label) }
+    ensures err { IfErr result (RefusesLevelAt set.now label) }
     ensures short { IfOk result (λ lumps. AreShort (map (λ lump. lump.now) lumps.bytes)) }
     ensures listed { OnOk result (label + 10 < length (joined set.now)) }
     ensures fits { OnOk result (label + 10 < 2 ^ 64) }
@@ -226,14 +243,15 @@ fn lumps_after<'a, A: Allocator>(set: &Set<'a, A>, label: usize) -> Result<Lumps
 }
 
 // The names of a label and of the ten entries after it.
-fn names_from<A: Allocator>(set: &Set<'_, A>, label: usize, name: Name8) -> [Name8; 11]
+fn names_from<A: Allocator>(set: &Set<'_, A>, label: usize) -> [Name8; 11]
     requires listed { label + 10 < length (joined set.now) }
     requires fits { label + 10 < 2 ^ 64 }
     ensures { AreNames set.now label result }
 {
-    let mut names = [name; 11];
+    let none = Name8::query(&[]);
+    let mut names = [none; 11];
     for k in 0..11 {
-        names[k] = set.name(label + k).unwrap_or(name);
+        names[k] = set.name(label + k).unwrap_or(none);
     }
     names
 }

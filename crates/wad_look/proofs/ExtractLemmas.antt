@@ -68,20 +68,20 @@ pub there_listed : (files : List Wad) (g : ℕ) (lump : List ℕ) → IsLump fil
 there_listed files g lump there = slice_get_within (joined files) g there.listed there.numbered
 
 module _ (bytes : List (List ℕ)) (asked : List ℕ) (files : List Wad) (level : Level) (read : AreRead bytes files) (opened : IsLevel files (query_of asked) Signed level) where
-  has_lumps : HasLumps bytes asked (extracted level.names opened.lumps)
-  has_lumps = record { files = files; level = level; lumps = opened.lumps; read = read; opened = opened; stand = opened.stand; are = refl }
+  has_lumps : HasLumps bytes asked (extracted level.names opened.there.lumps)
+  has_lumps = record { files = files; level = level; lumps = opened.there.lumps; read = read; opened = opened; stand = opened.there.stand; are = refl }
 
   pub level_packed : (file : List ℕ) → ((lumps : List (List ℕ)) → AreLumps files level.label lumps → file ≡ packed (extracted level.names lumps))
       → length file ≤ 2147483647 → ((lumps : List (List ℕ)) → AreLumps files level.label lumps → HoldsLumps file (extracted level.names lumps)) → IsPacked bytes asked file
   level_packed file is fits holds = record {
-    named = extracted level.names opened.lumps;
+    named = extracted level.names opened.there.lumps;
     has = has_lumps;
-    is = is opened.lumps opened.stand;
+    is = is opened.there.lumps opened.there.stand;
     fits = fits;
-    holds = holds opened.lumps opened.stand;
+    holds = holds opened.there.lumps opened.there.stand;
   }
 
   pub level_refused : (why : PackFault) → ((lumps : List (List ℕ)) → AreLumps files level.label lumps → why ≡ TooLarge → 2147483647 < length (packed (extracted level.names lumps)))
       → RefusesExtract bytes asked (fault.Pack why)
-  level_refused TooLarge large = (extracted level.names opened.lumps, has_lumps, large opened.lumps opened.stand refl)
+  level_refused TooLarge large = (extracted level.names opened.there.lumps, has_lumps, large opened.there.lumps opened.there.stand refl)
   level_refused Memory large = tt

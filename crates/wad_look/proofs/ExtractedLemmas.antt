@@ -65,7 +65,7 @@ module _ (bytes : List (List ℕ)) (asked file : List ℕ) (was : IsPacked bytes
   wad_read = record { of_bytes = refl; each = All-push IsRead [] wad (λ k d below. absurd (omega (arith, below))) was.holds.directory }
 
   eleven : length was.has.level.names ≡ 11
-  eleven = ap (λ (l : Level). length l.names) was.has.opened.is ∙ was.has.opened.named.eleven
+  eleven = ap (λ (l : Level). length l.names) was.has.opened.there.is ∙ was.has.opened.there.named.eleven
 
   -- the names in the file are those of the level
   same_names : names (wad ∷ []) ≡ was.has.level.names
@@ -101,7 +101,7 @@ module _ (bytes : List (List ℕ)) (asked file : List ℕ) (was : IsPacked bytes
       first : slice_get was.has.level.names 0 ≡ Some (query_of asked)
       first =
           let place : was.has.level.label + 0 ≡ was.has.level.label = omega arith in
-          ap (λ (l : Level). slice_get l.names 0) was.has.opened.is ∙ was.has.opened.named.each 0 (omega arith) ∙ ap (slice_get (names was.has.files)) place ∙ was.has.opened.wins.named
+          ap (λ (l : Level). slice_get l.names 0) was.has.opened.there.is ∙ was.has.opened.there.named.each 0 (omega arith) ∙ ap (slice_get (names was.has.files)) place ∙ was.has.opened.wins.named
 
   opens_again : (reading : Reading) → ((k : ℕ) → 1 ≤ k → k ≤ 10 → slice_get was.has.level.names k ≢ Some (query_of asked))
       → (packed : Wad) × AreRead (file ∷ []) (packed ∷ []) × AreLumps (packed ∷ []) 0 was.has.lumps × IsLevel (packed ∷ []) (query_of asked) reading (level_of 0 reading was.has.level.names was.has.lumps)
@@ -111,11 +111,13 @@ module _ (bytes : List (List ℕ)) (asked file : List ℕ) (was : IsPacked bytes
     stands_again,
     record {
       wins = wins_again others;
-      found = was.has.level.names;
-      named = record { eleven = eleven; each = λ k upto. let place : 0 + k ≡ k = omega arith in rw (place, same_names) refl };
-      lumps = was.has.lumps;
-      stand = stands_again;
-      is = refl;
+      there = record {
+        found = was.has.level.names;
+        named = record { eleven = eleven; each = λ k upto. let place : 0 + k ≡ k = omega arith in rw (place, same_names) refl };
+        lumps = was.has.lumps;
+        stand = stands_again;
+        is = refl;
+      };
     },
   )
 

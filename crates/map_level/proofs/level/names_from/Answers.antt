@@ -11,7 +11,7 @@ loop-k-preserved g c =
       eleven = length-set found k c.unwrap_or.result ∙ c.loop-k.invariant.eleven;
       found =
           rw c.unwrap_or.ensures
-          (named_more c.args.set.now c.args.label k found c.args.name c.name.result
+          (named_more c.args.set.now c.args.label k found c.query-none.result c.name.result
           c.loop-k.invariant.eleven (omega arith)
           c.requires.listed c.name.ensures c.loop-k.invariant.found);
     }

@@ -6,6 +6,8 @@ mod demos;
 #[cfg(test)]
 mod directories;
 #[cfg(test)]
+mod ends_for_tests;
+#[cfg(test)]
 mod geometry;
 #[cfg(test)]
 mod growths;

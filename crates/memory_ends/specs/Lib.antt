@@ -1,0 +1,2 @@
+pub mod FromSlice
+pub mod ToVec

@@ -3,8 +3,8 @@
 use crate::sample::{base_chain, base_two_nodes, base_with, base_with_node};
 use le_rec::Name8;
 use map_geo::{Point, Rect};
-use map_level::{Level, Reading, link_findings};
-use map_tree::{Counts, Tree, is_sound, tree_findings};
+use map_level::{Level, Reading};
+use map_tree::{Counts, Tree, is_sound};
 use std::alloc::{Allocator, Global};
 use std::process::Abort;
 use std::test::Fail;
@@ -36,9 +36,7 @@ fn check_censuses(
     let files = vec![in rt.alloc(); file]?;
     let set = Set::new(rt.alloc(), &files)?;
     let level = Level::open(&set, Name8::query(b"E1M1"), Reading::Signed)?;
-    let links = link_findings(rt.alloc(), &level)?;
-    let found = tree_findings(rt.alloc(), &level)?;
-    assert!(rt; is_sound(&level, &links, &found));
+    assert!(rt; is_sound(rt.alloc(), &level)?);
     let tree = Tree::of(&level);
     for (bounds, pairs, work) in cases {
         let counts = tree.census(rt.alloc(), rect_of(rt, *bounds))?;
@@ -184,9 +182,7 @@ fn check_all_plain(rt: &(impl Abort + AllocGlobal), file: Vec<u8>, first: u64) -
     let files = vec![in rt.alloc(); file]?;
     let set = Set::new(rt.alloc(), &files)?;
     let level = Level::open(&set, Name8::query(b"E1M1"), Reading::Signed)?;
-    let links = link_findings(rt.alloc(), &level)?;
-    let found = tree_findings(rt.alloc(), &level)?;
-    assert!(rt; is_sound(&level, &links, &found));
+    assert!(rt; is_sound(rt.alloc(), &level)?);
     let tree = Tree::of(&level);
     for i in 0..400u64 {
         check_plain(rt, &tree, small_rect(rt, first ^ i))?;
@@ -218,9 +214,7 @@ fn growth_refused(rt: HostRuntime) -> Result<(), Fail> {
     let files = vec![in rt.alloc(); base_with(rt.alloc(), &[])?]?;
     let set = Set::new(rt.alloc(), &files)?;
     let level = Level::open(&set, Name8::query(b"E1M1"), Reading::Signed)?;
-    let links = link_findings(rt.alloc(), &level)?;
-    let found = tree_findings(rt.alloc(), &level)?;
-    assert!(rt; is_sound(&level, &links, &found));
+    assert!(rt; is_sound(rt.alloc(), &level)?);
     let tree = Tree::of(&level);
     for n in 1..5 {
         assert!(rt;

@@ -7,7 +7,7 @@ use crate::sample::{
 };
 use le_rec::{Name8, Node, Record};
 use map_geo::Point;
-use map_level::{Code, Level, Reading, link_findings};
+use map_level::{Code, Level, Reading};
 use map_tree::{Tree, is_sound, tree_findings};
 use std::alloc::Global;
 use std::process::Abort;
@@ -68,9 +68,7 @@ fn check_leaves(
     let files = vec![in rt.alloc(); file]?;
     let set = Set::new(rt.alloc(), &files)?;
     let level = Level::open(&set, Name8::query(b"E1M1"), Reading::Signed)?;
-    let links = link_findings(rt.alloc(), &level)?;
-    let nodes = tree_findings(rt.alloc(), &level)?;
-    assert!(rt; is_sound(&level, &links, &nodes));
+    assert!(rt; is_sound(rt.alloc(), &level)?);
     let tree = Tree::of(&level);
     for ([x, y], leaf, sector) in expected {
         let point = Point::new(*x, *y).expect(rt, "a point in range");

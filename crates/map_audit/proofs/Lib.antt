@@ -1,7 +1,7 @@
 pub mod PartLemmas
-pub mod JoinLemmas
 pub mod WideLemmas
 pub mod SectorLemmas
 pub mod FileLemmas
 pub mod ReadingLemmas
 pub mod LawLemmas
+pub mod ReportLemmas

@@ -1,56 +1,56 @@
--- At which places of the order the codes of each part stand.
-use Rattle.std.proofs.Common.{◌≡◌, ℕ, ◌<◌, ◌≤◌, arith}
+-- Each code is of one part.
+use Rattle.std.proofs.Common.{◌≡◌, ◌↔◌, ℕ, ◌<◌, ◌≤◌, ◌⊎◌, inl, inr, subst, sym, arith}
+use Rattle.std.specs.Prelude.{IfSome, IfNone, Option, Some, None}
 use Rattle.map_level.specs.Level.{Level}
-use Rattle.map_level.specs.Findings.{place}
-use Rattle.map_level.specs.LinkFaults.{LinkHolds}
+use Rattle.map_level.specs.Findings.{place, IsFirst}
 use Rattle.map_level.specs.declared.finding.Code.{Code}
 use Rattle.map_level.specs.declared.finding.Code.TheVariants.{F11, F12, F13, F14, F15, F16, N7, N8, N9, N10}
-use Rattle.map_tree.specs.TreeFaults.{TreeHolds}
 use Rattle.map_tables.specs.TableFaults.{TableHolds}
+use Rattle.map_audit.specs.Findings.{AuditHolds, part_of, PartHolds}
+use Rattle.map_audit.specs.declared.auditing.Part.{Part}
 
--- no code of a link stands from F11 to F16 or from N7 to N10
-pub record IsLinkPlace (p : ℕ) : Type 0 where
-  pub faults : 10 ≤ p → 16 ≤ p
-  pub notes : 24 ≤ p → 28 ≤ p
+-- one of three that can hold
+first_alone : {A B C : Type 0} → ¬ B → ¬ C → A ⊎ (B ⊎ C) ↔ A
+first_alone b c = ((λ h. elim h [ inl a ↦ a | inr other ↦ elim other [ inl y ↦ absurd (b y) | inr z ↦ absurd (c z) ] ]), (λ a. inl a))
 
-pub link_place : (level : Level) (code : Code) (i : ℕ) → LinkHolds level code i
-    → IsLinkPlace (place code)
-link_place level F11 i h = absurd h
-link_place level F12 i h = absurd h
-link_place level F13 i h = absurd h
-link_place level F14 i h = absurd h
-link_place level F15 i h = absurd h
-link_place level F16 i h = absurd h
-link_place level N7 i h = absurd h
-link_place level N8 i h = absurd h
-link_place level N9 i h = absurd h
-link_place level N10 i h = absurd h
-link_place level _ i h =
-    record { faults = λ from. omega (arith, from); notes = λ from. omega (arith, from) }
+second_alone : {A B C : Type 0} → ¬ A → ¬ C → A ⊎ (B ⊎ C) ↔ B
+second_alone a c = ((λ h. elim h [ inl x ↦ absurd (a x) | inr other ↦ elim other [ inl y ↦ y | inr z ↦ absurd (c z) ] ]), (λ b. inr (inl b)))
 
--- a code of a node stands from F11 to F16, or it is N7
-pub record IsNodePlace (p : ℕ) : Type 0 where
-  pub from : 10 ≤ p
-  pub faults : p < 18 → p < 16
-  pub notes : 18 ≤ p → p ≡ 24
+third_alone : {A B C : Type 0} → ¬ A → ¬ B → A ⊎ (B ⊎ C) ↔ C
+third_alone a b = ((λ h. elim h [ inl x ↦ absurd (a x) | inr other ↦ elim other [ inl y ↦ absurd (b y) | inr z ↦ z ] ]), (λ c. inr (inr c)))
 
-pub node_place : (level : Level) (code : Code) (i : ℕ) → TreeHolds level code i
-    → IsNodePlace (place code)
-node_place level F11 i h =
-    record { from = omega arith; faults = λ to. omega arith; notes = λ from. omega (arith, from) }
-node_place level F12 i h =
-    record { from = omega arith; faults = λ to. omega arith; notes = λ from. omega (arith, from) }
-node_place level F13 i h =
-    record { from = omega arith; faults = λ to. omega arith; notes = λ from. omega (arith, from) }
-node_place level F14 i h =
-    record { from = omega arith; faults = λ to. omega arith; notes = λ from. omega (arith, from) }
-node_place level F15 i h =
-    record { from = omega arith; faults = λ to. omega arith; notes = λ from. omega (arith, from) }
-node_place level F16 i h =
-    record { from = omega arith; faults = λ to. omega arith; notes = λ from. omega (arith, from) }
-node_place level N7 i h =
-    record { from = omega arith; faults = λ to. omega (arith, to); notes = λ from. omega arith }
-node_place level _ i h = absurd h
+-- a code holds of a level exactly where it does by its part
+pub by_part : (level : Level) (code : Code) (i : ℕ) → AuditHolds level code i ↔ PartHolds (part_of code) level code i
+by_part level F11 i = second_alone (λ h. h) (λ h. h)
+by_part level F12 i = second_alone (λ h. h) (λ h. h)
+by_part level F13 i = second_alone (λ h. h) (λ h. h)
+by_part level F14 i = second_alone (λ h. h) (λ h. h)
+by_part level F15 i = second_alone (λ h. h) (λ h. h)
+by_part level F16 i = second_alone (λ h. h) (λ h. h)
+by_part level N7 i = second_alone (λ h. h) (λ h. h)
+by_part level N8 i = third_alone (λ h. h) (λ h. h)
+by_part level N9 i = third_alone (λ h. h) (λ h. h)
+by_part level N10 i = third_alone (λ h. h) (λ h. h)
+by_part level _ i = first_alone (λ h. h) (λ h. h)
+
+-- what a part finds first is what is found first
+module _ (level : Level) (code : Code) (part : Part) (is : part ≡ part_of code) where
+  both : (i : ℕ) → AuditHolds level code i ↔ PartHolds part level code i
+  both i = subst (λ (p : Part). AuditHolds level code i ↔ PartHolds p level code i) (sym is) (by_part level code i)
+
+  pub first_by_part : (from : ℕ) (found : Option ℕ) → IfSome found (IsFirst (PartHolds part level code) from)
+      → IfSome found (IsFirst (AuditHolds level code) from)
+  first_by_part from None h = h
+  first_by_part from (Some at) h = record {
+    within = h.within;
+    here = (both at).1 h.here;
+    before = λ i le below holds. h.before i le below ((both i).0 holds);
+  }
+
+  pub none_by_part : (from : ℕ) (found : Option ℕ) → IfNone found ((i : ℕ) → from ≤ i → ¬ PartHolds part level code i)
+      → IfNone found ((i : ℕ) → from ≤ i → ¬ AuditHolds level code i)
+  none_by_part from None h = λ i le holds. h i le ((both i).0 holds)
+  none_by_part from (Some at) h = h
 
 -- a code of REJECT or BLOCKMAP stands from N8 to N10
 pub record IsTablePlace (p : ℕ) : Type 0 where

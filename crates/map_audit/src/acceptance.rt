@@ -1,13 +1,13 @@
 //! Which levels are accepted: those without a fault.
 
-ghost use Rattle.std.specs.Prelude.{◌≡◌, IfOk, OnOk, IfErr};
+ghost use Rattle.std.specs.Prelude.{◌≡◌, IfOk, OnOk, IfErr, MatchOption};
 ghost use Rattle.map_tree.specs.Sound.{IsSound};
 ghost use Rattle.map_audit.specs.Refusal.{Refuses};
 
-use crate::auditing::whole_report;
+use crate::auditing::audit;
 use crate::report::Report;
-use map_level::{Level, link_findings};
-use map_tree::{Tree, is_sound, tree_findings};
+use map_level::Level;
+use map_tree::{Tree, is_sound};
 use std::alloc::{AllocError, Allocator, Global};
 
 /// Why a level isn't accepted.
@@ -39,11 +39,23 @@ pub fn accept<'l, 'a, A: Allocator + Copy>(
     ensures sound { OnOk result (IsSound level.now) }
     ensures refused { IfErr result (Refuses level.now) }
 {
-    let links = link_findings(alloc, level)?;
-    let nodes = tree_findings(alloc, level)?;
-    if is_sound(level, &links, &nodes) {
-        return Ok(Tree::of(level));
+    let report = audit(alloc, level)?;
+    if report.faults() > 0 {
+        return Err(Refused::Faults(report));
     }
-    let report = whole_report(alloc, level, &links, &nodes)?;
-    Err(Refused::Faults(report))
+    Ok(Tree::of(level))
+}
+
+/// The tree of a sound level, or None for another: what `accept` decides, with no report. It stops at the first fault.
+pub fn sound_tree<'l, 'a, A: Allocator + Copy>(
+    alloc: A,
+    level: &'l Level<'a>,
+) -> Result<Option<Tree<'l, 'a>>, AllocError>
+    ensures { IfOk result (λ found.
+        MatchOption found (¬ IsSound level.now) (λ tree. (tree ≡ level.now) × IsSound level.now)) }
+{
+    if !is_sound(alloc, level)? {
+        return Ok(None);
+    }
+    Ok(Some(Tree::of(level)))
 }

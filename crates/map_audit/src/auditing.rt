@@ -1,37 +1,91 @@
 //! All findings of a level.
 
-ghost use Rattle.std.specs.Prelude.{IfOk};
+ghost use Rattle.std.specs.Prelude.{◌≡◌, IfOk};
 ghost use Rattle.map_level.specs.Findings.{AreFindings};
-ghost use Rattle.map_level.specs.LinkFaults.{LinkHolds};
-ghost use Rattle.map_tree.specs.TreeFaults.{TreeHolds};
-ghost use Rattle.map_audit.specs.Findings.{AuditHolds};
+ghost use Rattle.map_audit.specs.Findings.{AuditHolds, part_of};
 
 use crate::report::Report;
-use map_level::{Findings, Level, link_findings};
-use map_tables::table_findings;
-use map_tree::tree_findings;
+use map_level::search::{Search, Searched, all_findings};
+use map_level::{Code, Level};
+use map_tables::Tables;
+use map_tree::Nodes;
 use std::alloc::{AllocError, Allocator};
+use std::marker::Model;
 
 /// All findings of a level.
 pub fn audit<A: Allocator + Copy>(alloc: A, level: &Level<'_>) -> Result<Report<A>, AllocError>
     ensures { IfOk result (AreFindings (AuditHolds level.now)) }
 {
-    let links = link_findings(alloc, level)?;
-    let nodes = tree_findings(alloc, level)?;
-    whole_report(alloc, level, &links, &nodes)
+    let parts = Parts::of(alloc, level)?;
+    let findings = all_findings(alloc, &parts)?;
+    Ok(Report::of(findings))
 }
 
-/// The report of a level whose links and nodes were looked at.
-pub(crate) fn whole_report<A: Allocator + Copy>(
-    alloc: A,
-    level: &Level<'_>,
-    links: &Findings<A>,
-    nodes: &Findings<A>,
-) -> Result<Report<A>, AllocError>
-    requires links { AreFindings (LinkHolds level.now) links.now }
-    requires nodes { AreFindings (TreeHolds level.now) nodes.now }
-    ensures { IfOk result (AreFindings (AuditHolds level.now)) }
+// A level's parts, each of which looks for codes of its own.
+#[derive(Drop)]
+struct Parts<'l, 'a, A: Allocator> {
+    links: &'l Level<'a>,
+    nodes: Nodes<'l, 'a, A>,
+    tables: Tables<'l, 'a>,
+}
+
+impl<'l, 'a, A: Allocator> Model for Parts<'l, 'a, A> {
+    ghost use Rattle.std.specs.Prelude.{◌≡◌};
+    ghost use Rattle.map_level.specs.Level.{Level};
+
+    ghost Value = { Level };
+
+    ghost view = { λ parts. parts.links.now };
+
+    ghost invariant = { λ parts. (parts.nodes ≡ parts.links.now) × (parts.tables ≡ parts.links.now) };
+}
+
+impl<'l, 'a, A: Allocator + Copy> Parts<'l, 'a, A> {
+    fn of(alloc: A, level: &'l Level<'a>) -> Result<Parts<'l, 'a, A>, AllocError>
+        ensures { IfOk result (λ parts. parts ≡ level.now) }
+    {
+        let nodes = Nodes::of(alloc, level)?;
+        Ok(Parts {
+            links: level,
+            nodes,
+            tables: Tables::of(level),
+        })
+    }
+}
+
+impl<'l, 'a, A: Allocator> Searched for Parts<'l, 'a, A> {
+    ghost use Rattle.map_audit.specs.Findings.{AuditHolds};
+
+    ghost holds = { AuditHolds };
+}
+
+impl<'l, 'a, A: Allocator> Search for Parts<'l, 'a, A> {
+    fn first(&self, code: Code, from: u32) -> Option<u32> {
+        match part_of(code) {
+            Part::Links => self.links.first(code, from),
+            Part::Nodes => self.nodes.first(code, from),
+            Part::Tables => self.tables.first(code, from),
+        }
+    }
+}
+
+// What looks for a code.
+#[derive(Clone, Copy)]
+enum Part {
+    Links,
+    Nodes,
+    Tables,
+}
+
+// The part that looks for a code. The links' looks for F1 and F2, too, which hold of no level.
+fn part_of(code: Code) -> Part
+    ensures { result ≡ part_of code }
 {
-    let tables = table_findings(alloc, level)?;
-    Report::of(alloc, level, links, nodes, &tables)
+    match code {
+        Code::F11 | Code::F12 | Code::F13 | Code::F14 | Code::F15 | Code::F16 | Code::N7 => {
+            Part::Nodes
+        }
+        Code::N8 | Code::N9 | Code::N10 => Part::Tables,
+        _ => Part::Links,
+    }
 }

@@ -6,6 +6,6 @@ mod auditing;
 pub mod laws;
 mod report;
 
-pub use acceptance::{Refused, accept};
+pub use acceptance::{Refused, accept, sound_tree};
 pub use auditing::audit;
 pub use report::Report;

@@ -1,5 +1,5 @@
 -- Findings of a level, and the order in which a report has them.
-use Rattle.std.specs.Prelude.{◌≡◌, ℕ, ◌<◌, ◌⊎◌, ◌↔◌, Bool, nat_lt, List, AllPairs, Contains}
+use Rattle.std.specs.Prelude.{◌≡◌, ℕ, ◌<◌, ◌≤◌, ◌⊎◌, ◌↔◌, Bool, IsTrue, nat_lt, List, AllPairs, Contains}
 use Rattle.map_level.specs.declared.finding.Code.{Code}
 use Rattle.map_level.specs.declared.finding.Code.TheVariants.{F1, F2, F3, F4, F5, F6, F7, F8, F9, F10, F11, F12, F13, F14, F15, F16, F17, F18, N1, N2, N3, N4, N5, N6, N7, N8, N9, N10, N11, N12}
 use Rattle.map_level.specs.declared.finding.Finding.{Finding}
@@ -37,6 +37,10 @@ place N10 = 27
 place N11 = 28
 place N12 = 29
 
+-- how many codes there are
+abbrev pub code_count : ℕ
+code_count = 30
+
 -- the F codes
 abbrev pub is_fault : Code → Bool
 is_fault code = nat_lt (place code) (place N1)
@@ -58,3 +62,13 @@ pub record AreFindingsBelow (holds : Code → ℕ → Type 0) (at index : ℕ)
   pub exact : (f : Finding)
       → Contains found f
       ↔ (holds f.code f.index × ((place f.code < at) ⊎ ((place f.code ≡ at) × (f.index < index))))
+
+-- an index is the first from one on at which a code holds
+pub record IsFirst (holds : ℕ → Type 0) (from at : ℕ) : Type 0 where
+  pub within : from ≤ at
+  pub here : holds at
+  pub before : (i : ℕ) → from ≤ i → i < at → ¬ holds i
+
+-- no fault holds
+abbrev pub NoFaultHolds : (Code → ℕ → Type 0) → Type 0
+NoFaultHolds holds = (code : Code) (i : ℕ) → IsTrue (is_fault code) → ¬ holds code i

@@ -97,7 +97,7 @@ pub struct Finding {
 }
 
 /// Findings, in the order in which they were added.
-#[derive(Drop)]
+#[derive(Debug, Drop)]
 pub struct Findings<A: Allocator = Global> {
     list: Vec<Finding, A>,
 }

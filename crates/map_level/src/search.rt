@@ -1,7 +1,7 @@
-//! The search for findings, code by code: one loop over the indexes at which a code may hold.
+//! The search for findings, code by code: where a code holds next, and the one walk over all codes that makes a list of it.
 
-ghost use Rattle.std.specs.Prelude.{◌+◌, ◌<◌, ◌≤◌, ◌↔◌, ℕ, Bool, true, false, IfNone, IfSome, IsTrue, OnOk};
-ghost use Rattle.map_level.specs.Findings.{place, AreFindingsBelow};
+ghost use Rattle.std.specs.Prelude.{◌+◌, ◌<◌, ◌≤◌, ◌^◌, ◌↔◌, ℕ, Bool, IfNone, IfOk, IfSome, IsTrue, OnOk};
+ghost use Rattle.map_level.specs.Findings.{place, is_fault, AreFindings, AreFindingsBelow, IsFirst, NoFaultHolds};
 
 use crate::finding::{Code, Finding, Findings};
 use std::alloc::{AllocError, Allocator};
@@ -15,8 +15,20 @@ pub trait Searched {
     ghost holds: { Self → Code → ℕ → Type 0 };
 }
 
-/// The codes in the order of a report.
-pub const CODES: [Code; 30] = [
+/// What tells where codes hold.
+pub trait Search: Searched {
+    /// The first index from one on at which a code holds.
+    fn first(&self, code: Code, from: u32) -> Option<u32>
+        ensures some { IfSome result (IsFirst (Self.holds self.now code) from) }
+        ensures none { IfNone result ((i : ℕ) → from ≤ i → ¬ Self.holds self.now code i) }
+        ensures below { IfSome result (λ at. at + 1 < 2 ^ 32) };
+}
+
+// How many codes there are.
+const CODE_COUNT: usize = 30;
+
+// The codes in the order of a report.
+const CODES: [Code; CODE_COUNT] = [
     Code::F1,
     Code::F2,
     Code::F3,
@@ -49,45 +61,80 @@ pub const CODES: [Code; 30] = [
     Code::N12,
 ];
 
-/// Adds the findings of a code, which are at the indexes below a count at which a test answers
-/// true, to those of all codes before it.
-pub fn add_where<T: Searched, A: Allocator, F: Fn(u32) -> bool>(
-    found: &mut Findings<A>,
+/// The first index from one on at which a code holds: below a count, and where a test answers true. It writes nothing,
+/// so that what the test reads of a level is read once.
+#[inline(always)]
+pub fn first_where<T: Searched, F: Fn(u32) -> bool>(
     searched: &T,
     code: Code,
+    from: u32,
     count: u32,
     test: F,
-) -> Result<(), AllocError>
+) -> Option<u32>
     requires callable { F.IsAlwaysCallable test }
     requires tells { (i : ℕ) (b : Bool)
         → F.post test i b → (IsTrue b ↔ T.holds searched.now code i) }
     requires most { (i : ℕ) → T.holds searched.now code i → i < count }
-    requires before { AreFindingsBelow (T.holds searched.now) (place code) 0 found.old }
-    ensures { OnOk result (AreFindingsBelow (T.holds searched.now) (place code + 1) 0 found.new) }
+    ensures some { IfSome result (IsFirst (T.holds searched.now code) from) }
+    ensures none { IfNone result ((i : ℕ) → from ≤ i → ¬ T.holds searched.now code i) }
+    ensures below { IfSome result (λ at. at + 1 < 2 ^ 32) }
 {
     // Only the clauses speak of what is searched.
     let _searched = searched;
-    let mut from = 0;
-    'finds: while let Some(index) = first_where(from, count, &test) {
-        found.push(Finding { code, index })?;
-        from = index + 1;
-    }
-    Ok(())
-}
-
-// The first index from one on, below a count, at which a test answers true. It writes nothing, so that what the test
-// reads of the level is read once.
-#[inline(always)]
-fn first_where<F: Fn(u32) -> bool>(from: u32, count: u32, test: &F) -> Option<u32>
-    requires { F.IsAlwaysCallable test.now }
-    ensures found { IfSome result (λ at. (from ≤ at) × (at < count) × F.post test.now at true) }
-    ensures before { IfSome result (λ at. (i : ℕ) → from ≤ i → i < at → F.post test.now i false) }
-    ensures none { IfNone result ((i : ℕ) → from ≤ i → i < count → F.post test.now i false) }
-{
     for index in from..count {
         if test(index) {
             return Some(index);
         }
     }
     None
+}
+
+/// All findings of what is searched, by code and then by index.
+pub fn all_findings<T: Search, A: Allocator>(
+    alloc: A,
+    searched: &T,
+) -> Result<Findings<A>, AllocError>
+    ensures { IfOk result (AreFindings (T.holds searched.now)) }
+{
+    let mut found = Findings::new(alloc);
+    for code in CODES {
+        add_code(&mut found, searched, code)?;
+    }
+    Ok(found)
+}
+
+// Adds the findings of a code to those of all codes before it.
+fn add_code<T: Search, A: Allocator>(
+    found: &mut Findings<A>,
+    searched: &T,
+    code: Code,
+) -> Result<(), AllocError>
+    requires { AreFindingsBelow (T.holds searched.now) (place code) 0 found.old }
+    ensures { OnOk result (AreFindingsBelow (T.holds searched.now) (place code + 1) 0 found.new) }
+{
+    let mut from = 0;
+    'finds: while let Some(index) = searched.first(code, from) {
+        found.push(Finding { code, index })?;
+        from = index + 1;
+    }
+    Ok(())
+}
+
+/// Whether no fault holds of what is searched. It stops at the first one, and takes no memory.
+pub fn has_no_fault<T: Search>(searched: &T) -> bool
+    ensures { IsTrue result ↔ NoFaultHolds (T.holds searched.now) }
+{
+    for code in CODES {
+        if !is_no_fault(searched, code) {
+            return false;
+        }
+    }
+    true
+}
+
+// Whether a code is no fault that holds.
+fn is_no_fault<T: Search>(searched: &T, code: Code) -> bool
+    ensures { IsTrue result ↔ (IsTrue (is_fault code) → (i : ℕ) → ¬ T.holds searched.now code i) }
+{
+    !code.is_fault() || searched.first(code, 0).is_none()
 }

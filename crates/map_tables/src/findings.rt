@@ -6,7 +6,7 @@ ghost use Rattle.map_tables.specs.TableFaults.{TableHolds, RejectSizeDiffers, Bl
 ghost use Rattle.map_tables.specs.TableFaults.{BlockFaulty};
 
 use crate::block_map::BlockMap;
-use map_level::search::{Searched, add_where};
+use map_level::search::{Search, Searched, all_findings, first_where};
 use map_level::{Code, Findings, Level};
 use std::alloc::{AllocError, Allocator};
 use std::marker::Model;
@@ -15,30 +15,12 @@ use std::marker::Model;
 pub fn table_findings<A: Allocator>(alloc: A, level: &Level<'_>) -> Result<Findings<A>, AllocError>
     ensures { IfOk result (AreFindings (TableHolds level.now)) }
 {
-    let tables = Tables::of(level);
-    let offsets = tables.offset_count();
-    let mut found = Findings::new(alloc);
-    add_where(
-        &mut found,
-        &tables,
-        Code::N8,
-        1,
-        |i| tables.reject_size_differs(i),
-    )?;
-    add_where(&mut found, &tables, Code::N9, 1, |i| tables.is_short(i))?;
-    add_where(
-        &mut found,
-        &tables,
-        Code::N10,
-        offsets,
-        |n| tables.is_faulty_block(n),
-    )?;
-    Ok(found)
+    all_findings(alloc, &Tables::of(level))
 }
 
-// A level, and its blockmap if it has one.
+/// A level whose REJECT and BLOCKMAP are looked at: the BLOCKMAP, where there is one, was scanned once for its last end word.
 #[derive(Drop)]
-struct Tables<'l, 'a> {
+pub struct Tables<'l, 'a> {
     level: &'l Level<'a>,
     map: Option<BlockMap<'a>>,
 }
@@ -62,8 +44,26 @@ impl<'l, 'a> Searched for Tables<'l, 'a> {
     ghost holds = { TableHolds };
 }
 
+impl<'l, 'a> Search for Tables<'l, 'a> {
+    fn first(&self, code: Code, from: u32) -> Option<u32> {
+        match code {
+            Code::N8 => first_where(self, code, from, 1, |i| self.reject_size_differs(i)),
+            Code::N9 => first_where(self, code, from, 1, |i| self.is_short(i)),
+            Code::N10 => first_where(
+                self,
+                code,
+                from,
+                self.offset_count(),
+                |n| self.is_faulty_block(n),
+            ),
+            _ => None,
+        }
+    }
+}
+
 impl<'l, 'a> Tables<'l, 'a> {
-    fn of(level: &'l Level<'a>) -> Tables<'l, 'a>
+    /// The two lumps of a level.
+    pub fn of(level: &'l Level<'a>) -> Tables<'l, 'a>
         ensures { result ≡ level.now }
     {
         let map = BlockMap::of(level.blockmap(), level.reading());

@@ -11,5 +11,5 @@ mod words;
 
 pub use block_lines::BlockLines;
 pub use block_map::{BlockFault, BlockMap};
-pub use findings::table_findings;
+pub use findings::{Tables, table_findings};
 pub use reject::Reject;

@@ -1,12 +1,8 @@
 -- The laws of sound levels.
-use Rattle.std.proofs.Common.{◌≡◌, ℕ, List, [], length, get_or, refl, sym, ap, ◌∙◌, subst, inl, inr, Some, IsTrue, false, arith}
-use Rattle.std.specs.Prelude.{◌↔◌, All}
-use Rattle.std.proofs.lemmas.Bool.{false≢true, false_from_ne_true}
-use Rattle.std.proofs.lemmas.List.Elements.{All-contains, Contains-get_or}
+use Rattle.std.proofs.Common.{◌≡◌, ℕ, List, [], length, refl, ap, ◌∙◌, subst, inl, inr, Some, arith}
+use Rattle.std.specs.Prelude.{◌↔◌}
 use Rattle.map_level.specs.Level.{Level}
-use Rattle.map_level.specs.declared.finding.Code.{Code}
-use Rattle.map_level.specs.declared.finding.Finding.{Finding}
-use Rattle.map_level.specs.Findings.{is_fault, AreFindings}
+use Rattle.map_level.specs.Findings.{NoFaultHolds}
 use Rattle.map_level.specs.LinkFaults.{LinkHolds}
 use Rattle.map_tree.specs.TreeFaults.{TreeHolds}
 use Rattle.map_tree.specs.Sound.{IsSound}
@@ -78,29 +74,14 @@ law_one_counting level sector rect sound tells =
 pub law_counts : CountsAddUp
 law_counts sector rect pairs are = counts_total sector rect pairs are
 
--- a level is sound exactly where neither part of its report has a fault
-none_holds : (holds : Code → ℕ → Type 0) (found : List Finding) → AreFindings holds found → All (λ f. is_fault f.code ≡ false) found
-    → (code : Code) (i : ℕ) → IsTrue (is_fault code) → ¬ holds code i
-none_holds holds found are none code i fault h =
-    let f : Finding = record { code = code; index = i } in
-    false≢true (sym (All-contains (λ (g : Finding). is_fault g.code ≡ false) found f none ((are.exact f).1 h)) ∙ fault)
-
-none_found : (holds : Code → ℕ → Type 0) (found : List Finding) → AreFindings holds found → ((code : Code) (i : ℕ) → IsTrue (is_fault code) → ¬ holds code i)
-    → All (λ f. is_fault f.code ≡ false) found
-none_found holds found are none = λ k d below.
-    let f = get_or found k d in
-    false_from_ne_true (is_fault f.code) (λ fault. none f.code f.index fault ((are.exact f).0 (Contains-get_or found k d below)))
-
-pub sound_by_findings : (level : Level) (links nodes : List Finding) → AreFindings (LinkHolds level) links → AreFindings (TreeHolds level) nodes
-    → IsSound level ↔ (All (λ f. is_fault f.code ≡ false) links × All (λ f. is_fault f.code ≡ false) nodes)
-sound_by_findings level links nodes are_links are_nodes = (
+-- a level is sound exactly where neither its links nor its nodes have a fault
+pub sound_by_parts : (level : Level) → IsSound level ↔ (NoFaultHolds (LinkHolds level) × NoFaultHolds (TreeHolds level))
+sound_by_parts level = (
   (λ sound.
-      let none = faultless_from_sound level sound in (
-        none_found (LinkHolds level) links are_links (λ code i fault h. none code i fault (inl h)),
-        none_found (TreeHolds level) nodes are_nodes (λ code i fault h. none code i fault (inr h)),
-      )),
+      let none = faultless_from_sound level sound in
+      ((λ code i fault h. none code i fault (inl h)), (λ code i fault h. none code i fault (inr h)))),
   (λ none. sound_from_faultless level (λ code i fault h. elim h [
-    | inl link ↦ none_holds (LinkHolds level) links are_links none.0 code i fault link
-    | inr tree ↦ none_holds (TreeHolds level) nodes are_nodes none.1 code i fault tree
+    | inl link ↦ none.0 code i fault link
+    | inr tree ↦ none.1 code i fault tree
   ])),
 )

@@ -21,4 +21,4 @@ pub use pieces::points_in;
 pub use sector_tree::SectorTree;
 pub use soundness::is_sound;
 pub use tree::Tree;
-pub use tree_codes::tree_findings;
+pub use tree_codes::{Nodes, tree_findings};

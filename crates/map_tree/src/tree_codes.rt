@@ -1,7 +1,7 @@
 //! The tree part of a report.
 
-ghost use Rattle.std.specs.Prelude.{◌+◌, IfOk, OnOk};
-ghost use Rattle.map_level.specs.Findings.{place, AreFindings, AreFindingsBelow};
+ghost use Rattle.std.specs.Prelude.{◌≡◌, ◌+◌, ◌<◌, ◌≤◌, ◌^◌, ℕ, IfNone, IfOk, IfSome};
+ghost use Rattle.map_level.specs.Findings.{AreFindings, IsFirst};
 ghost use Rattle.map_tree.specs.TreeFaults.{TreeHolds};
 ghost use Rattle.map_tree.specs.WordCounts.{AreWordCounts};
 ghost use Rattle.map_tree.specs.Marks.{AreReached};
@@ -13,9 +13,10 @@ use crate::tree_faults::{
     ssector_named_twice, ssector_not_reached,
 };
 use crate::words::word_counts;
-use map_level::search::{CODES, add_where};
+use map_level::search::{Search, Searched, all_findings, first_where};
 use map_level::{Code, Findings, Level};
-use std::alloc::{AllocError, Allocator};
+use std::alloc::{AllocError, Allocator, Global};
+use std::marker::Model;
 
 /// The findings on a level's nodes, F11 to F16 and N7, by code and then by index.
 ///
@@ -27,62 +28,98 @@ pub fn tree_findings<A: Allocator + Copy>(
 ) -> Result<Findings<A>, AllocError>
     ensures { IfOk result (AreFindings (TreeHolds level.now)) }
 {
-    let places = Places::of(level);
-    let counts = word_counts(alloc, &places)?;
-    let reached = reached_places(alloc, &places)?;
-    all_findings(alloc, &places, &counts, &reached)
+    let nodes = Nodes::of(alloc, level)?;
+    all_findings(alloc, &nodes)
 }
 
-fn all_findings<A: Allocator>(
-    alloc: A,
-    places: &Places<'_, '_>,
-    counts: &[u8],
-    reached: &[bool],
-) -> Result<Findings<A>, AllocError>
-    requires counts { AreWordCounts places.now counts.now }
-    requires reached { AreReached places.now reached.now }
-    ensures { IfOk result (AreFindings (TreeHolds places.now)) }
-{
-    let mut found = Findings::new(alloc);
-    for code in CODES {
-        add_code(&mut found, places, counts, reached, code)?;
+/// A level whose nodes are looked at: how many child words name each node and ssector, and which are reached.
+#[derive(Drop)]
+pub struct Nodes<'l, 'a, A: Allocator = Global> {
+    places: Places<'l, 'a>,
+    counts: Vec<u8, A>,
+    reached: Vec<bool, A>,
+}
+
+impl<'l, 'a, A: Allocator> Model for Nodes<'l, 'a, A> {
+    ghost use Rattle.map_level.specs.Level.{Level};
+    ghost use Rattle.map_tree.specs.Marks.{AreReached};
+    ghost use Rattle.map_tree.specs.WordCounts.{AreWordCounts};
+
+    ghost Value = { Level };
+
+    ghost view = { λ nodes. nodes.places };
+
+    ghost invariant = { λ nodes. AreWordCounts nodes.places nodes.counts.items
+        × AreReached nodes.places nodes.reached.items };
+}
+
+impl<'l, 'a, A: Allocator + Copy> Nodes<'l, 'a, A> {
+    /// The nodes of a level: two bytes for each node and ssector, and while they are visited four for each place that
+    /// waits.
+    pub fn of(alloc: A, level: &'l Level<'a>) -> Result<Nodes<'l, 'a, A>, AllocError>
+        ensures { IfOk result (λ nodes. nodes ≡ level.now) }
+    {
+        let places = Places::of(level);
+        let counts = word_counts(alloc, &places)?;
+        let reached = reached_places(alloc, &places)?;
+        Ok(Nodes {
+            places,
+            counts,
+            reached,
+        })
     }
-    Ok(found)
 }
 
-// Adds the findings of a code to those of all codes before it.
-fn add_code<A: Allocator>(
-    found: &mut Findings<A>,
+impl<'l, 'a, A: Allocator> Searched for Nodes<'l, 'a, A> {
+    ghost use Rattle.map_tree.specs.TreeFaults.{TreeHolds};
+
+    ghost holds = { TreeHolds };
+}
+
+impl<'l, 'a, A: Allocator> Search for Nodes<'l, 'a, A> {
+    fn first(&self, code: Code, from: u32) -> Option<u32> {
+        first_at(&self.places, &self.counts, &self.reached, code, from)
+    }
+}
+
+// The first index from one on at which a code holds.
+fn first_at(
     places: &Places<'_, '_>,
     counts: &[u8],
     reached: &[bool],
     code: Code,
-) -> Result<(), AllocError>
+    from: u32,
+) -> Option<u32>
     requires counts { AreWordCounts places.now counts.now }
     requires reached { AreReached places.now reached.now }
-    requires before { AreFindingsBelow (TreeHolds places.now) (place code) 0 found.old }
-    ensures { OnOk result (AreFindingsBelow (TreeHolds places.now) (place code + 1) 0 found.new) }
+    ensures some { IfSome result (IsFirst (TreeHolds places.now code) from) }
+    ensures none { IfNone result ((i : ℕ) → from ≤ i → ¬ TreeHolds places.now code i) }
+    ensures below { IfSome result (λ at. at + 1 < 2 ^ 32) }
 {
     let nodes = places.nodes() as u32;
     let ssectors = places.ssectors() as u32;
     match code {
-        Code::F11 => add_where(found, places, code, nodes, |n| {
-            child_names_nothing(places, n)
-        }),
-        Code::F12 => add_where(found, places, code, nodes, |n| origin_outside(places, n)),
-        Code::F13 => add_where(found, places, code, nodes, |n| {
+        Code::F11 => first_where(
+            places,
+            code,
+            from,
+            nodes,
+            |n| child_names_nothing(places, n),
+        ),
+        Code::F12 => first_where(places, code, from, nodes, |n| origin_outside(places, n)),
+        Code::F13 => first_where(places, code, from, nodes, |n| {
             node_named_twice(places, counts, n)
         }),
-        Code::F14 => add_where(found, places, code, nodes, |n| {
+        Code::F14 => first_where(places, code, from, nodes, |n| {
             node_not_reached(places, reached, n)
         }),
-        Code::F15 => add_where(found, places, code, ssectors, |t| {
+        Code::F15 => first_where(places, code, from, ssectors, |t| {
             ssector_named_twice(places, counts, t)
         }),
-        Code::F16 => add_where(found, places, code, ssectors, |t| {
+        Code::F16 => first_where(places, code, from, ssectors, |t| {
             ssector_not_reached(places, reached, t)
         }),
-        Code::N7 => add_where(found, places, code, nodes, |n| no_direction(places, n)),
-        _ => add_where(found, places, code, 0, |_| false),
+        Code::N7 => first_where(places, code, from, nodes, |n| no_direction(places, n)),
+        _ => None,
     }
 }

@@ -4,6 +4,7 @@ use Rattle.std.specs.Prelude.{Contains, count_by}
 use Rattle.std.proofs.lemmas.List.Elements.{Contains-append_right}
 use Rattle.std.proofs.lemmas.List.Recursion.{is_count_by}
 use Rattle.le_rec.specs.Name.{query_of}
+use Rattle.map_audit.proofs.ReportLemmas.{faults_counted}
 use Rattle.map_audit.specs.Findings.{AuditHolds}
 use Rattle.map_level.specs.Findings.{is_fault}
 use Rattle.map_level.specs.Level.{Level}
@@ -19,34 +20,6 @@ use Rattle.wad_dir.proofs.ReadingLemmas.{IsDirectory-one}
 use Rattle.wad_look.specs.Engines.Audit.{AreLevelFindings, IsLumpFinding, fault_count}
 use Rattle.wad_look.specs.Laws.{FaultlessIsNoFault}
 use Rattle.wad_look.specs.Opening.{AreRead, IsOpened}
-
--- how many pass a test
-counted : {X : Type 0} → (X → Bool) → List X → ℕ
-counted p [] = 0
-counted p (x ∷ xs) = cond (p x) (1 + counted p xs) (counted p xs)
-
-counted-is : {X : Type 0} (p : X → Bool) (xs : List X) → counted p xs ≡ count_by p xs
-unfolding counted
-counted-is p xs = is_count_by (counted p) p refl (λ x rest. refl) xs
-
-none_counted : {X : Type 0} (p : X → Bool) (xs : List X) → ((x : X) → Contains xs x → p x ≡ false) → counted p xs ≡ 0
-unfolding counted
-none_counted p [] none = refl
-none_counted p (x ∷ xs) none = rw (none x (0, omega arith, refl)) (none_counted p xs (λ z there. none z (Contains-append_right (x ∷ []) xs z there)))
-
-some_counted : {X : Type 0} (p : X → Bool) (xs : List X) (k : ℕ) (x : X) → k < length xs → get_or xs k x ≡ x → p x ≡ true → counted p xs ≡ 0 → ⊥
-unfolding counted
-some_counted p [] k x below at passes zeros = omega (arith, below)
-some_counted p (y ∷ ys) zero x below at passes zeros = let first : p y ≡ true = ap p at ∙ passes in let one = rw first at zeros in omega (arith, one)
-some_counted p (y ∷ ys) (suc k) x below at passes zeros = go (p y) zeros (λ rest. some_counted p ys k x (omega (arith, below)) at passes rest)
-  where
-    go : (b : Bool) → cond b (1 + counted p ys) (counted p ys) ≡ 0 → (counted p ys ≡ 0 → ⊥) → ⊥
-    go true some behind = omega (arith, some)
-    go false rest behind = behind rest
-
-not_true : (b : Bool) → (IsTrue b → ⊥) → b ≡ false
-not_true true fails = absurd (fails refl)
-not_true false fails = refl
 
 -- files are read in one way
 one_wad : (a b : Wad) → a.bytes ≡ b.bytes → IsRead a → IsRead b → a ≡ b
@@ -76,20 +49,14 @@ module _ (bytes : List (List ℕ)) (asked : List ℕ) (reading : Reading) (findi
   NoFault = (level : Level) × IsOpened bytes asked reading level × ((code : Code) (i : ℕ) → IsTrue (is_fault code) → ¬ AuditHolds level code i)
 
   of_level : AreLevelFindings bytes asked reading findings → (fault_count findings ≡ 0) ↔ NoFault
-  of_level a = (
-    λ zeros. (
-      a.level,
-      a.opened,
-      λ code i fault holds.
-          let there = (a.are.exact (record { code = code; index = i })).1 holds in
-          some_counted (λ (f : Finding). is_fault f.code) findings there.0 (record { code = code; index = i }) there.1 there.2 fault (counted-is _ findings ∙ zeros),
-    ),
-    λ none.
-        let files = AreRead-one bytes none.1.files a.opened.files none.1.read a.opened.read in
-        let same : none.0 ≡ a.level = IsLevel-one a.opened.files (query_of asked) reading none.0 a.level (rw files at none.1.opened) a.opened.opened in
-        sym (counted-is _ findings) ∙ none_counted (λ (f : Finding). is_fault f.code) findings (λ f there.
-        not_true (is_fault f.code) (λ fault. none.2 f.code f.index fault (rw (← same) at ((a.are.exact f).0 there)))),
-  )
+  of_level a =
+      let counted = faults_counted (AuditHolds a.level) findings a.are in (
+        λ zeros. (a.level, a.opened, counted.0 zeros),
+        λ none.
+            let files = AreRead-one bytes none.1.files a.opened.files none.1.read a.opened.read in
+            let same : none.0 ≡ a.level = IsLevel-one a.opened.files (query_of asked) reading none.0 a.level (rw files at none.1.opened) a.opened.opened in
+            counted.1 (λ code i fault holds. none.2 code i fault (rw (← same) at holds)),
+      )
 
   no_level : (files : List Wad) (why : LevelFault) → AreRead bytes files → RefusesLevel files (query_of asked) why → NoFault → ⊥
   no_level files why read refuses none =

@@ -1,17 +1,12 @@
 use Rattle.std.proofs.Common.{rules}
-use Rattle.map_tree.proofs.LawLemmas.{sound_by_findings}
+use Rattle.map_level.specs.Findings.{NoFaultHolds}
+use Rattle.map_level.specs.LinkFaults.{LinkHolds}
+use Rattle.map_tree.proofs.LawLemmas.{sound_by_parts}
 use Rattle.map_tree.proofs.soundness.is_sound.Goals as goal
 
-pub returns-then-has_no_fault : goal.returns-then-has_no_fault
-returns-then-has_no_fault g c =
-    let told =
-    sound_by_findings c.args.level.now c.args.links.now c.args.nodes.now c.requires.links
-    c.requires.nodes in
-    search (rules, told)
-
-pub returns-else-has_no_fault : goal.returns-else-has_no_fault
-returns-else-has_no_fault g c =
-    let told =
-    sound_by_findings c.args.level.now c.args.links.now c.args.nodes.now c.requires.links
-    c.requires.nodes in
-    search (rules, told)
+pub returns : goal.returns
+returns g c =
+    let parts = sound_by_parts c.args.level.now in
+    let links : NoFaultHolds (LinkHolds c.args.level.now) = c.has_no_fault.ensures.0 (search rules) in
+    let nodes = rw c.in_ok-nodes.ensures at c.has_no_fault-2.ensures in
+    ((λ none. parts.1 (links, nodes.0 none)), (λ sound. nodes.1 (parts.0 sound).1))

@@ -8,7 +8,7 @@ ghost use Rattle.wad_look.specs.declared.fault.RunFault.TheVariants as fault;
 
 use crate::fault::RunFault;
 use le_rec::Name8;
-use map_audit::{Refused, accept};
+use map_audit::sound_tree;
 use map_level::{Level, Reading};
 use map_tree::SectorTree;
 use std::alloc::Allocator;
@@ -56,12 +56,12 @@ pub fn sector_tree<'l, 'a, A: Allocator + Copy>(
     ensures ok { IfOk result (λ tree. (tree ≡ level.now) × IsSound level.now) }
     ensures err { IfErr result (RefusesAudit level.now) }
 {
-    match accept(alloc, level) {
-        Ok(tree) => match SectorTree::of(alloc, tree) {
+    match sound_tree(alloc, level) {
+        Ok(Some(tree)) => match SectorTree::of(alloc, tree) {
             Ok(tree) => Ok(tree),
             Err(_) => Err(RunFault::Memory),
         },
-        Err(Refused::Faults(_report)) => Err(RunFault::Audit),
-        Err(Refused::Memory) => Err(RunFault::Memory),
+        Ok(None) => Err(RunFault::Audit),
+        Err(_) => Err(RunFault::Memory),
     }
 }

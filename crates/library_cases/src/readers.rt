@@ -3,10 +3,12 @@
 use le_rec::{EndFault, FromRead, Source};
 use std::io;
 use std::io::Read;
+use std::process::Abort;
 
 // Its first read fails, and each later one gives what there is room for.
 #[derive(Drop)]
 struct FailsOnce {
+    kind: io::ErrorKind,
     has_failed: bool,
 }
 
@@ -16,7 +18,23 @@ impl Read for FailsOnce {
             return Ok(buf.len());
         }
         self.has_failed = true;
-        Err(io::Error::from(io::ErrorKind::Other))
+        Err(io::Error::from(self.kind))
+    }
+}
+
+// Its first read gives no byte, and each later one gives what there is room for.
+#[derive(Drop)]
+struct GivesNoneOnce {
+    has_given_none: bool,
+}
+
+impl Read for GivesNoneOnce {
+    fn read(&mut self, buf: &mut [u8]) -> io::Result<usize> {
+        if self.has_given_none {
+            return Ok(buf.len());
+        }
+        self.has_given_none = true;
+        Ok(0)
     }
 }
 
@@ -36,12 +54,35 @@ fn a_reader_is_pulled_to_its_end(rt: HostRuntime) {
     assert!(rt; !source.failed());
 }
 
-#[test]
-fn a_failed_read_is_a_failed_pull(rt: HostRuntime) {
-    let mut source = FromRead::new(FailsOnce { has_failed: false });
+// A reader whose first read fails is read once for the pull that fails.
+fn check_failed_pull(rt: &impl Abort, kind: io::ErrorKind) {
+    let mut source = FromRead::new(FailsOnce {
+        kind,
+        has_failed: false,
+    });
     assert!(rt; !source.failed());
     assert_eq!(rt; source.pull(&mut [0; 3]), Err(EndFault));
     assert!(rt; source.failed());
     assert_eq!(rt; two_pulls(&mut source), Some(6));
     assert!(rt; source.failed());
+}
+
+#[test]
+fn a_failed_read_is_a_failed_pull(rt: HostRuntime) {
+    check_failed_pull(&rt, io::ErrorKind::Other);
+}
+
+#[test]
+fn an_interrupted_read_is_a_failed_pull(rt: HostRuntime) {
+    check_failed_pull(&rt, io::ErrorKind::Interrupted);
+}
+
+#[test]
+fn a_read_of_no_bytes_is_a_pull_of_none(rt: HostRuntime) {
+    let mut source = FromRead::new(GivesNoneOnce {
+        has_given_none: false,
+    });
+    assert_eq!(rt; source.pull(&mut [0; 3]), Ok(0));
+    assert!(rt; !source.failed());
+    assert_eq!(rt; two_pulls(&mut source), Some(6));
 }

@@ -3,10 +3,12 @@
 use le_rec::{EndFault, Sink, ToWrite};
 use std::io;
 use std::io::Write;
+use std::process::Abort;
 
 // Its first write fails, and each later one takes all.
 #[derive(Drop)]
 struct FailsOnce {
+    kind: io::ErrorKind,
     has_failed: bool,
 }
 
@@ -16,7 +18,7 @@ impl Write for FailsOnce {
             return Ok(bytes.len());
         }
         self.has_failed = true;
-        Err(io::Error::from(io::ErrorKind::Other))
+        Err(io::Error::from(self.kind))
     }
 
     fn flush(&mut self) -> io::Result<()> {
@@ -41,14 +43,27 @@ fn a_writer_that_takes_none_has_failed(rt: HostRuntime) {
     assert!(rt; sink.failed());
 }
 
-#[test]
-fn a_failed_write_is_a_failed_put(rt: HostRuntime) {
-    let mut sink = ToWrite::new(FailsOnce { has_failed: false });
+// A writer whose first write fails is written to once for the put that fails.
+fn check_failed_put(rt: &impl Abort, kind: io::ErrorKind) {
+    let mut sink = ToWrite::new(FailsOnce {
+        kind,
+        has_failed: false,
+    });
     assert!(rt; !sink.failed());
     assert_eq!(rt; sink.put(b"0 5"), Err(EndFault));
     assert!(rt; sink.failed());
     assert_eq!(rt; two_puts(&mut sink, b"0 5"), Some(6));
     assert!(rt; sink.failed());
+}
+
+#[test]
+fn a_failed_write_is_a_failed_put(rt: HostRuntime) {
+    check_failed_put(&rt, io::ErrorKind::Other);
+}
+
+#[test]
+fn an_interrupted_write_is_a_failed_put(rt: HostRuntime) {
+    check_failed_put(&rt, io::ErrorKind::Interrupted);
 }
 
 #[test]

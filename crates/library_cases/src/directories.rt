@@ -1,7 +1,7 @@
 //! Directories and lumps of files of a few bytes.
 
 use le_rec::Name8;
-use std::alloc::Allocator;
+use std::alloc::{Allocator, Global};
 use std::fmt::Display;
 use std::process::Abort;
 use std::test::Fail;
@@ -133,16 +133,21 @@ fn fault_texts(rt: HostRuntime) -> Result<(), Fail> {
     check_text(&rt, SetFault::File(2, WadFault::Short), "file 2: 1 short")
 }
 
+// A file of entries of these names, each of no bytes.
+fn file_of_names(alloc: Global, names: &[[u8; 8]]) -> Result<Vec<u8>, Fail> {
+    let mut packer = Packer::new(alloc);
+    for name in names {
+        packer.add(Name8::stored(*name), &[])?;
+    }
+    Ok(packer.pack(alloc)?)
+}
+
 #[test]
 fn last_label_wins(rt: HostRuntime) -> Result<(), Fail> {
-    let label = Name8::query(b"E1M1");
-    let mut first = Packer::new(rt.alloc());
-    first.add(label, &[])?;
-    let mut second = Packer::new(rt.alloc());
-    second.add(label, &[])?;
-    second.add(label, &[])?;
-    second.add(Name8::stored([101, 49, 109, 49, 0, 0, 0, 0]), &[])?;
-    let files = vec![in rt.alloc(); first.pack(rt.alloc())?, second.pack(rt.alloc())?]?;
+    let label = *b"E1M1\0\0\0\0";
+    let first = file_of_names(rt.alloc(), &[label])?;
+    let second = file_of_names(rt.alloc(), &[label, label, *b"e1m1\0\0\0\0"])?;
+    let files = vec![in rt.alloc(); first, second]?;
     let set = Set::new(rt.alloc(), &files)?;
     assert_eq!(rt; set.total(), 4);
     assert_eq!(rt; set.find(Name8::query(b"e1m1")), Some(2));

@@ -65,10 +65,16 @@ fn writer_fails(rt: HostRuntime) -> Result<(), Fail> {
     for n in 1..71u32 {
         let mut room = [0; 100];
         let mut out = SliceSink::new(&mut room).at_most(1).failing_at(n);
-        let mut source = SliceSource::new(INPUT);
+        let mut source = SliceSource::new(INPUT).at_most(1);
         let result = run(&rt, rt.alloc(), &files, &mut source, LIMIT, &mut out);
         assert_eq!(rt; result, Err(RunFault::Write));
         assert_eq!(rt; Some(out.taken()), TEXT.get(..n as usize - 1));
+        let pulled = match n {
+            0..24 => 4,
+            24..47 => 8,
+            _ => 13,
+        };
+        assert_eq!(rt; source.left().len(), INPUT.len() - pulled);
     }
     Ok(())
 }
@@ -89,6 +95,7 @@ fn reader_fails(rt: HostRuntime) -> Result<(), Fail> {
             _ => 70,
         };
         assert_eq!(rt; Some(out.taken()), TEXT.get(..answered), "call {n}");
+        assert_eq!(rt; source.left().len(), INPUT.len() - (n as usize - 1));
     }
     Ok(())
 }

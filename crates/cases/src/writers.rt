@@ -15,11 +15,10 @@ fn run(
     rt: &(impl Abort + AllocGlobal),
     files: &[Vec<u8>],
     command: u8,
+    input: &mut SliceSource<'_>,
     out: &mut SliceSink<'_>,
 ) -> Result<bool, RunFault> {
     let heap = rt.alloc();
-    let mut source = SliceSource::new(INPUT);
-    let input = &mut source;
     let ended = match command {
         0 => lumps(rt, heap, files, out),
         1 => levels(rt, heap, files, out),
@@ -34,7 +33,19 @@ fn run(
     }
 }
 
-// A writer that fails at call `n`: written are the bytes before.
+// How many bytes of INPUT a command pulls, one a pull, up to the answer in which the text stops.
+fn pulled(command: u8, text: &[u8]) -> usize {
+    if command < 4 {
+        return 0;
+    }
+    match text.iter().filter(|byte| **byte == 10).count() {
+        0 => 4,
+        1 => 8,
+        _ => 10,
+    }
+}
+
+// A writer that fails at call `n`: written are the bytes before, and no more is pulled.
 fn fails_at(
     rt: &(impl Abort + AllocGlobal),
     files: &[Vec<u8>],
@@ -45,8 +56,12 @@ fn fails_at(
     assert!(rt; 0 < n && n <= text.len() && n <= 1024);
     let mut room = [0; 1024];
     let mut out = SliceSink::new(&mut room).at_most(1).failing_at(n as u32);
-    assert_eq!(rt; run(rt, files, command, &mut out), Err(RunFault::Write));
+    let mut input = SliceSource::new(INPUT).at_most(1);
+    let ended = run(rt, files, command, &mut input, &mut out);
+    assert_eq!(rt; ended, Err(RunFault::Write));
     assert_eq!(rt; out.taken(), &text[..n - 1]);
+    let left = INPUT.len() - pulled(command, out.taken());
+    assert_eq!(rt; input.left().len(), left);
 }
 
 #[test]
@@ -55,7 +70,9 @@ fn writer_fails(rt: HostRuntime) -> Result<(), Fail> {
     for command in 0..6 {
         let mut room = [0; 1024];
         let mut out = SliceSink::new(&mut room);
-        assert_eq!(rt; run(&rt, &files, command, &mut out), Ok(true));
+        let mut input = SliceSource::new(INPUT);
+        let ended = run(&rt, &files, command, &mut input, &mut out);
+        assert_eq!(rt; ended, Ok(true));
         assert!(rt; !out.taken().is_empty());
         for n in 1..out.taken().len() + 1 {
             fails_at(&rt, &files, command, n, out.taken());

@@ -115,12 +115,23 @@ fn failing_reads(rt: HostRuntime) {
     }
 }
 
+// How many bytes of INPUT are pulled, one a pull, before byte `written` of TEXT is written.
+fn pulled(written: usize) -> usize {
+    match written {
+        0..2 => 4,
+        2..4 => 5,
+        4..6 => 13,
+        6..8 => 15,
+        _ => 19,
+    }
+}
+
 #[test]
 fn failing_writes(rt: HostRuntime) {
     for call in 1..=10 {
         let mut room = [0; 100];
         let mut out = SliceSink::new(&mut room).at_most(1).failing_at(call);
-        let mut input = SliceSource::new(INPUT);
+        let mut input = SliceSource::new(INPUT).at_most(1);
         assert_eq!(rt;
             answer_lines(&Length, &mut input, LIMIT, &mut out),
             Err(IoFault::Write)
@@ -128,6 +139,7 @@ fn failing_writes(rt: HostRuntime) {
         let count = (call as usize - 1).min(TEXT.len());
         assert_eq!(rt; out.taken(), &TEXT[..count], "call {call}");
         assert!(rt; !input.failed() && out.failed());
+        assert_eq!(rt; input.left().len(), INPUT.len() - pulled(count));
     }
 }
 

@@ -126,6 +126,7 @@ fn lmp_reader_fails(rt: HostRuntime) {
         assert_eq!(rt; run.fault(), Some(StreamFault::Read), "pull {n}");
         assert_eq!(rt; run.next(), Err(StreamFault::Read), "after pull {n}");
         assert_eq!(rt; run.header(), Err(StreamFault::Read), "after pull {n}");
+        assert_eq!(rt; run.source.left().len(), TWO.len() - (n as usize - 1));
     }
     let mut run = Run::new(SliceSource::new(&TWO).at_most(1).failing_at(25), 100);
     assert_eq!(rt; run.fault(), None);

@@ -6,7 +6,7 @@ ghost use Rattle.map_audit.specs.Findings.{AuditHolds, part_of};
 
 use crate::report::Report;
 use map_level::search::{Search, Searched, all_findings};
-use map_level::{Code, Level};
+use map_level::{Code, Level, Links};
 use map_tables::Tables;
 use map_tree::Nodes;
 use std::alloc::{AllocError, Allocator};
@@ -24,7 +24,7 @@ pub fn audit<A: Allocator + Copy>(alloc: A, level: &Level<'_>) -> Result<Report<
 // A level's parts, each of which looks for codes of its own.
 #[derive(Drop)]
 struct Parts<'l, 'a, A: Allocator> {
-    links: &'l Level<'a>,
+    links: Links<'l, 'a>,
     nodes: Nodes<'l, 'a, A>,
     tables: Tables<'l, 'a>,
 }
@@ -35,9 +35,9 @@ impl<'l, 'a, A: Allocator> Model for Parts<'l, 'a, A> {
 
     ghost Value = { Level };
 
-    ghost view = { λ parts. parts.links.now };
+    ghost view = { λ parts. parts.links };
 
-    ghost invariant = { λ parts. (parts.nodes ≡ parts.links.now) × (parts.tables ≡ parts.links.now) };
+    ghost invariant = { λ parts. (parts.nodes ≡ parts.links) × (parts.tables ≡ parts.links) };
 }
 
 impl<'l, 'a, A: Allocator + Copy> Parts<'l, 'a, A> {
@@ -46,7 +46,7 @@ impl<'l, 'a, A: Allocator + Copy> Parts<'l, 'a, A> {
     {
         let nodes = Nodes::of(alloc, level)?;
         Ok(Parts {
-            links: level,
+            links: Links::of(level),
             nodes,
             tables: Tables::of(level),
         })

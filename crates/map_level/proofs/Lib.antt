@@ -3,3 +3,4 @@ pub mod LevelLemmas
 pub mod LinkedLemmas
 pub mod OneListLemmas
 pub mod OpeningLemmas
+pub mod BoundLemmas

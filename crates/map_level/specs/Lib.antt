@@ -4,5 +4,6 @@ pub mod Opening
 pub mod Findings
 pub mod Links
 pub mod LinkFaults
+pub mod LinkBounds
 pub mod SectorOf
 pub mod Laws

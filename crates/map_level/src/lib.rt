@@ -4,6 +4,7 @@
 mod finding;
 pub mod laws;
 mod level;
+mod link_bounds;
 mod link_codes;
 mod link_faults;
 mod links;
@@ -13,6 +14,6 @@ mod sector_of;
 
 pub use finding::{Code, Finding, Findings};
 pub use level::{Level, LevelFault};
-pub use link_codes::link_findings;
+pub use link_codes::{Links, link_findings};
 pub use link_faults::usual_name;
 pub use reading::{Reading, number};

@@ -1,11 +1,13 @@
 //! The link part of a report.
 
-ghost use Rattle.std.specs.Prelude.{IfOk};
-ghost use Rattle.map_level.specs.Findings.{AreFindings};
+ghost use Rattle.std.specs.Prelude.{◌≡◌, ◌+◌, ◌<◌, ◌≤◌, ◌^◌, ℕ, IfNone, IfOk, IfSome};
+ghost use Rattle.map_level.specs.Findings.{AreFindings, IsFirst};
 ghost use Rattle.map_level.specs.LinkFaults.{LinkHolds};
+ghost use Rattle.map_level.specs.LinkBounds.{AreBounds};
 
 use crate::finding::{Code, Findings};
 use crate::level::Level;
+use crate::link_bounds::{Bounds, bounds_of};
 use crate::link_faults::{
     bytes_left_over, linedef_of_no_length, linedef_side_names_none, linedef_vertex_names_none,
     lump_name_differs, no_side0, no_ssector, no_start, seg_linedef_names_none, seg_side_other,
@@ -14,13 +16,44 @@ use crate::link_faults::{
 };
 use crate::search::{Search, Searched, all_findings, first_where};
 use std::alloc::{AllocError, Allocator};
+use std::marker::Model;
 
 /// The findings on the links of a level's records, under its reading: F3 to F10, F17, F18, N1 to
 /// N6, N11 and N12, by code and then by index.
 pub fn link_findings<A: Allocator>(alloc: A, level: &Level<'_>) -> Result<Findings<A>, AllocError>
     ensures { IfOk result (AreFindings (LinkHolds level.now)) }
 {
-    all_findings(alloc, level)
+    all_findings(alloc, &Links::of(level))
+}
+
+/// A level whose links are looked at: which tables have a finding at all was told by one pass over each.
+#[derive(Drop)]
+pub struct Links<'l, 'a> {
+    level: &'l Level<'a>,
+    bounds: Bounds,
+}
+
+impl<'l, 'a> Model for Links<'l, 'a> {
+    ghost use Rattle.map_level.specs.Level.{Level};
+    ghost use Rattle.map_level.specs.LinkBounds.{AreBounds};
+
+    ghost Value = { Level };
+
+    ghost view = { λ links. links.level.now };
+
+    ghost invariant = { λ links. AreBounds links.level.now links.bounds };
+}
+
+impl<'l, 'a> Links<'l, 'a> {
+    /// The links of a level.
+    pub fn of(level: &'l Level<'a>) -> Links<'l, 'a>
+        ensures { result ≡ level.now }
+    {
+        Links {
+            level,
+            bounds: bounds_of(level),
+        }
+    }
 }
 
 impl<'a> Searched for Level<'a> {
@@ -29,75 +62,85 @@ impl<'a> Searched for Level<'a> {
     ghost holds = { LinkHolds };
 }
 
-impl<'a> Search for Level<'a> {
+impl<'l, 'a> Searched for Links<'l, 'a> {
+    ghost use Rattle.map_level.specs.LinkFaults.{LinkHolds};
+
+    ghost holds = { LinkHolds };
+}
+
+impl<'l, 'a> Search for Links<'l, 'a> {
     fn first(&self, code: Code, from: u32) -> Option<u32> {
-        let linedefs = self.linedefs().len() as u32;
-        let sidedefs = self.sidedefs().len() as u32;
-        let segs = self.segs().len() as u32;
-        let ssectors = self.ssectors().len() as u32;
-        let vertexes = self.vertexes().len() as u32;
-        match code {
-            Code::F3 => first_where(
-                self,
-                code,
-                from,
-                linedefs,
-                |i| linedef_vertex_names_none(self, i),
-            ),
-            Code::F4 => first_where(
-                self,
-                code,
-                from,
-                linedefs,
-                |i| linedef_side_names_none(self, i),
-            ),
-            Code::F5 => first_where(
-                self,
-                code,
-                from,
-                sidedefs,
-                |i| sidedef_sector_names_none(self, i),
-            ),
-            Code::F6 => first_where(self, code, from, segs, |i| seg_vertex_names_none(self, i)),
-            Code::F7 => first_where(self, code, from, segs, |i| seg_linedef_names_none(self, i)),
-            Code::F8 => first_where(self, code, from, segs, |i| seg_side_other(self, i)),
-            Code::F9 => first_where(self, code, from, segs, |i| seg_without_side(self, i)),
-            Code::F10 => first_where(
-                self,
-                code,
-                from,
-                ssectors,
-                |i| ssector_out_of_range(self, i),
-            ),
-            Code::F17 => first_where(self, code, from, 1, |i| no_ssector(self, i)),
-            Code::F18 => first_where(self, code, from, 1, |i| too_many_nodes(self, i)),
-            Code::N1 => first_where(self, code, from, 11, |i| lump_name_differs(self, i)),
-            Code::N2 => first_where(self, code, from, 9, |i| bytes_left_over(self, i)),
-            Code::N3 => first_where(
-                self,
-                code,
-                from,
-                linedefs,
-                |i| two_sided_without_side(self, i),
-            ),
-            Code::N4 => first_where(self, code, from, linedefs, |i| no_side0(self, i)),
-            Code::N5 => first_where(
-                self,
-                code,
-                from,
-                linedefs,
-                |i| linedef_of_no_length(self, i),
-            ),
-            Code::N6 => first_where(
-                self,
-                code,
-                from,
-                ssectors,
-                |i| ssector_without_segs(self, i),
-            ),
-            Code::N11 => first_where(self, code, from, 1, |i| no_start(self, i)),
-            Code::N12 => first_where(self, code, from, vertexes, |i| vertex_outside(self, i)),
-            _ => None,
-        }
+        first_at(self.level, &self.bounds, code, from)
+    }
+}
+
+// The first index from one on at which a code holds.
+fn first_at(level: &Level<'_>, bounds: &Bounds, code: Code, from: u32) -> Option<u32>
+    requires { AreBounds level.now bounds.now }
+    ensures some { IfSome result (IsFirst (LinkHolds level.now code) from) }
+    ensures none { IfNone result ((i : ℕ) → from ≤ i → ¬ LinkHolds level.now code i) }
+    ensures below { IfSome result (λ at. at + 1 < 2 ^ 32) }
+{
+    let linedefs = bounds.linedefs;
+    let sidedefs = level.sidedefs().len() as u32;
+    let segs = bounds.segs;
+    let ssectors = bounds.ssectors;
+    let vertexes = level.vertexes().len() as u32;
+    match code {
+        Code::F3 => first_where(level, code, from, linedefs, |i| {
+            linedef_vertex_names_none(level, i)
+        }),
+        Code::F4 => first_where(level, code, from, linedefs, |i| {
+            linedef_side_names_none(level, i)
+        }),
+        Code::F5 => first_where(level, code, from, sidedefs, |i| {
+            sidedef_sector_names_none(level, i)
+        }),
+        Code::F6 => first_where(level, code, from, segs, |i| seg_vertex_names_none(level, i)),
+        Code::F7 => first_where(
+            level,
+            code,
+            from,
+            segs,
+            |i| seg_linedef_names_none(level, i),
+        ),
+        Code::F8 => first_where(level, code, from, segs, |i| seg_side_other(level, i)),
+        Code::F9 => first_where(level, code, from, segs, |i| seg_without_side(level, i)),
+        Code::F10 => first_where(
+            level,
+            code,
+            from,
+            ssectors,
+            |i| ssector_out_of_range(level, i),
+        ),
+        Code::F17 => first_where(level, code, from, 1, |i| no_ssector(level, i)),
+        Code::F18 => first_where(level, code, from, 1, |i| too_many_nodes(level, i)),
+        Code::N1 => first_where(level, code, from, 11, |i| lump_name_differs(level, i)),
+        Code::N2 => first_where(level, code, from, 9, |i| bytes_left_over(level, i)),
+        Code::N3 => first_where(
+            level,
+            code,
+            from,
+            linedefs,
+            |i| two_sided_without_side(level, i),
+        ),
+        Code::N4 => first_where(level, code, from, linedefs, |i| no_side0(level, i)),
+        Code::N5 => first_where(
+            level,
+            code,
+            from,
+            linedefs,
+            |i| linedef_of_no_length(level, i),
+        ),
+        Code::N6 => first_where(
+            level,
+            code,
+            from,
+            ssectors,
+            |i| ssector_without_segs(level, i),
+        ),
+        Code::N11 => first_where(level, code, from, 1, |i| no_start(level, i)),
+        Code::N12 => first_where(level, code, from, vertexes, |i| vertex_outside(level, i)),
+        _ => None,
     }
 }

@@ -1,6 +1,6 @@
 //! The search for findings, code by code: where a code holds next, and the one walk over all codes that makes a list of it.
 
-ghost use Rattle.std.specs.Prelude.{◌+◌, ◌<◌, ◌≤◌, ◌^◌, ◌↔◌, ℕ, Bool, IfNone, IfOk, IfSome, IsTrue, OnOk};
+ghost use Rattle.std.specs.Prelude.{◌+◌, ◌<◌, ◌≤◌, ◌^◌, ◌↔◌, ◌⊎◌, ℕ, Bool, false, IfNone, IfOk, IfSome, IsTrue, OnOk};
 ghost use Rattle.map_level.specs.Findings.{place, is_fault, AreFindings, AreFindingsBelow, IsFirst, NoFaultHolds};
 
 use crate::finding::{Code, Finding, Findings};
@@ -87,6 +87,21 @@ pub fn first_where<T: Searched, F: Fn(u32) -> bool>(
         }
     }
     None
+}
+
+/// A number above all indexes below a count at which a test answers true: 0 where there are none, else the count. For tests
+/// of all codes of a table at once: where it is 0, none of them needs a search of its own.
+#[inline(always)]
+pub fn bound_where<F: Fn(u32) -> bool>(count: u32, test: F) -> u32
+    requires { F.IsAlwaysCallable test }
+    ensures { (i : ℕ) → i < count → (i < result) ⊎ F.post test i false }
+{
+    for index in 0..count {
+        if test(index) {
+            return count;
+        }
+    }
+    0
 }
 
 /// All findings of what is searched, by code and then by index.

@@ -6,7 +6,7 @@ use Rattle.std.proofs.lemmas.Bool.{lt-ltb, ltb-true, cases_lt, cases_eq, false�
 use Rattle.std.proofs.lemmas.Int.{ints, by_lt_z}
 use Rattle.std.proofs.lemmas.List.{length-map}
 use Rattle.map_level.specs.Reading.{ssector_under}
-use Rattle.std.proofs.lemmas.Option.{slice_get_past, slice_get_cases}
+use Rattle.std.proofs.lemmas.Option.{slice_get_cases}
 use Rattle.le_rec.specs.declared.records.Node.{Node}
 use Rattle.map_geo.specs.declared.sides.Side.{Side}
 use Rattle.map_geo.specs.declared.sides.Side.TheVariants.{Front, Back}
@@ -15,6 +15,7 @@ use Rattle.map_level.specs.Level.{Level}
 use Rattle.map_level.specs.declared.finding.Code.{Code}
 use Rattle.map_level.specs.declared.finding.Code.TheVariants.{F11, F12, F13, F14, F15, F16, F17, N7}
 use Rattle.map_level.specs.Findings.{is_fault}
+use Rattle.map_level.proofs.BoundLemmas.{some_within}
 use Rattle.map_tree.specs.Paths.{Place, node, ssector, LeadsIn}
 use Rattle.map_tree.specs.Child.{node_count, ssector_count, has, child, root, IsReached}
 use Rattle.map_tree.specs.TreeFaults.{TreeHolds, IsNamedTwice}
@@ -24,14 +25,6 @@ use Rattle.map_tree.proofs.SoundLemmas.{parent_in, root_node, root_alone, zero_o
 use Rattle.map_tree.proofs.ReachLemmas.{decide_side, last_step, leads_unless_not}
 
 -- of a sound level nothing of this holds
-
-pub some_within : {X : Type 0} (xs : List X) (i : ℕ) (P : X → Type 0) → IsSomeAnd (slice_get xs i) P
-    → i < length xs
-some_within xs i P h =
-    elim (cases_lt i (length xs)) [
-      | inl within ↦ within
-      | inr past ↦ absurd (rw (slice_get_past xs i past) at h)
-    ]
 
 origin_in_or_out : (o : Option Node) → IsSomeAnd o (λ found. IsInRange found.x × IsInRange found.y)
     → IsSomeAnd o (λ found. ¬ (IsInRange found.x × IsInRange found.y)) → ⊥

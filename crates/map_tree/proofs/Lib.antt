@@ -22,3 +22,4 @@ pub mod TurnLemmas
 pub mod PairLemmas
 pub mod TotalLemmas
 pub mod CountedLemmas
+pub mod PlaceLemmas

@@ -1,6 +1,7 @@
 pub mod Paths
 pub mod Child
 pub mod TreeFaults
+pub mod TreeBounds
 pub mod Sound
 pub mod Leaf
 pub mod SectorList

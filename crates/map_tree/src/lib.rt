@@ -12,6 +12,7 @@ mod row;
 mod sector_tree;
 mod soundness;
 mod tree;
+mod tree_bounds;
 mod tree_codes;
 mod tree_faults;
 mod words;

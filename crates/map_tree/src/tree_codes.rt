@@ -5,9 +5,11 @@ ghost use Rattle.map_level.specs.Findings.{AreFindings, IsFirst};
 ghost use Rattle.map_tree.specs.TreeFaults.{TreeHolds};
 ghost use Rattle.map_tree.specs.WordCounts.{AreWordCounts};
 ghost use Rattle.map_tree.specs.Marks.{AreReached};
+ghost use Rattle.map_tree.specs.TreeBounds.{AreBounds};
 
 use crate::marks::reached_places;
 use crate::places::Places;
+use crate::tree_bounds::{Bounds, bounds_of};
 use crate::tree_faults::{
     child_names_nothing, no_direction, node_named_twice, node_not_reached, origin_outside,
     ssector_named_twice, ssector_not_reached,
@@ -32,17 +34,20 @@ pub fn tree_findings<A: Allocator + Copy>(
     all_findings(alloc, &nodes)
 }
 
-/// A level whose nodes are looked at: how many child words name each node and ssector, and which are reached.
+/// A level whose nodes are looked at: how many child words name each node and ssector, which are reached,
+/// and whether there is a finding at all.
 #[derive(Drop)]
 pub struct Nodes<'l, 'a, A: Allocator = Global> {
     places: Places<'l, 'a>,
     counts: Vec<u8, A>,
     reached: Vec<bool, A>,
+    bounds: Bounds,
 }
 
 impl<'l, 'a, A: Allocator> Model for Nodes<'l, 'a, A> {
     ghost use Rattle.map_level.specs.Level.{Level};
     ghost use Rattle.map_tree.specs.Marks.{AreReached};
+    ghost use Rattle.map_tree.specs.TreeBounds.{AreBounds};
     ghost use Rattle.map_tree.specs.WordCounts.{AreWordCounts};
 
     ghost Value = { Level };
@@ -50,7 +55,8 @@ impl<'l, 'a, A: Allocator> Model for Nodes<'l, 'a, A> {
     ghost view = { λ nodes. nodes.places };
 
     ghost invariant = { λ nodes. AreWordCounts nodes.places nodes.counts.items
-        × AreReached nodes.places nodes.reached.items };
+        × AreReached nodes.places nodes.reached.items
+        × AreBounds nodes.places nodes.bounds };
 }
 
 impl<'l, 'a, A: Allocator + Copy> Nodes<'l, 'a, A> {
@@ -62,10 +68,12 @@ impl<'l, 'a, A: Allocator + Copy> Nodes<'l, 'a, A> {
         let places = Places::of(level);
         let counts = word_counts(alloc, &places)?;
         let reached = reached_places(alloc, &places)?;
+        let bounds = bounds_of(&places, &counts, &reached);
         Ok(Nodes {
             places,
             counts,
             reached,
+            bounds,
         })
     }
 }
@@ -78,7 +86,14 @@ impl<'l, 'a, A: Allocator> Searched for Nodes<'l, 'a, A> {
 
 impl<'l, 'a, A: Allocator> Search for Nodes<'l, 'a, A> {
     fn first(&self, code: Code, from: u32) -> Option<u32> {
-        first_at(&self.places, &self.counts, &self.reached, code, from)
+        first_at(
+            &self.places,
+            &self.counts,
+            &self.reached,
+            &self.bounds,
+            code,
+            from,
+        )
     }
 }
 
@@ -87,17 +102,19 @@ fn first_at(
     places: &Places<'_, '_>,
     counts: &[u8],
     reached: &[bool],
+    bounds: &Bounds,
     code: Code,
     from: u32,
 ) -> Option<u32>
     requires counts { AreWordCounts places.now counts.now }
     requires reached { AreReached places.now reached.now }
+    requires bounds { AreBounds places.now bounds.now }
     ensures some { IfSome result (IsFirst (TreeHolds places.now code) from) }
     ensures none { IfNone result ((i : ℕ) → from ≤ i → ¬ TreeHolds places.now code i) }
     ensures below { IfSome result (λ at. at + 1 < 2 ^ 32) }
 {
-    let nodes = places.nodes() as u32;
-    let ssectors = places.ssectors() as u32;
+    let nodes = bounds.nodes;
+    let ssectors = bounds.ssectors;
     match code {
         Code::F11 => first_where(
             places,

@@ -12,9 +12,9 @@ mod geometry;
 #[cfg(test)]
 mod growths;
 #[cfg(test)]
-mod lines;
+mod in_memory;
 #[cfg(test)]
-mod memory_ends;
+mod lines;
 #[cfg(test)]
 mod numbers;
 #[cfg(test)]

@@ -160,13 +160,6 @@ module _ (files : List Wad) (label : ℕ) (reading : Reading) where
     λ h. ap (λ l. Ok l) (IsLevelAt-one files label reading level other is h),
   )
 
-  pub no_fault : (level : Level) → IsLevelAt files label reading level → (fault : LevelFault)
-      → (◌≡◌ {A = Result Level LevelFault} (Ok level) (Err fault)) ↔ RefusesLevelAt files label fault
-  no_fault level is fault = (
-    λ e. absurd (let f : ⊥ = cc in f),
-    λ r. absurd (RefusesLevelAt-no_level files label reading fault level r is),
-  )
-
   pub no_level : (fault : LevelFault) → RefusesLevelAt files label fault → (level : Level)
       → (◌≡◌ {A = Result Level LevelFault} (Err fault) (Ok level)) ↔ IsLevelAt files label reading level
   no_level fault refused level = (

@@ -1,6 +1,6 @@
 use Rattle.std.proofs.Common.{map, refl}
 use Rattle.std.proofs.lemmas.Result.{err_from_is_err_and}
-use Rattle.map_level.proofs.LevelLemmas.{only_level, no_fault, no_level, only_fault}
+use Rattle.map_level.proofs.LevelLemmas.{only_level, no_level, only_fault}
 use Rattle.map_level.proofs.level.Level.at.Goals as goal
 
 pub returns-in_err-lumps-clause-level : goal.returns-in_err-lumps-clause-level

@@ -1,4 +1,4 @@
-use Rattle.std.proofs.Common.{rules, inl, refl}
+use Rattle.std.proofs.Common.{rules}
 use Rattle.wad_look.proofs.OpeningLemmas.{refused_audit}
 use Rattle.wad_look.proofs.engines.census.census_text.Goals as goal
 

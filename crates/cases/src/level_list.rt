@@ -1,5 +1,6 @@
 //! The command `levels`.
 
+use crate::engines::levels;
 use crate::sample::{base, lumps, pack};
 use std::alloc::Global;
 use std::process::Abort;
@@ -7,16 +8,15 @@ use std::test::Fail;
 use test_alloc::Refusing;
 use test_ends::SliceSink;
 use wad_dir::WadFault;
-use wad_look::{RunFault, levels, status};
+use wad_look::{RunFault, status};
 
 const HIDDEN: &[u8] = b"0 E1M1 hidden\n11 E1M1\n";
 
 // What `levels` answers and writes.
 fn run(rt: &impl Abort, alloc: Global, files: &[Vec<u8>], text: &[u8]) -> Result<(), RunFault> {
-    assert!(rt; files.len() <= 64);
     let mut room = [0; 64];
     let mut out = SliceSink::new(&mut room);
-    let result = levels(alloc, files, &mut out);
+    let result = levels(rt, alloc, files, &mut out);
     assert_eq!(rt; out.taken(), text);
     result
 }
@@ -73,11 +73,10 @@ fn refused_directories(rt: HostRuntime) -> Result<(), Fail> {
 
 // Whether `levels` met growth `n` refused; then it has written nothing.
 fn is_refused(rt: &(impl Abort + AllocGlobal), files: &[Vec<u8>], n: u64) -> bool {
-    assert!(rt; files.len() <= 64);
     let heap = Refusing::new(rt.alloc(), n);
     let mut room = [0; 64];
     let mut out = SliceSink::new(&mut room);
-    let result = levels(&heap, files, &mut out);
+    let result = levels(rt, &heap, files, &mut out);
     if !heap.has_refused() {
         assert_eq!(rt; result, Ok(()));
         assert_eq!(rt; out.taken(), HIDDEN);

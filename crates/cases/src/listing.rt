@@ -1,19 +1,19 @@
 //! The command `lumps`.
 
+use crate::engines::lumps;
 use crate::sample::base;
 use std::alloc::Global;
 use std::process::Abort;
 use std::test::Fail;
 use test_ends::SliceSink;
 use wad_dir::WadFault;
-use wad_look::{RunFault, lumps};
+use wad_look::RunFault;
 
 // What `lumps` answers and writes.
 fn run(rt: &impl Abort, alloc: Global, files: &[Vec<u8>], text: &[u8]) -> Result<(), RunFault> {
-    assert!(rt; files.len() <= 64);
     let mut room = [0; 1024];
     let mut out = SliceSink::new(&mut room);
-    let result = lumps(alloc, files, &mut out);
+    let result = lumps(rt, alloc, files, &mut out);
     assert_eq!(rt; out.taken(), text);
     result
 }

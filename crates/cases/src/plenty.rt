@@ -1,6 +1,9 @@
 //! Calls that take memory over levels of every kind, from an allocator that refuses nothing: none answers that memory
 //! is wanting.
 
+use crate::engines::{
+    audit_text, blocks, census_text, extract, levels, lumps as list, points, show, sight,
+};
 use crate::sample::{
     LINE_WITHOUT_SIDE_1, base, base_chain, base_not_reached, base_with, base_with_children,
     base_with_node, base_with_rest, lumps, pack,
@@ -16,13 +19,7 @@ use std::test::Fail;
 use test_alloc::Refusing;
 use test_ends::{SliceSink, SliceSource};
 use wad_dir::Set;
-use wad_look::{
-    RunFault, audit_text, blocks, census_text, extract, levels, lumps as list, points, show, sight,
-    status,
-};
-
-// The most bytes of a test's input.
-const LIMIT: u64 = 64;
+use wad_look::{RunFault, status};
 
 // The calls over a level.
 fn check_calls(
@@ -56,53 +53,39 @@ fn is_want_of_memory(ended: Result<(), RunFault>) -> bool {
 
 // The engines of files, each with a small sink: one that is full stops a run by `Write`.
 fn check_files(rt: &(impl Abort + AllocGlobal), files: &[Vec<u8>], reading: Reading) {
-    assert!(rt; files.len() <= 64);
     let heap = Refusing::new(rt.alloc(), 0);
     let mut room = [0; 64];
-    let listed = list(&heap, files, &mut SliceSink::new(&mut room));
+    let listed = list(rt, &heap, files, &mut SliceSink::new(&mut room));
     assert!(rt; !is_want_of_memory(listed));
-    let labelled = levels(&heap, files, &mut SliceSink::new(&mut room));
+    let labelled = levels(rt, &heap, files, &mut SliceSink::new(&mut room));
     assert!(rt; !is_want_of_memory(labelled));
-    let shown = show(
-        &heap,
-        files,
-        b"E1M1",
-        reading,
-        &mut SliceSink::new(&mut room),
-    );
+    let shown = show(rt, &heap, files, reading, &mut SliceSink::new(&mut room));
     assert!(rt; !is_want_of_memory(shown));
-    let extracted = extract(&heap, files, b"E1M1", &mut SliceSink::new(&mut room));
+    let extracted = extract(rt, &heap, files, &mut SliceSink::new(&mut room));
     assert!(rt; !is_want_of_memory(extracted));
-    let audited = audit_text(
-        &heap,
-        files,
-        b"E1M1",
-        reading,
-        &mut SliceSink::new(&mut room),
-    );
+    let audited = audit_text(rt, &heap, files, reading, &mut SliceSink::new(&mut room));
     assert!(rt; status(&audited) != 3);
 }
 
 // The engines of lines.
 fn check_lines(rt: &(impl Abort + AllocGlobal), files: &[Vec<u8>], reading: Reading) {
-    assert!(rt; files.len() <= 64);
     let heap = Refusing::new(rt.alloc(), 0);
     let mut room = [0; 64];
     let mut input = SliceSource::new(b"0 5\n");
     let out = &mut SliceSink::new(&mut room);
-    let placed = points(&heap, files, b"E1M1", reading, &mut input, LIMIT, out);
+    let placed = points(rt, &heap, files, reading, &mut input, out);
     assert!(rt; !is_want_of_memory(placed));
     let mut input = SliceSource::new(b"0 0 1 1\n");
     let out = &mut SliceSink::new(&mut room);
-    let counted = census_text(&heap, files, b"E1M1", reading, &mut input, LIMIT, out);
+    let counted = census_text(rt, &heap, files, reading, &mut input, out);
     assert!(rt; !is_want_of_memory(counted));
     let mut input = SliceSource::new(b"0 1\n");
     let out = &mut SliceSink::new(&mut room);
-    let seen = sight(&heap, files, b"E1M1", &mut input, LIMIT, out);
+    let seen = sight(rt, &heap, files, &mut input, out);
     assert!(rt; !is_want_of_memory(seen));
     let mut input = SliceSource::new(b"0 5\n");
     let out = &mut SliceSink::new(&mut room);
-    let listed = blocks(&heap, files, b"E1M1", reading, &mut input, LIMIT, out);
+    let listed = blocks(rt, &heap, files, reading, &mut input, out);
     assert!(rt; !is_want_of_memory(listed));
 }
 

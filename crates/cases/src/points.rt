@@ -1,5 +1,6 @@
 //! The command `points` over the sample level.
 
+use crate::engines::points;
 use crate::sample::{
     base, base_not_reached, base_two_nodes, base_with, base_with_node, lumps, pack,
 };
@@ -8,7 +9,7 @@ use std::alloc::Global;
 use std::process::Abort;
 use std::test::Fail;
 use test_ends::{SliceSink, SliceSource};
-use wad_look::{LIMIT, RunFault, points, status};
+use wad_look::{RunFault, status};
 
 // What `points` answers and writes.
 fn run(
@@ -19,11 +20,10 @@ fn run(
     input: &[u8],
     text: &[u8],
 ) -> Result<(), RunFault> {
-    assert!(rt; files.len() <= 64);
     let mut room = [0; 1024];
     let mut out = SliceSink::new(&mut room);
     let mut source = SliceSource::new(input);
-    let result = points(alloc, files, b"E1M1", reading, &mut source, LIMIT, &mut out);
+    let result = points(rt, alloc, files, reading, &mut source, &mut out);
     assert_eq!(rt; out.taken(), text);
     result
 }
@@ -185,12 +185,11 @@ fn nodes_not_reached(rt: HostRuntime) -> Result<(), Fail> {
     let mut out = SliceSink::new(&mut room);
     let mut source = SliceSource::new(b"0 5\n");
     let result = points(
+        &rt,
         rt.alloc(),
         &files,
-        b"E1M1",
         Reading::Signed,
         &mut source,
-        LIMIT,
         &mut out,
     );
     assert_eq!(rt; result, Err(RunFault::Audit));
@@ -231,12 +230,11 @@ fn line_forms(rt: HostRuntime) -> Result<(), Fail> {
     let mut out = SliceSink::new(&mut room);
     let mut source = SliceSource::new(input).at_most(1);
     let result = points(
+        &rt,
         rt.alloc(),
         &files,
-        b"E1M1",
         Reading::Signed,
         &mut source,
-        LIMIT,
         &mut out,
     );
     assert_eq!(rt; result, Ok(()));

@@ -1,13 +1,14 @@
 //! Levels that differ under the two readings, as engines print them.
 
 use crate::audit_texts::SIDE_MISSING;
+use crate::engines::{audit_text, points, show};
 use crate::sample::{LINE_WITHOUT_SIDE_1, base_many_segs, base_with, map_of_wide_list};
 use map_level::Reading;
 use std::alloc::Global;
 use std::process::Abort;
 use std::test::Fail;
 use test_ends::{SliceSink, SliceSource};
-use wad_look::{LIMIT, RunFault, audit_text, points, show};
+use wad_look::RunFault;
 
 // What `audit` of E1M1 writes under a reading.
 fn audited(
@@ -17,10 +18,9 @@ fn audited(
     text: &[u8],
     faultless: bool,
 ) {
-    assert!(rt; files.len() <= 64);
     let mut room = [0; 200];
     let mut out = SliceSink::new(&mut room);
-    let result = audit_text(rt.alloc(), files, b"E1M1", reading, &mut out);
+    let result = audit_text(rt, rt.alloc(), files, reading, &mut out);
     assert_eq!(rt; result, Ok(faultless));
     assert_eq!(rt; out.taken(), text);
 }
@@ -33,10 +33,9 @@ fn shows(
     reading: Reading,
     end: &[u8],
 ) -> Result<(), Fail> {
-    assert!(rt; files.len() <= 64);
     let mut room = Vec::from_elem(alloc, 0, 1_000_000)?;
     let mut out = SliceSink::new(&mut room);
-    assert_eq!(rt; show(alloc, files, b"E1M1", reading, &mut out), Ok(()));
+    assert_eq!(rt; show(rt, alloc, files, reading, &mut out), Ok(()));
     assert!(rt; out.taken().ends_with(end));
     Ok(())
 }
@@ -48,19 +47,10 @@ fn answered(
     reading: Reading,
     text: &[u8],
 ) -> Result<(), RunFault> {
-    assert!(rt; files.len() <= 64);
     let mut room = [0; 64];
     let mut out = SliceSink::new(&mut room);
     let mut source = SliceSource::new(b"0 5\n");
-    let result = points(
-        rt.alloc(),
-        files,
-        b"E1M1",
-        reading,
-        &mut source,
-        LIMIT,
-        &mut out,
-    );
+    let result = points(rt, rt.alloc(), files, reading, &mut source, &mut out);
     assert_eq!(rt; out.taken(), text);
     result
 }

@@ -313,16 +313,16 @@ fn lmp_reader_fails(rt: HostRuntime) {
     }
 }
 
-// How many bytes of `TWO` are read before byte `written` of its listing is written.
-fn read_before(written: usize) -> usize {
+// How many bytes of `TWO` are left when byte `written` of its listing is to be written.
+fn left_before(written: usize) -> usize {
     if written < LINES[0] {
-        13
+        10
     } else if written < LINES[1] {
-        17
+        6
     } else if written < LINES[2] {
-        21
+        2
     } else {
-        TWO.len()
+        0
     }
 }
 
@@ -336,7 +336,7 @@ fn writer_fails(rt: HostRuntime) -> Result<(), Fail> {
         let result = list(&rt, &mut source, 100, &mut out);
         assert_eq!(rt; result, Err(RunFault::Write));
         assert_eq!(rt; out.taken(), &TEXT[..n]);
-        assert_eq!(rt; source.left().len(), TWO.len() - read_before(n));
+        assert_eq!(rt; source.left().len(), left_before(n));
         let mut room = [0; 167];
         let mut out = SliceSink::new(&mut room[..n]).at_most(7);
         let result = show(&rt, &files, &mut out);

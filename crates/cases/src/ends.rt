@@ -69,12 +69,12 @@ fn writer_fails(rt: HostRuntime) -> Result<(), Fail> {
         let result = run(&rt, rt.alloc(), &files, &mut source, LIMIT, &mut out);
         assert_eq!(rt; result, Err(RunFault::Write));
         assert_eq!(rt; Some(out.taken()), TEXT.get(..n as usize - 1));
-        let pulled = match n {
-            0..24 => 4,
-            24..47 => 8,
-            _ => 13,
+        let left = match n {
+            0..24 => 9,
+            24..47 => 5,
+            _ => 0,
         };
-        assert_eq!(rt; source.left().len(), INPUT.len() - pulled);
+        assert_eq!(rt; source.left().len(), left, "call {n}");
     }
     Ok(())
 }

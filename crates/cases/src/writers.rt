@@ -33,15 +33,15 @@ fn run(
     }
 }
 
-// How many bytes of INPUT a command pulls, one a pull, up to the answer in which the text stops.
-fn pulled(command: u8, text: &[u8]) -> usize {
+// How many bytes of INPUT a command leaves, pulled one by one, where it stops behind that text.
+fn left_behind(command: u8, text: &[u8]) -> usize {
     if command < 4 {
-        return 0;
+        return INPUT.len();
     }
     match text.iter().filter(|byte| **byte == 10).count() {
-        0 => 4,
-        1 => 8,
-        _ => 10,
+        0 => 6,
+        1 => 2,
+        _ => 0,
     }
 }
 
@@ -60,7 +60,7 @@ fn fails_at(
     let ended = run(rt, files, command, &mut input, &mut out);
     assert_eq!(rt; ended, Err(RunFault::Write));
     assert_eq!(rt; out.taken(), &text[..n - 1]);
-    let left = INPUT.len() - pulled(command, out.taken());
+    let left = left_behind(command, out.taken());
     assert_eq!(rt; input.left().len(), left);
 }
 

@@ -115,14 +115,14 @@ fn failing_reads(rt: HostRuntime) {
     }
 }
 
-// How many bytes of INPUT are pulled, one a pull, before byte `written` of TEXT is written.
-fn pulled(written: usize) -> usize {
+// How many bytes of INPUT are left, pulled one by one, when byte `written` of TEXT is to be written.
+fn left_before(written: usize) -> usize {
     match written {
-        0..2 => 4,
-        2..4 => 5,
-        4..6 => 13,
-        6..8 => 15,
-        _ => 19,
+        0..2 => 15,
+        2..4 => 14,
+        4..6 => 6,
+        6..8 => 4,
+        _ => 0,
     }
 }
 
@@ -139,7 +139,7 @@ fn failing_writes(rt: HostRuntime) {
         let count = (call as usize - 1).min(TEXT.len());
         assert_eq!(rt; out.taken(), &TEXT[..count], "call {call}");
         assert!(rt; !input.failed() && out.failed());
-        assert_eq!(rt; input.left().len(), INPUT.len() - pulled(count));
+        assert_eq!(rt; input.left().len(), left_before(count));
     }
 }
 

@@ -112,8 +112,8 @@ impl<A: Allocator> Model for Findings<A> {
 }
 
 impl<A: Allocator> Findings<A> {
-    /// No findings yet.
-    pub fn new(alloc: A) -> Findings<A>
+    // No findings yet.
+    pub(crate) fn new(alloc: A) -> Findings<A>
         ensures { result ≡ [] }
     {
         Findings {
@@ -142,7 +142,7 @@ impl<A: Allocator> Findings<A> {
         &self.list
     }
 
-    /// Adds one at the end.
+    // Adds one at the end.
     pub(crate) fn push(&mut self, finding: Finding) -> Result<(), AllocError>
         ensures ok { OnOk result (self.new ≡ self.old ++ finding ∷ []) }
         ensures err { OnErr result (self.new ≡ self.old) }

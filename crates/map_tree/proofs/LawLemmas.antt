@@ -1,5 +1,5 @@
 -- The laws of sound levels.
-use Rattle.std.proofs.Common.{◌≡◌, ℕ, List, [], length, refl, ap, ◌∙◌, subst, inl, inr, Some, arith}
+use Rattle.std.proofs.Common.{◌≡◌, ℕ, [], length, refl, ap, ◌∙◌, subst, inl, inr, Some, arith}
 use Rattle.std.specs.Prelude.{◌↔◌}
 use Rattle.map_level.specs.Level.{Level}
 use Rattle.map_level.specs.Findings.{NoFaultHolds}

@@ -1,5 +1,5 @@
 -- The level has each node and ssector at which a code holds.
-use Rattle.std.proofs.Common.{ℕ, ◌<◌, inl, inr, length}
+use Rattle.std.proofs.Common.{ℕ, ◌<◌, inl, inr}
 use Rattle.std.proofs.lemmas.Bool.{ltb-true}
 use Rattle.map_level.specs.Level.{Level}
 use Rattle.map_level.proofs.BoundLemmas.{some_within}

@@ -1,4 +1,4 @@
-use Rattle.std.proofs.Common.{rules, ap, length, sym, subst, ◌<◌, ◌∙◌}
+use Rattle.std.proofs.Common.{rules}
 use Rattle.map_level.specs.LinkBounds.{LinedefFound}
 use Rattle.map_level.proofs.BoundLemmas.{bounded, linedef_there}
 use Rattle.map_level.proofs.link_bounds.linedef_bound.Goals as goal

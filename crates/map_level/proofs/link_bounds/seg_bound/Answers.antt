@@ -1,4 +1,4 @@
-use Rattle.std.proofs.Common.{rules, ap, length, sym, subst, ◌<◌, ◌∙◌}
+use Rattle.std.proofs.Common.{rules}
 use Rattle.map_level.specs.LinkBounds.{SegFound}
 use Rattle.map_level.proofs.BoundLemmas.{bounded, seg_there}
 use Rattle.map_level.proofs.link_bounds.seg_bound.Goals as goal

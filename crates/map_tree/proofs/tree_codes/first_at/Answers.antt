@@ -1,4 +1,4 @@
-use Rattle.std.proofs.Common.{inl, inr}
+use Rattle.std.proofs.Common.{inr}
 use Rattle.map_tree.proofs.tree_codes.first_at.Goals as goal
 
 pub first_where-requires-in-F14-clause-most : goal.first_where-requires-in-F14-clause-most

@@ -14,7 +14,7 @@ A.add_argument('--only', default='', help='jobs whose name holds one of these wo
 A.add_argument('--limit', type=int, default=300, help='seconds for one run')
 A.add_argument('--repeat', type=int, default=1, help='runs of each, of which the best counts')
 A.add_argument('--scale', type=float, default=1.0, help='part of the limits that is taken as the whole size')
-A.add_argument('--markdown', action='store_true', help='a table for docs/PROOFS.md')
+A.add_argument('--markdown', action='store_true', help='the table of RESULTS.md')
 o = A.parse_args()
 HERE = os.path.dirname(os.path.abspath(__file__))
 SAMPLE = os.path.join(HERE, '..', 'sample', 'base.wad')

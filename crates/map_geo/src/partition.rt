@@ -9,6 +9,7 @@ ghost use Rattle.map_geo.specs.Side.{cross, is_origin, side_of_tie, side_of};
 use crate::point::{Point, is_in_range};
 use crate::sides::Side;
 use le_rec::Node;
+use std::cmp::Ordering;
 use std::marker::Model;
 
 /// The partition of a node: the line through its origin in its direction.
@@ -93,13 +94,15 @@ fn product(step: i32, from: i32, to: i32) -> i32
 fn side_of_tie(dx: i32, dy: i32, at_origin: bool) -> Side
     ensures { result ≡ side_of_tie (int_cmp dx (pos 0)) (int_cmp dy (pos 0)) at_origin }
 {
-    let down = (dx == 0) & (dy <= 0);
-    let right = (dx > 0) & (dy == 0);
-    let left_and_up = (dx < 0) & (dy > 0);
-    if down | right | (left_and_up & at_origin) {
-        Side::Front
-    } else {
-        Side::Back
+    match (dx.cmp(&0), dy.cmp(&0)) {
+        (Ordering::Equal, Ordering::Greater) => Side::Back,
+        (Ordering::Equal, _) => Side::Front,
+        (Ordering::Less, Ordering::Equal) => Side::Back,
+        (Ordering::Greater, Ordering::Equal) => Side::Front,
+        (Ordering::Less, Ordering::Greater) if at_origin => Side::Front,
+        (Ordering::Less, Ordering::Greater) => Side::Back,
+        (Ordering::Less, Ordering::Less) => Side::Back,
+        (Ordering::Greater, _) => Side::Back,
     }
 }
 

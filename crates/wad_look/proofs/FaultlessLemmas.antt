@@ -1,8 +1,5 @@
 -- The findings on a name have no fault exactly where there is a level of the name of which no F code holds.
-use Rattle.std.proofs.Common.{◌≡◌, ◌↔◌, inl, inr, ℕ, zero, suc, ◌+◌, ◌<◌, Bool, true, false, cond, IsTrue, List, [], ◌∷◌, length, get_or, refl, sym, ap, ◌∙◌, arith}
-use Rattle.std.specs.Prelude.{Contains, count_by}
-use Rattle.std.proofs.lemmas.List.Elements.{Contains-append_right}
-use Rattle.std.proofs.lemmas.List.Recursion.{is_count_by}
+use Rattle.std.proofs.Common.{◌≡◌, ◌↔◌, inl, inr, ℕ, suc, IsTrue, List, [], ◌∷◌, length, refl, sym, ap, ◌∙◌, arith}
 use Rattle.le_rec.specs.Name.{query_of}
 use Rattle.map_audit.proofs.ReportLemmas.{faults_counted}
 use Rattle.map_audit.specs.Findings.{AuditHolds}

@@ -1,0 +1,3 @@
+pub mod Starts
+pub mod Format
+pub mod Laws

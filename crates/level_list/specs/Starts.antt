@@ -1,0 +1,23 @@
+-- Where levels start in a list of entries, by their names (Unofficial Doom Specs 1.666, chapter 4:
+-- THINGS follows a level's label; TEXTMAP of the UDMF specification).
+use Rattle.std.specs.Prelude.{◌≡◌, ℕ, ◌+◌, ◌<◌, ◌≤◌, ◌⊎◌, List, Some, codes}
+use Rattle.std.specs.List.{slice_get}
+
+-- an entry is there and has a name
+abbrev pub IsNamed : List (List ℕ) → ℕ → List ℕ → Type 0
+IsNamed names g name = slice_get names g ≡ Some name
+
+-- a level starts at an entry: the next one is there, and named THINGS or TEXTMAP
+abbrev pub LevelStartsAt : List (List ℕ) → ℕ → Type 0
+LevelStartsAt names g =
+    IsNamed names (g + 1) (codes "THINGS") ⊎ IsNamed names (g + 1) (codes "TEXTMAP")
+
+-- the first entry from a number on at which one starts
+pub record IsNextStart (names : List (List ℕ)) (from g : ℕ) : Type 0 where
+  pub after : from ≤ g
+  pub starts : LevelStartsAt names g
+  pub first : (h : ℕ) → from ≤ h → h < g → ¬ LevelStartsAt names h
+
+-- from a number on none starts
+abbrev pub NoneStartsFrom : List (List ℕ) → ℕ → Type 0
+NoneStartsFrom names from = (g : ℕ) → from ≤ g → ¬ LevelStartsAt names g

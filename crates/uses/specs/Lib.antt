@@ -1,0 +1,3 @@
+pub mod DemoLength
+pub mod FaultSearch
+pub mod ThingSectors

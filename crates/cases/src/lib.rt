@@ -26,6 +26,8 @@ mod level_list;
 #[cfg(test)]
 mod level_memory;
 #[cfg(test)]
+mod level_starts;
+#[cfg(test)]
 mod level_texts;
 #[cfg(test)]
 mod levels;

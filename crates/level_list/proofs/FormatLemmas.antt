@@ -2,11 +2,10 @@
 use Rattle.std.proofs.Common.{◌≡◌, ◌↔◌, inl, inr, ℕ, ◌+◌, ◌-◌, ◌<◌, ◌≤◌, List, [], length, get_or, Option, Some, None, refl, sym, subst, ap, ◌∙◌, arith, true, false, Result, Ok, Err, IfOk, Bor}
 use Rattle.std.specs.Prelude.{IsErrOf}
 use Rattle.std.specs.Result.{is_err}
-use Rattle.std.specs.List.{slice_get}
 use Rattle.std.proofs.lemmas.Bool.{cases_lt}
 use Rattle.std.proofs.lemmas.Option.{slice_get-get_or, slice_get_within}
 use Rattle.wad_dir.specs.Wad.{Wad}
-use Rattle.wad_dir.specs.Entries.{joined, names}
+use Rattle.wad_dir.specs.Entries.{joined}
 use Rattle.wad_dir.specs.Slice.{IsLump}
 use Rattle.wad_dir.proofs.LumpLemmas.{IsLump-one}
 use Rattle.wad_dir.specs.declared.lump.LumpFault.{LumpFault}
@@ -16,7 +15,7 @@ use Rattle.map_level.specs.LinkFaults.{usual_names}
 use Rattle.map_level.specs.Opening.{AreThereBelow, IsOutsideFile, RefusesLevelAt}
 use Rattle.map_level.specs.declared.level.LevelFault.{LevelFault}
 use Rattle.map_level.specs.declared.level.LevelFault.TheVariants as fault
-use Rattle.level_list.specs.Format.{IsUdmf, IsUsual, AreUsualBelow, IsIncomplete, HasTag, IsFormat, tag_of}
+use Rattle.level_list.specs.Format.{IsUsual, AreUsualBelow, IsIncomplete, HasTag, IsFormat}
 use Rattle.level_list.specs.declared.format.Format.{Format}
 use Rattle.level_list.specs.declared.format.Format.TheVariants.{Udmf, Incomplete, Hexen, Outside, Extended, Doom}
 use Rattle.level_list.proofs.StartLemmas.{named_within}

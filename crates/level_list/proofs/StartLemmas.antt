@@ -1,5 +1,5 @@
 -- Facts about where levels start.
-use Rattle.std.proofs.Common.{◌≡◌, ◌↔◌, inl, inr, ℕ, ◌+◌, ◌<◌, ◌≤◌, List, length, Option, Some, sym, ◌∙◌, arith}
+use Rattle.std.proofs.Common.{◌≡◌, inl, inr, ℕ, ◌<◌, List, length, Option, sym, ◌∙◌, arith}
 use Rattle.std.specs.List.{slice_get}
 use Rattle.std.specs.Option.{option_map}
 use Rattle.std.proofs.lemmas.Bool.{cases_lt}
@@ -7,7 +7,7 @@ use Rattle.std.proofs.lemmas.List.{length-map}
 use Rattle.std.proofs.lemmas.Option.{slice_get-map, slice_get_within}
 use Rattle.wad_dir.specs.Wad.{Wad}
 use Rattle.wad_dir.specs.Entries.{joined, names, listed_name}
-use Rattle.level_list.specs.Starts.{IsNamed, LevelStartsAt, IsNextStart, NoneStartsFrom}
+use Rattle.level_list.specs.Starts.{IsNamed, IsNextStart}
 
 -- the name of an entry of several files' list
 pub named_by : (files : List Wad) (g : ℕ) (name : Option (List ℕ))

@@ -116,6 +116,11 @@ fn incomplete(rt: HostRuntime) -> Result<(), Fail> {
         &pack(rt.alloc(), &all[..10])?,
         &[(0, Format::Incomplete(10))],
     )?;
+    Ok(())
+}
+
+#[test]
+fn incomplete_by_names(rt: HostRuntime) -> Result<(), Fail> {
     let mut other = lumps();
     other[9] = (b"REJECTS", &[]);
     other[3] = (b"sidedefs", &[]);
@@ -123,8 +128,14 @@ fn incomplete(rt: HostRuntime) -> Result<(), Fail> {
         &rt,
         &pack(rt.alloc(), &other)?,
         &[(0, Format::Incomplete(3))],
-    )?;
-    // Where an entry isn't there and one before it has another name, the latter is told.
+    )
+}
+
+// Where an entry isn't there and one before it has another name, the latter is told.
+#[test]
+fn incomplete_by_the_first(rt: HostRuntime) -> Result<(), Fail> {
+    let mut other = lumps();
+    other[3] = (b"sidedefs", &[]);
     check(
         &rt,
         &pack(rt.alloc(), &other[..5])?,

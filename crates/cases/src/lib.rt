@@ -22,8 +22,6 @@ mod files;
 #[cfg(test)]
 mod findings;
 #[cfg(test)]
-mod level_list;
-#[cfg(test)]
 mod level_memory;
 #[cfg(test)]
 mod level_starts;
@@ -35,6 +33,8 @@ mod levels;
 mod line_answers;
 #[cfg(test)]
 mod link_cases;
+#[cfg(test)]
+mod listed_levels;
 #[cfg(test)]
 mod listing;
 #[cfg(test)]

@@ -1,5 +1,5 @@
 #!/usr/bin/env python3
-"""hostile.py --wadlook PATH: runs wadlook on inputs of its limits that no editor
+"""hostile.py --wadlook PATH [--wadlens PATH]: runs wadlook, and wadlens where it is given, on inputs of their limits that no editor
 writes, each at half its size and at its whole size, and prints user plus system
 time, peak memory, and the ratio of the two times, which is near 2 where time
 grows with the input.
@@ -9,6 +9,7 @@ import argparse, os, struct, subprocess, sys, tempfile
 
 A = argparse.ArgumentParser()
 A.add_argument('--wadlook', required=True)
+A.add_argument('--wadlens', default='', help='the program whose jobs are check and survey; they are left out without it')
 A.add_argument('--dir', default='', help='folder for the inputs (a temporary one, which is removed)')
 A.add_argument('--only', default='', help='jobs whose name holds one of these words (comma)')
 A.add_argument('--limit', type=int, default=300, help='seconds for one run')
@@ -158,11 +159,22 @@ job('demo: 67 million commands in a lump', 'demo DEMO1 F', demo_lump)
 job('lumps: a byte more than may be read', 'lumps F', hole, ends=2)
 job('lmp: a byte more than may be read', 'lmp D', demo_hole, ends=2)
 
+one_byte = big_level({}, NAMES, whole(1), lambda out, n: again(out, b'\xff', n))
+for word in ('check', 'survey') if o.wadlens else ():
+    job(word + ': 16,777,215 entries of one name', word + ' F', one_name)
+    job(word + ': 1,525,201 levels of one label', word + ' F', directory(None, [b'E1M1'] + NAMES), ends=1)
+    job(word + ': 9.5 million nodes in a chain', word + ' F', big_level(MANY_SSECTORS, [b'NODES'], whole(28), CHAIN), ends=1)
+    job(word + ': 134 million words without an end', word + ' F', big_level({}, b, whole(2), words(32767, 4095, w(4))))
+    for k, record in ((b'LINEDEFS', 14), (b'SIDEDEFS', 30), (b'SSECTORS', 4)):
+        job('%s: %s of bytes 255' % (word, k.decode()), word + ' F', big_level({}, [k], whole(record), lambda out, n: again(out, b'\xff', n)), ends=1)
+    job(word + ': all lumps over the same bytes 255', word + ' F', one_byte, ends=1)
+
 # ----------------------------------------------------------------------- runs
 def once(args, inp):
     """user plus system seconds, peak KB, status, first word on standard error"""
-    q = subprocess.run([RUN, str(o.limit), inp, '/dev/null', p('err'), o.wadlook] + args, stdout=subprocess.PIPE).stdout.split()
-    if len(q) != 5 or q[4] == b'127': sys.exit('cannot run %s' % o.wadlook)
+    program = o.wadlens if args[0] in ('check', 'survey') else o.wadlook
+    q = subprocess.run([RUN, str(o.limit), inp, '/dev/null', p('err'), program] + args, stdout=subprocess.PIPE).stdout.split()
+    if len(q) != 5 or q[4] == b'127': sys.exit('cannot run %s' % program)
     return float(q[0]) + float(q[1]), int(q[3]), int(q[4]), open(p('err'), errors='replace').read().strip().split('\n')[0]
 def best(words, make, lines, part):
     file, inp = p('file.wad'), '/dev/null'

@@ -1,4 +1,4 @@
-//! Ends that fail, and an input without an end.
+//! An input that fails, or is longer than its limit.
 
 use crate::sample::base;
 use le_rec::{Sink, Source};
@@ -6,8 +6,8 @@ use map_level::Reading;
 use std::alloc::Global;
 use std::process::Abort;
 use std::test::Fail;
-use test_ends::{RepeatSource, SliceSink, SliceSource};
-use wad_look::{LIMIT, RunFault, points, read_all, status};
+use test_ends::{SliceSink, SliceSource};
+use wad_look::{MAX_READ, RunFault, points, read_all, status};
 
 const INPUT: &[u8] = b"1 5\n0 5\n-1 5\n";
 
@@ -22,7 +22,7 @@ fn run<S: Source, W: Sink>(
     limit: u64,
     out: &mut W,
 ) -> Result<(), RunFault> {
-    assert!(rt; files.len() <= 64 && limit <= LIMIT);
+    assert!(rt; files.len() <= 64 && limit <= MAX_READ);
     let fresh = !source.failed() && !out.failed();
     assert!(rt; fresh);
     points(alloc, files, b"E1M1", Reading::Signed, source, limit, out)
@@ -34,14 +34,14 @@ fn failing_ends(rt: HostRuntime) -> Result<(), Fail> {
     let mut ten = [0; 10];
     let mut out = SliceSink::new(&mut ten);
     let mut source = SliceSource::new(b"0 5\n");
-    let result = run(&rt, rt.alloc(), &files, &mut source, LIMIT, &mut out);
+    let result = run(&rt, rt.alloc(), &files, &mut source, MAX_READ, &mut out);
     assert_eq!(rt; result, Err(RunFault::Write));
     assert_eq!(rt; out.taken(), b"0 5 sector".as_slice());
 
     let mut room = [0; 100];
     let mut out = SliceSink::new(&mut room);
     let mut source = SliceSource::new(b"1 5\n").failing_at(2);
-    let result = run(&rt, rt.alloc(), &files, &mut source, LIMIT, &mut out);
+    let result = run(&rt, rt.alloc(), &files, &mut source, MAX_READ, &mut out);
     assert_eq!(rt; result, Err(RunFault::Read));
     assert_eq!(rt; out.taken(), b"1 5 sector 0 ssector 0\n".as_slice());
 
@@ -60,33 +60,13 @@ fn failing_ends(rt: HostRuntime) -> Result<(), Fail> {
 }
 
 #[test]
-fn writer_fails(rt: HostRuntime) -> Result<(), Fail> {
-    let files = vec![in rt.alloc(); base(rt.alloc())?]?;
-    for n in 1..71u32 {
-        let mut room = [0; 100];
-        let mut out = SliceSink::new(&mut room).at_most(1).failing_at(n);
-        let mut source = SliceSource::new(INPUT).at_most(1);
-        let result = run(&rt, rt.alloc(), &files, &mut source, LIMIT, &mut out);
-        assert_eq!(rt; result, Err(RunFault::Write));
-        assert_eq!(rt; Some(out.taken()), TEXT.get(..n as usize - 1));
-        let left = match n {
-            0..24 => 9,
-            24..47 => 5,
-            _ => 0,
-        };
-        assert_eq!(rt; source.left().len(), left, "call {n}");
-    }
-    Ok(())
-}
-
-#[test]
 fn reader_fails(rt: HostRuntime) -> Result<(), Fail> {
     let files = vec![in rt.alloc(); base(rt.alloc())?]?;
     for n in 1..15u32 {
         let mut room = [0; 100];
         let mut out = SliceSink::new(&mut room);
         let mut source = SliceSource::new(INPUT).at_most(1).failing_at(n);
-        let result = run(&rt, rt.alloc(), &files, &mut source, LIMIT, &mut out);
+        let result = run(&rt, rt.alloc(), &files, &mut source, MAX_READ, &mut out);
         assert_eq!(rt; result, Err(RunFault::Read));
         let answered = match n {
             0..5 => 0,
@@ -97,18 +77,6 @@ fn reader_fails(rt: HostRuntime) -> Result<(), Fail> {
         assert_eq!(rt; Some(out.taken()), TEXT.get(..answered), "call {n}");
         assert_eq!(rt; source.left().len(), INPUT.len() - (n as usize - 1));
     }
-    Ok(())
-}
-
-#[test]
-fn endless_reader(rt: HostRuntime) -> Result<(), Fail> {
-    let files = vec![in rt.alloc(); base(rt.alloc())?]?;
-    let mut room = [0; 100];
-    let mut out = SliceSink::new(&mut room);
-    let mut source = RepeatSource { byte: b'1' };
-    let result = run(&rt, rt.alloc(), &files, &mut source, 64, &mut out);
-    assert_eq!(rt; result, Err(RunFault::TooLong));
-    assert_eq!(rt; out.taken(), b"".as_slice());
     Ok(())
 }
 

@@ -5,14 +5,7 @@ use le_rec::{Name8, Seg, Vertex};
 use map_level::{Level, LevelFault, Reading};
 use std::process::Abort;
 use std::test::Fail;
-use wad_dir::{Packer, Set};
-
-// Why there is no level E1M1.
-fn fault(rt: &(impl Abort + AllocGlobal), files: &[Vec<u8>]) -> Result<Option<LevelFault>, Fail> {
-    assert!(rt; files.len() <= 64);
-    let set = Set::new(rt.alloc(), files)?;
-    Ok(Level::open(&set, Name8::query(b"E1M1"), Reading::Signed).err())
-}
+use wad_dir::Set;
 
 fn check_tables(rt: &impl Abort, level: &Level<'_>) {
     assert_eq!(rt; level.things().len(), 1);
@@ -92,69 +85,5 @@ fn lumps_missing_at(rt: HostRuntime) -> Result<(), Fail> {
     assert_eq!(rt; fault_at(&rt, &files, 9)?, Some(LevelFault::Missing(1)));
     let files = vec![in rt.alloc(); base(rt.alloc())?]?;
     assert_eq!(rt; fault_at(&rt, &files, 1)?, Some(LevelFault::Missing(10)));
-    Ok(())
-}
-
-#[test]
-fn lumps_missing(rt: HostRuntime) -> Result<(), Fail> {
-    let files = vec![in rt.alloc(); pack(rt.alloc(), &lumps()[..10])?]?;
-    assert_eq!(rt; fault(&rt, &files)?, Some(LevelFault::Missing(10)));
-    let files = vec![in rt.alloc(); pack(rt.alloc(), &lumps()[1..])?]?;
-    assert_eq!(rt; fault(&rt, &files)?, Some(LevelFault::NoLabel));
-    Ok(())
-}
-
-/// The sample level's file with filepos -1 in the entry NODES.
-pub fn nodes_outside(rt: &(impl Abort + AllocGlobal)) -> Result<Vec<u8>, Fail> {
-    let mut file = base(rt.alloc())?;
-    assert_eq!(rt; file.len(), 409);
-    for at in 345..349 {
-        file[at] = 255;
-    }
-    Ok(file)
-}
-
-#[test]
-fn lump_places(rt: HostRuntime) -> Result<(), Fail> {
-    let files = vec![in rt.alloc(); nodes_outside(&rt)?]?;
-    assert_eq!(rt; fault(&rt, &files)?, Some(LevelFault::Outside(7)));
-    assert_eq!(rt; fault_at(&rt, &files, 0)?, Some(LevelFault::Outside(7)));
-    assert_eq!(rt; fault_at(&rt, &files, 5)?, Some(LevelFault::Outside(2)));
-    Ok(())
-}
-
-#[test]
-fn first_lump_decides(rt: HostRuntime) -> Result<(), Fail> {
-    let mut file = pack(rt.alloc(), &lumps()[..9])?;
-    assert_eq!(rt; file.len(), 360);
-    for at in 344..348 {
-        file[at] = 255;
-    }
-    let files = vec![in rt.alloc(); file]?;
-    assert_eq!(rt; fault(&rt, &files)?, Some(LevelFault::Outside(8)));
-    Ok(())
-}
-
-#[test]
-fn lumps_in_a_later_file(rt: HostRuntime) -> Result<(), Fail> {
-    let first = pack(rt.alloc(), &lumps()[..6])?;
-    let second = pack(rt.alloc(), &lumps()[6..])?;
-    let files = vec![in rt.alloc(); first, second]?;
-    let set = Set::new(rt.alloc(), &files)?;
-    let level = Level::open(&set, Name8::query(b"E1M1"), Reading::Signed)?;
-    assert_eq!(rt; level.label(), 0);
-    check_tables(&rt, &level);
-    Ok(())
-}
-
-#[test]
-fn lower_case_label(rt: HostRuntime) -> Result<(), Fail> {
-    let mut packer = Packer::new(rt.alloc());
-    packer.add(Name8::stored(*b"e1m1\0\0\0\0"), &[])?;
-    for (name, bytes) in &lumps()[1..] {
-        packer.add(Name8::query(name), bytes)?;
-    }
-    let files = vec![in rt.alloc(); packer.pack(rt.alloc())?]?;
-    assert_eq!(rt; fault(&rt, &files)?, Some(LevelFault::NoLabel));
     Ok(())
 }

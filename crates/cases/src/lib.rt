@@ -4,11 +4,9 @@
 #[cfg(test)]
 mod audit_cases;
 #[cfg(test)]
-mod audit_texts;
+mod callers;
 #[cfg(test)]
 mod census_cases;
-#[cfg(test)]
-mod census_texts;
 #[cfg(test)]
 mod commands;
 #[cfg(test)]
@@ -16,44 +14,30 @@ mod demo_cases;
 #[cfg(test)]
 mod ends;
 #[cfg(test)]
-mod engines;
-#[cfg(test)]
-mod files;
+mod fault_texts;
 #[cfg(test)]
 mod findings;
 #[cfg(test)]
-mod level_memory;
+mod lens_check;
 #[cfg(test)]
 mod level_starts;
 #[cfg(test)]
-mod level_texts;
-#[cfg(test)]
 mod levels;
-#[cfg(test)]
-mod line_answers;
 #[cfg(test)]
 mod link_cases;
 #[cfg(test)]
-mod listed_levels;
-#[cfg(test)]
-mod listing;
-#[cfg(test)]
 mod memory;
 #[cfg(test)]
-mod plenty;
-#[cfg(test)]
-mod points;
+mod refusal_words;
 #[cfg(test)]
 mod sample;
 #[cfg(test)]
+mod survey_texts;
+#[cfg(test)]
 mod table_cases;
 #[cfg(test)]
-mod tables;
+mod tallies;
+#[cfg(test)]
+mod texts;
 #[cfg(test)]
 mod tree_cases;
-#[cfg(test)]
-mod wide_texts;
-#[cfg(test)]
-mod words;
-#[cfg(test)]
-mod writers;

@@ -103,11 +103,6 @@ fn push_node(nodes: &mut Vec<u8>, front: u16, back: u16) -> Result<(), AllocErro
     nodes.extend_from_slice(&back.to_le_bytes())
 }
 
-/// The sample level's file with other children of its node.
-pub fn base_with_children(alloc: Global, front: u16, back: u16) -> Result<Vec<u8>, Fail> {
-    base_with(alloc, &[(7, &nodes_with(alloc, &[(front, back)])?)])
-}
-
 const FOUR_SSECTORS: [u8; 16] = [1, 0, 0, 0, 1, 0, 0, 0, 1, 0, 0, 0, 1, 0, 0, 0];
 
 /// The sample level's file with two nodes and two ssectors that the root doesn't lead to.
@@ -152,21 +147,6 @@ pub fn base_many_segs(alloc: Global) -> Result<Vec<u8>, Fail> {
     base_with(alloc, &[(5, &segs), (6, &[1, 0, 0, 0, 1, 0, 0, 128])])
 }
 
-/// The sample level's file with one byte 0 more in SECTORS.
-pub fn base_with_rest(alloc: Global) -> Result<Vec<u8>, Fail> {
-    let mut sectors = Vec::from_slice(alloc, &SECTORS)?;
-    sectors.push(0)?;
-    base_with(alloc, &[(8, &sectors)])
-}
-
-/// A BLOCKMAP of one block, whose list begins at word 32768.
-pub fn map_of_wide_list(alloc: Global) -> Result<Vec<u8>, Fail> {
-    let mut map = Vec::from_slice(alloc, &[0, 0, 0, 0, 1, 0, 1, 0, 0, 128])?;
-    map.resize(65536, 0)?;
-    map.extend_from_slice(&[7, 0, 255, 255])?;
-    Ok(map)
-}
-
 /// The sample level's linedef with two sides by its flags and one by its fields.
 pub const LINE_WITHOUT_SIDE_1: [u8; 14] = [0, 0, 1, 0, 4, 0, 0, 0, 0, 0, 0, 0, 255, 255];
 
@@ -179,4 +159,14 @@ pub fn base_with_node(alloc: Global, x: i16, y: i16, dx: i16, dy: i16) -> Result
         node[2 * i + 1] = high;
     }
     base_with(alloc, &[(7, &node)])
+}
+
+/// The sample level's file with filepos -1 in the entry NODES.
+pub fn nodes_outside(rt: &(impl Abort + AllocGlobal)) -> Result<Vec<u8>, Fail> {
+    let mut file = base(rt.alloc())?;
+    assert_eq!(rt; file.len(), 409);
+    for at in 345..349 {
+        file[at] = 255;
+    }
+    Ok(file)
 }

@@ -1,13 +1,10 @@
-//! Trees of levels: findings on nodes, leaves, and each growth refused in turn.
+//! Trees of levels: how deep leaves lie, and findings on nodes with each growth refused in turn.
 
 use crate::findings::{NOT_REACHED, Pair, check_list};
-use crate::sample::{
-    LINE_WITHOUT_SIDE_1, base_chain, base_not_reached, base_two_nodes, base_with,
-    base_with_children, base_with_node,
-};
+use crate::sample::{LINE_WITHOUT_SIDE_1, base_chain, base_not_reached, base_with};
 use le_rec::{Name8, Node, Record};
 use map_geo::Point;
-use map_level::{Code, Level, Reading};
+use map_level::{Level, Reading};
 use map_tree::{Tree, is_sound, tree_findings};
 use std::alloc::Global;
 use std::process::Abort;
@@ -42,20 +39,6 @@ fn nodes(alloc: Global, all: &[Node]) -> Result<Vec<u8>, Fail> {
     Ok(lump)
 }
 
-// Opens the level of a file and compares the findings on its nodes.
-fn check_findings(
-    rt: &(impl Abort + AllocGlobal),
-    file: Vec<u8>,
-    expected: &[Pair],
-) -> Result<(), Fail> {
-    let files = vec![in rt.alloc(); file]?;
-    let set = Set::new(rt.alloc(), &files)?;
-    let level = Level::open(&set, Name8::query(b"E1M1"), Reading::Signed)?;
-    let found = tree_findings(rt.alloc(), &level)?;
-    check_list(rt, &found, expected);
-    Ok(())
-}
-
 // A point, its ssector and the number of side tests, and its sector.
 type Case = ([i32; 2], (u16, u32), u16);
 
@@ -76,133 +59,6 @@ fn check_leaves(
         assert_eq!(rt; tree.sector(point), *sector, "sector of {x} {y}");
     }
     Ok(())
-}
-
-#[test]
-fn base_points(rt: HostRuntime) -> Result<(), Fail> {
-    check_leaves(
-        &rt,
-        base_with(rt.alloc(), &[])?,
-        &[
-            ([1, 5], (0, 1), 0),
-            ([0, 5], (1, 1), 1),
-            ([-1, 5], (1, 1), 1),
-        ],
-    )
-}
-
-#[test]
-fn diagonal_ties(rt: HostRuntime) -> Result<(), Fail> {
-    check_leaves(
-        &rt,
-        base_with_node(rt.alloc(), 0, 0, -1, 1)?,
-        &[
-            ([0, 0], (0, 1), 0),
-            ([1, -1], (1, 1), 1),
-            ([-1, 1], (1, 1), 1),
-        ],
-    )
-}
-
-#[test]
-fn greatest_products(rt: HostRuntime) -> Result<(), Fail> {
-    check_leaves(
-        &rt,
-        base_with_node(rt.alloc(), -16384, 16383, 32767, -32768)?,
-        &[([16383, -16384], (1, 1), 1)],
-    )
-}
-
-#[test]
-fn no_direction(rt: HostRuntime) -> Result<(), Fail> {
-    let file = base_with_node(rt.alloc(), 3, 3, 0, 0)?;
-    check_findings(&rt, file.clone()?, &[(Code::N7, 0)])?;
-    check_leaves(
-        &rt,
-        file,
-        &[
-            ([3, 3], (0, 1), 0),
-            ([3, 4], (0, 1), 0),
-            ([2, 3], (0, 1), 0),
-            ([-16384, -16384], (0, 1), 0),
-            ([16383, 16383], (0, 1), 0),
-        ],
-    )
-}
-
-#[test]
-fn no_nodes(rt: HostRuntime) -> Result<(), Fail> {
-    check_findings(&rt, base_with(rt.alloc(), &[(7, &[])])?, &[(Code::F16, 1)])?;
-    let alone = base_with(rt.alloc(), &[(6, &[1, 0, 0, 0]), (7, &[])])?;
-    check_findings(&rt, alone.clone()?, &[])?;
-    check_leaves(
-        &rt,
-        alone,
-        &[([0, 5], (0, 0), 0), ([-16384, 16383], (0, 0), 0)],
-    )?;
-    check_findings(&rt, base_with(rt.alloc(), &[(6, &[]), (7, &[])])?, &[])
-}
-
-#[test]
-fn two_nodes(rt: HostRuntime) -> Result<(), Fail> {
-    check_leaves(
-        &rt,
-        base_two_nodes(rt.alloc())?,
-        &[
-            ([1, 5], (0, 2), 0),
-            ([1, 10], (0, 2), 0),
-            ([0, 5], (1, 2), 1),
-            ([1, 11], (2, 1), 1),
-        ],
-    )
-}
-
-#[test]
-fn children(rt: HostRuntime) -> Result<(), Fail> {
-    check_findings(
-        &rt,
-        base_with_children(rt.alloc(), 32768, 32768)?,
-        &[(Code::F15, 0), (Code::F16, 1)],
-    )?;
-    check_findings(
-        &rt,
-        base_with_children(rt.alloc(), 0, 32769)?,
-        &[(Code::F13, 0), (Code::F16, 0)],
-    )?;
-    check_findings(
-        &rt,
-        base_with_children(rt.alloc(), 32770, 32769)?,
-        &[(Code::F11, 0), (Code::F16, 0)],
-    )?;
-    check_findings(
-        &rt,
-        base_with_node(rt.alloc(), 16384, 0, 0, 64)?,
-        &[(Code::F12, 0)],
-    )
-}
-
-#[test]
-fn origins(rt: HostRuntime) -> Result<(), Fail> {
-    for z in [-16384, 16383] {
-        check_findings(&rt, base_with_node(rt.alloc(), z, 0, 0, 64)?, &[])?;
-        check_findings(&rt, base_with_node(rt.alloc(), 0, z, 0, 64)?, &[])?;
-    }
-    for z in [-32768, -16385, 16384, 32767] {
-        let outside = [(Code::F12, 0)];
-        check_findings(&rt, base_with_node(rt.alloc(), z, 0, 0, 64)?, &outside)?;
-        check_findings(&rt, base_with_node(rt.alloc(), 0, z, 0, 64)?, &outside)?;
-    }
-    Ok(())
-}
-
-#[test]
-fn nodes_not_reached(rt: HostRuntime) -> Result<(), Fail> {
-    check_findings(&rt, base_not_reached(rt.alloc())?, &NOT_REACHED)
-}
-
-#[test]
-fn too_many_nodes(rt: HostRuntime) -> Result<(), Fail> {
-    check_findings(&rt, base_with(rt.alloc(), &[])?, &[])
 }
 
 #[test]

@@ -5,7 +5,7 @@ use Rattle.demo_lump.specs.Pieces.{AreJoined, NoneBegins}
 use Rattle.demo_lump.specs.Header.{RefusesHeader}
 use Rattle.demo_lump.specs.Command.{IsCommand, command_of, command_size}
 use Rattle.demo_lump.specs.Demo.{AreCommands, IsCutAt, RefusesDemo}
-use Rattle.demo_lump.specs.Laws.{IsCommand109, PiecesAreDemo, PiecesAreRefused, ReadsAs109}
+use Rattle.demo_lump.specs.Laws.{IsCommand109, PiecesAreDemo, PiecesAreRefused, ReadsAs109, StopsBehind}
 use Rattle.demo_lump.specs.NextPiece.{AreNext, AreNextUntil, Begins, IsNext, RefusesNext, header_piece}
 use Rattle.demo_lump.specs.declared.command.Command.{Command}
 use Rattle.demo_lump.specs.declared.header.Header.{Header}
@@ -155,6 +155,25 @@ pieces_are_refused bytes fault = (
     | inr u ↦ until_refused bytes fault u
   ],
 )
+
+pub stops_behind : StopsBehind
+stops_behind header commands front body rest place (NoMarker at) begins follow is h = record {
+  header = header;
+  commands = commands;
+  front = front;
+  body = body;
+  rest = rest;
+  joined = refl;
+  begins = begins;
+  follow = follow;
+  most = λ c piece more same k. h.1 (Some c) piece more same k;
+  unmarked = λ more same. h.1 None (128 ∷ []) more same refl;
+  placed = h.0 ∙ is;
+}
+stops_behind header commands front body rest place Empty begins follow is h = absurd h
+stops_behind header commands front body rest place (Version v) begins follow is h = absurd h
+stops_behind header commands front body rest place ShortHeader begins follow is h = absurd h
+stops_behind header commands front body rest place NoPlayers begins follow is h = absurd h
 
 -- bytes that are pieces of one kind are pieces of another
 AreJoined-map : {A : Type 0} (P Q : List ℕ → A → Type 0)

@@ -1,10 +1,10 @@
 -- Laws over the definitions alone.
-use Rattle.std.specs.Prelude.{◌≡◌, ◌≢◌, ◌↔◌, ◌⊎◌, ℕ, ◌<◌, List, ◌∷◌, ◌++◌, length, slice_index}
+use Rattle.std.specs.Prelude.{◌≡◌, ◌≢◌, ◌↔◌, ◌⊎◌, ℕ, ◌+◌, ◌<◌, ◌≤◌, List, [], ◌∷◌, ◌++◌, length, slice_index}
 use Rattle.demo_lump.specs.Pieces.{AreJoined}
-use Rattle.demo_lump.specs.Header.{RefusesHeader, header_of, players_in}
-use Rattle.demo_lump.specs.Command.{short_command_of}
-use Rattle.demo_lump.specs.Demo.{Demo, IsDemo, IsRead, RefusesDemo}
-use Rattle.demo_lump.specs.NextPiece.{AreNext, AreNextUntil, Begins, header_piece}
+use Rattle.demo_lump.specs.Header.{IsHeader, RefusesHeader, header_of, players_in}
+use Rattle.demo_lump.specs.Command.{IsCommand, command_size, short_command_of}
+use Rattle.demo_lump.specs.Demo.{AreCommands, Demo, IsDemo, IsRead, RefusesDemo}
+use Rattle.demo_lump.specs.NextPiece.{AreNext, AreNextUntil, Begins, RefusesNext, header_piece}
 use Rattle.demo_lump.specs.declared.command.Command.{Command}
 use Rattle.demo_lump.specs.declared.header.Header.{Header}
 use Rattle.demo_lump.specs.declared.fault.DemoFault.{DemoFault}
@@ -50,6 +50,25 @@ PiecesAreRefused =
     ↔ (RefusesHeader bytes fault
     ⊎ ((header : Header) × (commands : List Command) × (left : List ℕ)
     × Begins header_piece bytes header left × AreNextUntil header.version 13 left commands fault))
+
+-- a command has 4 or 5 bytes
+abbrev pub CommandSizes : Type 0
+CommandSizes = (version : ℕ) → (4 ≤ command_size version) × (command_size version ≤ 5)
+
+-- commands and one more are commands
+abbrev pub OneMoreCommand : Type 0
+OneMoreCommand =
+    (version : ℕ) (body front : List ℕ) (commands : List Command) (command : Command)
+    → AreCommands version body commands → IsCommand version front command
+    → AreCommands version (body ++ front) (commands ++ command ∷ [])
+
+-- what refuses the next piece behind a header and commands refuses the demo
+abbrev pub StopsBehind : Type 0
+StopsBehind =
+    (header : Header) (commands : List Command) (front body rest : List ℕ) (place : ℕ)
+    (fault : DemoFault) → IsHeader front header → AreCommands header.version body commands
+    → place ≡ length front + length body → RefusesNext header.version place rest fault
+    → RefusesDemo (front ++ (body ++ rest)) fault
 
 -- four bytes that are a command of version 109
 pub record IsCommand109 (bytes : List ℕ) (command : Command) : Type 0 where

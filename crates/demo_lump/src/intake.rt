@@ -2,13 +2,13 @@
 
 ghost use Rattle.std.specs.Prelude.{◌≡◌, ◌≤◌, false, length};
 ghost use Rattle.demo_lump.specs.Takes.{Takes, TakesAll, Fills, IsByte};
-ghost use Rattle.demo_lump.specs.declared.intake.TheConstants.{LIMIT};
+ghost use Rattle.demo_lump.specs.declared.intake.TheConstants.{MAX_READ};
 
 use crate::fault::StreamFault;
 use le_rec::Source;
 
-/// The greatest limit of a reader: 268,435,456 bytes.
-pub const LIMIT: u64 = 268_435_456;
+/// The most bytes that a reader takes of a demo, and so its greatest limit.
+pub const MAX_READ: u64 = 268_435_456;
 
 /// The most bytes that are pulled at once behind the marker.
 const BLOCK: usize = 4096;
@@ -18,7 +18,7 @@ const BLOCK: usize = 4096;
 pub(crate) struct Intake {
     pub limit: u64,
     pub taken: u64,
-    ghost small: { limit ≤ LIMIT },
+    ghost small: { limit ≤ MAX_READ },
 }
 
 impl Intake {

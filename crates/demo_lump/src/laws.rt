@@ -1,8 +1,9 @@
 //! Laws over the definitions alone, each the contract of a function that does
 //! nothing: a caller gets the law from a call.
 
-ghost use Rattle.demo_lump.specs.Laws.{NeverBoth, OneReading, OneRefusal, PiecesAreDemo};
-ghost use Rattle.demo_lump.specs.Laws.{PiecesAreRefused, ReadOrRefused, ReadsAs109};
+ghost use Rattle.demo_lump.specs.Laws.{CommandSizes, NeverBoth, OneMoreCommand, OneReading};
+ghost use Rattle.demo_lump.specs.Laws.{OneRefusal, PiecesAreDemo, PiecesAreRefused, ReadOrRefused};
+ghost use Rattle.demo_lump.specs.Laws.{ReadsAs109, StopsBehind};
 
 /// Bytes have at most one reading as a demo.
 pub fn one_reading()
@@ -20,6 +21,14 @@ pub fn read_or_refused()
 pub fn pieces_are_the_demo()
     ensures demo { PiecesAreDemo }
     ensures refused { PiecesAreRefused }
+{}
+
+/// What a caller that takes one command after another keeps: so many bytes are a command, one more
+/// makes them one more, and what refuses the next piece refuses the demo.
+pub fn commands_go_on()
+    ensures sizes { CommandSizes }
+    ensures more { OneMoreCommand }
+    ensures stopped { StopsBehind }
 {}
 
 /// A demo of version 109 is read as if there were no other version.

@@ -16,6 +16,6 @@ pub use command::Command;
 pub use demo::Demo;
 pub use fault::{DemoFault, StreamFault};
 pub use header::Header;
-pub use intake::LIMIT;
+pub use intake::MAX_READ;
 pub use reader::DemoReader;
 pub use write::write_demo;

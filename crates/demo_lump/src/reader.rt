@@ -6,7 +6,7 @@ ghost use Rattle.demo_lump.specs.DemoReader.{ReadsBoth, ReadsHeader, ReadsNext, 
 use crate::command::Command;
 use crate::fault::StreamFault;
 use crate::header::Header;
-use crate::intake::{Intake, LIMIT};
+use crate::intake::{Intake, MAX_READ};
 use crate::piece::{read_command, read_header};
 use le_rec::Source;
 use std::marker::Model;
@@ -48,7 +48,7 @@ impl DemoReader {
     /// A reader of a demo of at most `limit` bytes, 268,435,456 at most. It takes one byte past
     /// that at most, and answers `TooLong` then.
     pub fn new(limit: u64) -> DemoReader
-        requires { limit ≤ LIMIT }
+        requires { limit ≤ MAX_READ }
         ensures { result ≡ record {
           limit = limit;
           taken = 0;

@@ -1,8 +1,11 @@
 //! Ends of streams: a `Source` gives bytes, a `Sink` takes them, and each says whether it has
 //! failed.
 
+use thiserror::Error;
+
 /// A pull or a put that failed. The end's `failed` tells so too, from then on.
-#[derive(Clone, Copy, Debug, PartialEq, Eq)]
+#[derive(Clone, Copy, Debug, PartialEq, Eq, Error)]
+#[error("the stream failed")]
 pub struct EndFault;
 
 /// Where bytes come from, such as a slice, a file or standard input.

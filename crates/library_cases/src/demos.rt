@@ -1,10 +1,11 @@
-//! Demos in memory.
+//! Demos written.
 
-ghost use Rattle.std.specs.Prelude.{◌≡◌, ◌<◌, All};
+ghost use Rattle.std.specs.Prelude.{◌≡◌, ◌<◌, ◌≤◌, All};
 ghost use Rattle.demo_lump.specs.Header.{players_in};
 ghost use Rattle.demo_lump.specs.Writable.{IsWritable};
 
-use demo_lump::{Command, Demo, DemoFault, Header, write_demo};
+use demo_lump::{Command, Header, write_demo};
+use std::process::Abort;
 use std::test::Fail;
 use test_alloc::Refusing;
 
@@ -64,131 +65,27 @@ fn long_commands() -> [Command; 2]
     ]
 }
 
-// `Demo::read`, of which a test is to know nothing before it asks.
-fn read(bytes: &[u8]) -> Result<Demo<'_>, DemoFault> {
-    Demo::read(bytes)
-}
-
-// Why bytes are no demo.
-pub(crate) fn fault_of(bytes: &[u8]) -> Option<DemoFault> {
-    match read(bytes) {
-        Ok(_) => None,
-        Err(fault) => Some(fault),
-    }
-}
-
-#[test]
-fn demo_two_commands(rt: HostRuntime) -> Result<(), Fail> {
-    let demo = read(&TWO)?;
-    assert_eq!(rt; demo.header(), header_of(109));
-    assert_eq!(rt; demo.players(), 1);
-    assert_eq!(rt; demo.commands(), 2);
-    assert_eq!(rt; demo.command(0), Some(command_of(25, 0, 0, 0)));
-    assert_eq!(rt; demo.command(1), Some(command_of(-50, -128, 255, 128)));
-    assert_eq!(rt; demo.command(2), None);
-    assert_eq!(rt;
-        (demo.full_tics(), demo.odd_commands(), demo.after()),
-        (2, 0, 1)
-    );
+// Compares the bytes of a demo of these commands with what is expected.
+fn check_written(
+    rt: &(impl Abort + AllocGlobal),
+    version: u8,
+    commands: &[Command],
+    bytes: &[u8],
+) -> Result<(), Fail>
+    requires known { 109 ≤ version × version ≤ 111 }
+    requires commands { All (IsWritable version) commands.now }
+{
+    let written = write_demo(rt.alloc(), &header_of(version), commands)?;
+    assert_eq!(rt; written.as_slice(), bytes);
     Ok(())
-}
-
-#[test]
-fn demo_two_players(rt: HostRuntime) -> Result<(), Fail> {
-    let mut bytes = TWO;
-    bytes[10] = 1;
-    let demo = read(&bytes)?;
-    assert_eq!(rt; demo.players(), 2);
-    assert_eq!(rt;
-        (demo.full_tics(), demo.odd_commands(), demo.after()),
-        (1, 0, 1)
-    );
-    let third = [
-        109, 3, 1, 1, 0, 0, 0, 0, 0, 1, 1, 0, 0, 25, 0, 0, 0, 206, 128, 255, 128, 1, 2, 3, 4, 128,
-        7,
-    ];
-    let demo = read(&third)?;
-    assert_eq!(rt;
-        (demo.full_tics(), demo.odd_commands(), demo.after()),
-        (1, 1, 1)
-    );
-    assert_eq!(rt; demo.command(2), Some(command_of(1, 2, 3, 4)));
-    Ok(())
-}
-
-#[test]
-fn demo_without_marker(rt: HostRuntime) {
-    let mut bytes = TWO;
-    bytes[21] = 7;
-    assert_eq!(rt; fault_of(&bytes[..22]), Some(DemoFault::NoMarker(21)));
-    assert_eq!(rt; fault_of(&TWO[..21]), Some(DemoFault::NoMarker(21)));
-}
-
-#[test]
-fn demo_refusals(rt: HostRuntime) -> Result<(), Fail> {
-    assert_eq!(rt; fault_of(&[]), Some(DemoFault::Empty));
-    assert_eq!(rt; fault_of(&[108]), Some(DemoFault::Version(108)));
-    assert_eq!(rt; fault_of(&[109, 3]), Some(DemoFault::ShortHeader));
-    let nobody = [109, 0, 0, 0, 0, 0, 0, 0, 0, 0, 0, 0, 0];
-    assert_eq!(rt; fault_of(&nobody), Some(DemoFault::NoPlayers));
-    assert_eq!(rt; fault_of(&TWO[..13]), Some(DemoFault::NoMarker(13)));
-    let marked = [109, 3, 1, 1, 0, 0, 0, 0, 0, 1, 0, 0, 0, 128];
-    let demo = read(&marked)?;
-    assert_eq!(rt;
-        (demo.commands(), demo.full_tics(), demo.after()),
-        (0, 0, 0)
-    );
-    Ok(())
-}
-
-#[test]
-fn texts(rt: HostRuntime) -> Result<(), Fail> {
-    let texts = [
-        (DemoFault::Empty, "1"),
-        (DemoFault::Version(108), "2 version 108"),
-        (DemoFault::ShortHeader, "3"),
-        (DemoFault::NoPlayers, "4"),
-        (DemoFault::NoMarker(21), "5 at 21"),
-    ];
-    for (fault, text) in &texts {
-        let shown = format!(in rt.alloc(); "{fault}")?;
-        assert_eq!(rt; shown.as_str(), *text);
-    }
-    Ok(())
-}
-
-#[test]
-fn demo_cut(rt: HostRuntime) {
-    for n in 0..23 {
-        let fault = match n {
-            0 => Some(DemoFault::Empty),
-            1..=12 => Some(DemoFault::ShortHeader),
-            13..=16 => Some(DemoFault::NoMarker(13)),
-            17..=20 => Some(DemoFault::NoMarker(17)),
-            21 => Some(DemoFault::NoMarker(21)),
-            _ => None,
-        };
-        assert_eq!(rt; fault_of(&TWO[..n]), fault, "cut to {n}");
-    }
 }
 
 #[test]
 fn demo_written(rt: HostRuntime) -> Result<(), Fail> {
-    let commands = two_commands();
-    let bytes = write_demo(rt.alloc(), &header_of(109), &commands)?;
-    assert_eq!(rt; bytes.as_slice(), &TWO[..22]);
-    let demo = read(&bytes)?;
-    assert_eq!(rt;
-        (demo.header(), demo.commands(), demo.after()),
-        (header_of(109), 2, 0)
-    );
-    assert_eq!(rt;
-        (demo.command(0), demo.command(1)),
-        (Some(commands[0]), Some(commands[1]))
-    );
-    let bytes = write_demo(rt.alloc(), &header_of(109), &[])?;
-    assert_eq!(rt; bytes.len(), 14);
-    Ok(())
+    check_written(&rt, 109, &two_commands(), &TWO[..22])?;
+    check_written(&rt, 111, &long_commands(), &LONG)?;
+    let none = [109, 3, 1, 1, 0, 0, 0, 0, 0, 1, 0, 0, 0, 128];
+    check_written(&rt, 109, &[], &none)
 }
 
 #[test]
@@ -202,62 +99,4 @@ fn growth_refused_in_write_demo(rt: HostRuntime) -> Result<(), Fail> {
     assert!(rt; !granting.has_refused(), "it asks for one growth");
     assert_eq!(rt; bytes.as_slice(), &TWO[..22]);
     Ok(())
-}
-
-#[test]
-fn demo_110(rt: HostRuntime) -> Result<(), Fail> {
-    let mut bytes = TWO;
-    bytes[0] = 110;
-    let demo = read(&bytes)?;
-    assert_eq!(rt; demo.header(), header_of(110));
-    assert_eq!(rt; demo.command(0), Some(command_of(25, 0, 0, 0)));
-    assert_eq!(rt; demo.command(1), Some(command_of(-50, -128, 255, 128)));
-    assert_eq!(rt;
-        (demo.full_tics(), demo.odd_commands(), demo.after()),
-        (2, 0, 1)
-    );
-    Ok(())
-}
-
-#[test]
-fn demo_111(rt: HostRuntime) -> Result<(), Fail> {
-    let first = command_of(25, 0, 4660, 0);
-    let second = command_of(-50, -128, 65535, 128);
-    let demo = read(&LONG)?;
-    assert_eq!(rt; demo.header(), header_of(111));
-    assert_eq!(rt;
-        (demo.command(0), demo.command(1), demo.command(2)),
-        (Some(first), Some(second), None)
-    );
-    assert_eq!(rt;
-        (demo.full_tics(), demo.odd_commands(), demo.after()),
-        (2, 0, 0)
-    );
-    let bytes = write_demo(rt.alloc(), &header_of(111), &long_commands())?;
-    assert_eq!(rt; bytes.as_slice(), &LONG[..]);
-    Ok(())
-}
-
-#[test]
-fn demo_111_cut(rt: HostRuntime) {
-    assert_eq!(rt; fault_of(&LONG[..22]), Some(DemoFault::NoMarker(18)));
-    assert_eq!(rt; fault_of(&LONG[..23]), Some(DemoFault::NoMarker(23)));
-}
-
-#[test]
-fn demo_109_as_111(rt: HostRuntime) -> Result<(), Fail> {
-    let mut bytes = TWO;
-    bytes[0] = 111;
-    let demo = read(&bytes)?;
-    assert_eq!(rt; demo.command(0), Some(command_of(25, 0, 0, 206)));
-    assert_eq!(rt;
-        (demo.full_tics(), demo.odd_commands(), demo.after()),
-        (1, 0, 4)
-    );
-    Ok(())
-}
-
-#[test]
-fn demo_112(rt: HostRuntime) {
-    assert_eq!(rt; fault_of(&[112]), Some(DemoFault::Version(112)));
 }

@@ -39,38 +39,6 @@ fn check_side(rt: &impl Abort, x: i32, y: i32, line: Partition, expected: Side) 
     );
 }
 
-#[test]
-fn base_points(rt: HostRuntime) {
-    let base = partition(&rt, 0, 0, 0, 64);
-    check_side(&rt, 1, 5, base, Side::Front);
-    check_side(&rt, 0, 5, base, Side::Back);
-    check_side(&rt, -1, 5, base, Side::Back);
-}
-
-#[test]
-fn diagonal_ties(rt: HostRuntime) {
-    let diagonal = partition(&rt, 0, 0, -1, 1);
-    check_side(&rt, 0, 0, diagonal, Side::Front);
-    check_side(&rt, 1, -1, diagonal, Side::Back);
-    check_side(&rt, -1, 1, diagonal, Side::Back);
-}
-
-#[test]
-fn greatest_products(rt: HostRuntime) {
-    let steepest = partition(&rt, -16384, 16383, 32767, -32768);
-    check_side(&rt, 16383, -16384, steepest, Side::Back);
-}
-
-#[test]
-fn no_direction(rt: HostRuntime) {
-    let nowhere = partition(&rt, 3, 3, 0, 0);
-    for x in 2..5 {
-        for y in 2..5 {
-            check_side(&rt, x, y, nowhere, Side::Front);
-        }
-    }
-}
-
 // A partition's direction, its side at its origin, and its side at the other points of its line.
 const TIES: [(i16, i16, Side, Side); 9] = [
     (0, 1, Side::Back, Side::Back),
@@ -116,27 +84,6 @@ fn ranges(rt: HostRuntime) {
 }
 
 #[test]
-fn partition_ranges(rt: HostRuntime) {
-    for (z, is_in) in [
-        (-16385, false),
-        (-16384, true),
-        (16383, true),
-        (16384, false),
-    ] {
-        assert_eq!(rt;
-            Partition::of(&node(z, 0, 0, 1)).is_some(),
-            is_in,
-            "origin at {z}"
-        );
-        assert_eq!(rt;
-            Partition::of(&node(0, z, 0, 1)).is_some(),
-            is_in,
-            "origin at {z}"
-        );
-    }
-}
-
-#[test]
 fn rectangles(rt: HostRuntime) {
     let cases = [
         ((0, 0, 0, 0), true),
@@ -151,29 +98,6 @@ fn rectangles(rt: HostRuntime) {
         let made = Rect::new(x0, y0, x1, y1).map(|r| (r.x0(), r.y0(), r.x1(), r.y1()));
         assert_eq!(rt; made, is_one.then_some((x0, y0, x1, y1)));
     }
-}
-
-// Compares the pieces of a rectangle up to a row and from it on.
-fn check_rows(rt: &impl Abort, whole: Rect, y: i32, to: Option<Rect>, from: Option<Rect>) {
-    assert!(rt; whole.y0() <= y && y <= whole.y1());
-    assert_eq!(rt; Some(whole.rows_to(y)), to);
-    assert_eq!(rt; Some(whole.rows_from(y)), from);
-}
-
-// Compares the pieces of a rectangle up to a column and from it on.
-fn check_columns(rt: &impl Abort, whole: Rect, x: i32, to: Option<Rect>, from: Option<Rect>) {
-    assert!(rt; whole.x0() <= x && x <= whole.x1());
-    assert_eq!(rt; Some(whole.columns_to(x)), to);
-    assert_eq!(rt; Some(whole.columns_from(x)), from);
-}
-
-#[test]
-fn rectangles_cut(rt: HostRuntime) {
-    let whole = rect(&rt, -3, 10, 5, 20);
-    let (to, from) = (Rect::new(-3, 10, 5, 12), Rect::new(-3, 12, 5, 20));
-    check_rows(&rt, whole, 12, to, from);
-    let (to, from) = (Rect::new(-3, 10, 2, 20), Rect::new(2, 10, 5, 20));
-    check_columns(&rt, whole, 2, to, from);
 }
 
 // Compares the side of a whole rectangle with what is expected.

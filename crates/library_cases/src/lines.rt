@@ -1,15 +1,18 @@
 //! Lines answered by a command that tells their content's length.
-ghost use Rattle.std.specs.Prelude.{◌≡◌, ℕ, List, ◌++◌, ◌∷◌, [], length, false, None, decimal};
+ghost use Rattle.line_io.specs.declared.input.TheConstants.{MAX_READ};
+ghost use Rattle.std.specs.Prelude.{◌≡◌, ◌<◌, ◌≤◌, ℕ, List, ◌++◌, ◌∷◌, [], length, false, None, decimal};
 
 use itoa::Buffer;
 use le_rec::{EndFault, Sink, Source};
-use line_io::{IoFault, LIMIT, LineCommand, answer_lines, emit, read_all};
+use line_io::{IoFault, LineCommand, MAX_READ, answer_lines, emit, read_all};
+use std::alloc::Global;
 use std::cell::Cell;
 use std::process::Abort;
 use std::test::Fail;
 use test_alloc::Refusing;
 use test_ends::{RepeatSource, SliceSink, SliceSource};
 
+#[derive(Drop)]
 struct Length;
 
 impl LineCommand for Length {
@@ -18,7 +21,7 @@ impl LineCommand for Length {
 
     ghost takes_memory = { false };
 
-    fn reply<W: Sink>(&self, content: &[u8], out: &mut W) -> Result<(), IoFault> {
+    fn reply<W: Sink>(&mut self, content: &[u8], out: &mut W) -> Result<(), IoFault> {
         let mut buffer = Buffer::new();
         emit(out, buffer.format(content.len()).as_bytes())?;
         emit(out, b"\n")
@@ -29,62 +32,37 @@ const INPUT: &[u8] = b"0 5\n\n007 -0\r\n\r\nlast";
 
 const TEXT: &[u8] = b"3\n0\n6\n0\n4\n";
 
-// Compares what the lines of a source that hasn't failed are told with what is expected.
-fn check_answers(rt: &impl Abort, mut input: SliceSource<'_>, text: &[u8]) {
-    assert!(rt; !input.failed());
+// What becomes of a source: how the run ends, what it writes, and how many bytes it leaves.
+type Ended<'a> = (Result<(), IoFault>, &'a [u8], usize);
+
+// Compares a run over the lines of a source up to a limit, whose output takes at most so many bytes a call and fails at call
+// `failing`, with what is expected.
+fn check_run(
+    rt: &impl Abort,
+    mut input: SliceSource<'_>,
+    limit: u64,
+    most: usize,
+    failing: u32,
+    expected: Ended<'_>,
+) {
+    assert!(rt; 0 < most && limit <= MAX_READ && !input.failed());
+    let (end, text, left) = expected;
     let mut room = [0; 100];
-    let mut out = SliceSink::new(&mut room);
-    assert_eq!(rt; answer_lines(&Length, &mut input, LIMIT, &mut out), Ok(()));
+    let mut out = SliceSink::new(&mut room).at_most(most).failing_at(failing);
+    let ended = answer_lines(&mut Length, &mut input, limit, &mut out);
+    assert_eq!(rt; ended, end);
     assert_eq!(rt; out.taken(), text);
-    assert!(rt; input.left().is_empty() && !input.failed() && !out.failed());
+    assert_eq!(rt; input.left().len(), left);
+    assert_eq!(rt; input.failed(), end == Err(IoFault::Read));
+    assert_eq!(rt; out.failed(), end == Err(IoFault::Write));
 }
 
 #[test]
 fn lines_are_answered(rt: HostRuntime) {
     for most in [1, 2, 3, 100] {
-        let mut room = [0; 100];
-        let mut out = SliceSink::new(&mut room).at_most(most);
-        let mut input = SliceSource::new(INPUT).at_most(most);
-        let ended = answer_lines(&Length, &mut input, LIMIT, &mut out);
-        assert_eq!(rt; ended, Ok(()), "{most} a call");
-        assert_eq!(rt; out.taken(), TEXT);
-        assert!(rt; input.left().is_empty() && !input.failed() && !out.failed());
+        let input = SliceSource::new(INPUT).at_most(most);
+        check_run(&rt, input, MAX_READ, most, 0, (Ok(()), TEXT, 0));
     }
-}
-
-#[test]
-fn last_parts(rt: HostRuntime) {
-    let cases: [(&[u8], &[u8]); 5] = [
-        (b"", b""),
-        (b"\n", b"0\n"),
-        (b"\r", b"0\n"),
-        (b"5", b"1\n"),
-        (b"5\n\r", b"1\n0\n"),
-    ];
-    for (input, text) in cases {
-        check_answers(&rt, SliceSource::new(input), text);
-    }
-}
-
-#[test]
-fn line_lengths(rt: HostRuntime) -> Result<(), Fail> {
-    let cases: [(usize, &[u8], &[u8]); 7] = [
-        (63, b"\r\n", b"63\n"),
-        (64, b"\n", b"64\n"),
-        (64, b"\r\n", b"64\n"),
-        (65, b"\n", b"refused: form\n"),
-        (65, b"\r\n", b"refused: form\n"),
-        (66, b"", b"refused: form\n"),
-        (67, b"\r", b"refused: form\n"),
-    ];
-    for (count, end, text) in cases {
-        let mut line = Vec::from_elem(rt.alloc(), b'0', count)?;
-        line.extend_from_slice(end)?;
-        for most in [1, 100] {
-            check_answers(&rt, SliceSource::new(&line).at_most(most), text);
-        }
-    }
-    Ok(())
 }
 
 // How many lines of INPUT end within its first `count` bytes, as the length of their answers.
@@ -100,18 +78,20 @@ fn answered(count: usize) -> usize {
 
 #[test]
 fn failing_reads(rt: HostRuntime) {
-    for call in 1..=20 {
-        let mut room = [0; 100];
-        let mut out = SliceSink::new(&mut room);
-        let mut input = SliceSource::new(INPUT).at_most(1).failing_at(call);
-        assert_eq!(rt;
-            answer_lines(&Length, &mut input, LIMIT, &mut out),
-            Err(IoFault::Read)
+    for pulled in 0..20 {
+        let text = &TEXT[..answered(pulled).min(TEXT.len())];
+        let left = INPUT.len().saturating_sub(pulled);
+        let input = SliceSource::new(INPUT)
+            .at_most(1)
+            .failing_at(pulled as u32 + 1);
+        check_run(
+            &rt,
+            input,
+            MAX_READ,
+            100,
+            0,
+            (Err(IoFault::Read), text, left),
         );
-        let count = answered(call as usize - 1).min(TEXT.len());
-        assert_eq!(rt; out.taken(), &TEXT[..count], "call {call}");
-        assert!(rt; input.failed() && !out.failed());
-        assert_eq!(rt; input.left().len(), INPUT.len() - (call as usize - 1));
     }
 }
 
@@ -128,18 +108,19 @@ fn left_before(written: usize) -> usize {
 
 #[test]
 fn failing_writes(rt: HostRuntime) {
-    for call in 1..=10 {
-        let mut room = [0; 100];
-        let mut out = SliceSink::new(&mut room).at_most(1).failing_at(call);
-        let mut input = SliceSource::new(INPUT).at_most(1);
-        assert_eq!(rt;
-            answer_lines(&Length, &mut input, LIMIT, &mut out),
-            Err(IoFault::Write)
+    for written in 0..10 {
+        let text = &TEXT[..written.min(TEXT.len())];
+        let left = left_before(written);
+        let input = SliceSource::new(INPUT).at_most(1);
+        let failing = written as u32 + 1;
+        check_run(
+            &rt,
+            input,
+            MAX_READ,
+            1,
+            failing,
+            (Err(IoFault::Write), text, left),
         );
-        let count = (call as usize - 1).min(TEXT.len());
-        assert_eq!(rt; out.taken(), &TEXT[..count], "call {call}");
-        assert!(rt; !input.failed() && out.failed());
-        assert_eq!(rt; input.left().len(), left_before(count));
     }
 }
 
@@ -210,37 +191,31 @@ fn each_line_is_answered_before_the_next_pull(rt: HostRuntime) {
     let mut out = Counting {
         answered: &answered,
     };
-    assert_eq!(rt; answer_lines(&Length, &mut input, LIMIT, &mut out), Ok(()));
+    assert_eq!(rt;
+        answer_lines(&mut Length, &mut input, MAX_READ, &mut out),
+        Ok(())
+    );
     assert_eq!(rt; answered.get(), 5);
 }
 
 #[test]
 fn limits(rt: HostRuntime) {
     for limit in 0..19 {
-        let mut room = [0; 100];
-        let mut out = SliceSink::new(&mut room);
-        let mut input = SliceSource::new(INPUT);
-        assert_eq!(rt;
-            answer_lines(&Length, &mut input, limit, &mut out),
-            Err(IoFault::TooLong)
-        );
-        let count = answered(limit as usize).min(TEXT.len());
-        assert_eq!(rt; out.taken(), &TEXT[..count], "limit {limit}");
-        assert_eq!(rt; input.left().len() as u64, 18 - limit);
+        let text = &TEXT[..answered(limit).min(TEXT.len())];
+        let left = INPUT.len().saturating_sub(limit + 1);
+        let expected = (Err(IoFault::TooLong), text, left);
+        check_run(&rt, SliceSource::new(INPUT), limit as u64, 100, 0, expected);
     }
+    check_run(&rt, SliceSource::new(INPUT), 19, 100, 0, (Ok(()), TEXT, 0));
+}
+
+#[test]
+fn endless_reader(rt: HostRuntime) {
     let mut room = [0; 100];
     let mut out = SliceSink::new(&mut room);
-    assert_eq!(rt;
-        answer_lines(&Length, &mut SliceSource::new(INPUT), 19, &mut out),
-        Ok(())
-    );
-    assert_eq!(rt; out.taken(), TEXT);
-    let mut out = SliceSink::new(&mut room);
     let mut endless = RepeatSource { byte: b'1' };
-    assert_eq!(rt;
-        answer_lines(&Length, &mut endless, 64, &mut out),
-        Err(IoFault::TooLong)
-    );
+    let ended = answer_lines(&mut Length, &mut endless, 64, &mut out);
+    assert_eq!(rt; ended, Err(IoFault::TooLong));
     assert!(rt; out.taken().is_empty());
 }
 
@@ -254,26 +229,32 @@ fn lines_across_blocks(rt: HostRuntime) {
     let mut room = [0; 100];
     let mut out = SliceSink::new(&mut room);
     let mut source = SliceSource::new(&input[..16386]).at_most(8192);
-    assert_eq!(rt; answer_lines(&Length, &mut source, LIMIT, &mut out), Ok(()));
+    assert_eq!(rt;
+        answer_lines(&mut Length, &mut source, MAX_READ, &mut out),
+        Ok(())
+    );
     assert_eq!(rt;
         out.taken(),
         b"refused: form\n5\nrefused: form\n1\n".as_slice()
     );
 }
 
+// Why an input of `1 5` and its line's end isn't read whole, at most so many bytes a call.
+fn fault_of_whole(alloc: Global, most: usize, limit: u64) -> Option<IoFault>
+    requires some { 0 < most }
+    requires limit { limit ≤ MAX_READ }
+{
+    let mut input = SliceSource::new(b"1 5\n").at_most(most);
+    read_all(alloc, &mut input, limit).err()
+}
+
 #[test]
-fn whole_inputs(rt: HostRuntime) -> Result<(), Fail> {
+fn whole_inputs(rt: HostRuntime) {
     for most in [1, 3, 100] {
-        let mut input = SliceSource::new(b"1 5\n").at_most(most);
-        let bytes = read_all(rt.alloc(), &mut input, 4).ok().ok_or("refused")?;
-        assert_eq!(rt; bytes.as_slice(), b"1 5\n".as_slice());
+        assert_eq!(rt; fault_of_whole(rt.alloc(), most, 4), None);
     }
-    let mut input = SliceSource::new(b"1 5\n");
-    assert_eq!(rt;
-        read_all(rt.alloc(), &mut input, 3).err(),
-        Some(IoFault::TooLong)
-    );
-    Ok(())
+    let fault = fault_of_whole(rt.alloc(), 100, 3);
+    assert_eq!(rt; fault, Some(IoFault::TooLong));
 }
 
 #[test]
@@ -289,23 +270,28 @@ fn whole_inputs_that_fail(rt: HostRuntime) {
     }
 }
 
+// Whether reading the bytes met growth `n` refused.
+fn is_refused(rt: &(impl Abort + AllocGlobal), bytes: &[u8], n: u64) -> bool {
+    let heap = Refusing::new(rt.alloc(), n);
+    let mut input = SliceSource::new(bytes);
+    match read_all(&heap, &mut input, MAX_READ) {
+        Ok(whole) => assert_eq!(rt; whole.as_slice(), bytes),
+        Err(fault) => {
+            assert!(rt; heap.has_refused() && !input.failed());
+            assert_eq!(rt; fault, IoFault::Memory);
+            return true;
+        }
+    }
+    assert!(rt; !heap.has_refused());
+    false
+}
+
 #[test]
 fn whole_inputs_without_memory(rt: HostRuntime) -> Result<(), Fail> {
-    let bytes = [b'1'; 200000];
+    let bytes = Vec::from_elem(rt.alloc(), b'1', 200_000)?;
     for growth in 1..=3 {
-        let refusing = Refusing::new(rt.alloc(), growth);
-        let mut input = SliceSource::new(&bytes);
-        assert_eq!(rt;
-            read_all(&refusing, &mut input, LIMIT).err(),
-            Some(IoFault::Memory)
-        );
-        assert!(rt; refusing.has_refused() && !input.failed());
+        assert!(rt; is_refused(&rt, &bytes, growth));
     }
-    let granting = Refusing::new(rt.alloc(), 4);
-    let whole = read_all(&granting, &mut SliceSource::new(&bytes), LIMIT)
-        .ok()
-        .ok_or("refused")?;
-    assert_eq!(rt; whole.as_slice(), bytes.as_slice());
-    assert!(rt; !granting.has_refused());
+    assert!(rt; !is_refused(&rt, &bytes, 4));
     Ok(())
 }

@@ -1,40 +1,12 @@
 //! Numbers of a line's content.
 
 use line_io::{Numbers, read_numbers};
-use std::test::Fail;
 
 fn pair(x: i32, y: i32, is_printed: bool) -> Option<Numbers<2>> {
     Some(Numbers {
         values: [x, y],
         is_printed,
     })
-}
-
-#[test]
-fn line_forms(rt: HostRuntime) {
-    assert_eq!(rt; read_numbers::<2>(b"x"), None);
-    assert_eq!(rt; read_numbers(b"16384 0"), pair(16384, 0, true));
-    assert_eq!(rt; read_numbers::<2>(b"0  5"), None);
-    assert_eq!(rt; read_numbers::<2>(b"1 2 3"), None);
-    assert_eq!(rt; read_numbers::<2>(b""), None);
-    assert_eq!(rt; read_numbers(b"007 -0"), pair(7, 0, false));
-    assert_eq!(rt; read_numbers::<2>(b"+1 1"), None);
-    assert_eq!(rt; read_numbers::<2>(b"1 2 "), None);
-    assert_eq!(rt; read_numbers::<2>(b"1 -"), None);
-}
-
-#[test]
-fn line_lengths(rt: HostRuntime) -> Result<(), Fail> {
-    let mut line = Vec::from_slice(rt.alloc(), &[b'0'; 62])?;
-    line.extend_from_slice(b" 5")?;
-    assert_eq!(rt; read_numbers(&line), pair(0, 5, false));
-    let mut line = Vec::from_slice(rt.alloc(), &[b'0'; 63])?;
-    line.extend_from_slice(b" 5")?;
-    assert_eq!(rt; read_numbers::<2>(&line), None);
-    let mut line = Vec::from_slice(rt.alloc(), &[b'9'; 62])?;
-    line.extend_from_slice(b" 5")?;
-    assert_eq!(rt; read_numbers(&line), pair(i32::MAX, 5, false));
-    Ok(())
 }
 
 #[test]

@@ -3,8 +3,8 @@
 ghost use Rattle.std.specs.Prelude.{◌≡◌, ◌≤◌, false, None};
 ghost use Rattle.test_ends.specs.SliceSource.{pull_failed};
 
-use crate::demos::{LONG, TWO, command_of, fault_of, header_of};
-use demo_lump::{Command, DemoFault, DemoReader, Header, LIMIT, StreamFault};
+use crate::demos::{LONG, TWO, command_of, header_of};
+use demo_lump::{Command, DemoFault, DemoReader, Header, MAX_READ, StreamFault};
 use test_ends::SliceSource;
 
 // A reader with its source, of which a test is to know nothing before it asks.
@@ -17,7 +17,7 @@ struct Run<'a> {
 
 impl<'a> Run<'a> {
     fn new(source: SliceSource<'a>, limit: u64) -> Run<'a>
-        requires limit { limit ≤ LIMIT }
+        requires limit { limit ≤ MAX_READ }
         requires sound { pull_failed source ≡ false }
     {
         Run {
@@ -108,26 +108,4 @@ fn refused_version_is_read_alone(rt: HostRuntime) {
     let refused = StreamFault::Demo(DemoFault::Version(112));
     assert_eq!(rt; run.next(), Err(refused));
     assert_eq!(rt; run.source.left(), [3, 1, 1].as_slice());
-}
-
-#[test]
-fn demo_cut_in_a_stream(rt: HostRuntime) {
-    for n in 0..23 {
-        let mut run = Run::new(SliceSource::new(&TWO[..n]), 100);
-        let fault = fault_of(&TWO[..n]);
-        assert_eq!(rt; run.fault(), fault.map(StreamFault::Demo), "cut to {n}");
-    }
-}
-
-#[test]
-fn lmp_reader_fails(rt: HostRuntime) {
-    for n in 1..25 {
-        let mut run = Run::new(SliceSource::new(&TWO).at_most(1).failing_at(n), 100);
-        assert_eq!(rt; run.fault(), Some(StreamFault::Read), "pull {n}");
-        assert_eq!(rt; run.next(), Err(StreamFault::Read), "after pull {n}");
-        assert_eq!(rt; run.header(), Err(StreamFault::Read), "after pull {n}");
-        assert_eq!(rt; run.source.left().len(), TWO.len() - (n as usize - 1));
-    }
-    let mut run = Run::new(SliceSource::new(&TWO).at_most(1).failing_at(25), 100);
-    assert_eq!(rt; run.fault(), None);
 }

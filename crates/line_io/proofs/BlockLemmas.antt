@@ -1,10 +1,9 @@
 -- The lines of a block, answered one after another.
-use Rattle.std.proofs.Common.{◌≡◌, ◌≢◌, ℕ, Bool, false, List, [], ◌∷◌, ◌++◌, Result, Ok, Err, inl, inr, refl, sym, ap, ◌∙◌, subst}
+use Rattle.std.proofs.Common.{◌≡◌, ◌≢◌, ℕ, Bool, false, List, [], ◌∷◌, ◌++◌, Ok, Err, inl, inr, refl, sym, ap, ◌∙◌, subst}
 use Rattle.std.proofs.KnownBytes.{Appends-nil, Appends-trans}
 use Rattle.std.proofs.lemmas.List.{append-nil, append_assoc}
 use Rattle.std.specs.Io.KnownBytes.{Appends}
 use Rattle.std.specs.List.{All}
-use Rattle.std.specs.Prelude.{OnOk}
 use Rattle.le_rec.specs.Sink.{SinkState}
 use Rattle.line_io.specs.AnswersLines.{EndsLines, LeavesWhole, LinesFault}
 use Rattle.line_io.specs.declared.fault.IoFault.{IoFault}

@@ -7,4 +7,5 @@ pub mod NumberAnswers
 pub mod Numbers
 pub mod ReadsAll
 pub mod Scan
+pub mod Tied
 pub mod Writes

@@ -3,6 +3,7 @@
 use Rattle.std.specs.Prelude.{◌≡◌, ℕ, ◌+◌, ◌-◌, ◌*◌, ◌^◌, ◌<◌, ◌≤◌, ℤ, pos, negsuc, neg_ℤ, min, Bool, true, false, List, [], ◌∷◌, ◌++◌, length, All, map, Option, Some, None, option_map, if◌then◌else◌, ◌==◌, ◌&&◌, nat_lt, nat_le}
 use Rattle.std.specs.Fmt.{signed_decimal}
 use Rattle.std.specs.List.{AllZip, join_with_byte, list_all, slice_split}
+use Rattle.line_io.specs.declared.lines.TheConstants.{MAX_CONTENT}
 
 -- an ASCII digit
 abbrev pub IsDigit : ℕ → Type 0
@@ -41,7 +42,7 @@ pub record AreNumbers (content : List ℕ) (numbers : List ℤ) : Type 0 where
 -- the content has the form that is asked for, so many numbers in at most
 -- 64 bytes, and they are these
 pub record HasForm (count : ℕ) (content : List ℕ) (numbers : List ℤ) : Type 0 where
-  pub short : length content ≤ 64
+  pub short : length content ≤ MAX_CONTENT
   pub counted : length numbers ≡ count
   pub read : AreNumbers content numbers
 

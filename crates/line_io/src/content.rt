@@ -7,7 +7,7 @@ ghost use Rattle.line_io.specs.Numbers.{HasForm, IsDigit, nearest, printed, valu
 ghost use Rattle.line_io.specs.Numbers.{signed};
 ghost use Rattle.line_io.specs.Scan.{StartsWith, LacksNumber};
 
-use super::lines::CONTENT;
+use super::lines::MAX_CONTENT;
 
 /// The numbers that stand in a line's content.
 #[derive(Clone, Copy, Debug, PartialEq, Eq)]
@@ -34,7 +34,7 @@ pub fn read_numbers<const N: usize>(content: &[u8]) -> Option<Numbers<N>>
         IsTrue found.is_printed → content.now ≡ printed found.values) }
     ensures none { IfNone result ((exact : List ℤ) → HasForm N content.now exact → ⊥) }
 {
-    if content.len() > CONTENT {
+    if content.len() > MAX_CONTENT {
         return None;
     }
     let mut values = [0; N];

@@ -26,8 +26,8 @@ pub fn next_block<'b, S: Source>(input: &mut S, block: &'b mut [u8]) -> Result<&
     }
 }
 
-/// The most bytes of an input.
-pub const LIMIT: u64 = 268_435_456;
+/// The most bytes that are read of an input.
+pub const MAX_READ: u64 = 268_435_456;
 
 /// The most bytes that are pulled at once.
 pub const BLOCK: usize = 65_536;
@@ -40,7 +40,7 @@ pub fn read_all<S: Source, A: Allocator>(
     input: &mut S,
     limit: u64,
 ) -> Result<Vec<u8, A>, IoFault>
-    requires limit { limit ≤ LIMIT }
+    requires limit { limit ≤ MAX_READ }
     requires input { (S.state input.old).failed ≡ false }
     ensures { ReadsAll limit (S.state input.old) (S.state input.new) result }
 {

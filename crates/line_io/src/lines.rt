@@ -9,7 +9,7 @@ ghost use Rattle.line_io.specs.Writes.{EndsAnswer, TakesText};
 ghost use Rattle.line_io.specs.declared.fault.IoFault.TheVariants.{Memory};
 
 use super::fault::IoFault;
-use super::input::{BLOCK, LIMIT, next_block};
+use super::input::{BLOCK, MAX_READ, next_block};
 use super::line_part::{KEPT, LinePart};
 use super::output::emit;
 use super::refusal::LineRefusal;
@@ -17,7 +17,7 @@ use le_rec::{Sink, Source};
 use memchr::memchr;
 
 /// The most bytes of a line's content, 64.
-pub const CONTENT: usize = 64;
+pub const MAX_CONTENT: usize = 64;
 
 /// A command that answers each line of its input by itself.
 pub trait LineCommand {
@@ -28,12 +28,13 @@ pub trait LineCommand {
     ghost takes_memory: { Bool };
 
     /// Writes the answer to a line with that content.
-    fn reply<W: Sink>(&self, content: &[u8], out: &mut W) -> Result<(), IoFault>
-        requires short { length content.now ≤ CONTENT }
+    fn reply<W: Sink>(&mut self, content: &[u8], out: &mut W) -> Result<(), IoFault>
+        requires short { length content.now ≤ MAX_CONTENT }
         requires sound { (W.state out.old).failed ≡ false }
-        ensures takes { (answer : List ℕ → List ℕ) → Answers self.now answer
+        ensures takes { (answer : List ℕ → List ℕ) → Answers self.old answer
             → TakesText (W.state out.old) (W.state out.new) (answer content.now) result }
-        ensures ends { EndsAnswer takes_memory (W.state out.old) (W.state out.new) result };
+        ensures ends { EndsAnswer takes_memory (W.state out.old) (W.state out.new) result }
+        ensures same { self.new ≡ self.old };
 }
 
 fn content_of(line: &[u8]) -> &[u8]
@@ -47,17 +48,18 @@ fn content_of(line: &[u8]) -> &[u8]
 }
 
 fn answer_line<C: LineCommand, W: Sink>(
-    command: &C,
+    command: &mut C,
     line: &[u8],
     out: &mut W,
 ) -> Result<(), IoFault>
     requires { (W.state out.old).failed ≡ false }
-    ensures takes { (answer : List ℕ → List ℕ) → C.Answers command.now answer
+    ensures takes { (answer : List ℕ → List ℕ) → C.Answers command.old answer
         → TakesText (W.state out.old) (W.state out.new) (line_answer answer line.now) result }
     ensures ends { EndsAnswer C.takes_memory (W.state out.old) (W.state out.new) result }
+    ensures same { command.new ≡ command.old }
 {
     let content = content_of(line);
-    if content.len() > CONTENT {
+    if content.len() > MAX_CONTENT {
         emit(out, LineRefusal::Form.text())
     } else {
         command.reply(content, out)
@@ -66,17 +68,18 @@ fn answer_line<C: LineCommand, W: Sink>(
 
 // Answers the line that `part` begins and `line` ends.
 fn answer_ended<C: LineCommand, W: Sink>(
-    command: &C,
+    command: &mut C,
     part: &mut LinePart,
     line: &[u8],
     out: &mut W,
 ) -> Result<(), IoFault>
     requires { (W.state out.old).failed ≡ false }
-    ensures takes { (answer : List ℕ → List ℕ) → C.Answers command.now answer
+    ensures takes { (answer : List ℕ → List ℕ) → C.Answers command.old answer
         → TakesText (W.state out.old) (W.state out.new)
         (line_answer answer (part.old ++ line.now)) result }
     ensures ends { EndsAnswer C.takes_memory (W.state out.old) (W.state out.new) result }
     ensures cleared { part.new ≡ [] }
+    ensures same { command.new ≡ command.old }
 {
     if part.is_empty() {
         return answer_line(command, line, out);
@@ -99,20 +102,21 @@ fn split_line(bytes: &[u8]) -> Option<(&[u8], &[u8])>
 // Answers the lines that end in `block`, the first of them begun by
 // `part`, and keeps the part after them.
 fn answer_block<C: LineCommand, W: Sink>(
-    command: &C,
+    command: &mut C,
     part: &mut LinePart,
     block: &[u8],
     out: &mut W,
 ) -> Result<(), IoFault>
     requires { (W.state out.old).failed ≡ false }
-    ensures takes { (answer : List ℕ → List ℕ) → C.Answers command.now answer
+    ensures takes { (answer : List ℕ → List ℕ) → C.Answers command.old answer
         → TakesText (W.state out.old) (W.state out.new)
         (answers_from answer part.old block.now) result }
-    ensures unbroken { (answer : List ℕ → List ℕ) → C.Answers command.now answer
+    ensures unbroken { (answer : List ℕ → List ℕ) → C.Answers command.old answer
         → IfErr result (λ e. e ≡ Memory
         → LeavesWhole answer part.old block.now (W.state out.old) (W.state out.new)) }
     ensures ends { EndsLines C.takes_memory (W.state out.new) result }
     ensures kept { OnOk result (part.new ≡ take KEPT (last_from part.old block.now)) }
+    ensures same { command.new ≡ command.old }
 {
     let mut rest = block;
     'lines: while let Some((line, after)) = split_line(rest) {
@@ -125,12 +129,12 @@ fn answer_block<C: LineCommand, W: Sink>(
 
 // Answers the last part of the input, if there is one.
 fn answer_last<C: LineCommand, W: Sink>(
-    command: &C,
+    command: &mut C,
     part: &LinePart,
     out: &mut W,
 ) -> Result<(), IoFault>
     requires { (W.state out.old).failed ≡ false }
-    ensures takes { (answer : List ℕ → List ℕ) → C.Answers command.now answer
+    ensures takes { (answer : List ℕ → List ℕ) → C.Answers command.old answer
         → TakesText (W.state out.old) (W.state out.new) (last_answer answer part.now) result }
     ensures ends { EndsAnswer C.takes_memory (W.state out.old) (W.state out.new) result }
 {
@@ -144,15 +148,15 @@ fn answer_last<C: LineCommand, W: Sink>(
 /// Reads `input` to its end and writes the answer to each of its lines, as soon as the line has
 /// ended. It pulls at most one byte past `limit`.
 pub fn answer_lines<C: LineCommand, S: Source, W: Sink>(
-    command: &C,
+    command: &mut C,
     input: &mut S,
     limit: u64,
     out: &mut W,
 ) -> Result<(), IoFault>
-    requires limit { limit ≤ LIMIT }
+    requires limit { limit ≤ MAX_READ }
     requires input { (S.state input.old).failed ≡ false }
     requires out { (W.state out.old).failed ≡ false }
-    ensures { AnswersLines (C.Answers command.now) C.takes_memory limit
+    ensures { AnswersLines (C.Answers command.old) C.takes_memory limit
         (S.state input.old) (S.state input.new) (W.state out.old) (W.state out.new) result }
 {
     let mut block = [0; BLOCK];

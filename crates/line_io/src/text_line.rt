@@ -58,7 +58,7 @@ impl TextLine {
 
     /// Puts bytes before the others.
     #[inline]
-    pub fn put_bytes(&mut self, bytes: &[u8])
+    pub fn prepend_bytes(&mut self, bytes: &[u8])
         requires { length self.old + length bytes.now ≤ ROOM }
         ensures text { self.new ≡ bytes.now ++ self.old }
         ensures length { length self.new ≡ length self.old + length bytes.now }
@@ -71,7 +71,7 @@ impl TextLine {
     /// Puts the decimal text of a number before the other bytes, with no leading zero; it needs 20
     /// bytes of room.
     #[inline]
-    pub fn put_natural(&mut self, number: u64)
+    pub fn prepend_natural(&mut self, number: u64)
         requires { length self.old + 20 ≤ ROOM }
         ensures text { self.new ≡ decimal number ++ self.old }
         ensures length { length self.new ≤ length self.old + 20 }
@@ -81,7 +81,7 @@ impl TextLine {
 
     /// Puts the decimal text of a number below 256 before the other bytes; it needs 3 bytes of room.
     #[inline]
-    pub fn put_small(&mut self, number: u8)
+    pub fn prepend_small(&mut self, number: u8)
         requires { length self.old + 3 ≤ ROOM }
         ensures text { self.new ≡ decimal number ++ self.old }
         ensures length { length self.new ≤ length self.old + 3 }
@@ -92,28 +92,28 @@ impl TextLine {
     /// Puts the decimal text of a number of eight bits before the other bytes, with `-` where it is
     /// negative; it needs 4 bytes of room.
     #[inline]
-    pub fn put_small_integer(&mut self, number: i8)
+    pub fn prepend_small_integer(&mut self, number: i8)
         requires { length self.old + 4 ≤ ROOM }
         ensures text { self.new ≡ signed_decimal number ++ self.old }
         ensures length { length self.new ≤ length self.old + 4 }
     {
-        self.put_small(number.unsigned_abs());
+        self.prepend_small(number.unsigned_abs());
         if number < 0 {
-            self.put_bytes(b"-");
+            self.prepend_bytes(b"-");
         }
     }
 
     /// Puts the decimal text of a number before the other bytes, with `-` where it is negative; it
     /// needs 21 bytes of room.
     #[inline]
-    pub fn put_integer(&mut self, number: i64)
+    pub fn prepend_integer(&mut self, number: i64)
         requires { length self.old + 21 ≤ ROOM }
         ensures text { self.new ≡ signed_decimal number ++ self.old }
         ensures length { length self.new ≤ length self.old + 21 }
     {
-        self.put_natural(number.unsigned_abs());
+        self.prepend_natural(number.unsigned_abs());
         if number < 0 {
-            self.put_bytes(b"-");
+            self.prepend_bytes(b"-");
         }
     }
 }

@@ -1,10 +1,12 @@
-use Rattle.std.specs.Prelude.{◌↔◌, ℕ, List, IsTrue}
+use Rattle.std.specs.Prelude.{◌≡◌, ◌≢◌, ◌↔◌, ℕ, List, Some, IsTrue}
+use Rattle.std.specs.List.{slice_get}
 use Rattle.wad_dir.specs.Wad.{Wad}
 use Rattle.map_level.specs.Level.{Level}
-use Rattle.map_level.specs.Findings.{is_fault}
+use Rattle.map_level.specs.Findings.{AreFindings, NoFaultHolds, StandsBefore, is_fault}
 use Rattle.map_level.specs.Laws.{OneList}
 use Rattle.map_level.specs.Opening.{IsLevel}
 use Rattle.map_level.specs.declared.finding.Code.{Code}
+use Rattle.map_level.specs.declared.finding.Finding.{Finding}
 use Rattle.map_level.specs.declared.reading.Reading.TheVariants.{Signed, Wide}
 use Rattle.map_tree.specs.Sound.{IsSound}
 use Rattle.map_audit.specs.Findings.{AuditHolds}
@@ -19,6 +21,22 @@ SoundIsNoFault =
 -- a level has at most one report
 abbrev pub OneReport : Type 0
 OneReport = (level : Level) → OneList (AuditHolds level)
+
+-- the first finding of a report holds, and stands before all others that do
+abbrev pub FirstStandsBefore : Type 0
+FirstStandsBefore =
+    (level : Level) (found : List Finding) (first : Finding)
+    → AreFindings (AuditHolds level) found → slice_get found 0 ≡ Some first
+    → AuditHolds level first.code first.index
+    × ((other : Finding) → AuditHolds level other.code other.index → other ≢ first
+    → StandsBefore first other)
+
+-- where it is no fault, or there is none, no fault holds
+abbrev pub FaultsStandFirst : Type 0
+FaultsStandFirst =
+    (level : Level) (found : List Finding) → AreFindings (AuditHolds level) found
+    → ((first : Finding) → slice_get found 0 ≡ Some first → ¬ IsTrue (is_fault first.code))
+    → NoFaultHolds (AuditHolds level)
 
 -- what files hold under a name is sound under the wide reading where it is under the signed one,
 -- with the same leaves and sectors

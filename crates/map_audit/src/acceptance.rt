@@ -9,13 +9,16 @@ use crate::report::Report;
 use map_level::Level;
 use map_tree::{Tree, is_sound};
 use std::alloc::{AllocError, Allocator, Global};
+use thiserror::Error;
 
 /// Why a level isn't accepted.
-#[derive(Debug, Drop)]
+#[derive(Debug, Drop, Error)]
 pub enum Refused<A: Allocator = Global> {
     /// It has faults: all its findings.
+    #[error("not sound: faults {}, notes {}", .0.faults(), .0.notes())]
     Faults(Report<A>),
     /// Memory was refused.
+    #[error("no memory left")]
     Memory,
 }
 

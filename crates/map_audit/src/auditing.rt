@@ -21,9 +21,9 @@ pub fn audit<A: Allocator + Copy>(alloc: A, level: &Level<'_>) -> Result<Report<
     Ok(Report::of(findings))
 }
 
-// A level's parts, each of which looks for codes of its own.
+/// A level's parts, each of which looks for codes of its own: for a caller who asks where a code holds next and keeps no list.
 #[derive(Drop)]
-struct Parts<'l, 'a, A: Allocator> {
+pub struct Parts<'l, 'a, A: Allocator> {
     links: Links<'l, 'a>,
     nodes: Nodes<'l, 'a, A>,
     tables: Tables<'l, 'a>,
@@ -41,7 +41,8 @@ impl<'l, 'a, A: Allocator> Model for Parts<'l, 'a, A> {
 }
 
 impl<'l, 'a, A: Allocator + Copy> Parts<'l, 'a, A> {
-    fn of(alloc: A, level: &'l Level<'a>) -> Result<Parts<'l, 'a, A>, AllocError>
+    /// The parts of a level, whose nodes and ssectors are gone over once.
+    pub fn of(alloc: A, level: &'l Level<'a>) -> Result<Parts<'l, 'a, A>, AllocError>
         ensures { IfOk result (λ parts. parts ≡ level.now) }
     {
         let nodes = Nodes::of(alloc, level)?;

@@ -2,6 +2,7 @@
 //! gets the law from a call.
 
 ghost use Rattle.map_audit.specs.Laws.{SoundIsNoFault, OneReport, WideKeepsSound};
+ghost use Rattle.map_audit.specs.Laws.{FaultsStandFirst, FirstStandsBefore};
 
 /// A level is sound exactly where none of the faults F3 to F18 holds of it.
 pub fn sound_is_no_fault()
@@ -11,6 +12,12 @@ pub fn sound_is_no_fault()
 /// A level has at most one report.
 pub fn one_report()
     ensures { OneReport }
+{}
+
+/// A report's first finding stands before all others, and faults stand first.
+pub fn faults_stand_first()
+    ensures first { FirstStandsBefore }
+    ensures none { FaultsStandFirst }
 {}
 
 /// Soundness under the signed reading carries over to the wide one; the leaf of each point and the

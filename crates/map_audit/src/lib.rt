@@ -7,5 +7,5 @@ pub mod laws;
 mod report;
 
 pub use acceptance::{Refused, accept, sound_tree};
-pub use auditing::audit;
+pub use auditing::{Parts, audit};
 pub use report::Report;

@@ -26,7 +26,7 @@ below_zero : (a m b : ℤ) → IsBetween a m b → a ≤ℤ pos 0 → b ≤ℤ p
 below_zero a m b between h k =
     elim between.ways [ inl w ↦ omega (arith, ints) | inr w ↦ omega (arith, ints) ]
 
--- where the cross product lies strictly between those of two places of one side, so does the place
+-- where the cross product lies strictly between those of two points of one side, so does the point
 side_of_between : (partition : Partition) (p q r : Point) (side : Side)
     → IsBetween (cross partition p) (cross partition q) (cross partition r)
     → side_of partition p ≡ side → side_of partition r ≡ side → side_of partition q ≡ side
@@ -37,35 +37,35 @@ side_of_between partition p q r Back between h k =
     side_of-back partition q _ refl
     (below_zero _ _ _ between (cross-back partition p h) (cross-back partition r k))
 
--- what a line does along places that are numbered in order
-data Sweep (partition : Partition) (places : ℤ → Point) : Type 0 where
-  rises : ((a b : ℤ) → a <ℤ b → cross partition (places a) <ℤ cross partition (places b))
-      → Sweep partition places
-  falls : ((a b : ℤ) → a <ℤ b → cross partition (places b) <ℤ cross partition (places a))
-      → Sweep partition places
-  stays : ((a b : ℤ) → side_of partition (places a) ≡ side_of partition (places b))
-      → Sweep partition places
+-- what a line does along points that are numbered in order
+data Sweep (partition : Partition) (points : ℤ → Point) : Type 0 where
+  rises : ((a b : ℤ) → a <ℤ b → cross partition (points a) <ℤ cross partition (points b))
+      → Sweep partition points
+  falls : ((a b : ℤ) → a <ℤ b → cross partition (points b) <ℤ cross partition (points a))
+      → Sweep partition points
+  stays : ((a b : ℤ) → side_of partition (points a) ≡ side_of partition (points b))
+      → Sweep partition points
 
-side_of_inner : (partition : Partition) (places : ℤ → Point) → Sweep partition places
-    → (a m b : ℤ) (side : Side) → a <ℤ m → m <ℤ b → side_of partition (places a) ≡ side
-    → side_of partition (places b) ≡ side → side_of partition (places m) ≡ side
-side_of_inner partition places (rises up) a m b side h k e f =
+side_of_inner : (partition : Partition) (points : ℤ → Point) → Sweep partition points
+    → (a m b : ℤ) (side : Side) → a <ℤ m → m <ℤ b → side_of partition (points a) ≡ side
+    → side_of partition (points b) ≡ side → side_of partition (points m) ≡ side
+side_of_inner partition points (rises up) a m b side h k e f =
     side_of_between partition _ _ _ side (record { ways = inl (up a m h, up m b k) }) e f
-side_of_inner partition places (falls down) a m b side h k e f =
+side_of_inner partition points (falls down) a m b side h k e f =
     side_of_between partition _ _ _ side (record { ways = inr (down m b k, down a m h) }) e f
-side_of_inner partition places (stays same) a m b side h k e f = same m a ∙ e
+side_of_inner partition points (stays same) a m b side h k e f = same m a ∙ e
 
 less_or_same : (a b : ℤ) → a ≤ℤ b → (a <ℤ b) ⊎ (a ≡ b)
 less_or_same a b h = by_lt_z a b (λ k. inl k) (λ k. inr (omega (arith, ints)))
 
-side_of_along : (partition : Partition) (places : ℤ → Point) → Sweep partition places → (a m b : ℤ)
-    → a ≤ℤ m → m ≤ℤ b → side_of partition (places a) ≡ side_of partition (places b)
-    → side_of partition (places m) ≡ side_of partition (places a)
-side_of_along partition places sweep a m b h k e = elim (less_or_same a m h) [
-  | inr same ↦ ap (λ z. side_of partition (places z)) (sym same)
+side_of_along : (partition : Partition) (points : ℤ → Point) → Sweep partition points → (a m b : ℤ)
+    → a ≤ℤ m → m ≤ℤ b → side_of partition (points a) ≡ side_of partition (points b)
+    → side_of partition (points m) ≡ side_of partition (points a)
+side_of_along partition points sweep a m b h k e = elim (less_or_same a m h) [
+  | inr same ↦ ap (λ z. side_of partition (points z)) (sym same)
   | inl after ↦ elim (less_or_same m b k) [
-    | inr same ↦ ap (λ z. side_of partition (places z)) same ∙ sym e
-    | inl before ↦ side_of_inner partition places sweep a m b _ after before refl (sym e)
+    | inr same ↦ ap (λ z. side_of partition (points z)) same ∙ sym e
+    | inl before ↦ side_of_inner partition points sweep a m b _ after before refl (sym e)
   ]
 ]
 
@@ -143,7 +143,7 @@ pub sides_along_columns : SidesAlongColumns
 sides_along_columns partition x =
     side_of_along partition _ (column_sweep partition x _ (int_ranks partition.dx (pos 0)))
 
--- ---- a rectangle: its left and right columns, then the row of the place
+-- ---- a rectangle: its left and right columns, then the row of the point
 pub sides_by_corners : SidesByCorners
 sides_by_corners rect partition side corners point inside =
     let left : side_of partition (point_at rect.x0 point.y) ≡ side =

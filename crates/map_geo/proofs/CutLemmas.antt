@@ -4,15 +4,15 @@ use Rattle.std.proofs.lemmas.Int.{ints}
 use Rattle.std.proofs.lemmas.Nat.{mul-le}
 use Rattle.map_geo.specs.Rect.{Rect, IsSpan, IsRect, span}
 
--- smaller factors have no more places
-fewer_places : (a b c d : ℤ) → pos 0 ≤ℤ a → a ≤ℤ c → pos 0 ≤ℤ b → b ≤ℤ d → (c *ℤ d) ≤ℤ pos 1048576
+-- smaller factors have no more points
+fewer_points : (a b c d : ℤ) → pos 0 ≤ℤ a → a ≤ℤ c → pos 0 ≤ℤ b → b ≤ℤ d → (c *ℤ d) ≤ℤ pos 1048576
     → (a *ℤ b) ≤ℤ pos 1048576
-fewer_places (pos a) (pos b) (pos c) (pos d) i h j k most =
+fewer_points (pos a) (pos b) (pos c) (pos d) i h j k most =
     omega (arith, ints, mul-le a b c d (omega (arith, ints)) (omega (arith, ints)))
-fewer_places (negsuc a) b c d i h j k most = absurd (omega (arith, ints))
-fewer_places a (negsuc b) c d i h j k most = absurd (omega (arith, ints))
-fewer_places a b (negsuc c) d i h j k most = absurd (omega (arith, ints))
-fewer_places a b c (negsuc d) i h j k most = absurd (omega (arith, ints))
+fewer_points (negsuc a) b c d i h j k most = absurd (omega (arith, ints))
+fewer_points a (negsuc b) c d i h j k most = absurd (omega (arith, ints))
+fewer_points a b (negsuc c) d i h j k most = absurd (omega (arith, ints))
+fewer_points a b c (negsuc d) i h j k most = absurd (omega (arith, ints))
 
 IsRect-within : (whole cut : Rect) → IsRect whole → IsSpan cut.x0 cut.x1 → IsSpan cut.y0 cut.y1
     → span cut.x0 cut.x1 ≤ℤ span whole.x0 whole.x1 → span cut.y0 cut.y1 ≤ℤ span whole.y0 whole.y1
@@ -20,11 +20,11 @@ IsRect-within : (whole cut : Rect) → IsRect whole → IsSpan cut.x0 cut.x1 →
 IsRect-within whole cut h columns rows fewer_columns fewer_rows = record {
   columns = columns;
   rows = rows;
-  places =
-      fewer_places (span cut.x0 cut.x1) (span cut.y0 cut.y1) (span whole.x0 whole.x1)
+  points =
+      fewer_points (span cut.x0 cut.x1) (span cut.y0 cut.y1) (span whole.x0 whole.x1)
       (span whole.y0 whole.y1)
       (let ordered = columns.ordered in omega (arith, ints)) fewer_columns
-      (let ordered = rows.ordered in omega (arith, ints)) fewer_rows h.places;
+      (let ordered = rows.ordered in omega (arith, ints)) fewer_rows h.points;
 }
 
 module _ (a m b : ℤ) (h : IsSpan a b) (from : a ≤ℤ m) (to : m ≤ℤ b) where

@@ -4,3 +4,4 @@ pub mod AlongLemmas
 pub mod SpanLemmas
 pub mod WholeLemmas
 pub mod CutLemmas
+pub mod PointCountLemmas

@@ -1,4 +1,4 @@
--- How many places a rectangle has, from the lengths of its sides.
+-- How many points a rectangle has, from the lengths of its sides.
 use Rattle.std.proofs.Common.{ℤ, pos, ◌≤ℤ◌, ◌*ℤ◌, ◌≡◌, ◌≤◌, true, false, FitsSigned, to_z, of_z, w32, arith}
 use Rattle.std.proofs.lemmas.Int.{ints, to_z-of_z, fits_signed_mul}
 use Rattle.std.specs.Prelude.{unsigned_abs, int_le}
@@ -61,7 +61,7 @@ module _ (x0 y0 x1 y1 columns rows : ℤ) (across : HasLength x0 x1 columns)
   IsRect-from_test test = record {
     columns = across.is_span;
     rows = up.is_span;
-    places = rw (← across.length, ← up.length, ← area_read) (le_from_test _ _ test);
+    points = rw (← across.length, ← up.length, ← area_read) (le_from_test _ _ test);
   }
 
   pub not_IsRect-from_test : int_le
@@ -70,4 +70,4 @@ module _ (x0 y0 x1 y1 columns rows : ℤ) (across : HasLength x0 x1 columns)
       → IsRect (rect_at x0 y0 x1 y1) → ⊥
   not_IsRect-from_test test is_rect =
       gt_from_test (columns *ℤ rows) (pos 1048576) (rw area_read at test)
-      (rw (across.length, up.length) is_rect.places)
+      (rw (across.length, up.length) is_rect.points)

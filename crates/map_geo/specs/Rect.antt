@@ -1,5 +1,5 @@
 -- Rectangles, and the side that all their points have.
-use Rattle.std.specs.Prelude.{ℤ, pos, ◌+ℤ◌, ◌-ℤ◌, ◌*ℤ◌, ◌≤ℤ◌, ◌≡◌}
+use Rattle.std.specs.Prelude.{ℕ, ◌*◌, ℤ, pos, ◌+ℤ◌, ◌-ℤ◌, ◌*ℤ◌, ◌≤ℤ◌, ◌≡◌, unsigned_abs}
 use Rattle.map_geo.specs.declared.sides.Side.{Side}
 use Rattle.map_geo.specs.Point.{Point, IsInRange, point_at}
 use Rattle.map_geo.specs.Partition.{Partition}
@@ -30,7 +30,17 @@ span a b = b -ℤ a +ℤ pos 1
 pub record IsRect (rect : Rect) : Type 0 where
   pub columns : IsSpan rect.x0 rect.x1
   pub rows : IsSpan rect.y0 rect.y1
-  pub places : (span rect.x0 rect.x1 *ℤ span rect.y0 rect.y1) ≤ℤ pos 1048576
+  pub points : (span rect.x0 rect.x1 *ℤ span rect.y0 rect.y1) ≤ℤ pos 1048576
+
+-- how many rows and columns a rectangle has, and how many points
+abbrev pub rows_of : Rect → ℕ
+rows_of rect = unsigned_abs (span rect.y0 rect.y1)
+
+abbrev pub columns_of : Rect → ℕ
+columns_of rect = unsigned_abs (span rect.x0 rect.x1)
+
+abbrev pub point_count : Rect → ℕ
+point_count rect = rows_of rect * columns_of rect
 
 -- the point is one of the rectangle's
 pub record Holds (rect : Rect) (point : Point) : Type 0 where

@@ -8,6 +8,11 @@ use Rattle.map_geo.specs.declared.sides.Side.TheVariants.{Front, Back}
 use Rattle.map_geo.specs.Partition.{Partition}
 use Rattle.map_geo.specs.Point.{Point}
 
+-- the side that isn't this one
+abbrev pub other : Side → Side
+other Front = Back
+other Back = Front
+
 -- above 0 in front of the partition, below 0 behind it, 0 on its line: left - right
 -- in R_PointOnSide of r_main.c
 abbrev pub cross : Partition → Point → ℤ

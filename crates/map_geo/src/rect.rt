@@ -1,8 +1,8 @@
 //! Rectangles of a map, and on which side of a partition all their points lie.
 
-ghost use Rattle.std.specs.Prelude.{◌≡◌, ◌↔◌, ◌≤ℤ◌, IsSome, IfSome, IsNone};
+ghost use Rattle.std.specs.Prelude.{◌≡◌, ◌↔◌, ◌≤◌, ◌≤ℤ◌, IsSome, IfSome, IsNone, unsigned_abs};
 ghost use Rattle.map_geo.specs.declared.sides.Side.{Side};
-ghost use Rattle.map_geo.specs.Rect.{rect_at, span, IsSpan, IsRect, AreCornersOn, IsWholeSide};
+ghost use Rattle.map_geo.specs.Rect.{point_count, rect_at, span, IsSpan, IsRect, AreCornersOn, IsWholeSide};
 
 use crate::partition::{Partition, side};
 use crate::point::{Point, is_in_range};
@@ -86,6 +86,15 @@ impl Rect {
         self.y1
     }
 
+    /// How many points it has.
+    #[inline]
+    pub fn point_count(self) -> u32
+        ensures value { result ≡ point_count self }
+        ensures most { result ≤ 1048576 }
+    {
+        length(self.y0(), self.y1()) * length(self.x0(), self.x1())
+    }
+
     /// Its rows up to y.
     #[inline]
     pub fn rows_to(self, y: i32) -> Rect
@@ -137,6 +146,16 @@ fn span(first: i32, last: i32) -> Option<i32>
     } else {
         None
     }
+}
+
+// How many whole numbers there are from the first to the last.
+#[inline]
+fn length(first: i32, last: i32) -> u32
+    requires { IsSpan first last }
+    ensures value { result ≡ unsigned_abs (span first last) }
+    ensures most { result ≤ 32768 }
+{
+    (last - first + 1).unsigned_abs()
 }
 
 /// The side of the partition on which all points of the rectangle lie, or None if they don't all

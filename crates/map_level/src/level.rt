@@ -16,13 +16,13 @@ use wad_dir::Set;
 #[derive(Clone, Copy, Debug, PartialEq, Eq, Error)]
 pub enum LevelFault {
     /// No entry has the name.
-    #[error("8 no label")]
+    #[error("no level of this name")]
     NoLabel,
     /// The list of entries ends before the lump of this number, from 1 to 10.
-    #[error("F1 {0}")]
+    #[error("the list of entries ends before lump {0} of the level")]
     Missing(u32),
     /// The lump of this number, from 1 to 10, isn't inside its file.
-    #[error("F2 {0}")]
+    #[error("lump {0} of the level is outside its file")]
     Outside(u32),
 }
 

@@ -15,16 +15,19 @@ use le_rec::{Table, Word};
 use map_geo::Point;
 use map_level::Reading;
 use std::marker::Model;
+use thiserror::Error;
 
 // The width and the height of a block, in map units (MAPBLOCKUNITS of p_local.h).
 const BLOCK_UNITS: i32 = 128;
 
 /// Why a block has no list.
-#[derive(Clone, Copy, Debug, PartialEq, Eq)]
+#[derive(Clone, Copy, Debug, PartialEq, Eq, Error)]
 pub enum BlockFault {
     /// 1: the lump has no word for the block's offset, or the offset is none of its words.
+    #[error("its list isn't inside BLOCKMAP")]
     OffsetOutside,
     /// 2: no end word stands at the offset or after it.
+    #[error("its list has no end")]
     NoEnd,
 }
 

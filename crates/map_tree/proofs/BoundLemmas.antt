@@ -9,13 +9,13 @@ use Rattle.std.proofs.lemmas.Int.{ints}
 use Rattle.map_geo.specs.declared.sides.Side.{Side}
 use Rattle.map_geo.specs.declared.sides.Side.TheVariants.{Front, Back}
 use Rattle.map_geo.specs.Partition.{Partition, partition_of}
-use Rattle.map_geo.specs.Rect.{Rect}
+use Rattle.map_geo.specs.Rect.{Rect, rows_of}
 use Rattle.map_level.specs.Level.{Level}
 use Rattle.map_tree.specs.Paths.{Place, node}
 use Rattle.map_tree.specs.Child.{node_count, child}
 use Rattle.map_tree.proofs.Sizes.{AreSizes}
-use Rattle.map_tree.specs.PlainCount.{rows_of}
-use Rattle.map_tree.specs.Cuts.{other, Halvings, beside, in_right, in_left, IsMiddle, IsMiddleRow, rows_to, rows_above, columns_to, columns_right}
+use Rattle.map_tree.specs.Cuts.{Halvings, beside, in_right, in_left, IsMiddle, IsMiddleRow, rows_to, rows_above, columns_to, columns_right}
+use Rattle.map_geo.specs.Side.{other}
 use Rattle.map_tree.specs.Work.{partition_at, Work, at_ssector, to_child, by_rows, in_row}
 use Rattle.map_tree.proofs.ReachLemmas.{none_or_some}
 

@@ -1,11 +1,11 @@
 -- Plain counts of parts, and of an area that is all one sector.
 use Rattle.std.proofs.Common.{ℕ, zero, suc, ◌+◌, ◌*◌, ◌≤◌, ℤ, pos, ◌+ℤ◌, ◌≤ℤ◌, ◌<ℤ◌, ◌≡◌, refl, ap, arith}
 use Rattle.std.proofs.Math.Nat.{suc-add, zero-add, suc-mul, one-le-mul}
-use Rattle.std.proofs.lemmas.Int.{ints, unsigned_abs-mul}
-use Rattle.std.specs.Prelude.{unsigned_abs, ◌*ℤ◌, negsuc}
+use Rattle.std.proofs.lemmas.Int.{ints}
+use Rattle.std.specs.Prelude.{unsigned_abs}
 use Rattle.map_geo.specs.Point.{Point, point_at}
-use Rattle.map_geo.specs.Rect.{Rect, Holds, IsRect, span}
-use Rattle.map_tree.specs.PlainCount.{one_at, row_count, rows_count, rows_of, columns_of, points_in, plain_count}
+use Rattle.map_geo.specs.Rect.{Rect, Holds, IsRect, span, rows_of, columns_of, point_count}
+use Rattle.map_tree.specs.PlainCount.{one_at, row_count, rows_count, plain_count}
 use Rattle.map_tree.specs.Cuts.{rows_to, rows_above, columns_to, columns_right}
 use Rattle.map_tree.proofs.BoundLemmas.{IsArea}
 
@@ -69,34 +69,18 @@ module _ (sector : Point → ℕ) (s : ℕ) (b : Rect) where
       rows_count-full sector s b.x0 (columns_of b) b.y0 (rows_of b) t
       (λ i j left right low high. all (point_at i j) (record { left = left; right = within b.x0 b.x1 i area.columns right; lowest = low; highest = within b.y0 b.y1 j area.rows high }))
 
-pub area-rows : (b : Rect) (y : ℤ) → b.y0 ≤ℤ y → y <ℤ b.y1 → points_in b ≡ points_in (rows_to b y) + points_in (rows_above b y)
+pub area-rows : (b : Rect) (y : ℤ) → b.y0 ≤ℤ y → y <ℤ b.y1 → point_count b ≡ point_count (rows_to b y) + point_count (rows_above b y)
 area-rows b y from below = rw (span_parts b.y0 y b.y1 from below) (omega arith)
 
-pub area-columns : (b : Rect) (x : ℤ) → b.x0 ≤ℤ x → x <ℤ b.x1 → points_in b ≡ points_in (columns_to b x) + points_in (columns_right b x)
+pub area-columns : (b : Rect) (x : ℤ) → b.x0 ≤ℤ x → x <ℤ b.x1 → point_count b ≡ point_count (columns_to b x) + point_count (columns_right b x)
 area-columns b x from below = rw (span_parts b.x0 x b.x1 from below) (omega arith)
 
 some_span : (a b : ℤ) → a ≤ℤ b → 1 ≤ unsigned_abs (span a b)
 some_span a b h = omega (arith, ints)
 
-pub area-some : (b : Rect) → IsArea b → 1 ≤ points_in b
+pub area-some : (b : Rect) → IsArea b → 1 ≤ point_count b
 area-some b area = one-le-mul (some_span b.y0 b.y1 area.rows) (some_span b.x0 b.x1 area.columns)
 
--- a rectangle's points and rows are few
-abs_le : (z : ℤ) → pos 0 ≤ℤ z → z ≤ℤ pos 1048576 → unsigned_abs z ≤ 1048576
-abs_le z h k = omega (arith, ints)
-
-pos_product : (a b : ℤ) → pos 0 <ℤ a → pos 0 <ℤ b → pos 0 ≤ℤ (a *ℤ b)
-pos_product (pos m) (pos n) h k = omega (arith, ints)
-pos_product (pos m) (negsuc n) h k = absurd (omega (arith, ints))
-pos_product (negsuc m) b h k = absurd (omega (arith, ints))
-
-span_pos : (a b : ℤ) → a ≤ℤ b → pos 0 <ℤ span a b
-span_pos a b h = omega (arith, ints)
-
-pub area_fits : (b : Rect) → IsRect b → points_in b ≤ 1048576
-area_fits b valid =
-    let product = abs_le (span b.x0 b.x1 *ℤ span b.y0 b.y1) (pos_product _ _ (span_pos b.x0 b.x1 valid.columns.ordered) (span_pos b.y0 b.y1 valid.rows.ordered)) valid.places in
-    omega (arith, rw (unsigned_abs-mul (span b.x0 b.x1) (span b.y0 b.y1)) at product)
-
+-- a rectangle's rows are few
 pub rows_few : (b : Rect) → IsRect b → rows_of b ≤ 32768
 rows_few b valid = omega (arith, ints, valid.rows.first_in.least, valid.rows.last_in.greatest, valid.rows.ordered)

@@ -7,12 +7,12 @@ use Rattle.std.proofs.lemmas.List.FromFn.{get_or-map-range_with_len, length-map-
 use Rattle.std.proofs.Math.ListN.{get_or-eq_default}
 use Rattle.std.specs.List.{Contains, range_with_len}
 use Rattle.map_geo.specs.Point.{Point, point_at}
-use Rattle.map_geo.specs.Rect.{Rect}
+use Rattle.map_geo.specs.Rect.{Rect, rows_of, columns_of}
 use Rattle.map_level.specs.Level.{Level}
 use Rattle.map_level.proofs.OneListLemmas.{one_list}
 use Rattle.map_tree.specs.Sound.{IsSound}
 use Rattle.map_tree.specs.Counts.{ArePairs}
-use Rattle.map_tree.specs.PlainCount.{TellsSectors, row_count, rows_count, rows_of, columns_of, plain_count}
+use Rattle.map_tree.specs.PlainCount.{TellsSectors, row_count, rows_count, plain_count}
 use Rattle.map_tree.proofs.LeafLemmas.{some_leaf}
 use Rattle.map_tree.proofs.SoundLemmas.{sector_below}
 use Rattle.map_tree.proofs.HeldLemmas.{one_at-other}
@@ -39,7 +39,7 @@ pairs_to counts (suc i) h =
     ]
 
 -- pairs of a function are those of another that is the same
-same_pairs : (f g : ℕ → ℕ) (pairs : List (ℕ × ℕ)) → ((s : ℕ) → f s ≡ g s) → ArePairs f pairs → ArePairs g pairs
+pub same_pairs : (f g : ℕ → ℕ) (pairs : List (ℕ × ℕ)) → ((s : ℕ) → f s ≡ g s) → ArePairs f pairs → ArePairs g pairs
 same_pairs f g pairs same are = record {
   right = λ k d h. are.right k d h ∙ same (get_or pairs k d).0;
   some = are.some;

@@ -11,8 +11,8 @@ use Rattle.le_rec.specs.declared.records.Node.{Node}
 use Rattle.map_geo.specs.declared.sides.Side.{Side}
 use Rattle.map_geo.specs.Point.{Point, point_at}
 use Rattle.map_geo.specs.Partition.{partition_of}
-use Rattle.map_geo.specs.Side.{side_of}
-use Rattle.map_geo.specs.Rect.{Rect, Holds, IsRect, IsWholeSide}
+use Rattle.map_geo.specs.Side.{side_of, other}
+use Rattle.map_geo.specs.Rect.{Rect, Holds, IsRect, IsWholeSide, rows_of, columns_of, point_count}
 use Rattle.map_geo.proofs.AlongLemmas.{sides_along_rows}
 use Rattle.map_geo.proofs.CutLemmas.{IsRect-rows_to, IsRect-rows_from, IsRect-columns_to, IsRect-columns_from}
 use Rattle.map_level.specs.Level.{Level}
@@ -22,8 +22,8 @@ use Rattle.map_tree.specs.Paths.{Place, node, ssector}
 use Rattle.map_tree.specs.Child.{node_count, place_of, word_at, has, side_at, root}
 use Rattle.map_tree.specs.Sound.{IsTree, IsSound}
 use Rattle.map_tree.proofs.Sizes.{size_of, AreSizes, Falls, there, down}
-use Rattle.map_tree.specs.PlainCount.{TellsSectors, one_at, rows_of, columns_of, points_in, plain_count}
-use Rattle.map_tree.specs.Cuts.{other, IsCut, IsLast, Halvings, IsMiddleRow, rows_to, rows_above, columns_to, columns_right}
+use Rattle.map_tree.specs.PlainCount.{TellsSectors, one_at, plain_count}
+use Rattle.map_tree.specs.Cuts.{IsCut, IsLast, Halvings, IsMiddleRow, rows_to, rows_above, columns_to, columns_right}
 use Rattle.map_tree.specs.Work.{partition_at, Work, at_ssector, to_child, by_rows, in_row}
 use Rattle.map_tree.proofs.SoundLemmas.{child_there, root_there, some_ssector, few_nodes, tree_from_sound}
 use Rattle.map_tree.proofs.LeafLemmas.{child_is}
@@ -62,7 +62,7 @@ abbrev pub potential : (Place → ℕ) → Piece → ℕ
 potential size p = most_tests (rows_of p.rect) (size (place_of p.word))
 
 abbrev pub area : Piece → ℕ
-area p = points_in p.rect
+area p = point_count p.rect
 
 abbrev pub plain : (Point → ℕ) → ℕ → Piece → ℕ
 plain sector s p = plain_count sector s p.rect
@@ -108,9 +108,9 @@ pub record Held (level : Level) (size : Place → ℕ) (rect : Rect) (stack : Li
   pub good : Each (IsGood level) stack
   pub owes : Owes level rect stack tests most
   pub deep : length stack ≤ most
-  pub shallow : most ≤ points_in rect
+  pub shallow : most ≤ point_count rect
   pub budget : tests + total (potential size) stack ≤ most_tests (rows_of rect) (size (root level))
-  pub added : sum counts + total area stack ≡ points_in rect
+  pub added : sum counts + total area stack ≡ point_count rect
   pub counted : (sector : Point → ℕ) → TellsSectors level sector → (s : ℕ) → get_or counts s 0 + total (plain sector s) stack ≡ plain_count sector s rect
 
 -- what a node's record says

@@ -20,6 +20,8 @@ pub mod CountLemmas
 pub mod HeldLemmas
 pub mod TurnLemmas
 pub mod PairLemmas
+pub mod TouchedLemmas
 pub mod TotalLemmas
 pub mod CountedLemmas
 pub mod PlaceLemmas
+pub mod CensusLemmas

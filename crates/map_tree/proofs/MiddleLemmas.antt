@@ -33,9 +33,6 @@ module _ (low high : ℤ) (low_in : IsInRange low) (high_in : IsInRange high) wh
       let m = middle_fits in
       simp to_z-of_z
 
-pub in_fits : (z : ℤ) → IsInRange z → FitsSigned w32 z
-in_fits z h = omega (arith, ints, h.least, h.greatest)
-
 pub between_fits : (a z b : ℤ) → IsInRange a → IsInRange b → a ≤ℤ z → z <ℤ b → FitsSigned w32 z
 between_fits a z b h k from below = omega (arith, ints, h.least, k.greatest)
 

@@ -1,12 +1,13 @@
--- The pass that makes the pairs of the counts.
-use Rattle.std.proofs.Common.{ℕ, ◌+◌, ◌<◌, ◌≤◌, ◌≡◌, inl, inr, refl, sym, ◌∙◌, List, [], ◌∷◌, ◌++◌, length, get_or, take, arith}
+-- The pairs of the first numbers of a list.
+use Rattle.std.proofs.Common.{ℕ, ◌+◌, ◌<◌, ◌≤◌, ◌≡◌, inl, inr, ap, subst, Some, ◌∙◌, List, [], ◌∷◌, ◌++◌, length, get_or, arith}
 use Rattle.std.proofs.lemmas.Bool.{cases_lt, cases_eq}
 use Rattle.std.proofs.lemmas.List.Elements.{All-nil, All-push, Contains-push, Contains-append_left}
 use Rattle.std.proofs.lemmas.List.Quantifiers.{all_pairs_push}
-use Rattle.std.proofs.lemmas.List.Sums.{sum_by_push, sum_by_more}
+use Rattle.std.proofs.lemmas.Option.{get_or_from_slice_get, slice_get-get_or, slice_get_within}
 use Rattle.std.proofs.Math.ListN.{get_or-eq_default}
-use Rattle.std.specs.List.{All, AllPairs, Contains, sum, sum_by}
+use Rattle.std.specs.List.{All, AllPairs, Contains}
 use Rattle.map_tree.specs.Counts.{ArePairs}
+use Rattle.map_tree.specs.Laws.{NoPairTells, PairTells}
 
 pub record SoFar (counts : List ℕ) (i : ℕ) (pairs : List (ℕ × ℕ)) : Type 0 where
   pub right : All (λ p. p.1 ≡ get_or counts p.0 0) pairs
@@ -14,7 +15,6 @@ pub record SoFar (counts : List ℕ) (i : ℕ) (pairs : List (ℕ × ℕ)) : Typ
   pub below : All (λ p. p.0 < i) pairs
   pub ascending : AllPairs (λ p q. p.0 < q.0) pairs
   pub each : (s : ℕ) → s < i → 0 < get_or counts s 0 → Contains pairs (s, get_or counts s 0)
-  pub total : sum_by (λ p. p.1) pairs ≡ sum (take i counts)
 
 cases_below : (s i : ℕ) → s < i + 1 → (s ≡ i → ⊥) → s < i
 cases_below s i h k = omega arith
@@ -26,7 +26,6 @@ SoFar-start counts = record {
   below = All-nil _;
   ascending = λ i j d h k. absurd (omega arith);
   each = λ s h. absurd (omega arith);
-  total = refl;
 }
 
 pub SoFar-skip : (counts : List ℕ) (i : ℕ) (pairs : List (ℕ × ℕ)) → i < length counts → get_or counts i 0 ≡ 0 → SoFar counts i pairs → SoFar counts (i + 1) pairs
@@ -39,7 +38,6 @@ SoFar-skip counts i pairs within none so_far = record {
     | inl e ↦ absurd (omega (arith, rw e at above))
     | inr e ↦ so_far.each s (cases_below s i h e) above
   ];
-  total = omega (arith, so_far.total, sum_by_more (λ x. x) counts i 0 within);
 }
 
 pub SoFar-push : (counts : List ℕ) (i n : ℕ) (pairs : List (ℕ × ℕ)) → i < length counts → n ≡ get_or counts i 0 → 0 < n → SoFar counts i pairs → SoFar counts (i + 1) (pairs ++ ((i, n) ∷ []))
@@ -52,17 +50,7 @@ SoFar-push counts i n pairs within e above so_far = record {
     | inl same ↦ rw (same, ← e) (Contains-push pairs (i, n))
     | inr other ↦ Contains-append_left pairs _ _ (so_far.each s (cases_below s i h other) some)
   ];
-  total = omega (arith, so_far.total, e, sum_by_more (λ x. x) counts i 0 within, sum_by_push (λ (p : ℕ × ℕ). p.1) pairs (i, n));
 }
-
--- the next sector's pair is added, where it has points
-pub SoFar-next : (counts : List ℕ) (i n : ℕ) (pairs next : List (ℕ × ℕ)) → i < length counts → n ≡ get_or counts i 0 → (0 < n → next ≡ pairs ++ ((i, n) ∷ [])) → (n ≡ 0 → next ≡ pairs) → SoFar counts i pairs → SoFar counts (i + 1) next
-SoFar-next counts i n pairs next within e some none so_far = elim (cases_lt 0 n) [
-  | inl above ↦ rw (some above) (SoFar-push counts i n pairs within e above so_far)
-  | inr zero_or_less ↦
-      let is_zero : n ≡ 0 = omega (arith, zero_or_less) in
-      rw (none is_zero) (SoFar-skip counts i pairs within (sym e ∙ is_zero) so_far)
-]
 
 pub SoFar-end : (counts : List ℕ) (i : ℕ) (pairs : List (ℕ × ℕ)) → length counts ≤ i → SoFar counts i pairs → ArePairs (λ s. get_or counts s 0) pairs
 SoFar-end counts i pairs past so_far = record {
@@ -74,3 +62,15 @@ SoFar-end counts i pairs past so_far = record {
     | inr h ↦ absurd (omega (arith, above, get_or-eq_default counts 0 {n = s} (omega arith)))
   ];
 }
+
+pub pair_tells : PairTells
+pair_tells count pairs i s n are e =
+    subst (λ p. p.1 ≡ count p.0) (get_or_from_slice_get pairs i (s, n) (s, n) e) (are.right i (s, n) (slice_get_within pairs i (s, n) e))
+
+pub no_pair_tells : NoPairTells
+no_pair_tells count pairs s are none = elim (cases_lt 0 (count s)) [
+  | inl some ↦
+      let found = are.each s some in
+      absurd (none found.0 (count s) found.1 (slice_get-get_or pairs found.0 (s, count s) found.1 ∙ ap Some found.2))
+  | inr most ↦ omega (arith, most)
+]

@@ -7,10 +7,10 @@ use Rattle.map_geo.specs.declared.sides.Side.{Side}
 use Rattle.map_geo.specs.declared.sides.Side.TheVariants.{Front, Back}
 use Rattle.map_geo.specs.Point.{point_at}
 use Rattle.map_geo.specs.Partition.{Partition}
-use Rattle.map_geo.specs.Side.{side_of}
+use Rattle.map_geo.specs.Side.{side_of, other}
 use Rattle.map_geo.specs.Rect.{Rect, IsWholeSide}
 use Rattle.map_geo.proofs.AlongLemmas.{sides_along_rows}
-use Rattle.map_tree.specs.Cuts.{other, IsCut, Halvings, beside, in_right, in_left, IsMiddle, IsLast}
+use Rattle.map_tree.specs.Cuts.{IsCut, Halvings, beside, in_right, in_left, IsMiddle, IsLast}
 
 pub same_side : (a b : Side) → sameb the_type a b ≡ true → a ≡ b
 same_side Front Front e = refl

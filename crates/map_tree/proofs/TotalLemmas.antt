@@ -5,8 +5,8 @@ use Rattle.std.proofs.lemmas.Int.{ints, by_lt_z}
 use Rattle.std.proofs.lemmas.List.Sums.{sum_by-cons}
 use Rattle.std.specs.List.{All, AllPairs, sum_by}
 use Rattle.map_geo.specs.Point.{Point, point_at}
-use Rattle.map_geo.specs.Rect.{Rect}
-use Rattle.map_tree.specs.PlainCount.{one_at, row_count, rows_count, rows_of, columns_of, points_in, plain_count}
+use Rattle.map_geo.specs.Rect.{Rect, rows_of, columns_of, point_count}
+use Rattle.map_tree.specs.PlainCount.{one_at, row_count, rows_count, plain_count}
 use Rattle.map_tree.specs.Counts.{ArePairs}
 use Rattle.map_tree.proofs.HeldLemmas.{one_at-same, one_at-other}
 
@@ -81,7 +81,7 @@ module _ (sector : Point → ℕ) where
       let rest = rows_total pairs x n (y +ℤ pos 1) k (λ i j a b c d. each i j a b (omega (arith, ints)) (omega (arith, ints))) in
       sum_both (λ pair. row_count sector pair.0 y x n) (λ pair. rows_count sector pair.0 x n (y +ℤ pos 1) k) pairs ∙ rw (suc-mul k n) (omega (arith, first, rest))
 
-  pub counts_total : (rect : Rect) (pairs : List (ℕ × ℕ)) → ArePairs (λ s. plain_count sector s rect) pairs → sum_by (λ pair. pair.1) pairs ≡ points_in rect
+  pub counts_total : (rect : Rect) (pairs : List (ℕ × ℕ)) → ArePairs (λ s. plain_count sector s rect) pairs → sum_by (λ pair. pair.1) pairs ≡ point_count rect
   counts_total rect pairs are =
       sum_same (λ pair. pair.1) (λ pair. plain_count sector pair.0 rect) pairs are.right
       ∙ rows_total pairs rect.x0 (columns_of rect) rect.y0 (rows_of rect) (λ i j left right low high.

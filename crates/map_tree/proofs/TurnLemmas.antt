@@ -1,7 +1,7 @@
 -- One turn of a census's loop.
-use Rattle.std.proofs.Common.{ℕ, suc, ◌+◌, ◌*◌, ◌-◌, ◌<◌, ◌≤◌, max, ◌≡◌, inl, inr, refl, sym, ap, ◌∙◌, subst, List, [], ◌∷◌, ◌++◌, reverse, length, get_or, set, Fits, w16, w32, w64, Option, Some, None, IsTrue, arith}
-use Rattle.std.specs.Prelude.{IsSomeAnd, slice_index}
-use Rattle.std.specs.List.{sum, sum_by, slice_get, Contains}
+use Rattle.std.proofs.Common.{ℕ, suc, ◌+◌, ◌*◌, ◌-◌, ◌<◌, ◌≤◌, max, ◌≡◌, inl, inr, refl, ap, ◌∙◌, subst, List, [], ◌∷◌, ◌++◌, reverse, length, get_or, set, Fits, w16, w32, w64, Option, Some, None, IsTrue, arith}
+use Rattle.std.specs.Prelude.{IsSomeAnd}
+use Rattle.std.specs.List.{sum, slice_get}
 use Rattle.std.proofs.Math.Facts.{Fits-lt-pow}
 use Rattle.std.proofs.Math.Nat.{mul-le-mul_left}
 use Rattle.std.proofs.lemmas.List.{reverse-append}
@@ -9,25 +9,22 @@ use Rattle.std.proofs.lemmas.Bool.{ltb-true}
 use Rattle.std.proofs.lemmas.Nat.{mul-le}
 use Rattle.std.proofs.lemmas.List.Sums.{get_or-le-sum_by, sum_by-cons}
 use Rattle.le_rec.specs.declared.records.Node.{Node}
-use Rattle.map_geo.specs.Rect.{Rect, IsRect}
+use Rattle.map_geo.specs.Rect.{Rect, IsRect, rows_of}
 use Rattle.map_level.specs.Level.{Level}
 use Rattle.map_level.specs.SectorOf.{sector_of}
 use Rattle.map_tree.specs.declared.pieces.Piece.{Piece}
 use Rattle.map_tree.specs.declared.pieces.Halves.{Halves}
 use Rattle.map_tree.specs.Paths.{Place}
 use Rattle.map_tree.specs.Child.{node_count, ssector_count, has, root}
-use Rattle.map_tree.specs.PlainCount.{rows_of}
 use Rattle.map_tree.specs.SectorList.{ListsSectors}
-use Rattle.map_tree.proofs.Sizes.{size_of}
-use Rattle.map_tree.specs.Sound.{IsSound}
-use Rattle.map_tree.specs.Counts.{ArePairs, IsCensus}
 use Rattle.map_tree.specs.Steps.{IsWord, IsTally, IsDown, IsApart}
 use Rattle.map_tree.specs.Work.{Work}
 use Rattle.map_tree.proofs.DescentLemmas.{place_below}
 use Rattle.map_tree.proofs.SectorListLemmas.{listed_sector}
 use Rattle.map_tree.proofs.BoundLemmas.{most_tests, tests-most, depth-most}
-use Rattle.map_tree.proofs.CountLemmas.{area_fits, rows_few}
-use Rattle.map_tree.proofs.HeldLemmas.{IsSized, sized-from_sound, area_from_rect, ssector_place, Held, Held-down, Held-rows, Held-row, Held-leaf, measure, less-down, less-rows, less-row, area}
+use Rattle.map_geo.proofs.PointCountLemmas.{few_points}
+use Rattle.map_tree.proofs.CountLemmas.{area-some, rows_few}
+use Rattle.map_tree.proofs.HeldLemmas.{IsSized, area_from_rect, ssector_place, Held, Held-down, Held-rows, Held-row, Held-leaf, measure, less-down, less-rows, less-row, area}
 
 pub reverse_push : (ps : List Piece) (p : Piece) → reverse (ps ++ (p ∷ [])) ≡ p ∷ reverse ps
 reverse_push ps p = reverse-append ps (p ∷ [])
@@ -89,7 +86,7 @@ module _ (level : Level) (size : Place → ℕ) (rect : Rect) (sized : IsSized l
       fits_tests tests _ _ held.budget (most_few _ _ (rows_few rect valid) (size_few _ _ sized.whole_size sized.few))
 
   pub most_fits : (stack : List Piece) (counts : List ℕ) (tests most : ℕ) → Held level size rect stack counts tests most → Fits w32 most
-  most_fits stack counts tests most held = fits_most most _ held.shallow (area_fits rect valid)
+  most_fits stack counts tests most held = fits_most most _ held.shallow (few_points rect valid)
 
   pub done : (counts : List ℕ) (tests most : ℕ) → Held level size rect [] counts tests most → IsTally level rect counts tests most
   done counts tests most held = record {
@@ -117,9 +114,12 @@ module _ (level : Level) (size : Place → ℕ) (rect : Rect) (sized : IsSized l
     pub is_word : IsWord level.nodes.records p.word
     is_word = λ below. sized.tree.origins p.word (node_there below)
 
+    pub some_points : (more : ℕ) → more ≡ area p → 0 < more
+    some_points more more_is = omega (arith, more_is, area-some p.rect (area_from_rect p.rect held.good.0.valid))
+
     pub leaf_fits : (k more : ℕ) → k < length counts → more ≡ area p → Fits w32 (get_or counts k 0 + more)
     leaf_fits k more within_counts more_is =
-        rw more_is (fits_count (get_or counts k 0) (sum counts) _ _ (area p) (get_or-le-sum_by (λ x. x) counts k 0 within_counts) held.added (area_fits rect valid))
+        rw more_is (fits_count (get_or counts k 0) (sum counts) _ _ (area p) (get_or-le-sum_by (λ x. x) counts k 0 within_counts) held.added (few_points rect valid))
 
     pub turn-leaf : (k more : ℕ) → 32768 ≤ p.word → sector_of level (p.word - 32768) ≡ Some k → k < length counts → more ≡ area p → Held level size rect rest (set counts k (get_or counts k 0 + more)) tests most
     turn-leaf k more above sector_is within_counts more_is =
@@ -160,25 +160,3 @@ module _ (level : Level) (size : Place → ℕ) (rect : Rect) (sized : IsSized l
     pub turn-pushed : (halves : Halves) (len_now most_now : ℕ) → (p.word < 32768) × IsSomeAnd (slice_get level.nodes.records p.word) (λ found. IsApart found p halves) → most_now ≡ max most (len_now + 1) → len_now ≡ suc (length rest) → Held level size rect (halves.second ∷ (halves.first ∷ rest)) counts (tests + halves.tests) most_now
     turn-pushed halves len_now most_now h e f =
         subst (Held level size rect (halves.second ∷ (halves.first ∷ rest)) counts (tests + halves.tests)) (same_most most (length rest) len_now most_now e f) (turn-apart halves h)
-
--- pairs of equal functions
-ArePairs-same : (f g : ℕ → ℕ) (pairs : List (ℕ × ℕ)) → ((s : ℕ) → f s ≡ g s) → ArePairs f pairs → ArePairs g pairs
-ArePairs-same f g pairs same are = record {
-  right = λ k d within. are.right k d within ∙ same (get_or pairs k d).0;
-  some = are.some;
-  ascending = are.ascending;
-  each = λ s above. subst (λ n. Contains pairs (s, n)) (same s) (are.each s (subst (λ n. 0 < n) (sym (same s)) above));
-}
-
--- a tally and its pairs are a census
-pub census_from_tally : (level : Level) (rect : Rect) (counts : List ℕ) (pairs : List (ℕ × ℕ)) (tests pending : ℕ) → IsSound level → IsRect rect → IsTally level rect counts tests pending
-    → ArePairs (slice_index counts) pairs → sum_by (λ pair. pair.1) pairs ≡ sum counts → IsCensus level rect (record { pairs = pairs; tests = tests; pending = pending })
-census_from_tally level rect counts pairs tests pending sound valid tally are total =
-    let sized = sized-from_sound level sound in
-    record {
-      counted = λ sector tells. ArePairs-same (slice_index counts) _ pairs (tally.counted sector tells) are;
-      total = total ∙ tally.total;
-      work = tally.work;
-      few_tests = work_few_tests level (size_of level) rect sized valid tests pending tally.work;
-      few_pending = work_few_pending level (size_of level) rect sized valid tests pending tally.work;
-    }

@@ -3,13 +3,13 @@ use Rattle.std.proofs.Common.{ℕ, suc, ℤ, pos, ◌+ℤ◌, ◌≤ℤ◌, ◌<
 use Rattle.std.proofs.lemmas.Int.{ints, by_lt_z}
 use Rattle.map_geo.specs.declared.sides.Side.{Side}
 use Rattle.map_geo.specs.Partition.{Partition}
-use Rattle.map_geo.specs.Side.{side_of}
+use Rattle.map_geo.specs.Side.{side_of, other}
 use Rattle.map_geo.specs.Rect.{Rect, IsWholeSide}
 use Rattle.map_geo.specs.Point.{point_at}
 use Rattle.map_level.specs.Level.{Level}
 use Rattle.map_tree.specs.Paths.{Place, node}
 use Rattle.map_tree.specs.Child.{child}
-use Rattle.map_tree.specs.Cuts.{other, Halvings, beside, in_right, in_left, IsMiddle, IsMiddleRow, IsLast, rows_to, rows_above, columns_to, columns_right}
+use Rattle.map_tree.specs.Cuts.{Halvings, beside, in_right, in_left, IsMiddle, IsMiddleRow, IsLast, rows_to, rows_above, columns_to, columns_right}
 use Rattle.map_tree.specs.Work.{partition_at, Work, at_ssector, to_child, by_rows, in_row}
 use Rattle.map_tree.proofs.BoundLemmas.{IsArea, IsArea-rows_to, IsArea-rows_above, IsArea-columns_to, IsArea-columns_right}
 use Rattle.map_tree.proofs.RowLemmas.{other_differs}

@@ -1,16 +1,10 @@
 -- How a census cuts a rectangle whose points lie on both sides of a partition.
 use Rattle.std.specs.Prelude.{◌≡◌, ◌≢◌, ℕ, suc, ℤ, pos, ◌+ℤ◌, ◌-ℤ◌, ◌≤ℤ◌, ◌<ℤ◌}
 use Rattle.map_geo.specs.declared.sides.Side.{Side}
-use Rattle.map_geo.specs.declared.sides.Side.TheVariants.{Front, Back}
 use Rattle.map_geo.specs.Point.{point_at}
 use Rattle.map_geo.specs.Partition.{Partition}
-use Rattle.map_geo.specs.Side.{side_of}
+use Rattle.map_geo.specs.Side.{other, side_of}
 use Rattle.map_geo.specs.Rect.{Rect, span, IsWholeSide}
-
--- the side that isn't this one
-abbrev pub other : Side → Side
-other Front = Back
-other Back = Front
 
 -- m is half of a + b, rounded down
 pub record IsMiddle (m a b : ℤ) : Type 0 where

@@ -1,14 +1,14 @@
 -- Laws of sound levels.
-use Rattle.std.specs.Prelude.{◌≡◌, ◌↔◌, ℕ, ◌+◌, ◌*◌, ◌≤◌, List}
-use Rattle.std.specs.List.{sum_by}
+use Rattle.std.specs.Prelude.{◌≡◌, ◌≢◌, ◌↔◌, ℕ, ◌+◌, ◌*◌, ◌<◌, ◌≤◌, List, length, Some}
+use Rattle.std.specs.List.{slice_get, sum_by}
 use Rattle.map_geo.specs.Point.{Point}
-use Rattle.map_geo.specs.Rect.{Rect, IsRect}
+use Rattle.map_geo.specs.Rect.{Rect, IsRect, rows_of, point_count}
 use Rattle.map_level.specs.Level.{Level}
 use Rattle.map_tree.specs.Paths.{Place, ssector, LeadsIn}
 use Rattle.map_tree.specs.Child.{node_count, child, root}
 use Rattle.map_tree.specs.Leaf.{IsLeaf, CountsAncestors}
 use Rattle.map_tree.specs.Sound.{IsSound, IsFaultless}
-use Rattle.map_tree.specs.PlainCount.{TellsSectors, rows_of, points_in, plain_count}
+use Rattle.map_tree.specs.PlainCount.{TellsSectors, plain_count}
 use Rattle.map_tree.specs.Counts.{ArePairs}
 use Rattle.map_tree.specs.Work.{Work}
 
@@ -46,7 +46,15 @@ SectorsAreTold = (level : Level) → IsSound level → (sector : Point → ℕ) 
 
 -- the plain counts of all sectors add up to the rectangle's points
 abbrev pub CountsAddUp : Type 0
-CountsAddUp = (sector : Point → ℕ) (rect : Rect) (pairs : List (ℕ × ℕ)) → ArePairs (λ s. plain_count sector s rect) pairs → sum_by (λ pair. pair.1) pairs ≡ points_in rect
+CountsAddUp = (sector : Point → ℕ) (rect : Rect) (pairs : List (ℕ × ℕ)) → ArePairs (λ s. plain_count sector s rect) pairs → sum_by (λ pair. pair.1) pairs ≡ point_count rect
+
+-- a pair tells the count of its sector
+abbrev pub PairTells : Type 0
+PairTells = (count : ℕ → ℕ) (pairs : List (ℕ × ℕ)) (i s n : ℕ) → ArePairs count pairs → slice_get pairs i ≡ Some (s, n) → n ≡ count s
+
+-- and that of a sector with no pair is 0
+abbrev pub NoPairTells : Type 0
+NoPairTells = (count : ℕ → ℕ) (pairs : List (ℕ × ℕ)) (s : ℕ) → ArePairs count pairs → ((i n : ℕ) → i < length pairs → slice_get pairs i ≢ Some (s, n)) → 0 ≡ count s
 
 -- a rectangle's plain counts have exactly one list of pairs
 abbrev pub OneCounting : Type 0

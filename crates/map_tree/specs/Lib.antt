@@ -10,6 +10,7 @@ pub mod Work
 pub mod PlainCount
 pub mod Steps
 pub mod Counts
+pub mod Touched
 pub mod Laws
 pub mod Slots
 pub mod WordCounts

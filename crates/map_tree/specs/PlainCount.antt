@@ -1,7 +1,7 @@
 -- How many points of a rectangle each sector has, point by point.
-use Rattle.std.specs.Prelude.{◌≡◌, ℕ, zero, suc, ◌+◌, ◌*◌, ℤ, pos, ◌+ℤ◌, ◌==◌, if◌then◌else◌, unsigned_abs, Some}
+use Rattle.std.specs.Prelude.{◌≡◌, ℕ, zero, suc, ◌+◌, ℤ, pos, ◌+ℤ◌, ◌==◌, if◌then◌else◌, Some}
 use Rattle.map_geo.specs.Point.{Point, point_at}
-use Rattle.map_geo.specs.Rect.{Rect, span}
+use Rattle.map_geo.specs.Rect.{Rect, columns_of, rows_of}
 use Rattle.map_level.specs.Level.{Level}
 use Rattle.map_level.specs.SectorOf.{sector_of}
 use Rattle.map_tree.specs.Leaf.{IsLeaf}
@@ -23,16 +23,6 @@ row_count sector s y x (suc n) = one_at s (sector (point_at x y)) + row_count se
 abbrev pub rows_count : (Point → ℕ) → ℕ → ℤ → ℕ → ℤ → ℕ → ℕ
 rows_count sector s x n y zero = 0
 rows_count sector s x n y (suc k) = row_count sector s y x n + rows_count sector s x n (y +ℤ pos 1) k
-
--- how many rows and columns a rectangle has, and how many points
-abbrev pub rows_of : Rect → ℕ
-rows_of rect = unsigned_abs (span rect.y0 rect.y1)
-
-abbrev pub columns_of : Rect → ℕ
-columns_of rect = unsigned_abs (span rect.x0 rect.x1)
-
-abbrev pub points_in : Rect → ℕ
-points_in rect = rows_of rect * columns_of rect
 
 -- the points of the rectangle whose sector is s
 abbrev pub plain_count : (Point → ℕ) → ℕ → Rect → ℕ

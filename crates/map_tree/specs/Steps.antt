@@ -5,16 +5,16 @@ use Rattle.le_rec.specs.declared.records.Node.{Node}
 use Rattle.map_geo.specs.declared.sides.Side.{Side}
 use Rattle.map_geo.specs.Point.{Point, IsInRange, point_at}
 use Rattle.map_geo.specs.Partition.{partition_of}
-use Rattle.map_geo.specs.Side.{side_of}
-use Rattle.map_geo.specs.Rect.{Rect, IsWholeSide}
+use Rattle.map_geo.specs.Side.{side_of, other}
+use Rattle.map_geo.specs.Rect.{Rect, IsWholeSide, point_count}
 use Rattle.map_level.specs.Level.{Level}
 use Rattle.map_tree.specs.declared.pieces.Piece.{Piece}
 use Rattle.map_tree.specs.declared.pieces.Halves.{Halves}
 use Rattle.map_tree.specs.declared.pieces.Step.{Step}
 use Rattle.map_tree.specs.declared.pieces.Step.TheVariants.{AtSsector, Down, Apart}
 use Rattle.map_tree.specs.Child.{word_at, root}
-use Rattle.map_tree.specs.Cuts.{other, IsCut, IsLast, Halvings, IsMiddleRow, rows_to, rows_above, columns_to, columns_right}
-use Rattle.map_tree.specs.PlainCount.{TellsSectors, points_in, plain_count}
+use Rattle.map_tree.specs.Cuts.{IsCut, IsLast, Halvings, IsMiddleRow, rows_to, rows_above, columns_to, columns_right}
+use Rattle.map_tree.specs.PlainCount.{TellsSectors, plain_count}
 use Rattle.map_tree.specs.Work.{Work}
 
 -- the word names an ssector, or a node that is there and whose origin is in range
@@ -60,12 +60,12 @@ IsStepAt found piece (Apart halves) = IsApart found piece halves
 
 -- what becomes of a piece, by where it has come to
 abbrev pub IsStep : List Node → Piece → Step → Type 0
-IsStep records piece (AtSsector t n) = (32768 ≤ piece.word) × (t ≡ piece.word - 32768) × (n ≡ points_in piece.rect) × (n ≤ 1048576)
+IsStep records piece (AtSsector t n) = (32768 ≤ piece.word) × (t ≡ piece.word - 32768) × (n ≡ point_count piece.rect) × (n ≤ 1048576)
 IsStep records piece (Down next) = (piece.word < 32768) × IsSomeAnd (slice_get records piece.word) (λ found. IsStepAt found piece (Down next))
 IsStep records piece (Apart halves) = (piece.word < 32768) × IsSomeAnd (slice_get records piece.word) (λ found. IsStepAt found piece (Apart halves))
 
 -- how many points of the rectangle each sector has, by its number, and the work that it took
 pub record IsTally (level : Level) (rect : Rect) (counts : List ℕ) (tests pending : ℕ) : Type 0 where
   pub counted : (sector : Point → ℕ) → TellsSectors level sector → (s : ℕ) → slice_index counts s ≡ plain_count sector s rect
-  pub total : sum counts ≡ points_in rect
+  pub total : sum counts ≡ point_count rect
   pub work : Work level rect (root level) tests pending

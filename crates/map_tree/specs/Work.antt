@@ -5,12 +5,12 @@ use Rattle.std.specs.List.{slice_get}
 use Rattle.map_geo.specs.declared.sides.Side.{Side}
 use Rattle.map_geo.specs.Point.{point_at}
 use Rattle.map_geo.specs.Partition.{Partition, partition_of}
-use Rattle.map_geo.specs.Side.{side_of}
+use Rattle.map_geo.specs.Side.{side_of, other}
 use Rattle.map_geo.specs.Rect.{Rect, IsWholeSide}
 use Rattle.map_level.specs.Level.{Level}
 use Rattle.map_tree.specs.Paths.{Place, node, ssector}
 use Rattle.map_tree.specs.Child.{child}
-use Rattle.map_tree.specs.Cuts.{other, IsCut, IsMiddleRow, IsLast, Halvings, rows_to, rows_above, columns_to, columns_right}
+use Rattle.map_tree.specs.Cuts.{IsCut, IsMiddleRow, IsLast, Halvings, rows_to, rows_above, columns_to, columns_right}
 
 -- the partition of node n
 abbrev pub partition_at : Level → ℕ → Option Partition

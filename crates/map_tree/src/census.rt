@@ -1,6 +1,6 @@
 //! The census of a rectangle: how many of its points lie in each sector.
 
-ghost use Rattle.std.specs.Prelude.{◌≡◌, ◌<◌, ◌≤◌, ◌++◌, ◌∷◌, [], ℕ, length, slice_index};
+ghost use Rattle.std.specs.Prelude.{◌≡◌, ◌<◌, ◌≤◌, ◌++◌, ◌∷◌, [], ℕ, length};
 ghost use Rattle.std.specs.Prelude.{IfOk, IfSome, Some, None};
 ghost use Rattle.map_geo.specs.Rect.{IsRect};
 ghost use Rattle.map_level.specs.SectorOf.{sector_of};
@@ -9,11 +9,14 @@ ghost use Rattle.map_tree.specs.SectorList.{ListsSectors};
 ghost use Rattle.map_tree.specs.Sound.{IsSound};
 ghost use Rattle.map_tree.specs.Counts.{IsCensus};
 ghost use Rattle.map_tree.specs.Steps.{IsTally};
+ghost use Rattle.map_tree.specs.Touched.{IsFresh};
 
-use crate::counts::{Counts, pairs};
+use crate::counts::Counts;
 use crate::cut::step;
 use crate::pieces::{Piece, Step};
+use crate::sector_counts::SectorCounts;
 use crate::sector_tree::SectorTree;
+use crate::tally::Tally;
 use crate::tree::{Tree, root_word};
 use map_geo::Rect;
 use map_level::Level;
@@ -34,28 +37,16 @@ impl Tree<'_, '_> {
 }
 
 impl<B: Allocator> SectorTree<'_, '_, B> {
-    /// How many points of a rectangle lie in each sector.
-    ///
-    /// It keeps a list of pending pieces, begins with the whole rectangle at the root, and takes
-    /// the newest first. A piece that lies on one side of a node's partition goes to that side's
-    /// child, another is cut into its lower and upper rows, or as a row where its side changes.
+    /// How many points of a rectangle lie in each sector. For many rectangles make one `Tally`.
     pub fn census<A: Allocator + Copy>(&self, alloc: A, rect: Rect) -> Result<Counts<A>, AllocError>
         ensures { IfOk result (IsCensus self.now rect) }
     {
-        let level = self.level();
-        let mut counts = vec![in alloc; 0; sector_count(level)]?;
-        let work = tally(alloc, level, self.sectors(), rect, &mut counts)?;
-        let pairs = pairs(alloc, &counts)?;
-        Ok(Counts {
-            pairs,
-            tests: work.tests,
-            pending: work.pending,
-        })
+        Tally::of(alloc, self)?.census(rect)
     }
 }
 
 // How many numbers of sectors there can be.
-fn sector_count(level: &Level<'_>) -> usize
+pub(crate) fn sector_count(level: &Level<'_>) -> usize
     ensures within { (t k : ℕ) → sector_of level.now t ≡ Some k → k < 65536 → k < result }
     ensures few { result ≤ 65536 }
 {
@@ -80,32 +71,30 @@ fn start(level: &Level<'_>, rect: Rect) -> Piece
 
 // How many tests a census made, and the most pieces that it had pending at once.
 #[derive(Clone, Copy)]
-struct Work {
-    tests: u64,
-    pending: u32,
+pub(crate) struct Work {
+    pub tests: u64,
+    pub pending: u32,
 }
 
 // Adds the points of a rectangle to the counts of their sectors. On its own it has the registers to itself.
 #[inline(never)]
-fn tally<A: Allocator>(
-    alloc: A,
+pub(crate) fn tally<A: Allocator>(
     level: &Level<'_>,
     sectors: &[u16],
     rect: Rect,
-    counts: &mut [u32],
+    counts: &mut SectorCounts<A>,
+    pending: &mut Vec<Piece, A>,
 ) -> Result<Work, AllocError>
     requires sound { IsSound level.now }
     requires listed { ListsSectors level.now sectors.now }
-    requires zeros { (s : ℕ) → slice_index counts.old s ≡ 0 }
-    requires within { (t k : ℕ)
-        → sector_of level.now t ≡ Some k → k < 65536 → k < length counts.old }
+    requires fresh { IsFresh level.now counts.old }
     ensures long { length counts.new ≡ length counts.old }
     ensures valid { IsRect rect }
     ensures tally { IfOk result
         (λ work. IsTally level.now rect counts.new work.tests work.pending) }
 {
     let nodes = level.nodes();
-    let mut pending = Vec::new(alloc);
+    pending.clear();
     let mut hand = start(level, rect);
     let mut tests = 0;
     let mut most: usize = 1;
@@ -122,8 +111,8 @@ fn tally<A: Allocator>(
                 halves.second
             }
             Step::AtSsector(t, points) => {
-                counts[usize::from(sectors[usize::from(t)])] += points;
-                match take_newest(&mut pending) {
+                counts.add(sectors[usize::from(t)], points)?;
+                match take_newest(pending) {
                     Some(next) => next,
                     None => return Ok(Work {
                         tests,

@@ -1,10 +1,9 @@
 //! What a census tells, and the list of its pairs.
 
-ghost use Rattle.std.specs.Prelude.{◌≡◌, ◌<◌, ◌≤◌, ◌++◌, ◌∷◌, [], IfOk, OnOk, length, slice_index};
-ghost use Rattle.std.specs.List.{slice_get, sum, sum_by};
-ghost use Rattle.map_tree.specs.Counts.{ArePairs};
+ghost use Rattle.std.specs.Prelude.{◌≡◌, length};
+ghost use Rattle.std.specs.List.{slice_get};
 
-use std::alloc::{AllocError, Allocator, Global};
+use std::alloc::{Allocator, Global};
 use std::marker::Model;
 
 /// How many points of a rectangle lie in each sector, and what it took to count them.
@@ -51,34 +50,4 @@ impl<A: Allocator> Counts<A> {
     {
         self.pending
     }
-}
-
-/// The sectors with points and how many they have, from a list with a number for each sector.
-pub fn pairs<A: Allocator>(alloc: A, counts: &[u32]) -> Result<Vec<(u16, u32), A>, AllocError>
-    requires { length counts.now ≤ 65536 }
-    ensures pairs { IfOk result (λ v. ArePairs (slice_index counts.now) v.items) }
-    ensures total { IfOk result (λ v. sum_by (λ pair. pair.1) v.items ≡ sum counts.now) }
-{
-    let mut pairs = Vec::new(alloc);
-    for sector in 0..counts.len() {
-        add_pair(&mut pairs, sector as u16, counts[sector])?;
-    }
-    Ok(pairs)
-}
-
-// Adds the pair of a sector that has points.
-#[inline]
-fn add_pair<A: Allocator>(
-    pairs: &mut Vec<(u16, u32), A>,
-    sector: u16,
-    count: u32,
-) -> Result<(), AllocError>
-    ensures some { OnOk result
-        (0 < count → pairs.new.items ≡ pairs.old.items ++ (sector, count) ∷ []) }
-    ensures none { OnOk result (count ≡ 0 → pairs.new.items ≡ pairs.old.items) }
-{
-    if count > 0 {
-        pairs.push((sector, count))?;
-    }
-    Ok(())
 }

@@ -7,7 +7,7 @@ ghost use Rattle.map_geo.specs.Rect.{IsRect};
 ghost use Rattle.map_tree.specs.Cuts.{IsCut, IsMiddleRow};
 ghost use Rattle.map_tree.specs.Steps.{IsWord, IsRowsCut, IsRowCut, IsStepAt, IsStep};
 
-use crate::pieces::{Halves, Piece, Step, other, points_in, word_at};
+use crate::pieces::{Halves, Piece, Step, word_at};
 use crate::places::NF_SUBSECTOR;
 use crate::row::{last_of_side, middle};
 use le_rec::{Node, Table};
@@ -21,7 +21,7 @@ pub fn step(nodes: &Table<'_, Node>, piece: Piece) -> Step
     ensures { IsStep nodes.now.records piece result }
 {
     if piece.word >= NF_SUBSECTOR {
-        return Step::AtSsector(piece.word - NF_SUBSECTOR, points_in(piece.rect));
+        return Step::AtSsector(piece.word - NF_SUBSECTOR, piece.rect.point_count());
     }
     step_at(&nodes.at(usize::from(piece.word)), piece)
 }
@@ -102,7 +102,7 @@ fn cut_row(node: &Node, piece: Piece) -> Halves
         },
         second: Piece {
             rect: rect.columns_from(last.column + 1),
-            word: word_at(node, other(s)),
+            word: word_at(node, s.other()),
         },
         tests: 2 + last.halvings,
     }

@@ -2,6 +2,7 @@
 
 ghost use Rattle.map_tree.specs.Laws.{OneLeaf, AncestorsByDepth, DepthAtMostNodes, SoundIsFaultless};
 ghost use Rattle.map_tree.specs.Laws.{OneWork, FewTests, FewPending, SectorsAreTold, CountsAddUp, OneCounting};
+ghost use Rattle.map_tree.specs.Laws.{PairTells, NoPairTells};
 
 /// In a sound level each point has exactly one leaf.
 pub fn one_leaf()
@@ -35,4 +36,10 @@ pub fn plain_counts()
     ensures told { SectorsAreTold }
     ensures one { OneCounting }
     ensures total { CountsAddUp }
+{}
+
+/// A list of pairs tells each sector's count: the number beside it, and 0 of a sector that no pair has.
+pub fn pairs_tell_counts()
+    ensures pair { PairTells }
+    ensures none { NoPairTells }
 {}

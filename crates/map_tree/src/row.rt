@@ -2,8 +2,8 @@
 
 ghost use Rattle.std.specs.Prelude.{◌≡◌, ◌<ℤ◌, ◌≤◌};
 ghost use Rattle.map_geo.specs.Point.{IsInRange, point_at};
-ghost use Rattle.map_geo.specs.Side.{side_of};
-ghost use Rattle.map_tree.specs.Cuts.{other, IsMiddle, IsLast, Halvings};
+ghost use Rattle.map_geo.specs.Side.{other, side_of};
+ghost use Rattle.map_tree.specs.Cuts.{IsMiddle, IsLast, Halvings};
 
 use map_geo::{Partition, Point, Side, side};
 

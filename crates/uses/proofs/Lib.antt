@@ -1,3 +1,5 @@
-mod PairLemmas
+mod ExchangeLemmas
+mod FiringLemmas
+mod ListLemmas
 mod ReportLemmas
 mod ThingLemmas

@@ -1,25 +1,16 @@
 -- Sectors of things, one after another.
-use Rattle.std.proofs.Common.{◌≡◌, ◌≢◌, ◌⊎◌, inl, inr, ℕ, zero, suc, ◌+◌, ◌<◌, List, [], ◌∷◌, ◌++◌, length, length-append, Option, Some, None, refl, sym, ap, ◌∙◌, subst, arith}
+use Rattle.std.proofs.Common.{◌≡◌, inl, inr, ℕ, ◌+◌, List, [], ◌∷◌, ◌++◌, length, length-append, Option, Some, refl, sym, ap, ◌∙◌, subst}
 use Rattle.std.specs.List.{slice_get}
 use Rattle.le_rec.specs.declared.records.Thing.{Thing}
 use Rattle.map_level.specs.Level.{Level}
-use Rattle.uses.specs.ThingSectors.{StandIn, StandsIn}
+use Rattle.uses.proofs.ListLemmas.{slice_get-last}
+use Rattle.uses.specs.ThingSectors.{StandsIn}
 
 -- the sectors of the first things
 pub record StandSoFar (level : Level) (things : List Thing) (count : ℕ) (sectors : List (Option ℕ)) : Type 0 where
   pub long : length sectors ≡ count
   pub each : (i : ℕ) (thing : Thing) (sector : Option ℕ) → slice_get things i ≡ Some thing → slice_get sectors i ≡ Some sector
       → StandsIn level thing sector
-
--- an item of a list and one more is the list's or the one
-slice_get-last : {X : Type 0} (xs : List X) (x y : X) (i : ℕ) → slice_get (xs ++ y ∷ []) i ≡ Some x → (slice_get xs i ≡ Some x) ⊎ ((i ≡ length xs) × (x ≡ y))
-slice_get-last [] x y zero e = inr (refl, cc)
-slice_get-last [] x y (suc i) e = absurd cc
-slice_get-last (z ∷ xs) x y zero e = inl e
-slice_get-last (z ∷ xs) x y (suc i) e = elim (slice_get-last xs x y i e) [
-  | inl there ↦ inl there
-  | inr last ↦ inr (ap suc last.0, last.1)
-]
 
 pub StandSoFar-none : (level : Level) (things : List Thing) → StandSoFar level things 0 []
 StandSoFar-none level things = record { long = refl; each = λ i thing sector e none. absurd cc }

@@ -1,3 +1,5 @@
+pub mod DemoFiring
 pub mod DemoLength
 pub mod FaultSearch
+pub mod LumpExchange
 pub mod ThingSectors

@@ -6,7 +6,7 @@ ghost use Rattle.map_level.specs.Findings.{is_fault};
 ghost use Rattle.map_tree.specs.Sound.{IsSound};
 ghost use Rattle.uses.specs.FaultSearch.{IsFirstFault};
 
-use map_audit::laws::sound_is_no_fault;
+use map_audit::laws::{faults_stand_first, sound_is_no_fault};
 use map_audit::{Report, audit};
 use map_level::{Finding, Level};
 use std::alloc::{AllocError, Allocator};
@@ -20,6 +20,7 @@ pub fn first_fault<A: Allocator + Copy>(
     ensures some { IfOk result (λ found. IfSome found (IsFirstFault level.now)) }
     ensures none { IfOk result (λ found. IsNone found ↔ IsSound level.now) }
 {
+    faults_stand_first();
     sound_is_no_fault();
     let report = audit(alloc, level)?;
     Ok(leading_fault(&report))

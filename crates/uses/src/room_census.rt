@@ -5,6 +5,7 @@ ghost use Rattle.map_tree.specs.Counts.{ArePairs};
 ghost use Rattle.map_tree.specs.PlainCount.{TellsSectors, plain_count};
 
 use map_geo::Rect;
+use map_tree::laws::pairs_tell_counts;
 use map_tree::{Counts, Tree};
 use std::alloc::{AllocError, Allocator};
 
@@ -26,6 +27,7 @@ pub fn points_in_sector<A: Allocator + Copy>(
 fn points_of<A: Allocator>(counts: &Counts<A>, sector: u16) -> u32
     ensures { (count : ℕ → ℕ) → ArePairs count counts.now.pairs → result ≡ count sector }
 {
+    pairs_tell_counts();
     for number in 0..counts.len() {
         if let Some((found, points)) = counts.get(number) {
             if found == sector {

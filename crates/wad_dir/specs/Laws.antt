@@ -1,9 +1,14 @@
 -- Laws of directories, lookup and lumps.
-use Rattle.std.specs.Prelude.{◌≡◌, ℕ, List}
+use Rattle.std.specs.Prelude.{◌≡◌, ℕ, List, [], ◌∷◌, map, Some}
+use Rattle.std.specs.List.{AllZip, slice_get}
+use Rattle.le_rec.specs.Name.{name_of}
 use Rattle.le_rec.specs.declared.records.Entry.{Entry}
 use Rattle.wad_dir.specs.Directory.{IsDirectory}
+use Rattle.wad_dir.specs.Entries.{names}
+use Rattle.wad_dir.specs.Packing.{NamedLump}
 use Rattle.wad_dir.specs.Refusal.{RefusesWad}
-use Rattle.wad_dir.specs.Slice.{IsSlice}
+use Rattle.wad_dir.specs.Slice.{IsLump, IsSlice}
+use Rattle.wad_dir.specs.Wad.{Wad}
 use Rattle.wad_dir.specs.Winner.{Wins}
 use Rattle.wad_dir.specs.declared.header.Kind.{Kind}
 use Rattle.wad_dir.specs.declared.wad.WadFault.{WadFault}
@@ -37,3 +42,14 @@ OneLump =
 abbrev pub OneWinner : Type 0
 OneWinner =
     (all : List (List ℕ)) (name : List ℕ) (g h : ℕ) → Wins all name g → Wins all name h → g ≡ h
+
+-- where the entries of a file have the names and the slices of lumps, the set of it alone has these
+-- names, and lump g is that of its entry g
+abbrev pub ReadsAsPacked : Type 0
+ReadsAsPacked =
+    (file : Wad) (lumps : List NamedLump)
+    → map (λ e. name_of e.name) file.entries ≡ map (λ lump. lump.name) lumps
+    → AllZip (λ e lump. IsSlice file.bytes e lump.bytes) file.entries lumps
+    → (names (file ∷ []) ≡ map (λ lump. lump.name) lumps)
+    × ((g : ℕ) (lump : NamedLump) → slice_get lumps g ≡ Some lump
+    → IsLump (file ∷ []) g lump.bytes)

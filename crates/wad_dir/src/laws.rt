@@ -2,7 +2,7 @@
 //! caller gets the law from a call.
 
 ghost use Rattle.wad_dir.specs.Laws.{OneDirectory, OneWadFault, DirectoriesAreNotRefused};
-ghost use Rattle.wad_dir.specs.Laws.{OneLump, OneWinner};
+ghost use Rattle.wad_dir.specs.Laws.{OneLump, OneWinner, ReadsAsPacked};
 
 /// Bytes have at most one directory.
 pub fn one_directory()
@@ -23,4 +23,9 @@ pub fn one_lump()
 /// A name has at most one winner.
 pub fn one_winner()
     ensures { OneWinner }
+{}
+
+/// A packed file, read as the one file of a set, has the lumps that were packed, in their order.
+pub fn reads_as_packed()
+    ensures { ReadsAsPacked }
 {}

@@ -12,10 +12,10 @@ use thiserror::Error;
 #[derive(Clone, Copy, Debug, PartialEq, Eq, Error)]
 pub enum LumpFault {
     /// There are not so many entries.
-    #[error("5 no such lump")]
+    #[error("no such lump")]
     NoSuch,
     /// The lump isn't all inside the entry's file.
-    #[error("6 outside file")]
+    #[error("outside its file")]
     Outside,
 }
 

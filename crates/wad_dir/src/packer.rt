@@ -25,10 +25,10 @@ pub const MAX_BYTES: usize = 2_147_483_647;
 #[derive(Clone, Copy, Debug, PartialEq, Eq, Error)]
 pub enum PackFault {
     /// A file of the lumps would be larger than 2,147,483,647 bytes.
-    #[error("7 too large")]
+    #[error("the lumps make a file larger than {max} bytes", max = MAX_BYTES)]
     TooLarge,
     /// A growth was refused.
-    #[error("memory")]
+    #[error("no memory left")]
     Memory,
 }
 

@@ -24,7 +24,7 @@ pub enum SetFault {
     #[error("file {0}: {1}")]
     File(u32, WadFault),
     /// A growth was refused.
-    #[error("memory")]
+    #[error("no memory left")]
     Memory,
 }
 

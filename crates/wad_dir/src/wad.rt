@@ -17,16 +17,16 @@ use thiserror::Error;
 #[derive(Clone, Copy, Debug, PartialEq, Eq, Error)]
 pub enum WadFault {
     /// There are fewer bytes than a header has, which is 12.
-    #[error("1 short")]
+    #[error("shorter than a WAD header")]
     Short,
     /// They begin with neither `IWAD` nor `PWAD`.
-    #[error("2 magic")]
+    #[error("not a WAD file: it begins with neither IWAD nor PWAD")]
     Magic,
     /// The number of entries is negative.
-    #[error("3 count")]
+    #[error("a negative count of lumps")]
     Count,
     /// There are entries, and their table isn't all inside the file.
-    #[error("4 directory")]
+    #[error("its directory isn't inside the file")]
     Directory,
 }
 

@@ -75,6 +75,6 @@ span_or_not a b = elim (both_or_not (both_or_not (range_or_not a) (range_or_not 
 pub rect_or_not : (rect : Rect) → IsRect rect ⊎ (¬ IsRect rect)
 rect_or_not rect =
     elim (both_or_not (both_or_not (span_or_not rect.x0 rect.x1) (span_or_not rect.y0 rect.y1)) (at_most_or_not (span rect.x0 rect.x1 *ℤ span rect.y0 rect.y1) (pos 1048576))) [
-      | inl all ↦ inl (record { columns = all.0.0; rows = all.0.1; places = all.1 })
-      | inr not ↦ inr (λ is. not ((is.columns, is.rows), is.places))
+      | inl all ↦ inl (record { columns = all.0.0; rows = all.0.1; points = all.1 })
+      | inr not ↦ inr (λ is. not ((is.columns, is.rows), is.points))
     ]

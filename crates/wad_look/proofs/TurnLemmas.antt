@@ -5,7 +5,7 @@ use Rattle.std.proofs.lemmas.List.{take_more, length-take-le}
 use Rattle.std.proofs.lemmas.List.Sums.{count_by_more_no, count_by_more_yes}
 use Rattle.std.proofs.lemmas.Bool.Decides.{nat_tests}
 use Rattle.demo_lump.specs.Header.{players_in}
-use Rattle.wad_look.specs.Engines.Demo.{seats_from}
+use Rattle.wad_look.specs.Turn.{seats_from}
 
 seats_from-none : (n : ℕ) (players : List ℕ) (b : ℕ) → b ≡ 0 → seats_from n (players ++ b ∷ []) ≡ seats_from n players
 seats_from-none n [] b h = rw h refl

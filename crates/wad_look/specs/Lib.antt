@@ -1,9 +1,12 @@
-pub mod Commands
+pub mod Command
 pub mod Contents
 pub mod Engines
-pub mod Faults
-pub mod Job
+pub mod Fault
 pub mod Laws
+pub mod Listing
 pub mod Opening
+pub mod Outcome
 pub mod Runs
-pub mod Status
+pub mod RunsJob
+pub mod Turn
+pub mod Words

@@ -4,7 +4,7 @@ use Rattle.std.specs.declared.vec.Vec.{Vec}
 use Rattle.le_rec.specs.Source.{SourceState}
 use Rattle.line_io.specs.ReadsAll.{ReadsAll}
 use Rattle.line_io.specs.declared.fault.IoFault.{IoFault}
-use Rattle.wad_look.specs.Faults.{run_end}
+use Rattle.wad_look.specs.Fault.{run_end}
 use Rattle.wad_look.specs.declared.fault.RunFault.{RunFault}
 
 -- it ended before anything was read or written, for a reason that holds

@@ -3,6 +3,8 @@
 ghost use Rattle.std.specs.Prelude.{◌≡◌, ◌<◌, ◌≤◌, ◌^◌, ℤ, List, [], ◌∷◌, length, map, pos, IfErr, IfNone, IfOk, IfSome, IsTrue};
 ghost use Rattle.line_io.specs.NumberAnswers.{OfTwo, RefusesContent};
 ghost use Rattle.line_io.specs.Numbers.{HasForm, nearest, printed};
+ghost use Rattle.line_io.specs.declared.lines.TheConstants.{MAX_CONTENT};
+ghost use Rattle.map_geo.specs.Point.{point_at};
 ghost use Rattle.map_level.specs.Links.{Names};
 ghost use Rattle.wad_look.specs.Contents.{AreCoordinates, AreSectors, pair_text};
 
@@ -16,23 +18,23 @@ pub struct Pair<'a> {
     pub y: i32,
     content: &'a [u8],
     is_printed: bool,
-    ghost short: { length content.now ≤ 64 },
+    ghost short: { length content.now ≤ MAX_CONTENT },
     ghost spelled: { IsTrue is_printed → content.now ≡ printed (x ∷ y ∷ []) },
 }
 
 impl Pair<'_> {
     /// Puts `<x> <y>` before the line.
     #[inline(always)]
-    pub fn put(self, line: &mut TextLine)
+    pub fn prepend(self, line: &mut TextLine)
         requires { length line.old ≤ 80 }
         ensures { line.new ≡ pair_text self.entry.x self.entry.y line.old }
     {
         if self.is_printed {
-            line.put_bytes(self.content);
+            line.prepend_bytes(self.content);
         } else {
-            line.put_integer(i64::from(self.y));
-            line.put_bytes(b" ");
-            line.put_integer(i64::from(self.x));
+            line.prepend_integer(i64::from(self.y));
+            line.prepend_bytes(b" ");
+            line.prepend_integer(i64::from(self.x));
         }
     }
 }
@@ -40,7 +42,7 @@ impl Pair<'_> {
 // The two numbers of a content.
 #[inline(always)]
 fn read_pair(content: &[u8]) -> Option<Pair<'_>>
-    requires { length content.now ≤ 64 }
+    requires { length content.now ≤ MAX_CONTENT }
     ensures some { IfSome result (λ pair.
         (exact : List ℤ) × HasForm 2 content.now exact × (pair.x ∷ pair.y ∷ [] ≡ map nearest exact)) }
     ensures none { IfNone result ((exact : List ℤ) → HasForm 2 content.now exact → ⊥) }
@@ -55,19 +57,27 @@ fn read_pair(content: &[u8]) -> Option<Pair<'_>>
     })
 }
 
-/// The coordinates that a content names.
+/// A point that a line names, with its two numbers.
+#[derive(Clone, Copy)]
+pub struct NamedPoint<'a> {
+    pub point: Point,
+    pub pair: Pair<'a>,
+}
+
+/// The point that a content names.
 #[inline(always)]
-pub fn read_point(content: &[u8]) -> Result<Pair<'_>, LineRefusal>
-    requires { length content.now ≤ 64 }
-    ensures read { IfOk result (λ pair. HasForm 2 content.now (pair.x ∷ pair.y ∷ [])) }
-    ensures allowed { IfOk result (λ pair. AreCoordinates pair.x pair.y) }
+pub fn read_point(content: &[u8]) -> Result<NamedPoint<'_>, LineRefusal>
+    requires { length content.now ≤ MAX_CONTENT }
+    ensures point { IfOk result (λ named. named.point ≡ point_at named.pair.x named.pair.y) }
+    ensures read { IfOk result (λ named. HasForm 2 content.now (named.pair.x ∷ named.pair.y ∷ [])) }
+    ensures allowed { IfOk result (λ named. AreCoordinates named.pair.x named.pair.y) }
     ensures refused { IfErr result (RefusesContent 2 (OfTwo AreCoordinates) content.now) }
 {
     let Some(pair) = read_pair(content) else {
         return Err(LineRefusal::Form);
     };
     match Point::new(pair.x, pair.y) {
-        Some(_) => Ok(pair),
+        Some(point) => Ok(NamedPoint { point, pair }),
         None => Err(LineRefusal::Range),
     }
 }
@@ -75,7 +85,7 @@ pub fn read_point(content: &[u8]) -> Result<Pair<'_>, LineRefusal>
 /// The two of so many sectors that a content names.
 #[inline(always)]
 pub fn read_sectors(content: &[u8], count: u32) -> Result<(u32, u32, Pair<'_>), LineRefusal>
-    requires short { length content.now ≤ 64 }
+    requires short { length content.now ≤ MAX_CONTENT }
     requires few { count < 2 ^ 31 }
     ensures sectors { IfOk result (λ found. (found.2.x ≡ pos found.0) × (found.2.y ≡ pos found.1)) }
     ensures read { IfOk result (λ found. HasForm 2 content.now (found.2.x ∷ found.2.y ∷ [])) }

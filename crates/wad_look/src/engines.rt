@@ -12,9 +12,9 @@ pub mod points;
 pub mod show;
 pub mod sight;
 
-ghost use Rattle.std.specs.Prelude.{◌≡◌, ◌≤◌, false, length, map, string_bytes};
-ghost use Rattle.wad_look.specs.Commands.{RunsJob};
-ghost use Rattle.wad_look.specs.Job.{IsJob, name_in};
+ghost use Rattle.std.specs.Prelude.{◌≡◌, ◌≤◌, false, length};
+ghost use Rattle.wad_dir.specs.declared.set.TheConstants.{MAX_FILES};
+ghost use Rattle.wad_look.specs.RunsJob.{RunsJob};
 ghost use Rattle.wad_look.specs.Opening.{bytes_of};
 ghost use Rattle.wad_look.specs.Runs.{done};
 
@@ -27,6 +27,7 @@ use demo::demo_text;
 use extract::extract;
 use le_rec::{Sink, Source};
 use levels::levels;
+use line_io::MAX_READ;
 use lmp::lmp;
 use lumps::lumps;
 use points::points;
@@ -35,52 +36,36 @@ use sight::sight;
 use std::alloc::Allocator;
 
 /// The most bytes of line input.
-pub const INPUT_LIMIT: u64 = 16_777_216;
+pub const MAX_INPUT: u64 = 16_777_216;
 
-/// The most bytes of a demo's file.
-pub const DEMO_LIMIT: u64 = 268_435_456;
-
-/// Runs the command of the words, which are those of `job`, over what their files hold: whether it was done without a
-/// fault found. The file of `lmp` is its input, and no other file is looked at.
+/// Runs the command of a job over what its files hold: whether it was done without a fault found. The file of `lmp` is its
+/// input, and no other file is looked at.
 pub fn run<A: Allocator + Copy, F: Allocator, S: Source, W: Sink>(
     alloc: A,
-    words: &[String<F>],
-    job: Job,
+    job: &Job<'_, F>,
     files: &[Vec<u8, F>],
     input: &mut S,
     out: &mut W,
 ) -> Result<bool, RunFault>
-    requires job { IsJob (map string_bytes words.now) job }
-    requires few { length files.now ≤ 64 }
+    requires few { length files.now ≤ MAX_FILES }
     requires input { (S.state input.old).failed ≡ false }
     requires out { (W.state out.old).failed ≡ false }
-    ensures { RunsJob S.state W.state (map string_bytes words.now) job (bytes_of files.now)
-        input.old input.new out.old out.new result }
+    ensures { RunsJob S.state W.state job.now (bytes_of files.now) input.old input.new out.old out.new result }
 {
-    match job.command {
+    let name = job.name();
+    let reading = job.reading();
+    match job.command() {
         Cmd::Lumps => done(lumps(alloc, files, out)),
         Cmd::Levels => done(levels(alloc, files, out)),
-        Cmd::Show => done(show(alloc, files, name_of(words, job), job.reading(), out)),
-        Cmd::Audit => audit_text(alloc, files, name_of(words, job), job.reading(), out),
-        Cmd::Points => {
-            let name = name_of(words, job);
-            done(points(alloc, files, name, job.reading(), input, INPUT_LIMIT, out))
-        }
-        Cmd::Census => {
-            let name = name_of(words, job);
-            done(census_text(alloc, files, name, job.reading(), input, INPUT_LIMIT, out))
-        }
-        Cmd::Sight => {
-            let name = name_of(words, job);
-            done(sight(alloc, files, name, input, INPUT_LIMIT, out))
-        }
-        Cmd::Blocks => {
-            let name = name_of(words, job);
-            done(blocks(alloc, files, name, job.reading(), input, INPUT_LIMIT, out))
-        }
-        Cmd::Extract => done(extract(alloc, files, name_of(words, job), out)),
-        Cmd::Demo => done(demo_text(alloc, files, name_of(words, job), out)),
-        Cmd::Lmp => done(lmp(input, DEMO_LIMIT, out)),
+        Cmd::Show => done(show(alloc, files, name, reading, out)),
+        Cmd::Audit => audit_text(alloc, files, name, reading, out),
+        Cmd::Points => done(points(alloc, files, name, reading, input, MAX_INPUT, out)),
+        Cmd::Census => done(census_text(alloc, files, name, reading, input, MAX_INPUT, out)),
+        Cmd::Sight => done(sight(alloc, files, name, input, MAX_INPUT, out)),
+        Cmd::Blocks => done(blocks(alloc, files, name, reading, input, MAX_INPUT, out)),
+        Cmd::Extract => done(extract(alloc, files, name, out)),
+        Cmd::Demo => done(demo_text(alloc, files, name, out)),
+        Cmd::Lmp => done(lmp(input, MAX_READ, out)),
     }
 }
 
@@ -92,12 +77,4 @@ fn done(ended: Result<(), RunFault>) -> Result<bool, RunFault>
         Ok(()) => Ok(true),
         Err(fault) => Err(fault),
     }
-}
-
-// The word before the first file.
-fn name_of<F: Allocator>(words: &[String<F>], job: Job) -> &[u8]
-    requires { IsJob (map string_bytes words.now) job }
-    ensures { result.now ≡ name_in (map string_bytes words.now) job }
-{
-    words[job.first - 1].as_str().as_bytes()
 }

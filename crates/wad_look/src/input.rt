@@ -4,7 +4,7 @@ ghost use Rattle.wad_look.specs.Runs.{ReadsWhole};
 
 use crate::fault::{RunFault, ended};
 use le_rec::Source;
-use line_io::LIMIT;
+use line_io::MAX_READ;
 use std::alloc::Allocator;
 
 /// Reads `input` to its end, at most one byte past `limit`. `TooLong` where it has more than `limit` bytes, `Memory`
@@ -14,7 +14,7 @@ pub fn read_all<S: Source, A: Allocator>(
     input: &mut S,
     limit: u64,
 ) -> Result<Vec<u8, A>, RunFault>
-    requires limit { limit ≤ LIMIT }
+    requires limit { limit ≤ MAX_READ }
     requires input { (S.state input.old).failed ≡ false }
     ensures { ReadsWhole limit (S.state input.old) (S.state input.new) result }
 {

@@ -1,8 +1,9 @@
-//! Opening what a command is over. What takes memory is the set, the audit of a level and the list of its ssectors'
-//! sectors.
+//! Opening what a command is over. What takes memory is the set, the audit of a level, the list of its ssectors'
+//! sectors and what a census counts into.
 
 ghost use Rattle.std.specs.Prelude.{◌≡◌, ◌≤◌, Err, IfErr, IfOk, length};
 ghost use Rattle.map_tree.specs.Sound.{IsSound};
+ghost use Rattle.wad_dir.specs.declared.set.TheConstants.{MAX_FILES};
 ghost use Rattle.wad_look.specs.Opening.{AreRead, IsOpened, RefusesAudit, RefusesFiles, RefusesName, bytes_of};
 ghost use Rattle.wad_look.specs.declared.fault.RunFault.TheVariants as fault;
 
@@ -10,7 +11,7 @@ use crate::fault::RunFault;
 use le_rec::Name8;
 use map_audit::sound_tree;
 use map_level::{Level, Reading};
-use map_tree::SectorTree;
+use map_tree::{SectorTree, Tally};
 use std::alloc::Allocator;
 use wad_dir::{Set, SetFault};
 
@@ -19,7 +20,7 @@ pub fn open_set<'a, A: Allocator, F: Allocator>(
     alloc: A,
     files: &'a [Vec<u8, F>],
 ) -> Result<Set<'a, A>, RunFault>
-    requires { length files.now ≤ 64 }
+    requires { length files.now ≤ MAX_FILES }
     ensures ok { IfOk result (AreRead (bytes_of files.now)) }
     ensures err { IfErr result (RefusesFiles (bytes_of files.now)) }
 {
@@ -37,7 +38,7 @@ pub fn open_level<'a, A: Allocator, F: Allocator>(
     name: &[u8],
     reading: Reading,
 ) -> Result<Level<'a>, RunFault>
-    requires { length files.now ≤ 64 }
+    requires { length files.now ≤ MAX_FILES }
     ensures ok { IfOk result (IsOpened (bytes_of files.now) name.now reading) }
     ensures err { IfErr result (RefusesName (bytes_of files.now) name.now) }
 {
@@ -62,6 +63,20 @@ pub fn sector_tree<'l, 'a, A: Allocator + Copy>(
             Err(_) => Err(RunFault::Memory),
         },
         Ok(None) => Err(RunFault::Audit),
+        Err(_) => Err(RunFault::Memory),
+    }
+}
+
+/// What counts the rectangles of an accepted level's tree.
+pub fn tally_of<'t, 'a, A: Allocator + Copy>(
+    alloc: A,
+    tree: &'t SectorTree<'_, 'a, A>,
+) -> Result<Tally<'t, 'a, A>, RunFault>
+    ensures ok { IfOk result (λ tally. tally ≡ tree.now) }
+    ensures err { IfErr result (RefusesAudit tree.now) }
+{
+    match Tally::of(alloc, tree) {
+        Ok(tally) => Ok(tally),
         Err(_) => Err(RunFault::Memory),
     }
 }

@@ -1,7 +1,7 @@
 //! The status with which a run ends.
 
 ghost use Rattle.std.specs.Prelude.{◌≡◌};
-ghost use Rattle.wad_look.specs.Status.{status_of};
+ghost use Rattle.wad_look.specs.Outcome.{status_of};
 
 use crate::fault::RunFault;
 use wad_dir::PackFault;

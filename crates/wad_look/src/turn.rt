@@ -1,12 +1,12 @@
-//! Whose command comes next in a demo.
+//! Whose tic command comes next in a demo.
 
 ghost use Rattle.std.specs.Prelude.{◌≡◌, ◌+◌, ◌^◌, ◌<◌, ◌%◌};
 ghost use Rattle.demo_lump.specs.Header.{players_in};
-ghost use Rattle.wad_look.specs.Engines.Demo.{player_of, tic_of};
+ghost use Rattle.wad_look.specs.Turn.{player_of, tic_of};
 
 use std::marker::Model;
 
-/// Whose command comes next. Contracts see the players' bytes and how many commands came.
+/// Whose tic command comes next. Contracts see the players' bytes and how many tic commands came.
 #[derive(Drop)]
 pub struct Turn {
     players: [u8; 4],
@@ -20,10 +20,10 @@ pub struct Turn {
 impl Model for Turn {
     ghost use Rattle.std.specs.Prelude.{◌≡◌, ◌+◌, ◌*◌, ◌<◌, ◌≤◌, take};
     ghost use Rattle.demo_lump.specs.Header.{players_in};
-    ghost use Rattle.wad_look.specs.Engines.Demo.{seats_from};
-    ghost use Rattle.wad_look.specs.Engines.Demo as demo;
+    ghost use Rattle.wad_look.specs.Turn.{seats_from};
+    ghost use Rattle.wad_look.specs.Turn as turn;
 
-    ghost Value = { demo.Turn };
+    ghost Value = { turn.Turn };
 
     ghost view = { λ t. record { players = t.players; index = t.tic * t.count + t.seat } };
 
@@ -32,7 +32,7 @@ impl Model for Turn {
 }
 
 impl Turn {
-    /// The turn of a demo's first command.
+    /// The turn of a demo's first tic command.
     pub fn new(players: [u8; 4]) -> Turn
         requires { 0 < players_in players }
         ensures { result ≡ record { players = players; index = 0 } }
@@ -54,7 +54,7 @@ impl Turn {
         }
     }
 
-    /// The tic of the next command, which is the number of full tics so far.
+    /// The tic of the next tic command, which is the number of full tics so far.
     #[inline]
     pub fn tic(&self) -> u64
         ensures { result ≡ tic_of self.now.players self.now.index }
@@ -62,7 +62,7 @@ impl Turn {
         self.tic
     }
 
-    /// The number of commands after the last full tic.
+    /// The number of tic commands after the last full tic.
     #[inline]
     pub fn odd(&self) -> u64
         ensures { result ≡ self.now.index % players_in self.now.players }
@@ -70,7 +70,7 @@ impl Turn {
         self.seat as u64
     }
 
-    /// The player of the next command, 1 to 4.
+    /// The player of the next tic command, 1 to 4.
     #[inline]
     pub fn player(&self) -> u8
         ensures { result ≡ player_of self.now.players self.now.index }
@@ -78,7 +78,7 @@ impl Turn {
         self.seats[self.seat]
     }
 
-    /// One more command came.
+    /// One more tic command came.
     #[inline]
     pub fn step(&mut self)
         requires { self.old.index < 2 ^ 62 }

@@ -1,10 +1,13 @@
 //! The words of a command line.
 
-ghost use Rattle.std.specs.Prelude.{◌≡◌, ◌-◌, ◌<◌, ◌≤◌, ◌↔◌, ◌≢◌, ◌++◌, IsTrue, Some, true, false, length, map, string_bytes, All, codes, slice_index_or, []};
-ghost use Rattle.wad_look.specs.Job.{IsJob, IsPlain, word_of, form_of, wide_words};
+ghost use Rattle.std.specs.Prelude.{◌≡◌, ◌-◌, ◌<◌, ◌≤◌, ◌↔◌, ◌≢◌, ◌++◌, IsTrue, Some, true, false, drop, length, map, string_bytes, All, codes, slice_index_or, []};
+ghost use Rattle.wad_dir.specs.declared.set.TheConstants.{MAX_FILES};
+ghost use Rattle.wad_look.specs.Command.{Job as Asked, word_of};
+ghost use Rattle.wad_look.specs.Words.{IsJob, IsPlain, form_of, name_in, wide_words};
 
 use crate::command::{Cmd, Job};
 use std::alloc::Allocator;
+use wad_dir::MAX_FILES;
 
 /// What the words after a command's own are.
 #[derive(Clone, Copy)]
@@ -38,23 +41,24 @@ impl Cmd {
     }
 
     fn form(self) -> Form
-        ensures { result ≡ form_of self }
+        ensures is { result ≡ form_of self }
+        ensures few { result.files ≤ MAX_FILES }
     {
         match self {
             Cmd::Lumps | Cmd::Levels => Form {
                 wide: false,
                 names: 0,
-                files: 64,
+                files: MAX_FILES,
             },
             Cmd::Show | Cmd::Audit | Cmd::Points | Cmd::Census | Cmd::Blocks => Form {
                 wide: true,
                 names: 1,
-                files: 64,
+                files: MAX_FILES,
             },
             Cmd::Sight | Cmd::Extract | Cmd::Demo => Form {
                 wide: false,
                 names: 1,
-                files: 64,
+                files: MAX_FILES,
             },
             Cmd::Lmp => Form {
                 wide: false,
@@ -75,6 +79,25 @@ impl Form {
         self.names < operands.len()
             && operands.len() - self.names <= self.files
             && operands.iter().all(|word| is_plain(word.as_str()))
+    }
+
+    // The name among the operands, where one stands there, and else no bytes.
+    fn name_in<F: Allocator>(self, operands: &[String<F>]) -> &[u8]
+        requires { self.names < length operands.now }
+        ensures { result.now ≡ name_in self.names (map string_bytes operands.now) }
+    {
+        if self.names == 0 {
+            return b"";
+        }
+        operands[0].as_str().as_bytes()
+    }
+
+    // The paths among the operands.
+    fn paths_in<F: Allocator>(self, operands: &[String<F>]) -> &[String<F>]
+        requires { self.names < length operands.now }
+        ensures { result.now ≡ drop self.names operands.now }
+    {
+        &operands[self.names..]
     }
 }
 
@@ -97,8 +120,8 @@ fn after_wide<F: Allocator>(allowed: bool, words: &[String<F>]) -> (bool, &[Stri
 }
 
 /// What the words of a command line ask for, without the name of the program: None where they are no form of a command.
-pub fn job<F: Allocator>(words: &[String<F>]) -> Option<Job>
-    ensures { (job : Job) → (result ≡ Some job) ↔ IsJob (map string_bytes words.now) job }
+pub fn job<F: Allocator>(words: &[String<F>]) -> Option<Job<'_, F>>
+    ensures { (job : Asked) → (result ≡ Some job) ↔ IsJob (map string_bytes words.now) job }
 {
     let (word, rest) = words.split_first()?;
     let command = Cmd::named(word.as_str())?;
@@ -107,9 +130,12 @@ pub fn job<F: Allocator>(words: &[String<F>]) -> Option<Job>
     if !form.takes(operands) {
         return None;
     }
+    let name = form.name_in(operands);
+    let paths = form.paths_in(operands);
     Some(Job {
         command,
-        first: words.len() - operands.len() + form.names,
+        name,
+        paths,
         wide,
     })
 }

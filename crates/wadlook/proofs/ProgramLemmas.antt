@@ -1,23 +1,35 @@
 -- Why no command runs, and what the buffer of a file has.
-use Rattle.std.proofs.Common.{◌≡◌, ◌≢◌, ℕ, List, [], Option, drop, subst}
+use Rattle.std.proofs.Common.{◌≡◌, ◌≢◌, ◌<◌, ℕ, List, [], ◌∷◌, length, Option, refl, subst, arith}
 use Rattle.std.proofs.KnownBytes.{prepend_known-nil}
 use Rattle.std.specs.Io.Buffered.{reader_buffer, reader_capacity, reader_inner, reader_remaining}
 use Rattle.std.specs.declared.io.buffered.BufReader.{BufReader}
-use Rattle.wad_look.specs.Job.{IsJob}
+use Rattle.wad_look.specs.Command.{Job}
+use Rattle.wad_look.specs.Words.{IsJob}
 use Rattle.wad_look.specs.declared.command.Cmd.TheVariants.{Lmp}
-use Rattle.wad_look.specs.declared.command.Job.{Job}
-use Rattle.wadlook.specs.Files.{IsTooLong, RefusesPaths}
-use Rattle.wadlook.specs.Program.{RefusesWords}
+use Rattle.wadlook.specs.Files.{IsReached, IsTooLong, RefusesPaths}
+use Rattle.wadlook.specs.Program.{RefusesJob, RefusesWords}
 use Rattle.wadlook.specs.declared.refusal.Refusal.{Refusal}
 use Rattle.wadlook.specs.declared.refusal.Refusal.TheVariants.{Usage, Unreadable, TooLong, Run}
 
--- files that aren't read refuse the words that name them
-pub paths_refuse : (held : List ℕ → Option (List ℕ)) (words paths : List (List ℕ)) (job : Job) (refusal : Refusal) → IsJob words job → job.command ≢ Lmp
-    → paths ≡ drop job.first words → RefusesPaths held paths refusal → RefusesWords held words refusal
-paths_refuse held words paths job Usage asked other are refuses = absurd refuses
-paths_refuse held words paths job (Unreadable n) asked other are refuses = (job, asked, subst (λ ps. RefusesPaths held ps (Unreadable n)) are refuses)
-paths_refuse held words paths job (TooLong n) asked other are refuses = (job, asked, other, subst (λ ps. IsTooLong held ps n) are refuses)
-paths_refuse held words paths job (Run fault) asked other are refuses = (job, asked, subst (λ ps. RefusesPaths held ps (Run fault)) are refuses)
+-- files that aren't read refuse the job that names them
+pub paths_refuse : (held : List ℕ → Option (List ℕ)) (paths : List (List ℕ)) (job : Job) (refusal : Refusal) → job.command ≢ Lmp
+    → paths ≡ job.paths → RefusesPaths held paths refusal → RefusesJob held job refusal
+paths_refuse held paths job Usage other are refuses = absurd refuses
+paths_refuse held paths job (Unreadable n) other are refuses = subst (λ ps. RefusesPaths held ps (Unreadable n)) are refuses
+paths_refuse held paths job (TooLong n) other are refuses = (other, subst (λ ps. IsTooLong held ps n) are refuses)
+paths_refuse held paths job (Run fault) other are refuses = subst (λ ps. RefusesPaths held ps (Run fault)) are refuses
+
+-- what refuses a job refuses the words that ask for it
+pub job_refuses : (held : List ℕ → Option (List ℕ)) (words : List (List ℕ)) (job : Job) (refusal : Refusal) → IsJob words job → RefusesJob held job refusal → RefusesWords held words refusal
+job_refuses held words job Usage asked refuses = absurd refuses
+job_refuses held words job (Unreadable n) asked refuses = (job, asked, refuses)
+job_refuses held words job (TooLong n) asked refuses = (job, asked, refuses)
+job_refuses held words job (Run fault) asked refuses = (job, asked, refuses)
+
+-- nothing is read before the first of some files
+pub first_reached : (held : List ℕ → Option (List ℕ)) (paths : List (List ℕ)) → 0 < length paths → IsReached held paths 1
+first_reached held [] some = absurd (omega arith)
+first_reached held (path ∷ paths) some = record { before = []; path = path; after = paths; stands = refl; number = refl; files = []; read = tt; fits = omega arith }
 
 -- a buffer that nothing was read into has the bytes of its file
 pub buffered_whole : {R A : Type 0} (remaining : R → Option (List ℕ)) (r : BufReader R A) (file : R) → reader_capacity r ≡ 65536 → reader_buffer r ≡ [] → reader_inner r ≡ file

@@ -1,6 +1,6 @@
 -- The status with which the program ends (ours).
 use Rattle.std.specs.Prelude.{ℕ, Bool, Result, Ok, Err}
-use Rattle.wad_look.specs.Status.{status_of}
+use Rattle.wad_look.specs.Outcome.{status_of}
 use Rattle.wadlook.specs.declared.refusal.Refusal.{Refusal}
 use Rattle.wadlook.specs.declared.refusal.Refusal.TheVariants.{Run}
 

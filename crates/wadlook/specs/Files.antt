@@ -7,8 +7,8 @@ use Rattle.wadlook.specs.declared.refusal.Refusal.{Refusal}
 use Rattle.wadlook.specs.declared.refusal.Refusal.TheVariants.{Unreadable, TooLong, Run}
 
 -- the most bytes of all files together
-abbrev pub most_bytes : ℕ
-most_bytes = 268435456
+abbrev pub max_read : ℕ
+max_read = 268435456
 
 -- how many bytes files have together
 abbrev pub total_length : List (List ℕ) → ℕ
@@ -29,12 +29,12 @@ pub record IsReached (held : List ℕ → Option (List ℕ)) (paths : List (List
   pub number : n ≡ length before + 1
   pub files : List (List ℕ)
   pub read : AreHeld held before files
-  pub fits : total_length files ≤ most_bytes
+  pub fits : total_length files ≤ max_read
 
 -- file n is the first that has more bytes than those before it leave
 pub record IsTooLong (held : List ℕ → Option (List ℕ)) (paths : List (List ℕ)) (n : ℕ) : Type 0 where
   pub reached : IsReached held paths n
-  pub over : IfSome (held reached.path) (λ file. most_bytes < total_length reached.files + length file)
+  pub over : IfSome (held reached.path) (λ file. max_read < total_length reached.files + length file)
 
 -- why the files aren't read: one of them can't be, they are too long, or a growth was refused; no file is told behind one
 -- that is too long

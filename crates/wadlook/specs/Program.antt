@@ -1,15 +1,15 @@
 -- What the program does with its words (ours).
-use Rattle.std.specs.Prelude.{◌≡◌, ◌≢◌, ◌≤◌, ◌⊎◌, ℕ, Bool, List, [], drop, slice_index_or, Option, Result, Ok, Err}
+use Rattle.std.specs.Prelude.{◌≡◌, ◌≢◌, ◌≤◌, ◌⊎◌, ℕ, Bool, List, [], slice_index_or, Option, Result, Ok, Err}
 use Rattle.std.specs.Io.KnownBytes.{Keeps}
 use Rattle.le_rec.specs.Sink.{SinkState}
 use Rattle.le_rec.specs.Source.{SourceState}
-use Rattle.wad_look.specs.Commands.{RunsJob}
-use Rattle.wad_look.specs.Job.{IsJob}
+use Rattle.wad_look.specs.Command.{Job}
+use Rattle.wad_look.specs.RunsJob.{RunsJob}
+use Rattle.wad_look.specs.Words.{IsJob}
 use Rattle.wad_look.specs.declared.command.Cmd.TheVariants.{Lmp}
-use Rattle.wad_look.specs.declared.command.Job.{Job}
 use Rattle.wad_look.specs.declared.fault.RunFault.{RunFault}
 use Rattle.wad_look.specs.declared.fault.RunFault.TheVariants.{Write}
-use Rattle.wadlook.specs.Files.{AreHeld, IsTooLong, RefusesPaths, most_bytes, total_length}
+use Rattle.wadlook.specs.Files.{AreHeld, IsTooLong, RefusesPaths, max_read, total_length}
 use Rattle.wadlook.specs.declared.refusal.Refusal.{Refusal}
 use Rattle.wadlook.specs.declared.refusal.Refusal.TheVariants.{Usage, TooLong, Run}
 
@@ -20,21 +20,25 @@ program_end (Err fault) = Err (Run fault)
 
 -- the job's command runs over these files, from an input that has the bytes `left`, where they are known; the program
 -- ends as it does, or because the output can't be written
-pub record RunsFiles {S W : Type 0} (source : S → SourceState) (sink : W → SinkState) (left : Option (List ℕ)) (words : List (List ℕ)) (job : Job) (files : List (List ℕ)) (result : Result Bool Refusal) : Type 0 where
+pub record RunsFiles {S W : Type 0} (source : S → SourceState) (sink : W → SinkState) (left : Option (List ℕ)) (job : Job) (files : List (List ℕ)) (result : Result Bool Refusal) : Type 0 where
   pub input : S
   pub input' : S
   pub out : W
   pub out' : W
   pub given : (source input).left ≡ left
   pub outcome : Result Bool RunFault
-  pub runs : RunsJob source sink words job files input input' out out' outcome
+  pub runs : RunsJob source sink job files input input' out out' outcome
   pub ended : (result ≡ program_end outcome) ⊎ (result ≡ Err (Run Write))
 
--- why no command runs: the words are no form of one, or their files aren't read; that of `lmp` is never too long to be read
+-- why the command of a job doesn't run: its files aren't read; that of `lmp` is never too long to be read
+abbrev pub RefusesJob : (List ℕ → Option (List ℕ)) → Job → Refusal → Type 0
+RefusesJob held job (TooLong n) = (job.command ≢ Lmp) × IsTooLong held job.paths n
+RefusesJob held job refusal = RefusesPaths held job.paths refusal
+
+-- why no command runs: the words are no form of one, or that of their job doesn't
 abbrev pub RefusesWords : (List ℕ → Option (List ℕ)) → List (List ℕ) → Refusal → Type 0
 RefusesWords held words Usage = (job : Job) → ¬ IsJob words job
-RefusesWords held words (TooLong n) = (job : Job) × IsJob words job × (job.command ≢ Lmp) × IsTooLong held (drop job.first words) n
-RefusesWords held words refusal = (job : Job) × IsJob words job × RefusesPaths held (drop job.first words) refusal
+RefusesWords held words refusal = (job : Job) × IsJob words job × RefusesJob held job refusal
 
 -- a command ran over the files of the words, or `lmp` over its file, or none did
 pub record RunsWords {S W : Type 0} (source : S → SourceState) (sink : W → SinkState) (held : List ℕ → Option (List ℕ)) (left : Option (List ℕ)) (words : List (List ℕ)) (result : Result Bool Refusal) : Type 0 where
@@ -42,22 +46,28 @@ pub record RunsWords {S W : Type 0} (source : S → SourceState) (sink : W → S
   pub asked : IsJob words job
   pub over_files : job.command ≢ Lmp
   pub files : List (List ℕ)
-  pub read : AreHeld held (drop job.first words) files
-  pub within : total_length files ≤ most_bytes
-  pub runs : RunsFiles source sink left words job files result
+  pub read : AreHeld held job.paths files
+  pub within : total_length files ≤ max_read
+  pub runs : RunsFiles source sink left job files result
 
--- the first file of the words
-abbrev pub file_in : List (List ℕ) → Job → List ℕ
-file_in words job = slice_index_or words job.first []
+-- the input of a command is its first file
+pub record ListsPath {S W : Type 0} (source : S → SourceState) (sink : W → SinkState) (held : List ℕ → Option (List ℕ)) (job : Job) (result : Result Bool Refusal) : Type 0 where
+  pub left : Option (List ℕ)
+  pub opened : Keeps (held (slice_index_or job.paths 0 [])) left
+  pub runs : RunsFiles source sink left job [] result
 
 -- the input of `lmp` is its file
 pub record ListsFile {S W : Type 0} (source : S → SourceState) (sink : W → SinkState) (held : List ℕ → Option (List ℕ)) (words : List (List ℕ)) (result : Result Bool Refusal) : Type 0 where
   pub job : Job
   pub asked : IsJob words job
   pub lists : job.command ≡ Lmp
-  pub left : Option (List ℕ)
-  pub opened : Keeps (held (file_in words job)) left
-  pub runs : RunsFiles source sink left words job [] result
+  pub listed : ListsPath source sink held job result
+
+-- a job ended without a run of its command
+pub record IsStopped (held : List ℕ → Option (List ℕ)) (job : Job) (result : Result Bool Refusal) : Type 0 where
+  pub refusal : Refusal
+  pub ended : result ≡ Err refusal
+  pub holds : RefusesJob held job refusal
 
 pub record IsRefused (held : List ℕ → Option (List ℕ)) (words : List (List ℕ)) (result : Result Bool Refusal) : Type 0 where
   pub refusal : Refusal

@@ -8,12 +8,9 @@ use Rattle.le_rec.specs.Sink.{SinkState, put_failed}
 use Rattle.le_rec.specs.Source.{SourceState, pull_failed, reader_of}
 use Rattle.le_rec.specs.declared.from_read.FromRead.{FromRead}
 use Rattle.le_rec.specs.declared.to_write.ToWrite.{ToWrite}
-use Rattle.wadlook.specs.declared.tied.TiedReader.{TiedReader}
-use Rattle.wadlook.specs.declared.tied.TiedWriter.{TiedWriter}
-
--- the reader inside
-abbrev pub tied_reader_of : {R W : Type 0} → TiedReader R W → R
-tied_reader_of tied = tied.reader
+use Rattle.line_io.specs.Tied.{tied_reader_of}
+use Rattle.line_io.specs.declared.tied.TiedReader.{TiedReader}
+use Rattle.line_io.specs.declared.tied.TiedWriter.{TiedWriter}
 
 -- the state of an input, where `remaining` is what is known of a reader's bytes
 abbrev pub tied_source : (R W : Type 0) → (R → Option (List ℕ)) → FromRead (TiedReader R W) → SourceState

@@ -2,7 +2,7 @@
 ghost use Rattle.std.specs.Prelude.{◌≡◌, ◌≤◌, length, vec_len, map, string_bytes, Some, IfOk, IfErr};
 ghost use Rattle.std.specs.Io.KnownBytes.{Keeps};
 ghost use Rattle.wad_look.specs.Opening.{bytes_of};
-ghost use Rattle.wadlook.specs.Files.{AreHeld, RefusesFile, RefusesPaths, most_bytes, total_length};
+ghost use Rattle.wadlook.specs.Files.{AreHeld, RefusesFile, RefusesPaths, max_read, total_length};
 
 use crate::refusal::Refusal;
 use le_rec::{EndFault, FromRead};
@@ -10,10 +10,7 @@ use std::alloc::Global;
 use std::fs::File;
 use std::io::Read;
 use std::rt::Files;
-use wad_look::{RunFault, read_all};
-
-/// The most bytes of all files together.
-const MOST_BYTES: u64 = 268_435_456;
+use wad_look::{MAX_READ, RunFault, read_all};
 
 /// Where files are opened by their paths.
 pub trait Storage {
@@ -59,11 +56,11 @@ pub fn read_files<S: Storage>(
     ensures held { IfOk result (λ files. AreHeld (S.held storage.now)
         (map string_bytes paths.now) (bytes_of files.items)) }
     ensures count { IfOk result (λ files. vec_len files ≡ length paths.now) }
-    ensures few { IfOk result (λ files. total_length (bytes_of files.items) ≤ most_bytes) }
+    ensures few { IfOk result (λ files. total_length (bytes_of files.items) ≤ max_read) }
     ensures refused { IfErr result (RefusesPaths (S.held storage.now) (map string_bytes paths.now)) }
 {
     let mut files = Vec::new(alloc);
-    let mut left = MOST_BYTES;
+    let mut left = MAX_READ;
     for (i, path) in paths.iter().enumerate() {
         let file = match read_file(alloc, storage, path.as_str(), left) {
             Ok(file) => file,
@@ -86,7 +83,7 @@ fn read_file<S: Storage>(
     path: &str,
     limit: u64,
 ) -> Result<Vec<u8>, RunFault>
-    requires { limit ≤ most_bytes }
+    requires { limit ≤ max_read }
     ensures held { IfOk result (λ file. Keeps (S.held storage.now path.now) (Some file.items)) }
     ensures few { IfOk result (λ file. vec_len file ≤ limit) }
     ensures refused { IfErr result (RefusesFile (S.held storage.now path.now) limit) }

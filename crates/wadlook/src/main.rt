@@ -4,7 +4,6 @@
 mod files;
 mod program;
 mod refusal;
-mod tied;
 
 use files::Disk;
 use program::do_words;

@@ -1,16 +1,15 @@
 //! What the words ask for, over any files, reader and writer.
-ghost use Rattle.std.specs.Prelude.{◌≡◌, ◌+◌, ◌⊎◌, Err, length, map, string_bytes};
-ghost use Rattle.wad_look.specs.Job.{IsJob};
+ghost use Rattle.std.specs.Prelude.{◌≡◌, ◌≤◌, ◌⊎◌, Err, length, map, string_bytes};
+ghost use Rattle.wad_dir.specs.declared.set.TheConstants.{MAX_FILES};
 ghost use Rattle.wad_look.specs.Opening.{bytes_of};
-ghost use Rattle.wad_look.specs.declared.fault.RunFault.TheVariants.{Memory};
-ghost use Rattle.wad_look.specs.declared.command.Cmd.TheVariants.{Lmp};
-ghost use Rattle.wadlook.specs.Program.{DoesWords, IsRefused, ListsFile, RunsFiles, program_end};
+ghost use Rattle.wad_look.specs.declared.fault.RunFault.TheVariants.{Memory, Write as WriteFault};
+ghost use Rattle.wadlook.specs.Program.{DoesWords, IsStopped, ListsPath, RunsFiles, program_end};
 ghost use Rattle.wadlook.specs.Tied.{file_source, tied_sink, tied_source};
 
 use crate::files::{Storage, read_files};
 use crate::refusal::Refusal;
-use crate::tied::{BUFFER, TiedReader, TiedWriter};
 use le_rec::{FromRead, ToWrite};
+use line_io::{BUFFER, TiedReader, TiedWriter};
 use std::alloc::Global;
 use std::io::{BufReader, Read, Write};
 use wad_look::{Cmd, Job, RunFault, job, run};
@@ -29,51 +28,46 @@ pub fn do_words<D: Storage, I: Read + Drop, O: Write + Drop>(
     let Some(job) = job(words) else {
         return Err(Refusal::Usage);
     };
-    if job.command == Cmd::Lmp {
-        return list_file(alloc, words, job, storage, writer);
+    if job.command() == Cmd::Lmp {
+        return list_file(alloc, &job, storage, writer);
     }
-    let files = read_files(alloc, storage, job.paths(words))?;
-    run_files(alloc, words, job, &files, reader, writer)
+    let files = read_files(alloc, storage, job.paths())?;
+    run_files(alloc, &job, &files, reader, writer)
 }
 
 // Runs the command over its files, with the ends tied to one another.
 fn run_files<I: Read + Drop, O: Write + Drop>(
     alloc: Global,
-    words: &[String],
-    job: Job,
+    job: &Job<'_, Global>,
     files: &[Vec<u8>],
     reader: I,
     writer: O,
 ) -> Result<bool, Refusal>
-    requires job { IsJob (map string_bytes words.now) job }
-    requires files { job.first + length files.now ≡ length words.now }
+    requires few { length files.now ≤ MAX_FILES }
     ensures { (result ≡ Err (Refusal.Run Memory)) ⊎ RunsFiles (tied_source I O I.remaining) (tied_sink O)
-        (I.remaining reader) (map string_bytes words.now) job (bytes_of files.now) result }
+        (I.remaining reader) job.now (bytes_of files.now) result }
 {
     let Ok(output) = TiedWriter::new(alloc, writer) else {
         return Err(Refusal::Run(RunFault::Memory));
     };
     let mut input = FromRead::new(TiedReader::new(reader, &output));
     let mut out = ToWrite::new(&output);
-    let outcome = run(alloc, words, job, files, &mut input, &mut out);
-    program_end(output.close(outcome))
+    let outcome = run(alloc, job, files, &mut input, &mut out);
+    program_end(closed(&output, outcome))
 }
 
-// Lists the demo in the file of the words while it is read, with standard input left alone.
+// Lists the demo in the file of the job while it is read, with standard input left alone.
 fn list_file<D: Storage, O: Write + Drop>(
     alloc: Global,
-    words: &[String],
-    job: Job,
+    job: &Job<'_, Global>,
     storage: &D,
     writer: O,
 ) -> Result<bool, Refusal>
-    requires job { IsJob (map string_bytes words.now) job }
-    requires lmp { job.command ≡ Lmp }
-    ensures { IsRefused (D.held storage.now) (map string_bytes words.now) result
-        ⊎ ListsFile (file_source D.File Global D.File.remaining) (tied_sink O)
-        (D.held storage.now) (map string_bytes words.now) result }
+    ensures { IsStopped (D.held storage.now) job.now result
+        ⊎ ListsPath (file_source D.File Global D.File.remaining) (tied_sink O) (D.held storage.now) job.now result }
 {
-    let Ok(file) = storage.open(words[job.first].as_str()) else {
+    let paths = job.paths();
+    let Ok(file) = storage.open(paths[0].as_str()) else {
         return Err(Refusal::Unreadable(1));
     };
     let Ok(buffer) = BufReader::with_capacity(alloc, BUFFER, file) else {
@@ -84,8 +78,21 @@ fn list_file<D: Storage, O: Write + Drop>(
     };
     let mut demo = FromRead::new(buffer);
     let mut listing = ToWrite::new(&output);
-    let ended = run(alloc, words, job, &[], &mut demo, &mut listing);
-    program_end(output.close(ended))
+    let ended = run(alloc, job, &[], &mut demo, &mut listing);
+    program_end(closed(&output, ended))
+}
+
+// Ends a run with this outcome: `Write` where the output can't be written out, also where the run met that as a failed read.
+fn closed<O: Write + Drop>(
+    output: &TiedWriter<O>,
+    outcome: Result<bool, RunFault>,
+) -> Result<bool, RunFault>
+    ensures { (result ≡ outcome) ⊎ (result ≡ Err WriteFault) }
+{
+    match output.close() {
+        Ok(()) => outcome,
+        Err(_) => Err(RunFault::Write),
+    }
 }
 
 // The end of a run, as that of the program.

@@ -54,24 +54,3 @@ pub fn exit_status(outcome: &Result<bool, Refusal>) -> u8
         Err(Refusal::Usage | Refusal::Unreadable(_) | Refusal::TooLong(_)) => 2,
     }
 }
-
-#[cfg(test)]
-mod tests {
-    use super::*;
-    use std::test::Fail;
-
-    #[test]
-    fn refusals(rt: HostRuntime) -> Result<(), Fail> {
-        for (refusal, text, want) in [
-            (Refusal::Usage, "usage", 2),
-            (Refusal::Unreadable(2), "file 2: read", 2),
-            (Refusal::TooLong(1), "file 1: too long", 2),
-            (Refusal::from(RunFault::Write), "write", 2),
-            (Refusal::from(AllocError), "memory", 3),
-        ] {
-            assert_eq!(rt; refusal.to_string(rt.alloc())?.as_str(), text);
-            assert_eq!(rt; exit_status(&Err(refusal)), want, "at {text}");
-        }
-        Ok(())
-    }
-}

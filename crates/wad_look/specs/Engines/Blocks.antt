@@ -25,9 +25,9 @@ no_block_text x y = pair_text x y (codes " no block" ++ 10 ∷ [])
 abbrev pub block_text : ℤ → ℤ → ℕ → ℕ → List ℕ → List ℕ
 block_text x y bx by rest = pair_text x y (codes " block " ++ (decimal bx ++ (codes " " ++ (decimal by ++ rest))))
 
--- ` lines` and each word of a list
+-- ` lines` and each number of a list
 abbrev pub lines_text : List ℤ → List ℕ
-lines_text words = codes " lines" ++ (numbers_text words ++ 10 ∷ [])
+lines_text list = codes " lines" ++ (numbers_text list ++ 10 ∷ [])
 
 -- ` fault <1 or 2>`
 abbrev pub fault_text : ℕ → List ℕ
@@ -36,8 +36,8 @@ fault_text number = codes " fault " ++ (decimal number ++ 10 ∷ [])
 -- the answer to a point: that no block holds it, or its block with the block's list or why that has none
 pub record AnswersBlock (map : BlockMap) (x y : ℤ) (text : List ℕ) : Type 0 where
   pub none : ((bx by : ℕ) → ¬ IsBlockOf map (point_at x y) bx by) → text ≡ no_block_text x y
-  pub lines : (bx by : ℕ) (words : List ℤ) → IsBlockOf map (point_at x y) bx by → IsBlockList map.words (block_number map bx by) words
-      → text ≡ block_text x y bx by (lines_text words)
+  pub lines : (bx by : ℕ) (list : List ℤ) → IsBlockOf map (point_at x y) bx by → IsBlockList map.words (block_number map bx by) list
+      → text ≡ block_text x y bx by (lines_text list)
   pub outside : (bx by : ℕ) → IsBlockOf map (point_at x y) bx by → IsOffsetOutside map.words (block_number map bx by)
       → text ≡ block_text x y bx by (fault_text 1)
   pub no_end : (bx by : ℕ) → IsBlockOf map (point_at x y) bx by → HasNoEnd map.words (block_number map bx by)

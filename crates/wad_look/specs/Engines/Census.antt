@@ -7,11 +7,11 @@ use Rattle.le_rec.specs.Source.{SourceState}
 use Rattle.line_io.specs.AnswersLines.{AnswersLines}
 use Rattle.line_io.specs.NumberAnswers.{AnswersNumbers}
 use Rattle.map_geo.specs.Point.{Point}
-use Rattle.map_geo.specs.Rect.{Rect, IsRect, rect_at}
+use Rattle.map_geo.specs.Rect.{Rect, IsRect, rect_at, point_count}
 use Rattle.map_level.specs.Level.{Level}
 use Rattle.map_level.specs.declared.reading.Reading.{Reading}
 use Rattle.map_tree.specs.Counts.{ArePairs}
-use Rattle.map_tree.specs.PlainCount.{TellsSectors, plain_count, points_in}
+use Rattle.map_tree.specs.PlainCount.{TellsSectors, plain_count}
 use Rattle.wad_look.specs.Opening.{IsAccepted, RefusesAccepted}
 use Rattle.wad_look.specs.Runs.{Runs}
 use Rattle.wad_look.specs.declared.fault.RunFault.{RunFault}
@@ -20,7 +20,7 @@ use Rattle.wad_look.specs.declared.fault.RunFault.{RunFault}
 abbrev pub rect_text : Rect → List ℕ → List ℕ
 rect_text rect rest =
     signed_decimal rect.x0 ++ (codes " " ++ (signed_decimal rect.y0 ++ (codes " " ++ (signed_decimal rect.x1 ++ (codes " " ++ (signed_decimal rect.y1
-    ++ (codes " points " ++ (decimal (points_in rect) ++ rest))))))))
+    ++ (codes " points " ++ (decimal (point_count rect) ++ rest))))))))
 
 -- ` <sector>:<count>`
 abbrev pub count_text : ℕ × ℕ → List ℕ

@@ -38,34 +38,34 @@ pub record AreListed (all : List (List ℕ)) (found : List Listed) : Type 0 wher
   pub exact : (level : Listed) → Contains found level ↔ IsListed all level
 
 -- an entry that has the name whose eight bytes these are, and none behind it below n has
-pub record IsPlace (all : List (List ℕ)) (n : ℕ) (bytes : List ℕ) (place : ℕ) : Type 0 where
+pub record IsHolder (all : List (List ℕ)) (n : ℕ) (bytes : List ℕ) (holder : ℕ) : Type 0 where
   pub stored : bytes ≡ padded (name_of bytes)
-  pub named : slice_get all place ≡ Some (name_of bytes)
-  pub last : (h : ℕ) → place < h → h < n → slice_get all h ≢ Some (name_of bytes)
+  pub named : slice_get all holder ≡ Some (name_of bytes)
+  pub last : (h : ℕ) → holder < h → h < n → slice_get all h ≢ Some (name_of bytes)
 
--- the place of each name of a map
-abbrev pub place_at : BTreeMap (List ℕ) ℕ → List ℕ → Option ℕ
-place_at places bytes = get (slice_cmp nat_cmp) places bytes
+-- the holder of each name of a map
+abbrev pub holder_at : BTreeMap (List ℕ) ℕ → List ℕ → Option ℕ
+holder_at holders bytes = get (slice_cmp nat_cmp) holders bytes
 
-abbrev pub ArePlaces : List (List ℕ) → ℕ → BTreeMap (List ℕ) ℕ → Type 0
-ArePlaces all n places = (bytes : List ℕ) (place : ℕ) → place_at places bytes ≡ Some place → IsPlace all n bytes place
+abbrev pub AreHolders : List (List ℕ) → ℕ → BTreeMap (List ℕ) ℕ → Type 0
+AreHolders all n holders = (bytes : List ℕ) (holder : ℕ) → holder_at holders bytes ≡ Some holder → IsHolder all n bytes holder
 
--- a map with one place put
-pub record PutsPlace (before after : BTreeMap (List ℕ) ℕ) (bytes : List ℕ) (place : ℕ) : Type 0 where
-  pub put : place_at after bytes ≡ Some place
-  pub others : (other : List ℕ) → other ≢ bytes → place_at after other ≡ place_at before other
+-- a map with one holder put
+pub record PutsHolder (before after : BTreeMap (List ℕ) ℕ) (bytes : List ℕ) (holder : ℕ) : Type 0 where
+  pub put : holder_at after bytes ≡ Some holder
+  pub others : (other : List ℕ) → other ≢ bytes → holder_at after other ≡ holder_at before other
 
 -- a name is among those of a map
 abbrev pub HasName : BTreeMap (List ℕ) ℕ → List ℕ → Type 0
-HasName places name = IsSome (place_at places (padded name))
+HasName holders name = IsSome (holder_at holders (padded name))
 
 -- a map keeps the names of another
 abbrev pub HasNames : BTreeMap (List ℕ) ℕ → BTreeMap (List ℕ) ℕ → Type 0
-HasNames before after = (bytes : List ℕ) → IsSome (place_at before bytes) → IsSome (place_at after bytes)
+HasNames before after = (bytes : List ℕ) → IsSome (holder_at before bytes) → IsSome (holder_at after bytes)
 
 -- the names of entries are among those of a map
 abbrev pub HasNamesOf : List (List ℕ) → List ℕ → BTreeMap (List ℕ) ℕ → Type 0
-HasNamesOf all entries places = (g : ℕ) (name : List ℕ) → Contains entries g → slice_get all g ≡ Some name → HasName places name
+HasNamesOf all entries holders = (g : ℕ) (name : List ℕ) → Contains entries g → slice_get all g ≡ Some name → HasName holders name
 
 -- what a line ends with
 abbrev pub hidden_text : Bool → List ℕ

@@ -12,11 +12,12 @@ use Rattle.demo_lump.specs.declared.header.Header.{Header}
 use Rattle.le_rec.specs.Sink.{SinkState}
 use Rattle.le_rec.specs.Source.{SourceState}
 use Rattle.line_io.specs.Writes.{TakesFront}
-use Rattle.wad_look.specs.Engines.Demo.{Turn, command_line, commands_text, header_line, listing, player_of, tic_of, totals_text}
+use Rattle.wad_look.specs.Listing.{ticcmd_line, ticcmds_text, header_line, listing, totals_text}
+use Rattle.wad_look.specs.Turn.{Turn, player_of, tic_of}
 use Rattle.wad_look.specs.declared.fault.RunFault.{RunFault}
 use Rattle.wad_look.specs.declared.fault.RunFault.TheVariants as fault
 
--- the lines that bytes begin with: the header's, and those of the most whole commands that follow it
+-- the lines that bytes begin with: the header's, and those of the most whole tic commands that follow it
 pub record HasLines (bytes text : List ℕ) : Type 0 where
   pub header : Header
   pub commands : List Command
@@ -27,7 +28,7 @@ pub record HasLines (bytes text : List ℕ) : Type 0 where
   pub begins : IsHeader front header
   pub follow : AreCommands header.version body commands
   pub most : NoneBegins (IsCommand header.version) rest
-  pub is : text ≡ header_line header ++ commands_text header.players 0 commands
+  pub is : text ≡ header_line header ++ ticcmds_text header.players 0 commands
 
 -- none where they begin with no header
 abbrev pub AreLines : List ℕ → List ℕ → Type 0
@@ -51,23 +52,23 @@ LmpFault limit source failed sink_failed taken _ = ⊥
 abbrev pub StopsIn : SinkState → SinkState → List ℕ → List ℕ → Type 0
 StopsIn out out' whole line = (between : SinkState) × Appends out.taken between.taken whole × TakesFront between out' line
 
--- the sink failed in a command's line, the last that was read
-pub record StopsInCommand (header : Header) (commands : List Command) (out out' : SinkState) : Type 0 where
+-- the sink failed in a tic command's line, the last that was read
+pub record StopsInTiccmd (header : Header) (commands : List Command) (out out' : SinkState) : Type 0 where
   pub told : List Command
   pub last : Command
   pub are : commands ≡ told ++ last ∷ []
-  pub stops : StopsIn out out' (commands_text header.players 0 told)
-      (command_line (tic_of header.players (length told)) (player_of header.players (length told)) last)
+  pub stops : StopsIn out out' (ticcmds_text header.players 0 told)
+      (ticcmd_line (tic_of header.players (length told)) (player_of header.players (length told)) last)
 
--- the bytes read are no more than the line needs in which the sink failed: the header's, a command's, or the totals'
+-- the bytes read are no more than the line needs in which the sink failed: the header's, a tic command's, or the totals'
 pub data StopsAt (read : List ℕ) (out out' : SinkState) : Type 0 where
   in_header : (header : Header) → IsHeader read header → TakesFront out out' (header_line header) → StopsAt read out out'
-  in_command : (header : Header) (commands : List Command) (front body : List ℕ) (between : SinkState)
+  in_ticcmd : (header : Header) (commands : List Command) (front body : List ℕ) (between : SinkState)
       → read ≡ front ++ body → IsHeader front header → AreCommands header.version body commands
-      → Appends out.taken between.taken (header_line header) → StopsInCommand header commands between out'
+      → Appends out.taken between.taken (header_line header) → StopsInTiccmd header commands between out'
       → StopsAt read out out'
   in_totals : (demo : Demo) → IsRead read demo
-      → StopsIn out out' (header_line demo.header ++ commands_text demo.header.players 0 demo.commands)
+      → StopsIn out out' (header_line demo.header ++ ticcmds_text demo.header.players 0 demo.commands)
       (totals_text demo.header.players (length demo.commands) demo.after)
       → StopsAt read out out'
 
@@ -98,26 +99,26 @@ pub record ListsDemo (limit : ℕ) (source source' : SourceState) (out out' : Si
 abbrev pub RunsLmp : {S W : Type 0} → (S → SourceState) → (W → SinkState) → ℕ → S → S → W → W → Result (Unit {0}) RunFault → Type 0
 RunsLmp source sink limit input input' out out' result = ListsDemo limit (source input) (source input') (sink out) (sink out') result
 
--- what stopped the listing of commands, of which `tail` was read and is no whole piece: after `Write` a front of the lines
--- of the commands was written, all but the last whole, and after the other faults all of them
-abbrev pub CommandsFault : Header → ℕ → SourceState → Bool → SinkState → SinkState → List ℕ → List ℕ → ℕ → ℕ → List Command → RunFault → Type 0
-CommandsFault header limit source failed out out' body tail place taken commands fault.Write =
-    ((failed ≡ false) × (out'.failed ≡ true)) × (tail ≡ []) × (taken ≤ limit) × TakesFront out out' (commands_text header.players 0 commands)
-    × StopsInCommand header commands out out'
-CommandsFault header limit source failed out out' body tail place taken commands fault.Read =
+-- what stopped the listing of tic commands, of which `tail` was read and is no whole piece: after `Write` a front of the lines
+-- of the tic commands was written, all but the last whole, and after the other faults all of them
+abbrev pub TiccmdsFault : Header → ℕ → SourceState → Bool → SinkState → SinkState → List ℕ → List ℕ → ℕ → ℕ → List Command → RunFault → Type 0
+TiccmdsFault header limit source failed out out' body tail place taken commands fault.Write =
+    ((failed ≡ false) × (out'.failed ≡ true)) × (tail ≡ []) × (taken ≤ limit) × TakesFront out out' (ticcmds_text header.players 0 commands)
+    × StopsInTiccmd header commands out out'
+TiccmdsFault header limit source failed out out' body tail place taken commands fault.Read =
     ((failed ≡ true) × (out'.failed ≡ false) × (taken ≤ limit)) × NoneBegins (IsNext header.version) (take (limit - place) tail)
-    × Appends out.taken out'.taken (commands_text header.players 0 commands)
-CommandsFault header limit source failed out out' body tail place taken commands fault.TooLong =
+    × Appends out.taken out'.taken (ticcmds_text header.players 0 commands)
+TiccmdsFault header limit source failed out out' body tail place taken commands fault.TooLong =
     ((failed ≡ false) × (out'.failed ≡ false) × (taken ≡ limit + 1)) × NoneBegins (IsNext header.version) (take (limit - place) tail)
-    × Appends out.taken out'.taken (commands_text header.players 0 commands)
-CommandsFault header limit source failed out out' body tail place taken commands (fault.Demo why) =
+    × Appends out.taken out'.taken (ticcmds_text header.players 0 commands)
+TiccmdsFault header limit source failed out out' body tail place taken commands (fault.Demo why) =
     ((failed ≡ false) × (out'.failed ≡ false) × (taken ≤ limit)
     × IfSome source.left (λ left. (more : List ℕ) × (left ≡ body ++ more) × RefusesNext header.version place more why))
     × NoneBegins (IsNext header.version) (take (limit - place) tail)
-    × Appends out.taken out'.taken (commands_text header.players 0 commands)
-CommandsFault header limit source failed out out' body tail place taken commands _ = ⊥
+    × Appends out.taken out'.taken (ticcmds_text header.players 0 commands)
+TiccmdsFault header limit source failed out out' body tail place taken commands _ = ⊥
 
--- listing the commands behind the header, by a reader that has read that: it tells whose turn it would be at the marker
+-- listing the tic commands behind the header, by a reader that has read that: it tells whose turn it would be at the marker
 pub record ListsCommands (header : Header) (limit : ℕ) (source source' : SourceState) (out out' : SinkState) (old new : DemoReader) (result : Result Turn RunFault) : Type 0 where
   pub commands : List Command
   pub body : List ℕ
@@ -128,10 +129,10 @@ pub record ListsCommands (header : Header) (limit : ℕ) (source source' : Sourc
   pub room : old.taken + length body ≤ limit
   -- at Ok
   pub marked : OnOk result (tail ≡ 128 ∷ [])
-  pub wrote : OnOk result (Appends out.taken out'.taken (commands_text header.players 0 commands))
+  pub wrote : OnOk result (Appends out.taken out'.taken (ticcmds_text header.players 0 commands))
   pub turn : IfOk result (λ turn. turn ≡ record { players = header.players; index = length commands })
   pub state : OnOk result (new ≡ record old { taken = new.taken; ended = true })
   pub within : OnOk result (new.taken ≤ limit)
   pub sound : OnOk result ((source'.failed ≡ false) × (out'.failed ≡ false))
   -- at Err
-  pub fault : IfErr result (CommandsFault header limit source source'.failed out out' body tail (old.taken + length body) new.taken commands)
+  pub fault : IfErr result (TiccmdsFault header limit source source'.failed out out' body tail (old.taken + length body) new.taken commands)

@@ -24,20 +24,20 @@ leaf_text leaf = codes " sector " ++ (decimal leaf.sector ++ (codes " ssector " 
 abbrev pub point_text : ℤ → ℤ → Leaf → List ℕ
 point_text x y leaf = pair_text x y (leaf_text leaf)
 
--- the answers to contents, where each point lies in the leaf of `place`
+-- the answers to contents, where `leaf_of` gives the leaf in which a point lies
 abbrev pub AnswersPoints : (Point → Leaf) → (List ℕ → List ℕ) → Type 0
-AnswersPoints place = AnswersPairs AreCoordinates (λ x y text. text ≡ point_text x y (place (point_at x y)))
+AnswersPoints leaf_of = AnswersPairs AreCoordinates (λ x y text. text ≡ point_text x y (leaf_of (point_at x y)))
 
 -- where the points of a level lie: each in its leaf, and in that leaf's sector
-abbrev pub PlacesPoints : Level → (Point → Leaf) → Type 0
-PlacesPoints level place =
-    (point : Point) → IsLeaf level point (place point).ssector × (sector_of level (place point).ssector ≡ Some (place point).sector)
+abbrev pub AreLeaves : Level → (Point → Leaf) → Type 0
+AreLeaves level leaf_of =
+    (point : Point) → IsLeaf level point (leaf_of point).ssector × (sector_of level (leaf_of point).ssector ≡ Some (leaf_of point).sector)
 
 -- the answers to contents over a level
 pub record TellsPoints (level : Level) (answer : List ℕ → List ℕ) : Type 0 where
-  pub place : Point → Leaf
-  pub places : PlacesPoints level place
-  pub answers : AnswersPoints place answer
+  pub leaf_of : Point → Leaf
+  pub are_leaves : AreLeaves level leaf_of
+  pub answers : AnswersPoints leaf_of answer
 
 -- over files of these bytes, a source and a sink, of which clauses see their states
 abbrev pub RunsPoints : {S W : Type 0} → (S → SourceState) → (W → SinkState) → List (List ℕ) → List ℕ → Reading → ℕ → S → S → W → W → Result (Unit {0}) RunFault → Type 0

@@ -13,14 +13,14 @@ use Rattle.wad_look.specs.Runs.{Runs}
 use Rattle.wad_look.specs.declared.fault.RunFault.{RunFault}
 
 -- what a bit says of sight, where it is there
-abbrev pub sight_word : Option Bool → List ℕ
-sight_word (Some false) = codes "clear"
-sight_word (Some true) = codes "blocked"
-sight_word None = codes "unknown"
+abbrev pub bit_text : Option Bool → List ℕ
+bit_text (Some false) = codes "clear"
+bit_text (Some true) = codes "blocked"
+bit_text None = codes "unknown"
 
 -- `<a> <b> <clear, blocked or unknown>`
 abbrev pub sight_text : ℤ → ℤ → Option Bool → List ℕ
-sight_text a b bit = pair_text a b (codes " " ++ (sight_word bit ++ 10 ∷ []))
+sight_text a b bit = pair_text a b (codes " " ++ (bit_text bit ++ 10 ∷ []))
 
 -- two sectors are told their bit
 abbrev pub TellsSight : Reject → ℤ → ℤ → List ℕ → Type 0

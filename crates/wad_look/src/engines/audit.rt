@@ -3,6 +3,7 @@
 ghost use Rattle.std.specs.Prelude.{◌≡◌, ◌≤◌, ◌++◌, [], false, length, IfOk, IfErr};
 ghost use Rattle.std.specs.List.{flat_map};
 ghost use Rattle.line_io.specs.Writes.{Writes};
+ghost use Rattle.wad_dir.specs.declared.set.TheConstants.{MAX_FILES};
 ghost use Rattle.wad_look.specs.Engines.Audit.{AreAuditFindings, RefusesAuditing, RunsAudit, TellsFindings};
 ghost use Rattle.wad_look.specs.Engines.Audit.{code_name, finding_line, findings_of, meaning, totals_line};
 ghost use Rattle.wad_look.specs.Opening.{bytes_of};
@@ -34,7 +35,7 @@ pub fn audit_text<A: Allocator + Copy, F: Allocator, W: Sink>(
     reading: Reading,
     out: &mut W,
 ) -> Result<bool, RunFault>
-    requires few { length files.now ≤ 64 }
+    requires few { length files.now ≤ MAX_FILES }
     requires sound { (W.state out.old).failed ≡ false }
     ensures { RunsAudit W.state (bytes_of files.now) name.now reading out.old out.new result }
 {
@@ -49,7 +50,7 @@ fn findings_on_name<A: Allocator + Copy, F: Allocator>(
     name: &[u8],
     reading: Reading,
 ) -> Result<Audited<A>, RunFault>
-    requires { length files.now ≤ 64 }
+    requires { length files.now ≤ MAX_FILES }
     ensures ok { IfOk result (λ found. AreAuditFindings (bytes_of files.now) name.now reading (findings_of found)) }
     ensures err { IfErr result (RefusesAuditing (bytes_of files.now) name.now) }
 {
@@ -118,21 +119,21 @@ fn write_finding<W: Sink>(finding: &Finding, out: &mut W) -> Result<(), IoFault>
     ensures { Writes (W.state out.old) (W.state out.new) (finding_line finding.now) result }
 {
     let mut line = TextLine::new();
-    put_finding(&mut line, finding);
+    prepend_finding(&mut line, finding);
     emit(out, line.as_bytes())
 }
 
 // `<code> <index> <text>`
-fn put_finding(line: &mut TextLine, finding: &Finding)
+fn prepend_finding(line: &mut TextLine, finding: &Finding)
     requires { line.old ≡ [] }
     ensures { line.new ≡ finding_line finding.now }
 {
-    line.put_bytes(b"\n");
-    line.put_bytes(meaning(finding.code));
-    line.put_bytes(b" ");
-    line.put_natural(u64::from(finding.index));
-    line.put_bytes(b" ");
-    line.put_bytes(code_name(finding.code));
+    line.prepend_bytes(b"\n");
+    line.prepend_bytes(meaning(finding.code));
+    line.prepend_bytes(b" ");
+    line.prepend_natural(u64::from(finding.index));
+    line.prepend_bytes(b" ");
+    line.prepend_bytes(code_name(finding.code));
 }
 
 // Writes the line of the totals.
@@ -141,20 +142,20 @@ fn write_totals<W: Sink>(faults: usize, notes: usize, out: &mut W) -> Result<(),
     ensures { Writes (W.state out.old) (W.state out.new) (totals_line faults notes) result }
 {
     let mut line = TextLine::new();
-    put_totals(&mut line, faults, notes);
+    prepend_totals(&mut line, faults, notes);
     emit(out, line.as_bytes())
 }
 
 // `faults <n> notes <m>`
-fn put_totals(line: &mut TextLine, faults: usize, notes: usize)
+fn prepend_totals(line: &mut TextLine, faults: usize, notes: usize)
     requires { line.old ≡ [] }
     ensures { line.new ≡ totals_line faults notes }
 {
-    line.put_bytes(b"\n");
-    line.put_natural(notes as u64);
-    line.put_bytes(b" notes ");
-    line.put_natural(faults as u64);
-    line.put_bytes(b"faults ");
+    line.prepend_bytes(b"\n");
+    line.prepend_natural(notes as u64);
+    line.prepend_bytes(b" notes ");
+    line.prepend_natural(faults as u64);
+    line.prepend_bytes(b"faults ");
 }
 
 // A code as it is printed.

@@ -2,7 +2,8 @@
 
 ghost use Rattle.std.specs.Prelude.{◌≡◌, ◌≤◌, ◌+◌, ◌-◌, ◌*◌, ◌++◌, ◌∷◌, [], ℕ, List, false, length, take, drop, codes, IfErr, IfOk};
 ghost use Rattle.line_io.specs.Writes.{EndsWriting, TakesText, Writes};
-ghost use Rattle.wad_look.specs.Contents.{AreCoordinates};
+ghost use Rattle.map_geo.specs.Point.{point_at};
+ghost use Rattle.wad_dir.specs.declared.set.TheConstants.{MAX_FILES};
 ghost use Rattle.wad_look.specs.Engines.Blocks.{AnswersBlock, AnswersBlocks, HasBlockMap, RefusesBlocks, RunsBlocks, block_text};
 ghost use Rattle.wad_look.specs.Engines.Blocks.{fault_text, lines_text, no_block_text};
 ghost use Rattle.wad_look.specs.Engines.Show.{numbers_text};
@@ -12,14 +13,14 @@ use crate::contents::{Pair, read_point};
 use crate::fault::{RunFault, ended};
 use crate::opening::open_level;
 use le_rec::{Sink, Source};
-use line_io::{IoFault, LIMIT, LineCommand, TextLine, answer_lines, emit};
+use line_io::{IoFault, LineCommand, MAX_READ, TextLine, answer_lines, emit};
 use map_geo::Point;
 use map_level::Reading;
 use map_tables::{BlockFault, BlockLines, BlockMap};
 use std::alloc::Allocator;
 
-/// How many words are put into a line of text at once.
-const WORDS: usize = 11;
+/// How many numbers are put into a line of text at once.
+const NUMBERS: usize = 11;
 
 /// Answers points.
 #[derive(Drop)]
@@ -32,9 +33,9 @@ impl<'a> LineCommand for BlockCommand<'a> {
 
     ghost takes_memory = { false };
 
-    fn reply<W: Sink>(&self, content: &[u8], out: &mut W) -> Result<(), IoFault> {
+    fn reply<W: Sink>(&mut self, content: &[u8], out: &mut W) -> Result<(), IoFault> {
         match read_point(content) {
-            Ok(pair) => self.write_block(pair, out),
+            Ok(named) => self.write_block(named.point, named.pair, out),
             Err(refusal) => emit(out, refusal.text()),
         }
     }
@@ -42,14 +43,14 @@ impl<'a> LineCommand for BlockCommand<'a> {
 
 impl BlockCommand<'_> {
     // Writes the block of a point.
-    fn write_block<W: Sink>(&self, pair: Pair<'_>, out: &mut W) -> Result<(), IoFault>
-        requires within { AreCoordinates pair.x pair.y }
+    fn write_block<W: Sink>(&self, point: Point, pair: Pair<'_>, out: &mut W) -> Result<(), IoFault>
+        requires point { point ≡ point_at pair.x pair.y }
         requires sound { (W.state out.old).failed ≡ false }
         ensures takes { (text : List ℕ) → AnswersBlock self.now.map pair.entry.x pair.entry.y text
             → TakesText (W.state out.old) (W.state out.new) text result }
         ensures ends { EndsWriting (W.state out.new) result }
     {
-        let Some((bx, by)) = self.map.block_of(Point::at(pair.x, pair.y)) else {
+        let Some((bx, by)) = self.map.block_of(point) else {
             return write_no_block(pair, out);
         };
         match self.map.list(bx, by) {
@@ -66,8 +67,8 @@ fn write_no_block<W: Sink>(pair: Pair<'_>, out: &mut W) -> Result<(), IoFault>
     ensures { Writes (W.state out.old) (W.state out.new) (no_block_text pair.entry.x pair.entry.y) result }
 {
     let mut line = TextLine::new();
-    line.put_bytes(b" no block\n");
-    pair.put(&mut line);
+    line.prepend_bytes(b" no block\n");
+    pair.prepend(&mut line);
     emit(out, line.as_bytes())
 }
 
@@ -84,14 +85,14 @@ fn write_fault<W: Sink>(
         (block_text pair.entry.x pair.entry.y bx by (fault_text number)) result }
 {
     let mut line = TextLine::new();
-    line.put_bytes(b"\n");
-    line.put_natural(u64::from(number));
-    line.put_bytes(b" fault ");
-    put_block(&mut line, pair, bx, by);
+    line.prepend_bytes(b"\n");
+    line.prepend_natural(u64::from(number));
+    line.prepend_bytes(b" fault ");
+    prepend_block(&mut line, pair, bx, by);
     emit(out, line.as_bytes())
 }
 
-// `<x> <y> block <bx> <by> lines` and each word of the list
+// `<x> <y> block <bx> <by> lines` and each number of the list
 fn write_lines<W: Sink>(
     pair: Pair<'_>,
     bx: u16,
@@ -105,9 +106,9 @@ fn write_lines<W: Sink>(
 {
     write_front(pair, bx, by, out)?;
     let mut from = 0;
-    'parts: while lines.len() - from > WORDS {
-        let to = from + WORDS;
-        write_words(lines, from, to, out)?;
+    'parts: while lines.len() - from > NUMBERS {
+        let to = from + NUMBERS;
+        write_numbers(lines, from, to, out)?;
         from = to;
     }
     write_last(lines, from, out)
@@ -120,25 +121,25 @@ fn write_front<W: Sink>(pair: Pair<'_>, bx: u16, by: u16, out: &mut W) -> Result
         (block_text pair.entry.x pair.entry.y bx by (codes " lines")) result }
 {
     let mut line = TextLine::new();
-    line.put_bytes(b" lines");
-    put_block(&mut line, pair, bx, by);
+    line.prepend_bytes(b" lines");
+    prepend_block(&mut line, pair, bx, by);
     emit(out, line.as_bytes())
 }
 
 // `<x> <y> block <bx> <by>` before the line
-fn put_block(line: &mut TextLine, pair: Pair<'_>, bx: u16, by: u16)
+fn prepend_block(line: &mut TextLine, pair: Pair<'_>, bx: u16, by: u16)
     requires { length line.old ≤ 30 }
     ensures { line.new ≡ block_text pair.entry.x pair.entry.y bx by line.old }
 {
-    line.put_natural(u64::from(by));
-    line.put_bytes(b" ");
-    line.put_natural(u64::from(bx));
-    line.put_bytes(b" block ");
-    pair.put(line);
+    line.prepend_natural(u64::from(by));
+    line.prepend_bytes(b" ");
+    line.prepend_natural(u64::from(bx));
+    line.prepend_bytes(b" block ");
+    pair.prepend(line);
 }
 
-// Writes the words from one on up to another.
-fn write_words<W: Sink>(
+// Writes the numbers from one on up to another.
+fn write_numbers<W: Sink>(
     lines: &BlockLines<'_>,
     from: usize,
     to: usize,
@@ -146,32 +147,32 @@ fn write_words<W: Sink>(
 ) -> Result<(), IoFault>
     requires ordered { from ≤ to }
     requires within { to ≤ length lines.now }
-    requires few { to ≤ from + WORDS }
+    requires few { to ≤ from + NUMBERS }
     requires sound { (W.state out.old).failed ≡ false }
     ensures { Writes (W.state out.old) (W.state out.new)
         (numbers_text (take (to - from) (drop from lines.now))) result }
 {
     let mut line = TextLine::new();
-    put_words(&mut line, lines, from, to);
+    prepend_numbers(&mut line, lines, from, to);
     emit(out, line.as_bytes())
 }
 
-// Writes the last words and the line's end.
+// Writes the last numbers and the line's end.
 fn write_last<W: Sink>(lines: &BlockLines<'_>, from: usize, out: &mut W) -> Result<(), IoFault>
     requires within { from ≤ length lines.now }
-    requires few { length lines.now ≤ from + WORDS }
+    requires few { length lines.now ≤ from + NUMBERS }
     requires sound { (W.state out.old).failed ≡ false }
     ensures { Writes (W.state out.old) (W.state out.new)
         (numbers_text (drop from lines.now) ++ 10 ∷ []) result }
 {
     let mut line = TextLine::new();
-    line.put_bytes(b"\n");
-    put_words(&mut line, lines, from, lines.len());
+    line.prepend_bytes(b"\n");
+    prepend_numbers(&mut line, lines, from, lines.len());
     emit(out, line.as_bytes())
 }
 
-// Puts the words from one on up to another before the line.
-fn put_words(line: &mut TextLine, lines: &BlockLines<'_>, from: usize, to: usize)
+// Puts the numbers from one on up to another before the line.
+fn prepend_numbers(line: &mut TextLine, lines: &BlockLines<'_>, from: usize, to: usize)
     requires ordered { from ≤ to }
     requires within { to ≤ length lines.now }
     requires room { length line.old + 12 * (to - from) ≤ 134 }
@@ -179,8 +180,8 @@ fn put_words(line: &mut TextLine, lines: &BlockLines<'_>, from: usize, to: usize
 {
     for i in (from..to).rev() {
         let Some(word) = lines.get(i) else { break };
-        line.put_integer(i64::from(word));
-        line.put_bytes(b" ");
+        line.prepend_integer(i64::from(word));
+        line.prepend_bytes(b" ");
     }
 }
 
@@ -198,14 +199,14 @@ pub fn blocks<A: Allocator, F: Allocator, S: Source, W: Sink>(
     limit: u64,
     out: &mut W,
 ) -> Result<(), RunFault>
-    requires few { length files.now ≤ 64 }
-    requires limit { limit ≤ LIMIT }
+    requires few { length files.now ≤ MAX_FILES }
+    requires limit { limit ≤ MAX_READ }
     requires input { (S.state input.old).failed ≡ false }
     requires out { (W.state out.old).failed ≡ false }
     ensures { RunsBlocks S.state W.state (bytes_of files.now) name.now reading limit input.old input.new out.old out.new result }
 {
     let map = open_block_map(alloc, files, name, reading)?;
-    ended(answer_lines(&BlockCommand { map }, input, limit, out))
+    ended(answer_lines(&mut BlockCommand { map }, input, limit, out))
 }
 
 // The blockmap of the level of the name.
@@ -215,7 +216,7 @@ fn open_block_map<'a, A: Allocator, F: Allocator>(
     name: &[u8],
     reading: Reading,
 ) -> Result<BlockMap<'a>, RunFault>
-    requires { length files.now ≤ 64 }
+    requires { length files.now ≤ MAX_FILES }
     ensures ok { IfOk result (HasBlockMap (bytes_of files.now) name.now reading) }
     ensures err { IfErr result (RefusesBlocks (bytes_of files.now) name.now reading) }
 {

@@ -5,36 +5,37 @@ ghost use Rattle.std.specs.List.{flat_map};
 ghost use Rattle.line_io.specs.NumberAnswers.{RefusesContent};
 ghost use Rattle.line_io.specs.Numbers.{HasForm};
 ghost use Rattle.line_io.specs.Writes.{Writes};
+ghost use Rattle.line_io.specs.declared.lines.TheConstants.{MAX_CONTENT};
 ghost use Rattle.map_geo.specs.Rect.{IsRect};
+ghost use Rattle.wad_dir.specs.declared.set.TheConstants.{MAX_FILES};
 ghost use Rattle.wad_look.specs.Engines.Census.{AreRect, RunsCensus, TellsCensus, count_text, counts_text, rect_text};
 ghost use Rattle.wad_look.specs.Opening.{bytes_of};
 
 use crate::fault::{RunFault, ended};
-use crate::opening::{open_level, sector_tree};
+use crate::opening::{open_level, sector_tree, tally_of};
 use le_rec::{Sink, Source};
 use line_io::{
-    IoFault, LIMIT, LineCommand, LineRefusal, TextLine, answer_lines, emit, read_numbers,
+    IoFault, LineCommand, LineRefusal, MAX_READ, TextLine, answer_lines, emit, read_numbers,
 };
 use map_geo::Rect;
 use map_level::Reading;
-use map_tree::{Counts, SectorTree, points_in};
+use map_tree::{Counts, Tally};
 use std::alloc::Allocator;
 
 /// Answers rectangles.
 #[derive(Drop)]
-struct CensusCommand<'l, 'a, A: Allocator + Copy> {
-    tree: SectorTree<'l, 'a, A>,
-    alloc: A,
+struct CensusCommand<'t, 'a, A: Allocator + Copy> {
+    tally: Tally<'t, 'a, A>,
 }
 
 impl<A: Allocator + Copy> LineCommand for CensusCommand<'_, '_, A> {
-    ghost Answers = { λ command. TellsCensus command.tree };
+    ghost Answers = { λ command. TellsCensus command.tally };
 
     ghost takes_memory = { true };
 
-    fn reply<W: Sink>(&self, content: &[u8], out: &mut W) -> Result<(), IoFault> {
+    fn reply<W: Sink>(&mut self, content: &[u8], out: &mut W) -> Result<(), IoFault> {
         match read_rect(content) {
-            Ok(rect) => match self.tree.census(self.alloc, rect) {
+            Ok(rect) => match self.tally.census(rect) {
                 Ok(counts) => write_counts(rect, &counts, out),
                 Err(_) => Err(IoFault::Memory),
             },
@@ -45,7 +46,7 @@ impl<A: Allocator + Copy> LineCommand for CensusCommand<'_, '_, A> {
 
 // The rectangle of a content.
 fn read_rect(content: &[u8]) -> Result<Rect, LineRefusal>
-    requires { length content.now ≤ 64 }
+    requires { length content.now ≤ MAX_CONTENT }
     ensures read { IfOk result (λ rect.
         HasForm 4 content.now (rect.x0 ∷ rect.y0 ∷ rect.x1 ∷ rect.y1 ∷ [])) }
     ensures allowed { IfOk result IsRect }
@@ -95,15 +96,15 @@ fn write_rect<W: Sink>(rect: Rect, out: &mut W) -> Result<(), IoFault>
     ensures { Writes (W.state out.old) (W.state out.new) (rect_text rect []) result }
 {
     let mut line = TextLine::new();
-    line.put_natural(u64::from(points_in(rect)));
-    line.put_bytes(b" points ");
-    line.put_integer(i64::from(rect.y1()));
-    line.put_bytes(b" ");
-    line.put_integer(i64::from(rect.x1()));
-    line.put_bytes(b" ");
-    line.put_integer(i64::from(rect.y0()));
-    line.put_bytes(b" ");
-    line.put_integer(i64::from(rect.x0()));
+    line.prepend_natural(u64::from(rect.point_count()));
+    line.prepend_bytes(b" points ");
+    line.prepend_integer(i64::from(rect.y1()));
+    line.prepend_bytes(b" ");
+    line.prepend_integer(i64::from(rect.x1()));
+    line.prepend_bytes(b" ");
+    line.prepend_integer(i64::from(rect.y0()));
+    line.prepend_bytes(b" ");
+    line.prepend_integer(i64::from(rect.x0()));
     emit(out, line.as_bytes())
 }
 
@@ -113,10 +114,10 @@ fn write_count<W: Sink>(sector: u16, count: u32, out: &mut W) -> Result<(), IoFa
     ensures { Writes (W.state out.old) (W.state out.new) (count_text (sector, count)) result }
 {
     let mut line = TextLine::new();
-    line.put_natural(u64::from(count));
-    line.put_bytes(b":");
-    line.put_natural(u64::from(sector));
-    line.put_bytes(b" ");
+    line.prepend_natural(u64::from(count));
+    line.prepend_bytes(b":");
+    line.prepend_natural(u64::from(sector));
+    line.prepend_bytes(b" ");
     emit(out, line.as_bytes())
 }
 
@@ -135,13 +136,14 @@ pub fn census_text<A: Allocator + Copy, F: Allocator, S: Source, W: Sink>(
     limit: u64,
     out: &mut W,
 ) -> Result<(), RunFault>
-    requires few { length files.now ≤ 64 }
-    requires limit { limit ≤ LIMIT }
+    requires few { length files.now ≤ MAX_FILES }
+    requires limit { limit ≤ MAX_READ }
     requires input { (S.state input.old).failed ≡ false }
     requires out { (W.state out.old).failed ≡ false }
     ensures { RunsCensus S.state W.state (bytes_of files.now) name.now reading limit input.old input.new out.old out.new result }
 {
     let level = open_level(alloc, files, name, reading)?;
     let tree = sector_tree(alloc, &level)?;
-    ended(answer_lines(&CensusCommand { tree, alloc }, input, limit, out))
+    let tally = tally_of(alloc, &tree)?;
+    ended(answer_lines(&mut CensusCommand { tally }, input, limit, out))
 }

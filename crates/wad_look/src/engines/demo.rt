@@ -2,11 +2,13 @@
 
 ghost use Rattle.std.specs.Prelude.{◌≡◌, ◌≤◌, false, length, IfOk, IfErr};
 ghost use Rattle.line_io.specs.Writes.{Writes};
-ghost use Rattle.wad_look.specs.Engines.Demo.{IsNamedDemo, RefusesNamedDemo, RunsDemo, listing};
+ghost use Rattle.wad_dir.specs.declared.set.TheConstants.{MAX_FILES};
+ghost use Rattle.wad_look.specs.Listing.{listing};
+ghost use Rattle.wad_look.specs.Engines.Demo.{IsNamedDemo, RefusesNamedDemo, RunsDemo};
 ghost use Rattle.wad_look.specs.Opening.{bytes_of};
 
 use crate::fault::{RunFault, ended};
-use crate::listing::{put_command, put_header, put_totals};
+use crate::listing::{prepend_header, prepend_ticcmd, prepend_totals};
 use crate::opening::open_set;
 use crate::turn::Turn;
 use demo_lump::Demo;
@@ -15,7 +17,7 @@ use line_io::{IoFault, TextLine, emit};
 use std::alloc::Allocator;
 use wad_dir::LumpFault;
 
-/// Writes the listing of the demo in the lump of the name: the header, a line for each command and the totals. `Set`,
+/// Writes the listing of the demo in the lump of the name: the header, a line for each tic command and the totals. `Set`,
 /// `Memory`, `Lump` (`NoSuch` where no entry has the name) and `Demo` come before anything is written.
 pub fn demo_text<A: Allocator, F: Allocator, W: Sink>(
     alloc: A,
@@ -23,7 +25,7 @@ pub fn demo_text<A: Allocator, F: Allocator, W: Sink>(
     name: &[u8],
     out: &mut W,
 ) -> Result<(), RunFault>
-    requires few { length files.now ≤ 64 }
+    requires few { length files.now ≤ MAX_FILES }
     requires sound { (W.state out.old).failed ≡ false }
     ensures { RunsDemo W.state (bytes_of files.now) name.now out.old out.new result }
 {
@@ -37,7 +39,7 @@ fn named_demo<'a, A: Allocator, F: Allocator>(
     files: &'a [Vec<u8, F>],
     name: &[u8],
 ) -> Result<Demo<'a>, RunFault>
-    requires { length files.now ≤ 64 }
+    requires { length files.now ≤ MAX_FILES }
     ensures ok { IfOk result (IsNamedDemo (bytes_of files.now) name.now) }
     ensures err { IfErr result (RefusesNamedDemo (bytes_of files.now) name.now) }
 {
@@ -61,7 +63,7 @@ fn write_demo<W: Sink>(demo: &Demo<'_>, out: &mut W) -> Result<(), IoFault>
     ensures { Writes (W.state out.old) (W.state out.new) (listing demo.now) result }
 {
     let mut line = TextLine::new();
-    put_header(&mut line, &demo.header());
+    prepend_header(&mut line, &demo.header());
     emit(out, line.as_bytes())?;
     let mut turn = Turn::new(demo.header().players);
     'commands: for i in 0..demo.commands() {
@@ -69,12 +71,12 @@ fn write_demo<W: Sink>(demo: &Demo<'_>, out: &mut W) -> Result<(), IoFault>
             break
         };
         line.clear();
-        put_command(&mut line, turn.tic(), turn.player(), &command);
+        prepend_ticcmd(&mut line, turn.tic(), turn.player(), &command);
         emit(out, line.as_bytes())?;
         turn.step();
     }
     line.clear();
     let odd = demo.odd_commands() as u64;
-    put_totals(&mut line, demo.full_tics() as u64, odd, demo.after() as u64);
+    prepend_totals(&mut line, demo.full_tics() as u64, odd, demo.after() as u64);
     emit(out, line.as_bytes())
 }

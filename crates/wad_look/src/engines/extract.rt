@@ -3,6 +3,7 @@
 ghost use Rattle.std.specs.Prelude.{◌≡◌, ◌<◌, ◌≤◌, ℕ, List, IfErr, IfOk, IsOkUnless, Err, false, length};
 ghost use Rattle.map_level.specs.Opening.{AreLumps, AreNames};
 ghost use Rattle.wad_dir.specs.Packing.{packed};
+ghost use Rattle.wad_dir.specs.declared.set.TheConstants.{MAX_FILES};
 ghost use Rattle.wad_look.specs.Engines.Extract.{HoldsLumps, IsPacked, RefusesExtract, RunsExtract, extracted};
 ghost use Rattle.wad_look.specs.Opening.{bytes_of};
 
@@ -22,7 +23,7 @@ pub fn extract<A: Allocator + Copy, F: Allocator, W: Sink>(
     name: &[u8],
     out: &mut W,
 ) -> Result<(), RunFault>
-    requires few { length files.now ≤ 64 }
+    requires few { length files.now ≤ MAX_FILES }
     requires sound { (W.state out.old).failed ≡ false }
     ensures { RunsExtract W.state (bytes_of files.now) name.now out.old out.new result }
 {
@@ -36,7 +37,7 @@ fn packed_level<A: Allocator + Copy, F: Allocator>(
     files: &[Vec<u8, F>],
     name: &[u8],
 ) -> Result<Vec<u8, A>, RunFault>
-    requires { length files.now ≤ 64 }
+    requires { length files.now ≤ MAX_FILES }
     ensures ok { IfOk result (λ file. IsPacked (bytes_of files.now) name.now file.items) }
     ensures err { IfErr result (RefusesExtract (bytes_of files.now) name.now) }
 {

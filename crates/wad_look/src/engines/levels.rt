@@ -8,12 +8,13 @@ ghost use Rattle.line_io.specs.Writes.{Writes};
 ghost use Rattle.map_level.specs.LinkFaults.{usual_names};
 ghost use Rattle.wad_dir.specs.Entries.{joined, names};
 ghost use Rattle.wad_dir.specs.Winner.{Wins};
-ghost use Rattle.wad_look.specs.Engines.Levels.{AreLabels, AreListed, ArePlaces, HasName, HasNames, HasNamesOf, IsLabel, PutsPlace};
-ghost use Rattle.wad_look.specs.Engines.Levels.{RunsLevels, level_line, levels_text, place_at};
+ghost use Rattle.wad_dir.specs.declared.set.TheConstants.{MAX_FILES};
+ghost use Rattle.wad_look.specs.Engines.Levels.{AreLabels, AreListed, AreHolders, HasName, HasNames, HasNamesOf, IsLabel, PutsHolder};
+ghost use Rattle.wad_look.specs.Engines.Levels.{RunsLevels, level_line, levels_text, holder_at};
 ghost use Rattle.wad_look.specs.Opening.{bytes_of};
 
 use crate::fault::{RunFault, ended};
-use crate::names::put_name;
+use crate::names::prepend_name;
 use crate::opening::open_set;
 use le_rec::{Name8, Sink};
 use line_io::{IoFault, TextLine, emit};
@@ -39,7 +40,7 @@ pub fn levels<A: Allocator + Copy, F: Allocator, W: Sink>(
     files: &[Vec<u8, F>],
     out: &mut W,
 ) -> Result<(), RunFault>
-    requires few { length files.now ≤ 64 }
+    requires few { length files.now ≤ MAX_FILES }
     requires sound { (W.state out.old).failed ≡ false }
     ensures { RunsLevels W.state (bytes_of files.now) out.old out.new result }
 {
@@ -59,9 +60,9 @@ fn listed_levels<A: Allocator + Copy>(
     ensures { IfOk result (λ found. AreListed (names set.now) found.items) }
 {
     let labels = find_labels(alloc, set)?;
-    let mut places = label_places(alloc, set, &labels)?;
-    move_to_last(&mut places, set);
-    list_labels(alloc, set, &labels, &places)
+    let mut holders = label_holders(alloc, set, &labels)?;
+    move_to_last(&mut holders, set);
+    list_labels(alloc, set, &labels, &holders)
 }
 
 // The numbers of all labels.
@@ -77,64 +78,64 @@ fn find_labels<A: Allocator + Copy>(alloc: A, set: &Set<'_, A>) -> Result<Vec<us
     Ok(labels)
 }
 
-// The names of labels, each with the place of an entry of the name.
-fn label_places<A: Allocator + Copy>(
+// The names of labels, each with an entry that holds it.
+fn label_holders<A: Allocator + Copy>(
     alloc: A,
     set: &Set<'_, A>,
     labels: &[usize],
 ) -> Result<BTreeMap<[u8; 8], usize, A>, AllocError>
-    ensures places { IfOk result (ArePlaces (names set.now) 0) }
+    ensures holders { IfOk result (AreHolders (names set.now) 0) }
     ensures names { IfOk result (HasNamesOf (names set.now) labels.now) }
 {
-    let mut places = BTreeMap::new(alloc);
+    let mut holders = BTreeMap::new(alloc);
     'labels: for g in labels {
         if let Some(name) = entry_name(set, *g) {
-            places.insert(name.bytes(), *g)?;
+            holders.insert(name.bytes(), *g)?;
         }
     }
-    Ok(places)
+    Ok(holders)
 }
 
-// Moves the places of names to the last entries of the names.
-fn move_to_last<A: Allocator>(places: &mut BTreeMap<[u8; 8], usize, A>, set: &Set<'_, A>)
-    requires { ArePlaces (names set.now) 0 places.old }
-    ensures last { ArePlaces (names set.now) (length (joined set.now)) places.new }
-    ensures kept { HasNames places.old places.new }
+// Moves the holders of names to the last entries that hold them.
+fn move_to_last<A: Allocator>(holders: &mut BTreeMap<[u8; 8], usize, A>, set: &Set<'_, A>)
+    requires { AreHolders (names set.now) 0 holders.old }
+    ensures last { AreHolders (names set.now) (length (joined set.now)) holders.new }
+    ensures kept { HasNames holders.old holders.new }
 {
     'entries: for g in 0..set.total() {
         let Some(name) = entry_name(set, g) else {
             break
         };
-        move_place(places, &name.bytes(), g);
+        move_holder(holders, &name.bytes(), g);
     }
 }
 
-// Moves the place of a name, given by its bytes, if it is there.
-fn move_place<A: Allocator>(places: &mut BTreeMap<[u8; 8], usize, A>, bytes: &[u8; 8], g: usize)
-    ensures moved { IsSome (place_at places.old bytes.now) → PutsPlace places.old places.new bytes.now g }
-    ensures absent { place_at places.old bytes.now ≡ None → places.new ≡ places.old }
+// Moves the holder of a name, given by its bytes, if it is there.
+fn move_holder<A: Allocator>(holders: &mut BTreeMap<[u8; 8], usize, A>, bytes: &[u8; 8], g: usize)
+    ensures moved { IsSome (holder_at holders.old bytes.now) → PutsHolder holders.old holders.new bytes.now g }
+    ensures absent { holder_at holders.old bytes.now ≡ None → holders.new ≡ holders.old }
 {
-    if let Some(place) = places.get_mut(bytes) {
-        *place = g;
+    if let Some(holder) = holders.get_mut(bytes) {
+        *holder = g;
     }
 }
 
-// The levels of the labels, by the last places of their names.
+// The levels of the labels, by the last holders of their names.
 fn list_labels<A: Allocator + Copy>(
     alloc: A,
     set: &Set<'_, A>,
     labels: &[usize],
-    places: &BTreeMap<[u8; 8], usize, A>,
+    holders: &BTreeMap<[u8; 8], usize, A>,
 ) -> Result<Vec<Listed, A>, AllocError>
     requires labels { AreLabels (names set.now) labels.now }
-    requires last { ArePlaces (names set.now) (length (joined set.now)) places.now }
-    requires names { HasNamesOf (names set.now) labels.now places.now }
+    requires last { AreHolders (names set.now) (length (joined set.now)) holders.now }
+    requires names { HasNamesOf (names set.now) labels.now holders.now }
     ensures { IfOk result (λ found. AreListed (names set.now) found.items) }
 {
     let mut found = Vec::new(alloc);
     'labels: for g in labels {
         if let Some(name) = entry_name(set, *g) {
-            let hidden = is_hidden(places, &name, *g);
+            let hidden = is_hidden(holders, &name, *g);
             found.push(Listed {
                 label: *g,
                 name,
@@ -175,16 +176,16 @@ fn entry_name<A: Allocator>(set: &Set<'_, A>, g: usize) -> Option<Name8>
 }
 
 // Whether looking a label's name up doesn't give that label.
-fn is_hidden<A: Allocator>(places: &BTreeMap<[u8; 8], usize, A>, name: &Name8, g: usize) -> bool
-    ensures { (all : List (List ℕ)) → ArePlaces all (length all) places.now → HasName places.now name.now
+fn is_hidden<A: Allocator>(holders: &BTreeMap<[u8; 8], usize, A>, name: &Name8, g: usize) -> bool
+    ensures { (all : List (List ℕ)) → AreHolders all (length all) holders.now → HasName holders.now name.now
         → slice_get all g ≡ Some name.now → IsTrue result ↔ ¬ Wins all (query_of name.now) g }
 {
     let bytes = name.bytes();
     if Name8::query(&bytes).bytes() != bytes {
         return true;
     }
-    match places.get(&bytes) {
-        Some(place) => *place != g,
+    match holders.get(&bytes) {
+        Some(holder) => *holder != g,
         None => true,
     }
 }
@@ -206,21 +207,21 @@ fn write_line<W: Sink>(level: &Listed, out: &mut W) -> Result<(), IoFault>
     ensures { Writes (W.state out.old) (W.state out.new) (level_line level.now) result }
 {
     let mut line = TextLine::new();
-    put_level(&mut line, level);
+    prepend_level(&mut line, level);
     emit(out, line.as_bytes())
 }
 
 // `<g> <name>`, and ` hidden` where it is
 #[tactic(auto, unfolding(crate::specs::Engines::Levels::level_line))]
-fn put_level(line: &mut TextLine, level: &Listed)
+fn prepend_level(line: &mut TextLine, level: &Listed)
     requires { line.old ≡ [] }
     ensures { line.new ≡ level_line level.now }
 {
-    line.put_bytes(b"\n");
+    line.prepend_bytes(b"\n");
     if level.hidden {
-        line.put_bytes(b" hidden");
+        line.prepend_bytes(b" hidden");
     }
-    put_name(line, &level.name);
-    line.put_bytes(b" ");
-    line.put_natural(level.label as u64);
+    prepend_name(line, &level.name);
+    line.prepend_bytes(b" ");
+    line.prepend_natural(level.label as u64);
 }

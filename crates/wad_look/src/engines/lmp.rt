@@ -7,17 +7,17 @@ ghost use Rattle.le_rec.specs.Source.{SourceState};
 ghost use Rattle.wad_look.specs.Engines.Lmp.{ListsCommands, ListsDemo, RunsLmp};
 
 use crate::fault::{RunFault, ended};
-use crate::listing::{put_command, put_header, put_totals};
+use crate::listing::{prepend_header, prepend_ticcmd, prepend_totals};
 use crate::turn::Turn;
 use demo_lump::{DemoReader, Header};
 use le_rec::{Sink, Source};
-use line_io::{LIMIT, TextLine, emit};
+use line_io::{MAX_READ, TextLine, emit};
 
 /// Lists the demo that is the whole input, of at most `limit` bytes, while it reads. It takes no memory.
 ///
-/// After `Read`, `TooLong` or `Demo` the lines of the header and of all whole commands that were read are written.
+/// After `Read`, `TooLong` or `Demo` the lines of the header and of all whole tic commands that were read are written.
 pub fn lmp<S: Source, W: Sink>(input: &mut S, limit: u64, out: &mut W) -> Result<(), RunFault>
-    requires limit { limit ≤ LIMIT }
+    requires limit { limit ≤ MAX_READ }
     requires input { (S.state input.old).failed ≡ false }
     requires out { (W.state out.old).failed ≡ false }
     ensures { RunsLmp S.state W.state limit input.old input.new out.old out.new result }
@@ -35,7 +35,7 @@ fn list_demo<S: Source, W: Sink>(
     limit: u64,
     out: &mut W,
 ) -> Result<(), RunFault>
-    requires limit { limit ≤ LIMIT }
+    requires limit { limit ≤ MAX_READ }
     requires input { (S.state input.old).failed ≡ false }
     requires out { (W.state out.old).failed ≡ false }
     requires some { 0 < players_in header.now.players }
@@ -49,24 +49,24 @@ fn list_demo<S: Source, W: Sink>(
         → ListsDemo limit start (S.state input.new) (W.state out.old) (W.state out.new) result }
 {
     let mut line = TextLine::new();
-    put_header(&mut line, header);
+    prepend_header(&mut line, header);
     emit(out, line.as_bytes())?;
-    let turn = list_commands(reader, header, input, limit, out)?;
+    let turn = list_ticcmds(reader, header, input, limit, out)?;
     let after = reader.after(input)?;
     line.clear();
-    put_totals(&mut line, turn.tic(), turn.odd(), after);
+    prepend_totals(&mut line, turn.tic(), turn.odd(), after);
     ended(emit(out, line.as_bytes()))
 }
 
-// Lists the commands, up to the marker, and tells whose turn it would be there.
-fn list_commands<S: Source, W: Sink>(
+// Lists the tic commands, up to the marker, and tells whose turn it would be there.
+fn list_ticcmds<S: Source, W: Sink>(
     reader: &mut DemoReader,
     header: &Header,
     input: &mut S,
     limit: u64,
     out: &mut W,
 ) -> Result<Turn, RunFault>
-    requires limit { limit ≤ LIMIT }
+    requires limit { limit ≤ MAX_READ }
     requires input { (S.state input.old).failed ≡ false }
     requires out { (W.state out.old).failed ≡ false }
     requires some { 0 < players_in header.now.players }
@@ -80,13 +80,13 @@ fn list_commands<S: Source, W: Sink>(
 {
     let mut line = TextLine::new();
     let mut turn = Turn::new(header.players);
-    // A command has 4 bytes or 5, so there are fewer turns than bytes.
+    // A tic command has 4 bytes or 5, so there are fewer turns than bytes.
     'commands: for _turn in 0..limit + 1 {
         let Some(command) = reader.next(input)? else {
             return Ok(turn);
         };
         line.clear();
-        put_command(&mut line, turn.tic(), turn.player(), &command);
+        prepend_ticcmd(&mut line, turn.tic(), turn.player(), &command);
         emit(out, line.as_bytes())?;
         turn.step();
     }

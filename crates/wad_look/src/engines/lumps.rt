@@ -3,11 +3,12 @@
 ghost use Rattle.std.specs.Prelude.{◌≡◌, ◌≤◌, ◌<◌, ◌^◌, [], false, length};
 ghost use Rattle.le_rec.specs.Name.{name_of};
 ghost use Rattle.line_io.specs.Writes.{Writes};
+ghost use Rattle.wad_dir.specs.declared.set.TheConstants.{MAX_FILES};
 ghost use Rattle.wad_look.specs.Engines.Lumps.{RunsLumps, entry_line, file_line, file_text, lumps_text};
 ghost use Rattle.wad_look.specs.Opening.{bytes_of};
 
 use crate::fault::{RunFault, ended};
-use crate::names::put_name;
+use crate::names::prepend_name;
 use crate::opening::open_set;
 use le_rec::{Entry, Name8, Sink};
 use line_io::{IoFault, TextLine, emit};
@@ -21,7 +22,7 @@ pub fn lumps<A: Allocator, F: Allocator, W: Sink>(
     files: &[Vec<u8, F>],
     out: &mut W,
 ) -> Result<(), RunFault>
-    requires few { length files.now ≤ 64 }
+    requires few { length files.now ≤ MAX_FILES }
     requires sound { (W.state out.old).failed ≡ false }
     ensures { RunsLumps W.state (bytes_of files.now) out.old out.new result }
 {
@@ -50,7 +51,7 @@ fn write_file<W: Sink>(n: usize, first: usize, wad: &Wad<'_>, out: &mut W) -> Re
     ensures { Writes (W.state out.old) (W.state out.new) (file_text n first wad.now) result }
 {
     let mut line = TextLine::new();
-    put_file(&mut line, n, wad.kind(), wad.len());
+    prepend_file(&mut line, n, wad.kind(), wad.len());
     emit(out, line.as_bytes())?;
     let entries = wad.entries();
     'entries: for i in 0..entries.len() {
@@ -66,38 +67,38 @@ fn write_entry<W: Sink>(g: usize, entry: &Entry, out: &mut W) -> Result<(), IoFa
         (entry_line g entry.now.filepos entry.now.size (name_of entry.now.name)) result }
 {
     let mut line = TextLine::new();
-    put_entry(&mut line, g, entry);
+    prepend_entry(&mut line, g, entry);
     emit(out, line.as_bytes())
 }
 
 // `<g> <filepos> <size> <name>`
 #[tactic(auto, unfolding(crate::specs::Engines::Lumps::entry_line))]
-fn put_entry(line: &mut TextLine, g: usize, entry: &Entry)
+fn prepend_entry(line: &mut TextLine, g: usize, entry: &Entry)
     requires { line.old ≡ [] }
     ensures { line.new ≡ entry_line g entry.now.filepos entry.now.size (name_of entry.now.name) }
 {
-    line.put_bytes(b"\n");
-    put_name(line, &Name8::stored(entry.name));
-    line.put_bytes(b" ");
-    line.put_integer(i64::from(entry.size));
-    line.put_bytes(b" ");
-    line.put_integer(i64::from(entry.filepos));
-    line.put_bytes(b" ");
-    line.put_natural(g as u64);
+    line.prepend_bytes(b"\n");
+    prepend_name(line, &Name8::stored(entry.name));
+    line.prepend_bytes(b" ");
+    line.prepend_integer(i64::from(entry.size));
+    line.prepend_bytes(b" ");
+    line.prepend_integer(i64::from(entry.filepos));
+    line.prepend_bytes(b" ");
+    line.prepend_natural(g as u64);
 }
 
 // `file <n> <IWAD or PWAD> <count>`
 #[tactic(auto, unfolding(crate::specs::Engines::Lumps::file_line))]
-fn put_file(line: &mut TextLine, n: usize, kind: Kind, count: usize)
+fn prepend_file(line: &mut TextLine, n: usize, kind: Kind, count: usize)
     requires { line.old ≡ [] }
     ensures { line.new ≡ file_line n kind count }
 {
-    line.put_bytes(b"\n");
-    line.put_natural(count as u64);
-    line.put_bytes(match kind {
+    line.prepend_bytes(b"\n");
+    line.prepend_natural(count as u64);
+    line.prepend_bytes(match kind {
         Kind::Iwad => b" IWAD ",
         Kind::Pwad => b" PWAD ",
     });
-    line.put_natural(n as u64);
-    line.put_bytes(b"file ");
+    line.prepend_natural(n as u64);
+    line.prepend_bytes(b"file ");
 }

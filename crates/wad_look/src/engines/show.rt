@@ -3,13 +3,15 @@
 ghost use Rattle.std.specs.Prelude.{◌≡◌, ◌+◌, ◌<◌, ◌≤◌, ◌++◌, codes, false, length, map, slice_index_or, []};
 ghost use Rattle.std.specs.Fmt.{decimal};
 ghost use Rattle.line_io.specs.Writes.{Writes};
+ghost use Rattle.line_io.specs.declared.text_line.TheConstants.{ROOM};
 ghost use Rattle.map_level.specs.Reading.{number_of};
+ghost use Rattle.wad_dir.specs.declared.set.TheConstants.{MAX_FILES};
 ghost use Rattle.wad_look.specs.Engines.Show.{RunsShow, bytes_line, level_line, lump_texts, name_text, number_text, numbers_text};
 ghost use Rattle.wad_look.specs.Engines.Show.{record_line, show_text, table_line, table_text};
 ghost use Rattle.wad_look.specs.Opening.{bytes_of};
 
 use crate::fault::{RunFault, ended};
-use crate::names::put_name;
+use crate::names::prepend_name;
 use crate::opening::open_level;
 use le_rec::{
     LineDef, Name8, Node, Record, SSector, Sector, Seg, SideDef, Sink, Table, Thing, Vertex,
@@ -27,7 +29,7 @@ pub fn show<A: Allocator, F: Allocator, W: Sink>(
     reading: Reading,
     out: &mut W,
 ) -> Result<(), RunFault>
-    requires few { length files.now ≤ 64 }
+    requires few { length files.now ≤ MAX_FILES }
     requires sound { (W.state out.old).failed ≡ false }
     ensures { RunsShow W.state (bytes_of files.now) name.now reading out.old out.new result }
 {
@@ -54,11 +56,11 @@ fn write_label<W: Sink>(level: &Level<'_>, out: &mut W) -> Result<(), IoFault>
         (level_line (slice_index_or level.now.names 0 []) level.now.label) result }
 {
     let mut line = TextLine::new();
-    line.put_bytes(b"\n");
-    line.put_natural(level.label() as u64);
-    line.put_bytes(b" at ");
-    put_name(&mut line, &level.name(0));
-    line.put_bytes(b"level ");
+    line.prepend_bytes(b"\n");
+    line.prepend_natural(level.label() as u64);
+    line.prepend_bytes(b" at ");
+    prepend_name(&mut line, &level.name(0));
+    line.prepend_bytes(b"level ");
     emit(out, line.as_bytes())
 }
 
@@ -90,10 +92,10 @@ fn write_bytes<W: Sink>(lump: &[u8], bytes: &[u8], out: &mut W) -> Result<(), Io
     ensures { Writes (W.state out.old) (W.state out.new) (bytes_line lump.now (length bytes.now)) result }
 {
     let mut line = TextLine::new();
-    line.put_bytes(b"\n");
-    line.put_natural(bytes.len() as u64);
-    line.put_bytes(b" ");
-    line.put_bytes(lump);
+    line.prepend_bytes(b"\n");
+    line.prepend_natural(bytes.len() as u64);
+    line.prepend_bytes(b" ");
+    line.prepend_bytes(lump);
     emit(out, line.as_bytes())
 }
 
@@ -124,12 +126,12 @@ fn write_counts<W: Sink>(lump: &[u8], count: usize, rest: usize, out: &mut W) ->
     ensures { Writes (W.state out.old) (W.state out.new) (table_line lump.now count rest) result }
 {
     let mut line = TextLine::new();
-    line.put_bytes(b"\n");
-    line.put_natural(rest as u64);
-    line.put_bytes(b" rest ");
-    line.put_natural(count as u64);
-    line.put_bytes(b" ");
-    line.put_bytes(lump);
+    line.prepend_bytes(b"\n");
+    line.prepend_natural(rest as u64);
+    line.prepend_bytes(b" rest ");
+    line.prepend_natural(count as u64);
+    line.prepend_bytes(b" ");
+    line.prepend_bytes(lump);
     emit(out, line.as_bytes())
 }
 
@@ -144,9 +146,9 @@ fn write_row<R: Shown, W: Sink>(
     ensures { Writes (W.state out.old) (W.state out.new) (record_line R.layout index (R.under reading row.now)) result }
 {
     let mut line = TextLine::new();
-    line.put_bytes(b"\n");
-    row.put_fields(reading, &mut line);
-    line.put_natural(index as u64);
+    line.prepend_bytes(b"\n");
+    row.prepend_fields(reading, &mut line);
+    line.prepend_natural(index as u64);
     emit(out, line.as_bytes())
 }
 
@@ -160,72 +162,72 @@ pub trait Shown: Record {
     ghost under: { Reading → Self → Self };
 
     /// Puts the fields before the line.
-    fn put_fields(&self, reading: Reading, line: &mut TextLine)
+    fn prepend_fields(&self, reading: Reading, line: &mut TextLine)
         requires { length line.old ≤ 4 }
         ensures text { line.new ≡ record_text Self.layout (under reading self.now) ++ line.old }
         ensures length { length line.new ≤ length line.old + 120 };
 }
 
-// Puts a space and a word before the line.
-fn put_word(line: &mut TextLine, word: &i16)
-    requires { length line.old + 22 ≤ 144 }
-    ensures text { line.new ≡ number_text word.now ++ line.old }
+// Puts a space and a number before the line.
+fn prepend_number(line: &mut TextLine, stored: &i16)
+    requires { length line.old + 22 ≤ ROOM }
+    ensures text { line.new ≡ number_text stored.now ++ line.old }
     ensures length { length line.new ≤ length line.old + 7 }
 {
-    line.put_integer(i64::from(*word));
-    line.put_bytes(b" ");
+    line.prepend_integer(i64::from(*stored));
+    line.prepend_bytes(b" ");
 }
 
 // The same of an index under a reading.
-fn put_index(line: &mut TextLine, reading: Reading, word: &i16)
-    requires { length line.old + 22 ≤ 144 }
-    ensures text { line.new ≡ number_text (number_of reading word.now) ++ line.old }
+fn prepend_index(line: &mut TextLine, reading: Reading, stored: &i16)
+    requires { length line.old + 22 ≤ ROOM }
+    ensures text { line.new ≡ number_text (number_of reading stored.now) ++ line.old }
     ensures length { length line.new ≤ length line.old + 7 }
 {
-    line.put_integer(i64::from(number(*word, reading)));
-    line.put_bytes(b" ");
+    line.prepend_integer(i64::from(number(*stored, reading)));
+    line.prepend_bytes(b" ");
 }
 
 // The same of a child word.
-fn put_child(line: &mut TextLine, child: &u16)
-    requires { length line.old + 22 ≤ 144 }
+fn prepend_child(line: &mut TextLine, child: &u16)
+    requires { length line.old + 22 ≤ ROOM }
     ensures text { line.new ≡ codes " " ++ decimal child.now ++ line.old }
     ensures length { length line.new ≤ length line.old + 6 }
 {
-    line.put_natural(u64::from(*child));
-    line.put_bytes(b" ");
+    line.prepend_natural(u64::from(*child));
+    line.prepend_bytes(b" ");
 }
 
 // The same of the four numbers of a box.
-fn put_box(line: &mut TextLine, bounds: &[i16; 4])
-    requires { length line.old + 44 ≤ 144 }
+fn prepend_box(line: &mut TextLine, bounds: &[i16; 4])
+    requires { length line.old + 44 ≤ ROOM }
     ensures text { line.new ≡ numbers_text bounds.now ++ line.old }
     ensures length { length line.new ≤ length line.old + 28 }
 {
     for i in (0..4).rev() {
-        put_word(line, &bounds[i]);
+        prepend_number(line, &bounds[i]);
     }
 }
 
-// Puts a space and a name as it is shown.
-fn put_stored(line: &mut TextLine, name: &[u8; 8])
-    requires { length line.old + 33 ≤ 144 }
+// Prepends a space and a name as it is shown.
+fn prepend_stored(line: &mut TextLine, name: &[u8; 8])
+    requires { length line.old + 33 ≤ ROOM }
     ensures text { line.new ≡ name_text name.now ++ line.old }
     ensures length { length line.new ≤ length line.old + 33 }
 {
-    put_name(line, &Name8::stored(*name));
-    line.put_bytes(b" ");
+    prepend_name(line, &Name8::stored(*name));
+    line.prepend_bytes(b" ");
 }
 
 impl Shown for Thing {
     ghost under = { λ reading r. r };
 
-    fn put_fields(&self, _reading: Reading, line: &mut TextLine) {
-        put_word(line, &self.options);
-        put_word(line, &self.kind);
-        put_word(line, &self.angle);
-        put_word(line, &self.y);
-        put_word(line, &self.x);
+    fn prepend_fields(&self, _reading: Reading, line: &mut TextLine) {
+        prepend_number(line, &self.options);
+        prepend_number(line, &self.kind);
+        prepend_number(line, &self.angle);
+        prepend_number(line, &self.y);
+        prepend_number(line, &self.x);
     }
 }
 
@@ -234,14 +236,14 @@ impl Shown for LineDef {
 
     ghost under = { linedef_under };
 
-    fn put_fields(&self, reading: Reading, line: &mut TextLine) {
-        put_index(line, reading, &self.side1);
-        put_index(line, reading, &self.side0);
-        put_word(line, &self.tag);
-        put_word(line, &self.special);
-        put_word(line, &self.flags);
-        put_index(line, reading, &self.v2);
-        put_index(line, reading, &self.v1);
+    fn prepend_fields(&self, reading: Reading, line: &mut TextLine) {
+        prepend_index(line, reading, &self.side1);
+        prepend_index(line, reading, &self.side0);
+        prepend_number(line, &self.tag);
+        prepend_number(line, &self.special);
+        prepend_number(line, &self.flags);
+        prepend_index(line, reading, &self.v2);
+        prepend_index(line, reading, &self.v1);
     }
 }
 
@@ -250,22 +252,22 @@ impl Shown for SideDef {
 
     ghost under = { sidedef_under };
 
-    fn put_fields(&self, reading: Reading, line: &mut TextLine) {
-        put_index(line, reading, &self.sector);
-        put_stored(line, &self.middle);
-        put_stored(line, &self.bottom);
-        put_stored(line, &self.top);
-        put_word(line, &self.yoff);
-        put_word(line, &self.xoff);
+    fn prepend_fields(&self, reading: Reading, line: &mut TextLine) {
+        prepend_index(line, reading, &self.sector);
+        prepend_stored(line, &self.middle);
+        prepend_stored(line, &self.bottom);
+        prepend_stored(line, &self.top);
+        prepend_number(line, &self.yoff);
+        prepend_number(line, &self.xoff);
     }
 }
 
 impl Shown for Vertex {
     ghost under = { λ reading r. r };
 
-    fn put_fields(&self, _reading: Reading, line: &mut TextLine) {
-        put_word(line, &self.y);
-        put_word(line, &self.x);
+    fn prepend_fields(&self, _reading: Reading, line: &mut TextLine) {
+        prepend_number(line, &self.y);
+        prepend_number(line, &self.x);
     }
 }
 
@@ -274,13 +276,13 @@ impl Shown for Seg {
 
     ghost under = { seg_under };
 
-    fn put_fields(&self, reading: Reading, line: &mut TextLine) {
-        put_word(line, &self.offset);
-        put_word(line, &self.side);
-        put_index(line, reading, &self.linedef);
-        put_word(line, &self.angle);
-        put_index(line, reading, &self.v2);
-        put_index(line, reading, &self.v1);
+    fn prepend_fields(&self, reading: Reading, line: &mut TextLine) {
+        prepend_number(line, &self.offset);
+        prepend_number(line, &self.side);
+        prepend_index(line, reading, &self.linedef);
+        prepend_number(line, &self.angle);
+        prepend_index(line, reading, &self.v2);
+        prepend_index(line, reading, &self.v1);
     }
 }
 
@@ -289,37 +291,37 @@ impl Shown for SSector {
 
     ghost under = { ssector_under };
 
-    fn put_fields(&self, reading: Reading, line: &mut TextLine) {
-        put_index(line, reading, &self.first);
-        put_index(line, reading, &self.count);
+    fn prepend_fields(&self, reading: Reading, line: &mut TextLine) {
+        prepend_index(line, reading, &self.first);
+        prepend_index(line, reading, &self.count);
     }
 }
 
 impl Shown for Node {
     ghost under = { λ reading r. r };
 
-    fn put_fields(&self, _reading: Reading, line: &mut TextLine) {
-        put_child(line, &self.child1);
-        put_child(line, &self.child0);
-        put_box(line, &self.box1);
-        put_box(line, &self.box0);
-        put_word(line, &self.dy);
-        put_word(line, &self.dx);
-        put_word(line, &self.y);
-        put_word(line, &self.x);
+    fn prepend_fields(&self, _reading: Reading, line: &mut TextLine) {
+        prepend_child(line, &self.child1);
+        prepend_child(line, &self.child0);
+        prepend_box(line, &self.box1);
+        prepend_box(line, &self.box0);
+        prepend_number(line, &self.dy);
+        prepend_number(line, &self.dx);
+        prepend_number(line, &self.y);
+        prepend_number(line, &self.x);
     }
 }
 
 impl Shown for Sector {
     ghost under = { λ reading r. r };
 
-    fn put_fields(&self, _reading: Reading, line: &mut TextLine) {
-        put_word(line, &self.tag);
-        put_word(line, &self.special);
-        put_word(line, &self.light);
-        put_stored(line, &self.ceiling_name);
-        put_stored(line, &self.floor_name);
-        put_word(line, &self.ceiling);
-        put_word(line, &self.floor);
+    fn prepend_fields(&self, _reading: Reading, line: &mut TextLine) {
+        prepend_number(line, &self.tag);
+        prepend_number(line, &self.special);
+        prepend_number(line, &self.light);
+        prepend_stored(line, &self.ceiling_name);
+        prepend_stored(line, &self.floor_name);
+        prepend_number(line, &self.ceiling);
+        prepend_number(line, &self.floor);
     }
 }

@@ -1,14 +1,15 @@
 //! The command `sight`: whether a level's REJECT refuses sight between sectors.
 
 ghost use Rattle.std.specs.Prelude.{◌≡◌, ◌<◌, ◌≤◌, ◌^◌, ◌++◌, [], ◌∷◌, false, length, codes};
-ghost use Rattle.wad_look.specs.Engines.Sight.{AnswersSight, RunsSight, reject_of, sight_word};
+ghost use Rattle.wad_dir.specs.declared.set.TheConstants.{MAX_FILES};
+ghost use Rattle.wad_look.specs.Engines.Sight.{AnswersSight, RunsSight, reject_of, bit_text};
 ghost use Rattle.wad_look.specs.Opening.{bytes_of};
 
 use crate::contents::read_sectors;
 use crate::fault::{RunFault, ended};
 use crate::opening::open_level;
 use le_rec::{Sink, Source};
-use line_io::{IoFault, LIMIT, LineCommand, TextLine, answer_lines, emit};
+use line_io::{IoFault, LineCommand, MAX_READ, TextLine, answer_lines, emit};
 use map_level::{Level, Reading};
 use map_tables::Reject;
 use std::alloc::Allocator;
@@ -27,12 +28,12 @@ impl<'a> LineCommand for SightCommand<'a> {
 
     ghost takes_memory = { false };
 
-    fn reply<W: Sink>(&self, content: &[u8], out: &mut W) -> Result<(), IoFault> {
+    fn reply<W: Sink>(&mut self, content: &[u8], out: &mut W) -> Result<(), IoFault> {
         match read_sectors(content, self.sectors) {
             Ok((a, b, pair)) => {
                 let mut line = TextLine::new();
-                put_word(&mut line, self.reject.bit(a, b));
-                pair.put(&mut line);
+                prepend_sight(&mut line, self.reject.bit(a, b));
+                pair.prepend(&mut line);
                 emit(out, line.as_bytes())
             }
             Err(refusal) => emit(out, refusal.text()),
@@ -41,15 +42,15 @@ impl<'a> LineCommand for SightCommand<'a> {
 }
 
 // ` <clear, blocked or unknown>`
-fn put_word(line: &mut TextLine, bit: Option<bool>)
+fn prepend_sight(line: &mut TextLine, bit: Option<bool>)
     requires { line.old ≡ [] }
-    ensures text { line.new ≡ codes " " ++ (sight_word bit ++ 10 ∷ []) }
+    ensures text { line.new ≡ codes " " ++ (bit_text bit ++ 10 ∷ []) }
     ensures short { length line.new ≤ 9 }
 {
     match bit {
-        Some(false) => line.put_bytes(b" clear\n"),
-        Some(true) => line.put_bytes(b" blocked\n"),
-        None => line.put_bytes(b" unknown\n"),
+        Some(false) => line.prepend_bytes(b" clear\n"),
+        Some(true) => line.prepend_bytes(b" blocked\n"),
+        None => line.prepend_bytes(b" unknown\n"),
     }
 }
 
@@ -65,14 +66,14 @@ pub fn sight<A: Allocator, F: Allocator, S: Source, W: Sink>(
     limit: u64,
     out: &mut W,
 ) -> Result<(), RunFault>
-    requires few { length files.now ≤ 64 }
-    requires limit { limit ≤ LIMIT }
+    requires few { length files.now ≤ MAX_FILES }
+    requires limit { limit ≤ MAX_READ }
     requires input { (S.state input.old).failed ≡ false }
     requires out { (W.state out.old).failed ≡ false }
     ensures { RunsSight S.state W.state (bytes_of files.now) name.now limit input.old input.new out.old out.new result }
 {
     let level = open_level(alloc, files, name, Reading::Signed)?;
-    ended(answer_lines(&command_of(&level), input, limit, out))
+    ended(answer_lines(&mut command_of(&level), input, limit, out))
 }
 
 // The command over a level's bits.

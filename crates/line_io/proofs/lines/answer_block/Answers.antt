@@ -1,12 +1,11 @@
-use Rattle.std.proofs.Common.{◌≡◌, refl, take, ap, sym, ◌∙◌, subst}
+use Rattle.std.proofs.Common.{refl, take, ap, sym, ◌∙◌, subst}
 use Rattle.std.proofs.lemmas.Result.{err_from_is_err_and}
-use Rattle.le_rec.specs.Sink.{SinkState}
 use Rattle.line_io.specs.AnswersLines.{LeavesWhole}
 use Rattle.line_io.proofs.BlockLemmas.{Answered-end, Answered-line, Answered-none, Answered-stop, Answered-whole, EndsAnswer-lines, EndsAnswer-memory, EndsAnswer-sound, last-end}
 use Rattle.line_io.proofs.lines.answer_block.Goals as goal
 
 pub lines-init : goal.lines-init
-lines-init g c = record { sound = c.requires; so_far = Answered-none _ _ _ _ }
+lines-init g c = record { same = refl; sound = c.requires; so_far = Answered-none _ _ _ _ }
 
 pub returns-in_err-answer_ended-clause-takes : goal.returns-in_err-answer_ended-clause-takes
 returns-in_err-answer_ended-clause-takes g c =
@@ -14,7 +13,7 @@ returns-in_err-answer_ended-clause-takes g c =
     rw (p.1, p.2)
     (λ f told.
     Answered-stop c.lines.invariant.so_far c.in-Some.line.now c.in-Some.after.now
-    c.in-Some.ensures.0 c.in-Some.ensures.1 _ f told (c.in_err-answer_ended.ensures.takes f told))
+    c.in-Some.ensures.0 c.in-Some.ensures.1 _ f told (rw c.lines.invariant.same at c.in_err-answer_ended.ensures.takes f told))
 
 pub returns-in_err-answer_ended-clause-unbroken : goal.returns-in_err-answer_ended-clause-unbroken
 returns-in_err-answer_ended-clause-unbroken g c =
@@ -32,12 +31,13 @@ returns-in_err-answer_ended-clause-ends g c =
 
 pub lines-preserved : goal.lines-preserved
 lines-preserved g c = record {
+  same = c.in_ok-answer_ended.ensures.same ∙ c.lines.invariant.same;
   sound = EndsAnswer-sound _ _ _ _ c.in_ok-answer_ended.ensures.ends;
   so_far =
       rw c.in_ok-answer_ended.ensures.cleared
       (Answered-line c.lines.invariant.so_far c.in-Some.line.now c.in-Some.after.now
       c.in-Some.ensures.0 c.in-Some.ensures.1 _
-      (λ f told. (c.in_ok-answer_ended.ensures.takes f told).whole));
+      (λ f told. (rw c.lines.invariant.same at c.in_ok-answer_ended.ensures.takes f told).whole));
 }
 
 pub returns-clause-takes : goal.returns-clause-takes

@@ -27,6 +27,7 @@ within_or_one_past count limit long n within room e = elim (cases_lt limit (coun
 
 pub turns-init : goal.turns-init
 turns-init g c = record {
+  same = refl;
   source_sound = c.requires.input;
   sink_sound = c.requires.out;
   turns = omega arith;
@@ -50,7 +51,7 @@ returns-then-is_empty g c =
     c.turns.invariant.within (rw none at block.given) (block.end none)
     (block.sound ∙ c.turns.invariant.source_sound) c.turns.invariant.sink_sound
     c.answer_last.ensures.ends
-    c.answer_last.ensures.takes
+    (rw c.turns.invariant.same at c.answer_last.ensures.takes)
 
 pub returns-in_err-answer_block : goal.returns-in_err-answer_block
 returns-in_err-answer_block g c =
@@ -67,8 +68,8 @@ returns-in_err-answer_block g c =
     c.in_ok-bytes.ensures.given works _ _
     (cut_at c.turns.invariant.so_far c.args.limit bytes _
     (within_or_one_past c.turns.read c.args.limit _ _ c.turns.invariant.within room c.from.ensures))
-    c.in_err-answer_block.ensures.ends c.in_err-answer_block.ensures.takes
-    c.in_err-answer_block.ensures.unbroken)
+    c.in_err-answer_block.ensures.ends (rw c.turns.invariant.same at c.in_err-answer_block.ensures.takes)
+    (rw c.turns.invariant.same at c.in_err-answer_block.ensures.unbroken))
 
 pub returns-then-read-limit : goal.returns-then-read-limit
 returns-then-read-limit g c =
@@ -82,7 +83,7 @@ returns-then-read-limit g c =
     ends_long c.turns.invariant.so_far c.args.limit bytes _ _
     (length bytes - c.from.result) room c.in_ok-bytes.ensures.given
     (c.in_ok-bytes.ensures.sound ∙ c.turns.invariant.source_sound) _ c.if-read-limit.true
-    (omega arith) wrote.ends.sound (λ f told. (wrote.takes f told).whole)
+    (omega arith) wrote.ends.sound (λ f told. (rw c.turns.invariant.same at wrote.takes f told).whole)
 
 pub turns-preserved : goal.turns-preserved
 turns-preserved g c =
@@ -93,11 +94,12 @@ turns-preserved g c =
     take_all _ bytes (omega arith) in
     let wrote = c.in_ok-answer_block.ensures in
     record {
+      same = wrote.same ∙ c.turns.invariant.same;
       source_sound = c.in_ok-bytes.ensures.sound ∙ c.turns.invariant.source_sound;
       sink_sound = wrote.ends.sound;
       turns = omega arith;
       within = omega arith;
       so_far =
           Progress-more c.turns.invariant.so_far _ _ bytes _ _ c.in_ok-bytes.ensures.given
-          (λ f told. (rw whole at (wrote.takes f told)).whole) (rw whole at wrote.kept) refl;
+          (λ f told. (rw (whole, c.turns.invariant.same) at wrote.takes f told).whole) (rw whole at wrote.kept) refl;
     }

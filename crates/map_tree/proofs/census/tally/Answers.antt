@@ -1,16 +1,17 @@
-use Rattle.std.proofs.Common.{◌+◌, length-set, get_or, refl, ◌∙◌, arith}
+use Rattle.std.proofs.Common.{◌+◌, length-set, get_or, set, refl, ◌∙◌, arith}
+use Rattle.std.proofs.Math.Facts.{Fits-lt-pow}
 use Rattle.std.proofs.lemmas.List.{length-reverse}
 use Rattle.map_tree.specs.declared.pieces.Piece.{Piece}
 use Rattle.map_tree.proofs.Sizes.{size_of}
 use Rattle.map_tree.proofs.HeldLemmas.{sized-from_sound, Held-start}
-use Rattle.map_tree.proofs.TurnLemmas.{pushed, sum_zeros, tests_fit, most_fits, done, sector_in, leaf_fits, turn-leaf, turn-down, turn-apart, turn-pushed, fewer-down, fewer-apart}
+use Rattle.map_tree.proofs.TurnLemmas.{pushed, sum_zeros, tests_fit, most_fits, done, sector_in, some_points, leaf_fits, turn-leaf, turn-down, turn-apart, turn-pushed, fewer-down, fewer-apart}
 use Rattle.map_tree.proofs.census.tally.Goals as goal
 
 pub loop-next-init : goal.loop-next-init
 loop-next-init g c =
     let sized = sized-from_sound c.args.level.now c.requires.sound in
     record {
-      held = rw c.new-pending.ensures.items (Held-start c.args.level.now (size_of c.args.level.now) c.args.rect sized c.start-hand.result c.args.counts.now c.start-hand.ensures.rect c.start-hand.ensures.word c.start-hand.ensures.valid (sum_zeros c.args.counts.now c.requires.zeros) c.requires.zeros);
+      held = rw c.clear.ensures.items (Held-start c.args.level.now (size_of c.args.level.now) c.args.rect sized c.start-hand.result c.args.counts.now c.start-hand.ensures.rect c.start-hand.ensures.word c.start-hand.ensures.valid (sum_zeros c.args.counts.now c.requires.fresh.zeros) c.requires.fresh.zeros);
       long = refl;
     }
 
@@ -28,26 +29,26 @@ overflow_add-tests-in-Apart g c =
     let step = rw c.nodes-nodes.ensures.is at c.in-Apart.ensures in
     tests_fit c.args.level.now (size_of c.args.level.now) c.args.rect sized valid _ _ _ _ (turn-apart c.args.level.now (size_of c.args.level.now) c.args.rect sized valid c.loop-next.hand _ _ _ _ c.loop-next.invariant.held c.in-Apart.halves step)
 
-pub bounds-counts-from : goal.bounds-counts-from
-bounds-counts-from g c =
+pub add-requires-clause-within : goal.add-requires-clause-within
+add-requires-clause-within g c =
     let sized = sized-from_sound c.args.level.now c.requires.sound in
     let leaf = c.in-AtSsector.ensures in
-    let in_counts = sector_in c.args.level.now (size_of c.args.level.now) c.args.rect sized c.start-hand.ensures.valid c.loop-next.hand _ _ _ _ c.loop-next.invariant.held c.args.counts.now c.args.sectors.now c.from.result c.from-in-AtSsector.result c.requires.within c.loop-next.invariant.long c.requires.listed c.type_inv.sectors leaf.0 (c.from.ensures ∙ leaf.1) c.from-in-AtSsector.ensures in
+    let k = get_or c.args.sectors.now c.from.result 0 in
+    let in_counts = sector_in c.args.level.now (size_of c.args.level.now) c.args.rect sized c.start-hand.ensures.valid c.loop-next.hand _ _ _ _ c.loop-next.invariant.held c.args.counts.now c.args.sectors.now c.from.result k c.requires.fresh.within c.loop-next.invariant.long c.requires.listed c.type_inv.sectors leaf.0 (c.from.ensures ∙ leaf.1) refl in
     in_counts.1
 
-pub bounds-counts-from-in-AtSsector : goal.bounds-counts-from-in-AtSsector
-bounds-counts-from-in-AtSsector g c =
+pub add-requires-clause-some : goal.add-requires-clause-some
+add-requires-clause-some g c =
     let sized = sized-from_sound c.args.level.now c.requires.sound in
-    let leaf = c.in-AtSsector.ensures in
-    let in_counts = sector_in c.args.level.now (size_of c.args.level.now) c.args.rect sized c.start-hand.ensures.valid c.loop-next.hand _ _ _ _ c.loop-next.invariant.held c.args.counts.now c.args.sectors.now c.from.result c.from-in-AtSsector.result c.requires.within c.loop-next.invariant.long c.requires.listed c.type_inv.sectors leaf.0 (c.from.ensures ∙ leaf.1) c.from-in-AtSsector.ensures in
-    in_counts.1
+    some_points c.args.level.now (size_of c.args.level.now) c.args.rect sized c.start-hand.ensures.valid c.loop-next.hand _ _ _ _ c.loop-next.invariant.held c.in-AtSsector.points c.in-AtSsector.ensures.2
 
-pub overflow_add-counts : goal.overflow_add-counts
-overflow_add-counts g c =
+pub add-requires-clause-fits : goal.add-requires-clause-fits
+add-requires-clause-fits g c =
     let sized = sized-from_sound c.args.level.now c.requires.sound in
     let leaf = c.in-AtSsector.ensures in
-    let in_counts = sector_in c.args.level.now (size_of c.args.level.now) c.args.rect sized c.start-hand.ensures.valid c.loop-next.hand _ _ _ _ c.loop-next.invariant.held c.args.counts.now c.args.sectors.now c.from.result c.from-in-AtSsector.result c.requires.within c.loop-next.invariant.long c.requires.listed c.type_inv.sectors leaf.0 (c.from.ensures ∙ leaf.1) c.from-in-AtSsector.ensures in
-    leaf_fits c.args.level.now (size_of c.args.level.now) c.args.rect sized c.start-hand.ensures.valid c.loop-next.hand _ _ _ _ c.loop-next.invariant.held c.from-in-AtSsector.result c.in-AtSsector.points in_counts.1 leaf.2
+    let k = get_or c.args.sectors.now c.from.result 0 in
+    let in_counts = sector_in c.args.level.now (size_of c.args.level.now) c.args.rect sized c.start-hand.ensures.valid c.loop-next.hand _ _ _ _ c.loop-next.invariant.held c.args.counts.now c.args.sectors.now c.from.result k c.requires.fresh.within c.loop-next.invariant.long c.requires.listed c.type_inv.sectors leaf.0 (c.from.ensures ∙ leaf.1) refl in
+    Fits-lt-pow (leaf_fits c.args.level.now (size_of c.args.level.now) c.args.rect sized c.start-hand.ensures.valid c.loop-next.hand _ _ _ _ c.loop-next.invariant.held k c.in-AtSsector.points in_counts.1 leaf.2)
 
 pub overflow_cast-result : goal.overflow_cast-result
 overflow_cast-result g c =
@@ -57,12 +58,12 @@ overflow_cast-result g c =
 pub returns-in-None-clause-tally : goal.returns-in-None-clause-tally
 returns-in-None-clause-tally g c =
     let sized = sized-from_sound c.args.level.now c.requires.sound in
-    let valid = c.start-hand.ensures.valid in
     let leaf = c.in-AtSsector.ensures in
-    let in_counts = sector_in c.args.level.now (size_of c.args.level.now) c.args.rect sized c.start-hand.ensures.valid c.loop-next.hand _ _ _ _ c.loop-next.invariant.held c.args.counts.now c.args.sectors.now c.from.result c.from-in-AtSsector.result c.requires.within c.loop-next.invariant.long c.requires.listed c.type_inv.sectors leaf.0 (c.from.ensures ∙ leaf.1) c.from-in-AtSsector.ensures in
-    let held = turn-leaf c.args.level.now (size_of c.args.level.now) c.args.rect sized valid c.loop-next.hand _ _ _ _ c.loop-next.invariant.held c.from-in-AtSsector.result c.in-AtSsector.points leaf.0 in_counts.0 in_counts.1 leaf.2 in
+    let k = get_or c.args.sectors.now c.from.result 0 in
+    let in_counts = sector_in c.args.level.now (size_of c.args.level.now) c.args.rect sized c.start-hand.ensures.valid c.loop-next.hand _ _ _ _ c.loop-next.invariant.held c.args.counts.now c.args.sectors.now c.from.result k c.requires.fresh.within c.loop-next.invariant.long c.requires.listed c.type_inv.sectors leaf.0 (c.from.ensures ∙ leaf.1) refl in
+    let held = turn-leaf c.args.level.now (size_of c.args.level.now) c.args.rect sized c.start-hand.ensures.valid c.loop-next.hand _ _ _ _ c.loop-next.invariant.held k c.in-AtSsector.points leaf.0 in_counts.0 in_counts.1 leaf.2 in
     let none = c.in-None.ensures.none refl in
-    done c.args.level.now (size_of c.args.level.now) c.args.rect sized valid _ _ _ (rw none at held)
+    rw c.in_ok-add-in-AtSsector.ensures.ok (done c.args.level.now (size_of c.args.level.now) c.args.rect sized c.start-hand.ensures.valid (set c.loop-next.counts k (get_or c.loop-next.counts k 0 + c.in-AtSsector.points)) c.loop-next.tests c.loop-next.most (rw none at held))
 
 pub loop-next-smaller-in-Down : goal.loop-next-smaller-in-Down
 loop-next-smaller-in-Down g c =
@@ -100,7 +101,8 @@ pub loop-next-preserved : goal.loop-next-preserved
 loop-next-preserved g c =
     let sized = sized-from_sound c.args.level.now c.requires.sound in
     let leaf = c.in-AtSsector.ensures in
-    let in_counts = sector_in c.args.level.now (size_of c.args.level.now) c.args.rect sized c.start-hand.ensures.valid c.loop-next.hand _ _ _ _ c.loop-next.invariant.held c.args.counts.now c.args.sectors.now c.from.result c.from-in-AtSsector.result c.requires.within c.loop-next.invariant.long c.requires.listed c.type_inv.sectors leaf.0 (c.from.ensures ∙ leaf.1) c.from-in-AtSsector.ensures in
-    let held = turn-leaf c.args.level.now (size_of c.args.level.now) c.args.rect sized c.start-hand.ensures.valid c.loop-next.hand _ _ _ _ c.loop-next.invariant.held c.from-in-AtSsector.result c.in-AtSsector.points leaf.0 in_counts.0 in_counts.1 leaf.2 in
+    let k = get_or c.args.sectors.now c.from.result 0 in
+    let in_counts = sector_in c.args.level.now (size_of c.args.level.now) c.args.rect sized c.start-hand.ensures.valid c.loop-next.hand _ _ _ _ c.loop-next.invariant.held c.args.counts.now c.args.sectors.now c.from.result k c.requires.fresh.within c.loop-next.invariant.long c.requires.listed c.type_inv.sectors leaf.0 (c.from.ensures ∙ leaf.1) refl in
+    let held = turn-leaf c.args.level.now (size_of c.args.level.now) c.args.rect sized c.start-hand.ensures.valid c.loop-next.hand _ _ _ _ c.loop-next.invariant.held k c.in-AtSsector.points leaf.0 in_counts.0 in_counts.1 leaf.2 in
     let popped = pushed c.take_newest.new.pending.items c.loop-next.pending.items c.in-Some.next c.in-Some.ensures.some in
-    record { held = rw popped at held; long = length-set c.loop-next.counts c.from-in-AtSsector.result (get_or c.loop-next.counts c.from-in-AtSsector.result 0 + c.in-AtSsector.points) ∙ c.loop-next.invariant.long }
+    rw c.in_ok-add-in-AtSsector.ensures.ok (record { held = rw popped at held; long = length-set c.loop-next.counts k (get_or c.loop-next.counts k 0 + c.in-AtSsector.points) ∙ c.loop-next.invariant.long })

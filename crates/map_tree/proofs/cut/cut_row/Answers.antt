@@ -1,7 +1,8 @@
 use Rattle.std.proofs.Common.{ℤ, pos, ◌+ℤ◌, ◌≤ℤ◌, ◌<ℤ◌, FitsSigned, w32, refl, sym, arith}
 use Rattle.std.proofs.lemmas.Int.{ints, to_z-of_z}
 use Rattle.map_geo.specs.Partition.{partition_of}
-use Rattle.map_tree.proofs.MiddleLemmas.{in_fits, between_fits, next_fits}
+use Rattle.map_geo.proofs.PointCountLemmas.{in_fits}
+use Rattle.map_tree.proofs.MiddleLemmas.{between_fits, next_fits}
 use Rattle.map_tree.proofs.RowLemmas.{ends_differ, ends_ordered}
 use Rattle.map_tree.proofs.cut.cut_row.Goals as goal
 

@@ -1,7 +1,7 @@
 use Rattle.std.proofs.Common.{ℤ, ◌≤ℤ◌, ◌≡◌, false, inl, inr, FitsSigned, w32, refl, arith}
 use Rattle.std.proofs.lemmas.Int.{ints, to_z-of_z}
 use lib.Signed.{lt_z}
-use Rattle.map_tree.proofs.MiddleLemmas.{in_fits}
+use Rattle.map_geo.proofs.PointCountLemmas.{in_fits}
 use Rattle.map_tree.proofs.cut.step_at.Goals as goal
 
 not_less : (a b : ℤ) → a ≤ℤ b → lt_z a b ≡ false → a ≡ b

@@ -1,4 +1,4 @@
-use Rattle.wad_look.proofs.CensusLemmas.{census_is_answered}
+use Rattle.wad_look.proofs.engines.CensusLemmas.{census_is_answered}
 use Rattle.wad_look.proofs.laws.census_is_answered.Goals as goal
 
 pub returns : goal.returns

@@ -1,4 +1,4 @@
-use Rattle.wad_look.proofs.PointsLemmas.{each_point_is_answered, points_are_lines}
+use Rattle.wad_look.proofs.engines.PointsLemmas.{each_point_is_answered, points_are_lines}
 use Rattle.wad_look.proofs.laws.each_point_has_a_line.Goals as goal
 
 pub returns-clause-line : goal.returns-clause-line

@@ -1,5 +1,5 @@
 use Rattle.wad_dir.specs.declared.header.Kind.TheVariants.{Pwad}
-use Rattle.wad_look.proofs.ExtractedLemmas.{extracted_opens}
+use Rattle.wad_look.proofs.engines.ExtractedLemmas.{extracted_opens}
 use Rattle.wad_look.proofs.laws.extracted_opens.Goals as goal
 
 pub returns-clause-wad : goal.returns-clause-wad

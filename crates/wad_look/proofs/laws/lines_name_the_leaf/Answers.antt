@@ -1,4 +1,4 @@
-use Rattle.wad_look.proofs.PointsLemmas.{lines_name_the_leaf}
+use Rattle.wad_look.proofs.engines.PointsLemmas.{lines_name_the_leaf}
 use Rattle.wad_look.proofs.laws.lines_name_the_leaf.Goals as goal
 
 pub returns : goal.returns

@@ -1,4 +1,4 @@
-use Rattle.wad_look.proofs.PointsLemmas.{points_are_answered}
+use Rattle.wad_look.proofs.engines.PointsLemmas.{points_are_answered}
 use Rattle.wad_look.proofs.laws.points_are_answered.Goals as goal
 
 pub returns : goal.returns

@@ -1,4 +1,4 @@
-use Rattle.wad_look.proofs.SightLemmas.{sight_is_answered}
+use Rattle.wad_look.proofs.engines.SightLemmas.{sight_is_answered}
 use Rattle.wad_look.proofs.laws.sight_is_answered.Goals as goal
 
 pub returns : goal.returns

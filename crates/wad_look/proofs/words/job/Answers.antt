@@ -1,8 +1,8 @@
-use Rattle.std.proofs.Common.{Some, map, string_bytes, length, ◌≡◌, ◌+◌, ◌-◌, ap, subst, refl, arith}
-use Rattle.std.proofs.lemmas.List.{length-map}
+use Rattle.std.proofs.Common.{Some, map, string_bytes, ◌≡◌, sym, ◌∙◌, ap, subst, refl, arith}
+use Rattle.std.proofs.lemmas.List.{drop-map, length-map}
 use Rattle.std.proofs.lemmas.List.Elements.{All-map}
-use Rattle.wad_look.specs.Job.{IsJob, IsPlain}
-use Rattle.wad_look.proofs.JobLemmas.{IsRead, IsTaken, job_of, only_job, is_job, All-unmap}
+use Rattle.wad_look.specs.Words.{IsJob, IsPlain}
+use Rattle.wad_look.proofs.WordsLemmas.{IsRead, IsTaken, job_of, only_job, is_job, same_job, All-unmap}
 use Rattle.wad_look.proofs.words.job.Goals as goal
 
 pub returns-then-not-takes : goal.returns-then-not-takes
@@ -16,7 +16,7 @@ returns-then-not-takes g c = λ job.
       rest = map string_bytes c.in_ok-word.rest.now;
       in_order = cc;
       named = c.in_ok-command.ensures;
-      form_is = c.form-form.ensures;
+      form_is = c.form-form.ensures.is;
       split = record {
         spelled = c.after_wide-wide.ensures.spelled;
         may_be_wide = c.after_wide-wide.ensures.allowed;
@@ -26,7 +26,7 @@ returns-then-not-takes g c = λ job.
     let operands_count = length-map c.after_wide-wide.result.1.now string_bytes in (
       (λ e. absurd cc),
       λ j.
-          let taken = (only_job _ _ _ _ _ read _ refl job j).0 in
+          let taken = (only_job _ _ _ _ _ read job j).0 in
           let some_file = taken.some_file in
           let few_files = taken.few_files in
           let told = c.if-not-takes.ensures.1 (omega arith, omega arith, All-unmap string_bytes _ taken.plain) in
@@ -44,7 +44,7 @@ returns g c = λ job.
       rest = map string_bytes c.in_ok-word.rest.now;
       in_order = cc;
       named = c.in_ok-command.ensures;
-      form_is = c.form-form.ensures;
+      form_is = c.form-form.ensures.is;
       split = record {
         spelled = c.after_wide-wide.ensures.spelled;
         may_be_wide = c.after_wide-wide.ensures.allowed;
@@ -59,8 +59,9 @@ returns g c = λ job.
       few_files = omega arith;
       plain = All-map IsPlain string_bytes _ told.2;
     } in
-    let first = length c.args.words.now - length c.after_wide-wide.result.1.now + c.form-form.result.names in
-    let first_is : first ≡ length texts - length operands + c.form-form.result.names = omega arith in (
-      (λ e. let same : job_of _ first _ ≡ job = cc in subst (IsJob texts) same (is_job _ _ _ _ _ read first first_is taken)),
-      λ j. ap Some (only_job _ _ _ _ _ read first first_is job j).1,
+    let made : job_of c.in_ok-command.command c.form-form.result.names operands c.after_wide-wide.result.0
+    ≡ record { command = c.in_ok-command.command; name = c.name_in-name.result.now; paths = map string_bytes c.paths_in-paths.result.now; wide = c.after_wide-wide.result.0 } =
+    same_job _ _ _ _ _ _ _ _ refl (sym c.name_in-name.ensures) (drop-map string_bytes c.form-form.result.names c.after_wide-wide.result.1.now ∙ ap (map string_bytes) (sym c.paths_in-paths.ensures)) refl in (
+      (λ e. let same : job_of c.in_ok-command.command c.form-form.result.names operands c.after_wide-wide.result.0 ≡ job = cc in subst (IsJob texts) same (is_job _ _ _ _ _ read taken)),
+      λ j. ap Some (sym made ∙ (only_job _ _ _ _ _ read job j).1),
     )

@@ -1,9 +1,8 @@
-use Rattle.std.proofs.Common.{rules, ◌≢◌, ◌∙◌, Err, map, string_bytes, inl, refl, sym, subst, ap}
-use Rattle.std.proofs.lemmas.List.{drop-map}
+use Rattle.std.proofs.Common.{rules, ◌≢◌, ◌∙◌, Err, map, string_bytes, inl, inr, refl, sym, subst, ap}
 use Rattle.std.proofs.lemmas.Result.{err_from_is_err_and}
 use Rattle.wad_look.specs.Opening.{bytes_of}
 use Rattle.wad_look.specs.declared.command.Cmd.TheVariants.{Lmp}
-use Rattle.wadlook.proofs.ProgramLemmas.{paths_refuse}
+use Rattle.wadlook.proofs.ProgramLemmas.{job_refuses, paths_refuse}
 use Rattle.wadlook.specs.Files.{AreHeld}
 use Rattle.wadlook.specs.declared.refusal.Refusal.TheVariants.{Usage}
 use Rattle.wadlook.proofs.program.do_words.Goals as goal
@@ -19,19 +18,18 @@ pub returns-in_err-files : goal.returns-in_err-files
 returns-in_err-files g c =
     let p = err_from_is_err_and c.from_residual.result c.from_residual.ensures.1 in
     let job = c.in-Some.job in
-    let paths = ap (map string_bytes) c.paths.ensures.paths ∙ sym (drop-map string_bytes job.first c.args.words.now) in
+    let held = g.D.Storage.held c.args.storage.now in
     let other : job.command ≢ Lmp = search rules in
     inl (record {
       refusal = c.in_err-files.field-0.0;
       ended = p.1 ∙ ap Err p.2;
-      holds = paths_refuse (g.D.Storage.held c.args.storage.now) (map string_bytes c.args.words.now) (map string_bytes c.paths.result.now) job
-          c.in_err-files.field-0.0 ((c.job.ensures job).0 c.in-Some.is) other paths c.in_err-files.ensures.refused;
+      holds = job_refuses held (map string_bytes c.args.words.now) job c.in_err-files.field-0.0 ((c.job.ensures job).0 c.in-Some.is)
+          (paths_refuse held (map string_bytes c.paths.result.now) job c.in_err-files.field-0.0 other c.paths.ensures.paths c.in_err-files.ensures.refused);
     })
 
 pub returns : goal.returns
 returns g c =
     let job = c.in-Some.job in
-    let paths = ap (map string_bytes) c.paths.ensures.paths ∙ sym (drop-map string_bytes job.first c.args.words.now) in
-    let read = subst (λ ps. AreHeld (g.D.Storage.held c.args.storage.now) ps (bytes_of c.in_ok-files.files.items)) paths c.in_ok-files.ensures.held in
+    let read = subst (λ ps. AreHeld (g.D.Storage.held c.args.storage.now) ps (bytes_of c.in_ok-files.files.items)) c.paths.ensures.paths c.in_ok-files.ensures.held in
     let other : job.command ≢ Lmp = search rules in
     search rules

@@ -1,32 +1,36 @@
-use Rattle.std.proofs.Common.{◌≡◌, ◌∙◌, ap, arith, inr, map, refl, rules, string_bytes, subst, sym, Global, List, [], ℕ}
+use Rattle.std.proofs.Common.{◌≡◌, ◌∙◌, ap, arith, inl, inr, length, refl, rules, slice_index_or, string_bytes, subst, sym, Global, List, [], ℕ}
 use Rattle.std.proofs.lemmas.List.{get_or-map, length-map}
 use Rattle.std.specs.Io.KnownBytes.{Keeps}
 use Rattle.std.specs.Io.Buffered.{reader_remaining}
-use Rattle.wadlook.proofs.ProgramLemmas.{buffered_whole}
-use Rattle.wadlook.specs.Program.{file_in}
+use Rattle.wadlook.proofs.ProgramLemmas.{buffered_whole, first_reached}
 use Rattle.wadlook.specs.Tied.{file_source}
+use Rattle.wadlook.specs.declared.refusal.Refusal.TheVariants.{Unreadable}
 use Rattle.wadlook.proofs.program.list_file.Goals as goal
+
+pub returns-in_default : goal.returns-in_default
+returns-in_default g c =
+    let counted = ap length (sym c.paths-paths.ensures.paths) ∙ length-map c.paths-paths.result.now (string_bytes {Z = Global}) in
+    inl (record {
+      refusal = Unreadable 1;
+      ended = refl;
+      holds = first_reached (g.D.Storage.held c.args.storage.now) c.args.job.now.paths (omega (arith, counted, c.paths-paths.ensures.some));
+    })
 
 pub returns : goal.returns
 returns g c =
     let held = g.D.Storage.held c.args.storage.now in
-    let words = map (string_bytes {Z = Global}) c.args.words.now in
     let made = c.in-Ok-with_capacity.ensures in
     let remaining = g.D.File.Read.remaining in
     let whole : reader_remaining remaining c.in-Ok-with_capacity.buffer ≡ remaining c.in-Ok.file =
     buffered_whole remaining c.in-Ok-with_capacity.buffer c.in-Ok.file made.capacity made.empty made.inner in
     let left : (file_source _ _ remaining c.new-demo.result).left ≡ remaining c.in-Ok.file = ap (reader_remaining remaining) c.new-demo.ensures.reader ∙ whole in
-    let opened : Keeps (held (string_bytes {Z = Global} c.index-words-job.result)) (remaining c.in-Ok.file) =
+    let opened : Keeps (held (string_bytes {Z = Global} c.index-paths-0.result)) (remaining c.in-Ok.file) =
     subst (λ (p : List ℕ). Keeps (held p) (remaining c.in-Ok.file)) c.as_str.ensures.value c.in-Ok.ensures in
-    let j = c.requires.job in
-    let long = length-map c.args.words.now (string_bytes {Z = Global}) in
-    let named : file_in words c.args.job ≡ string_bytes {Z = Global} c.index-words-job.result =
-    get_or-map (string_bytes {Z = Global}) c.args.words.now c.args.job.first c.index-words-job.result [] (omega (arith, j.first, j.some_file, long))
-    ∙ ap (string_bytes {Z = Global}) (sym c.index-words-job.is) in
+    let named : slice_index_or c.args.job.now.paths 0 [] ≡ string_bytes {Z = Global} c.index-paths-0.result =
+    ap (λ (ps : List (List ℕ)). slice_index_or ps 0 []) (sym c.paths-paths.ensures.paths)
+    ∙ get_or-map (string_bytes {Z = Global}) c.paths-paths.result.now 0 c.index-paths-0.result [] c.paths-paths.ensures.some
+    ∙ ap (string_bytes {Z = Global}) (sym c.index-paths-0.is) in
     inr (record {
-      job = c.args.job;
-      asked = c.requires.job;
-      lists = c.requires.lmp;
       left = (file_source _ _ remaining c.new-demo.result).left;
       opened = rw (named, left) opened;
       runs = record {

@@ -1,5 +1,5 @@
 use Rattle.std.proofs.Common.{ap, ◌∙◌, inr, rules}
-use Rattle.wadlook.specs.Tied.{tied_reader_of}
+use Rattle.line_io.specs.Tied.{tied_reader_of}
 use Rattle.wadlook.proofs.program.run_files.Goals as goal
 
 pub returns : goal.returns

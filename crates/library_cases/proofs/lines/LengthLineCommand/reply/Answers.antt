@@ -1,4 +1,4 @@
-use Rattle.std.proofs.Common.{◌≡◌, ◌∷◌, [], decimal, inl, length, ◌∙◌}
+use Rattle.std.proofs.Common.{◌≡◌, ◌∷◌, [], decimal, inl, length, refl, ◌∙◌}
 use Rattle.std.proofs.lemmas.Result.{err_from_is_err_and}
 use Rattle.line_io.proofs.WriteLemmas.{Writes-stop, Writes-then}
 use Rattle.library_cases.proofs.lines.LengthLineCommand.reply.Goals as goal
@@ -12,6 +12,7 @@ returns-in_err-emit g c =
     rw (p.1, p.2) (record {
       takes = λ answer told. rw (told c.args.content.now) stopped.takes;
       ends = inl stopped.ends;
+      same = refl;
     })
 
 pub returns : goal.returns
@@ -21,4 +22,4 @@ returns g c =
     let wrote =
     Writes-then _ _ _ _ c.emit-2.result
     (rw text at c.in_ok-emit.ensures).takes.whole c.emit-2.ensures in
-    record { takes = λ answer told. rw (told c.args.content.now) wrote.takes; ends = inl wrote.ends }
+    record { takes = λ answer told. rw (told c.args.content.now) wrote.takes; ends = inl wrote.ends; same = refl }

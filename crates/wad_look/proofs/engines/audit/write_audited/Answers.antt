@@ -1,4 +1,4 @@
-use Rattle.wad_look.proofs.AuditLemmas.{missing_tells, outside_tells}
+use Rattle.wad_look.proofs.engines.AuditLemmas.{missing_tells, outside_tells}
 use Rattle.wad_look.proofs.engines.audit.write_audited.Goals as goal
 
 pub returns-in-Missing : goal.returns-in-Missing

@@ -1,7 +1,7 @@
 use Rattle.std.proofs.lemmas.Result.{err_from_is_err_and}
 use Rattle.line_io.proofs.WriteLemmas.{Writes-stop, Writes-then}
 use Rattle.wad_look.specs.Engines.Audit.{finding_line, totals_line}
-use Rattle.wad_look.proofs.AuditLemmas.{Writes-err}
+use Rattle.wad_look.proofs.engines.AuditLemmas.{Writes-err}
 use Rattle.wad_look.proofs.engines.audit.write_lone.Goals as goal
 
 pub returns-in_err-write_finding-clause-writes : goal.returns-in_err-write_finding-clause-writes

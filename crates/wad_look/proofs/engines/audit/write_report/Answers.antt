@@ -2,7 +2,7 @@ use Rattle.std.specs.List.{flat_map}
 use Rattle.std.proofs.lemmas.Result.{err_from_is_err_and}
 use Rattle.line_io.proofs.WriteLemmas.{Writes-stop, Writes-then}
 use Rattle.wad_look.specs.Engines.Audit.{fault_count, finding_line, note_count, totals_line}
-use Rattle.wad_look.proofs.AuditLemmas.{Writes-err}
+use Rattle.wad_look.proofs.engines.AuditLemmas.{Writes-err}
 use Rattle.wad_look.proofs.engines.audit.write_report.Goals as goal
 
 pub returns-in_err-write_findings : goal.returns-in_err-write_findings

@@ -7,7 +7,7 @@ use Rattle.line_io.specs.declared.fault.IoFault.{IoFault}
 use Rattle.line_io.proofs.WriteLemmas.{Writes-stop}
 use Rattle.line_io.proofs.WriteProgressLemmas.{SoFar, SoFar-more, SoFar-stop, SoFar-end}
 use Rattle.wad_look.specs.Engines.Show.{numbers_text}
-use Rattle.wad_look.proofs.BlocksLemmas.{block_text-more, words-part}
+use Rattle.wad_look.proofs.engines.BlocksLemmas.{block_text-more, words-part}
 use Rattle.wad_look.proofs.engines.blocks.write_lines.Goals as goal
 
 -- the last part of a text ends it as it ended
@@ -22,14 +22,14 @@ returns-in_err-write_front g c =
     let more = numbers_text c.args.lines.now ++ 10 ∷ [] in
     rw (p.1, p.2, block_text-more pair.x pair.y c.args.bx c.args.by (codes " lines") more) (Writes-stop more c.in_err-write_front.ensures)
 
-pub returns-in_err-write_words : goal.returns-in_err-write_words
-returns-in_err-write_words g c =
-    let p = err_from_is_err_and c.from_residual-in_err-write_words.result c.from_residual-in_err-write_words.ensures.1 in
+pub returns-in_err-write_numbers : goal.returns-in_err-write_numbers
+returns-in_err-write_numbers g c =
+    let p = err_from_is_err_and c.from_residual-in_err-write_numbers.result c.from_residual-in_err-write_numbers.ensures.1 in
     let words = c.args.lines.now in
     let from = c.parts.from in
     let to = from + 11 in
     rw (p.1, p.2) (SoFar-stop (numbers_text (take (to - from) (drop from words))) (numbers_text (drop to words) ++ 10 ∷ []) c.parts.invariant.so_far
-    (words-part words from to (10 ∷ []) (omega arith)) c.in_err-write_words.ensures)
+    (words-part words from to (10 ∷ []) (omega arith)) c.in_err-write_numbers.ensures)
 
 pub parts-preserved : goal.parts-preserved
 parts-preserved g c =
@@ -37,10 +37,10 @@ parts-preserved g c =
     let from = c.parts.from in
     let to = from + 11 in
     record {
-      sound = c.in_ok-write_words.ensures.ends.sound;
+      sound = c.in_ok-write_numbers.ensures.ends.sound;
       within = omega (arith, c.parts-test.true, c.len.ensures, c.parts.invariant.within);
       so_far = SoFar-more _ (numbers_text (take (to - from) (drop from words))) (numbers_text (drop to words) ++ 10 ∷ []) c.parts.invariant.so_far
-          (words-part words from to (10 ∷ []) (omega arith)) c.in_ok-write_words.ensures.takes.whole;
+          (words-part words from to (10 ∷ []) (omega arith)) c.in_ok-write_numbers.ensures.takes.whole;
     }
 
 pub returns : goal.returns

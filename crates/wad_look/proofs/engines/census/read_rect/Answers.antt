@@ -1,7 +1,7 @@
 use Rattle.std.proofs.Common.{pos, get_or, refl, rules, w32, FitsSigned}
 use Rattle.std.proofs.lemmas.Bool.{false≢true}
 use Rattle.std.proofs.lemmas.Int.{to_z-of_z}
-use Rattle.wad_look.proofs.CensusLemmas.{read_rect, not_rect}
+use Rattle.wad_look.proofs.engines.CensusLemmas.{read_rect, not_rect}
 use Rattle.wad_look.proofs.engines.census.read_rect.Goals as goal
 
 pub returns-in-Some-new-clause-read : goal.returns-in-Some-new-clause-read

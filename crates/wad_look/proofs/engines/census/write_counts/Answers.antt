@@ -3,7 +3,7 @@ use Rattle.std.proofs.lemmas.Result.{err_from_is_err_and}
 use Rattle.std.specs.List.{flat_map}
 use Rattle.line_io.proofs.WriteLemmas.{Writes-stop, Writes-then}
 use Rattle.wad_look.specs.Engines.Census.{count_text, rect_text}
-use Rattle.wad_look.proofs.CensusLemmas.{rect_text-before}
+use Rattle.wad_look.proofs.engines.CensusLemmas.{rect_text-before}
 use Rattle.wad_look.proofs.engines.census.write_counts.Goals as goal
 
 pub returns-in_err-write_rect : goal.returns-in_err-write_rect

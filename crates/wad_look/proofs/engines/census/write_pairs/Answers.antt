@@ -3,7 +3,7 @@ use Rattle.std.proofs.lemmas.Result.{err_from_is_err_and}
 use Rattle.std.specs.List.{slice_get, flat_map}
 use Rattle.line_io.proofs.WriteProgressLemmas.{SoFar-more, SoFar-stop, SoFar-end}
 use Rattle.wad_look.specs.Engines.Census.{count_text}
-use Rattle.wad_look.proofs.CensusLemmas.{counts-drop}
+use Rattle.wad_look.proofs.engines.CensusLemmas.{counts-drop}
 use Rattle.wad_look.proofs.RestLemmas.{drop_past}
 use Rattle.wad_look.proofs.engines.census.write_pairs.Goals as goal
 

@@ -1,5 +1,5 @@
 use Rattle.std.proofs.Common.{refl}
-use Rattle.wad_look.proofs.DemoLemmas.{lump_refused}
+use Rattle.wad_look.proofs.engines.DemoLemmas.{lump_refused}
 use Rattle.wad_look.proofs.engines.demo.named_demo.Goals as goal
 
 pub returns-in-Err-clause-err : goal.returns-in-Err-clause-err

@@ -4,15 +4,16 @@ use Rattle.std.proofs.lemmas.Result.{err_from_is_err_and}
 use Rattle.std.specs.List.{slice_get}
 use Rattle.demo_lump.specs.declared.header.Header.{Header}
 use Rattle.line_io.proofs.WriteProgressLemmas.{SoFar-none, SoFar-more, SoFar-stop}
-use Rattle.wad_look.proofs.DemoLemmas.{commands_text-drop, drop_past, SoFar-last}
-use Rattle.wad_look.specs.Engines.Demo.{Turn, commands_text, listing, totals_text}
+use Rattle.wad_look.proofs.engines.DemoLemmas.{ticcmds_text-drop, drop_past, SoFar-last}
+use Rattle.wad_look.specs.Listing.{ticcmds_text, listing, totals_text}
+use Rattle.wad_look.specs.Turn.{Turn}
 use Rattle.wad_look.proofs.engines.demo.write_demo.Goals as goal
 use Rattle.wad_look.proofs.engines.demo.write_demo.Goals.{else-commands-test, then-commands-test+in_default}
 
 pub returns-in_err-emit : goal.returns-in_err-emit
 returns-in_err-emit g c =
     let p = err_from_is_err_and c.from_residual.result c.from_residual.ensures.1 in
-    let w = rw (c.as_bytes.ensures, c.put_header.ensures, c.header.ensures.header) at c.in_err-emit.ensures in
+    let w = rw (c.as_bytes.ensures, c.prepend_header.ensures, c.header.ensures.header) at c.in_err-emit.ensures in
     rw (p.1, p.2) (SoFar-stop _ _ (SoFar-none (listing c.args.demo.now) _) refl w)
 
 pub new-turn-requires : goal.new-turn-requires
@@ -23,7 +24,7 @@ step-requires g c = omega (arith, ap (λ (t : Turn). t.index) c.commands.invaria
 
 pub commands-init : goal.commands-init
 commands-init g c =
-    let w = rw (c.as_bytes.ensures, c.put_header.ensures, c.header.ensures.header) at c.in_ok-emit.ensures in
+    let w = rw (c.as_bytes.ensures, c.prepend_header.ensures, c.header.ensures.header) at c.in_ok-emit.ensures in
     record {
       sound = w.ends.sound;
       turn = c.new-turn.ensures ∙ ap (λ (h : Header). record { players = h.players; index = 0 }) c.header-2.ensures.header;
@@ -35,24 +36,24 @@ returns-in_err-emit-2 g c =
     let p = err_from_is_err_and c.from_residual-in_err-emit-2.result c.from_residual-in_err-emit-2.ensures.1 in
     let i = c.commands.invariant in
     let d = c.args.demo.now in
-    let w = rw (c.as_bytes-in-commands.ensures, c.put_command.ensures, c.tic.ensures, c.player.ensures, i.turn) at c.in_err-emit-2.ensures in
+    let w = rw (c.as_bytes-in-commands.ensures, c.prepend_ticcmd.ensures, c.tic.ensures, c.player.ensures, i.turn) at c.in_err-emit-2.ensures in
     let at : slice_get d.commands c.commands.i ≡ Some c.in-Some.command = sym c.command.ensures ∙ c.in-Some.is in
     let totals = totals_text d.header.players (length d.commands) d.after in
-    let cut = commands_text-drop d.header.players d.commands c.commands.i c.in-Some.command totals at in
-    rw (p.1, p.2) (SoFar-stop _ (commands_text d.header.players (c.commands.i + 1) (drop (c.commands.i + 1) d.commands) ++ totals) i.so_far cut w)
+    let cut = ticcmds_text-drop d.header.players d.commands c.commands.i c.in-Some.command totals at in
+    rw (p.1, p.2) (SoFar-stop _ (ticcmds_text d.header.players (c.commands.i + 1) (drop (c.commands.i + 1) d.commands) ++ totals) i.so_far cut w)
 
 pub commands-preserved : goal.commands-preserved
 commands-preserved g c =
     let i = c.commands.invariant in
     let d = c.args.demo.now in
-    let w = rw (c.as_bytes-in-commands.ensures, c.put_command.ensures, c.tic.ensures, c.player.ensures, i.turn) at c.in_ok-emit-2.ensures in
+    let w = rw (c.as_bytes-in-commands.ensures, c.prepend_ticcmd.ensures, c.tic.ensures, c.player.ensures, i.turn) at c.in_ok-emit-2.ensures in
     let at : slice_get d.commands c.commands.i ≡ Some c.in-Some.command = sym c.command.ensures ∙ c.in-Some.is in
     let totals = totals_text d.header.players (length d.commands) d.after in
-    let cut = commands_text-drop d.header.players d.commands c.commands.i c.in-Some.command totals at in
+    let cut = ticcmds_text-drop d.header.players d.commands c.commands.i c.in-Some.command totals at in
     record {
       sound = w.ends.sound;
       turn = c.step.ensures ∙ ap (λ (t : Turn). record t { index = t.index + 1 }) i.turn;
-      so_far = SoFar-more _ _ (commands_text d.header.players (c.commands.i + 1) (drop (c.commands.i + 1) d.commands) ++ totals) i.so_far cut w.takes.whole;
+      so_far = SoFar-more _ _ (ticcmds_text d.header.players (c.commands.i + 1) (drop (c.commands.i + 1) d.commands) ++ totals) i.so_far cut w.takes.whole;
     }
 
 pub returns : goal.returns
@@ -64,5 +65,5 @@ returns g c =
       | then-commands-test+in_default w ↦ drop_past d.commands c.commands.i (sym w.command.ensures ∙ w.in_default.is)
     ] in
     let so_far = rw past at i.so_far in
-    let w = rw (c.as_bytes-2.ensures, c.put_totals.ensures, c.full_tics.ensures, c.odd_commands-odd.ensures, c.after.ensures) at c.emit-2.ensures in
+    let w = rw (c.as_bytes-2.ensures, c.prepend_totals.ensures, c.full_tics.ensures, c.odd_commands-odd.ensures, c.after.ensures) at c.emit-2.ensures in
     SoFar-last _ so_far w

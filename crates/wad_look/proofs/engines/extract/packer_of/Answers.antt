@@ -1,7 +1,7 @@
 use Rattle.std.proofs.Common.{◌≡◌, ◌+◌, sym, ◌∙◌, arith}
 use Rattle.map_level.specs.Level.{lump_of}
 use Rattle.map_level.proofs.OpeningLemmas.{refused_outside}
-use Rattle.wad_look.proofs.ExtractLemmas.{extracted-all, extracted-first, extracted-more, there_listed}
+use Rattle.wad_look.proofs.engines.ExtractLemmas.{extracted-all, extracted-first, extracted-more, there_listed}
 use Rattle.wad_look.proofs.engines.extract.packer_of.Goals as goal
 
 pub lumps-init : goal.lumps-init

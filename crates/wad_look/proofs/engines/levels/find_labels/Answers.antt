@@ -2,7 +2,7 @@ use Rattle.std.proofs.Common.{sym, ◌∙◌, arith}
 use Rattle.std.proofs.lemmas.List.{length-map}
 use Rattle.std.proofs.lemmas.Bool.{false≢true}
 use Rattle.wad_dir.specs.Entries.{joined, listed_name, names}
-use Rattle.wad_look.proofs.LevelsLemmas.{labels_all, labels_more, labels_skip}
+use Rattle.wad_look.proofs.engines.LevelsLemmas.{labels_all, labels_more, labels_skip}
 use Rattle.wad_look.proofs.engines.levels.find_labels.Goals as goal
 use Rattle.wad_look.proofs.engines.levels.find_labels.Goals.{then-is_label+in_ok-push, else-is_label}
 

@@ -1,5 +1,5 @@
 use Rattle.wad_dir.specs.Entries.{names}
-use Rattle.wad_look.proofs.LevelsLemmas.{AreLabelsBelow}
+use Rattle.wad_look.proofs.engines.LevelsLemmas.{AreLabelsBelow}
 use Rattle.wad_look.proofs.engines.levels.find_labels.Given as goal
 
 abbrev pub invariant-entries : goal.invariant-entries

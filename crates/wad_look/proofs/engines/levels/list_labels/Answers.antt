@@ -3,8 +3,8 @@ use Rattle.std.proofs.lemmas.List.{length-map, take_all, take_more}
 use Rattle.std.proofs.lemmas.List.Elements.{Contains-get_or}
 use Rattle.std.specs.List.{slice_get}
 use Rattle.wad_dir.specs.Entries.{joined, listed_name, names}
-use Rattle.wad_look.specs.Engines.Levels.{ArePlaces, IsLabel}
-use Rattle.wad_look.proofs.LevelsLemmas.{label_named, levels_all, levels_more}
+use Rattle.wad_look.specs.Engines.Levels.{AreHolders, IsLabel}
+use Rattle.wad_look.proofs.engines.LevelsLemmas.{label_named, levels_all, levels_more}
 use Rattle.wad_look.proofs.engines.levels.list_labels.Goals as goal
 use Rattle.wad_look.proofs.engines.levels.list_labels.Goals.{in-Some+in_ok-push, in_default}
 
@@ -18,7 +18,7 @@ labels-preserved g c = elim c.match-entry_name.branch [
       let there = Contains-get_or labels i 0 (omega arith) in
       let label : IsLabel all n = (c.requires.labels.exact n).0 there in
       let long : length all ≡ length (joined c.args.set.now) = length-map (joined c.args.set.now) listed_name in
-      let last : ArePlaces all (length all) c.args.places.now = rw long c.requires.last in
+      let last : AreHolders all (length all) c.args.holders.now = rw long c.requires.last in
       let named : slice_get all n ≡ Some w.in-Some.name = sym c.entry_name.ensures ∙ w.in-Some.is in
       let known = c.requires.names n w.in-Some.name there named in
       rw (w.found-is, w.in_ok-push.ensures.items, take_more labels i 0 (omega arith))

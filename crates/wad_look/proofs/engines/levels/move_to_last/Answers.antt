@@ -3,7 +3,7 @@ use Rattle.std.proofs.lemmas.List.{length-map}
 use Rattle.std.specs.List.{slice_get}
 use Rattle.le_rec.specs.Name.{name_of, padded}
 use Rattle.wad_dir.specs.Entries.{joined, listed_name, names}
-use Rattle.wad_look.proofs.LevelsLemmas.{ArePlaces-less, moved_or_stays, past_end}
+use Rattle.wad_look.proofs.engines.LevelsLemmas.{AreHolders-less, moved_or_stays, past_end}
 use Rattle.wad_look.proofs.engines.levels.move_to_last.Goals as goal
 
 pub entries-preserved : goal.entries-preserved
@@ -12,20 +12,20 @@ entries-preserved g c =
     let bytes = c.bytes.result in
     let at : slice_get all c.entries.g ≡ Some (name_of bytes) = sym c.entry_name.ensures ∙ c.in-Some.is ∙ ap Some (sym c.bytes.ensures.name) in
     let stored : bytes ≡ padded (name_of bytes) = c.bytes.ensures.padded ∙ ap padded (sym c.bytes.ensures.name) in
-    let step = moved_or_stays all c.entries.g bytes at stored c.entries.places c.move_place.new.places
-    c.move_place.ensures.moved c.move_place.ensures.absent c.entries.invariant.places_are in
+    let step = moved_or_stays all c.entries.g bytes at stored c.entries.holders c.move_holder.new.holders
+    c.move_holder.ensures.moved c.move_holder.ensures.absent c.entries.invariant.holders_are in
     record {
-      places_are = step.0;
+      holders_are = step.0;
       kept = λ other some. step.1 other (c.entries.invariant.kept other some);
     }
 
 pub returns-after-entries-clause-last : goal.returns-after-entries-clause-last
 returns-after-entries-clause-last g c =
-    ArePlaces-less (names c.args.set.now) c.entries.g (length (joined c.args.set.now)) c.entries.places (omega arith) c.entries.invariant.places_are
+    AreHolders-less (names c.args.set.now) c.entries.g (length (joined c.args.set.now)) c.entries.holders (omega arith) c.entries.invariant.holders_are
 
 pub returns-in_default-clause-last : goal.returns-in_default-clause-last
 returns-in_default-clause-last g c =
     let all = names c.args.set.now in
     let past = past_end all c.entries.g (sym c.entry_name.ensures ∙ c.in_default.is) in
     let long = length-map (joined c.args.set.now) listed_name in
-    ArePlaces-less all c.entries.g (length (joined c.args.set.now)) c.entries.places (omega (arith, past, long)) c.entries.invariant.places_are
+    AreHolders-less all c.entries.g (length (joined c.args.set.now)) c.entries.holders (omega (arith, past, long)) c.entries.invariant.holders_are

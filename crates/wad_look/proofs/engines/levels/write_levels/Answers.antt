@@ -4,7 +4,7 @@ use Rattle.std.proofs.lemmas.Result.{err_from_is_err_and}
 use Rattle.std.specs.List.{slice_get, flat_map}
 use Rattle.line_io.proofs.WriteProgressLemmas.{SoFar-more, SoFar-stop}
 use Rattle.wad_look.specs.Engines.Levels.{level_line}
-use Rattle.wad_look.proofs.LevelsLemmas.{level_lines-drop}
+use Rattle.wad_look.proofs.engines.LevelsLemmas.{level_lines-drop}
 use Rattle.wad_look.proofs.engines.levels.write_levels.Goals as goal
 
 pub returns-in_err-write_line : goal.returns-in_err-write_line

@@ -1,7 +1,7 @@
 use Rattle.std.proofs.Common.{ap}
 use Rattle.std.proofs.lemmas.Result.{err_from_is_err_and}
 use Rattle.demo_lump.specs.DemoReader.{DemoReader}
-use Rattle.wad_look.proofs.LmpLemmas.{ends_before}
+use Rattle.wad_look.proofs.engines.LmpEndLemmas.{ends_before}
 use Rattle.wad_look.proofs.engines.lmp.lmp.Goals as goal
 
 pub returns-in_err-header : goal.returns-in_err-header

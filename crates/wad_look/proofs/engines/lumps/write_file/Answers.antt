@@ -5,14 +5,14 @@ use Rattle.le_rec.specs.Name.{name_of}
 use Rattle.line_io.proofs.WriteLemmas.{Writes-stop}
 use Rattle.line_io.proofs.WriteProgressLemmas.{SoFar-more, SoFar-stop}
 use Rattle.wad_look.specs.Engines.Lumps.{entry_line, entries_text, file_line}
-use Rattle.wad_look.proofs.LumpsLemmas.{entries_text-drop}
+use Rattle.wad_look.proofs.engines.LumpsLemmas.{entries_text-drop}
 use Rattle.wad_look.proofs.engines.lumps.write_file.Goals as goal
 
 pub returns-in_err-emit : goal.returns-in_err-emit
 returns-in_err-emit g c =
     let p = err_from_is_err_and c.from_residual.result c.from_residual.ensures.1 in
     let wad = c.args.wad.now in
-    let line : c.as_bytes.result.now ≡ file_line c.args.n wad.kind (length wad.entries) = c.as_bytes.ensures ∙ c.put_file.ensures ∙ rw (c.kind.ensures, c.len.ensures.entries) refl in
+    let line : c.as_bytes.result.now ≡ file_line c.args.n wad.kind (length wad.entries) = c.as_bytes.ensures ∙ c.prepend_file.ensures ∙ rw (c.kind.ensures, c.len.ensures.entries) refl in
     rw (p.1, p.2) (Writes-stop (entries_text c.args.first wad.entries) (rw line at c.in_err-emit.ensures))
 
 pub returns-in_err-write_entry : goal.returns-in_err-write_entry

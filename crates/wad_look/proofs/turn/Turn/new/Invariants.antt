@@ -1,6 +1,6 @@
 use Rattle.std.proofs.Common.{◌≡◌, ◌≤◌, length, take}
 use Rattle.demo_lump.specs.Header.{players_in}
-use Rattle.wad_look.specs.Engines.Demo.{seats_from}
+use Rattle.wad_look.specs.Turn.{seats_from}
 use Rattle.wad_look.proofs.turn.Turn.new.Given as goal
 
 abbrev pub invariant-loop-i : goal.invariant-loop-i

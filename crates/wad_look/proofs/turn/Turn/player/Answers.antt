@@ -2,7 +2,7 @@ use Rattle.std.proofs.Common.{◌≡◌, ◌*◌, ◌+◌, ◌%◌, get_or, sym,
 use Rattle.std.proofs.lemmas.List.{get_or-take}
 use Rattle.std.proofs.lemmas.Nat.{mod-mul-add}
 use Rattle.demo_lump.specs.Header.{players_in}
-use Rattle.wad_look.specs.Engines.Demo.{seats_from}
+use Rattle.wad_look.specs.Turn.{seats_from}
 use Rattle.wad_look.proofs.turn.Turn.player.Goals as goal
 
 pub returns : goal.returns

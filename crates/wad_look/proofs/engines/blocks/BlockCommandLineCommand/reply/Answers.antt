@@ -4,7 +4,7 @@ use Rattle.wad_look.proofs.engines.blocks.BlockCommandLineCommand.reply.Goals as
 
 pub returns-in-Ok-clause-takes : goal.returns-in-Ok-clause-takes
 returns-in-Ok-clause-takes g c = λ answer told.
-    let pair = c.in-Ok.pair in
+    let pair = c.in-Ok.named.pair in
     let read = c.in-Ok.ensures.read in
     c.write_block.ensures.takes (answer c.args.content.now) (told.told c.args.content.now (pair.x ∷ pair.y ∷ []) read.read refl c.in-Ok.ensures.allowed)
 

@@ -1,10 +1,10 @@
 use Rattle.line_io.proofs.NumberAnswersLemmas.{told_refusal}
-use Rattle.wad_look.proofs.CensusLemmas.{told_counts}
+use Rattle.wad_look.proofs.engines.CensusLemmas.{told_counts}
 use Rattle.wad_look.proofs.engines.census.CensusCommandLineCommand.reply.Goals as goal
 
 pub returns-in-Ok-census-clause-takes : goal.returns-in-Ok-census-clause-takes
 returns-in-Ok-census-clause-takes g c = λ answer told.
-    rw (told_counts c.in-Ok.rect told c.in-Ok.ensures.read c.in-Ok.ensures.allowed c.in-Ok-census.ensures) c.write_counts.ensures.takes
+    rw (told_counts c.in-Ok.rect told c.in-Ok.ensures.read c.in-Ok.ensures.allowed c.in-Ok-census.ensures.census) c.write_counts.ensures.takes
 
 pub returns-in-Err-clause-takes : goal.returns-in-Err-clause-takes
 returns-in-Err-clause-takes g c = λ answer told.

@@ -1,5 +1,4 @@
-use Rattle.std.proofs.Common.{◌≡◌, [], ◌∷◌, refl, sym, ap, ◌∙◌, rules, w32, FitsSigned}
-use Rattle.std.proofs.lemmas.Int.{to_z-of_z}
+use Rattle.std.proofs.Common.{◌≡◌, [], ◌∷◌, refl, sym, ap, ◌∙◌}
 use Rattle.line_io.proofs.NumberAnswersLemmas.{told_refusal}
 use Rattle.wad_look.specs.Contents.{pair_text}
 use Rattle.wad_look.specs.Engines.Points.{leaf_text}
@@ -7,14 +6,12 @@ use Rattle.wad_look.proofs.engines.points.PointCommandLineCommand.reply.Goals as
 
 pub returns-in-Ok-clause-takes : goal.returns-in-Ok-clause-takes
 returns-in-Ok-clause-takes g c = λ answer told.
-    let pair = c.in-Ok.pair in
+    let pair = c.in-Ok.named.pair in
     let read = c.in-Ok.ensures.read in
-    let x : FitsSigned w32 pair.x = search rules in
-    let y : FitsSigned w32 pair.y = search rules in
-    let leaf = c.leaf_at.ensures told.place told.places ∙ ap told.place (simp to_z-of_z at c.at.ensures) in
-    let tail = c.put_leaf.ensures.text ∙ ap leaf_text leaf in
+    let leaf = c.leaf_at.ensures told.leaf_of told.are_leaves ∙ ap told.leaf_of c.in-Ok.ensures.point in
+    let tail = c.prepend_leaf.ensures.text ∙ ap leaf_text leaf in
     let answered = told.answers.told c.args.content.now (pair.x ∷ pair.y ∷ []) read.read refl c.in-Ok.ensures.allowed in
-    let text : c.as_bytes.result.now ≡ answer c.args.content.now = c.as_bytes.ensures ∙ c.put.ensures ∙ ap (pair_text pair.x pair.y) tail ∙ sym answered in
+    let text : c.as_bytes.result.now ≡ answer c.args.content.now = c.as_bytes.ensures ∙ c.prepend.ensures ∙ ap (pair_text pair.x pair.y) tail ∙ sym answered in
     rw text at c.emit.ensures.takes
 
 pub returns-in-Err-clause-takes : goal.returns-in-Err-clause-takes

@@ -1,0 +1,287 @@
+//! The survey of a file: what `wad_lens` writes for its levels, whatever their format, and what it answers.
+
+use crate::sample::{LINE_WITHOUT_SIDE_1, Lump, base, base_with, lumps, nodes_outside, pack};
+use le_rec::Sink;
+use map_level::Reading;
+use std::alloc::{Allocator, Global};
+use std::process::Abort;
+use std::test::Fail;
+use test_alloc::Refusing;
+use test_ends::SliceSink;
+use wad_dir::WadFault;
+use wad_lens::{FileFault, Refusal, Verdict, refused_line, survey_file};
+
+const SAMPLE: &[u8] = b"{\"file\":\"a.wad\",\"level\":\"E1M1\",\"entry\":0,\"format\":\"doom\",\
+\"things\":1,\"linedefs\":1,\"sidedefs\":2,\"vertexes\":2,\"segs\":2,\"ssectors\":2,\"nodes\":1,\"sectors\":2,\
+\"reject\":1,\"blockmap\":16,\"sound\":true,\"faults\":0,\"notes\":0,\"findings\":{}}\n";
+
+// The survey into an output that hasn't failed.
+fn survey<A: Allocator + Copy>(
+    rt: &impl Abort,
+    alloc: A,
+    path: &[u8],
+    file: &[u8],
+    reading: Reading,
+    out: &mut SliceSink<'_>,
+) -> Result<Verdict, FileFault> {
+    let fresh = !out.failed();
+    assert!(rt; fresh);
+    survey_file(alloc, path, file, reading, out)
+}
+
+// What the survey of a file under that path and the signed reading writes and answers.
+fn check(
+    rt: &(impl Abort + AllocGlobal),
+    path: &[u8],
+    file: &[u8],
+    text: &[u8],
+    answer: Result<Verdict, FileFault>,
+) {
+    let mut room = [0; 1024];
+    let mut out = SliceSink::new(&mut room);
+    let result = survey(rt, rt.alloc(), path, file, Reading::Signed, &mut out);
+    assert_eq!(rt; out.taken(), text);
+    assert_eq!(rt; result, answer);
+}
+
+#[test]
+fn sample(rt: HostRuntime) -> Result<(), Fail> {
+    check(
+        &rt,
+        b"a.wad",
+        &base(rt.alloc())?,
+        SAMPLE,
+        Ok(Verdict::Clean),
+    );
+    Ok(())
+}
+
+#[test]
+fn no_levels(rt: HostRuntime) -> Result<(), Fail> {
+    check(
+        &rt,
+        b"a.wad",
+        &pack(rt.alloc(), &[])?,
+        b"",
+        Ok(Verdict::Clean),
+    );
+    Ok(())
+}
+
+#[test]
+fn faults_and_notes(rt: HostRuntime) -> Result<(), Fail> {
+    let text = b"{\"file\":\"a.wad\",\"level\":\"E1M1\",\"entry\":0,\"format\":\"doom\",\
+\"things\":1,\"linedefs\":1,\"sidedefs\":2,\"vertexes\":2,\"segs\":2,\"ssectors\":2,\"nodes\":1,\"sectors\":2,\
+\"reject\":1,\"blockmap\":16,\"sound\":false,\"faults\":1,\"notes\":1,\"findings\":{\"F9\":1,\"N3\":1}}\n";
+    let file = base_with(rt.alloc(), &[(2, &LINE_WITHOUT_SIDE_1)])?;
+    check(&rt, b"a.wad", &file, text, Ok(Verdict::Faulty));
+    Ok(())
+}
+
+// Three linedefs without length and without sides, of 14 bytes each, and a REJECT of another size.
+const LINES: [u8; 42] = [
+    0, 0, 0, 0, 0, 0, 0, 0, 0, 0, 255, 255, 255, 255, 0, 0, 0, 0, 0, 0, 0, 0, 0, 0, 255, 255, 255,
+    255, 0, 0, 0, 0, 0, 0, 0, 0, 0, 0, 255, 255, 255, 255,
+];
+
+#[test]
+fn codes_more_than_once(rt: HostRuntime) -> Result<(), Fail> {
+    let text = b"{\"file\":\"a.wad\",\"level\":\"E1M1\",\"entry\":0,\"format\":\"doom\",\
+\"things\":1,\"linedefs\":3,\"sidedefs\":2,\"vertexes\":2,\"segs\":2,\"ssectors\":2,\"nodes\":1,\"sectors\":2,\
+\"reject\":0,\"blockmap\":16,\"sound\":false,\"faults\":2,\"notes\":7,\
+\"findings\":{\"F9\":2,\"N4\":3,\"N5\":3,\"N8\":1}}\n";
+    let file = base_with(rt.alloc(), &[(2, &LINES), (9, &[])])?;
+    check(&rt, b"a.wad", &file, text, Ok(Verdict::Faulty));
+    Ok(())
+}
+
+// Levels of three formats: UDMF, Hexen's, and one that lacks its LINEDEFS.
+const FORMATS: &[u8] = b"{\"file\":\"a.wad\",\"level\":\"MAP01\",\"entry\":0,\"format\":\"udmf\"}\n\
+{\"file\":\"a.wad\",\"level\":\"E1M1\",\"entry\":3,\"format\":\"hexen\"}\n\
+{\"file\":\"a.wad\",\"level\":\"E1M2\",\"entry\":15,\"format\":\"incomplete\",\"lump\":\"LINEDEFS\"}\n";
+
+#[test]
+fn formats(rt: HostRuntime) -> Result<(), Fail> {
+    let text: [Lump<'static>; 3] = [(b"MAP01", &[]), (b"TEXTMAP", b"x"), (b"ENDMAP", &[])];
+    let mut entries = Vec::from_slice(rt.alloc(), &text)?;
+    entries.extend_from_slice(&lumps())?;
+    let behind: [Lump<'static>; 3] = [(b"BEHAVIOR", &[]), (b"E1M2", &[]), (b"THINGS", &[])];
+    entries.extend_from_slice(&behind)?;
+    check(
+        &rt,
+        b"a.wad",
+        &pack(rt.alloc(), &entries)?,
+        FORMATS,
+        Ok(Verdict::Faulty),
+    );
+    Ok(())
+}
+
+#[test]
+fn extended_nodes(rt: HostRuntime) -> Result<(), Fail> {
+    let text =
+        b"{\"file\":\"a.wad\",\"level\":\"E1M1\",\"entry\":0,\"format\":\"extended\",\"tag\":\"XNOD\"}\n";
+    let file = base_with(rt.alloc(), &[(7, b"XNOD")])?;
+    check(&rt, b"a.wad", &file, text, Ok(Verdict::Unjudged));
+    Ok(())
+}
+
+#[test]
+fn lump_outside(rt: HostRuntime) -> Result<(), Fail> {
+    let text =
+        b"{\"file\":\"a.wad\",\"level\":\"E1M1\",\"entry\":0,\"format\":\"outside\",\"lump\":\"NODES\"}\n";
+    check(
+        &rt,
+        b"a.wad",
+        &nodes_outside(&rt)?,
+        text,
+        Ok(Verdict::Faulty),
+    );
+    Ok(())
+}
+
+// The object of the level `MAP01` in UDMF, under these bytes as a path and as its label's name.
+fn check_strings(
+    rt: &(impl Abort + AllocGlobal),
+    path: &[u8],
+    name: &[u8],
+    text: &[u8],
+) -> Result<(), Fail> {
+    let entries: [Lump<'_>; 2] = [(name, &[]), (b"TEXTMAP", &[])];
+    check(
+        rt,
+        path,
+        &pack(rt.alloc(), &entries)?,
+        text,
+        Ok(Verdict::Unjudged),
+    );
+    Ok(())
+}
+
+#[test]
+fn escapes(rt: HostRuntime) -> Result<(), Fail> {
+    let text =
+        b"{\"file\":\"\\\"\\\\\\u0000\\u000a\\u001f \x7f/\",\"level\":\"A\\\"\\\\x5c\\\\x1f\",\"entry\":0,\"format\":\"udmf\"}\n";
+    check_strings(&rt, b"\"\\\x00\x0a\x1f \x7f/", b"A\"\\\x1f", text)
+}
+
+// One U+FFFD for each sequence that begins no character: a lone byte, one that continues none, a character cut short, each
+// byte of a surrogate, and what the end cuts.
+#[test]
+fn paths_not_of_utf8(rt: HostRuntime) -> Result<(), Fail> {
+    let text =
+        b"{\"file\":\"\xef\xbf\xbda\xef\xbf\xbd\xef\xbf\xbdb\xef\xbf\xbd\xef\xbf\xbd\xef\xbf\xbd\xc3\xa9\xef\xbf\xbd\",\
+\"level\":\"MAP01\",\"entry\":0,\"format\":\"udmf\"}\n";
+    check_strings(
+        &rt,
+        b"\xffa\x80\xe2\x82b\xed\xa0\x80\xc3\xa9\xf0\x9f\x98",
+        b"MAP01",
+        text,
+    )
+}
+
+// What the object of a refused file is.
+fn check_refusal(rt: &impl Abort, refusal: Refusal, text: &[u8]) {
+    let mut room = [0; 128];
+    let mut out = SliceSink::new(&mut room);
+    let fresh = !out.failed();
+    assert!(rt; fresh);
+    assert_eq!(rt; refused_line(b"a\"b", refusal, &mut out), Ok(()));
+    assert_eq!(rt; out.taken(), text);
+}
+
+#[test]
+fn refusals(rt: HostRuntime) {
+    check_refusal(
+        &rt,
+        Refusal::Unopened,
+        b"{\"file\":\"a\\\"b\",\"refused\":\"can't be opened\"}\n",
+    );
+    check_refusal(
+        &rt,
+        Refusal::Unread,
+        b"{\"file\":\"a\\\"b\",\"refused\":\"can't be read\"}\n",
+    );
+    let large = b"{\"file\":\"a\\\"b\",\"refused\":\"larger than 268435456 bytes\"}\n";
+    check_refusal(&rt, Refusal::TooLarge, large);
+}
+
+#[test]
+fn refused_directories(rt: HostRuntime) -> Result<(), Fail> {
+    let fault = FileFault::NoWad(WadFault::Short);
+    check(&rt, b"a.wad", b"PWAD", b"", Err(fault));
+    let short = b"{\"file\":\"a\\\"b\",\"refused\":\"shorter than a WAD header\"}\n";
+    check_refusal(&rt, Refusal::NoWad(WadFault::Short), short);
+    let magic =
+        b"{\"file\":\"a\\\"b\",\"refused\":\"not a WAD file: it begins with neither IWAD nor PWAD\"}\n";
+    check_refusal(&rt, Refusal::NoWad(WadFault::Magic), magic);
+    let count = b"{\"file\":\"a\\\"b\",\"refused\":\"a negative count of lumps\"}\n";
+    check_refusal(&rt, Refusal::NoWad(WadFault::Count), count);
+    let directory = b"{\"file\":\"a\\\"b\",\"refused\":\"its directory isn't inside the file\"}\n";
+    check_refusal(&rt, Refusal::NoWad(WadFault::Directory), directory);
+    Ok(())
+}
+
+// Whether the survey of a file met growth `n` refused; then it has written a front of the text that ends with a line.
+fn is_refused(rt: &(impl Abort + AllocGlobal), file: &[u8], n: u64, text: &[u8]) -> bool {
+    let heap = Refusing::new(rt.alloc(), n);
+    let mut room = [0; 1024];
+    let mut out = SliceSink::new(&mut room);
+    let result = survey(rt, &heap, b"a.wad", file, Reading::Signed, &mut out);
+    if !heap.has_refused() {
+        assert_eq!(rt; result, Ok(Verdict::Clean));
+        assert_eq!(rt; out.taken(), text);
+        return false;
+    }
+    assert_eq!(rt; result, Err(FileFault::Memory));
+    assert!(rt; text.starts_with(out.taken()));
+    assert!(rt; out.taken().is_empty() || out.taken().ends_with(b"\n"));
+    true
+}
+
+// Two levels, of which the first is hidden.
+fn two_levels(alloc: Global) -> Result<Vec<u8>, Fail> {
+    let mut entries = Vec::from_slice(alloc, &lumps())?;
+    entries.extend_from_slice(&lumps())?;
+    pack(alloc, &entries)
+}
+
+const BOTH: &[u8] = b"{\"file\":\"a.wad\",\"level\":\"E1M1\",\"entry\":0,\"format\":\"doom\",\
+\"things\":1,\"linedefs\":1,\"sidedefs\":2,\"vertexes\":2,\"segs\":2,\"ssectors\":2,\"nodes\":1,\"sectors\":2,\
+\"reject\":1,\"blockmap\":16,\"sound\":true,\"faults\":0,\"notes\":0,\"findings\":{}}\n\
+{\"file\":\"a.wad\",\"level\":\"E1M1\",\"entry\":11,\"format\":\"doom\",\
+\"things\":1,\"linedefs\":1,\"sidedefs\":2,\"vertexes\":2,\"segs\":2,\"ssectors\":2,\"nodes\":1,\"sectors\":2,\
+\"reject\":1,\"blockmap\":16,\"sound\":true,\"faults\":0,\"notes\":0,\"findings\":{}}\n";
+
+#[test]
+fn growth_refused(rt: HostRuntime) -> Result<(), Fail> {
+    let file = two_levels(rt.alloc())?;
+    let mut met = 0;
+    for n in 1..20 {
+        if !is_refused(&rt, &file, n, BOTH) {
+            break;
+        }
+        met = n;
+    }
+    assert!(rt; 2 < met && met < 19);
+    Ok(())
+}
+
+// A writer that takes a byte a call and fails at call `n`: the bytes before were written.
+fn fails_at(rt: &(impl Abort + AllocGlobal), file: &[u8], n: usize) {
+    assert!(rt; 0 < n && n <= BOTH.len() && n <= 1024);
+    let mut room = [0; 1024];
+    let mut out = SliceSink::new(&mut room).at_most(1).failing_at(n as u32);
+    let result = survey(rt, rt.alloc(), b"a.wad", file, Reading::Signed, &mut out);
+    assert_eq!(rt; result, Err(FileFault::Write));
+    assert_eq!(rt; out.taken(), &BOTH[..n - 1]);
+}
+
+#[test]
+fn failing_writes(rt: HostRuntime) -> Result<(), Fail> {
+    let file = two_levels(rt.alloc())?;
+    for n in 1..BOTH.len() {
+        fails_at(&rt, &file, n);
+    }
+    Ok(())
+}

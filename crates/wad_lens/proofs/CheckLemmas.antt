@@ -1,0 +1,255 @@
+-- How a check goes on from level to level.
+use Rattle.std.proofs.Common.{◌≡◌, ◌↔◌, ℕ, zero, suc, ◌+◌, ◌<◌, ◌≤◌, inl, inr, Bool, false, List, [], ◌∷◌, ◌++◌, length, get_or, take, Some, Result, Ok, Err, refl, sym, ap, ◌∙◌, subst, arith}
+use Rattle.std.specs.Prelude.{IfOk, IsTrue, map, sum, All}
+use Rattle.std.specs.Io.KnownBytes.{Appends}
+use Rattle.std.specs.List.{slice_get}
+use Rattle.std.proofs.KnownBytes.{Appends-nil, Appends-trans}
+use Rattle.std.proofs.lemmas.Bool.{cases_lt, ltb-true, lt-ltb}
+use Rattle.std.proofs.lemmas.List.{get_or-take, length-take}
+use Rattle.std.proofs.lemmas.List.Sums.{get_or-le-sum_by}
+use Rattle.le_rec.specs.Sink.{SinkState}
+use Rattle.level_list.specs.Format.{IsFormat}
+use Rattle.level_list.specs.Starts.{IsNextStart, NoneStartsFrom}
+use Rattle.level_list.specs.declared.format.Format.{Format}
+use Rattle.level_list.specs.declared.format.Format.TheVariants.{Udmf, Incomplete, Hexen, Outside, Extended, Doom}
+use Rattle.line_io.specs.Writes.{Writes}
+use Rattle.line_io.specs.declared.fault.IoFault.{IoFault}
+use Rattle.line_io.proofs.WriteLemmas.{TakesFront-after}
+use Rattle.map_audit.proofs.LawLemmas.{law_sound_is_no_fault}
+use Rattle.map_audit.specs.Findings.{AuditHolds}
+use Rattle.map_level.proofs.FindingLemmas.{place_at}
+use Rattle.map_level.proofs.LevelLemmas.{IsLevelAt-one}
+use Rattle.map_level.specs.Findings.{is_fault, place}
+use Rattle.map_level.specs.Level.{Level}
+use Rattle.map_level.specs.Opening.{IsLevelAt}
+use Rattle.map_level.specs.declared.finding.Code.{Code}
+use Rattle.map_level.specs.declared.finding.Code.TheVariants.{F1}
+use Rattle.map_level.specs.declared.reading.Reading.{Reading}
+use Rattle.map_level.specs.declared.reading.Reading.TheVariants.{Signed, Wide}
+use Rattle.map_tree.proofs.TurnLemmas.{sum_zeros}
+use Rattle.map_tree.specs.Sound.{IsSound}
+use Rattle.wad_dir.specs.Entries.{names}
+use Rattle.wad_dir.specs.Wad.{IsRead, Wad}
+use Rattle.wad_lens.specs.Check.{Asked, Checks, ChecksAll, ChecksFile, ChecksSome, ChecksText, IsJudged, IsLevelText, IsSoundWideAlone, IsToldBy, ToldTo, WritesText, at_start, with_level, text_end}
+use Rattle.wad_lens.specs.Counts.{AreCounts, IsCount, fault_total, report_order}
+use Rattle.wad_lens.specs.FindingLine.{level_line}
+use Rattle.wad_lens.specs.FormatLine.{format_text}
+use Rattle.wad_lens.specs.LevelLines.{AreCounted, AreTold, judged_text}
+use Rattle.wad_lens.specs.Totals.{format_totals, judged_totals, no_totals, totals_with}
+use Rattle.wad_lens.specs.declared.totals.Totals.{Totals}
+use Rattle.wad_lens.specs.declared.verdict.FileFault.{FileFault}
+use Rattle.wad_lens.specs.declared.verdict.FileFault.TheVariants as fault
+use Rattle.wad_lens.proofs.SurveyLemmas.{line_stopped}
+
+-- an index is counted
+some_counted : (holds : ℕ → Type 0) (count i : ℕ) → IsCount holds count → holds i → 0 < count
+some_counted holds count i is here = omega (arith, is.counted, ((is.exact i).1 here).1)
+
+none_counted : (holds : ℕ → Type 0) (count : ℕ) → IsCount holds count → ((i : ℕ) → ¬ holds i) → count ≡ 0
+none_counted holds count is none = go is.indexes refl
+  where
+    go : (indexes : List ℕ) → is.indexes ≡ indexes → count ≡ 0
+    go [] same = is.counted ∙ ap length same
+    go (i ∷ others) same = absurd (none i ((is.exact i).0 (0, omega (arith, ap length same), ap (λ xs. get_or xs 0 i) same)))
+
+-- a level is sound exactly where no fault is counted
+pub faultless : (level : Level) (counts : List ℕ) → AreCounts (AuditHolds level) counts → fault_total counts ≡ 0 → IsSound level
+faultless level counts are none = (law_sound_is_no_fault level).1 (λ code i fault holds.
+    let below : place code < 18 = ltb-true (place code) 18 fault in
+    let some = some_counted (AuditHolds level code) (get_or counts (place code) 0) i (are.each code) holds in
+    let long : place code < length (take 18 counts) = omega (arith, below, are.all, length-take 18 counts) in
+    let within = get_or-le-sum_by (λ n. n) (take 18 counts) (place code) 0 long in
+    let same = get_or-take 18 counts (place code) 0 below in
+    omega (arith, some, within, same, none))
+
+pub sound_faultless : (level : Level) (counts : List ℕ) → AreCounts (AuditHolds level) counts → IsSound level → fault_total counts ≡ 0
+sound_faultless level counts are sound = sum_zeros (take 18 counts) (λ k. elim (cases_lt k 18) [
+  | inl below ↦
+      let code = get_or report_order k F1 in
+      let at : place code ≡ k = place_at k F1 (omega (arith, below)) in
+      let fault : IsTrue (is_fault code) = lt-ltb (place code) 18 (omega (arith, at, below)) in
+      get_or-take 18 counts k 0 below ∙ ap (λ p. get_or counts p 0) (sym at)
+      ∙ none_counted (AuditHolds level code) (get_or counts (place code) 0) (are.each code) (λ i. (law_sound_is_no_fault level).0 sound code i fault)
+  | inr past ↦ beyond (take 18 counts) k (omega (arith, past, length-take 18 counts))
+])
+  where
+    beyond : (xs : List ℕ) (k : ℕ) → length xs ≤ k → get_or xs k 0 ≡ 0
+    beyond [] zero past = refl
+    beyond [] (suc k) past = refl
+    beyond (x ∷ xs) zero past = absurd (omega (arith, past))
+    beyond (x ∷ xs) (suc k) past = beyond xs k (omega (arith, past))
+
+-- the wide reading alone finds the level sound where its level is
+pub wide_alone : {E : Type 0} (files : List Wad) (g : ℕ) (reading : Reading) (level wide : Level) (result : Result Bool E) → reading ≡ Signed → ¬ IsSound level → IsLevelAt files g Wide wide
+    → IfOk result (λ sound. IsTrue sound ↔ IsSound wide) → IfOk result (λ sound. IsTrue sound ↔ IsSoundWideAlone files g reading level)
+wide_alone files g reading level wide (Ok sound) signed unsound there is = (
+  (λ yes. record { signed = signed; unsound = unsound; wide = wide; there = there; sound = is.0 yes }),
+  (λ alone. is.1 (subst IsSound (IsLevelAt-one files g Wide alone.wide wide alone.there there) alone.sound)),
+)
+wide_alone files g reading level wide (Err e) signed unsound there is = tt
+
+-- the text of a judged level was written
+pub judged_written : {W : Type 0} (state : W → SinkState) (asked : Asked) (files : List Wad) (g : ℕ) (name : List ℕ) (level : Level) (counts : List ℕ) (sound_wide : Bool) (out out' : W)
+    (wrote : Result (Unit {0}) IoFault) (result : Result Totals FileFault)
+    → IsLevelAt files g asked.reading level → AreCounts (AuditHolds level) counts → (IsTrue sound_wide ↔ IsSoundWideAlone files g asked.reading level)
+    → ((told : Code → List ℕ) → AreTold (AuditHolds level) told → AreCounted counts told
+    → Writes (state out) (state out') (judged_text asked.path name asked.most level told sound_wide) wrote)
+    → result ≡ text_end (judged_totals counts) wrote → ChecksText state (IsJudged asked files g name) out out' result
+judged_written state asked files g name level counts sound_wide out out' wrote result there are wide writes ended =
+    let told = λ (code : Code). (are.each code).indexes in
+    let are_told : AreTold (AuditHolds level) told = λ code. record { ascending = (are.each code).ascending; exact = (are.each code).exact } in
+    let counted : AreCounted counts told = λ code. sym (are.each code).counted in
+    inr (record {
+      text = judged_text asked.path name asked.most level told sound_wide;
+      totals = judged_totals counts;
+      is = record {
+        level = level;
+        there = there;
+        counts = counts;
+        are_counts = are;
+        told = told;
+        are_told = are_told;
+        counted = counted;
+        sound_wide = sound_wide;
+        wide = wide;
+        is = refl;
+        adds = refl;
+      };
+      outcome = wrote;
+      writes = writes told are_told counted;
+      ended = ended;
+    })
+
+-- the text of a level of Doom's format
+pub doom_text : {W : Type 0} (state : W → SinkState) (asked : Asked) (files : List Wad) (name : List ℕ) (g : ℕ) (out out' : W) (result : Result Totals FileFault)
+    → slice_get (names files) g ≡ Some name → IsFormat files g Doom → ChecksText state (IsJudged asked files g name) out out' result
+    → ChecksText state (IsLevelText asked files g) out out' result
+doom_text state asked files name g out out' result named is (inl wants) = inl wants
+doom_text state asked files name g out out' result named is (inr wrote) = inr (record {
+  text = wrote.text;
+  totals = wrote.totals;
+  is = record { format = Doom; is = is; name = name; named = named; told = wrote.is };
+  outcome = wrote.outcome;
+  writes = wrote.writes;
+  ended = wrote.ended;
+})
+
+-- the line of a level of another
+pub format_line : {W : Type 0} (state : W → SinkState) (asked : Asked) (files : List Wad) (name : List ℕ) (g : ℕ) (format : Format) (out out' : W) (wrote : Result (Unit {0}) IoFault)
+    (result : Result Totals FileFault)
+    → slice_get (names files) g ≡ Some name → IsFormat files g format → (format ≡ Doom → ⊥)
+    → Writes (state out) (state out') (level_line asked.path name (format_text format)) wrote → result ≡ text_end (format_totals format) wrote
+    → ChecksText state (IsLevelText asked files g) out out' result
+format_line state asked files name g format out out' wrote result named is other writes ended = inr (record {
+  text = level_line asked.path name (format_text format);
+  totals = format_totals format;
+  is = record { format = format; is = is; name = name; named = named; told = by format other };
+  outcome = wrote;
+  writes = writes;
+  ended = ended;
+})
+  where
+    by : (format : Format) → (format ≡ Doom → ⊥) → IsToldBy format asked files g name (level_line asked.path name (format_text format)) (format_totals format)
+    by Udmf other = (refl, refl)
+    by (Incomplete k) other = (refl, refl)
+    by Hexen other = (refl, refl)
+    by (Outside k) other = (refl, refl)
+    by (Extended tag) other = (refl, refl)
+    by Doom other = absurd (other refl)
+
+-- the text of a level was written
+pub record ToldLevel (asked : Asked) (files : List Wad) (g : ℕ) (before after : SinkState) (totals : Totals) : Type 0 where
+  pub text : List ℕ
+  pub is : IsLevelText asked files g text totals
+  pub took : Appends before.taken after.taken text
+  pub sound : after.failed ≡ false
+
+-- one level more was told
+pub level_told : {W : Type 0} (state : W → SinkState) (asked : Asked) (files : List Wad) (g : ℕ) (out out' : W) (totals : Totals)
+    → ChecksText state (IsLevelText asked files g) out out' (Ok totals) → ToldLevel asked files g (state out) (state out') totals
+level_told state asked files g out out' totals (inl wants) = absurd (ok_is_no_err totals wants.ended)
+  where
+    ok_is_no_err : (t : Totals) → ◌≡◌ {A = Result Totals FileFault} (Ok t) (Err fault.Memory) → ⊥
+    ok_is_no_err t same = cc
+level_told state asked files g out out' totals (inr wrote) = go wrote.outcome wrote.writes wrote.ended
+  where
+    go : (outcome : Result (Unit {0}) IoFault) → Writes (state out) (state out') wrote.text outcome → ◌≡◌ {A = Result Totals FileFault} (Ok totals) (text_end wrote.totals outcome)
+        → ToldLevel asked files g (state out) (state out') totals
+    go (Ok x) writes ended =
+        let same : wrote.totals ≡ totals = cc in
+        record {
+          text = wrote.text;
+          is = subst (λ (t : Totals). IsLevelText asked files g wrote.text t) same wrote.is;
+          took = writes.takes.whole;
+          sound = writes.ends.sound;
+        }
+    go (Err e) writes ended = absurd (cc)
+
+-- the levels before an entry were told
+pub record SoFar (asked : Asked) (files : List Wad) (before after : SinkState) (from : ℕ) (sum : Totals) : Type 0 where
+  pub text : List ℕ
+  pub told : ToldTo asked files from text sum
+  pub took : Appends before.taken after.taken text
+
+pub SoFar-start : (asked : Asked) (files : List Wad) (before : SinkState) → SoFar asked files before before 0 no_totals
+SoFar-start asked files before = record { text = []; told = at_start; took = Appends-nil before.taken }
+
+pub SoFar-level : (asked : Asked) (files : List Wad) (before between after : SinkState) (from g : ℕ) (sum totals : Totals)
+    → SoFar asked files before between from sum → IsNextStart (names files) from g → ToldLevel asked files g between after totals
+    → SoFar asked files before after (g + 1) (totals_with sum totals)
+SoFar-level asked files before between after from g sum totals so_far next level = record {
+  text = so_far.text ++ level.text;
+  told = with_level from so_far.text sum g level.text totals so_far.told next level.is;
+  took = Appends-trans before.taken between.taken after.taken so_far.text level.text so_far.took level.took;
+}
+
+-- it stopped within the text of a level
+stopped_in_text : (asked : Asked) (files : List Wad) (before between after : SinkState) (from g : ℕ) (sum : Totals) (why : FileFault)
+    → SoFar asked files before between from sum → IsNextStart (names files) from g → WritesText (IsLevelText asked files g) between after (Err why)
+    → ChecksSome asked files before after why
+stopped_in_text asked files before between after from g sum why so_far next wrote = go wrote.outcome wrote.writes wrote.ended
+  where
+    go : (outcome : Result (Unit {0}) IoFault) → Writes between after wrote.text outcome → ◌≡◌ {A = Result Totals FileFault} (Err why) (text_end wrote.totals outcome)
+        → ChecksSome asked files before after why
+    go (Ok x) writes ended = absurd (cc)
+    go (Err e) writes ended =
+        let same : fault.Write ≡ why = cc in
+        subst (ChecksSome asked files before after) same (record {
+          from = from;
+          text = so_far.text;
+          sum = sum;
+          told = so_far.told;
+          g = g;
+          next = next;
+          line = wrote.text;
+          totals = wrote.totals;
+          is = wrote.is;
+          took = TakesFront-after before between after so_far.text so_far.took writes.takes.front;
+          failed = line_stopped between after wrote.text e writes;
+        })
+
+-- it stopped at a level
+pub level_stopped : {W : Type 0} (state : W → SinkState) (asked : Asked) (files : List Wad) (before : SinkState) (from g : ℕ) (sum : Totals) (out out' : W) (why : FileFault)
+    → SoFar asked files before (state out) from sum → (state out).failed ≡ false → IsNextStart (names files) from g
+    → ChecksText state (IsLevelText asked files g) out out' (Err why) → ChecksSome asked files before (state out') why
+level_stopped state asked files before from g sum out out' why so_far sound next (inl wants) =
+    let same : fault.Memory ≡ why = err_same why wants.ended in
+    subst (ChecksSome asked files before (state out')) same
+    (subst (λ o. ChecksSome asked files before (state o) fault.Memory) (sym wants.untouched)
+    (record { from = from; text = so_far.text; sum = sum; told = so_far.told; took = so_far.took; sound = sound }))
+  where
+    err_same : (w : FileFault) → ◌≡◌ {A = Result Totals FileFault} (Err w) (Err fault.Memory) → fault.Memory ≡ w
+    err_same w same = cc
+level_stopped state asked files before from g sum out out' why so_far sound next (inr wrote) = stopped_in_text asked files before (state out) (state out') from g sum why so_far next wrote
+
+-- all levels were told
+pub told_all : (asked : Asked) (files : List Wad) (before after : SinkState) (from : ℕ) (sum : Totals)
+    → SoFar asked files before after from sum → NoneStartsFrom (names files) from → after.failed ≡ false → ChecksAll asked files before after sum
+told_all asked files before after from sum so_far beyond sound = record { from = from; text = so_far.text; told = so_far.told; all = beyond; took = so_far.took; sound = sound }
+
+-- the check of the one file of these bytes
+pub one_file : (asked : Asked) (bytes : List ℕ) (files : List Wad) (before after : SinkState) (result : Result Totals FileFault)
+    → map (λ file. file.bytes) files ≡ bytes ∷ [] → All IsRead files → Checks asked files before after result → ChecksFile asked bytes before after result
+one_file asked bytes [] before after result of_bytes read does = absurd (cc)
+one_file asked bytes (file ∷ []) before after result of_bytes read does = record { file = file; of_bytes = cc; read = read 0 file (omega arith); does = does }
+one_file asked bytes (file ∷ other ∷ files) before after result of_bytes read does = absurd (cc)

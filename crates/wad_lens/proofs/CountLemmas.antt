@@ -1,0 +1,73 @@
+-- How a count goes on as its code is looked for.
+use Rattle.std.proofs.Common.{◌≡◌, ◌↔◌, ℕ, ◌+◌, ◌<◌, ◌≤◌, inl, inr, List, [], ◌∷◌, ◌++◌, length, get_or, refl, sym, subst, arith}
+use Rattle.std.specs.Prelude.{AllPairs, Contains}
+use Rattle.std.proofs.lemmas.Bool.{cases_eq, cases_lt}
+use Rattle.std.proofs.lemmas.List.{length-append}
+use Rattle.std.proofs.lemmas.List.Elements.{Contains-push, Contains-push_cases, Contains-append_left, Contains-get_or}
+use Rattle.std.proofs.lemmas.List.Quantifiers.{all_pairs_push}
+use Rattle.map_level.proofs.FindingLemmas.{place_at, place-below, same_from_place}
+use Rattle.map_level.specs.Findings.{place, IsFirst}
+use Rattle.map_level.specs.declared.finding.Code.{Code}
+use Rattle.map_level.specs.declared.finding.Code.TheVariants.{F1}
+use Rattle.wad_lens.specs.Counts.{IsCount, report_order}
+
+-- how many indexes below a number something holds at
+pub record IsCountBelow (holds : ℕ → Type 0) (end count : ℕ) : Type 0 where
+  pub indexes : List ℕ
+  pub ascending : AllPairs (λ a b. a < b) indexes
+  pub exact : (i : ℕ) → Contains indexes i ↔ (holds i × (i < end))
+  pub counted : count ≡ length indexes
+
+pub none_below : (holds : ℕ → Type 0) → IsCountBelow holds 0 0
+none_below holds = record {
+  indexes = [];
+  ascending = λ i j d before below. absurd (omega (arith, below));
+  exact = λ i. (λ there. absurd (omega (arith, there.1)), λ told. absurd (omega (arith, told.1)));
+  counted = refl;
+}
+
+-- one index more, the first from a number on
+pub one_more : (holds : ℕ → Type 0) (from count at : ℕ) → IsCountBelow holds from count → IsFirst holds from at
+    → IsCountBelow holds (at + 1) (count + 1)
+one_more holds from count at before first =
+    let indexes = before.indexes in
+    record {
+      indexes = indexes ++ at ∷ [];
+      ascending = all_pairs_push (λ a b. a < b) indexes at before.ascending (λ k d below.
+          let told = ((before.exact (get_or indexes k d)).0 (Contains-get_or indexes k d below)).1 in
+          omega (arith, told, first.within));
+      exact = λ i. (
+        (λ there. elim (Contains-push_cases indexes at i there) [
+          | inl old ↦ let told = (before.exact i).0 old in (told.0, omega (arith, told.1, first.within))
+          | inr is ↦ subst (λ j. holds j × (j < at + 1)) is (first.here, omega arith)
+        ]),
+        (λ told. elim (cases_lt i from) [
+          | inl below ↦ Contains-append_left indexes (at ∷ []) i ((before.exact i).1 (told.0, below))
+          | inr past ↦ elim (cases_eq i at) [
+            | inl same ↦ subst (λ j. Contains (indexes ++ at ∷ []) j) (sym same) (Contains-push indexes at)
+            | inr other ↦ absurd (first.before i past (omega (arith, told.1, other)) told.0)
+          ]
+        ]),
+      );
+      counted = omega (arith, before.counted, length-append indexes (at ∷ []));
+    }
+
+-- all are counted where there is none from a number on
+pub all_counted : (holds : ℕ → Type 0) (from count : ℕ) → IsCountBelow holds from count → ((i : ℕ) → from ≤ i → ¬ holds i)
+    → IsCount holds count
+all_counted holds from count before none = record {
+  indexes = before.indexes;
+  ascending = before.ascending;
+  exact = λ i. (
+    (λ there. ((before.exact i).0 there).0),
+    (λ here. elim (cases_lt i from) [
+      | inl below ↦ (before.exact i).1 (here, below)
+      | inr past ↦ absurd (none i past here)
+    ]),
+  );
+  counted = before.counted;
+}
+
+-- the code at a place of the order
+pub order-place : (code : Code) → get_or report_order (place code) F1 ≡ code
+order-place code = same_from_place _ code (place_at (place code) F1 (place-below code))

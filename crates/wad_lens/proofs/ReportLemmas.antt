@@ -1,0 +1,197 @@
+-- The counts of a level's codes are those of its report.
+use Rattle.std.proofs.Common.{◌≡◌, ℕ, zero, suc, ◌+◌, ◌<◌, ◌≤◌, ◌⊎◌, inl, inr, Bool, true, false, List, [], ◌∷◌, length, take, get_or, refl, sym, ap, ◌∙◌, subst, arith, add-one}
+use Rattle.std.specs.Prelude.{AllPairs, Contains, cond, count_by, if◌then◌else◌, nat_lt, not, slice_index, sum, ◌==◌}
+use Rattle.std.proofs.lemmas.Bool.{cases_eq, cases_order, eq-eqb, le-ltb, lt-ltb, ne_eqb}
+use Rattle.std.proofs.lemmas.List.{take_all}
+use Rattle.std.proofs.lemmas.List.Elements.{Contains-append_right, Contains-get_or}
+use Rattle.std.proofs.lemmas.List.Sums.{sum_by-cons, sum_by-take-drop, sum_by_more}
+use Rattle.map_level.proofs.FindingLemmas.{place_at, place-below, same_from_place}
+use Rattle.map_level.proofs.OneListLemmas.{one_list}
+use Rattle.map_level.specs.Findings.{AreFindings, StandsBefore, is_fault, place}
+use Rattle.map_level.specs.declared.finding.Code.{Code}
+use Rattle.map_level.specs.declared.finding.Code.TheVariants.{F1}
+use Rattle.map_level.specs.declared.finding.Finding.{Finding}
+use Rattle.wad_lens.specs.Counts.{IsCount, report_order}
+use Rattle.wad_lens.specs.Laws.{CountsAreOfTheReport}
+
+-- the indexes of a code's findings
+abbrev pick : Code → List Finding → List ℕ
+pick code [] = []
+pick code (f ∷ found) = if place f.code == place code then f.index ∷ pick code found else pick code found
+
+pick-yes : (code : Code) (f : Finding) (found : List Finding) → place f.code ≡ place code → pick code (f ∷ found) ≡ f.index ∷ pick code found
+pick-yes code f found same = rw (eq-eqb (place f.code) (place code) same) refl
+
+pick-no : (code : Code) (f : Finding) (found : List Finding) → (place f.code ≡ place code → ⊥) → pick code (f ∷ found) ≡ pick code found
+pick-no code f found differs = rw (ne_eqb (place f.code) (place code) differs) refl
+
+first_in : {X : Type 0} (x : X) (xs : List X) → Contains (x ∷ xs) x
+first_in x xs = (0, omega arith, refl)
+
+later_in : {X : Type 0} (x : X) (xs : List X) (z : X) → Contains xs z → Contains (x ∷ xs) z
+later_in x xs z there = Contains-append_right (x ∷ []) xs z there
+
+cases_in : {X : Type 0} (x : X) (xs : List X) (z : X) → Contains (x ∷ xs) z → (z ≡ x) ⊎ Contains xs z
+cases_in x xs z (zero, within, is) = inl (sym is)
+cases_in x xs z (suc k, within, is) = inr (k, omega (arith, within), is)
+
+record Picked (code : Code) (found : List Finding) (i : ℕ) : Type 0 where
+  f : Finding
+  there : Contains found f
+  coded : f.code ≡ code
+  indexed : f.index ≡ i
+
+Picked-later : (code : Code) (f : Finding) (found : List Finding) (i : ℕ) → Picked code found i → Picked code (f ∷ found) i
+Picked-later code f found i p = record { f = p.f; there = later_in f found p.f p.there; coded = p.coded; indexed = p.indexed }
+
+picked : (code : Code) (found : List Finding) (i : ℕ) → Contains (pick code found) i → Picked code found i
+picked code [] i there = absurd (omega (arith, there.1))
+picked code (f ∷ found) i there = elim (cases_eq (place f.code) (place code)) [
+  | inl same ↦ elim (cases_in f.index (pick code found) i (subst (λ (l : List ℕ). Contains l i) (pick-yes code f found same) there)) [
+    | inl is ↦ record { f = f; there = first_in f found; coded = same_from_place f.code code same; indexed = sym is }
+    | inr rest ↦ Picked-later code f found i (picked code found i rest)
+  ]
+  | inr differs ↦ Picked-later code f found i (picked code found i (subst (λ (l : List ℕ). Contains l i) (pick-no code f found differs) there))
+]
+
+is_picked : (code : Code) (found : List Finding) (f : Finding) → Contains found f → f.code ≡ code → Contains (pick code found) f.index
+is_picked code [] f there coded = absurd (omega (arith, there.1))
+is_picked code (g ∷ found) f there coded = elim (cases_eq (place g.code) (place code)) [
+  | inl same ↦ subst (λ (l : List ℕ). Contains l f.index) (sym (pick-yes code g found same)) (elim (cases_in g found f there) [
+    | inl is ↦ subst (λ (h : Finding). Contains (g.index ∷ pick code found) h.index) (sym is) (first_in g.index (pick code found))
+    | inr rest ↦ later_in g.index (pick code found) f.index (is_picked code found f rest coded)
+  ])
+  | inr differs ↦ subst (λ (l : List ℕ). Contains l f.index) (sym (pick-no code g found differs)) (elim (cases_in g found f there) [
+    | inl is ↦ absurd (differs (ap (λ (h : Finding). place h.code) (sym is) ∙ ap place coded))
+    | inr rest ↦ is_picked code found f rest coded
+  ])
+]
+
+pairs-cons : {X : Type 0} (R : X → X → Type 0) (x : X) (xs : List X) → ((z : X) → Contains xs z → R x z) → AllPairs R xs
+    → (i j : ℕ) (d : X) → i < j → j < length (x ∷ xs) → R (get_or (x ∷ xs) i d) (get_or (x ∷ xs) j d)
+pairs-cons R x xs head tail zero zero d before below = absurd (omega (arith, before))
+pairs-cons R x xs head tail zero (suc j) d before below = head (get_or xs j d) (Contains-get_or xs j d (omega (arith, below)))
+pairs-cons R x xs head tail (suc i) zero d before below = absurd (omega (arith, before))
+pairs-cons R x xs head tail (suc i) (suc j) d before below = tail i j d (omega (arith, before)) (omega (arith, below))
+
+pairs-tail : {X : Type 0} (R : X → X → Type 0) (x : X) (xs : List X) → AllPairs R (x ∷ xs) → AllPairs R xs
+pairs-tail R x xs pairs = λ i j d before below. pairs (suc i) (suc j) d (omega (arith, before)) (omega (arith, below))
+
+pairs-head : {X : Type 0} (R : X → X → Type 0) (x : X) (xs : List X) (z : X) → AllPairs R (x ∷ xs) → Contains xs z → R x z
+pairs-head R x xs z pairs there = subst (λ y. R x y) there.2 (pairs 0 (suc there.0) z (omega arith) (omega (arith, there.1)))
+
+pick_ascending : (code : Code) (found : List Finding) → AllPairs StandsBefore found → AllPairs (λ a b. a < b) (pick code found)
+pick_ascending code [] pairs = λ i j d before below. absurd (omega (arith, below))
+pick_ascending code (f ∷ found) pairs =
+    let tail = pick_ascending code found (pairs-tail StandsBefore f found pairs) in
+    elim (cases_eq (place f.code) (place code)) [
+      | inl same ↦ subst (λ (l : List ℕ). AllPairs (λ a b. a < b) l) (sym (pick-yes code f found same))
+          (pairs-cons (λ a b. a < b) f.index (pick code found) (λ i there.
+          let p = picked code found i there in
+          elim (pairs-head StandsBefore f found p.f pairs p.there) [
+            | inl less ↦ absurd (omega (arith, less, same, ap place p.coded))
+            | inr stands ↦ omega (arith, stands.1, p.indexed)
+          ]) tail)
+      | inr differs ↦ subst (λ (l : List ℕ). AllPairs (λ a b. a < b) l) (sym (pick-no code f found differs)) tail
+    ]
+
+length-pick : (code : Code) (found : List Finding) → length (pick code found) ≡ count_by (λ f. place f.code == place code) found
+length-pick code [] = refl
+length-pick code (f ∷ found) =
+    let rest = length-pick code found in
+    let cut = sum_by-cons (λ (g : Finding). cond (place g.code == place code) 1 0) f found in
+    elim (cases_eq (place f.code) (place code)) [
+      | inl same ↦
+          let one : ◌≡◌ {A = ℕ} (cond (place f.code == place code) 1 0) 1 = rw (eq-eqb (place f.code) (place code) same) refl in
+          ap length (pick-yes code f found same) ∙ omega (arith, rest, cut, one)
+      | inr differs ↦
+          let none : ◌≡◌ {A = ℕ} (cond (place f.code == place code) 1 0) 0 = rw (ne_eqb (place f.code) (place code) differs) refl in
+          ap length (pick-no code f found differs) ∙ omega (arith, rest, cut, none)
+    ]
+
+-- how often a code holds is how many findings of a report have it
+count_of_report : (holds : Code → ℕ → Type 0) (found : List Finding) (code : Code) (count : ℕ) → AreFindings holds found → IsCount (holds code) count
+    → count ≡ count_by (λ f. place f.code == place code) found
+count_of_report holds found code count are is =
+    let same : is.indexes ≡ pick code found =
+    one_list (λ (a b : ℕ). a < b) (λ a b below above. omega (arith, below, above)) is.indexes (pick code found) is.ascending (pick_ascending code found are.ascending)
+    (λ i there. is_picked code found (record { code = code; index = i }) ((are.exact (record { code = code; index = i })).1 ((is.exact i).0 there)) refl)
+    (λ i there.
+    let p = picked code found i there in
+    let here : holds code i = subst (λ (c : Code). holds c i) p.coded (subst (λ (k : ℕ). holds p.f.code k) p.indexed ((are.exact p.f).0 p.there)) in
+    (is.exact i).1 here) in
+    is.counted ∙ ap length same ∙ length-pick code found
+
+-- one place more
+test_more : (p n : ℕ) → cond (nat_lt p (n + 1)) 1 0 ≡ cond (nat_lt p n) 1 0 + cond (p == n) 1 0
+test_more p n = elim (cases_order p n) [
+  | inl same ↦ rw (lt-ltb p (n + 1) (omega arith), le-ltb p n (omega arith), eq-eqb p n same) refl
+  | inr other ↦ elim other [
+    | inl less ↦ rw (lt-ltb p (n + 1) (omega arith), lt-ltb p n less, ne_eqb p n (λ e. omega arith)) refl
+    | inr more ↦ rw (le-ltb p (n + 1) (omega arith), le-ltb p n (omega arith), ne_eqb p n (λ e. omega arith)) refl
+  ]
+]
+
+count_more : (found : List Finding) (n : ℕ)
+    → count_by (λ f. nat_lt (place f.code) (n + 1)) found ≡ count_by (λ f. nat_lt (place f.code) n) found + count_by (λ f. place f.code == n) found
+count_more [] n = refl
+count_more (f ∷ found) n =
+    omega (
+      arith,
+      count_more found n,
+      test_more (place f.code) n,
+      sum_by-cons (λ (g : Finding). cond (nat_lt (place g.code) (n + 1)) 1 0) f found,
+      sum_by-cons (λ (g : Finding). cond (nat_lt (place g.code) n) 1 0) f found,
+      sum_by-cons (λ (g : Finding). cond (place g.code == n) 1 0) f found,
+    )
+
+count_none : (found : List Finding) → count_by (λ f. nat_lt (place f.code) 0) found ≡ 0
+count_none [] = refl
+count_none (f ∷ found) =
+    let none : ◌≡◌ {A = ℕ} (cond (nat_lt (place f.code) 0) 1 0) 0 = rw (le-ltb (place f.code) 0 (omega arith)) refl in
+    omega (arith, count_none found, none, sum_by-cons (λ (g : Finding). cond (nat_lt (place g.code) 0) 1 0) f found)
+
+test_both : (b : Bool) → cond b 1 0 + cond (not b) 1 0 ≡ 1
+test_both true = refl
+test_both false = refl
+
+count_both : (found : List Finding)
+    → count_by (λ f. nat_lt (place f.code) 30) found ≡ count_by (λ f. is_fault f.code) found + count_by (λ f. not (is_fault f.code)) found
+count_both [] = refl
+count_both (f ∷ found) =
+    let one : ◌≡◌ {A = ℕ} (cond (nat_lt (place f.code) 30) 1 0) 1 = rw (lt-ltb (place f.code) 30 (place-below f.code)) refl in
+    omega (
+      arith,
+      count_both found,
+      one,
+      test_both (is_fault f.code),
+      sum_by-cons (λ (g : Finding). cond (nat_lt (place g.code) 30) 1 0) f found,
+      sum_by-cons (λ (g : Finding). cond (is_fault g.code) 1 0) f found,
+      sum_by-cons (λ (g : Finding). cond (not (is_fault g.code)) 1 0) f found,
+    )
+
+-- the first counts add up to the findings of the first places
+first_counts : (found : List Finding) (counts : List ℕ) → length counts ≡ 30
+    → ((code : Code) → slice_index counts (place code) ≡ count_by (λ f. place f.code == place code) found)
+    → (n : ℕ) → n ≤ 30 → sum (take n counts) ≡ count_by (λ f. nat_lt (place f.code) n) found
+first_counts found counts long each zero within = sym (count_none found)
+first_counts found counts long each (suc n) within =
+    let code = get_or report_order n F1 in
+    let at : place code ≡ n = place_at n F1 (omega arith) in
+    let here : slice_index counts n ≡ count_by (λ f. place f.code == n) found =
+    subst (λ (p : ℕ). slice_index counts p ≡ count_by (λ f. place f.code == p) found) at (each code) in
+    let more = sum_by_more (λ (x : ℕ). x) counts n 0 (omega arith) in
+    rw (← add-one) (omega (arith, first_counts found counts long each n (omega arith), here, more, count_more found n))
+
+pub law_counts_are_of_the_report : CountsAreOfTheReport
+law_counts_are_of_the_report level found counts are is =
+    let each : (code : Code) → slice_index counts (place code) ≡ count_by (λ f. place f.code == place code) found =
+    λ code. count_of_report _ found code (slice_index counts (place code)) are (is.each code) in
+    let faults = first_counts found counts is.all each 18 (omega arith) in
+    let all = first_counts found counts is.all each 30 (omega arith) in
+    let whole : take 30 counts ≡ counts = take_all 30 counts (omega (arith, is.all)) in
+    record {
+      each = each;
+      faults = faults;
+      notes = omega (arith, faults, rw whole at all, count_both found, sum_by-take-drop (λ (x : ℕ). x) counts 18);
+    }

@@ -1,0 +1,282 @@
+-- How a survey goes on from level to level.
+use Rattle.std.proofs.Common.{◌≡◌, ℕ, ◌+◌, ◌<◌, inl, inr, true, false, List, [], ◌∷◌, ◌++◌, length, get_or, Some, Result, Ok, Err, refl, sym, ap, ◌∙◌, subst, arith}
+use Rattle.std.specs.Prelude.{All, Contains, map}
+use Rattle.std.specs.Io.KnownBytes.{Appends}
+use Rattle.std.specs.List.{slice_get}
+use Rattle.std.proofs.KnownBytes.{Appends-nil, Appends-trans}
+use Rattle.std.proofs.lemmas.Bool.{cases_eq, cases_lt}
+use Rattle.std.proofs.lemmas.List.{append-nil}
+use Rattle.std.proofs.lemmas.List.Concat.{flat_map-append}
+use Rattle.std.proofs.lemmas.List.Elements.{Contains-push, Contains-push_cases, Contains-append_left, Contains-get_or}
+use Rattle.std.proofs.lemmas.List.Quantifiers.{all_pairs_push}
+use Rattle.std.proofs.lemmas.List.Sums.{fold_push}
+use Rattle.std.proofs.lemmas.Option.{slice_get_within}
+use Rattle.le_rec.specs.Sink.{SinkState}
+use Rattle.level_list.specs.Format.{IsFormat}
+use Rattle.level_list.specs.Starts.{IsNextStart, LevelStartsAt, NoneStartsFrom}
+use Rattle.level_list.specs.declared.format.Format.{Format}
+use Rattle.level_list.specs.declared.format.Format.TheVariants.{Udmf, Incomplete, Hexen, Outside, Extended, Doom}
+use Rattle.line_io.specs.Writes.{TakesFront, Writes}
+use Rattle.line_io.specs.declared.fault.IoFault.{IoFault}
+use Rattle.line_io.specs.declared.fault.IoFault.TheVariants as io
+use Rattle.line_io.proofs.WriteLemmas.{TakesFront-after}
+use Rattle.map_level.specs.declared.reading.Reading.{Reading}
+use Rattle.wad_dir.specs.Entries.{names}
+use Rattle.wad_dir.specs.Wad.{IsRead, Wad}
+use Rattle.wad_lens.specs.Objects.{HasPlace, level_members, other_members}
+use Rattle.wad_lens.specs.Survey.{AreStartsBelow, AreTold, AreToldBelow, EndsObject, IsTold, Surveys, SurveysAll, SurveysDoom, SurveysFile, SurveysLevel, SurveysSome, Told, WritesLine, WritesLevel}
+use Rattle.wad_lens.specs.Survey.{gravest, graver, line_end, lines_of, verdict_of_format}
+use Rattle.wad_lens.specs.declared.verdict.FileFault.{FileFault}
+use Rattle.wad_lens.specs.declared.verdict.FileFault.TheVariants as fault
+use Rattle.wad_lens.specs.declared.verdict.Verdict.{Verdict}
+use Rattle.wad_lens.specs.declared.verdict.Verdict.TheVariants.{Clean}
+
+-- a level that starts at an entry has another behind it
+pub start_within : (all : List (List ℕ)) (g : ℕ) → LevelStartsAt all g → g < length all
+start_within all g starts = elim starts [
+  | inl named ↦ omega (arith, slice_get_within all (g + 1) _ named)
+  | inr named ↦ omega (arith, slice_get_within all (g + 1) _ named)
+]
+
+no_starts : (all : List (List ℕ)) → AreStartsBelow all 0 []
+no_starts all = record {
+  ascending = λ i j d before below. absurd (omega (arith, below));
+  exact = λ g. (λ there. absurd (omega (arith, there.1)), λ told. absurd (omega (arith, told.1)));
+}
+
+-- one start more
+start_more : (all : List (List ℕ)) (from at : ℕ) (starts : List ℕ) → AreStartsBelow all from starts → IsNextStart all from at
+    → AreStartsBelow all (at + 1) (starts ++ at ∷ [])
+start_more all from at starts before next = record {
+  ascending = all_pairs_push (λ a b. a < b) starts at before.ascending (λ k d below.
+      let told = ((before.exact (get_or starts k d)).0 (Contains-get_or starts k d below)).1 in
+      omega (arith, told, next.after));
+  exact = λ g. (
+    (λ there. elim (Contains-push_cases starts at g there) [
+      | inl old ↦ let told = (before.exact g).0 old in (told.0, omega (arith, told.1, next.after))
+      | inr is ↦ subst (λ j. LevelStartsAt all j × (j < at + 1)) is (next.starts, omega arith)
+    ]),
+    (λ told. elim (cases_lt g from) [
+      | inl below ↦ Contains-append_left starts (at ∷ []) g ((before.exact g).1 (told.0, below))
+      | inr past ↦ elim (cases_eq g at) [
+        | inl same ↦ subst (λ j. Contains (starts ++ at ∷ []) j) (sym same) (Contains-push starts at)
+        | inr other ↦ absurd (next.first g past (omega (arith, told.1, other)) told.0)
+      ]
+    ]),
+  );
+}
+
+-- these are all starts
+all_starts : (all : List (List ℕ)) (from : ℕ) (starts : List ℕ) → AreStartsBelow all from starts → NoneStartsFrom all from
+    → AreStartsBelow all (length all) starts
+all_starts all from starts before none = record {
+  ascending = before.ascending;
+  exact = λ g. (
+    (λ there. let told = (before.exact g).0 there in (told.0, start_within all g told.0)),
+    (λ told. elim (cases_lt g from) [
+      | inl below ↦ (before.exact g).1 (told.0, below)
+      | inr past ↦ absurd (none g past told.0)
+    ]),
+  );
+}
+
+told_more : (path : List ℕ) (files : List Wad) (reading : Reading) (starts : List ℕ) (told : List Told) (g : ℕ) (one : Told)
+    → AreTold path files reading starts told → IsTold path files reading g one
+    → AreTold path files reading (starts ++ g ∷ []) (told ++ one ∷ [])
+told_more path files reading [] [] g one before is = (is, tt)
+told_more path files reading [] (t ∷ told) g one before is = absurd before
+told_more path files reading (s ∷ starts) [] g one before is = absurd before
+told_more path files reading (s ∷ starts) (t ∷ told) g one before is = (before.0, told_more path files reading starts told g one before.1 is)
+
+lines-push : (told : List Told) (one : Told) → lines_of (told ++ one ∷ []) ≡ lines_of told ++ one.line
+lines-push told one = flat_map-append (λ (t : Told). t.line) told (one ∷ []) ∙ ap (λ line. lines_of told ++ line) (append-nil one.line)
+
+-- the levels before an entry were told
+pub record ToldSoFar (path : List ℕ) (files : List Wad) (reading : Reading) (before after : SinkState) (from : ℕ) (worst : Verdict) : Type 0 where
+  pub told : List Told
+  pub are : AreToldBelow path files reading from told
+  pub took : Appends before.taken after.taken (lines_of told)
+  pub says : worst ≡ gravest told
+
+pub ToldSoFar-none : (path : List ℕ) (files : List Wad) (reading : Reading) (before : SinkState) → ToldSoFar path files reading before before 0 Clean
+ToldSoFar-none path files reading before = record {
+  told = [];
+  are = record { starts = []; are = no_starts (names files); each = tt };
+  took = Appends-nil before.taken;
+  says = refl;
+}
+
+-- what is told with one level more
+told_next : (path : List ℕ) (files : List Wad) (reading : Reading) (from g : ℕ) (told : List Told) (one : Told)
+    → AreToldBelow path files reading from told → IsNextStart (names files) from g → IsTold path files reading g one
+    → AreToldBelow path files reading (g + 1) (told ++ one ∷ [])
+told_next path files reading from g told one before next is = record {
+  starts = before.starts ++ g ∷ [];
+  are = start_more (names files) from g before.starts before.are next;
+  each = told_more path files reading before.starts told g one before.each is;
+}
+
+-- one level more was told
+pub ToldSoFar-more : (path : List ℕ) (files : List Wad) (reading : Reading) (before between after : SinkState) (from g : ℕ) (worst verdict : Verdict)
+    → ToldSoFar path files reading before between from worst → IsNextStart (names files) from g
+    → WritesLevel path files reading g between after (Ok verdict)
+    → ToldSoFar path files reading before after (g + 1) (graver worst verdict) × (after.failed ≡ false)
+ToldSoFar-more path files reading before between after from g worst verdict so_far next wrote = go wrote.writes.outcome wrote.writes.writes wrote.writes.ended
+  where
+    go : (outcome : Result (Unit {0}) IoFault) → Writes between after wrote.told.line outcome → Ok verdict ≡ line_end wrote.told.verdict outcome
+        → ToldSoFar path files reading before after (g + 1) (graver worst verdict) × (after.failed ≡ false)
+    go (Ok x) writes ended =
+        let one = wrote.told in
+        let told = so_far.told in
+        let same : verdict ≡ one.verdict = cc in (
+          record {
+            told = told ++ one ∷ [];
+            are = told_next path files reading from g told one so_far.are next wrote.is;
+            took = subst (Appends before.taken after.taken) (sym (lines-push told one))
+                (Appends-trans before.taken between.taken after.taken (lines_of told) one.line so_far.took writes.takes.whole);
+            says = ap (λ v. graver v verdict) so_far.says ∙ ap (graver (gravest told)) same
+                ∙ sym (fold_push (λ v (t : Told). graver v t.verdict) Clean told one);
+          },
+          writes.ends.sound,
+        )
+    go (Err e) writes ended = absurd (cc)
+
+-- a line that stopped, stopped as its write failed
+pub line_stopped : (between after : SinkState) (line : List ℕ) (e : IoFault) → Writes {T = Unit {0}} between after line (Err e) → after.failed ≡ true
+line_stopped between after line io.Write writes = writes.ends.fault
+line_stopped between after line io.Read writes = absurd writes.ends.fault
+line_stopped between after line io.TooLong writes = absurd writes.ends.fault
+line_stopped between after line io.Memory writes = absurd writes.ends.fault
+
+-- the survey stopped within the line of a level
+pub stopped_in_line : (path : List ℕ) (files : List Wad) (reading : Reading) (before between after : SinkState) (from g : ℕ) (worst : Verdict) (why : FileFault)
+    → ToldSoFar path files reading before between from worst → IsNextStart (names files) from g
+    → WritesLevel path files reading g between after (Err why) → SurveysSome path files reading before after why
+stopped_in_line path files reading before between after from g worst why so_far next wrote = go wrote.writes.outcome wrote.writes.writes wrote.writes.ended
+  where
+    go : (outcome : Result (Unit {0}) IoFault) → Writes between after wrote.told.line outcome → Err why ≡ line_end wrote.told.verdict outcome
+        → SurveysSome path files reading before after why
+    go (Ok x) writes ended = absurd (cc)
+    go (Err e) writes ended =
+        let one = wrote.told in
+        let told = so_far.told in
+        let same : fault.Write ≡ why = cc in
+        subst (SurveysSome path files reading before after) same (record {
+          end = g + 1;
+          told = told ++ one ∷ [];
+          are = told_next path files reading from g told one so_far.are next wrote.is;
+          stops = (
+            subst (TakesFront before after) (sym (lines-push told one))
+                (TakesFront-after before between after (lines_of told) so_far.took writes.takes.front),
+            line_stopped between after one.line e writes,
+          );
+        })
+
+-- it stopped before a level for want of memory
+pub stopped_before_line : (path : List ℕ) (files : List Wad) (reading : Reading) (before after : SinkState) (from : ℕ) (worst : Verdict)
+    → ToldSoFar path files reading before after from worst → after.failed ≡ false → SurveysSome path files reading before after fault.Memory
+stopped_before_line path files reading before after from worst so_far sound = record {
+  end = from;
+  told = so_far.told;
+  are = so_far.are;
+  stops = (so_far.took, sound);
+}
+
+-- all levels were told
+pub told_all : (path : List ℕ) (files : List Wad) (reading : Reading) (before after : SinkState) (from : ℕ) (worst : Verdict)
+    → ToldSoFar path files reading before after from worst → NoneStartsFrom (names files) from → after.failed ≡ false
+    → SurveysAll path files reading before after worst
+told_all path files reading before after from worst so_far none sound = record {
+  told = so_far.told;
+  are = record {
+    starts = so_far.are.starts;
+    are = all_starts (names files) from so_far.are.starts so_far.are.are none;
+    each = so_far.are.each;
+  };
+  took = so_far.took;
+  sound = sound;
+  says = so_far.says;
+}
+
+-- the place that tells a format is one of the ten
+pub place_of_format : (files : List Wad) (g : ℕ) (format : Format) → IsFormat files g format → HasPlace format
+place_of_format files g Udmf is = tt
+place_of_format files g (Incomplete k) is = (omega (arith, is.1.from), is.1.to)
+place_of_format files g Hexen is = tt
+place_of_format files g (Outside k) is = (is.1.from, is.1.to)
+place_of_format files g (Extended tag) is = tt
+place_of_format files g Doom is = tt
+
+-- how the object of a level ends whose format isn't Doom's
+pub other_ends : (files : List Wad) (reading : Reading) (g : ℕ) (format : Format) → (format ≡ Doom → ⊥)
+    → EndsObject files reading g format (other_members format) (verdict_of_format format)
+other_ends files reading g Udmf other = (refl, refl)
+other_ends files reading g (Incomplete k) other = (refl, refl)
+other_ends files reading g Hexen other = (refl, refl)
+other_ends files reading g (Outside k) other = (refl, refl)
+other_ends files reading g (Extended tag) other = (refl, refl)
+other_ends files reading g Doom other = absurd (other refl)
+
+-- the line of a level of Doom's format
+pub doom_line : {W : Type 0} (state : W → SinkState) (path : List ℕ) (files : List Wad) (reading : Reading) (name : List ℕ) (g : ℕ) (out out' : W) (result : Result Verdict FileFault)
+    → slice_get (names files) g ≡ Some name → IsFormat files g Doom
+    → SurveysDoom state path files reading name g out out' result → SurveysLevel state path files reading g out out' result
+doom_line state path files reading name g out out' result named is does = elim does [
+  | inl wants ↦ inl wants
+  | inr wrote ↦ inr (record {
+    told = record { line = level_members path name g Doom ++ wrote.members; verdict = wrote.verdict };
+    is = record { format = Doom; is = is; name = name; named = named; members = wrote.members; ends = wrote.judged; line = refl };
+    writes = wrote.writes;
+  })
+]
+
+-- and of another format
+pub other_line : {W : Type 0} (state : W → SinkState) (path : List ℕ) (files : List Wad) (reading : Reading) (name : List ℕ) (g : ℕ) (format : Format) (out out' : W) (result : Result Verdict FileFault)
+    → slice_get (names files) g ≡ Some name → IsFormat files g format → (format ≡ Doom → ⊥)
+    → WritesLine (state out) (state out') (level_members path name g format ++ other_members format) (verdict_of_format format) result
+    → SurveysLevel state path files reading g out out' result
+other_line state path files reading name g format out out' result named is other wrote = inr (record {
+  told = record { line = level_members path name g format ++ other_members format; verdict = verdict_of_format format };
+  is = record { format = format; is = is; name = name; named = named; members = other_members format; ends = other_ends files reading g format other; line = refl };
+  writes = wrote;
+})
+
+-- a level that was told was written
+pub level_told : {W : Type 0} (state : W → SinkState) (path : List ℕ) (files : List Wad) (reading : Reading) (g : ℕ) (out out' : W) (verdict : Verdict)
+    → SurveysLevel state path files reading g out out' (Ok verdict) → WritesLevel path files reading g (state out) (state out') (Ok verdict)
+level_told state path files reading g out out' verdict does = elim does [
+  | inl wants ↦ absurd (ok_is_no_err verdict wants.ended)
+  | inr wrote ↦ wrote
+]
+  where
+    ok_is_no_err : (v : Verdict) → Ok v ≡ Err fault.Memory → ⊥
+    ok_is_no_err v same = cc
+
+-- the survey stopped at a level
+pub level_stopped : {W : Type 0} (state : W → SinkState) (path : List ℕ) (files : List Wad) (reading : Reading) (before : SinkState) (from g : ℕ) (worst : Verdict) (out out' : W) (why : FileFault)
+    → ToldSoFar path files reading before (state out) from worst → (state out).failed ≡ false → IsNextStart (names files) from g
+    → SurveysLevel state path files reading g out out' (Err why) → SurveysSome path files reading before (state out') why
+level_stopped state path files reading before from g worst out out' why so_far sound next does = elim does [
+  | inl wants ↦
+      let same : fault.Memory ≡ why = err_same why wants.ended in
+      subst (SurveysSome path files reading before (state out')) same
+      (subst (λ (o : _). SurveysSome path files reading before (state o) fault.Memory) (sym wants.untouched)
+      (stopped_before_line path files reading before (state out) from worst so_far sound))
+  | inr wrote ↦ stopped_in_line path files reading before (state out) (state out') from g worst why so_far next wrote
+]
+  where
+    err_same : (w : FileFault) → ◌≡◌ {A = Result Verdict FileFault} (Err w) (Err fault.Memory) → fault.Memory ≡ w
+    err_same w same = cc
+
+-- the survey of the one file of these bytes
+pub one_file : (path bytes : List ℕ) (files : List Wad) (reading : Reading) (before after : SinkState) (result : Result Verdict FileFault)
+    → map (λ file. file.bytes) files ≡ bytes ∷ [] → All IsRead files → Surveys path files reading before after result
+    → SurveysFile path bytes reading before after result
+one_file path bytes [] reading before after result of_bytes read does = absurd (cc)
+one_file path bytes (file ∷ []) reading before after result of_bytes read does = record {
+  file = file;
+  of_bytes = cc;
+  read = read 0 file (omega arith);
+  does = does;
+}
+one_file path bytes (file ∷ other ∷ files) reading before after result of_bytes read does = absurd (cc)

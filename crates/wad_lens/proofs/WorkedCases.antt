@@ -1,0 +1,216 @@
+-- The texts of findings, computed on a small level: each is what stands here.
+use Rattle.std.proofs.Common.{◌≡◌, ℕ, ℤ, pos, negsuc, List, [], ◌∷◌, ◌++◌, refl}
+use Rattle.std.specs.Fmt.{digits}
+use Rattle.std.specs.Prelude.{codes}
+use Rattle.le_rec.specs.Number.{signed16, unsigned16}
+use Rattle.le_rec.specs.Table.{Rows}
+use Rattle.le_rec.specs.declared.records.LineDef.{LineDef}
+use Rattle.map_level.specs.Level.{Level}
+use Rattle.map_level.specs.declared.finding.Code.{Code}
+use Rattle.map_level.specs.declared.finding.Code.TheVariants.{F3, F4, F5, F6, F7, F8, F9, F10, F11, F12, F13, F14, F15, F16, F17, F18, N2, N3, N4, N5, N6, N7, N8, N9, N10, N11, N12}
+use Rattle.map_level.specs.declared.reading.Reading.{Reading}
+use Rattle.map_level.specs.declared.reading.Reading.TheVariants.{Signed, Wide}
+use Rattle.wad_lens.specs.FindingLine.{finding_line, lead_text}
+use Rattle.wad_lens.specs.LevelLines.{code_part}
+use Rattle.wad_lens.specs.Message.{message}
+use Rattle.wad_lens.specs.Place.{place_of, place_text}
+
+abbrev rows : {R : Type 0} → List R → Rows R
+rows records = record { records = records; rest = 3 }
+
+abbrev line : ℤ → ℤ → ℤ → ℤ → LineDef
+line v1 v2 side0 side1 = record { v1 = v1; v2 = v2; flags = pos 4; special = pos 0; tag = pos 0; side0 = side0; side1 = side1 }
+
+abbrev name : List ℕ
+name = codes "FLAT"
+
+-- two vertexes, one sector, two sidedefs; linedef 1 names sidedef 1, and so does linedef 2
+abbrev level : Reading → Level
+level reading = record {
+  label = 0;
+  reading = reading;
+  names = [];
+  things = rows [];
+  linedefs = rows (line (pos 0) (pos 7) (pos 0) (negsuc 0) ∷ line (pos 0) (pos 1) (pos 9) (pos 1) ∷ line (negsuc 1) (pos 0) (negsuc 0) (pos 1) ∷ []);
+  sidedefs = rows (record { xoff = pos 0; yoff = pos 0; top = name; bottom = name; middle = name; sector = pos 4 }
+      ∷ record { xoff = pos 0; yoff = pos 0; top = name; bottom = name; middle = name; sector = negsuc 0 } ∷ []);
+  vertexes = rows (record { x = pos 16; y = negsuc 15 } ∷ record { x = pos 20000; y = pos 1 } ∷ []);
+  segs = rows (record { v1 = pos 1; v2 = pos 0; angle = pos 0; linedef = pos 5; side = pos 2; offset = pos 0 }
+      ∷ record { v1 = pos 0; v2 = pos 2; angle = pos 0; linedef = pos 2; side = pos 1; offset = pos 0 } ∷ []);
+  ssectors = rows (record { count = pos 9; first = pos 0 } ∷ record { count = pos 1; first = pos 2 } ∷ []);
+  nodes = rows (record { x = pos 3; y = negsuc 3; dx = pos 0; dy = pos 0; box0 = []; box1 = []; child0 = 32768; child1 = 32771 }
+      ∷ record { x = pos 20000; y = pos 0; dx = pos 0; dy = pos 0; box0 = []; box1 = []; child0 = 2; child1 = 32768 } ∷ []);
+  sectors = rows [];
+  reject = 1 ∷ [];
+  blockmap = 0 ∷ 0 ∷ 0 ∷ 0 ∷ 2 ∷ 0 ∷ 2 ∷ 0 ∷ 5 ∷ 0 ∷ 255 ∷ 127 ∷ [];
+}
+
+-- what stands behind the index
+abbrev told : Reading → Code → ℕ → List ℕ
+told reading code i = message (level reading) code i (place_text (place_of (level reading) code i) [])
+
+end_vertex : told Signed F3 0 ≡ codes "end vertex 7 isn't there (2 vertexes)"
+unfolding digits
+end_vertex = refl
+
+start_vertex : told Signed F3 2 ≡ codes "start vertex -2 isn't there (2 vertexes)"
+unfolding digits
+start_vertex = refl
+
+start_vertex_wide : told Wide F3 2 ≡ codes "start vertex 65534 isn't there (2 vertexes)"
+unfolding digits
+start_vertex_wide = refl
+
+front_sidedef : told Signed F4 1 ≡ codes "front sidedef 9 isn't there (2 sidedefs), from (16, -16) to (20000, 1)"
+unfolding digits
+front_sidedef = refl
+
+sector_named_second : told Signed F5 1 ≡ codes "sector -1 isn't there (0 sectors), of linedef 1"
+unfolding digits
+sector_named_second = refl
+
+sector_named_first : told Signed F5 0 ≡ codes "sector 4 isn't there (0 sectors), of linedef 0"
+unfolding digits
+sector_named_first = refl
+
+sector_wide : told Wide F5 1 ≡ codes "sector 65535 isn't there (0 sectors), of linedef 1"
+unfolding digits
+sector_wide = refl
+
+seg_end : told Signed F6 1 ≡ codes "end vertex 2 isn't there (2 vertexes)"
+unfolding digits
+seg_end = refl
+
+seg_linedef : told Signed F7 0 ≡ codes "linedef 5 isn't there (3 linedefs), from (20000, 1) to (16, -16)"
+unfolding digits
+seg_linedef = refl
+
+seg_side : told Signed F8 0 ≡ codes "side 2 is neither 0 nor 1, from (20000, 1) to (16, -16)"
+unfolding digits
+seg_side = refl
+
+sideless : told Signed F9 1 ≡ codes "linedef 2 has no sidedef on side 1"
+unfolding digits
+sideless = refl
+
+segs_missing : told Signed F10 0 ≡ codes "segs from 0, 9 of them, aren't all there (2 segs), at (20000, 1)"
+unfolding digits
+segs_missing = refl
+
+segs_nowhere : told Signed F10 1 ≡ codes "segs from 2, 1 of them, aren't all there (2 segs)"
+unfolding digits
+segs_nowhere = refl
+
+second_child : told Signed F11 0 ≡ codes "child 1 names ssector 3, which isn't there (2 ssectors), at (3, -4)"
+unfolding digits
+second_child = refl
+
+first_child : told Signed F11 1 ≡ codes "child 0 names node 2, which isn't there (2 nodes), at (20000, 0)"
+unfolding digits
+first_child = refl
+
+origin : told Signed F12 1 ≡ codes "origin (20000, 0) is outside -16384 to 16383"
+unfolding digits
+origin = refl
+
+named_twice : told Signed F13 0 ≡ codes "named more than once, or the root and named, at (3, -4)"
+unfolding digits
+named_twice = refl
+
+not_reached : told Signed F14 0 ≡ codes "not reached from the root, at (3, -4)"
+unfolding digits
+not_reached = refl
+
+ssector_twice : told Signed F15 0 ≡ codes "named more than once, at (20000, 1)"
+unfolding digits
+ssector_twice = refl
+
+ssector_not_reached : told Signed F16 0 ≡ codes "not reached from the root, at (20000, 1)"
+unfolding digits
+ssector_not_reached = refl
+
+no_ssector : told Signed F17 0 ≡ codes "no ssector"
+unfolding digits
+no_ssector = refl
+
+many_nodes : told Signed F18 0 ≡ codes "2 nodes, 32767 are the most"
+unfolding digits
+many_nodes = refl
+
+left_over : told Signed N2 8 ≡ codes "3 bytes left over"
+unfolding digits
+left_over = refl
+
+two_sided : told Signed N3 1 ≡ codes "two-sided, without a back sidedef, from (16, -16) to (20000, 1)"
+unfolding digits
+two_sided = refl
+
+no_front : told Signed N4 2 ≡ codes "without a front sidedef"
+unfolding digits
+no_front = refl
+
+no_length : told Signed N5 1 ≡ codes "without length, from (16, -16) to (20000, 1)"
+unfolding digits
+no_length = refl
+
+no_segs : told Signed N6 1 ≡ codes "without segs"
+unfolding digits
+no_segs = refl
+
+no_direction : told Signed N7 0 ≡ codes "without direction, at (3, -4)"
+unfolding digits
+no_direction = refl
+
+reject : told Signed N8 0 ≡ codes "REJECT has 1 bytes, 0 are wanted"
+unfolding digits
+reject = refl
+
+blockmap : told Signed N9 0 ≡ codes "BLOCKMAP has 6 words, 8 are wanted"
+unfolding digits signed16 unsigned16
+blockmap = refl
+
+list_outside : told Signed N10 2 ≡ codes "its list isn't inside BLOCKMAP"
+unfolding digits
+list_outside = refl
+
+list_endless : told Signed N10 0 ≡ codes "its list has no end"
+unfolding digits signed16 unsigned16
+list_endless = refl
+
+no_start : told Signed N11 0 ≡ codes "no player 1 start"
+unfolding digits
+no_start = refl
+
+vertex_outside : told Signed N12 1 ≡ codes "(20000, 1) is outside -16384 to 16383"
+unfolding digits
+vertex_outside = refl
+
+-- what stands before the message: a block by its column and row, a whole level without an index
+block_lead : lead_text (level Signed) (record { code = N10; index = 3 }) ≡ codes "N10 block (1, 1): "
+unfolding digits signed16 unsigned16
+block_lead = refl
+
+level_lead : lead_text (level Signed) (record { code = F17; index = 0 }) ≡ codes "F17 level: "
+unfolding digits
+level_lead = refl
+
+lump_lead : lead_text (level Signed) (record { code = N2; index = 8 }) ≡ codes "N2 lump 8: "
+unfolding digits
+lump_lead = refl
+
+-- a whole line, of a label with a byte that isn't visible
+whole_line : finding_line (codes "a b.wad") (77 ∷ 1 ∷ []) (level Signed) (record { code = N7; index = 0 })
+    ≡ codes "a b.wad: M\\x01: N7 node 0: without direction, at (3, -4)" ++ 10 ∷ []
+unfolding digits
+whole_line = refl
+
+-- of three findings one is shown, and all are where the number is 0 or as great
+one_of_three : code_part (codes "a") (codes "M") 1 (level Signed) N4 (0 ∷ 1 ∷ 2 ∷ [])
+    ≡ codes "a: M: N4 linedef 0: without a front sidedef" ++ (10 ∷ codes "a: M: N4: 2 more" ++ 10 ∷ [])
+unfolding digits
+one_of_three = refl
+
+two_of_two : code_part (codes "a") (codes "M") 2 (level Signed) N6 (0 ∷ 1 ∷ [])
+    ≡ codes "a: M: N6 ssector 0: without segs, at (20000, 1)" ++ (10 ∷ codes "a: M: N6 ssector 1: without segs" ++ 10 ∷ [])
+unfolding digits
+two_of_two = refl

@@ -1,0 +1,174 @@
+-- What `check` tells of a file (ours): the lines of its levels in the order of their labels, and what they add up to.
+use Rattle.std.specs.Prelude.{◌≡◌, ◌⊎◌, ◌↔◌, ℕ, ◌+◌, Bool, true, false, IsTrue, List, [], ◌∷◌, ◌++◌, Some, Result, Ok, Err, IfErr, IfOk}
+use Rattle.std.specs.Io.KnownBytes.{Appends}
+use Rattle.std.specs.List.{slice_get}
+use Rattle.le_rec.specs.Sink.{SinkState}
+use Rattle.level_list.specs.Format.{IsFormat}
+use Rattle.level_list.specs.Starts.{IsNextStart, NoneStartsFrom}
+use Rattle.level_list.specs.declared.format.Format.{Format}
+use Rattle.level_list.specs.declared.format.Format.TheVariants.{Doom}
+use Rattle.line_io.specs.Writes.{TakesFront, Writes}
+use Rattle.line_io.specs.declared.fault.IoFault.{IoFault}
+use Rattle.map_audit.specs.Findings.{AuditHolds}
+use Rattle.map_level.specs.Level.{Level}
+use Rattle.map_level.specs.Opening.{IsLevelAt}
+use Rattle.map_level.specs.declared.finding.Code.{Code}
+use Rattle.map_level.specs.declared.reading.Reading.{Reading}
+use Rattle.map_level.specs.declared.reading.Reading.TheVariants.{Signed, Wide}
+use Rattle.map_tree.specs.Sound.{IsSound}
+use Rattle.wad_dir.specs.Entries.{names}
+use Rattle.wad_dir.specs.Refusal.{RefusesWad}
+use Rattle.wad_dir.specs.Wad.{IsRead, Wad}
+use Rattle.wad_lens.specs.Counts.{AreCounts}
+use Rattle.wad_lens.specs.FindingLine.{level_line}
+use Rattle.wad_lens.specs.FormatLine.{format_text}
+use Rattle.wad_lens.specs.LevelLines.{AreCounted, AreTold, judged_text}
+use Rattle.wad_lens.specs.Totals.{format_totals, judged_totals, no_totals, totals_with}
+use Rattle.wad_lens.specs.declared.check.Question.{Question}
+use Rattle.wad_lens.specs.declared.totals.Totals.{Totals}
+use Rattle.wad_lens.specs.declared.verdict.FileFault.{FileFault}
+use Rattle.wad_lens.specs.declared.verdict.FileFault.TheVariants.{NoWad, Write, Memory}
+
+-- how a run is asked for: the file's path, how many findings of a code are shown at most, and the reading
+pub record Asked : Type 0 where
+  pub path : List ℕ
+  pub most : ℕ
+  pub reading : Reading
+
+-- what a question asks
+abbrev pub asked_of : Question → Asked
+asked_of question = record { path = question.path.now; most = question.most; reading = question.reading }
+
+-- the level at a label isn't sound under the signed reading, and is under the wide one
+pub record IsSoundWideAlone (files : List Wad) (g : ℕ) (reading : Reading) (level : Level) : Type 0 where
+  pub signed : reading ≡ Signed
+  pub unsound : ¬ IsSound level
+  pub wide : Level
+  pub there : IsLevelAt files g Wide wide
+  pub sound : IsSound wide
+
+-- what is told of a level of Doom's format: its findings by what the audit finds, and whether the wide reading alone finds
+-- it sound
+pub record IsJudged (asked : Asked) (files : List Wad) (g : ℕ) (name text : List ℕ) (totals : Totals) : Type 0 where
+  pub level : Level
+  pub there : IsLevelAt files g asked.reading level
+  pub counts : List ℕ
+  pub are_counts : AreCounts (AuditHolds level) counts
+  pub told : Code → List ℕ
+  pub are_told : AreTold (AuditHolds level) told
+  pub counted : AreCounted counts told
+  pub sound_wide : Bool
+  pub wide : IsTrue sound_wide ↔ IsSoundWideAlone files g asked.reading level
+  pub is : text ≡ judged_text asked.path name asked.most level told sound_wide
+  pub adds : totals ≡ judged_totals counts
+
+-- what is told of a level by its format
+abbrev pub IsToldBy : Format → Asked → List Wad → ℕ → List ℕ → List ℕ → Totals → Type 0
+IsToldBy Doom asked files g name text totals = IsJudged asked files g name text totals
+IsToldBy format asked files g name text totals = (text ≡ level_line asked.path name (format_text format)) × (totals ≡ format_totals format)
+
+-- what is told of the level that starts at an entry
+pub record IsLevelText (asked : Asked) (files : List Wad) (g : ℕ) (text : List ℕ) (totals : Totals) : Type 0 where
+  pub format : Format
+  pub is : IsFormat files g format
+  pub name : List ℕ
+  pub named : slice_get (names files) g ≡ Some name
+  pub told : IsToldBy format asked files g name text totals
+
+-- what is told of the levels that start below an entry, in order
+pub data ToldTo (asked : Asked) (files : List Wad) : ℕ → List ℕ → Totals → Type 0 where
+  at_start : ToldTo asked files 0 [] no_totals
+  with_level : (from : ℕ) (before : List ℕ) (sum : Totals) (g : ℕ) (text : List ℕ) (totals : Totals)
+      → ToldTo asked files from before sum → IsNextStart (names files) from g → IsLevelText asked files g text totals
+      → ToldTo asked files (g + 1) (before ++ text) (totals_with sum totals)
+
+-- all levels were told
+pub record ChecksAll (asked : Asked) (files : List Wad) (before after : SinkState) (totals : Totals) : Type 0 where
+  pub from : ℕ
+  pub text : List ℕ
+  pub told : ToldTo asked files from text totals
+  pub all : NoneStartsFrom (names files) from
+  pub took : Appends before.taken after.taken text
+  pub sound : after.failed ≡ false
+
+-- a write failed within the text of a level
+pub record StopsWriting (asked : Asked) (files : List Wad) (before after : SinkState) : Type 0 where
+  pub from : ℕ
+  pub text : List ℕ
+  pub sum : Totals
+  pub told : ToldTo asked files from text sum
+  pub g : ℕ
+  pub next : IsNextStart (names files) from g
+  pub line : List ℕ
+  pub totals : Totals
+  pub is : IsLevelText asked files g line totals
+  pub took : TakesFront before after (text ++ line)
+  pub failed : after.failed ≡ true
+
+-- there was no memory to judge the level behind those that were told
+pub record StopsJudging (asked : Asked) (files : List Wad) (before after : SinkState) : Type 0 where
+  pub from : ℕ
+  pub text : List ℕ
+  pub sum : Totals
+  pub told : ToldTo asked files from text sum
+  pub took : Appends before.taken after.taken text
+  pub sound : after.failed ≡ false
+
+-- why not all levels were told
+abbrev pub ChecksSome : Asked → List Wad → SinkState → SinkState → FileFault → Type 0
+ChecksSome asked files before after Write = StopsWriting asked files before after
+ChecksSome asked files before after Memory = StopsJudging asked files before after
+ChecksSome asked files before after (NoWad why) = ⊥
+
+-- a check of all levels of some files
+pub record Checks (asked : Asked) (files : List Wad) (before after : SinkState) (result : Result Totals FileFault) : Type 0 where
+  pub all : IfOk result (ChecksAll asked files before after)
+  pub some : IfErr result (ChecksSome asked files before after)
+
+-- nothing was written for want of memory
+pub record WantsMemory {W T : Type 0} (out out' : W) (result : Result T FileFault) : Type 0 where
+  pub ended : result ≡ Err Memory
+  pub untouched : out' ≡ out
+
+-- the end of a level's text: its totals, where the text was written
+abbrev pub text_end : Totals → Result (Unit {0}) IoFault → Result Totals FileFault
+text_end totals (Ok x) = Ok totals
+text_end totals (Err fault) = Err Write
+
+-- a text was written whose level has these totals
+pub record WritesText (Is : List ℕ → Totals → Type 0) (before after : SinkState) (result : Result Totals FileFault) : Type 0 where
+  pub text : List ℕ
+  pub totals : Totals
+  pub is : Is text totals
+  pub outcome : Result (Unit {0}) IoFault
+  pub writes : Writes before after text outcome
+  pub ended : result ≡ text_end totals outcome
+
+-- one of the two
+abbrev pub ChecksText : {W : Type 0} → (W → SinkState) → (List ℕ → Totals → Type 0) → W → W → Result Totals FileFault → Type 0
+ChecksText state Is out out' result = WantsMemory out out' result ⊎ WritesText Is (state out) (state out') result
+
+-- why a file isn't checked: its bytes have no directory, or a growth was refused
+abbrev pub RefusesCheck : List ℕ → FileFault → Type 0
+RefusesCheck bytes (NoWad why) = RefusesWad bytes why
+RefusesCheck bytes Memory = Unit {0}
+RefusesCheck bytes Write = ⊥
+
+-- the file wasn't checked, and nothing was written
+pub record LeavesFile {W : Type 0} (bytes : List ℕ) (out out' : W) (result : Result Totals FileFault) : Type 0 where
+  pub fault : FileFault
+  pub ended : result ≡ Err fault
+  pub holds : RefusesCheck bytes fault
+  pub untouched : out' ≡ out
+
+-- the file's levels were checked
+pub record ChecksFile (asked : Asked) (bytes : List ℕ) (before after : SinkState) (result : Result Totals FileFault) : Type 0 where
+  pub file : Wad
+  pub of_bytes : file.bytes ≡ bytes
+  pub read : IsRead file
+  pub does : Checks asked (file ∷ []) before after result
+
+-- over a file of these bytes and a sink, of which clauses see its state
+abbrev pub RunsCheck : {W : Type 0} → (W → SinkState) → Asked → List ℕ → W → W → Result Totals FileFault → Type 0
+RunsCheck state asked bytes out out' result =
+    LeavesFile bytes out out' result ⊎ ChecksFile asked bytes (state out) (state out') result

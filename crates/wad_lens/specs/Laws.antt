@@ -1,0 +1,49 @@
+-- The laws of this crate's definitions.
+use Rattle.std.specs.Prelude.{◌≡◌, ◌↔◌, ℕ, List, ◌∷◌, ◌++◌, ◌==◌, count_by, not, slice_index}
+use Rattle.std.specs.Str.Lossy.{utf8_lossy}
+use Rattle.json.specs.Lex.{between, lex, token}
+use Rattle.json.specs.Token.{string}
+use Rattle.le_rec.specs.Sink.{SinkState}
+use Rattle.level_list.specs.Format.{IsFormat}
+use Rattle.level_list.specs.Starts.{LevelStartsAt}
+use Rattle.level_list.specs.declared.format.Format.TheVariants.{Doom}
+use Rattle.map_audit.specs.Findings.{AuditHolds}
+use Rattle.map_level.specs.Findings.{AreFindings, is_fault, place}
+use Rattle.map_level.specs.Level.{Level}
+use Rattle.map_level.specs.Opening.{IsLevelAt}
+use Rattle.map_level.specs.declared.finding.Code.{Code}
+use Rattle.map_level.specs.declared.finding.Finding.{Finding}
+use Rattle.map_tree.specs.Sound.{IsSound}
+use Rattle.wad_dir.specs.Entries.{names}
+use Rattle.wad_dir.specs.Wad.{Wad}
+use Rattle.wad_lens.specs.Check.{Asked, ChecksAll}
+use Rattle.wad_lens.specs.Counts.{AreCounts, fault_total, note_total}
+use Rattle.wad_lens.specs.JsonString.{json_string}
+use Rattle.wad_lens.specs.declared.totals.Totals.{Totals}
+
+-- a level's counts have no fault exactly where the level is sound
+abbrev pub FaultlessIsSound : Type 0
+FaultlessIsSound = (level : Level) (counts : List ℕ) → AreCounts (AuditHolds level) counts → (fault_total counts ≡ 0) ↔ IsSound level
+
+-- the counts are those of a list of findings: of each code, of the faults and of the notes
+pub record CountFindings (counts : List ℕ) (found : List Finding) : Type 0 where
+  pub each : (code : Code) → slice_index counts (place code) ≡ count_by (λ f. place f.code == place code) found
+  pub faults : fault_total counts ≡ count_by (λ f. is_fault f.code) found
+  pub notes : note_total counts ≡ count_by (λ f. not (is_fault f.code)) found
+
+-- a level's counts are those of its report
+abbrev pub CountsAreOfTheReport : Type 0
+CountsAreOfTheReport =
+    (level : Level) (found : List Finding) (counts : List ℕ) → AreFindings (AuditHolds level) found → AreCounts (AuditHolds level) counts
+    → CountFindings counts found
+
+-- where a string is written, the kit's reader of JSON finds the bytes' text and goes on behind it
+abbrev pub StringsAreRead : Type 0
+StringsAreRead = (bytes rest : List ℕ) → lex between (json_string bytes ++ rest) ≡ token (string (utf8_lossy bytes)) ∷ lex between rest
+
+-- a check of levels that are all of Doom's format counts no fault exactly where each of them is sound under the reading asked
+abbrev pub CheckedIsSound : Type 0
+CheckedIsSound =
+    (asked : Asked) (files : List Wad) (before after : SinkState) (totals : Totals) → ChecksAll asked files before after totals
+    → ((g : ℕ) → LevelStartsAt (names files) g → IsFormat files g Doom)
+    → (totals.faults ≡ 0) ↔ ((g : ℕ) (level : Level) → LevelStartsAt (names files) g → IsLevelAt files g asked.reading level → IsSound level)

@@ -1,0 +1,14 @@
+pub mod Check
+pub mod Counts
+pub mod FindingLine
+pub mod FormatLine
+pub mod JsonString
+pub mod Kind
+pub mod Laws
+pub mod LevelLines
+pub mod Message
+pub mod Objects
+pub mod Owners
+pub mod Place
+pub mod Survey
+pub mod Totals

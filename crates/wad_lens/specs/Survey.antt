@@ -1,0 +1,188 @@
+-- The survey of a file (ours): the line of each level, in the order of their labels, and what a survey says of the file.
+use Rattle.std.specs.Prelude.{◌≡◌, ◌⊎◌, ◌↔◌, ℕ, ◌<◌, ◌==◌, true, false, List, [], ◌∷◌, ◌++◌, AllPairs, Contains, IfOk, IfErr, Result, Ok, Err, Some, fold, length, if◌then◌else◌}
+use Rattle.std.specs.Io.KnownBytes.{Appends}
+use Rattle.std.specs.List.{flat_map, slice_get}
+use Rattle.le_rec.specs.Sink.{SinkState}
+use Rattle.level_list.specs.Format.{IsFormat}
+use Rattle.level_list.specs.Starts.{LevelStartsAt}
+use Rattle.level_list.specs.declared.format.Format.{Format}
+use Rattle.level_list.specs.declared.format.Format.TheVariants.{Udmf, Incomplete, Hexen, Outside, Extended, Doom}
+use Rattle.line_io.specs.Writes.{TakesFront, Writes}
+use Rattle.line_io.specs.declared.fault.IoFault.{IoFault}
+use Rattle.map_audit.specs.Findings.{AuditHolds}
+use Rattle.map_level.specs.Level.{Level}
+use Rattle.map_level.specs.Opening.{IsLevelAt}
+use Rattle.map_level.specs.declared.reading.Reading.{Reading}
+use Rattle.wad_dir.specs.Entries.{names}
+use Rattle.wad_dir.specs.Refusal.{RefusesWad}
+use Rattle.wad_dir.specs.Wad.{IsRead, Wad}
+use Rattle.wad_lens.specs.Counts.{AreCounts, fault_total}
+use Rattle.wad_lens.specs.Objects.{doom_members, level_members, other_members}
+use Rattle.wad_lens.specs.declared.verdict.FileFault.{FileFault}
+use Rattle.wad_lens.specs.declared.verdict.FileFault.TheVariants.{NoWad, Write, Memory}
+use Rattle.wad_lens.specs.declared.verdict.Verdict.{Verdict}
+use Rattle.wad_lens.specs.declared.verdict.Verdict.TheVariants.{Clean, Unjudged, Faulty}
+
+-- the graver of two verdicts
+abbrev pub graver : Verdict → Verdict → Verdict
+graver Faulty other = Faulty
+graver Unjudged Faulty = Faulty
+graver Unjudged other = Unjudged
+graver Clean other = other
+
+-- what a format alone says: a lump that isn't there or isn't inside its file is a fault, and what isn't read is not judged
+abbrev pub verdict_of_format : Format → Verdict
+verdict_of_format Udmf = Unjudged
+verdict_of_format (Incomplete k) = Faulty
+verdict_of_format Hexen = Unjudged
+verdict_of_format (Outside k) = Faulty
+verdict_of_format (Extended tag) = Unjudged
+verdict_of_format Doom = Clean
+
+-- what the counts of a level say
+abbrev pub verdict_of_counts : List ℕ → Verdict
+verdict_of_counts counts = if fault_total counts == 0 then Clean else Faulty
+
+-- what a level's object ends with, and its verdict, by what its audit finds
+pub record IsJudged (files : List Wad) (reading : Reading) (g : ℕ) (members : List ℕ) (verdict : Verdict) : Type 0 where
+  pub level : Level
+  pub there : IsLevelAt files g reading level
+  pub counts : List ℕ
+  pub are : AreCounts (AuditHolds level) counts
+  pub ends : members ≡ doom_members level counts
+  pub says : verdict ≡ verdict_of_counts counts
+
+-- what the object of a level ends with, and its verdict, by the level's format: only Doom's is judged
+abbrev pub EndsObject : List Wad → Reading → ℕ → Format → List ℕ → Verdict → Type 0
+EndsObject files reading g Doom members verdict = IsJudged files reading g members verdict
+EndsObject files reading g format members verdict = (members ≡ other_members format) × (verdict ≡ verdict_of_format format)
+
+-- what is told of a level
+pub record Told : Type 0 where
+  pub line : List ℕ
+  pub verdict : Verdict
+
+-- what is told of the level that starts at an entry
+pub record IsTold (path : List ℕ) (files : List Wad) (reading : Reading) (g : ℕ) (told : Told) : Type 0 where
+  pub format : Format
+  pub is : IsFormat files g format
+  pub name : List ℕ
+  pub named : slice_get (names files) g ≡ Some name
+  pub members : List ℕ
+  pub ends : EndsObject files reading g format members told.verdict
+  pub line : told.line ≡ level_members path name g format ++ members
+
+-- what is told of the levels that start at some entries, in their order
+abbrev pub AreTold : List ℕ → List Wad → Reading → List ℕ → List Told → Type 0
+AreTold path files reading [] [] = Unit {0}
+AreTold path files reading (g ∷ starts) (told ∷ others) = IsTold path files reading g told × AreTold path files reading starts others
+AreTold path files reading _ _ = ⊥
+
+-- all entries below a number at which levels start, ascending
+pub record AreStartsBelow (names : List (List ℕ)) (end : ℕ) (starts : List ℕ) : Type 0 where
+  pub ascending : AllPairs (λ a b. a < b) starts
+  pub exact : (g : ℕ) → Contains starts g ↔ (LevelStartsAt names g × (g < end))
+
+-- what is told of the levels that start below an entry
+pub record AreToldBelow (path : List ℕ) (files : List Wad) (reading : Reading) (end : ℕ) (told : List Told) : Type 0 where
+  pub starts : List ℕ
+  pub are : AreStartsBelow (names files) end starts
+  pub each : AreTold path files reading starts told
+
+-- their lines
+abbrev pub lines_of : List Told → List ℕ
+lines_of told = flat_map (λ one. one.line) told
+
+-- the gravest of their verdicts
+abbrev pub gravest : List Told → Verdict
+gravest told = fold (λ verdict one. graver verdict one.verdict) Clean told
+
+-- all levels were told, and their lines were taken
+pub record SurveysAll (path : List ℕ) (files : List Wad) (reading : Reading) (before after : SinkState) (verdict : Verdict) : Type 0 where
+  pub told : List Told
+  pub are : AreToldBelow path files reading (length (names files)) told
+  pub took : Appends before.taken after.taken (lines_of told)
+  pub sound : after.failed ≡ false
+  pub says : verdict ≡ gravest told
+
+-- how a survey stops: at a failed write within the line of some level, or where there is no memory to judge the next one
+abbrev pub StopsLines : SinkState → SinkState → List Told → FileFault → Type 0
+StopsLines before after told Write = TakesFront before after (lines_of told) × (after.failed ≡ true)
+StopsLines before after told Memory = Appends before.taken after.taken (lines_of told) × (after.failed ≡ false)
+StopsLines before after told (NoWad why) = ⊥
+
+-- the levels up to some entry were told, and no others
+pub record SurveysSome (path : List ℕ) (files : List Wad) (reading : Reading) (before after : SinkState) (fault : FileFault) : Type 0 where
+  pub end : ℕ
+  pub told : List Told
+  pub are : AreToldBelow path files reading end told
+  pub stops : StopsLines before after told fault
+
+-- a survey of all levels of some files
+pub record Surveys (path : List ℕ) (files : List Wad) (reading : Reading) (before after : SinkState) (result : Result Verdict FileFault) : Type 0 where
+  pub all : IfOk result (SurveysAll path files reading before after)
+  pub some : IfErr result (SurveysSome path files reading before after)
+
+-- why a file isn't surveyed: its bytes have no directory, or a growth was refused
+abbrev pub RefusesSurvey : List ℕ → FileFault → Type 0
+RefusesSurvey bytes (NoWad why) = RefusesWad bytes why
+RefusesSurvey bytes Memory = Unit {0}
+RefusesSurvey bytes Write = ⊥
+
+-- the file wasn't surveyed, and nothing was written
+pub record LeavesFile {W : Type 0} (bytes : List ℕ) (out out' : W) (result : Result Verdict FileFault) : Type 0 where
+  pub fault : FileFault
+  pub ended : result ≡ Err fault
+  pub holds : RefusesSurvey bytes fault
+  pub untouched : out' ≡ out
+
+-- the file's levels were surveyed
+pub record SurveysFile (path bytes : List ℕ) (reading : Reading) (before after : SinkState) (result : Result Verdict FileFault) : Type 0 where
+  pub file : Wad
+  pub of_bytes : file.bytes ≡ bytes
+  pub read : IsRead file
+  pub does : Surveys path (file ∷ []) reading before after result
+
+-- over a file of these bytes and a sink, of which clauses see its state
+abbrev pub RunsSurvey : {W : Type 0} → (W → SinkState) → List ℕ → List ℕ → Reading → W → W → Result Verdict FileFault → Type 0
+RunsSurvey state path bytes reading out out' result =
+    LeavesFile bytes out out' result ⊎ SurveysFile path bytes reading (state out) (state out') result
+
+-- the end of a level's line: its verdict, where the line was written
+abbrev pub line_end : Verdict → Result (Unit {0}) IoFault → Result Verdict FileFault
+line_end verdict (Ok x) = Ok verdict
+line_end verdict (Err fault) = Err Write
+
+-- a line was written whose level has this verdict
+pub record WritesLine (before after : SinkState) (line : List ℕ) (verdict : Verdict) (result : Result Verdict FileFault) : Type 0 where
+  pub outcome : Result (Unit {0}) IoFault
+  pub writes : Writes before after line outcome
+  pub ended : result ≡ line_end verdict outcome
+
+-- the line of a level of Doom's format was written, by what its audit finds
+pub record WritesDoom (path : List ℕ) (files : List Wad) (reading : Reading) (name : List ℕ) (g : ℕ) (before after : SinkState) (result : Result Verdict FileFault) : Type 0 where
+  pub members : List ℕ
+  pub verdict : Verdict
+  pub judged : IsJudged files reading g members verdict
+  pub writes : WritesLine before after (level_members path name g Doom ++ members) verdict result
+
+-- nothing was written for want of memory
+pub record WantsMemory {W : Type 0} (out out' : W) (result : Result Verdict FileFault) : Type 0 where
+  pub ended : result ≡ Err Memory
+  pub untouched : out' ≡ out
+
+-- one of the two
+abbrev pub SurveysDoom : {W : Type 0} → (W → SinkState) → List ℕ → List Wad → Reading → List ℕ → ℕ → W → W → Result Verdict FileFault → Type 0
+SurveysDoom state path files reading name g out out' result =
+    WantsMemory out out' result ⊎ WritesDoom path files reading name g (state out) (state out') result
+
+-- the line of a level was written
+pub record WritesLevel (path : List ℕ) (files : List Wad) (reading : Reading) (g : ℕ) (before after : SinkState) (result : Result Verdict FileFault) : Type 0 where
+  pub told : Told
+  pub is : IsTold path files reading g told
+  pub writes : WritesLine before after told.line told.verdict result
+
+-- or nothing was
+abbrev pub SurveysLevel : {W : Type 0} → (W → SinkState) → List ℕ → List Wad → Reading → ℕ → W → W → Result Verdict FileFault → Type 0
+SurveysLevel state path files reading g out out' result =
+    WantsMemory out out' result ⊎ WritesLevel path files reading g (state out) (state out') result

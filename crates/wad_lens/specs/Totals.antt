@@ -1,0 +1,50 @@
+-- What is counted over levels, files and a run.
+use Rattle.std.specs.Prelude.{ℕ, ◌+◌, ◌-◌, ◌^◌, List, [], ◌∷◌, ◌++◌, codes, min}
+use Rattle.std.specs.Fmt.{decimal}
+use Rattle.level_list.specs.declared.format.Format.{Format}
+use Rattle.level_list.specs.declared.format.Format.TheVariants.{Udmf, Incomplete, Hexen, Outside, Extended, Doom}
+use Rattle.wad_lens.specs.Counts.{fault_total, note_total}
+use Rattle.wad_lens.specs.declared.totals.Totals.{Totals}
+
+-- of no level
+abbrev pub no_totals : Totals
+no_totals = record { levels = 0; faults = 0; notes = 0; broken = 0; unread = 0 }
+
+-- of a judged level, of which each code holds so often
+abbrev pub judged_totals : List ℕ → Totals
+judged_totals counts = record { levels = 1; faults = fault_total counts; notes = note_total counts; broken = 0; unread = 0 }
+
+-- of a level of another format than Doom's: one that lacks a lump is broken, and the others aren't read
+abbrev pub format_totals : Format → Totals
+format_totals Udmf = record { levels = 1; faults = 0; notes = 0; broken = 0; unread = 1 }
+format_totals (Incomplete k) = record { levels = 1; faults = 0; notes = 0; broken = 1; unread = 0 }
+format_totals Hexen = record { levels = 1; faults = 0; notes = 0; broken = 0; unread = 1 }
+format_totals (Outside k) = record { levels = 1; faults = 0; notes = 0; broken = 1; unread = 0 }
+format_totals (Extended tag) = record { levels = 1; faults = 0; notes = 0; broken = 0; unread = 1 }
+format_totals Doom = record { levels = 1; faults = 0; notes = 0; broken = 0; unread = 0 }
+
+-- a sum in 64 bits, which stops at the greatest number
+abbrev pub capped : ℕ → ℕ → ℕ
+capped a b = min (a + b) (2 ^ 64 - 1)
+
+-- both together
+abbrev pub totals_with : Totals → Totals → Totals
+totals_with a b = record {
+  levels = capped a.levels b.levels;
+  faults = capped a.faults b.faults;
+  notes = capped a.notes b.notes;
+  broken = capped a.broken b.broken;
+  unread = capped a.unread b.unread;
+}
+
+-- `N levels in M files: F faults, K notes, U not judged`
+abbrev pub levels_text : ℕ → Totals → List ℕ
+levels_text files totals = decimal totals.levels ++ (codes " levels in " ++ (decimal files ++ codes " files: "))
+
+abbrev pub found_text : Totals → List ℕ
+found_text totals =
+    decimal totals.faults ++ (codes " faults, " ++ (decimal totals.notes ++ (codes " notes, "
+    ++ (decimal (capped totals.broken totals.unread) ++ (codes " not judged" ++ 10 ∷ [])))))
+
+abbrev pub totals_line : ℕ → Totals → List ℕ
+totals_line files totals = levels_text files totals ++ found_text totals

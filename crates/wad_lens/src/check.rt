@@ -1,0 +1,228 @@
+//! The check of a file: what is found at each of its levels, in lines for people, editors and programs.
+
+ghost use Rattle.std.specs.Prelude.{◌≡◌, ◌↔◌, false, IfOk, IfSome, IsTrue};
+ghost use Rattle.level_list.specs.Format.{IsFormat};
+ghost use Rattle.level_list.specs.Starts.{LevelStartsAt};
+ghost use Rattle.level_list.specs.declared.format.Format.TheVariants as format;
+ghost use Rattle.map_audit.specs.Findings.{AuditHolds};
+ghost use Rattle.wad_dir.specs.Entries.{names};
+ghost use Rattle.wad_lens.specs.Check.{asked_of, text_end, Checks, ChecksText, IsJudged, IsLevelText, IsSoundWideAlone, RunsCheck};
+ghost use Rattle.wad_lens.specs.Counts.{AreCounts};
+
+use crate::counts::Counts;
+use crate::judged::Judged;
+use crate::level_lines::write_judged;
+use crate::lines::{Heading, write_format};
+use crate::survey::{label_of, level_at};
+use crate::totals::{Totals, format_totals, judged_totals, no_totals};
+use crate::verdict::FileFault;
+use le_rec::Sink;
+use level_list::{Format, format_of, next_start};
+use line_io::IoFault;
+use map_level::{Level, Reading};
+use map_tree::is_sound;
+use std::alloc::{AllocError, Allocator};
+use wad_dir::{Set, SetFault};
+
+/// How a file is checked.
+#[derive(Clone, Copy)]
+pub struct Question<'p> {
+    /// The file's path, as it is written before each line. Nothing is looked up by it.
+    pub path: &'p [u8],
+    /// How many findings of one code are shown of a level at most; 0: all.
+    pub most: u64,
+    pub reading: Reading,
+}
+
+/// Writes what is found at each level of a file, hidden ones too, in the order of their labels, and answers what it adds up
+/// to.
+///
+/// `NoWad` comes before anything is written, and so may `Memory`; a later `Memory` comes between the lines of two levels,
+/// `Write` within those of one. No finding is kept.
+pub fn check_file<A: Allocator + Copy, W: Sink>(
+    alloc: A,
+    question: &Question<'_>,
+    bytes: &[u8],
+    out: &mut W,
+) -> Result<Totals, FileFault>
+    requires { (W.state out.old).failed ≡ false }
+    ensures { RunsCheck W.state (asked_of question.now) bytes.now out.old out.new result }
+{
+    match Set::one(alloc, bytes) {
+        Ok(set) => check_set(alloc, question, &set, out),
+        Err(SetFault::File(_, fault)) => Err(FileFault::NoWad(fault)),
+        Err(SetFault::Memory) => Err(FileFault::Memory),
+    }
+}
+
+// Writes the lines of all levels of a set.
+fn check_set<A: Allocator + Copy, W: Sink>(
+    alloc: A,
+    question: &Question<'_>,
+    set: &Set<'_, A>,
+    out: &mut W,
+) -> Result<Totals, FileFault>
+    requires { (W.state out.old).failed ≡ false }
+    ensures { Checks (asked_of question.now) set.now (W.state out.old) (W.state out.new) result }
+{
+    let total = set.total();
+    let mut sum = no_totals();
+    let mut from = 0;
+    'levels: while let Some(g) = next_start(set, from) {
+        let totals = check_level(alloc, question, set, g, out)?;
+        sum = sum.with(totals);
+        from = g + 1;
+    }
+    Ok(sum)
+}
+
+// Writes the lines of the level that starts at an entry.
+fn check_level<A: Allocator + Copy, W: Sink>(
+    alloc: A,
+    question: &Question<'_>,
+    set: &Set<'_, A>,
+    g: usize,
+    out: &mut W,
+) -> Result<Totals, FileFault>
+    requires starts { LevelStartsAt (names set.now) g }
+    requires sound { (W.state out.old).failed ≡ false }
+    ensures { ChecksText W.state (IsLevelText (asked_of question.now) set.now g) out.old out.new result }
+{
+    let heading = Heading {
+        path: question.path,
+        name: label_of(set, g),
+    };
+    match format_of(set, g) {
+        Format::Doom => check_doom(alloc, question, &heading, set, g, out),
+        format => text_end(format_totals(format), write_format(&heading, format, out)),
+    }
+}
+
+// Writes the lines of a level of Doom's format.
+fn check_doom<A: Allocator + Copy, W: Sink>(
+    alloc: A,
+    question: &Question<'_>,
+    heading: &Heading<'_>,
+    set: &Set<'_, A>,
+    g: usize,
+    out: &mut W,
+) -> Result<Totals, FileFault>
+    requires is { IsFormat set.now g format.Doom }
+    requires path { heading.now.path.now ≡ question.now.path.now }
+    requires sound { (W.state out.old).failed ≡ false }
+    ensures { ChecksText W.state (IsJudged (asked_of question.now) set.now g heading.now.name) out.old out.new result }
+{
+    let level = level_at(set, g, question.reading);
+    let Ok(told) = judge(alloc, set, g, question.reading, &level) else {
+        return Err(FileFault::Memory);
+    };
+    let wrote = write_judged(
+        &told.judged,
+        heading,
+        question.most,
+        &told.counts,
+        told.sound_wide,
+        out,
+    );
+    text_end(judged_totals(&told.counts), wrote)
+}
+
+// What a level's lines are made of.
+#[derive(Drop)]
+struct Told<'l, 'a, A: Allocator> {
+    judged: Judged<'l, 'a, A>,
+    counts: Counts,
+    sound_wide: bool,
+}
+
+// What the lines of the level at a label are made of. A level is looked through once; where the wide reading is asked, too, what
+// that took is given back before, and it is looked through again for its lines.
+fn judge<'l, 'a, A: Allocator + Copy>(
+    alloc: A,
+    set: &Set<'_, A>,
+    g: usize,
+    reading: Reading,
+    level: &'l Level<'a>,
+) -> Result<Told<'l, 'a, A>, AllocError>
+    requires { IsFormat set.now g format.Doom }
+    ensures judged { IfOk result (λ told. told.judged ≡ level.now) }
+    ensures counts { IfOk result (λ told. AreCounts (AuditHolds level.now) told.counts) }
+    ensures wide { IfOk result (λ told. IsTrue told.sound_wide ↔ IsSoundWideAlone set.now g reading level.now) }
+{
+    let judged = Judged::of(alloc, level)?;
+    let counts = judged.counts();
+    let kept = unless_asked_wide(judged, reading, &counts);
+    let sound_wide = is_sound_wide_alone(alloc, set, g, reading, level, &counts)?;
+    let judged = judged_again(alloc, level, kept)?;
+    Ok(Told {
+        judged,
+        counts,
+        sound_wide,
+    })
+}
+
+// A judged level, let go where the wide reading is asked, too.
+fn unless_asked_wide<'l, 'a, A: Allocator>(
+    judged: Judged<'l, 'a, A>,
+    reading: Reading,
+    counts: &Counts,
+) -> Option<Judged<'l, 'a, A>>
+    ensures { IfSome result (λ again. again ≡ judged.entry) }
+{
+    if reading == Reading::Signed && counts.faults() > 0 {
+        return None;
+    }
+    Some(judged)
+}
+
+// The judged level that was kept, or the level judged again.
+fn judged_again<'l, 'a, A: Allocator + Copy>(
+    alloc: A,
+    level: &'l Level<'a>,
+    kept: Option<Judged<'l, 'a, A>>,
+) -> Result<Judged<'l, 'a, A>, AllocError>
+    requires { IfSome kept (λ before. before ≡ level.now) }
+    ensures { IfOk result (λ judged. judged ≡ level.now) }
+{
+    match kept {
+        Some(judged) => Ok(judged),
+        None => Judged::of(alloc, level),
+    }
+}
+
+// Whether the wide reading alone finds the level at a label sound.
+fn is_sound_wide_alone<A: Allocator + Copy>(
+    alloc: A,
+    set: &Set<'_, A>,
+    g: usize,
+    reading: Reading,
+    level: &Level<'_>,
+    counts: &Counts,
+) -> Result<bool, AllocError>
+    requires is { IsFormat set.now g format.Doom }
+    requires counts { AreCounts (AuditHolds level.now) counts.now }
+    ensures { IfOk result (λ sound. IsTrue sound ↔ IsSoundWideAlone set.now g reading level.now) }
+{
+    // Only the clauses speak of the level.
+    let _level = level;
+    match reading {
+        Reading::Wide => Ok(false),
+        Reading::Signed => {
+            if counts.faults() == 0 {
+                return Ok(false);
+            }
+            let wide = level_at(set, g, Reading::Wide);
+            is_sound(alloc, &wide)
+        }
+    }
+}
+
+// The end of a level's text: its totals, where the text was written.
+fn text_end(totals: Totals, wrote: Result<(), IoFault>) -> Result<Totals, FileFault>
+    ensures { result ≡ text_end totals wrote }
+{
+    match wrote {
+        Ok(()) => Ok(totals),
+        Err(_) => Err(FileFault::Write),
+    }
+}

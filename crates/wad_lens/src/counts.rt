@@ -1,0 +1,140 @@
+//! How often each code holds of a level, told without a list of its findings.
+
+ghost use Rattle.std.specs.Prelude.{◌≡◌, ◌<◌, ◌≤◌, drop, length, sum, slice_index, take, IfOk};
+ghost use Rattle.map_audit.specs.Findings.{AuditHolds};
+ghost use Rattle.map_level.specs.Findings.{place};
+ghost use Rattle.map_level.specs.declared.finding.Code.TheVariants.{F1};
+ghost use Rattle.std.specs.Prelude.{slice_index_or};
+ghost use Rattle.wad_lens.specs.Counts.{AreCounts, IsCount, fault_total, note_total, report_order};
+
+use map_audit::Parts;
+use map_level::search::Search;
+use map_level::{Code, Level};
+use std::alloc::{AllocError, Allocator};
+use std::marker::Model;
+
+/// How many codes there are.
+pub const CODE_COUNT: usize = 30;
+
+/// The codes in the order of a report.
+const CODES: [Code; CODE_COUNT] = [
+    Code::F1,
+    Code::F2,
+    Code::F3,
+    Code::F4,
+    Code::F5,
+    Code::F6,
+    Code::F7,
+    Code::F8,
+    Code::F9,
+    Code::F10,
+    Code::F11,
+    Code::F12,
+    Code::F13,
+    Code::F14,
+    Code::F15,
+    Code::F16,
+    Code::F17,
+    Code::F18,
+    Code::N1,
+    Code::N2,
+    Code::N3,
+    Code::N4,
+    Code::N5,
+    Code::N6,
+    Code::N7,
+    Code::N8,
+    Code::N9,
+    Code::N10,
+    Code::N11,
+    Code::N12,
+];
+
+/// How often each code holds of a level, by the codes' places.
+#[derive(Drop)]
+pub struct Counts {
+    counts: [u32; CODE_COUNT],
+}
+
+impl Model for Counts {
+    ghost use Rattle.std.specs.Prelude.{◌≡◌, List, ℕ, length};
+    ghost use Rattle.wad_lens.specs.declared.counts.TheConstants.{CODE_COUNT};
+
+    ghost Value = { List ℕ };
+
+    ghost view = { λ c. c.counts };
+
+    ghost invariant = { λ c. length c.counts ≡ CODE_COUNT };
+}
+
+impl Counts {
+    /// How often each code holds of a level. It goes over the level once for each code that is found, and keeps no finding.
+    pub fn of<A: Allocator + Copy>(alloc: A, level: &Level<'_>) -> Result<Counts, AllocError>
+        ensures { IfOk result (AreCounts (AuditHolds level.now)) }
+    {
+        let parts = Parts::of(alloc, level)?;
+        Ok(count_all(&parts))
+    }
+
+    /// How often the code of a place holds.
+    pub fn get(&self, place: usize) -> u32
+        requires { place < CODE_COUNT }
+        ensures { result ≡ slice_index self.now place }
+    {
+        self.counts[place]
+    }
+
+    /// How many of the findings are faults.
+    pub fn faults(&self) -> u64
+        ensures { result ≡ fault_total self.now }
+    {
+        total(&self.counts[..usize::from(Code::N1.place())])
+    }
+
+    /// How many of them are notes.
+    pub fn notes(&self) -> u64
+        ensures { result ≡ note_total self.now }
+    {
+        total(&self.counts[usize::from(Code::N1.place())..])
+    }
+}
+
+/// The code of a place in the order of a report.
+pub fn code_at(place: usize) -> Code
+    requires { place < CODE_COUNT }
+    ensures { result ≡ slice_index_or report_order place F1 }
+{
+    CODES[place]
+}
+
+// The sum of some counts.
+fn total(counts: &[u32]) -> u64
+    requires { length counts.now ≤ CODE_COUNT }
+    ensures { result ≡ sum counts.now }
+{
+    counts.iter().map(|count| u64::from(*count)).sum()
+}
+
+/// How often each code holds of what is searched.
+pub fn count_all<T: Search>(searched: &T) -> Counts
+    ensures { AreCounts (T.holds searched.now) result }
+{
+    let mut counts = [0; CODE_COUNT];
+    for i in 0..CODE_COUNT {
+        counts[i] = count_code(searched, CODES[i]);
+    }
+    Counts { counts }
+}
+
+// How often a code holds of what is searched.
+fn count_code<T: Search>(searched: &T, code: Code) -> u32
+    ensures { IsCount (T.holds searched.now code) result }
+{
+    let mut count = 0;
+    let mut from = 0;
+    'finds: while let Some(index) = searched.first(code, from) {
+        count += 1;
+        from = index + 1;
+    }
+    count
+}

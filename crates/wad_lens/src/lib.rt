@@ -1,0 +1,31 @@
+//! The engines that go over all levels of a file: bytes in, bytes out. Which files there are only a program knows, and it
+//! hands their paths on as bytes.
+#![tactic(auto)]
+
+mod check;
+mod counts;
+mod digits;
+mod json_string;
+mod judged;
+mod kind;
+pub mod laws;
+mod level_lines;
+mod lines;
+mod message;
+mod object;
+mod owners;
+mod place;
+mod records;
+mod survey;
+mod totals;
+mod verdict;
+
+pub use check::{Question, check_file};
+pub use counts::Counts;
+pub use json_string::write_string;
+pub use kind::Kind;
+pub use object::{Refusal, refused_line};
+pub use place::{Place, Spot};
+pub use survey::survey_file;
+pub use totals::{Totals, write_totals};
+pub use verdict::{FileFault, Verdict};

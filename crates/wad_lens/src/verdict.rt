@@ -1,0 +1,41 @@
+//! What is said of a file, and why nothing is.
+
+use wad_dir::WadFault;
+
+/// What was found in a file, or at one of its levels.
+#[derive(Clone, Copy, Debug, PartialEq, Eq)]
+pub enum Verdict {
+    /// All levels were judged, and none has a fault.
+    Clean,
+    /// A level is in a format that isn't judged.
+    Unjudged,
+    /// A level has a fault, or a lump of it isn't there or isn't inside the file. It goes before `Unjudged`.
+    Faulty,
+}
+
+impl Verdict {
+    ghost use Rattle.std.specs.Prelude.{◌≡◌};
+    ghost use Rattle.wad_lens.specs.Survey.{graver};
+
+    /// The graver of two verdicts.
+    pub fn graver(self, other: Verdict) -> Verdict
+        ensures { result ≡ graver self other }
+    {
+        match (self, other) {
+            (Verdict::Faulty, _) | (_, Verdict::Faulty) => Verdict::Faulty,
+            (Verdict::Unjudged, _) | (_, Verdict::Unjudged) => Verdict::Unjudged,
+            (Verdict::Clean, Verdict::Clean) => Verdict::Clean,
+        }
+    }
+}
+
+/// Why going over a file stopped.
+#[derive(Clone, Copy, Debug, PartialEq, Eq)]
+pub enum FileFault {
+    /// The file's bytes have no directory. Nothing was written.
+    NoWad(WadFault),
+    /// The output failed.
+    Write,
+    /// A growth was refused.
+    Memory,
+}

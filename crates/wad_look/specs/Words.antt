@@ -1,0 +1,48 @@
+-- The forms of a command line (this project's own): a table with a line a command, and what the words of a form ask for.
+use Rattle.std.specs.Prelude.{◌≡◌, ◌≢◌, ℕ, ◌<◌, ◌≤◌, Bool, true, false, List, [], ◌∷◌, ◌++◌, length, codes, take, All, IsTrue, slice_index, slice_index_or, zero, suc}
+use Rattle.wad_dir.specs.declared.set.TheConstants.{MAX_FILES}
+use Rattle.wad_look.specs.Command.{Job, word_of}
+use Rattle.wad_look.specs.declared.command.Cmd.{Cmd}
+use Rattle.wad_look.specs.declared.command.Cmd.TheVariants.{Lumps, Levels, Show, Audit, Points, Census, Sight, Blocks, Extract, Demo, Lmp}
+use Rattle.wad_look.specs.declared.words.Form.{Form}
+
+-- whether `--wide` may follow the word, how many NAMEs stand before the files, and how many files there may be
+abbrev pub form_of : Cmd → Form
+form_of Lumps = record { wide = false; names = 0; files = MAX_FILES }
+form_of Levels = record { wide = false; names = 0; files = MAX_FILES }
+form_of Show = record { wide = true; names = 1; files = MAX_FILES }
+form_of Audit = record { wide = true; names = 1; files = MAX_FILES }
+form_of Points = record { wide = true; names = 1; files = MAX_FILES }
+form_of Census = record { wide = true; names = 1; files = MAX_FILES }
+form_of Sight = record { wide = false; names = 1; files = MAX_FILES }
+form_of Blocks = record { wide = true; names = 1; files = MAX_FILES }
+form_of Extract = record { wide = false; names = 1; files = MAX_FILES }
+form_of Demo = record { wide = false; names = 1; files = MAX_FILES }
+form_of Lmp = record { wide = false; names = 0; files = 1 }
+
+-- `--wide` or nothing
+abbrev pub wide_words : Bool → List (List ℕ)
+wide_words false = []
+wide_words true = codes "--wide" ∷ []
+
+-- a NAME or a FILE doesn't begin with `-`
+abbrev pub IsPlain : List ℕ → Type 0
+IsPlain word = slice_index word 0 ≢ 45
+
+-- the NAME of a job, where its command takes one
+abbrev pub names_of : Job → List (List ℕ)
+names_of job = take (form_of job.command).names (job.name ∷ [])
+
+-- the name among the operands of a form that takes so many, and no bytes where it takes none
+abbrev pub name_in : ℕ → List (List ℕ) → List ℕ
+name_in zero operands = []
+name_in (suc n) operands = slice_index_or operands 0 []
+
+-- the words are the command's, `--wide` where the job says so, the NAME of the form, and the paths
+pub record IsJob (words : List (List ℕ)) (job : Job) : Type 0 where
+  pub spelled : words ≡ word_of job.command ∷ (wide_words job.wide ++ (names_of job ++ job.paths))
+  pub may_be_wide : IsTrue job.wide → IsTrue (form_of job.command).wide
+  pub nameless : (form_of job.command).names ≡ 0 → job.name ≡ []
+  pub some_file : 0 < length job.paths
+  pub few_files : length job.paths ≤ (form_of job.command).files
+  pub plain : All IsPlain (names_of job ++ job.paths)

@@ -1,0 +1,4 @@
+pub mod Files
+pub mod Run
+pub mod Status
+pub mod Paths

@@ -1,0 +1,87 @@
+//! How far a run is, on one line that is rewritten.
+
+use level_list::next_start;
+use std::alloc::Global;
+use std::io::Write;
+use wad_dir::Set;
+
+/// Tells how many files and levels are done, where there is an end for it. Where that fails, nobody is left to be told.
+#[derive(Drop)]
+pub struct Progress<P: Write + Drop> {
+    end: Option<P>,
+    files: u64,
+    levels: u64,
+    // Whether the line has a text.
+    stands: bool,
+}
+
+impl<P: Write + Drop> Progress<P> {
+    /// Nothing is done so far.
+    pub fn new(end: Option<P>) -> Self {
+        Progress {
+            end,
+            files: 0,
+            levels: 0,
+            stands: false,
+        }
+    }
+
+    /// A file is done, the one with these bytes.
+    pub fn add(&mut self, alloc: Global, bytes: &[u8]) {
+        if self.end.is_some() {
+            self.show(count_levels(alloc, bytes));
+        }
+    }
+
+    /// A file is done that was refused.
+    pub fn add_refused(&mut self) {
+        self.show(0);
+    }
+
+    // Writes the line over the one that stands.
+    fn show(&mut self, levels: u64) {
+        self.files = self.files.saturating_add(1);
+        self.levels = self.levels.saturating_add(levels);
+        if let Some(end) = &mut self.end {
+            let _ = end.write_fmt(format_args!("\r{} files, {} levels", self.files, self.levels));
+            self.stands = true;
+        }
+    }
+
+    /// Clears the line, so that something else can be told there.
+    pub fn clear(&mut self) {
+        self.leave("\r\x1b[K");
+    }
+
+    /// Leaves the line as it is, and goes on to the next one.
+    pub fn finish(&mut self) {
+        self.leave("\n");
+    }
+
+    // Leaves the line, where one stands.
+    fn leave(&mut self, by: &str) {
+        if let Some(end) = &mut self.end {
+            if self.stands {
+                let _ = end.write_all(by.as_bytes());
+                self.stands = false;
+            }
+        }
+    }
+}
+
+// How many levels start in a file's bytes.
+fn count_levels(alloc: Global, bytes: &[u8]) -> u64 {
+    let Ok(set) = Set::one(alloc, bytes) else {
+        return 0;
+    };
+    let mut levels: u64 = 0;
+    let mut from = 0;
+    for _ in 0..set.total() {
+        let Some(g) = next_start(&set, from) else {
+            break;
+        };
+        levels = levels.saturating_add(1);
+        from = g.saturating_add(1);
+    }
+    levels
+}

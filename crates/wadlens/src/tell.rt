@@ -1,0 +1,309 @@
+//! What is told of one file: the engine's text, or why it is refused.
+ghost use Rattle.std.specs.Prelude.{◌≡◌, ◌++◌, codes, false, map, IfOk, IfErr, OnOk};
+ghost use Rattle.line_io.specs.Writes.{Writes};
+ghost use Rattle.wad_lens.specs.Objects.{refusal_text};
+ghost use Rattle.wadlens.specs.Files.{max_read};
+ghost use Rattle.wadlens.specs.Run.{AreSound, ChecksBytes, LeavesBytes, RefusesFile, StopsAt, StopsRun, SurveysBytes};
+ghost use Rattle.wadlens.specs.Run.{TellsPath, TellsWord, ToldTo, WritesRefusal, no_tally, refusal_answer, refusal_line};
+ghost use Rattle.wadlens.specs.Run.{tally_with, verdict_of_totals};
+
+use crate::files::{ReadFault, Storage, read_file};
+use crate::progress::Progress;
+use le_rec::Sink;
+use line_io::{IoFault, emit};
+use map_level::Reading;
+use std::alloc::Global;
+use std::io::Write;
+use wad_lens::{
+    FileFault, Question, Refusal, Totals, Verdict, check_file, refused_line, survey_file,
+};
+
+/// What is asked of each file.
+#[derive(Clone, Copy, Debug, PartialEq, Eq)]
+pub enum Word {
+    /// The findings, at most so many of one code in one level; 0: all.
+    Check(u64),
+    /// An object for each level.
+    Survey,
+}
+
+/// What is asked of each file, and how its levels are read.
+#[derive(Clone, Copy, Debug, PartialEq, Eq)]
+pub struct Asked {
+    pub word: Word,
+    pub reading: Reading,
+}
+
+/// What was found.
+#[derive(Clone, Copy, Debug, PartialEq, Eq)]
+pub struct Tally {
+    /// The gravest of what was found, where a refused file counts as one that isn't judged.
+    pub verdict: Verdict,
+    /// What `check` adds up; nothing of a survey.
+    pub totals: Totals,
+}
+
+/// Why a run stopped.
+#[derive(Clone, Copy, Debug, PartialEq, Eq)]
+pub enum Stop {
+    /// A growth was refused.
+    Memory,
+    /// What is answered can't be written.
+    Output,
+    /// What is refused can't be told.
+    Errors,
+}
+
+/// Why a run stopped, and what was found before.
+#[derive(Clone, Copy, Debug, PartialEq, Eq)]
+pub struct Stopped {
+    pub stop: Stop,
+    pub found: Verdict,
+}
+
+/// The tally of no file.
+pub fn no_tally() -> Tally
+    ensures { result ≡ no_tally }
+{
+    Tally {
+        verdict: Verdict::Clean,
+        totals: Totals {
+            levels: 0,
+            faults: 0,
+            notes: 0,
+            broken: 0,
+            unread: 0,
+        },
+    }
+}
+
+impl Tally {
+    /// Both together.
+    fn with(self, other: Tally) -> Tally
+        ensures { result ≡ tally_with self other }
+    {
+        Tally {
+            verdict: self.verdict.graver(other.verdict),
+            totals: self.totals.with(other.totals),
+        }
+    }
+}
+
+/// Tells what is asked of the file under each path, in order: the engine's text into `out`, and why a file is refused into
+/// `errors`. One file is let go before the next is opened.
+pub fn tell_paths<S: Storage, W: Sink, E: Sink, P: Write + Drop>(
+    alloc: Global,
+    storage: &S,
+    asked: Asked,
+    paths: &[&[u8]],
+    out: &mut W,
+    errors: &mut E,
+    progress: &mut Progress<P>,
+) -> Result<Tally, Stopped>
+    requires { AreSound (W.state out.old) (E.state errors.old) }
+    ensures told { IfOk result (ToldTo (S.held storage.now) asked (W.state out.old) (E.state errors.old)
+        (map (λ path. path.now) paths.now) (W.state out.new) (E.state errors.new)) }
+    ensures sound { OnOk result (AreSound (W.state out.new) (E.state errors.new)) }
+    ensures stopped { IfErr result (StopsAt (S.held storage.now) asked (map (λ path. path.now) paths.now)
+        (W.state out.old) (E.state errors.old) (W.state out.new) (E.state errors.new)) }
+{
+    let mut sum = no_tally();
+    for path in paths {
+        match tell_path(alloc, storage, asked, path, out, errors, progress) {
+            Ok(tally) => sum = sum.with(tally),
+            Err(stop) => {
+                return Err(Stopped {
+                    stop,
+                    found: sum.verdict,
+                });
+            }
+        }
+    }
+    Ok(sum)
+}
+
+// Tells what is asked of the file under a path.
+fn tell_path<S: Storage, W: Sink, E: Sink, P: Write + Drop>(
+    alloc: Global,
+    storage: &S,
+    asked: Asked,
+    path: &[u8],
+    out: &mut W,
+    errors: &mut E,
+    progress: &mut Progress<P>,
+) -> Result<Tally, Stop>
+    requires { AreSound (W.state out.old) (E.state errors.old) }
+    ensures told { IfOk result (TellsPath (S.held storage.now path.now) asked path.now
+        (W.state out.old) (W.state out.new) (E.state errors.old) (E.state errors.new)) }
+    ensures sound { OnOk result (AreSound (W.state out.new) (E.state errors.new)) }
+    ensures stopped { IfErr result (StopsRun (W.state out.new) (E.state errors.new)) }
+{
+    match read_file(alloc, storage, path) {
+        Ok(bytes) => match tell_bytes(alloc, asked, path, &bytes, out) {
+            Ok(tally) => {
+                progress.add(alloc, &bytes);
+                Ok(tally)
+            }
+            Err(FileFault::NoWad(why)) => {
+                tell_refusal(asked.word, path, Refusal::NoWad(why), out, errors, progress)
+            }
+            Err(FileFault::Write) => Err(Stop::Output),
+            Err(FileFault::Memory) => Err(Stop::Memory),
+        },
+        Err(ReadFault::Refused(refusal)) => {
+            tell_refusal(asked.word, path, refusal, out, errors, progress)
+        }
+        Err(ReadFault::Memory) => Err(Stop::Memory),
+    }
+}
+
+// Tells that a file is refused, and why.
+fn tell_refusal<W: Sink, E: Sink, P: Write + Drop>(
+    word: Word,
+    path: &[u8],
+    refusal: Refusal,
+    out: &mut W,
+    errors: &mut E,
+    progress: &mut Progress<P>,
+) -> Result<Tally, Stop>
+    requires { AreSound (W.state out.old) (E.state errors.old) }
+    ensures told { IfOk result (WritesRefusal word path.now refusal
+        (W.state out.old) (W.state out.new) (E.state errors.old) (E.state errors.new)) }
+    ensures sound { OnOk result (AreSound (W.state out.new) (E.state errors.new)) }
+    ensures stopped { IfErr result (StopsRun (W.state out.new) (E.state errors.new)) }
+{
+    progress.clear();
+    if write_refusal(path, refusal, errors).is_err() {
+        return Err(Stop::Errors);
+    }
+    if answer_refusal(word, path, refusal, out).is_err() {
+        return Err(Stop::Output);
+    }
+    progress.add_refused();
+    Ok(Tally {
+        verdict: Verdict::Unjudged,
+        totals: no_tally().totals,
+    })
+}
+
+/// Writes why a file is refused: `wadlens: PATH: TEXT`.
+pub fn write_refusal<E: Sink>(path: &[u8], refusal: Refusal, errors: &mut E) -> Result<(), IoFault>
+    requires { (E.state errors.old).failed ≡ false }
+    ensures { Writes (E.state errors.old) (E.state errors.new) (refusal_line path.now refusal) result }
+{
+    emit(errors, b"wadlens: ")?;
+    emit(errors, path)?;
+    write_reason(refusal, errors)
+}
+
+// `: TEXT`
+fn write_reason<E: Sink>(refusal: Refusal, errors: &mut E) -> Result<(), IoFault>
+    requires { (E.state errors.old).failed ≡ false }
+    ensures { Writes (E.state errors.old) (E.state errors.new)
+        (codes ": " ++ (refusal_text refusal ++ codes "\n")) result }
+{
+    emit(errors, b": ")?;
+    emit(errors, refusal.text())?;
+    emit(errors, b"\n")
+}
+
+// A survey has an object for a refused file, and a check nothing.
+fn answer_refusal<W: Sink>(
+    word: Word,
+    path: &[u8],
+    refusal: Refusal,
+    out: &mut W,
+) -> Result<(), IoFault>
+    requires { (W.state out.old).failed ≡ false }
+    ensures { Writes (W.state out.old) (W.state out.new) (refusal_answer word path.now refusal) result }
+{
+    match word {
+        Word::Survey => refused_line(path, refusal, out),
+        Word::Check(_) => emit(out, b""),
+    }
+}
+
+// What the totals of a check say.
+fn verdict_of_totals(totals: Totals) -> Verdict
+    ensures { result ≡ verdict_of_totals totals }
+{
+    if totals.faults == 0 && totals.broken == 0 {
+        if totals.unread == 0 {
+            Verdict::Clean
+        } else {
+            Verdict::Unjudged
+        }
+    } else {
+        Verdict::Faulty
+    }
+}
+
+// Tells what is asked of the levels in a file's bytes.
+fn tell_bytes<W: Sink>(
+    alloc: Global,
+    asked: Asked,
+    path: &[u8],
+    bytes: &[u8],
+    out: &mut W,
+) -> Result<Tally, FileFault>
+    requires { (W.state out.old).failed ≡ false }
+    ensures told { IfOk result (TellsWord asked.word path.now bytes.now asked.reading (W.state out.old) (W.state out.new)) }
+    ensures sound { OnOk result ((W.state out.new).failed ≡ false) }
+    ensures left { IfErr result (LeavesBytes W.state bytes.now out.old out.new) }
+{
+    match asked.word {
+        Word::Survey => survey_bytes(alloc, path, bytes, asked.reading, out),
+        Word::Check(most) => {
+            let question = Question {
+                path,
+                most,
+                reading: asked.reading,
+            };
+            check_bytes(alloc, &question, bytes, out)
+        }
+    }
+}
+
+// The objects of a file's levels.
+fn survey_bytes<W: Sink>(
+    alloc: Global,
+    path: &[u8],
+    bytes: &[u8],
+    reading: Reading,
+    out: &mut W,
+) -> Result<Tally, FileFault>
+    requires { (W.state out.old).failed ≡ false }
+    ensures told { IfOk result (SurveysBytes path.now bytes.now reading (W.state out.old) (W.state out.new)) }
+    ensures sound { OnOk result ((W.state out.new).failed ≡ false) }
+    ensures left { IfErr result (LeavesBytes W.state bytes.now out.old out.new) }
+{
+    match survey_file(alloc, path, bytes, reading, out) {
+        Ok(verdict) => Ok(Tally {
+            verdict,
+            totals: no_tally().totals,
+        }),
+        Err(fault) => Err(fault),
+    }
+}
+
+// The lines of a file's levels.
+fn check_bytes<W: Sink>(
+    alloc: Global,
+    question: &Question<'_>,
+    bytes: &[u8],
+    out: &mut W,
+) -> Result<Tally, FileFault>
+    requires { (W.state out.old).failed ≡ false }
+    ensures told { IfOk result (ChecksBytes question.now.most question.now.path.now bytes.now question.now.reading
+        (W.state out.old) (W.state out.new)) }
+    ensures sound { OnOk result ((W.state out.new).failed ≡ false) }
+    ensures left { IfErr result (LeavesBytes W.state bytes.now out.old out.new) }
+{
+    match check_file(alloc, question, bytes, out) {
+        Ok(totals) => Ok(Tally {
+            verdict: verdict_of_totals(totals),
+            totals,
+        }),
+        Err(fault) => Err(fault),
+    }
+}

@@ -1,0 +1,138 @@
+//! What the words of the command line ask for.
+
+use crate::tell::{Asked, Word};
+use clap::{Arg, ArgAction, ArgMatches, Command, Error, value_parser};
+use map_level::Reading;
+use std::alloc::{AllocError, Global};
+
+/// How many findings of one code in one level `check` shows where nothing is said.
+const SHOWN: u64 = 20;
+
+/// What the words ask for.
+#[derive(Drop)]
+pub struct Job<'a> {
+    pub asked: Asked,
+    /// The paths of the words, in order.
+    pub files: Vec<&'a str>,
+    /// The path of a list of more, `-` for standard input.
+    pub list: Option<&'a str>,
+    /// The byte that ends a path of the list.
+    pub list_end: u8,
+    /// Whether standard error is told how far the run is.
+    pub progress: bool,
+}
+
+impl Job<'_> {
+    /// The list as it is named to people.
+    pub fn list_name(&self) -> &[u8] {
+        match self.list {
+            None | Some("-") => b"standard input",
+            Some(path) => path.as_bytes(),
+        }
+    }
+}
+
+/// Reads the words, the program's name first. An `Err` has the text for whoever wrote them: what is mistaken, or the help or
+/// the version that they ask for.
+pub fn read_words<'a>(alloc: Global, words: &'a [String]) -> Result<Job<'a>, Error> {
+    let matches = program(alloc)?.try_get_matches_from(words)?;
+    Ok(job_of(alloc, &matches)?)
+}
+
+/// The program's usage, for a mistake whose text lacks it.
+pub fn usage(alloc: Global) -> Result<String, AllocError> {
+    program(alloc)?.render_usage()
+}
+
+// The words that there are.
+fn program<'a>(alloc: Global) -> Result<Command<'a>, AllocError> {
+    let most = Arg::new(alloc, "max")
+        .long("max")
+        .value_name("N")
+        .value_parser(value_parser!(u64))
+        .help("Show at most N findings of one code in one level, 0: all [20 where it isn't given]");
+    let check = Command::new(alloc, "check")
+        .about("Tell the findings of each level, a line each")
+        .arg(most)?;
+    let survey = Command::new(alloc, "survey").about(
+        "Write a JSON object a line for each level and each refused file",
+    );
+    Command::new(alloc, "wadlens")
+        .version("0.1.0")
+        .about("Looks over all levels of Doom WAD files")
+        .subcommand_required(true)
+        .disable_help_subcommand(true)
+        .subcommand(with_files(alloc, check)?)?
+        .subcommand(with_files(alloc, survey)?)
+}
+
+// Adds the words on files, and on how they are read.
+fn with_files<'a>(alloc: Global, command: Command<'a>) -> Result<Command<'a>, AllocError> {
+    let wide = Arg::new(alloc, "wide")
+        .long("wide")
+        .action(ArgAction::SetTrue)
+        .help("Read vertexes, sidedefs, segs and ssectors as numbers from 0 to 65535");
+    let files = Arg::new(alloc, "files")
+        .value_name("FILE")
+        .action(ArgAction::Append)
+        .num_args(1..)
+        .required_unless_present("files-from")?
+        .help("WAD files, each a set by itself");
+    let list = Arg::new(alloc, "files-from")
+        .long("files-from")
+        .value_name("LIST")
+        .help("Then the files whose paths stand in LIST, one a line; `-`: standard input");
+    let null = Arg::new(alloc, "null")
+        .long("null")
+        .action(ArgAction::SetTrue)
+        .requires_arg("files-from")?
+        .help("The paths of LIST are ended by NULs");
+    let progress = Arg::new(alloc, "progress")
+        .long("progress")
+        .action(ArgAction::SetTrue)
+        .help("Tell on standard error how many files and levels are done");
+    command
+        .arg(wide)?
+        .arg(files)?
+        .arg(list)?
+        .arg(null)?
+        .arg(progress)
+}
+
+// What matches of the words ask for.
+fn job_of<'a>(alloc: Global, matches: &ArgMatches<'a>) -> Result<Job<'a>, AllocError> {
+    match matches.subcommand_matches("check") {
+        Some(of_check) => {
+            let most = of_check.get_one::<u64>("max").unwrap_or(SHOWN);
+            job_over(alloc, Word::Check(most), of_check)
+        }
+        None => match matches.subcommand_matches("survey") {
+            Some(of_survey) => job_over(alloc, Word::Survey, of_survey),
+            None => job_over(alloc, Word::Survey, matches),
+        },
+    }
+}
+
+// What is asked of the files that a command's matches name.
+fn job_over<'a>(
+    alloc: Global,
+    word: Word,
+    matches: &ArgMatches<'a>,
+) -> Result<Job<'a>, AllocError> {
+    let mut files = Vec::new(alloc);
+    if let Some(paths) = matches.get_strs("files") {
+        files.extend_from_slice(paths)?;
+    }
+    let reading = if matches.get_flag("wide") {
+        Reading::Wide
+    } else {
+        Reading::Signed
+    };
+    Ok(Job {
+        asked: Asked { word, reading },
+        files,
+        list: matches.get_str("files-from"),
+        list_end: if matches.get_flag("null") { 0 } else { b'\n' },
+        progress: matches.get_flag("progress"),
+    })
+}

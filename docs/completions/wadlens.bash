@@ -1,0 +1,39 @@
+# Completes the words of wadlens in bash. Source it, or install it as
+# /usr/share/bash-completion/completions/wadlens or ~/.local/share/bash-completion/completions/wadlens.
+
+# The options of each command.
+declare -gA _wadlens_options=(
+    [check]='--wide --max --files-from --null --progress --help'
+    [survey]='--wide --files-from --null --progress --help'
+)
+
+_wadlens() {
+    local current=${COMP_WORDS[COMP_CWORD]} before=${COMP_WORDS[COMP_CWORD - 1]}
+    COMPREPLY=()
+    if ((COMP_CWORD == 1)); then
+        mapfile -t COMPREPLY < <(compgen -W "${!_wadlens_options[*]} --help --version" -- "$current")
+        return
+    fi
+    [[ -n ${_wadlens_options[${COMP_WORDS[1]}]-} ]] || return
+    case $before in
+        --max) return ;;
+        --files-from)
+            mapfile -t COMPREPLY < <(compgen -f -- "$current")
+            compopt -o filenames 2>/dev/null
+            return
+            ;;
+    esac
+    if [[ $current == -* && " ${COMP_WORDS[*]:2:COMP_CWORD-2} " != *' -- '* ]]; then
+        mapfile -t COMPREPLY < <(compgen -W "${_wadlens_options[${COMP_WORDS[1]}]}" -- "$current")
+        return
+    fi
+    # Folders, and the files with that ending in small or capital letters.
+    mapfile -t COMPREPLY < <(
+        compgen -d -- "$current"
+        compgen -f -X '!*.wad' -- "$current"
+        compgen -f -X '!*.WAD' -- "$current"
+    )
+    compopt -o filenames 2>/dev/null
+}
+
+complete -F _wadlens wadlens

@@ -16,11 +16,11 @@ mod turn;
 mod words;
 
 pub use command::{Cmd, Job};
-pub use engines::audit::audit_text;
+pub use engines::audit::{audit_text, prepend_finding, prepend_totals};
 pub use engines::blocks::blocks;
 pub use engines::census::census_text;
 pub use engines::demo::demo_text;
-pub use engines::extract::extract;
+pub use engines::extract::{extract, pack_level};
 pub use engines::levels::levels;
 pub use engines::lmp::lmp;
 pub use engines::lumps::lumps;

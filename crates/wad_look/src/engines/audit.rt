@@ -123,8 +123,8 @@ fn write_finding<W: Sink>(finding: &Finding, out: &mut W) -> Result<(), IoFault>
     emit(out, line.as_bytes())
 }
 
-// `<code> <index> <text>`
-fn prepend_finding(line: &mut TextLine, finding: &Finding)
+/// Puts a finding's line, `<code> <index> <text>` and its end, into an empty line.
+pub fn prepend_finding(line: &mut TextLine, finding: &Finding)
     requires { line.old ≡ [] }
     ensures { line.new ≡ finding_line finding.now }
 {
@@ -146,8 +146,8 @@ fn write_totals<W: Sink>(faults: usize, notes: usize, out: &mut W) -> Result<(),
     emit(out, line.as_bytes())
 }
 
-// `faults <n> notes <m>`
-fn prepend_totals(line: &mut TextLine, faults: usize, notes: usize)
+/// Puts the line of a report's totals, `faults <n> notes <m>` and its end, into an empty line.
+pub fn prepend_totals(line: &mut TextLine, faults: usize, notes: usize)
     requires { line.old ≡ [] }
     ensures { line.new ≡ totals_line faults notes }
 {

@@ -1,0 +1,6 @@
+pub mod ToldLemmas
+pub mod RankLemmas
+pub mod TagLemmas
+pub mod TwinLemmas
+pub mod FacingLemmas
+pub mod StartLemmas

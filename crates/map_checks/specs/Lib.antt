@@ -1,0 +1,9 @@
+pub mod Warnings
+pub mod References
+pub mod Bare
+pub mod Tag
+pub mod Facing
+pub mod Twin
+pub mod EndsKey
+pub mod Starts
+pub mod Holds

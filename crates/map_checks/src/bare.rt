@@ -1,0 +1,226 @@
+//! W2: parts of walls that can be seen and have no texture.
+
+ghost use Rattle.std.specs.Prelude.{◌≡◌, ◌<ℤ◌, ◌≤ℤ◌, ◌*◌, ◌+◌, ◌↔◌, IfOk, IsSomeAnd, IsTrue, OnOk};
+ghost use Rattle.std.specs.Option.{option_map};
+ghost use Rattle.le_rec.specs.Name.{name_of};
+ghost use Rattle.map_level.specs.Reading.{linedef_under, number_of, sidedef_under};
+ghost use Rattle.map_level.specs.Links.{named, sectors_of};
+ghost use Rattle.map_checks.specs.Bare.{BetweenSectors, IsBare, IsBarePart, IsNoTexture, IsSky};
+ghost use Rattle.map_checks.specs.Bare.{behind, sidedef_at_side, ShowsLower, ShowsUpper};
+ghost use Rattle.map_checks.specs.Warnings.{part_number, side_number, Tells, TellsBelow};
+ghost use Rattle.map_checks.specs.Holds.{HoldsOf};
+
+use crate::records::{linedef_at, named, sidedef};
+use crate::told::{Told, tell_where};
+use crate::warning::{Part, Side, Warning, WarningCode};
+use le_rec::{LineDef, Name8, Sector, SideDef};
+use map_level::{Level, number};
+use std::alloc::{AllocError, Allocator};
+
+/// W2 of a level.
+pub fn bare_walls<A: Allocator>(
+    alloc: A,
+    level: &Level<'_>,
+    most: usize,
+) -> Result<Told<A>, AllocError>
+    ensures told { IfOk result (λ told. Tells (HoldsOf level.now WarningCode.W2) told) }
+    ensures most { IfOk result (λ told. told.most ≡ most) }
+{
+    let mut told = Told::new(alloc, most);
+    for i in 0..level.linedefs().len() {
+        tell_linedef(&mut told, level, i as u32)?;
+    }
+    Ok(told)
+}
+
+// Tells the bare parts of a linedef.
+fn tell_linedef<A: Allocator>(
+    told: &mut Told<A>,
+    level: &Level<'_>,
+    i: u32,
+) -> Result<(), AllocError>
+    requires { TellsBelow (HoldsOf level.now WarningCode.W2) (i * 6) told.old }
+    ensures told { OnOk result
+        (TellsBelow (HoldsOf level.now WarningCode.W2) (i * 6 + 6) told.new) }
+    ensures most { OnOk result (told.new.most ≡ told.old.most) }
+{
+    tell_side(told, level, i, Side::Front)?;
+    tell_side(told, level, i, Side::Back)
+}
+
+// Tells the bare parts of a linedef's side.
+fn tell_side<A: Allocator>(
+    told: &mut Told<A>,
+    level: &Level<'_>,
+    i: u32,
+    side: Side,
+) -> Result<(), AllocError>
+    requires { TellsBelow (HoldsOf level.now WarningCode.W2) (i * 6 + side_number side * 3) told.old }
+    ensures told { OnOk result
+        (TellsBelow (HoldsOf level.now WarningCode.W2) (i * 6 + side_number side * 3 + 3) told.new) }
+    ensures most { OnOk result (told.new.most ≡ told.old.most) }
+{
+    tell_part(told, level, i, side, Part::Middle)?;
+    tell_part(told, level, i, side, Part::Upper)?;
+    tell_part(told, level, i, side, Part::Lower)
+}
+
+// Tells that a part of a linedef's side is bare, where it is.
+fn tell_part<A: Allocator>(
+    told: &mut Told<A>,
+    level: &Level<'_>,
+    i: u32,
+    side: Side,
+    part: Part,
+) -> Result<(), AllocError>
+    requires { TellsBelow (HoldsOf level.now WarningCode.W2)
+        (i * 6 + side_number side * 3 + part_number part) told.old }
+    ensures told { OnOk result (TellsBelow (HoldsOf level.now WarningCode.W2)
+        (i * 6 + side_number side * 3 + part_number part + 1) told.new) }
+    ensures most { OnOk result (told.new.most ≡ told.old.most) }
+{
+    let warning = Warning::Bare {
+        linedef: i,
+        side,
+        part,
+    };
+    tell_where(
+        told,
+        level,
+        WarningCode::W2,
+        warning,
+        is_bare(level, i, side, part),
+    )
+}
+
+// Whether a part of a linedef's side is bare.
+fn is_bare(level: &Level<'_>, i: u32, side: Side, part: Part) -> bool
+    ensures { IsTrue result ↔ IsBare level.now i side part }
+{
+    match linedef_at(level, i) {
+        Some(linedef) => is_bare_side(level, &linedef, side, part),
+        None => false,
+    }
+}
+
+fn is_bare_side(level: &Level<'_>, linedef: &LineDef, side: Side, part: Part) -> bool
+    ensures { let under = linedef_under level.now.reading linedef.now in
+        IsTrue result ↔ IsSomeAnd (sidedef_at_side level.now under side)
+        (λ this. IsBarePart level.now side this (sidedef_at_side level.now under (behind side)) part) }
+{
+    let Some(this) = sidedef_at_side(level, linedef, side) else {
+        return false;
+    };
+    let other = sidedef_at_side(level, linedef, behind(side));
+    is_bare_part(level, side, &this, &other, part)
+}
+
+fn behind(side: Side) -> Side
+    ensures { result ≡ behind side }
+{
+    match side {
+        Side::Front => Side::Back,
+        Side::Back => Side::Front,
+    }
+}
+
+// The sidedef of a linedef's side.
+fn sidedef_at_side(level: &Level<'_>, linedef: &LineDef, side: Side) -> Option<SideDef>
+    ensures { option_map (sidedef_under level.now.reading) result
+        ≡ sidedef_at_side level.now (linedef_under level.now.reading linedef.now) side }
+{
+    match side {
+        Side::Front => sidedef(level, linedef.side0),
+        Side::Back => sidedef(level, linedef.side1),
+    }
+}
+
+// Whether a part of a sidedef can be seen and has no texture.
+fn is_bare_part(
+    level: &Level<'_>,
+    side: Side,
+    this: &SideDef,
+    other: &Option<SideDef>,
+    part: Part,
+) -> bool
+    ensures { IsTrue result ↔ IsBarePart level.now side (sidedef_under level.now.reading this.now)
+        (option_map (sidedef_under level.now.reading) other.now) part }
+{
+    match part {
+        Part::Middle => side == Side::Front && other.is_none() && is_no_texture(this.middle),
+        Part::Upper => is_no_texture(this.top) && is_upper_shown(level, this, other),
+        Part::Lower => is_no_texture(this.bottom) && is_lower_shown(level, this, other),
+    }
+}
+
+fn is_upper_shown(level: &Level<'_>, this: &SideDef, other: &Option<SideDef>) -> bool
+    ensures { IsTrue result ↔ IsSomeAnd (option_map (sidedef_under level.now.reading) other.now)
+        (λ back. BetweenSectors level.now ShowsUpper (sidedef_under level.now.reading this.now) back) }
+{
+    match other {
+        Some(other) => { is_upper_between(sector(level, this.sector), sector(level, other.sector)) }
+        None => false,
+    }
+}
+
+fn is_upper_between(here: Option<Sector>, there: Option<Sector>) -> bool
+    ensures { IsTrue result
+        ↔ IsSomeAnd here (λ here. IsSomeAnd there (λ there. ShowsUpper here there)) }
+{
+    match (here, there) {
+        (Some(here), Some(there)) => shows_upper(&here, &there),
+        _ => false,
+    }
+}
+
+fn is_lower_shown(level: &Level<'_>, this: &SideDef, other: &Option<SideDef>) -> bool
+    ensures { IsTrue result ↔ IsSomeAnd (option_map (sidedef_under level.now.reading) other.now)
+        (λ back. BetweenSectors level.now ShowsLower (sidedef_under level.now.reading this.now) back) }
+{
+    match other {
+        Some(other) => { is_lower_between(sector(level, this.sector), sector(level, other.sector)) }
+        None => false,
+    }
+}
+
+fn is_lower_between(here: Option<Sector>, there: Option<Sector>) -> bool
+    ensures { IsTrue result
+        ↔ IsSomeAnd here (λ here. IsSomeAnd there (λ there. ShowsLower here there)) }
+{
+    match (here, there) {
+        (Some(here), Some(there)) => shows_lower(&here, &there),
+        _ => false,
+    }
+}
+
+// The sector that a word names.
+fn sector(level: &Level<'_>, word: i16) -> Option<Sector>
+    ensures { result ≡ named (sectors_of level.now) (number_of level.now.reading word) }
+{
+    named(&level.sectors(), number(word, level.reading()))
+}
+
+// Whether a ceiling is higher than another, and they don't both show the sky.
+fn shows_upper(here: &Sector, there: &Sector) -> bool
+    ensures { IsTrue result ↔ ShowsUpper here.now there.now }
+{
+    here.ceiling > there.ceiling && !(is_sky(here.ceiling_name) && is_sky(there.ceiling_name))
+}
+
+fn shows_lower(here: &Sector, there: &Sector) -> bool
+    ensures { IsTrue result ↔ ShowsLower here.now there.now }
+{
+    here.floor < there.floor
+}
+
+fn is_no_texture(bytes: [u8; 8]) -> bool
+    ensures { IsTrue result ↔ IsNoTexture bytes }
+{
+    Name8::stored(bytes) == Name8::query(b"-")
+}
+
+fn is_sky(bytes: [u8; 8]) -> bool
+    ensures { IsTrue result ↔ IsSky bytes }
+{
+    Name8::stored(bytes) == Name8::query(b"F_SKY1")
+}

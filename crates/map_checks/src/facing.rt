@@ -1,0 +1,254 @@
+//! W5: ssectors whose segs face several sectors.
+
+ghost use Rattle.std.specs.Prelude.{◌≡◌, ◌+◌, ◌<◌, ◌^◌, ◌↔◌, ℕ, pos, length, slice_index_or};
+ghost use Rattle.std.specs.Prelude.{IfNone, IfOk, IfSome, IsTrue, OnOk};
+ghost use Rattle.std.specs.Option.{option_map};
+ghost use Rattle.map_level.specs.Reading.{linedef_under, seg_under, sidedef_under, ssector_under};
+ghost use Rattle.map_level.specs.Links.{linedef_of, side_at, side_of};
+ghost use Rattle.map_level.specs.SectorOf.{number_named, sidedef_of};
+ghost use Rattle.map_checks.specs.Facing.{AreRunEnds, IsMismatched, IsRunEnd, Mismatch, sector_faced};
+ghost use Rattle.map_checks.specs.Warnings.{Tells, TellsBelow};
+ghost use Rattle.map_checks.specs.Holds.{HoldsOf};
+
+use crate::records::{linedef_at, seg_at, sidedef_named, ssector_at};
+use crate::told::{Told, tell_where};
+use crate::warning::{Warning, WarningCode};
+use le_rec::{LineDef, SSector, Seg, SideDef};
+use map_level::{Level, Reading, number};
+use std::alloc::{AllocError, Allocator};
+
+/// W5 of a level: its ssectors whose segs don't all face the sector of the first. It takes four bytes a seg.
+pub fn mismatched<A: Allocator + Copy>(
+    alloc: A,
+    level: &Level<'_>,
+    most: usize,
+) -> Result<Told<A>, AllocError>
+    ensures told { IfOk result (λ told. Tells (HoldsOf level.now WarningCode.W5) told) }
+    ensures most { IfOk result (λ told. told.most ≡ most) }
+{
+    let mut ends = Vec::from_elem(alloc, 0, level.segs().len())?;
+    put_run_ends(level, &mut ends);
+    tell_mismatched(alloc, level, &ends, most)
+}
+
+// Tells the mismatched ssectors, given where runs of segs that face one sector end.
+fn tell_mismatched<A: Allocator>(
+    alloc: A,
+    level: &Level<'_>,
+    ends: &[u32],
+    most: usize,
+) -> Result<Told<A>, AllocError>
+    requires { AreRunEnds level.now ends.now }
+    ensures told { IfOk result (λ told. Tells (HoldsOf level.now WarningCode.W5) told) }
+    ensures most { IfOk result (λ told. told.most ≡ most) }
+{
+    let mut told = Told::new(alloc, most);
+    for t in 0..level.ssectors().len() {
+        tell_ssector(&mut told, level, ends, t as u32)?;
+    }
+    Ok(told)
+}
+
+// Tells that an ssector's segs face several sectors, where they do.
+fn tell_ssector<A: Allocator>(
+    told: &mut Told<A>,
+    level: &Level<'_>,
+    ends: &[u32],
+    t: u32,
+) -> Result<(), AllocError>
+    requires ends { AreRunEnds level.now ends.now }
+    requires below { TellsBelow (HoldsOf level.now WarningCode.W5) t told.old }
+    ensures told { OnOk result (TellsBelow (HoldsOf level.now WarningCode.W5) (t + 1) told.new) }
+    ensures most { OnOk result (told.new.most ≡ told.old.most) }
+{
+    let Some(faced) = mismatch_of(level, ends, t) else {
+        return Ok(());
+    };
+    let warning = Warning::Mismatched {
+        ssector: t,
+        first: faced.one,
+        other: faced.other,
+    };
+    tell_where(told, level, WarningCode::W5, warning, true)
+}
+
+// Two sectors that the segs of an ssector face.
+#[derive(Clone, Copy)]
+struct Faced {
+    one: u32,
+    other: u32,
+}
+
+// The sector of an ssector's first seg, and the first other one that its segs face.
+fn mismatch_of(level: &Level<'_>, ends: &[u32], t: u32) -> Option<Faced>
+    requires { AreRunEnds level.now ends.now }
+    ensures some { IfSome result (λ faced. IsMismatched level.now t faced.one faced.other) }
+    ensures none { IfNone result ((one other : ℕ) → ¬ IsMismatched level.now t one other) }
+{
+    match ssector_at(level, t as usize) {
+        Some(ssector) => mismatch_in(level, ends, &ssector),
+        None => None,
+    }
+}
+
+fn mismatch_in(level: &Level<'_>, ends: &[u32], ssector: &SSector) -> Option<Faced>
+    requires { AreRunEnds level.now ends.now }
+    ensures some { IfSome result (λ faced.
+        let under = ssector_under level.now.reading ssector.now in
+        Mismatch level.now under.first under.count faced.one faced.other) }
+    ensures none { IfNone result ((one other : ℕ) →
+        let under = ssector_under level.now.reading ssector.now in
+        ¬ Mismatch level.now under.first under.count one other) }
+{
+    let reading = level.reading();
+    mismatch_at(
+        level,
+        ends,
+        number(ssector.first, reading),
+        number(ssector.count, reading),
+    )
+}
+
+fn mismatch_at(level: &Level<'_>, ends: &[u32], first: i32, count: i32) -> Option<Faced>
+    requires { AreRunEnds level.now ends.now }
+    ensures some { IfSome result (λ faced. Mismatch level.now first count faced.one faced.other) }
+    ensures none { IfNone result ((one other : ℕ) → ¬ Mismatch level.now first count one other) }
+{
+    if first < 0 {
+        return None;
+    }
+    if count < 0 {
+        return None;
+    }
+    mismatch_from(level, ends, first as usize, count as usize)
+}
+
+// The sector that the first of so many segs faces, and the first other one.
+fn mismatch_from(level: &Level<'_>, ends: &[u32], first: usize, count: usize) -> Option<Faced>
+    requires { AreRunEnds level.now ends.now }
+    ensures some { IfSome result (λ faced. Mismatch level.now (pos first) (pos count) faced.one faced.other) }
+    ensures none { IfNone result ((one other : ℕ) → ¬ Mismatch level.now (pos first) (pos count) one other) }
+{
+    if first >= ends.len() {
+        return None;
+    }
+    let end = ends[first] as usize;
+    if end >= ends.len() {
+        return None;
+    }
+    if end - first >= count {
+        return None;
+    }
+    let Some(one) = sector_faced(level, first) else {
+        return None;
+    };
+    let Some(other) = sector_faced(level, end) else {
+        return None;
+    };
+    Some(Faced { one, other })
+}
+
+// Puts where each run of segs that face one sector ends, from the last seg to the first.
+fn put_run_ends(level: &Level<'_>, ends: &mut [u32])
+    requires long { length ends.old ≡ length level.now.segs.records }
+    requires few { length ends.old < 2 ^ 31 }
+    ensures { AreRunEnds level.now ends.new }
+{
+    'segs: for j in (0..ends.len()).rev() {
+        ends[j] = run_end(level, ends, j);
+    }
+}
+
+// Where the run of a seg ends, given where that of the next seg does.
+fn run_end(level: &Level<'_>, ends: &[u32], j: usize) -> u32
+    requires long { length ends.now ≡ length level.now.segs.records }
+    requires here { j < length ends.now }
+    requires next { j + 1 < length ends.now → IsRunEnd level.now (j + 1) (slice_index_or ends.now (j + 1) 0) }
+    requires few { length ends.now < 2 ^ 31 }
+    ensures { IsRunEnd level.now j result }
+{
+    let next = j + 1;
+    if next < ends.len() && face_same(level, j, next) {
+        return ends[next];
+    }
+    next as u32
+}
+
+// Whether two segs face the same sector, or both none.
+fn face_same(level: &Level<'_>, i: usize, j: usize) -> bool
+    ensures { IsTrue result ↔ (sector_faced level.now (pos i) ≡ sector_faced level.now (pos j)) }
+{
+    is_same(sector_faced(level, i), sector_faced(level, j))
+}
+
+fn is_same(a: Option<u32>, b: Option<u32>) -> bool
+    ensures { IsTrue result ↔ (a ≡ b) }
+{
+    match (a, b) {
+        (Some(a), Some(b)) => a == b,
+        (None, None) => true,
+        _ => false,
+    }
+}
+
+// The sector that a seg faces.
+fn sector_faced(level: &Level<'_>, j: usize) -> Option<u32>
+    ensures { result ≡ sector_faced level.now (pos j) }
+{
+    let seg = seg_at(level, j)?;
+    let sidedef = sidedef_of(level, &seg)?;
+    number_named(
+        number(sidedef.sector, level.reading()),
+        level.sectors().len(),
+    )
+}
+
+// The number that an index names one of so many records by.
+fn number_named(index: i32, count: usize) -> Option<u32>
+    ensures { result ≡ number_named count index }
+{
+    if index < 0 || index as usize >= count {
+        return None;
+    }
+    Some(index as u32)
+}
+
+// The sidedef of a seg.
+fn sidedef_of(level: &Level<'_>, seg: &Seg) -> Option<SideDef>
+    ensures { option_map (sidedef_under level.now.reading) result
+        ≡ sidedef_of level.now (seg_under level.now.reading seg.now) }
+{
+    let side = side_of(level, seg)?;
+    sidedef_named(level, side)
+}
+
+// The index of a seg's sidedef.
+fn side_of(level: &Level<'_>, seg: &Seg) -> Option<i32>
+    ensures { result ≡ side_of level.now (seg_under level.now.reading seg.now) }
+{
+    let linedef = linedef_of(level, seg)?;
+    side_at(&linedef, level.reading(), seg.side)
+}
+
+// The linedef of a seg.
+fn linedef_of(level: &Level<'_>, seg: &Seg) -> Option<LineDef>
+    ensures { option_map (linedef_under level.now.reading) result
+        ≡ linedef_of level.now (seg_under level.now.reading seg.now) }
+{
+    let index = number(seg.linedef, level.reading());
+    if index < 0 {
+        return None;
+    }
+    linedef_at(level, index as u32)
+}
+
+// The index that a linedef has at a side number.
+fn side_at(linedef: &LineDef, reading: Reading, side: i16) -> Option<i32>
+    ensures { result ≡ side_at (linedef_under reading linedef.now) side }
+{
+    match side {
+        0 => Some(number(linedef.side0, reading)),
+        1 => Some(number(linedef.side1, reading)),
+        _ => None,
+    }
+}

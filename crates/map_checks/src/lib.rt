@@ -1,0 +1,19 @@
+//! What every reference of a level allows and no mapper wants: warnings.
+#![tactic(auto)]
+
+mod bare;
+mod checks;
+mod facing;
+mod records;
+mod references;
+mod starts;
+mod tags;
+mod told;
+mod twins;
+mod warning;
+
+pub use checks::warnings;
+pub use references::has_references;
+pub use told::Told;
+pub use twins::Ends;
+pub use warning::{Part, Side, Warning, WarningCode};

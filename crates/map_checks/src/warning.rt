@@ -1,0 +1,86 @@
+//! Warnings of a level: their codes, and what each tells.
+
+ghost use Rattle.std.specs.Prelude.{◌≡◌};
+ghost use Rattle.map_checks.specs.Warnings.{code_of};
+
+/// What is warned of, in the order in which it is told.
+#[derive(Clone, Copy, Debug, PartialEq, Eq)]
+pub enum WarningCode {
+    /// A wall lacks the texture that its side shows.
+    W2,
+    /// A linedef's tag is no sector's.
+    W4,
+    /// An ssector's segs face several sectors.
+    W5,
+    /// A linedef lies on an earlier one.
+    W6,
+    /// A player from 2 to 4 has no start.
+    W7,
+    /// There are fewer than four deathmatch starts.
+    W8,
+}
+
+/// A side of a linedef.
+#[derive(Clone, Copy, Debug, PartialEq, Eq)]
+pub enum Side {
+    Front,
+    Back,
+}
+
+/// A part of a linedef's side.
+#[derive(Clone, Copy, Debug, PartialEq, Eq)]
+pub enum Part {
+    Middle,
+    Upper,
+    Lower,
+}
+
+/// A warning, with the numbers of the records that it is of.
+#[derive(Clone, Copy, Debug, PartialEq, Eq)]
+pub enum Warning {
+    /// W2: a part of a linedef's side has no texture and can be seen.
+    Bare {
+        linedef: u32,
+        side: Side,
+        part: Part,
+    },
+    /// W4: a linedef has a special and a tag, and no sector has the tag.
+    Untagged {
+        linedef: u32,
+    },
+    /// W5: an ssector's segs don't all face one sector: the first seg's, and the first other one.
+    Mismatched {
+        ssector: u32,
+        first: u32,
+        other: u32,
+    },
+    /// W6: a linedef lies on an earlier one, the first that has its two places as ends.
+    Twin {
+        linedef: u32,
+        earlier: u32,
+    },
+    /// W7: no thing is a start of this player, the first of 2 to 4 without one.
+    NoStart {
+        player: u32,
+    },
+    /// W8: so many things are deathmatch starts, and four are wanted.
+    FewStarts {
+        starts: u32,
+    },
+}
+
+impl Warning {
+    /// The code of a warning.
+    pub fn code(self) -> WarningCode
+        ensures { result ≡ code_of self }
+    {
+        match self {
+            Warning::Bare { .. } => WarningCode::W2,
+            Warning::Untagged { .. } => WarningCode::W4,
+            Warning::Mismatched { .. } => WarningCode::W5,
+            Warning::Twin { .. } => WarningCode::W6,
+            Warning::NoStart { .. } => WarningCode::W7,
+            Warning::FewStarts { .. } => WarningCode::W8,
+        }
+    }
+}

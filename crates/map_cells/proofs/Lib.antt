@@ -1,0 +1,5 @@
+pub mod BlockLemmas
+pub mod CellLemmas
+pub mod GroupLemmas
+pub mod FrameLemmas
+pub mod ShownLemmas

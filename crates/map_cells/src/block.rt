@@ -1,0 +1,128 @@
+//! Blocks of cells that show one sector.
+
+ghost use Rattle.std.specs.Prelude.{◌≡◌, ◌≢◌, ◌↔◌, ◌+◌, ◌<◌, ◌≤◌, ℕ, IsTrue, IfSome, Some};
+ghost use Rattle.map_cells.specs.Blocks.{IsRun};
+ghost use Rattle.map_cells.specs.Cells.{cell};
+ghost use Rattle.map_cells.specs.Grid.{columns_of, rows_of};
+
+use crate::cells::Cells;
+use std::alloc::Allocator;
+
+/// Cells that show one sector: so many in width and height, from a column and a row on. All its rows have it as a run that
+/// can't be made longer, and the rows below and above it don't.
+#[derive(Clone, Copy, Debug, PartialEq, Eq)]
+pub struct Block {
+    pub column: u16,
+    pub row: u16,
+    pub width: u16,
+    pub height: u16,
+}
+
+impl<A: Allocator> Cells<A> {
+    ghost use Rattle.map_cells.specs.declared.block.Block as block;
+    ghost use Rattle.map_cells.specs.Blocks.{BeginsAt};
+
+    /// The block whose first column is i and whose first row is j; None where no block begins there. It shows the sector of that cell.
+    pub fn block_at(&self, i: usize, j: usize) -> Option<Block>
+        ensures { (b : block.Block) → (result ≡ Some b) ↔ BeginsAt (cell self.now) i j b }
+    {
+        let sector = self.get(i, j)?;
+        let width = self.run_at(sector, i, j)?;
+        if j > 0 && self.has_run(sector, i, j - 1, width) {
+            return None;
+        }
+        let end = self.run_rows(sector, i, j, width);
+        Some(Block {
+            column: i as u16,
+            row: j as u16,
+            width: width as u16,
+            height: (end - j) as u16,
+        })
+    }
+
+    // Whether a cell shows the sector.
+    #[inline]
+    fn shows(&self, sector: u16, i: usize, j: usize) -> bool
+        ensures { IsTrue result ↔ (cell self.now i j ≡ Some sector) }
+    {
+        self.get(i, j) == Some(sector)
+    }
+
+    // How long the run is that begins in column i, which shows the sector; None where it begins on the left.
+    #[inline]
+    fn run_at(&self, sector: u16, i: usize, j: usize) -> Option<usize>
+        requires here { cell self.now i j ≡ Some sector }
+        requires within { i < columns_of self.now.grid }
+        ensures run { (n : ℕ) → (result ≡ Some n) ↔ IsRun (cell self.now) sector i j n }
+        ensures few { IfSome result (λ n. i + n ≤ 1024) }
+    {
+        if i > 0 && self.shows(sector, i - 1, j) {
+            return None;
+        }
+        Some(self.run_end(sector, i, j) - i)
+    }
+
+    // The first column from one on that doesn't show the sector.
+    #[inline]
+    fn run_end(&self, sector: u16, i: usize, j: usize) -> usize
+        requires { i < columns_of self.now.grid }
+        ensures all { (c : ℕ) → i ≤ c → c < result → cell self.now c j ≡ Some sector }
+        ensures end { cell self.now result j ≢ Some sector }
+        ensures from { i ≤ result }
+        ensures few { result ≤ 1024 }
+    {
+        for c in i..self.columns() {
+            if !self.shows(sector, c, j) {
+                return c;
+            }
+        }
+        self.columns()
+    }
+
+    // Whether all columns from one to another show the sector.
+    #[inline]
+    fn shows_all(&self, sector: u16, from: usize, to: usize, j: usize) -> bool
+        ensures { IsTrue result ↔ ((c : ℕ) → from ≤ c → c < to → cell self.now c j ≡ Some sector) }
+    {
+        for c in from..to {
+            if !self.shows(sector, c, j) {
+                return false;
+            }
+        }
+        true
+    }
+
+    // Whether a row has the run.
+    #[inline]
+    fn has_run(&self, sector: u16, i: usize, j: usize, n: usize) -> bool
+        requires some { 0 < n }
+        requires few { i + n ≤ 1024 }
+        ensures { IsTrue result ↔ IsRun (cell self.now) sector i j n }
+    {
+        // The ends mostly differ first.
+        if i > 0 && self.shows(sector, i - 1, j) {
+            return false;
+        }
+        !self.shows(sector, i + n, j) && self.shows_all(sector, i, i + n, j)
+    }
+
+    // The first row from one on that doesn't have the run.
+    #[inline]
+    fn run_rows(&self, sector: u16, i: usize, j: usize, n: usize) -> usize
+        requires run { IsRun (cell self.now) sector i j n }
+        requires few { i + n ≤ 1024 }
+        requires low { j < 1024 }
+        requires within { j < rows_of self.now.grid }
+        ensures all { (r : ℕ) → j ≤ r → r < result → IsRun (cell self.now) sector i r n }
+        ensures end { ¬ IsRun (cell self.now) sector i result n }
+        ensures from { j < result }
+        ensures few { result ≤ 1024 }
+    {
+        for r in j + 1..self.rows() {
+            if !self.has_run(sector, i, r, n) {
+                return r;
+            }
+        }
+        self.rows()
+    }
+}

@@ -1,0 +1,127 @@
+//! The blocks of each sector.
+
+ghost use Rattle.std.specs.Prelude.{◌≡◌, ◌+◌, ◌<◌, ◌≤◌, ℕ, [], Some, IfOk, OnOk, length, map, slice_index_or};
+ghost use Rattle.map_cells.specs.Cells.{cell};
+ghost use Rattle.map_cells.specs.Grid.{rows_of};
+ghost use Rattle.map_cells.specs.Groups.{AddsBlock, AreBlocksBefore, PushesBlock};
+
+use crate::block::Block;
+use crate::cells::Cells;
+use std::alloc::{AllocError, Allocator, Global};
+use std::marker::Model;
+
+/// The blocks of a picture's cells by the sectors that they show: eight bytes a block, and up to twice that, since lists grow.
+#[derive(Drop)]
+pub struct Groups<A: Allocator = Global> {
+    lists: Vec<Vec<Block, A>, A>,
+}
+
+impl<A: Allocator> Model for Groups<A> {
+    ghost use Rattle.std.specs.Prelude.{List, map};
+    ghost use Rattle.map_cells.specs.declared.block.Block as block;
+
+    ghost Value = { List (List block.Block) };
+
+    ghost view = { λ g. map (λ list. list.items) g.lists.items };
+}
+
+impl<A: Allocator + Copy> Groups<A> {
+    ghost use Rattle.map_cells.specs.Groups.{AreGroups};
+
+    /// The blocks of cells, by what each shows.
+    pub fn of<B: Allocator>(alloc: A, cells: &Cells<B>) -> Result<Groups<A>, AllocError>
+        ensures { IfOk result (AreGroups (cell cells.now)) }
+    {
+        let mut lists = empty_lists(alloc, cells.sector_bound())?;
+        for j in 0..cells.rows() {
+            add_row(cells, j, &mut lists)?;
+        }
+        Ok(Groups { lists })
+    }
+}
+
+impl<A: Allocator> Groups<A> {
+    /// A number above each sector that a cell shows, at most 65,536.
+    pub fn len(&self) -> usize
+        ensures { result ≡ length self.now }
+    {
+        self.lists.len()
+    }
+
+    /// The blocks of a sector, by row and then by column; none where no cell shows it.
+    pub fn blocks(&self, sector: usize) -> &[Block]
+        requires { sector < length self.now }
+        ensures { result.now ≡ slice_index_or self.now sector [] }
+    {
+        &self.lists[sector]
+    }
+}
+
+// So many lists of no block.
+fn empty_lists<A: Allocator + Copy>(
+    alloc: A,
+    count: usize,
+) -> Result<Vec<Vec<Block, A>, A>, AllocError>
+    ensures long { IfOk result (λ lists. length lists.items ≡ count) }
+    ensures none { IfOk result (λ lists.
+        (s : ℕ) → slice_index_or (map (λ list. list.items) lists.items) s [] ≡ []) }
+{
+    let mut lists = Vec::with_capacity(alloc, count)?;
+    'lists: for _ in 0..count {
+        lists.push(Vec::new(alloc))?;
+    }
+    Ok(lists)
+}
+
+// Adds the blocks that begin in a row.
+fn add_row<A: Allocator, B: Allocator>(
+    cells: &Cells<B>,
+    j: usize,
+    lists: &mut [Vec<Block, A>],
+) -> Result<(), AllocError>
+    requires bound { (i j s : ℕ) → cell cells.now i j ≡ Some s → s < length lists.old }
+    requires before { AreBlocksBefore (cell cells.now) 0 j (map (λ list. list.items) lists.old) }
+    ensures after { OnOk result (AreBlocksBefore (cell cells.now) 0 (j + 1) (map (λ list. list.items) lists.new)) }
+    ensures long { length lists.new ≡ length lists.old }
+{
+    for i in 0..cells.columns() {
+        add_at(cells, i, j, lists)?;
+    }
+    Ok(())
+}
+
+// Adds the block that begins at a cell, where one does.
+#[inline]
+fn add_at<A: Allocator, B: Allocator>(
+    cells: &Cells<B>,
+    i: usize,
+    j: usize,
+    lists: &mut [Vec<Block, A>],
+) -> Result<(), AllocError>
+    requires { (i j s : ℕ) → cell cells.now i j ≡ Some s → s < length lists.old }
+    ensures adds { OnOk result (AddsBlock (cell cells.now) i j (map (λ list. list.items) lists.old) (map (λ list. list.items) lists.new)) }
+    ensures long { length lists.new ≡ length lists.old }
+{
+    let Some(sector) = cells.get(i, j) else {
+        return Ok(());
+    };
+    let Some(block) = cells.block_at(i, j) else {
+        return Ok(());
+    };
+    push_block(lists, usize::from(sector), block)
+}
+
+// Puts a block behind those of a sector.
+#[inline]
+fn push_block<A: Allocator>(
+    lists: &mut [Vec<Block, A>],
+    sector: usize,
+    block: Block,
+) -> Result<(), AllocError>
+    requires { sector < length lists.old }
+    ensures pushes { OnOk result (PushesBlock sector block (map (λ list. list.items) lists.old) (map (λ list. list.items) lists.new)) }
+    ensures long { length lists.new ≡ length lists.old }
+{
+    lists[sector].push(block)?;
+    Ok(())
+}

@@ -1,0 +1,12 @@
+pub mod Parts
+pub mod Escape
+pub mod Grey
+pub mod Window
+pub mod Paths
+pub mod Head
+pub mod Sectors
+pub mod Lines
+pub mod Marks
+pub mod Things
+pub mod Picture
+pub mod Laws

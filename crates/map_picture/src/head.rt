@@ -1,0 +1,145 @@
+//! What a picture begins with.
+
+ghost use Rattle.std.specs.Prelude.{◌≡◌, ◌<◌, [], false, length, slice_index_or};
+ghost use Rattle.line_io.specs.Writes.{Writes};
+ghost use Rattle.map_picture.specs.Escape.{escaped};
+ghost use Rattle.map_picture.specs.Head.{ground_line, label_name, style_line, svg_line, title_line, without_end};
+ghost use Rattle.wad_look.specs.Engines.Audit.{fault_count, note_count, totals_line};
+
+use crate::escape::write_escaped;
+use crate::marks::without_end;
+use crate::parts::{Parts, write_parts};
+use crate::window::Window;
+use crate::word::prepend_number;
+use le_rec::Sink;
+use line_io::{IoFault, TextLine, emit};
+use map_audit::Report;
+use map_level::Level;
+use std::alloc::Allocator;
+use wad_look::prepend_totals;
+
+const STYLE: &[u8] =
+    b"<style>path{vector-effect:non-scaling-stroke}.s{shape-rendering:crispEdges}.s path:hover{fill:#fb5}.w{fill:none;stroke:#eee;stroke-width:1.5}.t{fill:none;stroke:#778;stroke-width:.7}.f{fill:none;stroke:#f33;stroke-width:4}.p{fill:#5cf}.p:hover{fill:#fff}</style>\n";
+
+/// Writes the line of the window.
+pub fn write_svg<W: Sink>(window: &Window, out: &mut W) -> Result<(), IoFault>
+    requires { (W.state out.old).failed ≡ false }
+    ensures { Writes (W.state out.old) (W.state out.new) (svg_line window.now) result }
+{
+    let mut line = TextLine::new();
+    prepend_svg(&mut line, window);
+    emit(out, line.as_bytes())
+}
+
+// `<svg .. viewBox="{left} {top} {width} {height}">`
+fn prepend_svg(line: &mut TextLine, window: &Window)
+    requires { line.old ≡ [] }
+    ensures { line.new ≡ svg_line window.now }
+{
+    line.prepend_bytes(b"\">\n");
+    prepend_number(line, &window.height);
+    line.prepend_bytes(b" ");
+    prepend_number(line, &window.width);
+    line.prepend_bytes(b" ");
+    prepend_number(line, &window.top);
+    line.prepend_bytes(b" ");
+    prepend_number(line, &window.left);
+    line.prepend_bytes(b"<svg xmlns=\"http://www.w3.org/2000/svg\" viewBox=\"");
+}
+
+#[derive(Drop)]
+struct TitleLine<'l, 'a, A: Allocator> {
+    level: &'l Level<'a>,
+    report: &'l Report<A>,
+}
+
+impl<A: Allocator> Parts for TitleLine<'_, '_, A> {
+    ghost use Rattle.std.specs.Prelude.{[], ◌∷◌, codes};
+    ghost use Rattle.map_picture.specs.Escape.{escaped};
+    ghost use Rattle.map_picture.specs.Head.{label_name, without_end};
+    ghost use Rattle.wad_look.specs.Engines.Audit.{fault_count, note_count, totals_line};
+
+    ghost parts = { λ line. codes "<title>" ∷ escaped (label_name line.level.now) ∷ codes ": "
+        ∷ escaped (without_end (totals_line (fault_count line.report.now) (note_count line.report.now))) ∷ codes "</title>\n" ∷ [] };
+
+    fn count(&self) -> usize {
+        5
+    }
+
+    fn write<W: Sink>(&self, number: usize, out: &mut W) -> Result<(), IoFault> {
+        match number {
+            0 => emit(out, b"<title>"),
+            1 => write_label(self.level, out),
+            2 => emit(out, b": "),
+            3 => write_totals(self.report, out),
+            _ => emit(out, b"</title>\n"),
+        }
+    }
+}
+
+/// Writes the title: the level's name, and what the audit adds up to.
+pub fn write_title<A: Allocator, W: Sink>(
+    level: &Level<'_>,
+    report: &Report<A>,
+    out: &mut W,
+) -> Result<(), IoFault>
+    requires { (W.state out.old).failed ≡ false }
+    ensures { Writes (W.state out.old) (W.state out.new) (title_line level.now report.now) result }
+{
+    write_parts(&TitleLine { level, report }, out)
+}
+
+// Writes the label's name as it is shown.
+fn write_label<W: Sink>(level: &Level<'_>, out: &mut W) -> Result<(), IoFault>
+    requires { (W.state out.old).failed ≡ false }
+    ensures { Writes (W.state out.old) (W.state out.new) (escaped (label_name level.now)) result }
+{
+    let mut text = [0; 32];
+    let len = level.name(0).shown(&mut text);
+    write_escaped(&text[..len], out)
+}
+
+// Writes the last line of the audit, without its end.
+fn write_totals<A: Allocator, W: Sink>(report: &Report<A>, out: &mut W) -> Result<(), IoFault>
+    requires { (W.state out.old).failed ≡ false }
+    ensures { Writes (W.state out.old) (W.state out.new)
+        (escaped (without_end (totals_line (fault_count report.now) (note_count report.now)))) result }
+{
+    let mut line = TextLine::new();
+    prepend_totals(&mut line, report.faults(), report.notes());
+    write_escaped(without_end(line.as_bytes()), out)
+}
+
+/// Writes the style sheet.
+pub fn write_style<W: Sink>(out: &mut W) -> Result<(), IoFault>
+    requires { (W.state out.old).failed ≡ false }
+    ensures { Writes (W.state out.old) (W.state out.new) style_line result }
+{
+    emit(out, STYLE)
+}
+
+/// Writes the ground, all of what is seen.
+pub fn write_ground<W: Sink>(window: &Window, out: &mut W) -> Result<(), IoFault>
+    requires { (W.state out.old).failed ≡ false }
+    ensures { Writes (W.state out.old) (W.state out.new) (ground_line window.now) result }
+{
+    let mut line = TextLine::new();
+    prepend_ground(&mut line, window);
+    emit(out, line.as_bytes())
+}
+
+// `<rect x="{left}" y="{top}" width="{width}" height="{height}" fill="#14161a"/>`
+fn prepend_ground(line: &mut TextLine, window: &Window)
+    requires { line.old ≡ [] }
+    ensures { line.new ≡ ground_line window.now }
+{
+    line.prepend_bytes(b"\" fill=\"#14161a\"/>\n");
+    prepend_number(line, &window.height);
+    line.prepend_bytes(b"\" height=\"");
+    prepend_number(line, &window.width);
+    line.prepend_bytes(b"\" width=\"");
+    prepend_number(line, &window.top);
+    line.prepend_bytes(b"\" y=\"");
+    prepend_number(line, &window.left);
+    line.prepend_bytes(b"<rect x=\"");
+}

@@ -1,0 +1,19 @@
+//! A picture of a level: what of it shows which sector, its linedefs, its findings and its things, as the text of an SVG.
+#![tactic(auto)]
+
+mod escape;
+mod grey;
+mod head;
+pub mod laws;
+mod lines;
+mod marks;
+mod parts;
+mod paths;
+mod picture;
+mod sectors;
+mod things;
+mod window;
+mod word;
+
+pub use picture::{Drawn, write_picture};
+pub use sectors::SectorCells;

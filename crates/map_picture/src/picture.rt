@@ -1,0 +1,208 @@
+//! The lines of a picture, one after another.
+
+ghost use Rattle.std.specs.Prelude.{◌≡◌, ◌+◌, ◌≤◌, ◌++◌, [], codes, false, length, neg_ℤ};
+ghost use Rattle.std.specs.Fmt.{signed_decimal};
+ghost use Rattle.line_io.specs.Writes.{Writes};
+ghost use Rattle.map_picture.specs.Head.{ground_line, svg_line};
+ghost use Rattle.map_picture.specs.Picture.{cells_line, picture_text, sector_lines, sector_part, units_line};
+ghost use Rattle.map_picture.specs.Window.{window_of};
+
+use crate::head::{write_ground, write_style, write_svg, write_title};
+use crate::lines::write_lines;
+use crate::marks::write_marks;
+use crate::parts::{Parts, write_parts};
+use crate::sectors::{SectorCells, write_sector};
+use crate::things::write_things;
+use crate::window::window_of;
+use crate::word::prepend_word;
+use le_rec::Sink;
+use line_io::{IoFault, TextLine, emit};
+use map_audit::Report;
+use map_cells::Frame;
+use map_level::Level;
+use std::alloc::Allocator;
+
+/// What is drawn besides a level's own lines.
+#[derive(Clone, Copy)]
+pub struct Drawn<'p, 'b> {
+    /// What of the map is drawn in cells.
+    pub frame: Frame,
+    /// How many map units a cell is wide and high.
+    pub size: u32,
+    /// The sectors that cells show, ascending.
+    pub shown: &'p [SectorCells<'b>],
+}
+
+#[derive(Drop)]
+struct Picture<'p, 'a, 'b, A: Allocator> {
+    level: &'p Level<'a>,
+    report: &'p Report<A>,
+    drawn: &'p Drawn<'p, 'b>,
+}
+
+impl<A: Allocator> Parts for Picture<'_, '_, '_, A> {
+    ghost use Rattle.map_picture.specs.Picture.{picture_parts};
+
+    ghost parts = { λ picture. picture_parts picture.level.now picture.report.now picture.drawn.now.frame picture.drawn.now.size
+        picture.drawn.now.shown.now };
+
+    fn count(&self) -> usize {
+        12
+    }
+
+    fn write<W: Sink>(&self, number: usize, out: &mut W) -> Result<(), IoFault> {
+        match number {
+            0 => write_view(self.drawn.frame, out),
+            1 => write_title(self.level, self.report, out),
+            2 => write_style(out),
+            3 => write_backdrop(self.drawn.frame, out),
+            4 => write_cells(self.drawn.frame, self.drawn.size, out),
+            5 => write_sectors(self.level, self.drawn.shown, out),
+            6 => write_units(out),
+            7 => write_lines(self.level, true, out),
+            8 => write_lines(self.level, false, out),
+            9 => write_marks(self.level, self.report, out),
+            10 => write_things(self.level, out),
+            _ => write_end(out),
+        }
+    }
+}
+
+/// Writes the picture of a level with its report: the sectors that cells show, by their blocks, the linedefs, the findings of
+/// linedefs and segs, and the things. `Write` where the sink fails: a front of the text was taken.
+pub fn write_picture<A: Allocator, W: Sink>(
+    level: &Level<'_>,
+    report: &Report<A>,
+    drawn: &Drawn<'_, '_>,
+    out: &mut W,
+) -> Result<(), IoFault>
+    requires { (W.state out.old).failed ≡ false }
+    ensures { Writes (W.state out.old) (W.state out.new)
+        (picture_text level.now report.now drawn.now.frame drawn.now.size drawn.now.shown.now) result }
+{
+    let picture = Picture {
+        level,
+        report,
+        drawn,
+    };
+    write_parts(&picture, out)
+}
+
+// Writes the lines of the sectors that are shown.
+fn write_sectors<W: Sink>(
+    level: &Level<'_>,
+    shown: &[SectorCells<'_>],
+    out: &mut W,
+) -> Result<(), IoFault>
+    requires { (W.state out.old).failed ≡ false }
+    ensures { Writes (W.state out.old) (W.state out.new) (sector_lines level.now shown.now) result }
+{
+    write_parts(&SectorLines { level, shown }, out)
+}
+
+// Writes that what follows is in map units.
+fn write_units<W: Sink>(out: &mut W) -> Result<(), IoFault>
+    requires { (W.state out.old).failed ≡ false }
+    ensures { Writes (W.state out.old) (W.state out.new) units_line result }
+{
+    emit(out, b"</g><g transform=\"matrix(1 0 0 -1 0 0)\">\n")
+}
+
+// Writes the last line.
+fn write_end<W: Sink>(out: &mut W) -> Result<(), IoFault>
+    requires { (W.state out.old).failed ≡ false }
+    ensures { Writes (W.state out.old) (W.state out.new) (codes "</g></svg>\n") result }
+{
+    emit(out, b"</g></svg>\n")
+}
+
+// Writes the line of what is seen.
+fn write_view<W: Sink>(frame: Frame, out: &mut W) -> Result<(), IoFault>
+    requires { (W.state out.old).failed ≡ false }
+    ensures { Writes (W.state out.old) (W.state out.new) (svg_line (window_of frame)) result }
+{
+    let window = window_of(frame);
+    write_svg(&window, out)
+}
+
+// Writes the ground of what is seen.
+fn write_backdrop<W: Sink>(frame: Frame, out: &mut W) -> Result<(), IoFault>
+    requires { (W.state out.old).failed ≡ false }
+    ensures { Writes (W.state out.old) (W.state out.new) (ground_line (window_of frame)) result }
+{
+    let window = window_of(frame);
+    write_ground(&window, out)
+}
+
+// Writes the line that the sectors stand behind.
+fn write_cells<W: Sink>(frame: Frame, size: u32, out: &mut W) -> Result<(), IoFault>
+    requires { (W.state out.old).failed ≡ false }
+    ensures { Writes (W.state out.old) (W.state out.new) (cells_line frame size) result }
+{
+    let mut line = TextLine::new();
+    prepend_cells(&mut line, frame, size);
+    emit(out, line.as_bytes())
+}
+
+// `<g class="s" transform="matrix({size} 0 0 {-size} {x0} {-y0})">`
+fn prepend_cells(line: &mut TextLine, frame: Frame, size: u32)
+    requires { line.old ≡ [] }
+    ensures { line.new ≡ cells_line frame size }
+{
+    let size = u64::from(size);
+    line.prepend_bytes(b")\">\n");
+    prepend_opposite(line, frame.y0());
+    line.prepend_bytes(b" ");
+    prepend_word(line, &frame.x0());
+    line.prepend_bytes(b" ");
+    line.prepend_natural(size);
+    line.prepend_bytes(b" 0 0 -");
+    line.prepend_natural(size);
+    line.prepend_bytes(b"<g class=\"s\" transform=\"matrix(");
+}
+
+// Puts a word's opposite before the line.
+fn prepend_opposite(line: &mut TextLine, word: i16)
+    requires { length line.old + 21 ≤ 144 }
+    ensures text { line.new ≡ signed_decimal (neg_ℤ word) ++ line.old }
+    ensures length { length line.new ≤ length line.old + 21 }
+{
+    line.prepend_integer(-i64::from(word));
+}
+
+// The sectors that are shown.
+#[derive(Drop)]
+struct SectorLines<'p, 'a, 'b> {
+    level: &'p Level<'a>,
+    shown: &'p [SectorCells<'b>],
+}
+
+impl Parts for SectorLines<'_, '_, '_> {
+    ghost use Rattle.std.specs.Prelude.{map};
+    ghost use Rattle.map_picture.specs.Picture.{sector_part};
+
+    ghost parts = { λ lines. map (sector_part lines.level.now) lines.shown.now };
+
+    fn count(&self) -> usize {
+        self.shown.len()
+    }
+
+    fn write<W: Sink>(&self, number: usize, out: &mut W) -> Result<(), IoFault> {
+        write_shown(self.level, &self.shown[number], out)
+    }
+}
+
+// Writes the line of a sector, where the level has it.
+fn write_shown<W: Sink>(
+    level: &Level<'_>,
+    shown: &SectorCells<'_>,
+    out: &mut W,
+) -> Result<(), IoFault>
+    requires { (W.state out.old).failed ≡ false }
+    ensures { Writes (W.state out.old) (W.state out.new) (sector_part level.now shown.now) result }
+{
+    match level.sectors().get(usize::from(shown.number)) {
+        Some(sector) => write_sector(shown.number, &sector, shown.blocks, shown.cells, out),
+        None => emit(out, b""),
+    }
+}

@@ -2,4 +2,5 @@ pub mod DemoFiring
 pub mod DemoLength
 pub mod FaultSearch
 pub mod LumpExchange
+pub mod SsectorSectors
 pub mod ThingSectors

@@ -2,16 +2,22 @@
 //! by their contracts and laws alone.
 #![tactic(auto)]
 
+mod built_lumps;
 mod demo_firing;
 mod demo_length;
 mod fault_search;
 mod lump_exchange;
+mod point_sector;
 mod room_census;
+mod ssector_sectors;
 mod thing_sectors;
 
+pub use built_lumps::{nodes_are_clean, tables_are_clean};
 pub use demo_firing::commands_firing;
 pub use demo_length::full_tics;
 pub use fault_search::first_fault;
 pub use lump_exchange::{ExchangeFault, with_lump};
+pub use point_sector::locate;
 pub use room_census::points_in_sector;
+pub use ssector_sectors::sectors_of_ssectors;
 pub use thing_sectors::sectors_of_things;

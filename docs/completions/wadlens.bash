@@ -5,6 +5,7 @@
 declare -gA _wadlens_options=(
     [check]='--wide --max --files-from --null --progress --help'
     [survey]='--wide --files-from --null --progress --help'
+    [cut]='--entry --help'
 )
 
 _wadlens() {
@@ -16,7 +17,7 @@ _wadlens() {
     fi
     [[ -n ${_wadlens_options[${COMP_WORDS[1]}]-} ]] || return
     case $before in
-        --max) return ;;
+        --max | --entry) return ;;
         --files-from)
             mapfile -t COMPREPLY < <(compgen -f -- "$current")
             compopt -o filenames 2>/dev/null

@@ -9,7 +9,7 @@ use std::test::Fail;
 use test_alloc::Refusing;
 use test_ends::SliceSink;
 use wad_dir::WadFault;
-use wad_lens::{FileFault, Question, Totals, check_file, write_totals};
+use wad_lens::{FileFault, Question, Totals, Verdict, check_file, write_totals};
 
 // A check into an output that hasn't failed.
 fn check<A: Allocator + Copy>(
@@ -186,7 +186,7 @@ fn output_fails(rt: HostRuntime) -> Result<(), Fail> {
         reading: Reading::Signed,
     };
     let result = check(&rt, rt.alloc(), &question, &file, &mut out);
-    assert_eq!(rt; result, Err(FileFault::Write));
+    assert_eq!(rt; result, Err(FileFault::Write(Verdict::Faulty)));
     assert_eq!(rt; out.taken(), b"a.wad: E1M1: F9 seg 1: ".as_slice());
     Ok(())
 }

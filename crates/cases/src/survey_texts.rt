@@ -273,7 +273,7 @@ fn fails_at(rt: &(impl Abort + AllocGlobal), file: &[u8], n: usize) {
     let mut room = [0; 1024];
     let mut out = SliceSink::new(&mut room).at_most(1).failing_at(n as u32);
     let result = survey(rt, rt.alloc(), b"a.wad", file, Reading::Signed, &mut out);
-    assert_eq!(rt; result, Err(FileFault::Write));
+    assert_eq!(rt; result, Err(FileFault::Write(Verdict::Clean)));
     assert_eq!(rt; out.taken(), &BOTH[..n - 1]);
 }
 

@@ -35,7 +35,8 @@ use Rattle.wad_lens.specs.Counts.{AreCounts, IsCount, fault_total, report_order}
 use Rattle.wad_lens.specs.FindingLine.{level_line}
 use Rattle.wad_lens.specs.FormatLine.{format_text}
 use Rattle.wad_lens.specs.LevelLines.{AreCounted, AreTold, judged_text}
-use Rattle.wad_lens.specs.Totals.{format_totals, judged_totals, no_totals, totals_with}
+use Rattle.wad_lens.specs.Survey.{fault_after}
+use Rattle.wad_lens.specs.Totals.{format_totals, judged_totals, no_totals, totals_with, verdict_of_totals}
 use Rattle.wad_lens.specs.declared.totals.Totals.{Totals}
 use Rattle.wad_lens.specs.declared.verdict.FileFault.{FileFault}
 use Rattle.wad_lens.specs.declared.verdict.FileFault.TheVariants as fault
@@ -206,15 +207,15 @@ SoFar-level asked files before between after from g sum totals so_far next level
 -- it stopped within the text of a level
 stopped_in_text : (asked : Asked) (files : List Wad) (before between after : SinkState) (from g : ℕ) (sum : Totals) (why : FileFault)
     → SoFar asked files before between from sum → IsNextStart (names files) from g → WritesText (IsLevelText asked files g) between after (Err why)
-    → ChecksSome asked files before after why
+    → ChecksSome asked files before after (fault_after (verdict_of_totals sum) why)
 stopped_in_text asked files before between after from g sum why so_far next wrote = go wrote.outcome wrote.writes wrote.ended
   where
     go : (outcome : Result (Unit {0}) IoFault) → Writes between after wrote.text outcome → ◌≡◌ {A = Result Totals FileFault} (Err why) (text_end wrote.totals outcome)
-        → ChecksSome asked files before after why
+        → ChecksSome asked files before after (fault_after (verdict_of_totals sum) why)
     go (Ok x) writes ended = absurd (cc)
     go (Err e) writes ended =
-        let same : fault.Write ≡ why = cc in
-        subst (ChecksSome asked files before after) same (record {
+        let same : fault.Write (verdict_of_totals wrote.totals) ≡ why = cc in
+        subst (λ w. ChecksSome asked files before after (fault_after (verdict_of_totals sum) w)) same (record {
           from = from;
           text = so_far.text;
           sum = sum;
@@ -226,15 +227,16 @@ stopped_in_text asked files before between after from g sum why so_far next wrot
           is = wrote.is;
           took = TakesFront-after before between after so_far.text so_far.took writes.takes.front;
           failed = line_stopped between after wrote.text e writes;
+          says = refl;
         })
 
 -- it stopped at a level
 pub level_stopped : {W : Type 0} (state : W → SinkState) (asked : Asked) (files : List Wad) (before : SinkState) (from g : ℕ) (sum : Totals) (out out' : W) (why : FileFault)
     → SoFar asked files before (state out) from sum → (state out).failed ≡ false → IsNextStart (names files) from g
-    → ChecksText state (IsLevelText asked files g) out out' (Err why) → ChecksSome asked files before (state out') why
+    → ChecksText state (IsLevelText asked files g) out out' (Err why) → ChecksSome asked files before (state out') (fault_after (verdict_of_totals sum) why)
 level_stopped state asked files before from g sum out out' why so_far sound next (inl wants) =
     let same : fault.Memory ≡ why = err_same why wants.ended in
-    subst (ChecksSome asked files before (state out')) same
+    subst (λ w. ChecksSome asked files before (state out') (fault_after (verdict_of_totals sum) w)) same
     (subst (λ o. ChecksSome asked files before (state o) fault.Memory) (sym wants.untouched)
     (record { from = from; text = so_far.text; sum = sum; told = so_far.told; took = so_far.took; sound = sound }))
   where

@@ -1,3 +1,4 @@
+mod CutLemmas
 pub mod CheckLemmas
 pub mod CheckedLemmas
 pub mod CodeLemmas

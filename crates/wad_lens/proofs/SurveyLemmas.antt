@@ -25,7 +25,7 @@ use Rattle.wad_dir.specs.Entries.{names}
 use Rattle.wad_dir.specs.Wad.{IsRead, Wad}
 use Rattle.wad_lens.specs.Objects.{HasPlace, level_members, other_members}
 use Rattle.wad_lens.specs.Survey.{AreStartsBelow, AreTold, AreToldBelow, EndsObject, IsTold, Surveys, SurveysAll, SurveysDoom, SurveysFile, SurveysLevel, SurveysSome, Told, WritesLine, WritesLevel}
-use Rattle.wad_lens.specs.Survey.{gravest, graver, line_end, lines_of, verdict_of_format}
+use Rattle.wad_lens.specs.Survey.{fault_after, gravest, graver, line_end, lines_of, verdict_of_format}
 use Rattle.wad_lens.specs.declared.verdict.FileFault.{FileFault}
 use Rattle.wad_lens.specs.declared.verdict.FileFault.TheVariants as fault
 use Rattle.wad_lens.specs.declared.verdict.Verdict.{Verdict}
@@ -151,17 +151,17 @@ line_stopped between after line io.Memory writes = absurd writes.ends.fault
 -- the survey stopped within the line of a level
 pub stopped_in_line : (path : List ℕ) (files : List Wad) (reading : Reading) (before between after : SinkState) (from g : ℕ) (worst : Verdict) (why : FileFault)
     → ToldSoFar path files reading before between from worst → IsNextStart (names files) from g
-    → WritesLevel path files reading g between after (Err why) → SurveysSome path files reading before after why
+    → WritesLevel path files reading g between after (Err why) → SurveysSome path files reading before after (fault_after worst why)
 stopped_in_line path files reading before between after from g worst why so_far next wrote = go wrote.writes.outcome wrote.writes.writes wrote.writes.ended
   where
     go : (outcome : Result (Unit {0}) IoFault) → Writes between after wrote.told.line outcome → Err why ≡ line_end wrote.told.verdict outcome
-        → SurveysSome path files reading before after why
+        → SurveysSome path files reading before after (fault_after worst why)
     go (Ok x) writes ended = absurd (cc)
     go (Err e) writes ended =
         let one = wrote.told in
         let told = so_far.told in
-        let same : fault.Write ≡ why = cc in
-        subst (SurveysSome path files reading before after) same (record {
+        let same : fault.Write one.verdict ≡ why = cc in
+        subst (λ w. SurveysSome path files reading before after (fault_after worst w)) same (record {
           end = g + 1;
           told = told ++ one ∷ [];
           are = told_next path files reading from g told one so_far.are next wrote.is;
@@ -169,6 +169,7 @@ stopped_in_line path files reading before between after from g worst why so_far 
             subst (TakesFront before after) (sym (lines-push told one))
                 (TakesFront-after before between after (lines_of told) so_far.took writes.takes.front),
             line_stopped between after one.line e writes,
+            ap (λ v. graver v one.verdict) so_far.says ∙ sym (fold_push (λ v (t : Told). graver v t.verdict) Clean told one),
           );
         })
 
@@ -255,11 +256,11 @@ level_told state path files reading g out out' verdict does = elim does [
 -- the survey stopped at a level
 pub level_stopped : {W : Type 0} (state : W → SinkState) (path : List ℕ) (files : List Wad) (reading : Reading) (before : SinkState) (from g : ℕ) (worst : Verdict) (out out' : W) (why : FileFault)
     → ToldSoFar path files reading before (state out) from worst → (state out).failed ≡ false → IsNextStart (names files) from g
-    → SurveysLevel state path files reading g out out' (Err why) → SurveysSome path files reading before (state out') why
+    → SurveysLevel state path files reading g out out' (Err why) → SurveysSome path files reading before (state out') (fault_after worst why)
 level_stopped state path files reading before from g worst out out' why so_far sound next does = elim does [
   | inl wants ↦
       let same : fault.Memory ≡ why = err_same why wants.ended in
-      subst (SurveysSome path files reading before (state out')) same
+      subst (λ w. SurveysSome path files reading before (state out') (fault_after worst w)) same
       (subst (λ (o : _). SurveysSome path files reading before (state o) fault.Memory) (sym wants.untouched)
       (stopped_before_line path files reading before (state out) from worst so_far sound))
   | inr wrote ↦ stopped_in_line path files reading before (state out) (state out') from g worst why so_far next wrote

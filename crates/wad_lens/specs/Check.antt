@@ -23,11 +23,13 @@ use Rattle.wad_lens.specs.Counts.{AreCounts}
 use Rattle.wad_lens.specs.FindingLine.{level_line}
 use Rattle.wad_lens.specs.FormatLine.{format_text}
 use Rattle.wad_lens.specs.LevelLines.{AreCounted, AreTold, judged_text}
-use Rattle.wad_lens.specs.Totals.{format_totals, judged_totals, no_totals, totals_with}
+use Rattle.wad_lens.specs.Survey.{graver}
+use Rattle.wad_lens.specs.Totals.{format_totals, judged_totals, no_totals, totals_with, verdict_of_totals}
 use Rattle.wad_lens.specs.declared.check.Question.{Question}
 use Rattle.wad_lens.specs.declared.totals.Totals.{Totals}
 use Rattle.wad_lens.specs.declared.verdict.FileFault.{FileFault}
 use Rattle.wad_lens.specs.declared.verdict.FileFault.TheVariants.{NoWad, Write, Memory}
+use Rattle.wad_lens.specs.declared.verdict.Verdict.{Verdict}
 
 -- how a run is asked for: the file's path, how many findings of a code are shown at most, and the reading
 pub record Asked : Type 0 where
@@ -91,8 +93,8 @@ pub record ChecksAll (asked : Asked) (files : List Wad) (before after : SinkStat
   pub took : Appends before.taken after.taken text
   pub sound : after.failed ≡ false
 
--- a write failed within the text of a level
-pub record StopsWriting (asked : Asked) (files : List Wad) (before after : SinkState) : Type 0 where
+-- a write failed within the text of a level, and so much was found up to there
+pub record StopsWriting (asked : Asked) (files : List Wad) (before after : SinkState) (found : Verdict) : Type 0 where
   pub from : ℕ
   pub text : List ℕ
   pub sum : Totals
@@ -104,6 +106,7 @@ pub record StopsWriting (asked : Asked) (files : List Wad) (before after : SinkS
   pub is : IsLevelText asked files g line totals
   pub took : TakesFront before after (text ++ line)
   pub failed : after.failed ≡ true
+  pub says : found ≡ graver (verdict_of_totals sum) (verdict_of_totals totals)
 
 -- there was no memory to judge the level behind those that were told
 pub record StopsJudging (asked : Asked) (files : List Wad) (before after : SinkState) : Type 0 where
@@ -116,7 +119,7 @@ pub record StopsJudging (asked : Asked) (files : List Wad) (before after : SinkS
 
 -- why not all levels were told
 abbrev pub ChecksSome : Asked → List Wad → SinkState → SinkState → FileFault → Type 0
-ChecksSome asked files before after Write = StopsWriting asked files before after
+ChecksSome asked files before after (Write found) = StopsWriting asked files before after found
 ChecksSome asked files before after Memory = StopsJudging asked files before after
 ChecksSome asked files before after (NoWad why) = ⊥
 
@@ -133,7 +136,7 @@ pub record WantsMemory {W T : Type 0} (out out' : W) (result : Result T FileFaul
 -- the end of a level's text: its totals, where the text was written
 abbrev pub text_end : Totals → Result (Unit {0}) IoFault → Result Totals FileFault
 text_end totals (Ok x) = Ok totals
-text_end totals (Err fault) = Err Write
+text_end totals (Err fault) = Err (Write (verdict_of_totals totals))
 
 -- a text was written whose level has these totals
 pub record WritesText (Is : List ℕ → Totals → Type 0) (before after : SinkState) (result : Result Totals FileFault) : Type 0 where
@@ -152,7 +155,7 @@ ChecksText state Is out out' result = WantsMemory out out' result ⊎ WritesText
 abbrev pub RefusesCheck : List ℕ → FileFault → Type 0
 RefusesCheck bytes (NoWad why) = RefusesWad bytes why
 RefusesCheck bytes Memory = Unit {0}
-RefusesCheck bytes Write = ⊥
+RefusesCheck bytes (Write found) = ⊥
 
 -- the file wasn't checked, and nothing was written
 pub record LeavesFile {W : Type 0} (bytes : List ℕ) (out out' : W) (result : Result Totals FileFault) : Type 0 where

@@ -12,3 +12,4 @@ pub mod Owners
 pub mod Place
 pub mod Survey
 pub mod Totals
+pub mod Cut

@@ -30,6 +30,12 @@ graver Unjudged Faulty = Faulty
 graver Unjudged other = Unjudged
 graver Clean other = other
 
+-- a fault where levels of a verdict were told before: a failed write tells of them, too
+abbrev pub fault_after : Verdict → FileFault → FileFault
+fault_after before (NoWad why) = NoWad why
+fault_after before (Write found) = Write (graver before found)
+fault_after before Memory = Memory
+
 -- what a format alone says: a lump that isn't there or isn't inside its file is a fault, and what isn't read is not judged
 abbrev pub verdict_of_format : Format → Verdict
 verdict_of_format Udmf = Unjudged
@@ -105,9 +111,9 @@ pub record SurveysAll (path : List ℕ) (files : List Wad) (reading : Reading) (
   pub sound : after.failed ≡ false
   pub says : verdict ≡ gravest told
 
--- how a survey stops: at a failed write within the line of some level, or where there is no memory to judge the next one
+-- how a survey stops: at a failed write within the line of the last level of these, or where there is no memory to judge the next one
 abbrev pub StopsLines : SinkState → SinkState → List Told → FileFault → Type 0
-StopsLines before after told Write = TakesFront before after (lines_of told) × (after.failed ≡ true)
+StopsLines before after told (Write found) = TakesFront before after (lines_of told) × (after.failed ≡ true) × (found ≡ gravest told)
 StopsLines before after told Memory = Appends before.taken after.taken (lines_of told) × (after.failed ≡ false)
 StopsLines before after told (NoWad why) = ⊥
 
@@ -127,7 +133,7 @@ pub record Surveys (path : List ℕ) (files : List Wad) (reading : Reading) (bef
 abbrev pub RefusesSurvey : List ℕ → FileFault → Type 0
 RefusesSurvey bytes (NoWad why) = RefusesWad bytes why
 RefusesSurvey bytes Memory = Unit {0}
-RefusesSurvey bytes Write = ⊥
+RefusesSurvey bytes (Write found) = ⊥
 
 -- the file wasn't surveyed, and nothing was written
 pub record LeavesFile {W : Type 0} (bytes : List ℕ) (out out' : W) (result : Result Verdict FileFault) : Type 0 where
@@ -151,7 +157,7 @@ RunsSurvey state path bytes reading out out' result =
 -- the end of a level's line: its verdict, where the line was written
 abbrev pub line_end : Verdict → Result (Unit {0}) IoFault → Result Verdict FileFault
 line_end verdict (Ok x) = Ok verdict
-line_end verdict (Err fault) = Err Write
+line_end verdict (Err fault) = Err (Write verdict)
 
 -- a line was written whose level has this verdict
 pub record WritesLine (before after : SinkState) (line : List ℕ) (verdict : Verdict) (result : Result Verdict FileFault) : Type 0 where

@@ -1,10 +1,12 @@
 -- What is counted over levels, files and a run.
-use Rattle.std.specs.Prelude.{ℕ, ◌+◌, ◌-◌, ◌^◌, List, [], ◌∷◌, ◌++◌, codes, min}
+use Rattle.std.specs.Prelude.{ℕ, ◌+◌, ◌-◌, ◌^◌, ◌==◌, List, [], ◌∷◌, ◌++◌, codes, min, if◌then◌else◌}
 use Rattle.std.specs.Fmt.{decimal}
 use Rattle.level_list.specs.declared.format.Format.{Format}
 use Rattle.level_list.specs.declared.format.Format.TheVariants.{Udmf, Incomplete, Hexen, Outside, Extended, Doom}
 use Rattle.wad_lens.specs.Counts.{fault_total, note_total}
 use Rattle.wad_lens.specs.declared.totals.Totals.{Totals}
+use Rattle.wad_lens.specs.declared.verdict.Verdict.{Verdict}
+use Rattle.wad_lens.specs.declared.verdict.Verdict.TheVariants.{Clean, Unjudged, Faulty}
 
 -- of no level
 abbrev pub no_totals : Totals
@@ -36,6 +38,11 @@ totals_with a b = record {
   broken = capped a.broken b.broken;
   unread = capped a.unread b.unread;
 }
+
+-- what totals say
+abbrev pub verdict_of_totals : Totals → Verdict
+verdict_of_totals totals =
+    if totals.faults == 0 then (if totals.broken == 0 then (if totals.unread == 0 then Clean else Unjudged) else Faulty) else Faulty
 
 -- `N levels in M files: F faults, K notes, U not judged`
 abbrev pub levels_text : ℕ → Totals → List ℕ

@@ -69,7 +69,10 @@ fn check_set<A: Allocator + Copy, W: Sink>(
     let mut sum = no_totals();
     let mut from = 0;
     'levels: while let Some(g) = next_start(set, from) {
-        let totals = check_level(alloc, question, set, g, out)?;
+        let totals = match check_level(alloc, question, set, g, out) {
+            Ok(totals) => totals,
+            Err(fault) => return Err(fault.after(sum.verdict())),
+        };
         sum = sum.with(totals);
         from = g + 1;
     }
@@ -223,6 +226,6 @@ fn text_end(totals: Totals, wrote: Result<(), IoFault>) -> Result<Totals, FileFa
 {
     match wrote {
         Ok(()) => Ok(totals),
-        Err(_) => Err(FileFault::Write),
+        Err(_) => Err(FileFault::Write(totals.verdict())),
     }
 }

@@ -4,6 +4,7 @@
 
 mod check;
 mod counts;
+mod cut;
 mod digits;
 mod json_string;
 mod judged;
@@ -22,9 +23,10 @@ mod verdict;
 
 pub use check::{Question, check_file};
 pub use counts::Counts;
+pub use cut::{CutFault, cut_level, write_cut_fault};
 pub use json_string::write_string;
 pub use kind::Kind;
-pub use object::{Refusal, refused_line};
+pub use object::{Refusal, prepend_number, refused_line, write_file, write_name};
 pub use place::{Place, Spot};
 pub use survey::survey_file;
 pub use totals::{Totals, write_totals};

@@ -108,6 +108,17 @@ pub fn write_format<W: Sink>(
     write_line(heading, &mut line, out)
 }
 
+/// Writes the line of a format, without the path and the label before it.
+pub fn write_format_alone<W: Sink>(format: Format, out: &mut W) -> Result<(), IoFault>
+    requires place { HasPlace format }
+    requires sound { (W.state out.old).failed ≡ false }
+    ensures { Writes (W.state out.old) (W.state out.new) (format_text format) result }
+{
+    let mut line = TextLine::new();
+    prepend_format(&mut line, format);
+    emit(out, line.as_bytes())
+}
+
 // What tells that a level isn't judged.
 fn prepend_format(line: &mut TextLine, format: Format)
     requires place { HasPlace format }

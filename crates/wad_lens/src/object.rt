@@ -75,8 +75,8 @@ fn write_refusal<W: Sink>(refusal: Refusal, out: &mut W) -> Result<(), IoFault>
     emit(out, b"}\n")
 }
 
-// `{"file":<path>`
-fn write_file<W: Sink>(path: &[u8], out: &mut W) -> Result<(), IoFault>
+/// `{"file":<path>`
+pub fn write_file<W: Sink>(path: &[u8], out: &mut W) -> Result<(), IoFault>
     requires { (W.state out.old).failed ≡ false }
     ensures { Writes (W.state out.old) (W.state out.new) (file_member path.now) result }
 {
@@ -84,8 +84,8 @@ fn write_file<W: Sink>(path: &[u8], out: &mut W) -> Result<(), IoFault>
     write_string(path, out)
 }
 
-// Writes a name as it is shown.
-fn write_name<W: Sink>(name: &Name8, out: &mut W) -> Result<(), IoFault>
+/// Writes a name as it is shown, as a string.
+pub fn write_name<W: Sink>(name: &Name8, out: &mut W) -> Result<(), IoFault>
     requires { (W.state out.old).failed ≡ false }
     ensures { Writes (W.state out.old) (W.state out.new) (name_string name.now) result }
 {
@@ -131,8 +131,8 @@ fn write_number<W: Sink>(name: &[u8], number: u64, out: &mut W) -> Result<(), Io
     emit(out, line.as_bytes())
 }
 
-// Puts a member with a number before the line.
-fn prepend_number(line: &mut TextLine, name: &[u8], number: u64)
+/// Puts `,"<name>":<number>` before the line.
+pub fn prepend_number(line: &mut TextLine, name: &[u8], number: u64)
     requires { length line.old + length name.now + 24 ≤ 144 }
     ensures text { line.new ≡ number_member name.now number ++ line.old }
     ensures length { length line.new ≤ length line.old + length name.now + 24 }

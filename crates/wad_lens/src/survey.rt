@@ -59,7 +59,10 @@ fn survey_set<A: Allocator + Copy, W: Sink>(
     let mut worst = Verdict::Clean;
     let mut from = 0;
     'levels: while let Some(g) = next_start(set, from) {
-        let verdict = survey_level(alloc, path, set, g, reading, out)?;
+        let verdict = match survey_level(alloc, path, set, g, reading, out) {
+            Ok(verdict) => verdict,
+            Err(fault) => return Err(fault.after(worst)),
+        };
         worst = worst.graver(verdict);
         from = g + 1;
     }
@@ -211,6 +214,6 @@ fn line_end(verdict: Verdict, wrote: Result<(), IoFault>) -> Result<Verdict, Fil
 {
     match wrote {
         Ok(()) => Ok(verdict),
-        Err(_) => Err(FileFault::Write),
+        Err(_) => Err(FileFault::Write(verdict)),
     }
 }

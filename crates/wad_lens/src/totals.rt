@@ -6,6 +6,7 @@ ghost use Rattle.wad_lens.specs.Totals.{format_totals, found_text, judged_totals
 
 use crate::counts::Counts;
 use crate::lines::write_both;
+use crate::verdict::Verdict;
 use le_rec::Sink;
 use level_list::Format;
 use line_io::{IoFault, TextLine};
@@ -68,7 +69,7 @@ pub fn format_totals(format: Format) -> Totals
 }
 
 impl Totals {
-    ghost use Rattle.wad_lens.specs.Totals.{totals_with};
+    ghost use Rattle.wad_lens.specs.Totals.{totals_with, verdict_of_totals};
 
     /// Both together.
     pub fn with(self, other: Totals) -> Totals
@@ -80,6 +81,21 @@ impl Totals {
             notes: self.notes.saturating_add(other.notes),
             broken: self.broken.saturating_add(other.broken),
             unread: self.unread.saturating_add(other.unread),
+        }
+    }
+
+    /// What they say: a fault or a level that lacks a lump goes before one that isn't read.
+    pub fn verdict(&self) -> Verdict
+        ensures { result ≡ verdict_of_totals self.now }
+    {
+        if self.faults == 0 && self.broken == 0 {
+            if self.unread == 0 {
+                Verdict::Clean
+            } else {
+                Verdict::Unjudged
+            }
+        } else {
+            Verdict::Faulty
         }
     }
 }

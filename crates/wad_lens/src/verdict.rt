@@ -34,8 +34,23 @@ impl Verdict {
 pub enum FileFault {
     /// The file's bytes have no directory. Nothing was written.
     NoWad(WadFault),
-    /// The output failed.
-    Write,
+    /// The output failed. The gravest of what was found up to there, also of the level whose text was being written.
+    Write(Verdict),
     /// A growth was refused.
     Memory,
+}
+
+impl FileFault {
+    ghost use Rattle.std.specs.Prelude.{◌≡◌};
+    ghost use Rattle.wad_lens.specs.Survey.{fault_after};
+
+    /// The same fault, where levels of this verdict were told before.
+    pub(crate) fn after(self, before: Verdict) -> FileFault
+        ensures { result ≡ fault_after before self }
+    {
+        match self {
+            FileFault::Write(found) => FileFault::Write(before.graver(found)),
+            FileFault::NoWad(_) | FileFault::Memory => self,
+        }
+    }
 }

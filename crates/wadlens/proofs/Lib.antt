@@ -1,2 +1,4 @@
+mod CutLemmas
+mod JobLemmas
 mod TellLemmas
 mod PathLemmas

@@ -1,23 +1,24 @@
 -- What is told of one file, from what its engine says, and how a run goes on from file to file.
-use Rattle.std.proofs.Common.{◌≡◌, ℕ, ◌+◌, ◌<◌, inl, inr, List, [], ◌∷◌, ◌++◌, length, take, drop, map, get_or, Option, Result, Ok, Err, false, sym, ap, ◌∙◌, subst, arith}
+use Rattle.std.proofs.Common.{◌≡◌, ℕ, ◌+◌, ◌<◌, inl, inr, List, [], ◌∷◌, ◌++◌, length, take, drop, map, get_or, Option, Result, Ok, Err, false, refl, sym, ap, ◌∙◌, subst, arith}
 use Rattle.std.proofs.lemmas.List.{take_more, drop_more, take-append-drop, map_push, map-append}
 use Rattle.le_rec.specs.Sink.{SinkState}
 use Rattle.map_level.specs.declared.reading.Reading.{Reading}
-use Rattle.wad_lens.specs.Check.{Asked as CheckAsked, ChecksSome, RefusesCheck, RunsCheck}
-use Rattle.wad_lens.specs.Survey.{RefusesSurvey, RunsSurvey, StopsLines}
-use Rattle.wad_lens.specs.Totals.{no_totals}
+use Rattle.wad_lens.specs.Check.{Asked as CheckAsked, ChecksFile, RefusesCheck, RunsCheck}
+use Rattle.wad_lens.specs.Survey.{RefusesSurvey, RunsSurvey, SurveysFile}
+use Rattle.wad_lens.specs.Totals.{no_totals, verdict_of_totals}
 use Rattle.wad_lens.specs.declared.totals.Totals.{Totals}
 use Rattle.wad_lens.specs.declared.verdict.FileFault.{FileFault}
 use Rattle.wad_lens.specs.declared.verdict.FileFault.TheVariants as fault
 use Rattle.wad_lens.specs.declared.verdict.Verdict.{Verdict}
-use Rattle.std.specs.Prelude.{IfOk}
+use Rattle.std.specs.Prelude.{IfErr, IfOk}
 use Rattle.wad_lens.specs.declared.object.Refusal.{Refusal}
-use Rattle.wadlens.specs.Run.{RefusesFile, WritesRefusal}
-use Rattle.wadlens.specs.Run.{ChecksBytes, LeavesBytes, StopsAt, StopsRun, SurveysBytes, TellsPath, ToldTo, tally_with, verdict_of_totals, with_path}
+use Rattle.wadlens.specs.Run.{RefusesFile, StopsRefusal, WritesRefusal}
+use Rattle.wadlens.specs.Run.{ChecksBytes, LeavesBytes, StopsAt, StopsPath, SurveysBytes, TellsPath, ToldTo, stop_after, tally_with, with_path}
 use Rattle.wadlens.specs.declared.tell.Asked.{Asked}
 use Rattle.wadlens.specs.declared.tell.Stop.{Stop}
-use Rattle.wadlens.specs.declared.tell.Stopped.{Stopped}
+use Rattle.wadlens.specs.declared.tell.Stop.TheVariants as stop
 use Rattle.wadlens.specs.declared.tell.Tally.{Tally}
+use Rattle.wadlens.specs.declared.tell.Word.TheVariants.{Check, Survey}
 
 -- a survey that came to its end
 pub surveyed : {W : Type 0} (state : W → SinkState) (path bytes : List ℕ) (reading : Reading) (out out' : W) (verdict : Verdict) (tally : Tally)
@@ -40,22 +41,22 @@ surveyed state path bytes reading out out' verdict tally of none (inr ran) = (
 
 -- a survey that didn't
 pub survey_left : {W : Type 0} (state : W → SinkState) (path bytes : List ℕ) (reading : Reading) (out out' : W) (why : FileFault)
-    → RunsSurvey state path bytes reading out out' (Err why) → LeavesBytes state bytes out out' why
+    → RunsSurvey state path bytes reading out out' (Err why) → LeavesBytes state Survey path bytes reading out out' why
 survey_left state path bytes reading out out' why (inl left) = go why (subst (RefusesSurvey bytes) (sym (err_same why left.fault left.ended)) left.holds)
   where
     err_same : (v w : FileFault) → ◌≡◌ {A = Result Verdict FileFault} (Err v) (Err w) → v ≡ w
     err_same v w same = cc
 
-    go : (f : FileFault) → RefusesSurvey bytes f → LeavesBytes state bytes out out' f
+    go : (f : FileFault) → RefusesSurvey bytes f → LeavesBytes state Survey path bytes reading out out' f
     go (fault.NoWad w) refuses = (refuses, left.untouched)
-    go fault.Write refuses = absurd refuses
+    go (fault.Write found) refuses = absurd refuses
     go fault.Memory refuses = tt
-survey_left state path bytes reading out out' why (inr ran) = go why ran.does.some.stops
+survey_left state path bytes reading out out' why (inr ran) = go why ran
   where
-    go : (f : FileFault) → StopsLines (state out) (state out') ran.does.some.told f → LeavesBytes state bytes out out' f
-    go (fault.NoWad w) stops = absurd stops
-    go fault.Write stops = stops.1
-    go fault.Memory stops = tt
+    go : (f : FileFault) → SurveysFile path bytes reading (state out) (state out') (Err f) → LeavesBytes state Survey path bytes reading out out' f
+    go (fault.NoWad w) stopped = absurd stopped.does.some.stops
+    go (fault.Write found) stopped = (stopped, stopped.does.some.stops.1)
+    go fault.Memory stopped = tt
 
 -- a check that came to its end
 pub checked : {W : Type 0} (state : W → SinkState) (asked : CheckAsked) (bytes : List ℕ) (out out' : W) (totals : Totals) (tally : Tally)
@@ -78,22 +79,22 @@ checked state asked bytes out out' totals tally of says (inr ran) = (
 
 -- a check that didn't
 pub check_left : {W : Type 0} (state : W → SinkState) (asked : CheckAsked) (bytes : List ℕ) (out out' : W) (why : FileFault)
-    → RunsCheck state asked bytes out out' (Err why) → LeavesBytes state bytes out out' why
+    → RunsCheck state asked bytes out out' (Err why) → LeavesBytes state (Check asked.most) asked.path bytes asked.reading out out' why
 check_left state asked bytes out out' why (inl left) = go why (subst (RefusesCheck bytes) (sym (err_same why left.fault left.ended)) left.holds)
   where
     err_same : (v w : FileFault) → ◌≡◌ {A = Result Totals FileFault} (Err v) (Err w) → v ≡ w
     err_same v w same = cc
 
-    go : (f : FileFault) → RefusesCheck bytes f → LeavesBytes state bytes out out' f
+    go : (f : FileFault) → RefusesCheck bytes f → LeavesBytes state (Check asked.most) asked.path bytes asked.reading out out' f
     go (fault.NoWad w) refuses = (refuses, left.untouched)
-    go fault.Write refuses = absurd refuses
+    go (fault.Write found) refuses = absurd refuses
     go fault.Memory refuses = tt
-check_left state asked bytes out out' why (inr ran) = go why ran.does.some
+check_left state asked bytes out out' why (inr ran) = go why ran
   where
-    go : (f : FileFault) → ChecksSome asked (ran.file ∷ []) (state out) (state out') f → LeavesBytes state bytes out out' f
-    go (fault.NoWad w) stops = absurd stops
-    go fault.Write stops = stops.failed
-    go fault.Memory stops = tt
+    go : (f : FileFault) → ChecksFile asked bytes (state out) (state out') (Err f) → LeavesBytes state (Check asked.most) asked.path bytes asked.reading out out' f
+    go (fault.NoWad w) stopped = absurd stopped.does.some
+    go (fault.Write found) stopped = (stopped, stopped.does.some.failed)
+    go fault.Memory stopped = tt
 
 -- a refused file was told
 pub refused_told : (held : Option (List ℕ)) (asked : Asked) (path : List ℕ) (refusal : Refusal) (out out' errors errors' : SinkState) (result : Result Tally Stop)
@@ -101,10 +102,14 @@ pub refused_told : (held : Option (List ℕ)) (asked : Asked) (path : List ℕ) 
 refused_told held asked path refusal out out' errors errors' (Ok tally) why writes = inr (record { refusal = refusal; why = why; writes = writes })
 refused_told held asked path refusal out out' errors errors' (Err stop) why writes = tt
 
--- some item of a list that isn't empty
-pub some_item : {P : Type 0} (items : List P) (i : ℕ) → i < length items → P
-some_item [] i within = absurd (omega (arith, within))
-some_item (item ∷ items) i within = item
+-- a refused file was told in part
+pub refused_stopped : (held : Option (List ℕ)) (asked : Asked) (path : List ℕ) (refusal : Refusal) (out out' errors errors' : SinkState) (result : Result Tally Stop)
+    → RefusesFile held refusal → IfErr result (StopsRefusal asked.word path refusal out out' errors errors')
+    → IfErr result (StopsPath held asked path out out' errors errors')
+refused_stopped held asked path refusal out out' errors errors' (Ok tally) why stops = tt
+refused_stopped held asked path refusal out out' errors errors' (Err stop.Memory) why stops = tt
+refused_stopped held asked path refusal out out' errors errors' (Err (stop.Output found)) why stops = inr (record { refusal = refusal; why = why; stops = stops })
+refused_stopped held asked path refusal out out' errors errors' (Err stop.Errors) why stops = record { refusal = refusal; why = why; stops = stops }
 
 module _ {P : Type 0} (path_of : P → List ℕ) (paths : List P) (i : ℕ) (d : P) (within : i < length paths) (held : List ℕ → Option (List ℕ)) (asked : Asked) (out errors between between_errors after after_errors : SinkState) where
   -- one path more
@@ -118,10 +123,10 @@ module _ {P : Type 0} (path_of : P → List ℕ) (paths : List P) (i : ℕ) (d :
       (with_path (map path_of (take i paths)) between between_errors sum (path_of (get_or paths i d)) after after_errors tally so_far one)
 
   -- it stopped at a path
-  pub stopped_at : (sum : Tally) (stopped : Stopped) → ToldTo held asked out errors (map path_of (take i paths)) between between_errors sum
-      → stopped.found ≡ sum.verdict → StopsRun after after_errors stopped.stop
-      → StopsAt held asked (map path_of paths) out errors after after_errors stopped
-  stopped_at sum stopped so_far found stops = record {
+  pub stopped_at : (sum : Tally) (at_path : Stop) → ToldTo held asked out errors (map path_of (take i paths)) between between_errors sum
+      → StopsPath (held (path_of (get_or paths i d))) asked (path_of (get_or paths i d)) between after between_errors after_errors at_path
+      → StopsAt held asked (map path_of paths) out errors after after_errors (stop_after sum.verdict at_path)
+  stopped_at sum at_path so_far stops = record {
     before = map path_of (take i paths);
     path = path_of (get_or paths i d);
     after = map path_of (drop (i + 1) paths);
@@ -132,6 +137,7 @@ module _ {P : Type 0} (path_of : P → List ℕ) (paths : List P) (i : ℕ) (d :
     errors_before = between_errors;
     found = sum;
     told = so_far;
-    so_far = found;
+    at_path = at_path;
     stops = stops;
+    is = refl;
   }

@@ -1,4 +1,7 @@
+pub mod CutJob
 pub mod Files
+pub mod Job
+pub mod Output
 pub mod Run
 pub mod Status
 pub mod Paths

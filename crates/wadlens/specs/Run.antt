@@ -1,28 +1,28 @@
 -- What a run tells of its files (ours): of each path in order the engine's text, or why its file is refused.
-use Rattle.std.specs.Prelude.{◌≡◌, ◌⊎◌, ℕ, ◌==◌, ◌≤◌, false, true, List, [], ◌∷◌, ◌++◌, codes, length, Option, Some, if◌then◌else◌}
+use Rattle.std.specs.Prelude.{◌≡◌, ◌⊎◌, ℕ, ◌≤◌, false, true, List, [], ◌∷◌, ◌++◌, codes, length, Option, Some, Err}
 use Rattle.std.specs.Io.KnownBytes.{Appends, Keeps}
 use Rattle.le_rec.specs.Sink.{SinkState}
 use Rattle.map_level.specs.declared.reading.Reading.{Reading}
 use Rattle.wad_dir.specs.Refusal.{RefusesWad}
 use Rattle.wad_dir.specs.Wad.{IsRead, Wad}
 use Rattle.wad_dir.specs.declared.wad.WadFault.{WadFault}
-use Rattle.wad_lens.specs.Check.{ChecksAll}
+use Rattle.line_io.specs.Writes.{TakesFront}
+use Rattle.wad_lens.specs.Check.{ChecksAll, ChecksFile}
 use Rattle.wad_lens.specs.Objects.{refusal_text, refused_object}
-use Rattle.wad_lens.specs.Survey.{SurveysAll, graver}
-use Rattle.wad_lens.specs.Totals.{no_totals, totals_with}
+use Rattle.wad_lens.specs.Survey.{SurveysAll, SurveysFile, graver}
+use Rattle.wad_lens.specs.Totals.{no_totals, totals_with, verdict_of_totals}
 use Rattle.wad_lens.specs.declared.object.Refusal.{Refusal}
 use Rattle.wad_lens.specs.declared.object.Refusal.TheVariants as refusal
 use Rattle.wad_lens.specs.declared.totals.Totals.{Totals}
 use Rattle.wad_lens.specs.declared.verdict.FileFault.{FileFault}
 use Rattle.wad_lens.specs.declared.verdict.FileFault.TheVariants as fault
 use Rattle.wad_lens.specs.declared.verdict.Verdict.{Verdict}
-use Rattle.wad_lens.specs.declared.verdict.Verdict.TheVariants.{Clean, Unjudged, Faulty}
+use Rattle.wad_lens.specs.declared.verdict.Verdict.TheVariants.{Clean, Unjudged}
 use Rattle.wadlens.specs.Files.{RefusesRead, max_read}
 use Rattle.wadlens.specs.declared.files.ReadFault.TheVariants.{Refused}
 use Rattle.wadlens.specs.declared.tell.Asked.{Asked}
 use Rattle.wadlens.specs.declared.tell.Stop.{Stop}
 use Rattle.wadlens.specs.declared.tell.Stop.TheVariants as stop
-use Rattle.wadlens.specs.declared.tell.Stopped.{Stopped}
 use Rattle.wadlens.specs.declared.tell.Tally.{Tally}
 use Rattle.wadlens.specs.declared.tell.Word.{Word}
 use Rattle.wadlens.specs.declared.tell.Word.TheVariants.{Check, Survey}
@@ -48,10 +48,11 @@ refused_tally = record { verdict = Unjudged; totals = no_totals }
 abbrev pub tally_with : Tally → Tally → Tally
 tally_with a b = record { verdict = graver a.verdict b.verdict; totals = totals_with a.totals b.totals }
 
--- what the totals of a check say
-abbrev pub verdict_of_totals : Totals → Verdict
-verdict_of_totals totals =
-    if totals.faults == 0 then (if totals.broken == 0 then (if totals.unread == 0 then Clean else Unjudged) else Faulty) else Faulty
+-- a stop where files of a verdict were told before: where the output failed it tells of them, too
+abbrev pub stop_after : Verdict → Stop → Stop
+stop_after before stop.Memory = stop.Memory
+stop_after before (stop.Output found) = stop.Output (graver before found)
+stop_after before stop.Errors = stop.Errors
 
 -- the objects of all levels of these bytes were taken
 pub record SurveysBytes (path bytes : List ℕ) (reading : Reading) (before after : SinkState) (tally : Tally) : Type 0 where
@@ -74,11 +75,18 @@ abbrev pub TellsWord : Word → List ℕ → List ℕ → Reading → SinkState 
 TellsWord Survey path bytes reading before after tally = SurveysBytes path bytes reading before after tally
 TellsWord (Check most) path bytes reading before after tally = ChecksBytes most path bytes reading before after tally
 
--- why bytes aren't gone over to their end: they have no directory, and nothing was written; or the end failed
-abbrev pub LeavesBytes : {W : Type 0} → (W → SinkState) → List ℕ → W → W → FileFault → Type 0
-LeavesBytes state bytes out out' (fault.NoWad why) = RefusesWad bytes why × (out' ≡ out)
-LeavesBytes state bytes out out' fault.Write = (state out').failed ≡ true
-LeavesBytes state bytes out out' fault.Memory = Unit {0}
+-- a write failed within what the levels of these bytes are told by, and so much was found up to there
+abbrev pub TellsSome : Word → List ℕ → List ℕ → Reading → SinkState → SinkState → Verdict → Type 0
+TellsSome Survey path bytes reading before after found = SurveysFile path bytes reading before after (Err (fault.Write found))
+TellsSome (Check most) path bytes reading before after found =
+    ChecksFile (record { path = path; most = most; reading = reading }) bytes before after (Err (fault.Write found))
+
+-- why bytes aren't gone over to their end: they have no directory, and nothing was written; or the output failed
+abbrev pub LeavesBytes : {W : Type 0} → (W → SinkState) → Word → List ℕ → List ℕ → Reading → W → W → FileFault → Type 0
+LeavesBytes state word path bytes reading out out' (fault.NoWad why) = RefusesWad bytes why × (out' ≡ out)
+LeavesBytes state word path bytes reading out out' (fault.Write found) =
+    TellsSome word path bytes reading (state out) (state out') found × ((state out').failed ≡ true)
+LeavesBytes state word path bytes reading out out' fault.Memory = Unit {0}
 
 -- the file under a path was told
 pub record TellsHeld (held : Option (List ℕ)) (asked : Asked) (path : List ℕ) (out out' errors errors' : SinkState) (tally : Tally) : Type 0 where
@@ -123,19 +131,41 @@ pub data ToldTo (held : List ℕ → Option (List ℕ)) (asked : Asked) (out err
       → ToldTo held asked out errors paths out' errors' sum → TellsPath (held path) asked path out' out'' errors' errors'' tally
       → ToldTo held asked out errors (paths ++ path ∷ []) out'' errors'' (tally_with sum tally)
 
--- a run stops where an end fails or a growth is refused
-abbrev pub StopsRun : SinkState → SinkState → Stop → Type 0
-StopsRun out errors stop.Memory = Unit {0}
-StopsRun out errors stop.Output = out.failed ≡ true
-StopsRun out errors stop.Errors = errors.failed ≡ true
-
 -- neither end has failed
 pub record AreSound (out errors : SinkState) : Type 0 where
   pub answers : out.failed ≡ false
   pub refusals : errors.failed ≡ false
 
+-- a write failed while a refused file was told: on standard error, or of what is answered
+abbrev pub StopsRefusal : Word → List ℕ → Refusal → SinkState → SinkState → SinkState → SinkState → Stop → Type 0
+StopsRefusal word path refusal out out' errors errors' stop.Memory = ⊥
+StopsRefusal word path refusal out out' errors errors' (stop.Output found) =
+    TakesFront out out' (refusal_answer word path refusal) × (out'.failed ≡ true) × (found ≡ Unjudged)
+StopsRefusal word path refusal out out' errors errors' stop.Errors =
+    TakesFront errors errors' (refusal_line path refusal) × (errors'.failed ≡ true) × (out' ≡ out)
+
+-- a run stopped while the file under a path was told
+pub record StopsTelling (held : Option (List ℕ)) (asked : Asked) (path : List ℕ) (out out' : SinkState) (found : Verdict) : Type 0 where
+  pub bytes : List ℕ
+  pub are : Keeps held (Some bytes)
+  pub told : TellsSome asked.word path bytes asked.reading out out' found
+  pub failed : out'.failed ≡ true
+
+-- a run stopped while it told that the file under a path is refused
+pub record StopsRefusing (held : Option (List ℕ)) (word : Word) (path : List ℕ) (out out' errors errors' : SinkState) (stop : Stop) : Type 0 where
+  pub refusal : Refusal
+  pub why : RefusesFile held refusal
+  pub stops : StopsRefusal word path refusal out out' errors errors' stop
+
+-- why a run stopped at a path: a growth was refused, or an end failed
+abbrev pub StopsPath : Option (List ℕ) → Asked → List ℕ → SinkState → SinkState → SinkState → SinkState → Stop → Type 0
+StopsPath held asked path out out' errors errors' stop.Memory = Unit {0}
+StopsPath held asked path out out' errors errors' (stop.Output found) =
+    StopsTelling held asked path out out' found ⊎ StopsRefusing held asked.word path out out' errors errors' (stop.Output found)
+StopsPath held asked path out out' errors errors' stop.Errors = StopsRefusing held asked.word path out out' errors errors' stop.Errors
+
 -- a run stopped at a path, and all before it were told
-pub record StopsAt (held : List ℕ → Option (List ℕ)) (asked : Asked) (paths : List (List ℕ)) (out errors out' errors' : SinkState) (stopped : Stopped) : Type 0 where
+pub record StopsAt (held : List ℕ → Option (List ℕ)) (asked : Asked) (paths : List (List ℕ)) (out errors out' errors' : SinkState) (stop : Stop) : Type 0 where
   pub before : List (List ℕ)
   pub path : List ℕ
   pub after : List (List ℕ)
@@ -144,5 +174,6 @@ pub record StopsAt (held : List ℕ → Option (List ℕ)) (asked : Asked) (path
   pub errors_before : SinkState
   pub found : Tally
   pub told : ToldTo held asked out errors before out_before errors_before found
-  pub so_far : stopped.found ≡ found.verdict
-  pub stops : StopsRun out' errors' stopped.stop
+  pub at_path : Stop
+  pub stops : StopsPath (held path) asked path out_before out' errors_before errors' at_path
+  pub is : stop ≡ stop_after found.verdict at_path

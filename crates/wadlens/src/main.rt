@@ -1,6 +1,7 @@
 //! The program `wadlens`: it reads its words, goes over the levels of each file in turn, and tells how that ended.
 #![tactic(auto)]
 
+mod cut;
 mod end;
 mod files;
 mod output;
@@ -11,8 +12,11 @@ mod tell;
 mod words;
 
 use clap::error::ErrorKind;
+use cut::run_cut;
 use end::{End, exit_status};
 use files::Disk;
+use le_rec::ToWrite;
+use output::Output;
 use progress::Progress;
 use run::run_job;
 use std::io::{IsTerminal, Write};
@@ -20,7 +24,7 @@ use std::process::ExitCode;
 use std::rt::{Env, Files};
 use std::{env, io};
 use wad_lens::Verdict;
-use words::{read_words, usage};
+use words::{Task, read_words, usage};
 
 fn main(rt: HostRuntime) -> ExitCode {
     let errors = rt.stderr();
@@ -42,24 +46,38 @@ fn do_words<R: Env + Files + Input + Print + Eprint + AllocGlobal, E: Write + Dr
     is_terminal: bool,
 ) -> Result<Verdict, End> {
     let words = words_of(rt)?;
-    let job = match read_words(rt.alloc(), &words) {
-        Ok(job) => job,
+    let task = match read_words(rt.alloc(), &words) {
+        Ok(task) => task,
         Err(error) => return Err(tell_words(rt, &error)),
     };
-    let end = if job.progress || is_terminal {
-        Some(line)
-    } else {
-        None
-    };
-    run_job(
-        rt.alloc(),
-        &job,
-        &Disk(rt),
-        rt.reader(),
-        io::writer(rt),
-        errors,
-        Progress::new(end),
-    )
+    let mut output = Output::new(rt.alloc(), io::writer(rt))?;
+    let mut told = ToWrite::new(errors);
+    match &task {
+        Task::Tell(job) => {
+            let shown = if job.progress || is_terminal {
+                Some(line)
+            } else {
+                None
+            };
+            run_job(
+                rt.alloc(),
+                job,
+                &Disk(rt),
+                rt.reader(),
+                &mut output,
+                &mut told,
+                &mut Progress::new(shown),
+            )
+        }
+        Task::Cut(cut) => run_cut(
+            rt.alloc(),
+            cut.entry,
+            cut.path.as_bytes(),
+            &Disk(rt),
+            &mut output,
+            &mut told,
+        ),
+    }
 }
 
 // The program's words, its name first.

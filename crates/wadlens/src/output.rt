@@ -1,9 +1,10 @@
 //! An output behind a buffer, which knows whether its reader has gone.
 
-ghost use Rattle.std.specs.Prelude.{◌≡◌};
+ghost use Rattle.std.specs.Prelude.{◌≡◌, IfOk};
+ghost use Rattle.wadlens.specs.Output.{IsFresh, WritesOut, failed_by, is_closed};
 
+use le_rec::{EndFault, Sink};
 use std::alloc::{AllocError, Global};
-use std::cell::{Cell, RefCell, RefMut};
 use std::io;
 use std::io::{BufWriter, ErrorKind, Write};
 
@@ -13,56 +14,69 @@ const BUFFER: usize = 65536;
 /// An output behind a buffer.
 #[derive(Drop)]
 pub struct Output<W: Write + Drop> {
-    buffer: RefCell<BufWriter<W>>,
-    // Whether a write met a closed pipe.
-    closed: Cell<bool>,
+    buffer: BufWriter<W>,
+    // Whether a write failed.
+    failed: bool,
+    // Whether the last that did met a closed pipe.
+    closed: bool,
 }
 
 impl<W: Write + Drop> Output<W> {
     /// An output that gathers its bytes in a buffer, where there is memory for one.
-    pub fn new(alloc: Global, writer: W) -> Result<Self, AllocError> {
+    pub fn new(alloc: Global, writer: W) -> Result<Self, AllocError>
+        ensures { IfOk result (IsFresh writer) }
+    {
         match BufWriter::with_capacity(alloc, BUFFER, writer) {
             Ok(buffer) => Ok(Output {
-                buffer: RefCell::new(buffer),
-                closed: Cell::new(false),
+                buffer,
+                failed: false,
+                closed: false,
             }),
             Err(_) => Err(AllocError),
         }
     }
 
-    /// Whether a write met a closed pipe.
-    pub fn is_closed(&self) -> bool {
-        self.closed.get()
-    }
-
-    // The buffer. It is free: each call gives it back at its end.
-    fn buffer(&self) -> io::Result<RefMut<'_, BufWriter<W>>> {
-        self.buffer
-            .try_borrow_mut()
-            .map_err(|_| io::Error::from(ErrorKind::ResourceBusy))
-    }
-
-    // Keeps in mind a closed pipe.
-    fn noted<T: Drop>(&self, wrote: io::Result<T>) -> io::Result<T>
-        ensures { result ≡ wrote }
+    /// Whether the last write that failed met a closed pipe.
+    pub fn is_closed(&self) -> bool
+        ensures { result ≡ is_closed self.now }
     {
-        if let Err(e) = &wrote {
-            if e.kind() == ErrorKind::BrokenPipe {
-                self.closed.set(true);
-            }
+        self.closed
+    }
+
+    /// Writes out all that is held back.
+    pub fn write_out(&mut self) -> Result<(), EndFault>
+        ensures { WritesOut W.contents self.old self.new result }
+    {
+        match self.buffer.flush() {
+            Ok(()) => Ok(()),
+            Err(e) => Err(self.fail(&e)),
         }
-        wrote
+    }
+
+    // Keeps in mind that a write failed, and whether it met a closed pipe.
+    fn fail(&mut self, error: &io::Error) -> EndFault
+        ensures { self.new ≡ failed_by self.old error.now }
+    {
+        self.failed = true;
+        self.closed = matches!(error.kind(), ErrorKind::BrokenPipe);
+        EndFault
     }
 }
 
-impl<W: Write + Drop> Write for &Output<W> {
-    fn write(&mut self, bytes: &[u8]) -> io::Result<usize> {
-        let wrote = self.buffer()?.write(bytes);
-        self.noted(wrote)
+impl<W: Write + Drop> Sink for Output<W> {
+    ghost use Rattle.wadlens.specs.Output.{output_state};
+
+    ghost state = { λ output. output_state W.contents output };
+
+    fn put(&mut self, bytes: &[u8]) -> Result<usize, EndFault> {
+        match self.buffer.write(bytes) {
+            Ok(count) if count > 0 || bytes.is_empty() => Ok(count),
+            Ok(_) => Err(self.fail(&io::Error::from(ErrorKind::WriteZero))),
+            Err(e) => Err(self.fail(&e)),
+        }
     }
 
-    fn flush(&mut self) -> io::Result<()> {
-        let emptied = self.buffer()?.flush();
-        self.noted(emptied)
+    fn failed(&self) -> bool {
+        self.failed
     }
 }

@@ -1,52 +1,58 @@
 //! The run of a job, over any files, reader and writers.
 
+ghost use Rattle.std.specs.Prelude.{◌≡◌, [], false, IfOk, IfErr};
+ghost use Rattle.std.specs.Io.KnownBytes.{Keeps};
+ghost use Rattle.line_io.specs.Writes.{Writes};
+ghost use Rattle.wadlens.specs.Files.{RefusesRead};
+ghost use Rattle.wadlens.specs.Job.{HoldsList, RunsJob, TellsRest, closing_line, list_held, output_end, stop_end};
+ghost use Rattle.wadlens.specs.Output.{is_closed, output_state};
+ghost use Rattle.wadlens.specs.Run.{AreSound};
+
 use crate::end::End;
 use crate::files::{ReadFault, Storage, read_file, read_whole};
 use crate::output::Output;
 use crate::paths::all_paths;
 use crate::progress::Progress;
-use crate::tell::{Stop, Stopped, Tally, Word, tell_paths, write_refusal};
+use crate::tell::{Stop, Tally, Word, tell_paths, write_refusal};
 use crate::words::Job;
-use le_rec::ToWrite;
+use le_rec::{EndFault, Sink};
+use line_io::{IoFault, emit};
 use std::alloc::Global;
 use std::io::{Read, Write};
-use wad_lens::{Verdict, write_totals};
+use wad_lens::{Totals, Verdict, write_totals};
 
-/// Does a job, and answers the gravest of what was found.
-pub fn run_job<S: Storage, I: Read + Drop, O: Write + Drop, E: Write + Drop, P: Write + Drop>(
+/// Does a job, and answers the gravest of what was found. At Ok nothing is held back.
+pub fn run_job<S: Storage, I: Read + Drop, O: Write + Drop, E: Sink, P: Write + Drop>(
     alloc: Global,
     job: &Job<'_>,
     storage: &S,
     reader: I,
-    writer: O,
-    errors: E,
-    progress: Progress<P>,
-) -> Result<Verdict, End> {
-    let mut errors = ToWrite::new(errors);
+    out: &mut Output<O>,
+    errors: &mut E,
+    progress: &mut Progress<P>,
+) -> Result<Verdict, End>
+    requires { AreSound (output_state O.contents out.old) (E.state errors.old) }
+    ensures { RunsJob (S.held storage.now) (I.remaining reader) job.now O.contents out.old out.new
+        (E.state errors.old) (E.state errors.new) result }
+{
     let list = match read_list(alloc, job, storage, reader) {
         Ok(list) => list,
         Err(ReadFault::Memory) => return Err(End::Memory),
         Err(ReadFault::Refused(refusal)) => {
             // Where standard error fails too, nobody is left to be told.
-            let _ = write_refusal(job.list_name(), refusal, &mut errors);
+            let _ = write_refusal(job.list_name(), refusal, errors);
             return Err(End::Refused);
         }
     };
-    let paths = all_paths(alloc, &job.files, &list, job.list_end)?;
-    let output = Output::new(alloc, writer)?;
-    let mut out = ToWrite::new(&output);
-    let mut progress = progress;
-    let told = tell_paths(
-        alloc,
-        storage,
-        job.asked,
-        &paths,
-        &mut out,
-        &mut errors,
-        &mut progress,
-    );
+    let Ok(paths) = all_paths(alloc, &job.files, &list, job.list_end) else {
+        return Err(End::Memory);
+    };
+    let told = tell_paths(alloc, storage, job.asked, &paths, out, errors, progress);
     progress.finish();
-    finish(job.asked.word, paths.len() as u64, told, &output)
+    match told {
+        Ok(tally) => finish(job.asked.word, paths.len() as u64, &tally, out),
+        Err(stop) => Err(stop_end(stop, out)),
+    }
 }
 
 // The list of more paths, empty where there is none.
@@ -55,7 +61,10 @@ fn read_list<S: Storage, I: Read + Drop>(
     job: &Job<'_>,
     storage: &S,
     reader: I,
-) -> Result<Vec<u8>, ReadFault> {
+) -> Result<Vec<u8>, ReadFault>
+    ensures held { IfOk result (λ list. HoldsList (S.held storage.now) (I.remaining reader) job.now list.items) }
+    ensures refused { IfErr result (RefusesRead (list_held (S.held storage.now) (I.remaining reader) job.now)) }
+{
     match job.list {
         None => Ok(Vec::new(alloc)),
         Some("-") => read_whole(alloc, reader),
@@ -67,42 +76,61 @@ fn read_list<S: Storage, I: Read + Drop>(
 fn finish<O: Write + Drop>(
     word: Word,
     files: u64,
-    told: Result<Tally, Stopped>,
-    output: &Output<O>,
-) -> Result<Verdict, End> {
-    let tally = match told {
-        Ok(tally) => tally,
-        Err(stopped) => return Err(stop_end(stopped, output)),
-    };
-    let wrote = match word {
-        Word::Check(_) => { write_totals(files, &tally.totals, &mut ToWrite::new(output)).is_ok() }
-        Word::Survey => true,
-    };
-    let mut rest = output;
-    if wrote && rest.flush().is_ok() {
-        Ok(tally.verdict)
-    } else {
-        Err(output_end(tally.verdict, output))
+    tally: &Tally,
+    out: &mut Output<O>,
+) -> Result<Verdict, End>
+    requires { (output_state O.contents out.old).failed ≡ false }
+    ensures { TellsRest O.contents (closing_line word files tally.now.totals) tally.now.verdict out.old out.new result }
+{
+    match write_last(word, files, &tally.totals, out) {
+        Ok(()) => write_rest(tally.verdict, out),
+        Err(_) => Err(output_end(tally.verdict, out)),
+    }
+}
+
+/// Writes out all that is held back, and ends with what was found.
+pub fn write_rest<O: Write + Drop>(found: Verdict, out: &mut Output<O>) -> Result<Verdict, End>
+    requires { (output_state O.contents out.old).failed ≡ false }
+    ensures { TellsRest O.contents [] found out.old out.new result }
+{
+    match out.write_out() {
+        Ok(()) => Ok(found),
+        Err(EndFault) => Err(output_end(found, out)),
+    }
+}
+
+// A check ends with its totals, and a survey with nothing more.
+fn write_last<W: Sink>(word: Word, files: u64, totals: &Totals, out: &mut W) -> Result<(), IoFault>
+    requires { (W.state out.old).failed ≡ false }
+    ensures { Writes (W.state out.old) (W.state out.new) (closing_line word files totals.now) result }
+{
+    match word {
+        Word::Check(_) => write_totals(files, totals, out),
+        Word::Survey => emit(out, b""),
     }
 }
 
 // How a run ends that stopped. What was told before stands.
-fn stop_end<O: Write + Drop>(stopped: Stopped, output: &Output<O>) -> End {
-    match stopped.stop {
-        Stop::Output => output_end(stopped.found, output),
+fn stop_end<O: Write + Drop>(stop: Stop, out: &mut Output<O>) -> End
+    ensures value { result ≡ stop_end (is_closed out.old) stop }
+    ensures kept { Keeps (output_state O.contents out.old).taken (output_state O.contents out.new).taken }
+{
+    match stop {
+        Stop::Output(found) => output_end(found, out),
         Stop::Errors => End::Errors,
         Stop::Memory => {
-            let mut rest = output;
             // Want of memory goes before a failed end.
-            let _ = rest.flush();
+            let _ = out.write_out();
             End::Memory
         }
     }
 }
 
-// How a run ends whose output failed.
-fn output_end<O: Write + Drop>(found: Verdict, output: &Output<O>) -> End {
-    if output.is_closed() {
+/// How a run ends whose output failed.
+pub fn output_end<O: Write + Drop>(found: Verdict, out: &Output<O>) -> End
+    ensures { result ≡ output_end (is_closed out.now) found }
+{
+    if out.is_closed() {
         End::Closed(found)
     } else {
         End::Output

@@ -3,9 +3,10 @@ ghost use Rattle.std.specs.Prelude.{◌≡◌, ◌++◌, codes, false, map, IfOk
 ghost use Rattle.line_io.specs.Writes.{Writes};
 ghost use Rattle.wad_lens.specs.Objects.{refusal_text};
 ghost use Rattle.wadlens.specs.Files.{max_read};
-ghost use Rattle.wadlens.specs.Run.{AreSound, ChecksBytes, LeavesBytes, RefusesFile, StopsAt, StopsRun, SurveysBytes};
+ghost use Rattle.wadlens.specs.Run.{AreSound, ChecksBytes, LeavesBytes, StopsAt, StopsPath, StopsRefusal, SurveysBytes};
 ghost use Rattle.wadlens.specs.Run.{TellsPath, TellsWord, ToldTo, WritesRefusal, no_tally, refusal_answer, refusal_line};
-ghost use Rattle.wadlens.specs.Run.{tally_with, verdict_of_totals};
+ghost use Rattle.wadlens.specs.Run.{stop_after, tally_with};
+ghost use Rattle.wadlens.specs.declared.tell.Word.TheVariants as word;
 
 use crate::files::{ReadFault, Storage, read_file};
 use crate::progress::Progress;
@@ -48,17 +49,22 @@ pub struct Tally {
 pub enum Stop {
     /// A growth was refused.
     Memory,
-    /// What is answered can't be written.
-    Output,
+    /// What is answered can't be written. The gravest of what was found up to there.
+    Output(Verdict),
     /// What is refused can't be told.
     Errors,
 }
 
-/// Why a run stopped, and what was found before.
-#[derive(Clone, Copy, Debug, PartialEq, Eq)]
-pub struct Stopped {
-    pub stop: Stop,
-    pub found: Verdict,
+impl Stop {
+    /// The same stop, where files of this verdict were told before.
+    fn after(self, before: Verdict) -> Stop
+        ensures { result ≡ stop_after before self }
+    {
+        match self {
+            Stop::Output(found) => Stop::Output(before.graver(found)),
+            Stop::Memory | Stop::Errors => self,
+        }
+    }
 }
 
 /// The tally of no file.
@@ -99,7 +105,7 @@ pub fn tell_paths<S: Storage, W: Sink, E: Sink, P: Write + Drop>(
     out: &mut W,
     errors: &mut E,
     progress: &mut Progress<P>,
-) -> Result<Tally, Stopped>
+) -> Result<Tally, Stop>
     requires { AreSound (W.state out.old) (E.state errors.old) }
     ensures told { IfOk result (ToldTo (S.held storage.now) asked (W.state out.old) (E.state errors.old)
         (map (λ path. path.now) paths.now) (W.state out.new) (E.state errors.new)) }
@@ -111,12 +117,7 @@ pub fn tell_paths<S: Storage, W: Sink, E: Sink, P: Write + Drop>(
     for path in paths {
         match tell_path(alloc, storage, asked, path, out, errors, progress) {
             Ok(tally) => sum = sum.with(tally),
-            Err(stop) => {
-                return Err(Stopped {
-                    stop,
-                    found: sum.verdict,
-                });
-            }
+            Err(stop) => return Err(stop.after(sum.verdict)),
         }
     }
     Ok(sum)
@@ -136,7 +137,8 @@ fn tell_path<S: Storage, W: Sink, E: Sink, P: Write + Drop>(
     ensures told { IfOk result (TellsPath (S.held storage.now path.now) asked path.now
         (W.state out.old) (W.state out.new) (E.state errors.old) (E.state errors.new)) }
     ensures sound { OnOk result (AreSound (W.state out.new) (E.state errors.new)) }
-    ensures stopped { IfErr result (StopsRun (W.state out.new) (E.state errors.new)) }
+    ensures stopped { IfErr result (StopsPath (S.held storage.now path.now) asked path.now
+        (W.state out.old) (W.state out.new) (E.state errors.old) (E.state errors.new)) }
 {
     match read_file(alloc, storage, path) {
         Ok(bytes) => match tell_bytes(alloc, asked, path, &bytes, out) {
@@ -147,7 +149,7 @@ fn tell_path<S: Storage, W: Sink, E: Sink, P: Write + Drop>(
             Err(FileFault::NoWad(why)) => {
                 tell_refusal(asked.word, path, Refusal::NoWad(why), out, errors, progress)
             }
-            Err(FileFault::Write) => Err(Stop::Output),
+            Err(FileFault::Write(found)) => Err(Stop::Output(found)),
             Err(FileFault::Memory) => Err(Stop::Memory),
         },
         Err(ReadFault::Refused(refusal)) => {
@@ -170,14 +172,15 @@ fn tell_refusal<W: Sink, E: Sink, P: Write + Drop>(
     ensures told { IfOk result (WritesRefusal word path.now refusal
         (W.state out.old) (W.state out.new) (E.state errors.old) (E.state errors.new)) }
     ensures sound { OnOk result (AreSound (W.state out.new) (E.state errors.new)) }
-    ensures stopped { IfErr result (StopsRun (W.state out.new) (E.state errors.new)) }
+    ensures stopped { IfErr result (StopsRefusal word path.now refusal
+        (W.state out.old) (W.state out.new) (E.state errors.old) (E.state errors.new)) }
 {
     progress.clear();
     if write_refusal(path, refusal, errors).is_err() {
         return Err(Stop::Errors);
     }
     if answer_refusal(word, path, refusal, out).is_err() {
-        return Err(Stop::Output);
+        return Err(Stop::Output(Verdict::Unjudged));
     }
     progress.add_refused();
     Ok(Tally {
@@ -223,21 +226,6 @@ fn answer_refusal<W: Sink>(
     }
 }
 
-// What the totals of a check say.
-fn verdict_of_totals(totals: Totals) -> Verdict
-    ensures { result ≡ verdict_of_totals totals }
-{
-    if totals.faults == 0 && totals.broken == 0 {
-        if totals.unread == 0 {
-            Verdict::Clean
-        } else {
-            Verdict::Unjudged
-        }
-    } else {
-        Verdict::Faulty
-    }
-}
-
 // Tells what is asked of the levels in a file's bytes.
 fn tell_bytes<W: Sink>(
     alloc: Global,
@@ -249,7 +237,7 @@ fn tell_bytes<W: Sink>(
     requires { (W.state out.old).failed ≡ false }
     ensures told { IfOk result (TellsWord asked.word path.now bytes.now asked.reading (W.state out.old) (W.state out.new)) }
     ensures sound { OnOk result ((W.state out.new).failed ≡ false) }
-    ensures left { IfErr result (LeavesBytes W.state bytes.now out.old out.new) }
+    ensures left { IfErr result (LeavesBytes W.state asked.word path.now bytes.now asked.reading out.old out.new) }
 {
     match asked.word {
         Word::Survey => survey_bytes(alloc, path, bytes, asked.reading, out),
@@ -275,7 +263,7 @@ fn survey_bytes<W: Sink>(
     requires { (W.state out.old).failed ≡ false }
     ensures told { IfOk result (SurveysBytes path.now bytes.now reading (W.state out.old) (W.state out.new)) }
     ensures sound { OnOk result ((W.state out.new).failed ≡ false) }
-    ensures left { IfErr result (LeavesBytes W.state bytes.now out.old out.new) }
+    ensures left { IfErr result (LeavesBytes W.state word.Survey path.now bytes.now reading out.old out.new) }
 {
     match survey_file(alloc, path, bytes, reading, out) {
         Ok(verdict) => Ok(Tally {
@@ -297,11 +285,12 @@ fn check_bytes<W: Sink>(
     ensures told { IfOk result (ChecksBytes question.now.most question.now.path.now bytes.now question.now.reading
         (W.state out.old) (W.state out.new)) }
     ensures sound { OnOk result ((W.state out.new).failed ≡ false) }
-    ensures left { IfErr result (LeavesBytes W.state bytes.now out.old out.new) }
+    ensures left { IfErr result (LeavesBytes W.state (word.Check question.now.most) question.now.path.now bytes.now
+        question.now.reading out.old out.new) }
 {
     match check_file(alloc, question, bytes, out) {
         Ok(totals) => Ok(Tally {
-            verdict: verdict_of_totals(totals),
+            verdict: totals.verdict(),
             totals,
         }),
         Err(fault) => Err(fault),

@@ -10,6 +10,23 @@ const SHOWN: u64 = 20;
 
 /// What the words ask for.
 #[derive(Drop)]
+pub enum Task<'a> {
+    /// The levels of files are told.
+    Tell(Job<'a>),
+    /// A level is cut out.
+    Cut(CutWords<'a>),
+}
+
+/// Which level is cut out.
+#[derive(Drop)]
+pub struct CutWords<'a> {
+    /// The number of its label's entry.
+    pub entry: u64,
+    pub path: &'a str,
+}
+
+/// How the levels of files are told.
+#[derive(Drop)]
 pub struct Job<'a> {
     pub asked: Asked,
     /// The paths of the words, in order.
@@ -23,8 +40,13 @@ pub struct Job<'a> {
 }
 
 impl Job<'_> {
+    ghost use Rattle.std.specs.Prelude.{◌≡◌};
+    ghost use Rattle.wadlens.specs.Job.{list_name};
+
     /// The list as it is named to people.
-    pub fn list_name(&self) -> &[u8] {
+    pub fn list_name(&self) -> &[u8]
+        ensures { result.now ≡ list_name self.now }
+    {
         match self.list {
             None | Some("-") => b"standard input",
             Some(path) => path.as_bytes(),
@@ -34,9 +56,9 @@ impl Job<'_> {
 
 /// Reads the words, the program's name first. An `Err` has the text for whoever wrote them: what is mistaken, or the help or
 /// the version that they ask for.
-pub fn read_words<'a>(alloc: Global, words: &'a [String]) -> Result<Job<'a>, Error> {
+pub fn read_words<'a>(alloc: Global, words: &'a [String]) -> Result<Task<'a>, Error> {
     let matches = program(alloc)?.try_get_matches_from(words)?;
-    Ok(job_of(alloc, &matches)?)
+    Ok(task_of(alloc, &matches)?)
 }
 
 /// The program's usage, for a mistake whose text lacks it.
@@ -63,7 +85,26 @@ fn program<'a>(alloc: Global) -> Result<Command<'a>, AllocError> {
         .subcommand_required(true)
         .disable_help_subcommand(true)
         .subcommand(with_files(alloc, check)?)?
-        .subcommand(with_files(alloc, survey)?)
+        .subcommand(with_files(alloc, survey)?)?
+        .subcommand(cut_command(alloc)?)
+}
+
+// The words of `cut`.
+fn cut_command<'a>(alloc: Global) -> Result<Command<'a>, AllocError> {
+    let entry = Arg::new(alloc, "entry")
+        .long("entry")
+        .value_name("G")
+        .value_parser(value_parser!(u64))
+        .required(true)
+        .help("The number of the level's label among the entries of FILE, from 0 on");
+    let file = Arg::new(alloc, "file")
+        .value_name("FILE")
+        .required(true)
+        .help("A WAD file");
+    Command::new(alloc, "cut")
+        .about("Write the level whose label is entry G alone, as a WAD file, on standard output")
+        .arg(entry)?
+        .arg(file)
 }
 
 // Adds the words on files, and on how they are read.
@@ -100,6 +141,18 @@ fn with_files<'a>(alloc: Global, command: Command<'a>) -> Result<Command<'a>, Al
 }
 
 // What matches of the words ask for.
+fn task_of<'a>(alloc: Global, matches: &ArgMatches<'a>) -> Result<Task<'a>, AllocError> {
+    match matches.subcommand_matches("cut") {
+        // Both are required.
+        Some(of_cut) => Ok(Task::Cut(CutWords {
+            entry: of_cut.get_one::<u64>("entry").unwrap_or(0),
+            path: of_cut.get_str("file").unwrap_or(""),
+        })),
+        None => Ok(Task::Tell(job_of(alloc, matches)?)),
+    }
+}
+
+// What matches of the words ask to be told.
 fn job_of<'a>(alloc: Global, matches: &ArgMatches<'a>) -> Result<Job<'a>, AllocError> {
     match matches.subcommand_matches("check") {
         Some(of_check) => {

@@ -1,6 +1,5 @@
 use Rattle.std.proofs.Common.{arith}
 use Rattle.std.proofs.lemmas.List.{length-map}
-use Rattle.std.proofs.lemmas.Result.{err_from_is_err_and}
 use Rattle.wad_dir.specs.Entries.{joined, listed_name, names}
 use Rattle.wad_lens.specs.Check.{asked_of}
 use Rattle.wad_lens.proofs.CheckLemmas.{SoFar-level, SoFar-start, level_stopped, level_told, told_all}
@@ -10,14 +9,11 @@ use Rattle.wad_lens.proofs.check.check_set.Goals as goal
 pub levels-init : goal.levels-init
 levels-init g c = record { sound = c.requires; so_far = rw c.no_totals-sum.ensures (SoFar-start _ _ _) }
 
-pub returns-in_err-totals : goal.returns-in_err-totals
-returns-in_err-totals g c =
-    let p = err_from_is_err_and c.from_residual.result c.from_residual.ensures.1 in
-    rw (p.1, p.2) (record {
-      all = tt;
-      some = level_stopped g.W.Sink.state (asked_of c.args.question.now) c.args.set.now (g.W.Sink.state c.args.out.now) c.levels.from c.in-Some.g c.levels.sum
-          c.levels.out c.check_level.new.out _ c.levels.invariant.so_far c.levels.invariant.sound c.in-Some.ensures.some c.in_err-totals.ensures;
-    })
+pub returns-in-Err : goal.returns-in-Err
+returns-in-Err g c =
+    let some = level_stopped g.W.Sink.state (asked_of c.args.question.now) c.args.set.now (g.W.Sink.state c.args.out.now) c.levels.from c.in-Some.g c.levels.sum
+    c.levels.out c.check_level.new.out c.in-Err.fault c.levels.invariant.so_far c.levels.invariant.sound c.in-Some.ensures.some c.in-Err.ensures in
+    rw (c.after.ensures, c.verdict.ensures) (record { all = tt; some = some })
 
 pub overflow_add-from : goal.overflow_add-from
 overflow_add-from g c =
@@ -31,9 +27,9 @@ levels-smaller g c =
 
 pub levels-preserved : goal.levels-preserved
 levels-preserved g c =
-    let level = level_told g.W.Sink.state (asked_of c.args.question.now) c.args.set.now c.in-Some.g c.levels.out c.check_level.new.out c.in_ok-totals.totals c.in_ok-totals.ensures in
+    let level = level_told g.W.Sink.state (asked_of c.args.question.now) c.args.set.now c.in-Some.g c.levels.out c.check_level.new.out c.in-Ok.totals c.in-Ok.ensures in
     let more = SoFar-level (asked_of c.args.question.now) c.args.set.now (g.W.Sink.state c.args.out.now) (g.W.Sink.state c.levels.out) (g.W.Sink.state c.check_level.new.out)
-    c.levels.from c.in-Some.g c.levels.sum c.in_ok-totals.totals c.levels.invariant.so_far c.in-Some.ensures.some level in
+    c.levels.from c.in-Some.g c.levels.sum c.in-Ok.totals c.levels.invariant.so_far c.in-Some.ensures.some level in
     record { sound = level.sound; so_far = rw c.with-sum.ensures more }
 
 pub returns : goal.returns

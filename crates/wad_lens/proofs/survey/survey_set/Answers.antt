@@ -1,6 +1,5 @@
 use Rattle.std.proofs.Common.{arith}
 use Rattle.std.proofs.lemmas.List.{length-map}
-use Rattle.std.proofs.lemmas.Result.{err_from_is_err_and}
 use Rattle.wad_dir.specs.Entries.{joined, listed_name, names}
 use Rattle.wad_lens.proofs.SurveyLemmas.{ToldSoFar-more, ToldSoFar-none, level_stopped, level_told, start_within, told_all}
 use Rattle.wad_lens.proofs.survey.survey_set.Goals as goal
@@ -8,14 +7,11 @@ use Rattle.wad_lens.proofs.survey.survey_set.Goals as goal
 pub levels-init : goal.levels-init
 levels-init g c = record { sound = c.requires; so_far = ToldSoFar-none _ _ _ _ }
 
-pub returns-in_err-verdict : goal.returns-in_err-verdict
-returns-in_err-verdict g c =
-    let p = err_from_is_err_and c.from_residual.result c.from_residual.ensures.1 in
-    rw (p.1, p.2) (record {
-      all = tt;
-      some = level_stopped g.W.Sink.state c.args.path.now c.args.set.now c.args.reading (g.W.Sink.state c.args.out.now) c.levels.from c.in-Some.g c.levels.worst
-          c.levels.out c.survey_level.new.out _ c.levels.invariant.so_far c.levels.invariant.sound c.in-Some.ensures.some c.in_err-verdict.ensures;
-    })
+pub returns-in-Err : goal.returns-in-Err
+returns-in-Err g c =
+    let some = level_stopped g.W.Sink.state c.args.path.now c.args.set.now c.args.reading (g.W.Sink.state c.args.out.now) c.levels.from c.in-Some.g c.levels.worst
+    c.levels.out c.survey_level.new.out c.in-Err.fault c.levels.invariant.so_far c.levels.invariant.sound c.in-Some.ensures.some c.in-Err.ensures in
+    rw c.after.ensures (record { all = tt; some = some })
 
 pub overflow_add-from : goal.overflow_add-from
 overflow_add-from g c =
@@ -29,9 +25,9 @@ levels-smaller g c =
 
 pub levels-preserved : goal.levels-preserved
 levels-preserved g c =
-    let wrote = level_told g.W.Sink.state c.args.path.now c.args.set.now c.args.reading c.in-Some.g c.levels.out c.survey_level.new.out c.in_ok-verdict.verdict c.in_ok-verdict.ensures in
+    let wrote = level_told g.W.Sink.state c.args.path.now c.args.set.now c.args.reading c.in-Some.g c.levels.out c.survey_level.new.out c.in-Ok.verdict c.in-Ok.ensures in
     let more = ToldSoFar-more c.args.path.now c.args.set.now c.args.reading (g.W.Sink.state c.args.out.now) (g.W.Sink.state c.levels.out) (g.W.Sink.state c.survey_level.new.out)
-    c.levels.from c.in-Some.g c.levels.worst c.in_ok-verdict.verdict c.levels.invariant.so_far c.in-Some.ensures.some wrote in
+    c.levels.from c.in-Some.g c.levels.worst c.in-Ok.verdict c.levels.invariant.so_far c.in-Some.ensures.some wrote in
     record { sound = more.1; so_far = rw c.graver-worst.ensures more.0 }
 
 pub returns : goal.returns

@@ -1,13 +1,14 @@
 use Rattle.std.proofs.Common.{rules, subst}
-use Rattle.std.specs.Prelude.{IfOk}
+use Rattle.std.specs.Prelude.{IfErr, IfOk}
 use Rattle.wad_lens.specs.declared.object.Refusal.TheVariants.{NoWad}
-use Rattle.wadlens.specs.Run.{LeavesBytes, WritesRefusal}
-use Rattle.wadlens.proofs.TellLemmas.{refused_told}
+use Rattle.wadlens.specs.Run.{LeavesBytes, StopsRefusal, WritesRefusal}
+use Rattle.wadlens.proofs.TellLemmas.{refused_stopped, refused_told}
 use Rattle.wadlens.proofs.tell.tell_path.Goals as goal
 
 pub returns-in-Err-NoWad-clause-told : goal.returns-in-Err-NoWad-clause-told
 returns-in-Err-NoWad-clause-told g c =
-    let left = subst (LeavesBytes g.W.Sink.state c.deref.result.now c.args.out.now c.tell_bytes.new.out) c.in-Err-NoWad.field-0-is c.in-Err-NoWad.ensures.left in
+    let left = subst (LeavesBytes g.W.Sink.state c.args.asked.word c.args.path.now c.deref.result.now c.args.asked.reading c.args.out.now c.tell_bytes.new.out)
+    c.in-Err-NoWad.field-0-is c.in-Err-NoWad.ensures.left in
     let bytes = c.deref.result.now in
     let told = rw c.in-Err-NoWad.why-is at c.tell_refusal.ensures.told in
     let writes = subst (λ o. IfOk c.tell_refusal.result (WritesRefusal c.args.asked.word c.args.path.now (NoWad c.in-Err-NoWad.why)
@@ -15,3 +16,21 @@ returns-in-Err-NoWad-clause-told g c =
     refused_told (g.S.Storage.held c.args.storage.now c.args.path.now) c.args.asked c.args.path.now (NoWad c.in-Err-NoWad.why) (g.W.Sink.state c.args.out.now)
     (g.W.Sink.state c.tell_refusal.new.out) (g.E.Sink.state c.args.errors.now) (g.E.Sink.state c.tell_refusal.new.errors) c.tell_refusal.result
     (record { bytes = bytes; are = search rules; refuses = left.0 }) writes
+
+pub returns-in-Err-NoWad-clause-stopped : goal.returns-in-Err-NoWad-clause-stopped
+returns-in-Err-NoWad-clause-stopped g c =
+    let left = subst (LeavesBytes g.W.Sink.state c.args.asked.word c.args.path.now c.deref.result.now c.args.asked.reading c.args.out.now c.tell_bytes.new.out)
+    c.in-Err-NoWad.field-0-is c.in-Err-NoWad.ensures.left in
+    let bytes = c.deref.result.now in
+    let stopped = rw c.in-Err-NoWad.why-is at c.tell_refusal.ensures.stopped in
+    let stops = subst (λ o. IfErr c.tell_refusal.result (StopsRefusal c.args.asked.word c.args.path.now (NoWad c.in-Err-NoWad.why)
+    (g.W.Sink.state o) (g.W.Sink.state c.tell_refusal.new.out) (g.E.Sink.state c.args.errors.now) (g.E.Sink.state c.tell_refusal.new.errors))) left.1 stopped in
+    refused_stopped (g.S.Storage.held c.args.storage.now c.args.path.now) c.args.asked c.args.path.now (NoWad c.in-Err-NoWad.why) (g.W.Sink.state c.args.out.now)
+    (g.W.Sink.state c.tell_refusal.new.out) (g.E.Sink.state c.args.errors.now) (g.E.Sink.state c.tell_refusal.new.errors) c.tell_refusal.result
+    (record { bytes = bytes; are = search rules; refuses = left.0 }) stops
+
+pub returns-in-Err-Refused-clause-stopped : goal.returns-in-Err-Refused-clause-stopped
+returns-in-Err-Refused-clause-stopped g c =
+    refused_stopped (g.S.Storage.held c.args.storage.now c.args.path.now) c.args.asked c.args.path.now _ (g.W.Sink.state c.args.out.now)
+    (g.W.Sink.state c.tell_refusal-in-Err-Refused.new.out) (g.E.Sink.state c.args.errors.now) (g.E.Sink.state c.tell_refusal-in-Err-Refused.new.errors) c.tell_refusal-in-Err-Refused.result
+    (search rules) c.tell_refusal-in-Err-Refused.ensures.stopped

@@ -1,6 +1,6 @@
-use Rattle.std.proofs.Common.{ℕ, List, Bor, arith, refl}
+use Rattle.std.proofs.Common.{ℕ, List, Bor, arith}
 use Rattle.wadlens.specs.Run.{at_start}
-use Rattle.wadlens.proofs.TellLemmas.{some_item, stopped_at, told_more}
+use Rattle.wadlens.proofs.TellLemmas.{stopped_at, told_more}
 use Rattle.wadlens.proofs.tell.tell_paths.Goals as goal
 
 pub loop-path-init : goal.loop-path-init
@@ -8,11 +8,12 @@ loop-path-init g c = record { sound = c.requires; told = rw c.no_tally-sum.ensur
 
 pub returns-in-Err-clause-stopped : goal.returns-in-Err-clause-stopped
 returns-in-Err-clause-stopped g c =
-    stopped_at (λ (path : Bor (List ℕ)). path.now) c.args.paths.now c.loop-path.path-index
-    (some_item c.args.paths.now c.loop-path.path-index (omega (arith, c.loop-path-test.true))) (omega (arith, c.loop-path-test.true))
+    let at = stopped_at (λ (path : Bor (List ℕ)). path.now) c.args.paths.now c.loop-path.path-index
+    _ (omega (arith, c.loop-path-test.true))
     (g.S.Storage.held c.args.storage.now) c.args.asked (g.W.Sink.state c.args.out.now) (g.E.Sink.state c.args.errors.now)
     (g.W.Sink.state c.loop-path.out) (g.E.Sink.state c.loop-path.errors) (g.W.Sink.state c.tell_path.new.out) (g.E.Sink.state c.tell_path.new.errors)
-    c.loop-path.sum (record { stop = c.in-Err.stop; found = c.loop-path.sum.verdict }) c.loop-path.invariant.told refl c.in-Err.ensures.stopped
+    c.loop-path.sum c.in-Err.stop c.loop-path.invariant.told c.in-Err.ensures.stopped in
+    rw c.after.ensures at
 
 pub loop-path-preserved : goal.loop-path-preserved
 loop-path-preserved g c =

@@ -1,0 +1,4 @@
+pub mod Demos
+pub mod Objects
+pub mod RefusalText
+pub mod Summary

@@ -1,0 +1,10 @@
+//! What demos hold, for those who keep them: a line or an object of JSON for each demo of a file. For programs that go over
+//! many files: the engines take bytes and a path to print, and write to a sink.
+#![tactic(auto)]
+
+mod demos;
+mod object;
+mod refusal;
+mod summary;
+
+pub use demos::{DemoQuestion, DemosFault, Telling, demos_file};

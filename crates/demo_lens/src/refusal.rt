@@ -1,0 +1,107 @@
+//! Why a demo isn't told, in words.
+
+ghost use Rattle.std.specs.Prelude.{◌≡◌, ◌+◌, ◌<◌, ◌≤◌, ◌++◌, ◌∷◌, [], codes, false, length};
+ghost use Rattle.line_io.specs.Writes.{Writes};
+ghost use Rattle.demo_lens.specs.RefusalText.{engine_text, fault_text, outside_text, refusal_line};
+ghost use Rattle.demo_lens.specs.Summary.{lump_text};
+ghost use Rattle.demo_lump.specs.declared.fault.DemoFault.TheVariants as fault;
+
+use crate::summary::{Heading, prepend_lump};
+use demo_lump::DemoFault;
+use le_rec::Sink;
+use line_io::{IoFault, TextLine, emit};
+
+/// Writes the message about a demo of so many bytes that is refused.
+pub fn write_refused<W: Sink>(
+    heading: &Heading<'_>,
+    size: usize,
+    fault: DemoFault,
+    err: &mut W,
+) -> Result<(), IoFault>
+    requires { (W.state err.old).failed ≡ false }
+    ensures { Writes (W.state err.old) (W.state err.new)
+        (refusal_line heading.now.path.now heading.now.lump (fault_text size fault)) result }
+{
+    let mut line = TextLine::new();
+    line.prepend_bytes(b"\n");
+    prepend_fault(&mut line, size as u64, fault);
+    write_message(heading, &mut line, err)
+}
+
+/// Writes the message about a lump that leaves its file.
+pub fn write_outside<W: Sink>(heading: &Heading<'_>, err: &mut W) -> Result<(), IoFault>
+    requires { (W.state err.old).failed ≡ false }
+    ensures { Writes (W.state err.old) (W.state err.new)
+        (refusal_line heading.now.path.now heading.now.lump outside_text) result }
+{
+    let mut line = TextLine::new();
+    line.prepend_bytes(b"outside its file\n");
+    write_message(heading, &mut line, err)
+}
+
+// Writes a message, from its reason and end.
+fn write_message<W: Sink>(
+    heading: &Heading<'_>,
+    line: &mut TextLine,
+    err: &mut W,
+) -> Result<(), IoFault>
+    requires short { length line.old ≤ 100 }
+    requires sound { (W.state err.old).failed ≡ false }
+    ensures { Writes (W.state err.old) (W.state err.new)
+        (codes "wadlens: " ++ (heading.now.path.now ++ ((codes ": " ++ lump_text heading.now.lump) ++ line.old))) result }
+{
+    prepend_lump(line, heading.lump);
+    line.prepend_bytes(b": ");
+    emit(err, b"wadlens: ")?;
+    emit(err, heading.path)?;
+    emit(err, line.as_bytes())
+}
+
+// Puts why so many bytes are no demo before the line.
+fn prepend_fault(line: &mut TextLine, size: u64, fault: DemoFault)
+    requires { length line.old ≤ 1 }
+    ensures text { line.new ≡ fault_text size fault ++ line.old }
+    ensures length { length line.new ≤ length line.old + 90 }
+{
+    match fault {
+        DemoFault::Empty => line.prepend_bytes(b"empty"),
+        DemoFault::Version(version) => prepend_version(line, version),
+        DemoFault::ShortHeader => {
+            line.prepend_bytes(b" bytes of a header's 13");
+            line.prepend_natural(size);
+        }
+        DemoFault::NoPlayers => line.prepend_bytes(b"no player in the game"),
+        DemoFault::NoMarker(place) => {
+            line.prepend_bytes(b" on make no whole command");
+            line.prepend_natural(place);
+            line.prepend_bytes(b"no end marker: the bytes from place ");
+        }
+    }
+}
+
+fn prepend_version(line: &mut TextLine, version: u8)
+    requires { length line.old ≤ 1 }
+    ensures text { line.new ≡ fault_text 0 (fault.Version version) ++ line.old }
+    ensures length { length line.new ≤ length line.old + 40 }
+{
+    line.prepend_bytes(b": not read");
+    line.prepend_bytes(engine_name(version));
+    line.prepend_small(version);
+    line.prepend_bytes(b"version ");
+}
+
+// The engine that writes a version, where it is known.
+fn engine_name(version: u8) -> &'static [u8]
+    ensures name { result.now ≡ engine_text version }
+    ensures short { length result.now ≤ 17 }
+{
+    match version {
+        0..=4 => b" (1.2 and before)",
+        104..=108 => b" (1.4 to 1.8)",
+        202 => b" (Boom)",
+        203 => b" (MBF)",
+        210..=214 => b" (PrBoom)",
+        221 => b" (MBF21)",
+        _ => b"",
+    }
+}

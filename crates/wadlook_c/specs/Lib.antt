@@ -1,0 +1,10 @@
+pub mod Status
+pub mod Ends
+pub mod Places
+pub mod Prepared
+pub mod Findings
+pub mod Demos
+pub mod Counts
+pub mod Lumps
+pub mod Blocks
+pub mod Sights

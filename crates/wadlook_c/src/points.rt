@@ -1,0 +1,117 @@
+//! The sectors of many points.
+
+ghost use Rattle.std.specs.Prelude.{◌≡◌, ◌∷◌, [], ◌<◌, ◌≤◌, IfErr, OnOk, IfOk, length};
+ghost use Rattle.map_level.specs.Level.{Level};
+ghost use Rattle.wad_look.specs.Opening.{IsAccepted, RefusesAccepted, bytes_of};
+ghost use Rattle.wadlook_c.specs.Ends.{EndsBy, reading_of};
+ghost use Rattle.wadlook_c.specs.Places.{TellsLeaf, TellsPlace, TellsPlaces};
+ghost use Rattle.wadlook_c.specs.Status.{number_of};
+
+use crate::opening::{open_level, reading_of, sector_tree};
+use crate::status::{DONE, NO_ROOM, number_of};
+use map_geo::Point;
+use map_level::Reading;
+use map_tree::SectorTree;
+use std::alloc::{Allocator, Global};
+use wad_look::RunFault;
+
+/// A point, in map units.
+#[repr(C)]
+#[derive(Clone, Copy)]
+pub struct WadlookPoint {
+    pub x: i32,
+    pub y: i32,
+}
+
+/// Where a point lies: an ssector and its sector.
+#[repr(C)]
+#[derive(Clone, Copy)]
+pub struct WadlookPlace {
+    pub ssector: u16,
+    pub sector: u16,
+}
+
+/// What is told of a point that is out of range: ssector 65535, which no level has.
+pub const NOWHERE: WadlookPlace = WadlookPlace {
+    ssector: 65535,
+    sector: 65535,
+};
+
+/// Writes to `out` at each point's number the ssector and the sector of the point, in the level of a name of one file:
+/// 0. Otherwise nothing is written, and the number is that of the refusal.
+#[unsafe(no_mangle)]
+pub extern "C" fn wadlook_points(
+    alloc: Global,
+    wad: &[u8],
+    name: &[u8],
+    wide: bool,
+    points: &[WadlookPoint],
+    out: &mut [WadlookPlace],
+) -> u32
+    ensures done { result ≡ 0 → (level : Level) × IsAccepted (wad.now ∷ []) name.now (reading_of wide) level
+        × TellsPlaces level points.now out.new }
+    ensures room { result ≡ NO_ROOM → length out.old < length points.now }
+    ensures refused { ¬ (result ≡ 0) → ¬ (result ≡ NO_ROOM)
+        → EndsBy (RefusesAccepted (wad.now ∷ []) name.now (reading_of wide)) result }
+    ensures untouched { ¬ (result ≡ 0) → out.new ≡ out.old }
+{
+    if out.len() < points.len() {
+        return NO_ROOM;
+    }
+    match places(alloc, wad, name, reading_of(wide), points, out) {
+        Ok(()) => DONE,
+        Err(fault) => number_of(fault),
+    }
+}
+
+fn places(
+    alloc: Global,
+    wad: &[u8],
+    name: &[u8],
+    reading: Reading,
+    points: &[WadlookPoint],
+    out: &mut [WadlookPlace],
+) -> Result<(), RunFault>
+    requires { length points.now ≤ length out.old }
+    ensures ok { OnOk result ((level : Level) × IsAccepted (wad.now ∷ []) name.now reading level
+        × TellsPlaces level points.now out.new) }
+    ensures err { IfErr result (RefusesAccepted (wad.now ∷ []) name.now reading) }
+    ensures untouched { IfErr result (λ _. out.new ≡ out.old) }
+{
+    let level = open_level(alloc, wad, name, reading)?;
+    let tree = sector_tree(alloc, &level)?;
+    put_places(&tree, points, out);
+    Ok(())
+}
+
+// Writes the place of each point.
+fn put_places<A: Allocator>(
+    tree: &SectorTree<'_, '_, A>,
+    points: &[WadlookPoint],
+    out: &mut [WadlookPlace],
+)
+    requires { length points.now ≤ length out.old }
+    ensures { TellsPlaces tree.now points.now out.new }
+{
+    for i in 0..points.len() {
+        out[i] = place_of(tree, points[i]);
+    }
+}
+
+// The place of a point.
+fn place_of<A: Allocator>(tree: &SectorTree<'_, '_, A>, asked: WadlookPoint) -> WadlookPlace
+    ensures { TellsPlace tree.now asked result }
+{
+    match Point::new(asked.x, asked.y) {
+        Some(point) => leaf_of(tree, point),
+        None => NOWHERE,
+    }
+}
+
+// The leaf of a point in range.
+fn leaf_of<A: Allocator>(tree: &SectorTree<'_, '_, A>, point: Point) -> WadlookPlace
+    ensures { TellsLeaf tree.now point result }
+{
+    let (ssector, sector) = tree.leaf(point);
+    WadlookPlace { ssector, sector }
+}

@@ -1,0 +1,87 @@
+//! The numbers with which calls end.
+
+ghost use Rattle.std.specs.Prelude.{◌≡◌};
+ghost use Rattle.wadlook_c.specs.Status.{demo_number_of, level_number_of, number_of, wad_number_of};
+
+use demo_lump::DemoFault;
+use map_level::LevelFault;
+use wad_dir::{LumpFault, PackFault, WadFault};
+use wad_look::RunFault;
+
+/// All was done.
+pub const DONE: u32 = 0;
+/// The caller's slice for the answer has too few places.
+pub const NO_ROOM: u32 = 3;
+/// The bounds are no rectangle's.
+pub const NO_RECT: u32 = 17;
+/// A coordinate is out of range.
+pub const OUT_OF_RANGE: u32 = 18;
+/// BLOCKMAP has fewer than 8 bytes.
+pub const NO_BLOCKMAP: u32 = 19;
+/// No block holds the point.
+pub const NO_BLOCK: u32 = 20;
+/// A block's offset is missing or is no word of BLOCKMAP.
+pub const OFFSET_OUTSIDE: u32 = 21;
+/// A block's list has no end.
+pub const NO_END: u32 = 22;
+/// A number is none of the level's sectors.
+pub const NO_SECTOR: u32 = 23;
+/// REJECT ends before the bit.
+pub const UNKNOWN: u32 = 24;
+
+/// The number of a fault.
+pub fn number_of(fault: RunFault) -> u32
+    ensures { result ≡ number_of fault }
+{
+    match fault {
+        RunFault::Audit => 1,
+        RunFault::Memory | RunFault::Pack(PackFault::Memory) => 2,
+        RunFault::Set(_, why) => wad_number_of(why),
+        RunFault::Level(why) => level_number_of(why),
+        RunFault::Lump(LumpFault::NoSuch) => 9,
+        RunFault::Lump(LumpFault::Outside) => 10,
+        RunFault::Pack(PackFault::TooLarge) => 11,
+        RunFault::Demo(why) => demo_number_of(why),
+        RunFault::NoBlockMap => 19,
+        // No call reads an input or writes to an output.
+        RunFault::Read => 25,
+        RunFault::Write => 26,
+        RunFault::TooLong => 27,
+    }
+}
+
+// The number of why a file has no directory.
+fn wad_number_of(why: WadFault) -> u32
+    ensures { result ≡ wad_number_of why }
+{
+    match why {
+        WadFault::Short => 4,
+        WadFault::Magic => 5,
+        WadFault::Count => 6,
+        WadFault::Directory => 7,
+    }
+}
+
+// The number of why there is no level.
+fn level_number_of(why: LevelFault) -> u32
+    ensures { result ≡ level_number_of why }
+{
+    match why {
+        LevelFault::NoLabel => 8,
+        LevelFault::Missing(_) => 9,
+        LevelFault::Outside(_) => 10,
+    }
+}
+
+/// The number of why bytes are no demo.
+pub fn demo_number_of(why: DemoFault) -> u32
+    ensures { result ≡ demo_number_of why }
+{
+    match why {
+        DemoFault::Empty => 12,
+        DemoFault::Version(_) => 13,
+        DemoFault::ShortHeader => 14,
+        DemoFault::NoPlayers => 15,
+        DemoFault::NoMarker(_) => 16,
+    }
+}

@@ -1,0 +1,157 @@
+/* wadlook.h: proved calls over the bytes of Doom's WAD files and demos, for C and for what calls C.
+ *
+ * Link libwadlook.a or libwadlook.so; both need the C library alone. No state is kept between calls, so any number of
+ * threads may call at once. Nothing is kept of what a call is given: what it takes of memory it gives back.
+ *
+ * What a caller owes, and nothing tests:
+ *   - a pointer and the length after it are those of memory that stays as it is for the call. The pointer isn't NULL, also
+ *     where the length is 0;
+ *   - what a call writes to overlaps nothing else that the call is given;
+ *   - a bool is 0 or 1, and a pointer is aligned as its type asks.
+ * All else is tested: any bytes, any name and any numbers are answered by one of the statuses below. Where the status isn't
+ * WADLOOK_DONE, what the call writes to is as it was, unless it is said of WADLOOK_NO_ROOM that a number was written.
+ *
+ * `name` is looked up as the game does: its first eight bytes in capital letters, up to a NUL; the last entry of that name
+ * is taken. `wide` reads a level's indexes as unsigned, as larger levels use them. A level is sound where its links and
+ * nodes hold together (findings F1 to F18 don't hold). Docs: docs/wadlook.1 lists the findings, docs/DEFINITIONS.md says
+ * what each word means. That each call answers as it says here is proved of crates/wadlook_c.
+ *
+ *     size_t size; uint8_t *wad = read_file("doom2.wad", &size);          // 'read_file' is yours
+ *     wadlook_point_at points[] = {{0, 5}, {64, -128}};
+ *     wadlook_place places[2];
+ *     uint32_t status = wadlook_points(wad, size, (const uint8_t *)"MAP12", 5, false, points, 2, places, 2);
+ *     if (status == WADLOOK_DONE)
+ *         printf("sector %u\n", places[0].sector);
+ */
+#ifndef WADLOOK_H
+#define WADLOOK_H
+
+#include <stdbool.h>
+#include <stddef.h>
+#include <stdint.h>
+
+#ifdef __cplusplus
+extern "C" {
+#endif
+
+/* How a call ended. */
+enum wadlook_status {
+    WADLOOK_DONE = 0,
+    WADLOOK_UNSOUND = 1,         /* the level has faults; wadlook_audit tells them */
+    WADLOOK_MEMORY = 2,          /* malloc or realloc gave none */
+    WADLOOK_NO_ROOM = 3,         /* the caller's array for the answer is too short */
+    WADLOOK_SHORT = 4,           /* the file has fewer than 12 bytes */
+    WADLOOK_MAGIC = 5,           /* it begins with neither IWAD nor PWAD */
+    WADLOOK_COUNT = 6,           /* its count of entries is negative */
+    WADLOOK_DIRECTORY = 7,       /* its directory isn't inside the file */
+    WADLOOK_NO_NAME = 8,         /* no entry has the name */
+    WADLOOK_LUMP_MISSING = 9,    /* the list of entries ends before the lump (F1) */
+    WADLOOK_LUMP_OUTSIDE = 10,   /* the lump isn't inside the file (F2) */
+    WADLOOK_TOO_LARGE = 11,      /* the level alone would have more than 2,147,483,647 bytes */
+    WADLOOK_DEMO_EMPTY = 12,     /* no bytes */
+    WADLOOK_DEMO_VERSION = 13,   /* the first byte is none of 109, 110 and 111 */
+    WADLOOK_DEMO_SHORT = 14,     /* fewer than 13 bytes */
+    WADLOOK_DEMO_NO_PLAYER = 15, /* no player takes part */
+    WADLOOK_DEMO_NO_MARKER = 16, /* no end marker stands where a command begins */
+    WADLOOK_NO_RECT = 17,        /* bounds out of order or out of range, or more than 1,048,576 points */
+    WADLOOK_OUT_OF_RANGE = 18,   /* a coordinate isn't in -16384 to 16383 */
+    WADLOOK_NO_BLOCKMAP = 19,    /* BLOCKMAP has fewer than 8 bytes */
+    WADLOOK_NO_BLOCK = 20,       /* no block holds the point */
+    WADLOOK_OFFSET_OUTSIDE = 21, /* the block's offset is missing, or is no word of BLOCKMAP */
+    WADLOOK_NO_END = 22,         /* no end word stands at the offset or after it */
+    WADLOOK_NO_SECTOR = 23,      /* a sector's number isn't below the number of sectors */
+    WADLOOK_UNKNOWN = 24         /* REJECT ends before the bit */
+};
+
+/* ---- Points ------------------------------------------------------------------------------------------------------ */
+
+typedef struct { int32_t x, y; } wadlook_point_at;           /* in map units, -16384 to 16383 */
+typedef struct { uint16_t ssector, sector; } wadlook_place;
+
+#define WADLOOK_NOWHERE 65535 /* the ssector, which no level has, and the sector of a point that is out of range */
+
+/* Writes to places[i] the ssector and the sector in which points[i] lies, for each point; the file is read and the level
+ * audited once. NO_ROOM: places_len < points_len. Else DONE, UNSOUND, MEMORY, SHORT to LUMP_OUTSIDE. */
+uint32_t wadlook_points(const uint8_t *wad, size_t wad_len, const uint8_t *name, size_t name_len, bool wide,
+                        const wadlook_point_at *points, size_t points_len, wadlook_place *places, size_t places_len);
+
+/* Audits a level once for many calls of wadlook_point: writes the sector of each ssector to the front of sectors, and how
+ * many there are to *count, also at NO_ROOM. Else DONE, UNSOUND, MEMORY, SHORT to LUMP_OUTSIDE. */
+uint32_t wadlook_prepare(const uint8_t *wad, size_t wad_len, const uint8_t *name, size_t name_len, bool wide,
+                         uint16_t *sectors, size_t sectors_len, size_t *count);
+
+/* The place of one point, by the bytes of a level's NODES (wadlook_find with 7) and the *count sectors that
+ * wadlook_prepare listed. Takes no memory. Any bytes and numbers may be handed in; where they are no sound level's, the
+ * answer is some place or nowhere. */
+wadlook_place wadlook_point(const uint8_t *nodes, size_t nodes_len, const uint16_t *sectors, size_t sectors_len,
+                            wadlook_point_at point);
+
+typedef struct { int32_t x0, y0, x1, y1; } wadlook_rect;     /* columns x0 to x1 and rows y0 to y1, with both ends */
+typedef struct { uint32_t sector, points; } wadlook_count;
+
+/* How many whole points of a rectangle lie in each sector, by sectors, of those that have some: as many pairs as there is
+ * room for, and how many there are to *count. NO_RECT; else DONE, UNSOUND, MEMORY, SHORT to LUMP_OUTSIDE. */
+uint32_t wadlook_census(const uint8_t *wad, size_t wad_len, const uint8_t *name, size_t name_len, bool wide,
+                        const wadlook_rect *rect, wadlook_count *counts, size_t counts_len, size_t *count);
+
+/* ---- What is wrong with a level ---------------------------------------------------------------------------------- */
+
+typedef struct { uint32_t code, index; } wadlook_finding;    /* code: 0 to 17 for F1 to F18, 18 to 29 for N1 to N12 */
+typedef struct { size_t faults, notes; } wadlook_totals;
+
+/* The faults and notes of a level, by code and then by index: as many findings as there is room for, and how many there
+ * are. A lump that is missing or outside the file is the only finding, F1 or F2 with the lump's number. DONE, MEMORY,
+ * SHORT to NO_NAME. */
+uint32_t wadlook_audit(const uint8_t *wad, size_t wad_len, const uint8_t *name, size_t name_len, bool wide,
+                       wadlook_finding *findings, size_t findings_len, wadlook_totals *totals);
+
+/* ---- Lumps, sight and blocks ------------------------------------------------------------------------------------- */
+
+typedef struct { size_t entry, place, size; } wadlook_lump;  /* entry: from 0; its lump is the `size` bytes from wad + place */
+
+/* The entry that stands `after` entries behind the last one of a name, and its lump. Behind a level's label 1 to 10 are
+ * THINGS, LINEDEFS, SIDEDEFS, VERTEXES, SEGS, SSECTORS, NODES, SECTORS, REJECT and BLOCKMAP. DONE, MEMORY, SHORT to
+ * LUMP_OUTSIDE. */
+uint32_t wadlook_find(const uint8_t *wad, size_t wad_len, const uint8_t *name, size_t name_len, size_t after,
+                      wadlook_lump *lump);
+
+/* Whether REJECT's bytes, of a level of so many sectors (SECTORS has 26 bytes for each), refuse the sight from a sector to
+ * another: *blocked is 1 or 0. NO_SECTOR, UNKNOWN, DONE. Takes no memory. */
+uint32_t wadlook_sight(const uint8_t *reject, size_t reject_len, uint32_t sectors, uint32_t from, uint32_t to,
+                       uint32_t *blocked);
+
+typedef struct {
+    uint32_t column, row;
+    size_t first, count; /* the list: `count` words of BLOCKMAP, each 2 bytes, the first at byte 2 * first */
+} wadlook_block_at;
+
+/* The block that holds a point, and where its list stands in BLOCKMAP's bytes, up to its end word: little-endian words,
+ * signed unless wide. The first word of a list is mostly 0 and no linedef. OUT_OF_RANGE to NO_END, DONE. Takes no memory. */
+uint32_t wadlook_block(const uint8_t *blockmap, size_t blockmap_len, bool wide, wadlook_point_at point,
+                       wadlook_block_at *block);
+
+/* ---- A level alone, and demos ------------------------------------------------------------------------------------ */
+
+/* Writes a PWAD of the level alone, its label and its ten lumps, to the front of out, and its length to *written, also at
+ * NO_ROOM. Else DONE, MEMORY, TOO_LARGE, SHORT to LUMP_OUTSIDE. */
+uint32_t wadlook_extract(const uint8_t *wad, size_t wad_len, const uint8_t *name, size_t name_len,
+                         uint8_t *out, size_t out_len, size_t *written);
+
+typedef struct {
+    size_t commands; /* how many, of all players; a full tic has one of each */
+    size_t after;    /* bytes behind the end marker */
+    uint32_t players;
+    uint8_t version, skill, episode, map, deathmatch, respawn, fast, no_monsters, viewpoint;
+    uint8_t player[4]; /* whether each takes part */
+} wadlook_demo_info;
+typedef struct { uint16_t turn; int8_t forward, side; uint8_t buttons; } wadlook_command;
+
+/* What a demo's bytes say, and as many commands as there is room for, in order. DONE, DEMO_EMPTY to DEMO_NO_MARKER. Takes
+ * no memory. */
+uint32_t wadlook_demo(const uint8_t *bytes, size_t bytes_len, wadlook_command *commands, size_t commands_len,
+                      wadlook_demo_info *info);
+
+#ifdef __cplusplus
+}
+#endif
+#endif

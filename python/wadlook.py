@@ -1,0 +1,480 @@
+"""Proved calls over the levels of Doom's WAD files.
+
+    import wadlook
+    level = wadlook.Wad("doom2.wad").level("MAP12")
+    level.faults                      # [] for a sound level
+    level.sectors([(0, 5), (64, 8)])  # the sector of each point, None where one is out of range
+
+The module calls libwadlook through ctypes; `include/wadlook.h` says what each call promises. It takes the library of the
+checkout that it stands in (`tools/library` builds it into out/lib), and else the one that the system's loader finds. The
+calls keep no state and let other threads of Python run.
+"""
+
+from __future__ import annotations
+
+import ctypes
+import enum
+import os
+from array import array
+from typing import Iterable, NamedTuple, Sequence, Union
+
+__all__ = [
+    "Block", "Command", "Demo", "Finding", "Level", "Lump", "NOWHERE", "Place", "Status", "Wad", "WadlookError", "read_demo",
+]
+
+NOWHERE = 65535
+"""The sector and the ssector of a point that is out of range, in answers to buffers."""
+
+
+class Status(enum.IntEnum):
+    """How a call ended, as `include/wadlook.h` numbers it."""
+
+    DONE = 0
+    UNSOUND = 1
+    MEMORY = 2
+    NO_ROOM = 3
+    SHORT = 4
+    MAGIC = 5
+    COUNT = 6
+    DIRECTORY = 7
+    NO_NAME = 8
+    LUMP_MISSING = 9
+    LUMP_OUTSIDE = 10
+    TOO_LARGE = 11
+    DEMO_EMPTY = 12
+    DEMO_VERSION = 13
+    DEMO_SHORT = 14
+    DEMO_NO_PLAYER = 15
+    DEMO_NO_MARKER = 16
+    NO_RECT = 17
+    OUT_OF_RANGE = 18
+    NO_BLOCKMAP = 19
+    NO_BLOCK = 20
+    OFFSET_OUTSIDE = 21
+    NO_END = 22
+    NO_SECTOR = 23
+    UNKNOWN = 24
+
+
+_WORDS = {
+    Status.UNSOUND: "the level has faults",
+    Status.SHORT: "shorter than a WAD header",
+    Status.MAGIC: "not a WAD file: it begins with neither IWAD nor PWAD",
+    Status.COUNT: "a negative count of lumps",
+    Status.DIRECTORY: "its directory isn't inside the file",
+    Status.NO_NAME: "no entry of this name",
+    Status.LUMP_MISSING: "the list of entries ends before the lump",
+    Status.LUMP_OUTSIDE: "the lump is outside its file",
+    Status.TOO_LARGE: "the lumps make too large a file",
+    Status.DEMO_EMPTY: "a demo of no bytes",
+    Status.DEMO_VERSION: "not a demo of version 109, 110 or 111",
+    Status.DEMO_SHORT: "shorter than a demo's header",
+    Status.DEMO_NO_PLAYER: "no player takes part in the demo",
+    Status.DEMO_NO_MARKER: "the demo has no end marker",
+    Status.NO_RECT: "no rectangle of at most 1,048,576 points in range",
+    Status.OUT_OF_RANGE: "a coordinate isn't in -16384 to 16383",
+    Status.NO_BLOCKMAP: "BLOCKMAP has fewer than 8 bytes",
+    Status.OFFSET_OUTSIDE: "the block's list isn't inside BLOCKMAP",
+    Status.NO_END: "the block's list has no end",
+    Status.NO_SECTOR: "the level has no sector of this number",
+}
+
+
+class WadlookError(Exception):
+    """A call was refused: `status` is why, and the text says it in words."""
+
+    def __init__(self, status: int, what: str = "") -> None:
+        self.status = Status(status)
+        words = _WORDS.get(self.status, self.status.name.lower())
+        super().__init__(f"{what}: {words}" if what else words)
+
+
+class Place(NamedTuple):
+    """Where a point lies."""
+
+    sector: int
+    ssector: int
+
+
+class Finding(NamedTuple):
+    """A fault (F1 to F18) or a note (N1 to N12), the record or lump at which it holds, and what it says."""
+
+    code: str
+    index: int
+    text: str
+
+
+class Lump(NamedTuple):
+    """An entry's number, from 0, and its lump: `size` bytes of the file from `place` on."""
+
+    entry: int
+    place: int
+    size: int
+
+
+class Block(NamedTuple):
+    """A block of BLOCKMAP and its list, as it stands: its first number is mostly 0 and no linedef."""
+
+    column: int
+    row: int
+    lines: tuple[int, ...]
+
+
+class Command(NamedTuple):
+    """What one player does in one tic."""
+
+    forward: int
+    side: int
+    turn: int
+    buttons: int
+
+
+class Demo(NamedTuple):
+    """A demo's header and its commands, of each tic one for each player that takes part, in the order of the players."""
+
+    version: int
+    skill: int
+    episode: int
+    map: int
+    deathmatch: int
+    respawn: int
+    fast: int
+    no_monsters: int
+    viewpoint: int
+    players: tuple[int, int, int, int]
+    commands: list[Command]
+    after: int
+
+
+Points = Union[Sequence[tuple[int, int]], Iterable[tuple[int, int]], "array[int]", memoryview]
+
+_TEXTS = {
+    "F1": "lump missing after the label",
+    "F2": "lump outside its file",
+    "F3": "linedef vertex names none",
+    "F4": "linedef side names none",
+    "F5": "sidedef sector names none",
+    "F6": "seg vertex names none",
+    "F7": "seg linedef names none",
+    "F8": "seg side is not 0 or 1",
+    "F9": "seg's linedef has no side there",
+    "F10": "ssector's segs out of range",
+    "F11": "child names nothing",
+    "F12": "node origin out of range",
+    "F13": "node named twice or root named",
+    "F14": "node not reached",
+    "F15": "ssector named more than once",
+    "F16": "ssector not reached",
+    "F17": "no ssector",
+    "F18": "more than 32767 nodes",
+    "N1": "lump name differs",
+    "N2": "bytes left over",
+    "N3": "two-sided flag without side 1",
+    "N4": "no side 0",
+    "N5": "linedef of no length",
+    "N6": "ssector without segs",
+    "N7": "partition without direction",
+    "N8": "REJECT size",
+    "N9": "BLOCKMAP short",
+    "N10": "block list faulty",
+    "N11": "no player 1 start",
+    "N12": "vertex out of range",
+}
+_CODES = list(_TEXTS)
+
+
+class _Point(ctypes.Structure):
+    _fields_ = [("x", ctypes.c_int32), ("y", ctypes.c_int32)]
+
+
+class _Place(ctypes.Structure):
+    _fields_ = [("ssector", ctypes.c_uint16), ("sector", ctypes.c_uint16)]
+
+
+class _Finding(ctypes.Structure):
+    _fields_ = [("code", ctypes.c_uint32), ("index", ctypes.c_uint32)]
+
+
+class _Totals(ctypes.Structure):
+    _fields_ = [("faults", ctypes.c_size_t), ("notes", ctypes.c_size_t)]
+
+
+class _Rect(ctypes.Structure):
+    _fields_ = [(name, ctypes.c_int32) for name in ("x0", "y0", "x1", "y1")]
+
+
+class _Count(ctypes.Structure):
+    _fields_ = [("sector", ctypes.c_uint32), ("points", ctypes.c_uint32)]
+
+
+class _Lump(ctypes.Structure):
+    _fields_ = [(name, ctypes.c_size_t) for name in ("entry", "place", "size")]
+
+
+class _Block(ctypes.Structure):
+    _fields_ = [("column", ctypes.c_uint32), ("row", ctypes.c_uint32), ("first", ctypes.c_size_t), ("count", ctypes.c_size_t)]
+
+
+_HEADER = ("version", "skill", "episode", "map", "deathmatch", "respawn", "fast", "no_monsters", "viewpoint")
+
+
+class _Demo(ctypes.Structure):
+    _fields_ = [
+        ("commands", ctypes.c_size_t),
+        ("after", ctypes.c_size_t),
+        ("players", ctypes.c_uint32),
+        *((name, ctypes.c_uint8) for name in _HEADER),
+        ("player", ctypes.c_uint8 * 4),
+    ]
+
+
+class _Command(ctypes.Structure):
+    _fields_ = [("turn", ctypes.c_uint16), ("forward", ctypes.c_int8), ("side", ctypes.c_int8), ("buttons", ctypes.c_uint8)]
+
+
+def _library() -> ctypes.CDLL:
+    here = os.path.dirname(os.path.abspath(__file__))
+    beside = os.path.join(here, os.pardir, "out", "lib", "libwadlook.so")
+    so = ctypes.CDLL(beside if os.path.exists(beside) else "libwadlook.so")
+    bytes_in = [ctypes.c_void_p, ctypes.c_size_t]
+    level = [*bytes_in, *bytes_in, ctypes.c_bool]
+    takes = {
+        "points": [*level, *bytes_in, *bytes_in],
+        "prepare": [*level, *bytes_in, ctypes.c_void_p],
+        "point": [*bytes_in, *bytes_in, _Point],
+        "census": [*level, ctypes.c_void_p, *bytes_in, ctypes.c_void_p],
+        "audit": [*level, *bytes_in, ctypes.c_void_p],
+        "find": [*bytes_in, *bytes_in, ctypes.c_size_t, ctypes.c_void_p],
+        "sight": [*bytes_in, ctypes.c_uint32, ctypes.c_uint32, ctypes.c_uint32, ctypes.c_void_p],
+        "block": [*bytes_in, ctypes.c_bool, _Point, ctypes.c_void_p],
+        "extract": [*bytes_in, *bytes_in, *bytes_in, ctypes.c_void_p],
+        "demo": [*bytes_in, *bytes_in, ctypes.c_void_p],
+    }
+    for name, types in takes.items():
+        call = getattr(so, f"wadlook_{name}")
+        call.argtypes = types
+        call.restype = _Place if name == "point" else ctypes.c_uint32
+    return so
+
+
+_so = _library()
+
+
+def _stop_at(status: int, what: str = "") -> None:
+    if status == Status.MEMORY:
+        raise MemoryError(f"{what}: no memory left" if what else "no memory left")
+    if status:
+        raise WadlookError(status, what)
+
+
+def _is_buffer(points: Points) -> bool:
+    try:
+        memoryview(points)  # type: ignore[arg-type]
+    except TypeError:
+        return False
+    return True
+
+
+def _points_of(points: Points) -> tuple[ctypes.Array[_Point], int]:
+    """The points as the library reads them: the buffer itself, where it is one and can be written to."""
+    if not _is_buffer(points):
+        points = array("i", (number for x, y in points for number in (x, y)))
+    flat = memoryview(points)  # type: ignore[arg-type]
+    if flat.itemsize != 4 or flat.format not in ("i", "l", "<i", "=i") or not flat.c_contiguous or flat.nbytes % 8:
+        raise TypeError("points in a buffer are pairs of 32-bit integers without gaps, as array('i') or numpy's int32")
+    count = flat.nbytes // 8
+    if count == 0:
+        return (_Point * 1)(), 0
+    if flat.readonly:
+        return (_Point * count).from_buffer_copy(flat), count
+    return (_Point * count).from_buffer(flat), count
+
+
+def _fit(*numbers: int) -> None:
+    if not all(-(2**31) <= number < 2**31 for number in numbers):
+        raise OverflowError("a coordinate doesn't fit 32 bits")
+
+
+class Wad:
+    """A WAD file: its path, or its bytes, which are lent where they are `bytes`, a `bytearray` or a writable buffer."""
+
+    def __init__(self, source: Union[str, "os.PathLike[str]", bytes, bytearray, memoryview]) -> None:
+        if isinstance(source, (str, os.PathLike)):
+            self.name = os.fspath(source)
+            with open(source, "rb") as file:
+                source = file.read()
+        else:
+            self.name = ""
+        view = memoryview(source)
+        self._held = bytes(source) if view.readonly and not isinstance(source, bytes) else source
+        self._size = view.nbytes
+        if isinstance(self._held, bytes):
+            self._at = ctypes.cast(ctypes.c_char_p(self._held), ctypes.c_void_p).value or 0
+        else:
+            self._held = (ctypes.c_char * max(self._size, 1)).from_buffer(self._held)
+            self._at = ctypes.addressof(self._held)
+
+    def find(self, name: str, after: int = 0) -> Lump:
+        """The entry that many entries behind the last one of a name; behind a level's label 1 to 10 are its lumps."""
+        asked, lump = name.encode(), _Lump()
+        _stop_at(_so.wadlook_find(self._at, self._size, asked, len(asked), after, ctypes.byref(lump)), name)
+        return Lump(lump.entry, lump.place, lump.size)
+
+    def lump(self, name: str, after: int = 0) -> memoryview:
+        """The bytes of that entry's lump, lent."""
+        found = self.find(name, after)
+        return memoryview(self._held).cast("B")[found.place : found.place + found.size]
+
+    def level(self, name: str, wide: bool = False) -> Level:
+        """The level of a name, its indexes read as unsigned where `wide` says so."""
+        return Level(self, name, wide)
+
+    def demo(self, name: str) -> Demo:
+        """The demo in the lump of a name."""
+        return read_demo(self.lump(name))
+
+
+class Level:
+    """A level of a file. What asks for a sound level raises `WadlookError` with `Status.UNSOUND` at another."""
+
+    def __init__(self, wad: Wad, name: str, wide: bool = False) -> None:
+        self.wad, self.name, self.wide = wad, name, wide
+        self._asked = name.encode()
+        self._audited: list[Finding] | None = None
+        self._prepared: tuple[Lump, ctypes.Array[ctypes.c_uint16], int] | None = None
+        wad.find(name)
+
+    def __repr__(self) -> str:
+        return f"<Level {self.name!r} of {self.wad.name!r}>"
+
+    def _words(self) -> tuple[int, int, bytes, int, bool]:
+        return self.wad._at, self.wad._size, self._asked, len(self._asked), self.wide
+
+    @property
+    def findings(self) -> list[Finding]:
+        """The level's faults and then its notes, by code and then by index."""
+        if self._audited is None:
+            room, totals = 64, _Totals()
+            while True:
+                found = (_Finding * room)()
+                _stop_at(_so.wadlook_audit(*self._words(), found, room, ctypes.byref(totals)), self.name)
+                count = totals.faults + totals.notes
+                if count <= room:
+                    break
+                room = count
+            self._audited = [Finding(_CODES[it.code], it.index, _TEXTS[_CODES[it.code]]) for it in found[:count]]
+        return self._audited
+
+    @property
+    def faults(self) -> list[Finding]:
+        """Those of its findings that are faults: none of a sound level."""
+        return [it for it in self.findings if it.code[0] == "F"]
+
+    @property
+    def notes(self) -> list[Finding]:
+        """Those of its findings that are notes."""
+        return [it for it in self.findings if it.code[0] == "N"]
+
+    @property
+    def is_sound(self) -> bool:
+        """Whether it has no fault."""
+        return not self.faults
+
+    def _places(self, points: Points) -> tuple[array[int], int]:
+        given, count = _points_of(points)
+        told = array("H", bytes(4 * max(count, 1)))
+        out = (_Place * max(count, 1)).from_buffer(told)
+        _stop_at(_so.wadlook_points(*self._words(), given, count, out, count), self.name)
+        return told, count
+
+    def sectors(self, points: Points) -> Union[list[Union[int, None]], memoryview]:
+        """The sector of each point.
+
+        Of pairs `(x, y)`: a list, with None where a point is out of range. Of a buffer of 32-bit integers x, y, x, y, .. (an
+        `array('i')`, or numpy's int32 of two columns), which isn't copied unless it is read-only: a memoryview of unsigned
+        16-bit integers, which numpy takes as it is, with NOWHERE where a point is out of range.
+        """
+        told, count = self._places(points)
+        if _is_buffer(points):
+            return memoryview(told)[1 : 2 * count : 2]
+        return [None if told[k] == NOWHERE else told[k + 1] for k in range(0, 2 * count, 2)]
+
+    def places(self, points: Points) -> list[Union[Place, None]]:
+        """The sector and the ssector of each point, None where one is out of range."""
+        told, count = self._places(points)
+        return [None if told[k] == NOWHERE else Place(told[k + 1], told[k]) for k in range(0, 2 * count, 2)]
+
+    def place(self, x: int, y: int) -> Union[Place, None]:
+        """The sector and the ssector of one point. The level is audited at the first call alone."""
+        _fit(x, y)
+        if self._prepared is None:
+            count, room = ctypes.c_size_t(), 32768  # no sound level has more ssectors
+            sectors = (ctypes.c_uint16 * room)()
+            status = _so.wadlook_prepare(*self._words(), sectors, room, ctypes.byref(count))
+            _stop_at(Status.UNSOUND if status == Status.NO_ROOM else status, self.name)
+            self._prepared = self.wad.find(self.name, 7), sectors, count.value
+        nodes, sectors, count = self._prepared
+        told = _so.wadlook_point(self.wad._at + nodes.place, nodes.size, sectors, count, _Point(x, y))
+        return None if told.ssector == NOWHERE else Place(told.sector, told.ssector)
+
+    def census(self, x0: int, y0: int, x1: int, y1: int) -> dict[int, int]:
+        """How many whole points of the columns x0 to x1 and the rows y0 to y1 lie in each sector, of those that have some."""
+        _fit(x0, y0, x1, y1)
+        rect, count, room = _Rect(x0, y0, x1, y1), ctypes.c_size_t(), 256
+        while True:
+            counts = (_Count * room)()
+            status = _so.wadlook_census(*self._words(), ctypes.byref(rect), counts, room, ctypes.byref(count))
+            _stop_at(status, self.name)
+            if count.value <= room:
+                return {it.sector: it.points for it in counts[: count.value]}
+            room = count.value
+
+    def is_blocked(self, a: int, b: int) -> Union[bool, None]:
+        """Whether REJECT refuses the sight from sector a to sector b, None where it ends before their bit."""
+        reject, count = self.wad.find(self.name, 9), self.wad.find(self.name, 8).size // 26
+        if not (0 <= a < count and 0 <= b < count):
+            raise WadlookError(Status.NO_SECTOR, self.name)
+        bit = ctypes.c_uint32()
+        status = _so.wadlook_sight(self.wad._at + reject.place, reject.size, count, a, b, ctypes.byref(bit))
+        if status == Status.UNKNOWN:
+            return None
+        _stop_at(status, self.name)
+        return bool(bit.value)
+
+    def block(self, x: int, y: int) -> Union[Block, None]:
+        """The block that holds a point and its list, None where no block does."""
+        _fit(x, y)
+        lump, block = self.wad.find(self.name, 10), _Block()
+        at = self.wad._at + lump.place
+        status = _so.wadlook_block(at, lump.size, self.wide, _Point(x, y), ctypes.byref(block))
+        if status == Status.NO_BLOCK:
+            return None
+        _stop_at(status, self.name)
+        words = ctypes.string_at(at + 2 * block.first, 2 * block.count)
+        signed = not self.wide
+        lines = (int.from_bytes(words[k : k + 2], "little", signed=signed) for k in range(0, len(words), 2))
+        return Block(block.column, block.row, tuple(lines))
+
+    def extract(self) -> bytes:
+        """A PWAD of the level alone: its label and its ten lumps."""
+        words, written = self._words()[:4], ctypes.c_size_t()
+        status = _so.wadlook_extract(*words, (ctypes.c_char * 1)(), 0, ctypes.byref(written))
+        if status != Status.NO_ROOM:
+            _stop_at(status, self.name)
+        out = (ctypes.c_char * written.value)()
+        _stop_at(_so.wadlook_extract(*words, out, written.value, ctypes.byref(written)), self.name)
+        return out.raw
+
+
+def read_demo(source: Union[bytes, bytearray, memoryview]) -> Demo:
+    """The demo that bytes hold."""
+    given, info, room = bytes(source), _Demo(), 4096
+    while True:
+        commands = (_Command * room)()
+        _stop_at(_so.wadlook_demo(given, len(given), commands, room, ctypes.byref(info)))
+        if info.commands <= room:
+            break
+        room = info.commands
+    listed = [Command(it.forward, it.side, it.turn, it.buttons) for it in commands[: info.commands]]
+    header = {name: getattr(info, name) for name in _HEADER}
+    return Demo(**header, players=tuple(info.player), commands=listed, after=info.after)

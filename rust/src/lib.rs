@@ -1,0 +1,367 @@
+//! Proved calls over the levels of Doom's WAD files: safe Rust over `libwadlook`.
+//!
+//! ```
+//! use wadlook::{Point, Wad};
+//!
+//! let bytes = std::fs::read("../sample/base.wad").unwrap();
+//! let level = Wad::new(&bytes).level("E1M1");
+//! let places = level.places(&[Point { x: 0, y: 5 }])?;
+//! assert_eq!(places[0].map(|place| place.sector), Some(1));
+//! # Ok::<(), wadlook::Refused>(())
+//! ```
+//!
+//! `include/wadlook.h` says what each call promises. These declarations aren't checked against it but by tests. Each safe
+//! function owes the library slices of memory that is borrowed for the call, which is what its types say.
+#![no_std]
+#![warn(missing_docs)]
+
+extern crate alloc;
+
+use alloc::{vec, vec::Vec};
+
+mod raw;
+mod refused;
+
+pub use refused::Refused;
+
+/// A point, in map units from -16384 to 16383.
+#[repr(C)]
+#[derive(Clone, Copy, Debug, Default, PartialEq, Eq)]
+pub struct Point {
+    /// To the east.
+    pub x: i32,
+    /// To the north.
+    pub y: i32,
+}
+
+/// Where a point lies.
+#[repr(C)]
+#[derive(Clone, Copy, Debug, Default, PartialEq, Eq)]
+pub struct Place {
+    /// The number of the ssector.
+    pub ssector: u16,
+    /// The number of its sector.
+    pub sector: u16,
+}
+
+impl Place {
+    /// The place, or None of a point that was out of range.
+    pub fn somewhere(self) -> Option<Place> {
+        (self.ssector != u16::MAX).then_some(self)
+    }
+}
+
+/// The whole points of the columns x0 to x1 and the rows y0 to y1, with both ends.
+#[repr(C)]
+#[derive(Clone, Copy, Debug, PartialEq, Eq)]
+#[allow(missing_docs)]
+pub struct Rect {
+    pub x0: i32,
+    pub y0: i32,
+    pub x1: i32,
+    pub y1: i32,
+}
+
+/// A sector, and how many of a rectangle's points lie in it.
+#[repr(C)]
+#[derive(Clone, Copy, Debug, Default, PartialEq, Eq)]
+#[allow(missing_docs)]
+pub struct Count {
+    pub sector: u32,
+    pub points: u32,
+}
+
+/// An entry's number, from 0, and its lump: `size` bytes of the file from `place` on.
+#[repr(C)]
+#[derive(Clone, Copy, Debug, Default, PartialEq, Eq)]
+#[allow(missing_docs)]
+pub struct Lump {
+    pub entry: usize,
+    pub place: usize,
+    pub size: usize,
+}
+
+/// What can be found at a level.
+#[derive(Clone, Copy, Debug, PartialEq, Eq)]
+pub enum Code {
+    /// F1 to F18: the level isn't sound.
+    Fault(u32),
+    /// N1 to N12.
+    Note(u32),
+}
+
+/// A fault or a note, and the record or lump at which it holds.
+#[derive(Clone, Copy, Debug, PartialEq, Eq)]
+#[allow(missing_docs)]
+pub struct Finding {
+    pub code: Code,
+    pub index: u32,
+}
+
+/// A block of BLOCKMAP, and its list's words as they stand, two bytes each, which [`Block::lines`] reads.
+#[derive(Clone, Copy, Debug, PartialEq, Eq)]
+#[allow(missing_docs)]
+pub struct Block<'a> {
+    pub column: u32,
+    pub row: u32,
+    bytes: &'a [u8],
+    wide: bool,
+}
+
+impl<'a> Block<'a> {
+    /// The numbers of the list. The first is mostly 0 and no linedef.
+    pub fn lines(&self) -> impl Iterator<Item = i32> + 'a {
+        let wide = self.wide;
+        self.bytes.chunks_exact(2).map(move |word| {
+            let number = u16::from_le_bytes([word[0], word[1]]);
+            if wide { i32::from(number) } else { i32::from(number as i16) }
+        })
+    }
+}
+
+/// What one player does in one tic.
+#[repr(C)]
+#[derive(Clone, Copy, Debug, Default, PartialEq, Eq)]
+#[allow(missing_docs)]
+pub struct Command {
+    pub turn: u16,
+    pub forward: i8,
+    pub side: i8,
+    pub buttons: u8,
+}
+
+/// What a demo's header says, and how many commands and bytes after the end marker there are.
+#[repr(C)]
+#[derive(Clone, Copy, Debug, Default, PartialEq, Eq)]
+#[allow(missing_docs)]
+pub struct DemoInfo {
+    pub commands: usize,
+    pub after: usize,
+    pub players: u32,
+    pub version: u8,
+    pub skill: u8,
+    pub episode: u8,
+    pub map: u8,
+    pub deathmatch: u8,
+    pub respawn: u8,
+    pub fast: u8,
+    pub no_monsters: u8,
+    pub viewpoint: u8,
+    pub player: [u8; 4],
+}
+
+/// A WAD file's bytes.
+#[derive(Clone, Copy)]
+pub struct Wad<'a> {
+    bytes: &'a [u8],
+}
+
+impl<'a> Wad<'a> {
+    /// The file of these bytes. They are read at each call.
+    pub fn new(bytes: &'a [u8]) -> Wad<'a> {
+        Wad { bytes }
+    }
+
+    /// The entry that many entries behind the last one of a name; behind a level's label 1 to 10 are its lumps.
+    pub fn find(self, name: &str, after: usize) -> Result<Lump, Refused> {
+        let mut lump = Lump::default();
+        // SAFETY: each pointer and length are those of one slice that is borrowed for the call; `lump` is borrowed mutably.
+        let status = unsafe {
+            raw::wadlook_find(self.bytes.as_ptr(), self.bytes.len(), name.as_ptr(), name.len(), after, &mut lump)
+        };
+        Refused::of(status).map(|()| lump)
+    }
+
+    /// The bytes of that entry's lump.
+    pub fn lump(self, name: &str, after: usize) -> Result<&'a [u8], Refused> {
+        let lump = self.find(name, after)?;
+        Ok(&self.bytes[lump.place..lump.place + lump.size])
+    }
+
+    /// The level of a name, whose indexes are read as signed. Each call looks it up, and answers where there is none.
+    pub fn level(self, name: &'a str) -> Level<'a> {
+        Level { wad: self, name, wide: false }
+    }
+}
+
+/// A level of a file. What asks for a sound one answers `Unsound` at another.
+#[derive(Clone, Copy)]
+pub struct Level<'a> {
+    wad: Wad<'a>,
+    name: &'a str,
+    wide: bool,
+}
+
+impl<'a> Level<'a> {
+    /// The same level with its indexes read as unsigned.
+    pub fn wide(self) -> Level<'a> {
+        Level { wide: true, ..self }
+    }
+
+    /// Writes the place of each point to the front of `places`, which may be longer. Takes no memory but what the audit takes.
+    pub fn places_into(&self, points: &[Point], places: &mut [Place]) -> Result<(), Refused> {
+        let (wad, name) = (self.wad.bytes, self.name);
+        // SAFETY: as in `find`.
+        Refused::of(unsafe {
+            raw::wadlook_points(
+                wad.as_ptr(), wad.len(), name.as_ptr(), name.len(), self.wide,
+                points.as_ptr(), points.len(), places.as_mut_ptr(), places.len(),
+            )
+        })
+    }
+
+    /// The place of each point, None where one is out of range.
+    pub fn places(&self, points: &[Point]) -> Result<Vec<Option<Place>>, Refused> {
+        let mut places = vec![Place::default(); points.len()];
+        self.places_into(points, &mut places)?;
+        Ok(places.into_iter().map(Place::somewhere).collect())
+    }
+
+    /// The level audited once, for one point after another.
+    pub fn prepare(&self) -> Result<Prepared<'a>, Refused> {
+        let (wad, name) = (self.wad.bytes, self.name);
+        let mut sectors = vec![0; 32768]; // no sound level has more ssectors
+        let mut count = 0;
+        // SAFETY: as in `find`.
+        let status = unsafe {
+            raw::wadlook_prepare(
+                wad.as_ptr(), wad.len(), name.as_ptr(), name.len(), self.wide,
+                sectors.as_mut_ptr(), sectors.len(), &mut count,
+            )
+        };
+        match Refused::of(status) {
+            Ok(()) => {}
+            Err(Refused::NoRoom) => return Err(Refused::Unsound),
+            Err(why) => return Err(why),
+        }
+        sectors.truncate(count);
+        Ok(Prepared { nodes: self.wad.lump(self.name, 7)?, sectors })
+    }
+
+    /// How many points of a rectangle lie in each sector that has some, by sectors.
+    pub fn census(&self, rect: Rect) -> Result<Vec<Count>, Refused> {
+        let (wad, name) = (self.wad.bytes, self.name);
+        let mut counts = vec![Count::default(); 256];
+        loop {
+            let mut count = 0;
+            // SAFETY: as in `find`.
+            Refused::of(unsafe {
+                raw::wadlook_census(
+                    wad.as_ptr(), wad.len(), name.as_ptr(), name.len(), self.wide,
+                    &rect, counts.as_mut_ptr(), counts.len(), &mut count,
+                )
+            })?;
+            let all = count <= counts.len();
+            counts.resize(count, Count::default());
+            if all {
+                return Ok(counts);
+            }
+        }
+    }
+
+    /// The level's faults and then its notes, by code and then by index.
+    pub fn findings(&self) -> Result<Vec<Finding>, Refused> {
+        let (wad, name) = (self.wad.bytes, self.name);
+        let mut found = vec![raw::Finding { code: 0, index: 0 }; 64];
+        loop {
+            let mut totals = raw::Totals::default();
+            // SAFETY: as in `find`.
+            Refused::of(unsafe {
+                raw::wadlook_audit(
+                    wad.as_ptr(), wad.len(), name.as_ptr(), name.len(), self.wide,
+                    found.as_mut_ptr(), found.len(), &mut totals,
+                )
+            })?;
+            let count = totals.faults + totals.notes;
+            if count <= found.len() {
+                return Ok(found[..count].iter().map(told).collect());
+            }
+            found.resize(count, raw::Finding { code: 0, index: 0 });
+        }
+    }
+
+    /// Whether REJECT refuses the sight from a sector to another; `Unknown` where it ends before their bit.
+    pub fn is_blocked(&self, from: u32, to: u32) -> Result<bool, Refused> {
+        let reject = self.wad.lump(self.name, 9)?;
+        let sectors = self.wad.find(self.name, 8)?.size / 26;
+        let mut blocked = 0;
+        // SAFETY: as in `find`.
+        let status =
+            unsafe { raw::wadlook_sight(reject.as_ptr(), reject.len(), sectors as u32, from, to, &mut blocked) };
+        Refused::of(status).map(|()| blocked == 1)
+    }
+
+    /// The block that holds a point, and its list.
+    pub fn block(&self, point: Point) -> Result<Block<'a>, Refused> {
+        let lump = self.wad.lump(self.name, 10)?;
+        let mut block = raw::Block::default();
+        // SAFETY: as in `find`.
+        Refused::of(unsafe { raw::wadlook_block(lump.as_ptr(), lump.len(), self.wide, point, &mut block) })?;
+        let bytes = &lump[2 * block.first..2 * (block.first + block.count)];
+        Ok(Block { column: block.column, row: block.row, bytes, wide: self.wide })
+    }
+
+    /// A PWAD of the level alone.
+    pub fn extract(&self) -> Result<Vec<u8>, Refused> {
+        let (wad, name) = (self.wad.bytes, self.name);
+        let mut out = Vec::new();
+        loop {
+            let mut written = 0;
+            // SAFETY: as in `find`.
+            let status = unsafe {
+                raw::wadlook_extract(
+                    wad.as_ptr(), wad.len(), name.as_ptr(), name.len(),
+                    out.as_mut_ptr(), out.len(), &mut written,
+                )
+            };
+            match Refused::of(status) {
+                Err(Refused::NoRoom) => out.resize(written, 0),
+                ended => return ended.map(|()| out),
+            }
+        }
+    }
+}
+
+fn told(finding: &raw::Finding) -> Finding {
+    let code = match finding.code {
+        place @ 0..=17 => Code::Fault(place + 1),
+        place => Code::Note(place - 17),
+    };
+    Finding { code, index: finding.index }
+}
+
+/// A sound level that was audited once.
+pub struct Prepared<'a> {
+    nodes: &'a [u8],
+    sectors: Vec<u16>,
+}
+
+impl Prepared<'_> {
+    /// The place of a point, None where it is out of range. Takes no memory.
+    pub fn place(&self, point: Point) -> Option<Place> {
+        // SAFETY: as in `find`.
+        let place = unsafe {
+            raw::wadlook_point(
+                self.nodes.as_ptr(), self.nodes.len(), self.sectors.as_ptr(), self.sectors.len(), point,
+            )
+        };
+        place.somewhere()
+    }
+}
+
+/// What a demo's bytes say, and its commands: of each tic one for each player that takes part.
+pub fn read_demo(bytes: &[u8]) -> Result<(DemoInfo, Vec<Command>), Refused> {
+    let mut commands = vec![Command::default(); 4096];
+    loop {
+        let mut info = DemoInfo::default();
+        // SAFETY: as in `find`.
+        Refused::of(unsafe {
+            raw::wadlook_demo(bytes.as_ptr(), bytes.len(), commands.as_mut_ptr(), commands.len(), &mut info)
+        })?;
+        let all = info.commands <= commands.len();
+        commands.resize(info.commands, Command::default());
+        if all {
+            return Ok((info, commands));
+        }
+    }
+}

@@ -1,0 +1,132 @@
+//! The calls on worked cases over the sample level (`sample/README.md`).
+
+use wadlook::{read_demo, Code, Command, Count, Finding, Lump, Place, Point, Rect, Refused, Wad};
+
+fn base() -> Vec<u8> {
+    std::fs::read(concat!(env!("CARGO_MANIFEST_DIR"), "/../sample/base.wad")).unwrap()
+}
+
+fn with_words(place: usize, words: &[i16]) -> Vec<u8> {
+    let mut wad = base();
+    for (k, word) in words.iter().enumerate() {
+        wad[place + 2 * k..place + 2 * k + 2].copy_from_slice(&word.to_le_bytes());
+    }
+    wad
+}
+
+fn sector(level: wadlook::Level<'_>, x: i32, y: i32) -> Result<Option<u16>, Refused> {
+    Ok(level.places(&[Point { x, y }])?[0].map(|place| place.sector))
+}
+
+#[test]
+fn points() {
+    let wad = base();
+    let level = Wad::new(&wad).level("E1M1");
+    assert_eq!(sector(level, 1, 5), Ok(Some(0)));
+    assert_eq!(sector(level, 0, 5), Ok(Some(1)));
+    assert_eq!(sector(level.wide(), -1, 5), Ok(Some(1)));
+    assert_eq!(sector(level, 16384, 0), Ok(None));
+    assert_eq!(level.places(&[]), Ok(vec![]));
+    let mut places = [Place::default(); 1];
+    assert_eq!(level.places_into(&[Point::default(); 2], &mut places), Err(Refused::NoRoom));
+    assert_eq!(sector(Wad::new(&wad).level("E2M9"), 0, 5), Err(Refused::NoName));
+    assert_eq!(sector(Wad::new(&wad[..11]).level("E1M1"), 0, 5), Err(Refused::Short));
+    assert_eq!(sector(Wad::new(&[]).level("E1M1"), 0, 5), Err(Refused::Short));
+}
+
+#[test]
+fn one_point_after_another() {
+    let wad = base();
+    let level = Wad::new(&wad).level("e1m1").prepare().unwrap();
+    assert_eq!(level.place(Point { x: 0, y: 5 }), Some(Place { ssector: 1, sector: 1 }));
+    assert_eq!(level.place(Point { x: 1, y: 5 }), Some(Place { ssector: 0, sector: 0 }));
+    assert_eq!(level.place(Point { x: 0, y: -16385 }), None);
+}
+
+#[test]
+fn faults() {
+    let wad = with_words(136 + 24, &[-32768, -32768]); // one ssector twice
+    let level = Wad::new(&wad).level("E1M1");
+    let fault = |code, index| Finding { code: Code::Fault(code), index };
+    assert_eq!(level.findings(), Ok(vec![fault(15, 0), fault(16, 1)]));
+    assert_eq!(sector(level, 0, 5), Err(Refused::Unsound));
+    assert_eq!(level.prepare().err(), Some(Refused::Unsound));
+    assert_eq!(Wad::new(&base()).level("E1M1").findings(), Ok(vec![]));
+    assert_eq!(Wad::new(&base()).level("THINGS").findings(), Ok(vec![fault(1, 10)]));
+    let mut renamed = base();
+    renamed[233 + 16 * 7 + 12] = b'Z';
+    let note = Finding { code: Code::Note(1), index: 7 };
+    assert_eq!(Wad::new(&renamed).level("E1M1").findings(), Ok(vec![note]));
+}
+
+#[test]
+fn census() {
+    let wad = base();
+    let level = Wad::new(&wad).level("E1M1");
+    let counts = vec![Count { sector: 0, points: 2 }, Count { sector: 1, points: 4 }];
+    assert_eq!(level.census(Rect { x0: -1, y0: 0, x1: 1, y1: 1 }), Ok(counts));
+    assert_eq!(level.census(Rect { x0: 1, y0: 0, x1: 0, y1: 0 }), Err(Refused::NoRect));
+}
+
+#[test]
+fn lumps_sight_and_blocks() {
+    let wad = base();
+    let level = Wad::new(&wad).level("E1M1");
+    assert_eq!(Wad::new(&wad).find("E1M1", 7), Ok(Lump { entry: 7, place: 136, size: 28 }));
+    assert_eq!(Wad::new(&wad).lump("REJECT", 0), Ok(&[0][..]));
+    assert_eq!(Wad::new(&wad).lump("REJECT", 2), Err(Refused::LumpMissing));
+    assert_eq!(level.is_blocked(0, 1), Ok(false));
+    assert_eq!(level.is_blocked(2, 1), Err(Refused::NoSector));
+    let block = level.block(Point { x: 0, y: 5 }).unwrap();
+    assert_eq!((block.column, block.row, block.lines().collect::<Vec<_>>()), (0, 0, vec![0, 0]));
+    assert_eq!(level.block(Point { x: -9, y: 5 }).err(), Some(Refused::NoBlock));
+    let lists = with_words(217, &[0, 0, 1, 1, 5, 0, -2, -1]);
+    let level = Wad::new(&lists).level("E1M1");
+    let lines = |level: wadlook::Level<'_>| level.block(Point::default()).unwrap().lines().collect::<Vec<_>>();
+    assert_eq!((lines(level), lines(level.wide())), (vec![0, -2], vec![0, 65534]));
+}
+
+#[test]
+fn a_level_alone() {
+    let mut wad = base();
+    wad[0] = b'I';
+    assert_eq!(Wad::new(&wad).level("E1M1").extract(), Ok(base()));
+    assert_eq!(Wad::new(&wad).level("E2M9").extract(), Err(Refused::NoName));
+}
+
+#[test]
+fn demos() {
+    let bytes = [109, 3, 1, 1, 0, 0, 0, 0, 0, 1, 0, 0, 0, 25, 0, 0, 0, 206, 128, 255, 128, 128, 7];
+    let (info, commands) = read_demo(&bytes).unwrap();
+    assert_eq!((info.version, info.map, info.players, info.player, info.after), (109, 1, 1, [1, 0, 0, 0], 1));
+    assert_eq!(commands.len(), 2);
+    assert_eq!(commands[1], Command { turn: 255, forward: -50, side: -128, buttons: 128 });
+    assert_eq!(read_demo(&[]).err(), Some(Refused::DemoEmpty));
+    assert_eq!(Refused::DemoEmpty.to_string(), "a demo of no bytes");
+    let mut many = bytes[..13].to_vec();
+    many.resize(13 + 40000, 0);
+    many.push(128);
+    assert_eq!(read_demo(&many).unwrap().1.len(), 10000);
+}
+
+#[test]
+fn statuses_are_the_headers() {
+    let header = std::fs::read_to_string(concat!(env!("CARGO_MANIFEST_DIR"), "/../include/wadlook.h")).unwrap();
+    let numbers = header.lines().filter_map(|line| line.strip_prefix("    WADLOOK_")?.split_once(" = "));
+    let told: Vec<(String, u32)> = numbers
+        .map(|(name, rest)| {
+            let number = rest.split(|c: char| !c.is_ascii_digit()).next().unwrap();
+            (name.replace('_', "").to_lowercase(), number.parse().unwrap())
+        })
+        .filter(|(_, number)| *number > 0)
+        .collect();
+    let all = [
+        Refused::Unsound, Refused::Memory, Refused::NoRoom, Refused::Short, Refused::Magic, Refused::Count,
+        Refused::Directory, Refused::NoName, Refused::LumpMissing, Refused::LumpOutside, Refused::TooLarge,
+        Refused::DemoEmpty, Refused::DemoVersion, Refused::DemoShort, Refused::DemoNoPlayer, Refused::DemoNoMarker,
+        Refused::NoRect, Refused::OutOfRange, Refused::NoBlockMap, Refused::NoBlock, Refused::OffsetOutside,
+        Refused::NoEnd, Refused::NoSector, Refused::Unknown,
+    ];
+    let own: Vec<(String, u32)> = all.iter().map(|why| (format!("{why:?}").to_lowercase(), *why as u32)).collect();
+    assert_eq!(own, told);
+}

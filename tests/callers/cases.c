@@ -1,0 +1,278 @@
+/* cases BASE: the calls on worked cases, each over the sample level or a copy of it with other bytes. What is wanted comes
+ * from the formats (sample/README.md), never from the library. The last line is `N passed, M failed`. */
+#include "wadlook.h"
+#include <stdio.h>
+#include <stdlib.h>
+#include <string.h>
+
+#define NAME(text) (const uint8_t *)(text), strlen(text)
+#define CHECK(what) check(what, #what, __LINE__)
+
+enum { BASE = 409, SSECTORS = 128, NODES = 136, REJECT = 216, BLOCKMAP = 217, DIRECTORY = 233 };
+
+static unsigned passed, failed;
+static uint8_t base[BASE], wad[BASE + 64];
+
+static void check(bool holds, const char *what, int line) {
+    if (holds) { passed++; return; }
+    failed++;
+    printf("FAILED line %d: %s\n", line, what);
+}
+
+/* The sample level again, as it stands in its file. */
+static void fresh(void) { memcpy(wad, base, BASE); }
+
+/* Words at a place of the copy. */
+static void put(size_t place, int count, const int *words) {
+    for (int i = 0; i < count; i++) { wad[place + 2 * i] = words[i] & 255; wad[place + 2 * i + 1] = words[i] >> 8 & 255; }
+}
+#define PUT(place, ...) put(place, sizeof (int[]){__VA_ARGS__} / sizeof(int), (int[]){__VA_ARGS__})
+
+/* Where the directory says of lump k, 0 for the label, that it lies; its size stands 4 bytes on, its name 8. */
+static size_t entry(int k) { return DIRECTORY + 16 * (size_t)k; }
+
+static uint32_t point(int x, int y, bool wide, wadlook_place *place) {
+    wadlook_point_at at = {x, y};
+    return wadlook_points(wad, BASE, NAME("E1M1"), wide, &at, 1, place, 1);
+}
+
+static bool at(int x, int y, unsigned sector, unsigned ssector) {
+    wadlook_place place = {0, 0};
+    return point(x, y, false, &place) == WADLOOK_DONE && place.sector == sector && place.ssector == ssector;
+}
+
+static void points(void) {
+    wadlook_place place = {7, 7};
+    fresh();
+    CHECK(at(1, 5, 0, 0));
+    CHECK(at(0, 5, 1, 1));
+    CHECK(at(-1, 5, 1, 1));
+    CHECK(at(16383, -16384, 0, 0));
+    CHECK(at(16384, 0, WADLOOK_NOWHERE, WADLOOK_NOWHERE));
+    CHECK(at(0, -16385, WADLOOK_NOWHERE, WADLOOK_NOWHERE));
+    CHECK(point(0, 5, true, &place) == WADLOOK_DONE && place.sector == 1);
+    wadlook_point_at two[] = {{1, 5}, {0, 5}};
+    wadlook_place places[] = {{7, 7}, {7, 7}, {7, 7}};
+    CHECK(wadlook_points(wad, BASE, NAME("e1m1"), false, two, 2, places, 3) == WADLOOK_DONE);
+    CHECK(places[0].sector == 0 && places[1].sector == 1 && places[2].sector == 7);
+    places[0].sector = 7;
+    CHECK(wadlook_points(wad, BASE, NAME("E1M1"), false, two, 2, places, 1) == WADLOOK_NO_ROOM && places[0].sector == 7);
+    CHECK(wadlook_points(wad, BASE, NAME("E1M1"), false, two, 0, places, 0) == WADLOOK_DONE);
+    CHECK(wadlook_points(wad, BASE, NAME("E2M9"), false, two, 1, places, 1) == WADLOOK_NO_NAME);
+    CHECK(wadlook_points(wad, BASE, NAME("THINGS"), false, two, 1, places, 1) == WADLOOK_LUMP_MISSING);
+    PUT(NODES, 0, 0, -1, 1); /* a partition to the north-west: its ties */
+    CHECK(at(0, 0, 0, 0) && at(1, -1, 1, 1) && at(-1, 1, 1, 1));
+    PUT(NODES, -16384, 16383, 32767, -32768); /* the greatest products */
+    CHECK(at(16383, -16384, 1, 1));
+}
+
+static void refusals(void) {
+    wadlook_place place = {7, 7};
+    fresh();
+    PUT(entry(7) + 4, 29, 0, 'X'); /* NODES of 29 bytes: a byte left over, which is a note alone */
+    CHECK(point(0, 5, false, &place) == WADLOOK_DONE);
+    PUT(entry(7) + 4, 0x7fff, 0x7fff);
+    CHECK(point(0, 5, false, &place) == WADLOOK_LUMP_OUTSIDE);
+    fresh();
+    PUT(NODES + 24, 32768, 32768); /* one ssector twice */
+    place.sector = 7;
+    CHECK(point(0, 5, false, &place) == WADLOOK_UNSOUND && place.sector == 7);
+    wadlook_point_at origin = {0, 0};
+    CHECK(wadlook_points(wad, 11, NAME("E1M1"), false, &origin, 1, &place, 1) == WADLOOK_SHORT);
+    fresh();
+    wad[0] = 'X';
+    CHECK(point(0, 5, false, &place) == WADLOOK_MAGIC);
+    fresh();
+    wad[7] = 255;
+    CHECK(point(0, 5, false, &place) == WADLOOK_COUNT);
+    fresh();
+    wad[4]++;
+    CHECK(point(0, 5, false, &place) == WADLOOK_DIRECTORY);
+}
+
+static void single_points(void) {
+    uint16_t sectors[3] = {7, 7, 7};
+    size_t count = 0;
+    fresh();
+    CHECK(wadlook_prepare(wad, BASE, NAME("E1M1"), false, sectors, 3, &count) == WADLOOK_DONE);
+    CHECK(count == 2 && sectors[0] == 0 && sectors[1] == 1 && sectors[2] == 7);
+    wadlook_place place = wadlook_point(wad + NODES, 28, sectors, count, (wadlook_point_at){0, 5});
+    CHECK(place.ssector == 1 && place.sector == 1);
+    place = wadlook_point(wad + NODES, 28, sectors, count, (wadlook_point_at){1, 5});
+    CHECK(place.ssector == 0 && place.sector == 0);
+    place = wadlook_point(wad + NODES, 28, sectors, count, (wadlook_point_at){16384, 5});
+    CHECK(place.ssector == WADLOOK_NOWHERE);
+    place = wadlook_point(wad + NODES, 28, sectors, 1, (wadlook_point_at){0, 5});
+    CHECK(place.ssector == WADLOOK_NOWHERE); /* a list that lacks the ssector */
+    place = wadlook_point(wad, 0, sectors, count, (wadlook_point_at){0, 5});
+    CHECK(place.ssector == 0); /* no nodes: ssector 0 is the whole level */
+    count = 9;
+    sectors[0] = 7;
+    CHECK(wadlook_prepare(wad, BASE, NAME("E1M1"), false, sectors, 1, &count) == WADLOOK_NO_ROOM);
+    CHECK(count == 2 && sectors[0] == 7);
+    PUT(NODES + 24, 0, 0); /* the root under itself: nodes that are no tree */
+    place = wadlook_point(wad + NODES, 28, sectors, 3, (wadlook_point_at){0, 5});
+    CHECK(place.ssector == WADLOOK_NOWHERE);
+    count = 9;
+    CHECK(wadlook_prepare(wad, BASE, NAME("E1M1"), false, sectors, 3, &count) == WADLOOK_UNSOUND && count == 9);
+}
+
+static void census(void) {
+    wadlook_rect rect = {-1, 0, 1, 1}, wrong = {1, 0, 0, 0};
+    wadlook_count counts[3] = {{7, 7}, {7, 7}, {7, 7}};
+    size_t count = 9;
+    fresh();
+    CHECK(wadlook_census(wad, BASE, NAME("E1M1"), false, &wrong, counts, 3, &count) == WADLOOK_NO_RECT && count == 9);
+    CHECK(wadlook_census(wad, BASE, NAME("E1M1"), false, &rect, counts, 1, &count) == WADLOOK_DONE && count == 2);
+    CHECK(counts[0].sector == 0 && counts[0].points == 2 && counts[1].points == 7);
+    CHECK(wadlook_census(wad, BASE, NAME("E1M1"), true, &rect, counts, 3, &count) == WADLOOK_DONE && count == 2);
+    CHECK(counts[1].sector == 1 && counts[1].points == 4 && counts[2].points == 7);
+    wadlook_rect large = {-512, -512, 511, 511};
+    CHECK(wadlook_census(wad, BASE, NAME("E1M1"), false, &large, counts, 3, &count) == WADLOOK_DONE);
+    CHECK(counts[0].points == 523264 && counts[1].points == 525312);
+}
+
+static void audit(void) {
+    wadlook_finding found[3] = {{99, 9}, {99, 9}, {99, 9}};
+    wadlook_totals totals = {9, 9};
+    fresh();
+    CHECK(wadlook_audit(wad, BASE, NAME("E1M1"), false, found, 3, &totals) == WADLOOK_DONE);
+    CHECK(totals.faults == 0 && totals.notes == 0 && found[0].code == 99);
+    PUT(NODES + 24, 32768, 32768); /* F15 0, F16 1 */
+    CHECK(wadlook_audit(wad, BASE, NAME("E1M1"), false, found, 1, &totals) == WADLOOK_DONE);
+    CHECK(totals.faults == 2 && totals.notes == 0);
+    CHECK(found[0].code == 14 && found[0].index == 0 && found[1].code == 99);
+    CHECK(wadlook_audit(wad, BASE, NAME("E1M1"), true, found, 3, &totals) == WADLOOK_DONE);
+    CHECK(found[1].code == 15 && found[1].index == 1 && found[2].code == 99);
+    fresh();
+    wad[entry(7) + 8 + 4] = 'Z'; /* N1 7: NODEZ */
+    CHECK(wadlook_audit(wad, BASE, NAME("E1M1"), false, found, 3, &totals) == WADLOOK_DONE);
+    CHECK(totals.faults == 0 && totals.notes == 1 && found[0].code == 18 && found[0].index == 7);
+    fresh();
+    wad[4] = 10; /* F1 10: nine lumps after the label */
+    CHECK(wadlook_audit(wad, BASE, NAME("E1M1"), false, found, 3, &totals) == WADLOOK_DONE);
+    CHECK(totals.faults == 1 && found[0].code == 0 && found[0].index == 10);
+    CHECK(wadlook_audit(wad, BASE, NAME("E2M9"), false, found, 3, &totals) == WADLOOK_NO_NAME);
+}
+
+static void lumps(void) {
+    wadlook_lump lump = {9, 9, 9};
+    fresh();
+    CHECK(wadlook_find(wad, BASE, NAME("E1M1"), 0, &lump) == WADLOOK_DONE && lump.entry == 0 && lump.size == 0);
+    CHECK(wadlook_find(wad, BASE, NAME("e1m1"), 7, &lump) == WADLOOK_DONE);
+    CHECK(lump.entry == 7 && lump.place == NODES && lump.size == 28);
+    CHECK(wadlook_find(wad, BASE, NAME("REJECT"), 0, &lump) == WADLOOK_DONE);
+    CHECK(lump.entry == 9 && lump.place == REJECT && lump.size == 1);
+    lump.entry = 77;
+    CHECK(wadlook_find(wad, BASE, NAME("REJECT"), 2, &lump) == WADLOOK_LUMP_MISSING && lump.entry == 77);
+    CHECK(wadlook_find(wad, BASE, NAME("REJECT"), SIZE_MAX, &lump) == WADLOOK_LUMP_MISSING);
+    CHECK(wadlook_find(wad, BASE, NAME("DEMO1"), 0, &lump) == WADLOOK_NO_NAME);
+    CHECK(wadlook_find(wad, BASE, NAME(""), 0, &lump) == WADLOOK_NO_NAME);
+    PUT(entry(9), -1, -1);
+    CHECK(wadlook_find(wad, BASE, NAME("REJECT"), 0, &lump) == WADLOOK_LUMP_OUTSIDE);
+    PUT(entry(9) + 4, 0, 0); /* no bytes, wherever they are */
+    CHECK(wadlook_find(wad, BASE, NAME("REJECT"), 0, &lump) == WADLOOK_DONE && lump.size == 0 && lump.place <= BASE);
+}
+
+static void sight(void) {
+    const uint8_t bits[] = {2};
+    uint32_t blocked = 9;
+    CHECK(wadlook_sight(bits, 1, 2, 0, 1, &blocked) == WADLOOK_DONE && blocked == 1);
+    CHECK(wadlook_sight(bits, 1, 2, 1, 0, &blocked) == WADLOOK_DONE && blocked == 0);
+    blocked = 9;
+    CHECK(wadlook_sight(bits, 1, 3, 2, 2, &blocked) == WADLOOK_UNKNOWN && blocked == 9);
+    CHECK(wadlook_sight(bits, 1, 2, 0, 2, &blocked) == WADLOOK_NO_SECTOR);
+    CHECK(wadlook_sight(bits, 1, 2, 2, 0, &blocked) == WADLOOK_NO_SECTOR);
+    CHECK(wadlook_sight(bits, 0, 2, 0, 0, &blocked) == WADLOOK_UNKNOWN);
+    CHECK(wadlook_sight(bits, 1, UINT32_MAX, UINT32_MAX - 1, 0, &blocked) == WADLOOK_UNKNOWN && blocked == 9);
+}
+
+/* The block of a point of the copy's BLOCKMAP lump, of so many bytes. */
+static uint32_t block(size_t size, bool wide, int x, int y, wadlook_block_at *found) {
+    return wadlook_block(wad + BLOCKMAP, size, wide, (wadlook_point_at){x, y}, found);
+}
+
+static void blocks(void) {
+    wadlook_block_at found = {9, 9, 9, 9};
+    fresh();
+    CHECK(block(16, false, 0, 5, &found) == WADLOOK_DONE);
+    CHECK(found.column == 0 && found.row == 0 && found.first == 5 && found.count == 2);
+    PUT(BLOCKMAP, 0, 0, 1, 1, 5, 0, 7, -1);
+    CHECK(block(16, false, 127, 127, &found) == WADLOOK_DONE && found.first == 5 && found.count == 2);
+    CHECK(block(16, false, 128, 0, &found) == WADLOOK_NO_BLOCK);
+    CHECK(block(16, false, -1, 0, &found) == WADLOOK_NO_BLOCK);
+    CHECK(block(16, false, 16384, 0, &found) == WADLOOK_OUT_OF_RANGE);
+    CHECK(block(14, false, 127, 127, &found) == WADLOOK_NO_END);
+    CHECK(block(8, false, 127, 127, &found) == WADLOOK_OFFSET_OUTSIDE);
+    CHECK(block(7, false, 127, 127, &found) == WADLOOK_NO_BLOCKMAP);
+    CHECK(found.column == 0 && found.first == 5 && found.count == 2);
+    PUT(BLOCKMAP, 0, 0, 2, 2, 9, 9, 9, 8, -1, 3, -1); /* lists of column 0 and 1, row 0 and 1 */
+    CHECK(block(22, false, 0, 0, &found) == WADLOOK_DONE && found.first == 9 && found.count == 1);
+    CHECK(block(22, false, 130, 255, &found) == WADLOOK_DONE);
+    CHECK(found.column == 1 && found.row == 1 && found.first == 8 && found.count == 0);
+    PUT(BLOCKMAP, 0, 0, -1, -1);
+    CHECK(block(16, false, 0, 5, &found) == WADLOOK_NO_BLOCK);
+
+    /* An offset of 32768 is a word under the wide reading alone. */
+    static uint8_t large[65540];
+    const uint8_t head[] = {0, 0, 0, 0, 1, 0, 1, 0, 0, 128};
+    memcpy(large, head, sizeof head);
+    large[65536] = 7;
+    large[65538] = large[65539] = 255;
+    wadlook_point_at there = {127, 127};
+    CHECK(wadlook_block(large, sizeof large, false, there, &found) == WADLOOK_OFFSET_OUTSIDE);
+    CHECK(wadlook_block(large, sizeof large, true, there, &found) == WADLOOK_DONE && found.first == 32768 && found.count == 1);
+}
+
+static void extract(void) {
+    uint8_t out[BASE + 16];
+    size_t written = 9;
+    fresh();
+    memset(out, 7, sizeof out);
+    CHECK(wadlook_extract(wad, BASE, NAME("E1M1"), out, BASE - 1, &written) == WADLOOK_NO_ROOM);
+    CHECK(written == BASE && out[0] == 7);
+    memcpy(wad, "IWAD", 4);
+    CHECK(wadlook_extract(wad, BASE, NAME("e1m1"), out, sizeof out, &written) == WADLOOK_DONE);
+    CHECK(written == BASE && memcmp(out, base, BASE) == 0 && out[BASE] == 7);
+    written = 9;
+    CHECK(wadlook_extract(wad, BASE, NAME("E2M9"), out, sizeof out, &written) == WADLOOK_NO_NAME && written == 9);
+}
+
+static void demo(void) {
+    const uint8_t bytes[] = {109, 3, 1, 1, 0, 0, 0, 0, 0, 1, 0, 0, 0, 25, 0, 0, 0, 206, 128, 255, 128, 128, 7};
+    wadlook_command commands[3] = {{7, 7, 7, 7}, {7, 7, 7, 7}, {7, 7, 7, 7}};
+    wadlook_demo_info info = {0};
+    CHECK(wadlook_demo(bytes, sizeof bytes, commands, 1, &info) == WADLOOK_DONE);
+    CHECK(info.commands == 2 && info.after == 1 && info.players == 1 && commands[0].forward == 25 && commands[1].turn == 7);
+    CHECK(info.version == 109 && info.skill == 3 && info.episode == 1 && info.map == 1 && info.player[0] == 1 && info.player[3] == 0);
+    CHECK(wadlook_demo(bytes, sizeof bytes, commands, 3, &info) == WADLOOK_DONE);
+    CHECK(commands[1].forward == -50 && commands[1].side == -128 && commands[1].turn == 255 && commands[1].buttons == 128);
+    CHECK(commands[2].forward == 7);
+    info.map = 99;
+    CHECK(wadlook_demo(bytes, 0, commands, 3, &info) == WADLOOK_DEMO_EMPTY);
+    CHECK(wadlook_demo(bytes + 1, 14, commands, 3, &info) == WADLOOK_DEMO_VERSION);
+    CHECK(wadlook_demo(bytes, 12, commands, 3, &info) == WADLOOK_DEMO_SHORT);
+    CHECK(wadlook_demo(bytes, 21, commands, 3, &info) == WADLOOK_DEMO_NO_MARKER && info.map == 99);
+    const uint8_t nobody[] = {109, 3, 1, 1, 0, 0, 0, 0, 0, 0, 0, 0, 0, 128};
+    CHECK(wadlook_demo(nobody, sizeof nobody, commands, 3, &info) == WADLOOK_DEMO_NO_PLAYER);
+    const uint8_t longer[] = {111, 3, 1, 1, 0, 0, 0, 0, 0, 1, 0, 0, 0, 25, 0, 2, 1, 0, 128};
+    CHECK(wadlook_demo(longer, sizeof longer, commands, 3, &info) == WADLOOK_DONE && info.commands == 1 && commands[0].turn == 258);
+}
+
+int main(int argc, char **argv) {
+    FILE *file = argc == 2 ? fopen(argv[1], "rb") : NULL;
+    if (!file || fread(base, 1, BASE, file) != BASE) { printf("cases: no sample level\n0 passed, 1 failed\n"); return 1; }
+    fclose(file);
+    points();
+    refusals();
+    single_points();
+    census();
+    audit();
+    lumps();
+    sight();
+    blocks();
+    extract();
+    demo();
+    printf("%u passed, %u failed\n", passed, failed);
+    return failed != 0;
+}

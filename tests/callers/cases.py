@@ -1,0 +1,133 @@
+"""cases.py BASE: the module `wadlook` on worked cases over the sample level; the last line is `N passed, M failed`.
+cases.py points NAME WAD: the points of standard input, `x y` a line, answered as `wadlook points` answers them."""
+
+import ctypes
+import re
+import struct
+import sys
+from array import array
+
+import wadlook
+from wadlook import NOWHERE, Block, Command, Place, Status, Wad, WadlookError
+
+passed = failed = 0
+NODES, REJECT, BLOCKMAP, DIRECTORY = 136, 216, 217, 233
+
+
+def check(name, holds):
+    global passed, failed
+    passed, failed = passed + bool(holds), failed + (not holds)
+    if not holds:
+        print("FAILED", name)
+
+
+def refused(status, call, *words):
+    try:
+        call(*words)
+    except WadlookError as why:
+        return why.status == status and ": " in f" : {why}"
+    return False
+
+
+def with_words(base, place, *words):
+    """The sample level with other words of 16 bits at a place."""
+    wad = bytearray(base)
+    struct.pack_into(f"<{len(words)}h", wad, place, *words)
+    return wad
+
+
+def cases(path):
+    with open(path, "rb") as file:
+        base = file.read()
+    level = Wad(path).level("E1M1")
+    asked = [(1, 5), (0, 5), (-1, 5), (16384, 0)]
+    check("sectors of a list", level.sectors(asked) == [0, 1, 1, None])
+    check("sectors of an iterator", level.sectors(iter(asked)) == [0, 1, 1, None])
+    check("sectors of no points", level.sectors([]) == [])
+    flat = array("i", [1, 5, 0, 5, -1, 5, 16384, 0])
+    check("sectors of an array", level.sectors(flat).tolist() == [0, 1, 1, NOWHERE])
+    check("sectors of a view of two columns", level.sectors(memoryview(flat).cast("B").cast("i", (4, 2))).tolist() == [0, 1, 1, NOWHERE])
+    check("sectors of a view that can't be written", level.sectors(memoryview(flat).toreadonly()).tolist() == [0, 1, 1, NOWHERE])
+    check("sectors of an empty array", level.sectors(array("i")).tolist() == [])
+    lent = (ctypes.c_int32 * 2)(0, 5)
+    check("sectors of another module's buffer", level.sectors(lent).tolist() == [1])
+    for bad in (array("d", [0.0, 5.0]), array("i", [1, 2, 3]), memoryview(flat)[::2]):
+        try:
+            level.sectors(bad)
+            check("a buffer that holds no points", False)
+        except TypeError:
+            check("a buffer that holds no points", True)
+    try:
+        level.sectors([(2**31, 0)])
+        check("a coordinate of 33 bits", False)
+    except OverflowError:
+        check("a coordinate of 33 bits", True)
+    check("places", level.places(asked) == [Place(0, 0), Place(1, 1), Place(1, 1), None])
+    check("a place", level.place(0, 5) == Place(1, 1) and level.place(1, 5) == Place(0, 0) and level.place(0, 16384) is None)
+    check("small letters and wide", Wad(base).level("e1m1", wide=True).sectors([(0, 5)]) == [1])
+    check("a sound level", level.is_sound and level.findings == [] and level.faults == [] and level.notes == [])
+    check("a census", level.census(-1, 0, 1, 1) == {0: 2, 1: 4})
+    check("a large census", level.census(-512, -512, 511, 511) == {0: 523264, 1: 525312})
+    check("no rectangle", refused(Status.NO_RECT, level.census, 1, 0, 0, 0))
+    check("a lump", level.wad.find("E1M1", 7) == (7, NODES, 28) and bytes(level.wad.lump("REJECT")) == b"\0")
+    check("sight", level.is_blocked(0, 1) is False and refused(Status.NO_SECTOR, level.is_blocked, 0, 2))
+    blocked = bytearray(base)
+    blocked[REJECT] = 2
+    check("sight, blocked", Wad(blocked).level("E1M1").is_blocked(0, 1) is True)
+    none = with_words(base, DIRECTORY + 16 * 9 + 4, 0, 0)
+    check("sight, unknown", Wad(none).level("E1M1").is_blocked(0, 1) is None)
+    check("a block", level.block(0, 5) == Block(0, 0, (0, 0)) and level.block(-9, 5) is None)
+    check("a block out of range", refused(Status.OUT_OF_RANGE, level.block, 16384, 0))
+    lists = with_words(base, BLOCKMAP, 0, 0, 1, 1, 5, 0, -2, -1)
+    check("a block's words are signed", Wad(lists).level("E1M1").block(0, 5).lines == (0, -2))
+    check("or wide", Wad(lists).level("E1M1", wide=True).block(0, 5).lines == (0, 65534))
+    check("a list without an end", refused(Status.NO_END, Wad(with_words(base, BLOCKMAP + 14, 7)).level("E1M1").block, 0, 5))
+    check("extracted", level.extract() == base)
+
+    twice = Wad(with_words(base, NODES + 24, -32768, -32768)).level("E1M1")  # one ssector twice
+    check("faults", [it[:2] for it in twice.faults] == [("F15", 0), ("F16", 1)] and not twice.is_sound and twice.notes == [])
+    check("texts", twice.faults[0].text == "ssector named more than once")
+    for call, words in ((twice.sectors, ([(0, 5)],)), (twice.place, (0, 5)), (twice.census, (0, 0, 1, 1))):
+        check("a level with faults", refused(Status.UNSOUND, call, *words))
+    for status, bytes_ in ((Status.SHORT, base[:11]), (Status.MAGIC, b"X" + base[1:]), (Status.DIRECTORY, base[:-1]), (Status.SHORT, b"")):
+        check(f"no file: {status.name}", refused(status, Wad(bytes_).level, "E1M1"))
+    check("no name", refused(Status.NO_NAME, Wad(base).level, "E2M9"))
+    check("a missing lump", refused(Status.LUMP_MISSING, Wad(base).level("THINGS").sectors, [(0, 5)]))
+    check("a missing lump, audited", [it[:2] for it in Wad(base).level("THINGS").findings] == [("F1", 10)])
+
+    demo = wadlook.read_demo(bytes([109, 3, 1, 1, 0, 0, 0, 0, 0, 1, 0, 0, 0, 25, 0, 0, 0, 206, 128, 255, 128, 128, 7]))
+    check("a demo", demo.commands == [Command(25, 0, 0, 0), Command(-50, -128, 255, 128)] and demo.after == 1)
+    check("a demo's header", (demo.version, demo.skill, demo.players) == (109, 3, (1, 0, 0, 0)))
+    check("no demo", refused(Status.DEMO_EMPTY, level.wad.demo, "E1M1"))
+    check("many commands", len(wadlook.read_demo(bytes([109, 3, 1, 1, 0, 0, 0, 0, 0, 1, 0, 0, 0]) + bytes(40000) + b"\x80").commands) == 10000)
+
+    with open("crates/wad_look/specs/Engines/Audit.antt", encoding="utf-8") as file:
+        texts = dict(re.findall(r'^meaning ([FN]\d+) = codes "(.*)"$', file.read(), re.M))
+    check("the findings' texts", wadlook._TEXTS == texts and list(wadlook._TEXTS) == list(texts))
+    with open("include/wadlook.h", encoding="utf-8") as file:
+        numbers = dict(re.findall(r"^    WADLOOK_(\w+) = (\d+)", file.read(), re.M))
+    check("the statuses", {it.name: str(it.value) for it in Status} == numbers)
+    public = [getattr(wadlook, name) for name in wadlook.__all__ if callable(getattr(wadlook, name))]
+    members = [it for kind in public if isinstance(kind, type) for name, it in vars(kind).items() if name[0] != "_" and (callable(it) or isinstance(it, property))]
+    check("docstrings", all(it.__doc__ for it in public + members))
+
+
+def points(name, path):
+    asked = array("i", map(int, sys.stdin.read().split()))
+    level = Wad(path).level(name)
+    sectors = level.sectors(asked)
+    said = []
+    for k, place in enumerate(level.places(zip(asked[::2], asked[1::2]))):
+        if (NOWHERE if place is None else place.sector) != sectors[k]:
+            said.append(f"the sectors differ at point {k}")
+        x, y = asked[2 * k], asked[2 * k + 1]
+        said.append("refused: range" if place is None else f"{x} {y} sector {place.sector} ssector {place.ssector}")
+    print("\n".join(said))
+
+
+if sys.argv[1] == "points":
+    points(*sys.argv[2:])
+else:
+    cases(sys.argv[1])
+    print(f"{passed} passed, {failed} failed")
+    sys.exit(failed != 0)

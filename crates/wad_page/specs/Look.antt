@@ -1,0 +1,90 @@
+-- What words of `wadlook` do over files and an input in memory (ours).
+use Rattle.std.specs.Prelude.{◌≡◌, ◌⊎◌, ℕ, Bool, List, [], length, take, slice_index_or, Some, Result, Err}
+use Rattle.le_rec.specs.Sink.{SinkState}
+use Rattle.memory_ends.specs.FromSlice.{bytes_left, state_of as slice_state}
+use Rattle.memory_ends.specs.declared.from_slice.FromSlice.{FromSlice}
+use Rattle.wad_look.specs.Command.{Job}
+use Rattle.wad_look.specs.RunsJob.{RunsJob}
+use Rattle.wad_look.specs.Words.{IsJob}
+use Rattle.wad_look.specs.declared.command.Cmd.{Cmd}
+use Rattle.wad_look.specs.declared.command.Cmd.TheVariants.{Lmp}
+use Rattle.wad_look.specs.declared.fault.RunFault.{RunFault}
+use Rattle.wad_look.specs.declared.fault.RunFault.TheVariants.{Memory}
+use Rattle.wad_page.specs.Answer.{state_of as answer_state, taken_of}
+use Rattle.wad_page.specs.Parts.{AreWords, cut}
+use Rattle.wad_page.specs.Refusal.{exit_status_of, page_end}
+use Rattle.wad_page.specs.declared.Ended.{Ended}
+use Rattle.wad_page.specs.declared.answer.Answer.{Answer}
+use Rattle.wad_page.specs.declared.parts.Parts.{Parts}
+use Rattle.wad_page.specs.declared.refusal.Refusal.{Refusal}
+use Rattle.wad_page.specs.declared.refusal.Refusal.TheVariants.{Usage, Run}
+
+-- the words ask for a job, over as many files as it names
+pub record Asks (parts files : Parts) (words : List (List ℕ)) (job : Job) (bytes : List (List ℕ)) : Type 0 where
+  pub words_are : AreWords parts words
+  pub asked : IsJob words job
+  pub files_are : cut files.sizes.now files.bytes.now ≡ Some bytes
+  pub as_many : length bytes ≡ length job.paths
+
+-- what a command reads as its input: `lmp` its file
+abbrev pub input_for : Cmd → List (List ℕ) → List ℕ → List ℕ
+input_for Lmp files input = slice_index_or files 0 []
+input_for _ files input = input
+
+-- the job's command runs over the files and the input
+pub record RunsFiles {W : Type 0} (sink : W → SinkState) (job : Job) (files : List (List ℕ)) (input : List ℕ) (out out' : W) (result : Result Bool RunFault) : Type 0 where
+  pub source : FromSlice
+  pub source' : FromSlice
+  pub given : bytes_left source ≡ input_for job.command files input
+  pub runs : RunsJob slice_state sink job files source source' out out' result
+
+-- the words' job runs over the files
+pub record RunsWords {W : Type 0} (sink : W → SinkState) (parts files : Parts) (input : List ℕ) (out out' : W) (result : Result Bool Refusal) : Type 0 where
+  pub words : List (List ℕ)
+  pub job : Job
+  pub bytes : List (List ℕ)
+  pub asks : Asks parts files words job bytes
+  pub outcome : Result Bool RunFault
+  pub runs : RunsFiles sink job bytes input out out' outcome
+  pub ended : result ≡ page_end outcome
+
+-- why none does: the words ask for none over so many files, or there is no memory
+abbrev pub RefusesLook : Parts → Parts → Refusal → Type 0
+RefusesLook parts files Usage = (words : List (List ℕ)) (job : Job) (bytes : List (List ℕ)) → ¬ Asks parts files words job bytes
+RefusesLook parts files (Run fault) = fault ≡ Memory
+
+-- it ended before anything was written
+pub record IsRefused {W : Type 0} (parts files : Parts) (out out' : W) (result : Result Bool Refusal) : Type 0 where
+  pub refusal : Refusal
+  pub ended : result ≡ Err refusal
+  pub holds : RefusesLook parts files refusal
+  pub untouched : out' ≡ out
+
+abbrev pub DoesLook : {W : Type 0} → (W → SinkState) → Parts → Parts → List ℕ → W → W → Result Bool Refusal → Type 0
+DoesLook sink parts files input out out' result =
+    IsRefused parts files out out' result ⊎ RunsWords sink parts files input out out' result
+
+-- these are the bytes and the sizes
+pub record AreGiven (parts : Parts) (bytes sizes : List ℕ) : Type 0 where
+  pub bytes_are : parts.bytes.now ≡ bytes
+  pub sizes_are : parts.sizes.now ≡ sizes
+
+-- it did what the words ask for: the status tells how that ended, and the answer stands at the front of `out`
+pub record Looked (words word_sizes files file_sizes input out : List ℕ) (ended : Ended) : Type 0 where
+  pub asked : Parts
+  pub words_are : AreGiven asked words word_sizes
+  pub given : Parts
+  pub files_are : AreGiven given files file_sizes
+  pub sink : Answer
+  pub sink' : Answer
+  pub empty : taken_of sink ≡ []
+  pub outcome : Result Bool Refusal
+  pub does : DoesLook answer_state asked given input sink sink' outcome
+  pub status : ended.status ≡ exit_status_of outcome
+  pub answered : ended.answered ≡ length (taken_of sink')
+  pub answer : take ended.answered out ≡ taken_of sink'
+
+-- or there was no room for it, with nothing answered
+abbrev pub LookEnds : List ℕ → List ℕ → List ℕ → List ℕ → List ℕ → List ℕ → Ended → Type 0
+LookEnds words word_sizes files file_sizes input out ended =
+    ((ended.status ≡ 3) × (ended.answered ≡ 0)) ⊎ Looked words word_sizes files file_sizes input out ended

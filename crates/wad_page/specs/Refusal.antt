@@ -1,0 +1,17 @@
+-- How a run of `wadlook`'s words ends in a page, and the status for it (ours).
+use Rattle.std.specs.Prelude.{ℕ, Bool, Result, Ok, Err}
+use Rattle.wad_look.specs.Outcome.{status_of}
+use Rattle.wad_look.specs.declared.fault.RunFault.{RunFault}
+use Rattle.wad_page.specs.declared.refusal.Refusal.{Refusal}
+use Rattle.wad_page.specs.declared.refusal.Refusal.TheVariants.{Usage, Run}
+
+-- the end of a run, as that of the page
+abbrev pub page_end : Result Bool RunFault → Result Bool Refusal
+page_end (Ok clean) = Ok clean
+page_end (Err fault) = Err (Run fault)
+
+-- that of the run, and 2 where the words were refused
+abbrev pub exit_status_of : Result Bool Refusal → ℕ
+exit_status_of (Ok clean) = status_of (Ok clean)
+exit_status_of (Err (Run fault)) = status_of (Err fault)
+exit_status_of (Err Usage) = 2

@@ -1,0 +1,58 @@
+//! What words of `wadlook` ask for.
+ghost use Rattle.std.specs.Prelude.{◌≡◌, ◌<◌, ◌≤◌, false, length};
+ghost use Rattle.wad_dir.specs.declared.set.TheConstants.{MAX_FILES};
+ghost use Rattle.wad_look.specs.Opening.{bytes_of};
+ghost use Rattle.wad_page.specs.Look.{DoesLook, RunsFiles};
+
+use crate::parts::{Parts, copies, read_words};
+use crate::refusal::{Refusal, page_end};
+use le_rec::Sink;
+use memory_ends::FromSlice;
+use std::alloc::Allocator;
+use wad_look::{Cmd, Job, RunFault, job, run};
+
+/// Does what the words ask for over the files and the input: whether it was done without a fault found.
+pub fn do_words<A: Allocator + Copy, W: Sink>(
+    alloc: A,
+    words: Parts<'_>,
+    files: Parts<'_>,
+    input: &[u8],
+    out: &mut W,
+) -> Result<bool, Refusal>
+    requires { (W.state out.old).failed ≡ false }
+    ensures { DoesLook W.state words.entry files.entry input.now out.old out.new result }
+{
+    let texts = read_words(alloc, words)?;
+    let Some(job) = job(&texts) else {
+        return Err(Refusal::Usage);
+    };
+    let Some(bytes) = copies(alloc, files)? else {
+        return Err(Refusal::Usage);
+    };
+    if bytes.len() != job.paths().len() {
+        return Err(Refusal::Usage);
+    }
+    page_end(run_files(alloc, &job, &bytes, input, out))
+}
+
+// Runs the command of the job over its files. The file of `lmp` is read as the input.
+fn run_files<A: Allocator + Copy, W: Sink>(
+    alloc: A,
+    job: &Job<'_, A>,
+    files: &[Vec<u8, A>],
+    input: &[u8],
+    out: &mut W,
+) -> Result<bool, RunFault>
+    requires few { length files.now ≤ MAX_FILES }
+    requires some { 0 < length files.now }
+    requires out { (W.state out.old).failed ≡ false }
+    ensures { RunsFiles W.state job.now (bytes_of files.now) input.now out.old out.new result }
+{
+    let given = if job.command() == Cmd::Lmp {
+        files[0].as_slice()
+    } else {
+        input
+    };
+    let mut source = FromSlice::new(given);
+    run(alloc, job, files, &mut source, out)
+}

@@ -1,0 +1,66 @@
+// A demo's commands as a table.
+import { make, Rows } from './rows.mjs';
+
+const COLUMNS = ['tic', 'player', 'forward', 'side', 'turn', 'buttons'];
+
+/** @param {string} tag @param {string} role @param {string} text @param {string} [name] */
+function cell(tag, role, text, name) {
+  const element = make(tag, name, text);
+  element.setAttribute('role', role);
+  return element;
+}
+
+export class DemoTable {
+  /** @param {HTMLElement} viewport the part that scrolls */
+  constructor(viewport) {
+    const head = make('div', 'cells-head', ...COLUMNS.map((name) => cell('span', 'columnheader', name)));
+    head.setAttribute('role', 'row');
+    const body = make('div', 'cells');
+    body.setAttribute('role', 'rowgroup');
+    viewport.replaceChildren(head, body);
+    viewport.setAttribute('role', 'table');
+    viewport.tabIndex = 0;
+    this.viewport = viewport;
+    /** @type {import('./lines.mjs').Lines | null} */
+    this.lines = null;
+    this.rows = new Rows(viewport, body, (k) => this.#row(k));
+  }
+
+  /**
+   * Shows a listing: a line of the header, the commands, a line of what they add up to. None with null.
+   * @param {import('./lines.mjs').Lines | null} lines
+   */
+  show(lines) {
+    this.lines = lines;
+    const count = lines ? Math.max(0, lines.count - 2) : 0;
+    this.viewport.setAttribute('aria-rowcount', String(count + 1));
+    this.rows.show(count);
+  }
+
+  /**
+   * Brings a tic's first command to the top.
+   * @param {number} tic
+   */
+  goTo(tic) {
+    let low = 0, high = this.rows.count;
+    while (low < high) {
+      const middle = (low + high) >> 1;
+      if (parseInt(this.#line(middle), 10) < tic) low = middle + 1; else high = middle;
+    }
+    this.rows.reveal(low, true);
+  }
+
+  /** @param {number} k */
+  #line(k) {
+    return this.lines?.at(k + 1) ?? '';
+  }
+
+  /** @param {number} k */
+  #row(k) {
+    const row = make('div', 'cells-row');
+    this.#line(k).split(' ').forEach((word, column) => row.append(cell('span', 'cell', word, column > 1 && /^0+$/.test(word) ? 'nil' : '')));
+    row.setAttribute('role', 'row');
+    row.setAttribute('aria-rowindex', String(k + 2));
+    return row;
+  }
+}

@@ -1,0 +1,279 @@
+// One level: its picture, the pinned point, its findings.
+import { ListBox } from './list.mjs';
+import { Lines } from './lines.mjs';
+import { MapView } from './map_view.mjs';
+import { Stopped } from './questions.mjs';
+import { make } from './rows.mjs';
+import { findingOf, get, field, inShort, isNarrow, notJudged, pane, plural, say, verdict, wordsOf } from './words.mjs';
+
+/** @typedef {import('./words.mjs').Level} Level @typedef {import('./words.mjs').Finding} Finding */
+/** @typedef {import('./questions.mjs').Questions} Questions */
+/** @typedef {{ key: string, file: File, wide: boolean, entry: number, name: string }} Asked  what a question about a level has */
+
+const CELLS = 512; // of the picture of a level
+const FINE_CELLS = 1024; // and of that of a part
+const COARSE = 2.5; // pixels to a cell from which on a part is asked for in smaller ones
+const COUNTS = /** @type {const} */ (['things', 'linedefs', 'sidedefs', 'vertexes', 'segs', 'ssectors', 'nodes', 'sectors']);
+
+const whyNot = (/** @type {unknown} */ error) => error instanceof Stopped ? 'Stopped. Choose the level again to draw it.' : wordsOf(error);
+
+export class LevelView {
+  /** @param {Questions} desk @param {Questions} finer @param {() => void} readWide called where the wide reading is chosen */
+  constructor(desk, finer, readWide) {
+    this.desk = desk;
+    this.finer = finer;
+    this.readWide = readWide;
+    /** @type {Asked | null} */
+    this.asked = null;
+    /** @type {Level | null} */
+    this.level = null;
+    /** @type {Uint8Array | null} the picture's text */
+    this.svg = null;
+    /** @type {Promise<Int32Array> | undefined} */
+    this.ends = undefined;
+    this.pins = 0; // a late answer of an earlier pin is let go
+    /** @type {Promise<unknown>} */
+    this.drawing = Promise.resolve();
+    this.map = new MapView(get('map'), {
+      hover: (x, y, under) => this.#hover(x, y, under),
+      leave: () => this.#rest(),
+      pin: (x, y) => this.pin(x, y),
+      unpin: () => this.unpin(),
+      moved: (view) => this.#moved(view),
+    });
+    this.findings = new ListBox(get('findings'), (/** @type {Finding} */ finding) => {
+      const message = make('span', 'row-message', finding.message);
+      message.title = finding.message; // where it is cut off
+      return [make('span', `code${finding.code.startsWith('F') ? ' fault' : ''}`, finding.code || '–'), make('span', 'row-name', finding.where), message];
+    }, (finding) => this.#choose(finding));
+    get('unpin').addEventListener('click', () => this.unpin());
+    get('point-form').addEventListener('submit', (event) => {
+      event.preventDefault();
+      const [x, y] = field('at').value.match(/-?\d+/g) ?? [];
+      if (y !== undefined) this.pin(Number(x), Number(y));
+    });
+    get('in').addEventListener('click', () => this.map.zoom(1.5));
+    get('out').addEventListener('click', () => this.map.zoom(1 / 1.5));
+    get('fit').addEventListener('click', () => this.map.fit());
+  }
+
+  /**
+   * Shows a level: what was found first, and then its picture; or why it isn't judged.
+   * @param {Asked} asked @param {string} why
+   */
+  async show(asked, why) {
+    this.asked = asked;
+    this.finer.stop();
+    this.clear(why);
+    get('title').textContent = asked.name;
+    if (why) return;
+    try {
+      await this.drawing.catch(() => {}); // one at a time, so that a held arrow key draws only where it ends
+      if (this.asked !== asked) return;
+      this.drawing = this.#look(asked);
+      await this.drawing;
+    } catch (error) {
+      if (this.asked === asked) this.clear(whyNot(error));
+    }
+  }
+
+  /**
+   * No level, and why.
+   * @param {string} why
+   */
+  clear(why) {
+    this.level = null;
+    this.svg = null;
+    this.ends = undefined;
+    this.unpin();
+    this.map.show(null);
+    for (const name of ['drawn', 'fine', 'paths']) delete get('map').dataset[name];
+    this.#none(why);
+    get('counts').replaceChildren();
+    get('told').textContent = '';
+    get('told').className = '';
+    get('codes').textContent = '';
+    this.findings.show(0, () => findingOf(''));
+    get('findings-none').hidden = false;
+    get('findings-none').textContent = why;
+    for (const id of ['save-pwad', 'save-svg', 'pin']) get(id).toggleAttribute('disabled', true);
+    this.#rest();
+  }
+
+  /** @param {string} why no picture is there */
+  #none(why) {
+    get('map-none').hidden = !why;
+    get('map-none').textContent = why;
+  }
+
+  /** @param {Asked} asked */
+  async #look(asked) {
+    const began = performance.now();
+    const { level, findings, before } = await this.desk.ask('look', { ...asked, max: 20 }, `Judging ${asked.name}`);
+    if (this.asked !== asked) return;
+    this.level = level;
+    get('save-pwad').removeAttribute('disabled');
+    if (level.format !== 'doom') {
+      this.#none(notJudged(level));
+      get('findings-none').textContent = notJudged(level);
+      return;
+    }
+    this.#tell(level);
+    this.#list(new Lines(findings), before);
+    get('pin').removeAttribute('disabled');
+    const { picture, svg, why } = await this.desk.ask('picture', { ...asked, cells: CELLS }, `Drawing ${asked.name}`)
+      .catch((error) => ({ why: whyNot(error) })); // the findings stay
+    if (this.asked !== asked) return;
+    this.svg = svg ?? null;
+    get('save-svg').toggleAttribute('disabled', !svg);
+    this.#none(why ?? '');
+    this.map.show(picture ?? null);
+    get('map').setAttribute('aria-label', `Map of ${asked.name}: ${verdict(level)}`);
+    Object.assign(get('map').dataset, { drawn: asked.name, paths: picture?.paths ?? 0, ms: (performance.now() - began).toFixed(0) });
+    this.#rest();
+    say(`${asked.name}${picture ? ' drawn' : ''}, ${verdict(level)}`);
+    this.#linedefs(); // so that a pinned point needn't wait for them
+  }
+
+  /** @param {Level} level */
+  #tell(level) {
+    get('told').textContent = verdict(level);
+    get('told').className = level.sound ? '' : 'fault';
+    get('counts').replaceChildren(...COUNTS.map((name) => make('div', '', make('dt', '', name), make('dd', '', String(level[name])))));
+    const codes = Object.entries({ ...level.findings, ...level.warnings });
+    get('codes').textContent = codes.map(([code, n]) => `${code} ${n}`).join(' · ');
+  }
+
+  /** @param {Lines} lines of which the last adds up @param {number} before how much of each stands before the finding */
+  #list(lines, before) {
+    const count = Math.max(0, lines.count - 1);
+    this.findings.show(count, (k) => findingOf(lines.at(k).slice(before)));
+    get('findings-none').hidden = count > 0;
+    get('findings-none').textContent = 'Nothing was found: all links and nodes hold together.';
+  }
+
+  /** @param {Finding} finding */
+  async #choose(finding) {
+    const asked = this.asked;
+    if (finding.wide) return this.readWide();
+    if (finding.all && asked) {
+      try {
+        const { findings, before } = await this.desk.ask('look', { ...asked, max: 0 }, 'Listing all findings');
+        if (this.asked === asked) this.#list(new Lines(findings), before);
+      } catch (error) { say(wordsOf(error)); }
+      return;
+    }
+    let place = finding.place;
+    if (finding.linedef >= 0) {
+      const ends = await this.#linedefs(), at = 4 * finding.linedef;
+      if (ends[at] !== undefined && ends[at] !== 0x7fffffff) place = [...ends.subarray(at, at + 4)];
+    }
+    if (this.asked !== asked) return;
+    if (place && this.map.picture && isNarrow()) pane('map');
+    this.map.mark(place);
+  }
+
+  /** The ends of the linedefs, asked for once. */
+  #linedefs() {
+    this.ends ??= this.desk.ask('ends', this.asked ?? {}).catch(() => new Int32Array());
+    return this.ends;
+  }
+
+  // Point ------------------------------------------------------------------------------------------------------------------------
+
+  /** @param {number} x @param {number} y */
+  async pin(x, y) {
+    const { asked, level } = this, mine = ++this.pins, began = performance.now();
+    if (!asked || !level || level.format !== 'doom') return;
+    this.map.pin({ x, y });
+    const told = await this.desk.ask('pin', { ...asked, x, y }).catch((error) => ({ point: wordsOf(error), block: '' }));
+    if (mine !== this.pins) return;
+    get('point').dataset.ms = (performance.now() - began).toFixed(1); // for the tests
+    get('point').hidden = get('unpin').hidden = false;
+    get('point-none').hidden = true;
+    get('point-line').textContent = this.#inWords(told.point, x, y);
+    const list = this.#tellBlock(told.block), sector = /^-?\d+ -?\d+ sector (\d+) /.exec(told.point)?.[1];
+    this.#rest();
+    get('legend').hidden = sector === undefined || !this.map.picture;
+    get('point-clear').textContent = get('point-blocked').textContent = sector === undefined ? 'not told' : '';
+    if (sector === undefined) this.map.sight(-1, []); else this.#sight(Number(sector), mine);
+    const ends = await this.#linedefs();
+    if (mine === this.pins) this.map.showBlock(list, ends);
+  }
+
+  /** @param {string} line @param {number} x @param {number} y */
+  #inWords(line, x, y) {
+    if (/audit$/.test(line)) return `${x} ${y} isn't told: the level has faults`;
+    return line === 'refused: range' ? `${x} ${y} isn't told: places reach from -16384 to 16383` : line;
+  }
+
+  /** Tells the line of `blocks`; answers its linedefs. @param {string} line @returns {number[]} */
+  #tellBlock(line) {
+    const found = /^-?\d+ -?\d+ block (\d+) (\d+) lines ?(.*)$/.exec(line);
+    const words = found ? [`${found[1]} ${found[2]}, its list `, make('span', 'numbers', found[3])] : [line.replace(/^-?\d+ -?\d+ /, '')];
+    get('point-block').replaceChildren(...words);
+    const list = found?.[3].split(' ').map(Number) ?? [];
+    return list[0] === 0 ? list.slice(1) : list; // the word 0 that lists begin with names no linedef of the block
+  }
+
+  /** @param {number} sector @param {number} mine */
+  async #sight(sector, mine) {
+    const asked = { ...this.asked, sector, sectors: this.level?.sectors };
+    /** @type {string[]} */
+    const answers = await this.desk.ask('sight', asked).catch(() => []);
+    if (mine !== this.pins) return;
+    this.map.sight(sector, answers);
+    for (const [id, answer] of [['point-clear', 'clear'], ['point-blocked', 'blocked']]) {
+      const list = answers.flatMap((told, other) => told === answer ? [other] : []);
+      get(id).replaceChildren(list.length ? `${plural(list.length, 'sector')} ` : 'none', make('span', 'numbers', list.join(' ')));
+    }
+  }
+
+  unpin() {
+    this.pins++;
+    this.map.pin(null);
+    get('point').hidden = get('unpin').hidden = get('legend').hidden = true;
+    get('point-none').hidden = false;
+    this.#rest();
+  }
+
+  // The map's readout ------------------------------------------------------------------------------------------------------------
+
+  /** @param {number} x @param {number} y @param {import('./map_view.mjs').Under} under */
+  #hover(x, y, { sector, thing }) {
+    if (!this.map.picture) return;
+    get('where').textContent = `${x} ${y}`;
+    get('under').textContent = [thing, sector].filter(Boolean).map(inShort).join('  –  ') || 'nothing is shown here';
+  }
+
+  /** What the readout says while nothing is under the pointer. */
+  #rest() {
+    get('where').textContent = '';
+    get('under').textContent = get('point').hidden ? (this.map?.picture ? 'Click or tap the map to pin a point.' : '') : get('point-line').textContent;
+  }
+
+  /** @param {import('./map_view.mjs').View} view */
+  #moved({ x, y, zoom }) {
+    get('map').dataset.view = `${x.toFixed(3)} ${y.toFixed(3)} ${zoom.toFixed(4)}`;
+    const units = 2 ** Math.max(0, Math.floor(Math.log2(110 / zoom)));
+    get('scale-bar').style.width = `${units * zoom}px`;
+    get('scale-text').textContent = `${units} units`;
+    clearTimeout(this.resting);
+    this.resting = setTimeout(() => this.#sharpen(), 200);
+  }
+
+  /** Zoomed in, the cells show; then the part in view is asked for in smaller ones, of a worker of its own. */
+  async #sharpen() {
+    const { asked, map } = this;
+    if (!asked || map.cell * map.view.zoom < COARSE || this.finer.open.size) return;
+    const frame = map.part, [x0, y0, x1, y1] = frame;
+    if (Math.ceil((Math.max(x1 - x0, y1 - y0) + 1) / FINE_CELLS) >= map.cell) return; // as fine already
+    try {
+      const { picture } = await this.finer.ask('picture', { ...asked, cells: FINE_CELLS, frame });
+      if (this.asked !== asked || !picture) return;
+      map.sharpen(picture);
+      get('map').dataset.fine = String(picture.size);
+      this.#sharpen(); // where the map was moved meanwhile
+    } catch (error) { if (!(error instanceof Stopped)) say(wordsOf(error)); }
+  }
+}

@@ -1,0 +1,517 @@
+// The picture on two canvases: the ground of cells, and over it lines, things and marks; with zoom, pan, keys and a pin.
+
+/** @typedef {import('./picture.mjs').Picture} Picture */
+/** @typedef {{ x: number, y: number, zoom: number }} View  the map's place in the middle, and pixels to a unit */
+/** @typedef {[number, number, number]} Colour */
+/** @typedef {{ sector: string, thing: string }} Under  titles of what lies under the pointer */
+/**
+ * @typedef {{ hover: (x: number, y: number, under: Under) => void, leave: () => void, pin: (x: number, y: number) => void,
+ *   unpin: () => void, moved: (view: View) => void }} Tell
+ */
+
+const NOWHERE = 0x7fffffff; // in ends: a linedef without both vertexes
+const CLOSEST = 16; // pixels to a unit
+const CLEAR = 0.3; // of the accent, in sectors that REJECT lets the pinned one see; page.css has the same
+const SLOW = 30; // ms: a picture that takes longer is moved as it is, and drawn anew when it rests
+
+/** Of ink, in this order: what page.css says for the theme. */
+const INKS = ['void', 'cell-dark', 'cell-light', 'wall', 'step', 'thing', 'accent', 'fault', 'ink'];
+
+/** @param {Colour} a @param {Colour} b @param {number} part of b @returns {Colour} */
+const mix = (a, b, part) => /** @type {Colour} */ (a.map((from, k) => from + (b[k] - from) * part));
+/** @param {Colour} colour as a pixel of an image */
+const pixel = ([r, g, b]) => (255 << 24 | Math.round(b) << 16 | Math.round(g) << 8 | Math.round(r)) >>> 0;
+/** @param {Colour} colour @param {number} [alpha] */
+const css = ([r, g, b], alpha = 1) => `rgb(${r} ${g} ${b} / ${alpha})`;
+
+/** Lines of x y x y as a path. @param {ArrayLike<number>} at */
+function pathOf(at) {
+  const path = new Path2D();
+  for (let k = 0; k + 3 < at.length; k += 4) {
+    path.moveTo(at[k], at[k + 1]);
+    path.lineTo(at[k + 2], at[k + 3]);
+  }
+  return path;
+}
+
+/** A picture's cells as an image of a pixel each, in the inks of the theme. */
+class Ground {
+  /** @param {Picture} picture */
+  constructor(picture) {
+    this.picture = picture;
+    this.canvas = new OffscreenCanvas(picture.columns, picture.rows);
+    this.pen = /** @type {OffscreenCanvasRenderingContext2D} */ (this.canvas.getContext('2d'));
+    this.image = this.pen.createImageData(picture.columns, picture.rows);
+  }
+
+  /** Paints each sector's cells in the colour that `ink` gives it. @param {(shown: import('./picture.mjs').Shown) => Colour} ink */
+  paint(ink) {
+    const { columns, rows, cells, shown } = this.picture, inks = new Uint32Array(shown.length + 1);
+    shown.forEach((one, k) => { inks[k + 1] = pixel(ink(one)); });
+    const pixels = new Uint32Array(this.image.data.buffer);
+    for (let j = 0; j < rows; j++) { // the lowest row of the map is the image's last
+      const from = j * columns, to = (rows - 1 - j) * columns;
+      for (let i = 0; i < columns; i++) pixels[to + i] = inks[cells[from + i]];
+    }
+    this.pen.putImageData(this.image, 0, 0);
+  }
+
+  /** Which sector's cell a place is in. @param {number} x @param {number} y */
+  shownAt(x, y) {
+    const { x0, y0, size, columns, rows, cells, shown } = this.picture;
+    const i = Math.floor((x - x0) / size), j = Math.floor((y - y0) / size);
+    return i >= 0 && j >= 0 && i < columns && j < rows ? shown[cells[j * columns + i] - 1] : undefined;
+  }
+
+  /** @param {number} x @param {number} y */
+  has(x, y) {
+    const { x0, y0, size, columns, rows } = this.picture;
+    return x >= x0 && y >= y0 && x < x0 + size * columns && y < y0 + size * rows;
+  }
+}
+
+export class MapView {
+  /** @param {HTMLElement} frame @param {Tell} tell */
+  constructor(frame, tell) {
+    this.frame = frame;
+    this.tell = tell;
+    this.view = { x: 0, y: 0, zoom: 1 };
+    this.size = { width: 1, height: 1 };
+    this.ratio = devicePixelRatio;
+    this.fitted = true;
+    this.base = document.createElement('canvas');
+    this.over = document.createElement('canvas');
+    frame.prepend(this.base, this.over);
+    /** @type {Picture | null} */
+    this.picture = null;
+    /** @type {Ground | null} */
+    this.ground = null;
+    /** @type {Ground | null} */
+    this.fine = null; // of the part in view, in smaller cells
+    /** @type {Map<number, { x: number, y: number }>} */
+    this.pointers = new Map();
+    this.forget();
+    this.hovered = -1;
+    this.dragged = 0;
+    this.took = 0; // ms that the last whole drawing took
+    this.drawn = { ...this.view };
+    new ResizeObserver(() => this.#resize()).observe(frame);
+    for (const query of ['(prefers-color-scheme: dark)', '(forced-colors: active)']) {
+      matchMedia(query).addEventListener('change', () => this.#theme());
+    }
+    this.#theme();
+    frame.addEventListener('wheel', (event) => this.#wheel(event), { passive: false });
+    for (const name of ['pointerdown', 'pointermove', 'pointerup', 'pointercancel', 'pointerleave']) {
+      frame.addEventListener(name, (event) => this.#pointer(/** @type {PointerEvent} */ (event)));
+    }
+    frame.addEventListener('keydown', (event) => this.#key(event));
+  }
+
+  /** Lets go of all marks. */
+  forget() {
+    /** @type {number[] | null} */
+    this.found = null;
+    /** @type {{ x: number, y: number } | null} */
+    this.pinned = null;
+    this.block = new Path2D();
+    this.seen = { sector: -1, answers: /** @type {string[]} */ ([]) };
+  }
+
+  /** Shows a picture, the whole of it; none with null. @param {Picture | null} picture */
+  show(picture) {
+    this.picture = picture;
+    this.ground = picture && new Ground(picture);
+    this.fine = null;
+    this.hovered = -1;
+    this.forget();
+    if (picture) {
+      this.oneSided = pathOf(picture.oneSided);
+      this.twoSided = pathOf(picture.twoSided);
+      this.mistaken = pathOf(picture.mistaken.flatMap(({ at }) => at));
+    }
+    this.#ink();
+    this.fit();
+  }
+
+  /** Puts the smaller cells of a part in place of those that are shown. @param {Picture} picture */
+  sharpen(picture) {
+    this.fine = new Ground(picture);
+    this.#ink();
+  }
+
+  /** Units to a cell where it is coarsest in view; 0 where no cells are shown. */
+  get cell() {
+    const { x, y, zoom } = this.view, { width, height } = this.size;
+    if (!this.ground?.picture.shown.length) return 0;
+    const corners = [-1, 1].flatMap((a) => [-1, 1].map((b) => [x + a * width / zoom / 2, y + b * height / zoom / 2]));
+    const covers = this.fine && corners.every(([cx, cy]) => this.fine?.has(cx, cy) || !this.ground?.has(cx, cy));
+    return (covers && this.fine ? this.fine : this.ground).picture.size;
+  }
+
+  /** Marks a finding's place (x y, or x y x y) and brings it to the middle; none with null. @param {number[] | null} place */
+  mark(place) {
+    this.#resize(); // it may have been hidden until now
+    this.found = place;
+    if (place) {
+      const [x, y] = place.length === 4 ? [(place[0] + place[2]) / 2, (place[1] + place[3]) / 2] : place;
+      this.#fly({ x, y, zoom: Math.max(this.view.zoom, Math.min(0.6, this.#fitZoom() * 5)) });
+    }
+    this.#redraw();
+  }
+
+  /** Marks the pinned point; none with null. @param {{ x: number, y: number } | null} at */
+  pin(at) {
+    this.pinned = at;
+    if (!at) {
+      this.block = new Path2D();
+      this.sight(-1, []);
+    } else if (this.#outOfView(at.x, at.y)) this.#fly({ ...this.view, ...at });
+    this.#redraw();
+  }
+
+  /** Draws a block's linedefs. @param {number[]} list @param {Int32Array} ends four numbers to a linedef */
+  showBlock(list, ends) {
+    this.block = pathOf(list.filter((k) => 4 * k < ends.length && ends[4 * k] !== NOWHERE).flatMap((k) => [...ends.subarray(4 * k, 4 * k + 4)]));
+    this.#redraw();
+  }
+
+  /** Tints what REJECT says of each sector from `sector`. @param {number} sector @param {string[]} answers */
+  sight(sector, answers) {
+    this.seen = { sector, answers };
+    this.#ink();
+  }
+
+  fit() {
+    if (!this.picture) return this.#redraw();
+    const { x, y, width, height } = this.picture.box;
+    this.#set({ x: x + width / 2, y: y + height / 2, zoom: this.#fitZoom() });
+    this.fitted = true;
+  }
+
+  #fitZoom() {
+    const { width, height } = this.picture?.box ?? this.size;
+    return Math.min(CLOSEST, 0.95 * Math.min(this.size.width / width, this.size.height / height));
+  }
+
+  /** Zooms about a place of the frame, the middle where none is given. @param {number} factor @param {number} [px] @param {number} [py] */
+  zoom(factor, px = this.size.width / 2, py = this.size.height / 2) {
+    const zoom = Math.max(this.#fitZoom() / 2, Math.min(CLOSEST, this.view.zoom * factor)), [x, y] = this.at(px, py);
+    this.#set({ zoom, x: x - (px - this.size.width / 2) / zoom, y: y + (py - this.size.height / 2) / zoom });
+  }
+
+  /** The map's place under a place of the frame. @param {number} px @param {number} py */
+  at(px, py) {
+    const { x, y, zoom } = this.view;
+    return [x + (px - this.size.width / 2) / zoom, y - (py - this.size.height / 2) / zoom];
+  }
+
+  /** The part of the map that is in view, and some around it: x0 y0 x1 y1. */
+  get part() {
+    const { x, y, zoom } = this.view, dx = 0.6 * this.size.width / zoom, dy = 0.6 * this.size.height / zoom;
+    return [x - dx, y - dy, x + dx, y + dy].map((at) => Math.max(-32768, Math.min(32767, Math.round(at))));
+  }
+
+  /** Moves by pixels. @param {number} dx @param {number} dy */
+  pan(dx, dy) {
+    this.#set({ ...this.view, x: this.view.x - dx / this.view.zoom, y: this.view.y + dy / this.view.zoom });
+  }
+
+  /** @param {number} x @param {number} y */
+  #outOfView(x, y) {
+    return Math.abs(x - this.view.x) * this.view.zoom > this.size.width / 2 || Math.abs(y - this.view.y) * this.view.zoom > this.size.height / 2;
+  }
+
+  /** @param {View} to */
+  #fly(to) {
+    if (matchMedia('(prefers-reduced-motion: reduce)').matches) return this.#set(to);
+    const from = { ...this.view }, began = performance.now(), flight = {};
+    const step = (/** @type {number} */ now) => {
+      if (this.flight !== flight) return;
+      const t = Math.min(1, Math.max(0, (now - began) / 320)), s = 1 - (1 - t) ** 3;
+      this.#set({ x: from.x + (to.x - from.x) * s, y: from.y + (to.y - from.y) * s, zoom: from.zoom * (to.zoom / from.zoom) ** s }, flight);
+      if (t < 1) requestAnimationFrame(step);
+    };
+    this.flight = flight;
+    requestAnimationFrame(step);
+  }
+
+  /** @param {View} view @param {object} [flight] any other move ends a flight */
+  #set(view, flight) {
+    this.flight = flight;
+    this.fitted = false;
+    this.view = view;
+    this.moving = true;
+    this.#redraw();
+  }
+
+  #redraw() {
+    this.waiting ??= requestAnimationFrame(() => {
+      this.waiting = undefined;
+      this.#draw();
+    });
+  }
+
+  // Colours ----------------------------------------------------------------------------------------------------------------------
+
+  #theme() {
+    const style = getComputedStyle(document.documentElement);
+    this.inks = Object.fromEntries(INKS.map((name) => {
+      const digits = style.getPropertyValue(`--${name}`).trim().slice(1);
+      return [name, /** @type {Colour} */ ([0, 2, 4].map((k) => parseInt(digits.slice(k, k + 2), 16)))];
+    }));
+    this.here = parseFloat(style.getPropertyValue('--here')); // how much of the accent the pinned sector has
+    this.#ink();
+  }
+
+  /** The colour of a sector's cells, by its light and what REJECT says of it. @param {import('./picture.mjs').Shown} shown @returns {Colour} */
+  #colour({ sector, light }) {
+    const { inks, seen } = this, cell = mix(inks['cell-dark'], inks['cell-light'], light);
+    const lit = sector === this.hovered ? 0.14 : 0;
+    if (seen.sector < 0) return mix(cell, inks.accent, lit);
+    if (sector === seen.sector) return mix(cell, inks.accent, this.here + lit);
+    return seen.answers[sector] === 'clear' ? mix(cell, inks.accent, CLEAR + lit) : mix(mix(cell, inks.void, 0.55), inks.accent, lit);
+  }
+
+  #ink() {
+    for (const ground of [this.ground, this.fine]) ground?.paint((shown) => this.#colour(shown));
+    this.#redraw();
+  }
+
+  // Drawing ----------------------------------------------------------------------------------------------------------------------
+
+  #draw() {
+    if (this.moving) this.tell.moved(this.view);
+    clearTimeout(this.resting);
+    if (this.moving && this.took > SLOW) {
+      const { x, y, zoom } = this.view, scale = zoom / this.drawn.zoom;
+      const move = `translate(${(this.drawn.x - x) * zoom}px, ${(y - this.drawn.y) * zoom}px) scale(${scale})`;
+      for (const canvas of [this.base, this.over]) canvas.style.transform = move;
+      this.moving = false;
+      this.resting = setTimeout(() => this.#redraw(), 120);
+      return;
+    }
+    this.moving = false;
+    const began = performance.now();
+    this.drawn = { ...this.view };
+    for (const canvas of [this.base, this.over]) canvas.style.transform = '';
+    this.#drawGround();
+    this.#drawLines();
+    this.took = performance.now() - began;
+  }
+
+  #drawGround() {
+    const pen = /** @type {CanvasRenderingContext2D} */ (this.base.getContext('2d', { alpha: false })), { base, ground, fine } = this;
+    pen.setTransform(1, 0, 0, 1, 0, 0);
+    pen.fillStyle = css(this.inks.void);
+    pen.fillRect(0, 0, base.width, base.height);
+    pen.imageSmoothingEnabled = false;
+    if (ground) this.#drawCells(pen, ground);
+    if (!fine) return;
+    const [x, y, width, height] = this.#place(fine.picture);
+    pen.fillRect(x, y, width, height);
+    this.#drawCells(pen, fine);
+  }
+
+  /** Where all cells of a picture stand on the canvas. @param {Picture} picture */
+  #place({ x0, y0, size, columns, rows }) {
+    const zoom = this.view.zoom * this.ratio, { base } = this;
+    const left = (x0 - this.view.x) * zoom + base.width / 2, top = (this.view.y - y0 - size * rows) * zoom + base.height / 2;
+    return [left, top, size * columns * zoom, size * rows * zoom];
+  }
+
+  /** Draws the cells that are in view. @param {CanvasRenderingContext2D} pen @param {Ground} ground */
+  #drawCells(pen, { picture, canvas }) {
+    const [left, top] = this.#place(picture), cell = picture.size * this.view.zoom * this.ratio, { base } = this;
+    const i = Math.max(0, Math.floor(-left / cell)), j = Math.max(0, Math.floor(-top / cell));
+    const n = Math.min(picture.columns, Math.ceil((base.width - left) / cell)) - i, k = Math.min(picture.rows, Math.ceil((base.height - top) / cell)) - j;
+    if (n > 0 && k > 0) pen.drawImage(canvas, i, j, n, k, left + i * cell, top + j * cell, n * cell, k * cell);
+  }
+
+  #drawLines() {
+    const pen = /** @type {CanvasRenderingContext2D} */ (this.over.getContext('2d')), { inks, picture, ratio } = this, { x, y, zoom } = this.view;
+    pen.setTransform(1, 0, 0, 1, 0, 0);
+    pen.clearRect(0, 0, this.over.width, this.over.height);
+    if (!picture) return;
+    pen.setTransform(zoom * ratio, 0, 0, -zoom * ratio, this.over.width / 2 - x * zoom * ratio, this.over.height / 2 + y * zoom * ratio);
+    pen.lineCap = 'round';
+    const stroke = (/** @type {Path2D | undefined} */ path, /** @type {string} */ colour, /** @type {number} */ width) => {
+      pen.strokeStyle = colour;
+      pen.lineWidth = width / zoom;
+      if (path) pen.stroke(path);
+    };
+    const thin = Math.min(1, 0.55 + zoom); // far away, lines that crowd are drawn lighter
+    stroke(this.twoSided, css(inks.step, 0.6 * thin), 0.8);
+    stroke(this.oneSided, css(inks.wall, thin), 1.3);
+    stroke(this.mistaken, css(inks.fault), 3.5);
+    this.#drawThings(pen, picture.things);
+    stroke(this.block, css(inks.void), 6);
+    stroke(this.block, css(inks.accent), 2.6);
+    this.#drawFound(pen, stroke);
+    this.#drawPin(pen);
+  }
+
+  /** How large a thing is drawn, in units. */
+  #thing() {
+    return Math.max(10, 1.6 / this.view.zoom);
+  }
+
+  /** @param {CanvasRenderingContext2D} pen @param {Int32Array} things */
+  #drawThings(pen, things) {
+    const radius = this.#thing();
+    pen.fillStyle = css(this.inks.thing, 0.9);
+    pen.beginPath();
+    for (let k = 0; k < things.length; k += 2) {
+      if (this.#outOfView(things[k], things[k + 1])) continue;
+      pen.moveTo(things[k] + radius, things[k + 1]);
+      pen.arc(things[k], things[k + 1], radius, 0, 2 * Math.PI);
+    }
+    pen.fill();
+  }
+
+  /** @param {CanvasRenderingContext2D} pen @param {(path: Path2D, colour: string, width: number) => void} stroke */
+  #drawFound(pen, stroke) {
+    const { found, inks } = this, unit = 1 / this.view.zoom;
+    if (!found) return;
+    const line = pathOf(found.length === 4 ? found : []), target = new Path2D();
+    const x = found.length === 4 ? (found[0] + found[2]) / 2 : found[0], y = found.length === 4 ? (found[1] + found[3]) / 2 : found[1];
+    target.arc(x, y, 19 * unit, 0, 2 * Math.PI);
+    for (const [dx, dy] of [[1, 0], [-1, 0], [0, 1], [0, -1]]) {
+      target.moveTo(x + 19 * dx * unit, y + 19 * dy * unit);
+      target.lineTo(x + 29 * dx * unit, y + 29 * dy * unit);
+    }
+    // Each mark has a case in the ground's colour, so that it stands out on bright sectors too.
+    stroke(target, css(inks.void), 6);
+    stroke(line, css(inks.void), 9);
+    stroke(target, css(inks.fault), 2.2);
+    stroke(line, css(inks.fault), 4.5);
+    pen.beginPath();
+    pen.arc(x, y, 2.5 * unit, 0, 2 * Math.PI);
+    pen.fillStyle = css(inks.fault);
+    pen.fill();
+  }
+
+  /** @param {CanvasRenderingContext2D} pen */
+  #drawPin(pen) {
+    const { pinned, inks } = this, unit = 1 / this.view.zoom;
+    if (!pinned) return;
+    for (const [radius, colour] of /** @type {[number, string][]} */ ([[10, css(inks.void)], [8, css(inks.ink)], [5.6, css(inks.void)], [2.6, css(inks.ink)]])) {
+      pen.fillStyle = colour;
+      pen.beginPath();
+      pen.arc(pinned.x, pinned.y, radius * unit, 0, 2 * Math.PI);
+      pen.fill();
+    }
+  }
+
+  #resize() {
+    const { width, height } = this.frame.getBoundingClientRect();
+    const isSame = width === this.size.width && height === this.size.height && this.ratio === devicePixelRatio;
+    if (!width || !height || isSame) return;
+    this.ratio = devicePixelRatio;
+    this.size = { width, height };
+    for (const canvas of [this.base, this.over]) {
+      canvas.width = Math.round(width * this.ratio);
+      canvas.height = Math.round(height * this.ratio);
+    }
+    this.took = 0;
+    if (this.fitted) this.fit(); else this.#set(this.view);
+  }
+
+  // Pointer and keys -------------------------------------------------------------------------------------------------------------
+
+  /** What lies under a place of the map. @param {number} x @param {number} y @returns {Under} */
+  #under(x, y) {
+    const { picture } = this, radius = Math.max(this.#thing(), 5 / this.view.zoom);
+    if (!picture) return { sector: '', thing: '' };
+    let nearest = radius, thing = '';
+    for (let k = 0; k < picture.things.length; k += 2) {
+      const far = Math.hypot(picture.things[k] - x, picture.things[k + 1] - y);
+      if (far > nearest) continue;
+      nearest = far;
+      thing = picture.thingTitles[k / 2];
+    }
+    const shown = (this.fine?.has(x, y) ? this.fine : this.ground)?.shownAt(x, y);
+    if ((shown?.sector ?? -1) !== this.hovered) {
+      this.hovered = shown?.sector ?? -1;
+      this.#ink();
+    }
+    return { sector: shown?.title ?? '', thing };
+  }
+
+  /** @param {WheelEvent} event */
+  #wheel(event) {
+    event.preventDefault();
+    const box = this.frame.getBoundingClientRect(), step = event.deltaY * (event.deltaMode === 1 ? 30 : 1) * (event.ctrlKey ? 0.01 : 0.0018);
+    this.zoom(Math.exp(-Math.max(-0.6, Math.min(0.6, step))), event.clientX - box.left, event.clientY - box.top);
+  }
+
+  /** @param {PointerEvent} event */
+  #pointer(event) {
+    if (/** @type {Element} */ (event.target).closest('button')) return;
+    const box = this.frame.getBoundingClientRect(), at = { x: event.clientX - box.left, y: event.clientY - box.top };
+    const before = this.pointers.get(event.pointerId);
+    if (event.type === 'pointerdown' && event.button === 0) this.#press(event.pointerId, at);
+    else if (event.type === 'pointermove' && before) this.#drag(event.pointerId, before, at);
+    else if (event.type === 'pointermove') this.#hover(at);
+    else if (event.type === 'pointerleave') this.#leave();
+    else if (before) this.#release(event, at);
+  }
+
+  /** @param {number} id @param {{ x: number, y: number }} at */
+  #press(id, at) {
+    if (!this.pointers.size) this.dragged = 0;
+    this.pointers.set(id, at);
+    this.frame.setPointerCapture(id);
+  }
+
+  /** @param {number} id @param {{ x: number, y: number }} before @param {{ x: number, y: number }} at */
+  #drag(id, before, at) {
+    this.dragged += Math.hypot(at.x - before.x, at.y - before.y);
+    const [a, b] = [...this.pointers.values()];
+    this.pointers.set(id, at);
+    const [c, d] = [...this.pointers.values()];
+    if (b && d) {
+      this.pan((c.x + d.x - a.x - b.x) / 2, (c.y + d.y - a.y - b.y) / 2);
+      this.zoom(Math.hypot(c.x - d.x, c.y - d.y) / Math.max(1, Math.hypot(a.x - b.x, a.y - b.y)), (c.x + d.x) / 2, (c.y + d.y) / 2);
+    } else if (this.dragged > 4) {
+      this.frame.classList.add('dragging');
+      this.pan(at.x - before.x, at.y - before.y);
+    }
+  }
+
+  /** @param {{ x: number, y: number }} at */
+  #hover(at) {
+    const [x, y] = this.at(at.x, at.y);
+    this.tell.hover(Math.floor(x), Math.floor(y), this.#under(x, y));
+  }
+
+  #leave() {
+    if (this.hovered >= 0) {
+      this.hovered = -1;
+      this.#ink();
+    }
+    this.tell.leave();
+  }
+
+  /** @param {PointerEvent} event @param {{ x: number, y: number }} at */
+  #release(event, at) {
+    this.pointers.delete(event.pointerId);
+    this.frame.classList.remove('dragging');
+    const [x, y] = this.at(at.x, at.y);
+    if (event.type === 'pointerup' && this.dragged <= 4 && !this.pointers.size) this.tell.pin(Math.floor(x), Math.floor(y));
+  }
+
+  /** @param {KeyboardEvent} event */
+  #key(event) {
+    if (event.target !== this.frame || event.ctrlKey || event.metaKey || event.altKey) return;
+    const step = event.shiftKey ? 240 : 60;
+    /** @type {Record<string, () => void>} */
+    const keys = {
+      ArrowLeft: () => this.pan(step, 0), ArrowRight: () => this.pan(-step, 0), ArrowUp: () => this.pan(0, step), ArrowDown: () => this.pan(0, -step),
+      '+': () => this.zoom(1.4), '=': () => this.zoom(1.4), '-': () => this.zoom(1 / 1.4), 0: () => this.fit(),
+      Enter: () => this.tell.pin(Math.floor(this.view.x), Math.floor(this.view.y)), Escape: () => this.tell.unpin(),
+    };
+    if (!keys[event.key]) return;
+    keys[event.key]();
+    event.preventDefault();
+  }
+}

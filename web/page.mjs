@@ -1,0 +1,351 @@
+// The page: which files are open, which level or demo is shown, and how the parts tell one another.
+import { DemoTable } from './demo_table.mjs';
+import { LevelView } from './level_view.mjs';
+import { Lines } from './lines.mjs';
+import { ListBox } from './list.mjs';
+import { Questions, Stopped } from './questions.mjs';
+import { make } from './rows.mjs';
+import { canRun } from './wad_page.mjs';
+import { field, get, isNarrow, notJudged, pane, plural, say, sizeOf, verdict, wordsOf } from './words.mjs';
+
+/** @typedef {import('./words.mjs').Level} Level */
+/**
+ * @typedef {{ key: string, file: File, kind: string, refused: string, heads: Lines, survey: Lines | null, demos: Lines,
+ *   stopped: boolean, judged: boolean, surveys: number }} OpenFile  `heads` and `demos` are lines of `lumps`, `survey` those of the engine's answer
+ */
+
+const none = () => new Lines({ bytes: new Uint8Array(), ends: new Uint32Array() });
+
+const state = {
+  files: /** @type {OpenFile[]} */ ([]),
+  file: /** @type {OpenFile | null} */ (null), // whose levels are listed
+  of: /** @type {OpenFile | null} */ (null), // whose level or demo is shown
+  shown: -1, // the level's number in its file; -1 for a demo
+  wide: false,
+};
+
+// Work -------------------------------------------------------------------------------------------------------------------------
+
+function changed() {
+  const label = desk.label ?? judge.label;
+  get('work').hidden = !label;
+  if (label) get('work-label').textContent = label;
+}
+const desk = new Questions(changed); // what is waited for
+const judge = new Questions(changed); // what takes longer: whole files
+const finer = new Questions(() => {}); // pictures of parts
+
+/** @param {OpenFile} f */
+const asking = (f) => ({ key: f.key, file: f.file, wide: state.wide });
+/** A file's name as a word, which begins with no dash. @param {OpenFile} f */
+const pathOf = (f) => f.file.name.replace(/^-/, './-');
+
+// Files ------------------------------------------------------------------------------------------------------------------------
+
+/** @type {ListBox<OpenFile>} */
+const files = new ListBox(get('files'), (f) => {
+  const held = [sizeOf(f.file.size), f.heads.count && plural(f.heads.count, 'level'), f.kind !== 'demo' && f.demos.count && plural(f.demos.count, 'demo')];
+  return [
+    make('span', 'row-name', f.file.name),
+    make('span', `row-state${f.refused ? ' fault' : ''}`, f.refused ? 'refused' : f.kind || 'reading'),
+    make('span', 'row-more', f.refused || held.filter(Boolean).join(' · ')),
+  ];
+}, (f) => {
+  chooseFile(f);
+  if (f.heads.count || f.demos.count) pane('levels');
+});
+const showFiles = () => files.show(state.files.length, (k) => state.files[k], state.file ? state.files.indexOf(state.file) : -1, true);
+
+/** Opens files; the first that isn't refused is shown. @param {Iterable<File>} chosen */
+async function open(chosen) {
+  document.body.classList.remove('empty');
+  /** @type {OpenFile[]} */
+  const fresh = [...chosen].map((file, k) => ({
+    key: `${performance.now()} ${k}`, file, kind: '', refused: '', heads: none(), survey: null, demos: none(), stopped: false, judged: false, surveys: 0,
+  }));
+  state.files.push(...fresh);
+  showFiles();
+  let first = true;
+  for (const f of fresh) {
+    try {
+      const { levels, demos, ...told } = await desk.ask('open', asking(f), `Reading ${f.file.name}`);
+      Object.assign(f, told, !told.refused && { heads: new Lines(levels), demos: new Lines(demos) });
+    } catch (error) { f.refused = error instanceof Stopped ? 'stopped before it was read' : wordsOf(error); }
+    showFiles();
+    if (f.refused) {
+      say(`${f.file.name}: ${f.refused}`);
+      continue;
+    }
+    if (first) showFirst(f);
+    first = false;
+    survey(f);
+  }
+}
+
+/** @param {OpenFile} f */
+function showFirst(f) {
+  chooseFile(f);
+  pane('levels');
+  if (f.heads.count) chooseLevel(0); else if (f.demos.count) chooseDemo(0);
+}
+
+/** Judges all levels of a file. @param {OpenFile} f */
+async function survey(f) {
+  if (!f.heads.count) return;
+  const mine = ++f.surveys; // a late answer of an earlier one is let go
+  f.stopped = false;
+  try {
+    const told = await judge.ask('survey', { ...asking(f), path: pathOf(f), count: f.heads.count }, `Judging ${f.file.name}`);
+    if (mine !== f.surveys) return;
+    f.survey = told && new Lines(told);
+    f.judged = true;
+    say(`${f.file.name}: ${plural(f.heads.count, 'level')} ${told ? 'judged' : 'listed'}`);
+  } catch (error) {
+    if (mine !== f.surveys) return;
+    f.stopped = true;
+    if (!(error instanceof Stopped)) say(wordsOf(error));
+  }
+  if (f === state.file) showLevels(true);
+  if (f === state.of && state.shown >= 0 && f.survey && levelOf(f, state.shown).format !== 'doom') showLevel(); // now it can say why
+}
+
+/** @param {OpenFile} f */
+function chooseFile(f) {
+  state.file = f;
+  showFiles();
+  field('filter').value = '';
+  field('only').checked = false;
+  showLevels();
+  get('demos-part').hidden = !f.demos.count;
+  showDemos();
+}
+
+// Levels -----------------------------------------------------------------------------------------------------------------------
+
+/** @param {OpenFile} f @param {number} k @returns {Level} */
+function levelOf(f, k) {
+  if (f.survey) return JSON.parse(f.survey.at(k));
+  const [entry, , , name] = f.heads.at(k).split(' ');
+  return { level: name, entry: Number(entry) };
+}
+
+/** @type {ListBox<{ k: number, level: Level }>} */
+const levels = new ListBox(get('levels'), ({ level }) => {
+  const { format, faults } = level, doom = format === 'doom';
+  const told = doom ? verdict(level) : format ? 'not judged' : state.file?.stopped ? 'stopped' : state.file?.judged ? '' : '…';
+  const isFault = faults || format === 'incomplete' || format === 'outside';
+  const more = doom ? `${level.linedefs} linedefs · ${level.sectors} sectors · ${level.things} things` : format ? notJudged(level) : `entry ${level.entry}`;
+  return [
+    make('span', 'row-name', level.level, ' ', make('span', 'format', format ?? '')),
+    make('span', `row-state${isFault ? ' fault' : level.notes ? ' noted' : ''}`, told),
+    make('span', 'row-more', more),
+  ];
+}, ({ k }) => {
+  chooseLevel(k);
+  if (isNarrow()) pane('map');
+});
+
+/** Whether the level is among those asked for. @param {Level} level @param {string[]} words @param {boolean} only */
+function isWanted(level, words, only) {
+  const { faults, format } = level;
+  const codes = Object.keys({ ...level.findings, ...level.warnings }).join(' ');
+  if (only && !codes && format === 'doom') return false;
+  const told = `${level.level} ${format} ${level.lump ?? level.tag ?? ''} ${codes} ${faults ? 'faults' : faults === 0 ? 'sound' : ''}`.toLowerCase();
+  return words.every((word) => told.includes(word));
+}
+
+let filtering = 0; // counts filters, so that an earlier one ends where a later one began
+
+/** Lists the file's levels that are wanted, a part at a time where they are very many. @param {boolean} [kept] */
+async function showLevels(kept = false) {
+  const f = state.file, mine = ++filtering, words = field('filter').value.toLowerCase().split(/\s+/).filter(Boolean), only = field('only').checked;
+  if (!f) return;
+  const count = f.survey?.count ?? f.heads.count;
+  /** @type {number[] | null} */
+  let wanted = null;
+  if (words.length || only) {
+    wanted = [];
+    for (let k = 0, until = performance.now() + 20; k < count; k++) {
+      if (isWanted(levelOf(f, k), words, only)) wanted.push(k);
+      if (k % 256 || performance.now() < until) continue;
+      await new Promise((go) => setTimeout(go));
+      if (mine !== filtering) return;
+      until = performance.now() + 20;
+    }
+  }
+  const chosen = state.of !== f ? -1 : wanted ? wanted.indexOf(state.shown) : state.shown, which = wanted;
+  levels.show(which?.length ?? count, (row) => {
+    const k = which ? which[row] : row;
+    return { k, level: levelOf(f, k) };
+  }, chosen, kept);
+  get('levels-count').textContent = which ? `${which.length} of ${count}` : String(count);
+  tellNone(f, count, which?.length ?? count);
+}
+
+/** What stands where there is no level to list, or none judged. @param {OpenFile} f @param {number} count @param {number} listed */
+function tellNone(f, count, listed) {
+  const told = get('levels-none'), goOn = make('button', '', 'Go on');
+  goOn.addEventListener('click', () => {
+    survey(f);
+    showLevels(true);
+  });
+  told.hidden = listed > 0 && !f.stopped;
+  told.replaceChildren(...(!count ? ['No levels in this file.'] : f.stopped ? ['Stopped before all levels were judged. ', goOn] : ['No level matches.']));
+}
+
+/** @param {number} k */
+function chooseLevel(k) {
+  if (!state.file) return;
+  state.of = state.file;
+  state.shown = k;
+  showDemos();
+  showLevel();
+}
+
+/** Shows the chosen level. */
+function showLevel() {
+  const f = state.of;
+  if (!f) return;
+  const level = levelOf(f, state.shown), { level: name, entry, format } = level;
+  stage('map', f, name);
+  view.show({ ...asking(f), entry, name }, format && format !== 'doom' ? notJudged(level) : '');
+}
+
+/** @param {'map' | 'demo'} which @param {OpenFile} f @param {string} name */
+function stage(which, f, name) {
+  get('demo').hidden = which !== 'demo';
+  document.body.classList.toggle('at-demo', which === 'demo');
+  get('crumbs').replaceChildren(make('span', '', f.file.name), ...(f.kind === 'demo' ? [] : [make('span', 'here', name)]));
+  document.title = `${name} – wadlook`;
+}
+
+const view = new LevelView(desk, finer, () => {
+  field('wide').checked = true;
+  readAnew();
+});
+
+/** Reads all indexes as the box says, and judges and draws anew. */
+function readAnew() {
+  state.wide = field('wide').checked;
+  judge.stop();
+  for (const f of state.files) {
+    f.survey = null;
+    f.judged = false;
+    survey(f);
+  }
+  showLevels(true);
+  if (state.shown >= 0) showLevel();
+}
+
+// Demos ------------------------------------------------------------------------------------------------------------------------
+
+/** @type {ListBox<string>} */
+const demos = new ListBox(get('demos'), (line) => [make('span', 'row-name', state.file?.kind === 'demo' ? state.file.file.name : line.split(' ')[3])], (_, k) => {
+  chooseDemo(k);
+  if (isNarrow()) pane('map');
+});
+let demoShown = -1;
+function showDemos() {
+  const f = state.file;
+  if (f) demos.show(f.demos.count, (k) => f.demos.at(k), state.of === f && state.shown < 0 ? demoShown : -1, true);
+}
+const table = new DemoTable(get('commands'));
+
+/** @param {number} k */
+async function chooseDemo(k) {
+  const f = state.file;
+  if (!f) return;
+  const [, at, size, lump] = f.demos.at(k).split(' '), name = f.kind === 'demo' ? f.file.name : lump;
+  state.of = f;
+  state.shown = -1;
+  demoShown = k;
+  view.asked = null;
+  view.clear('');
+  showLevels(true);
+  showDemos();
+  stage('demo', f, name);
+  get('title').textContent = name;
+  table.show(null);
+  const told = await desk.ask('demo', { ...asking(f), at: Number(at), size: Number(size) }, `Reading ${name}`).catch((error) => ({ refused: wordsOf(error) }));
+  if (state.of !== f || state.shown >= 0 || demoShown !== k) return;
+  get('told').textContent = told.refused ? `refused: ${told.refused}` : told.line;
+  get('told').className = told.refused ? 'fault' : '';
+  table.show(told.listing ? new Lines(told.listing) : null);
+}
+
+get('tic-form').addEventListener('submit', (event) => {
+  event.preventDefault();
+  table.goTo(Number(field('tic').value));
+});
+
+// Save -------------------------------------------------------------------------------------------------------------------------
+
+/** @param {BlobPart} part @param {string} name @param {string} type */
+function save(part, name, type) {
+  const link = document.createElement('a');
+  link.href = URL.createObjectURL(new Blob([part], { type }));
+  link.download = name.replace(/[^\w.-]+/g, '_');
+  link.click();
+  setTimeout(() => URL.revokeObjectURL(link.href), 10000);
+  say(`${link.download} saved`);
+}
+
+/** @type {Record<string, (f: OpenFile) => unknown>} */
+const saves = {
+  'save-pwad': async () => view.asked && save(await desk.ask('cut', view.asked), `${view.asked.name}.wad`, 'application/octet-stream'),
+  'save-svg': () => view.svg && save(view.svg, `${view.asked?.name}.svg`, 'image/svg+xml'),
+  'save-report': async (f) => save(await judge.ask('report', { ...asking(f), path: pathOf(f) }, `Checking ${f.file.name}`), `${f.file.name}.txt`, 'text/plain'),
+  'save-json': (f) => f.survey ? save(f.survey.bytes, `${f.file.name}.jsonl`, 'application/jsonl') : say(f.judged ? 'the engine of this page makes no survey yet' : 'the levels are not judged yet'),
+};
+for (const [id, act] of Object.entries(saves)) {
+  get(id).addEventListener('click', async () => {
+    try { if (state.of) await act(state.of); } catch (error) { say(wordsOf(error)); }
+  });
+}
+
+// The window -------------------------------------------------------------------------------------------------------------------
+
+for (const id of ['choose', 'choose-too']) get(id).addEventListener('click', () => field('file').click());
+field('file').addEventListener('change', () => {
+  open([...field('file').files ?? []]);
+  field('file').value = ''; // so that the same file can be chosen again
+});
+for (const tab of /** @type {NodeListOf<HTMLElement>} */ (document.querySelectorAll('.tabs button'))) {
+  tab.addEventListener('click', () => pane(tab.dataset.to ?? ''));
+}
+for (const id of ['filter', 'only']) get(id).addEventListener('input', () => showLevels());
+field('filter').addEventListener('keydown', (event) => {
+  if (event.key !== 'ArrowDown' && event.key !== 'Enter') return;
+  event.preventDefault();
+  get('levels').focus();
+  levels.pick(Math.max(0, levels.at));
+});
+field('wide').addEventListener('input', readAnew);
+get('stop').addEventListener('click', () => [desk, judge].forEach((questions) => questions.stop()));
+addEventListener('keydown', (event) => {
+  if (event.key !== '/' || /** @type {Element} */ (event.target).matches('input')) return;
+  event.preventDefault();
+  field('filter').focus();
+});
+
+let over = 0; // how many elements the dragged files are over
+const dragged = (/** @type {number} */ now) => {
+  over = Math.max(0, now);
+  document.body.classList.toggle('dragged', over > 0);
+};
+addEventListener('dragenter', () => dragged(over + 1));
+addEventListener('dragleave', () => dragged(over - 1));
+addEventListener('dragover', (event) => event.preventDefault());
+addEventListener('drop', (event) => {
+  event.preventDefault();
+  dragged(0);
+  if (canRun() && event.dataTransfer?.files.length) open([...event.dataTransfer.files]);
+});
+
+pane('files');
+document.body.dataset.ready = 'yes';
+if (!canRun()) {
+  get('unable').hidden = false;
+  get('unable').textContent = "This browser can't run the engine: it has no 64-bit WebAssembly memory. Chrome and Edge have it from 133 on, Firefox from 134 on.";
+  for (const id of ['choose', 'choose-too']) get(id).toggleAttribute('disabled', true);
+}

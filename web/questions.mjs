@@ -1,0 +1,65 @@
+// The page's end of a worker: questions with answers, what is under way, and a stop that ends it all at once.
+
+/** What a question that was stopped ends with. */
+export class Stopped extends Error {}
+
+export class Questions {
+  /** @param {() => void} changed called where what is under way may have changed */
+  constructor(changed) {
+    this.changed = changed;
+    /** @type {Map<number, { resolve: (value: any) => void, reject: (why: Error) => void, part?: (part: any) => void, label?: string }>} */
+    this.open = new Map();
+    this.next = 1;
+    /** @type {Worker | null} */
+    this.worker = null;
+  }
+
+  /**
+   * Asks the worker. While it lasts `label` tells what is under way; what is quick has none.
+   * @param {string} job @param {object} body @param {string} [label] @param {(part: any) => void} [part] @returns {Promise<any>}
+   */
+  ask(job, body, label, part) {
+    if (!this.worker) {
+      this.worker = new Worker(new URL('worker.mjs', import.meta.url), { type: 'module' });
+      this.worker.onmessage = ({ data }) => this.#answered(data);
+      this.worker.onerror = (event) => this.stop(new Error(event.message || 'the worker ended'));
+    }
+    const id = this.next++;
+    return new Promise((resolve, reject) => {
+      this.open.set(id, { resolve, reject, part, label });
+      this.worker?.postMessage({ id, job, ...body });
+      this.changed();
+    });
+  }
+
+  /** What is under way, the newest first asked for; undefined where nothing is that has a label. */
+  get label() {
+    return [...this.open.values()].find(({ label }) => label)?.label;
+  }
+
+  /**
+   * Ends all that is under way; the next question starts a new worker, which reads its file again.
+   * @param {Error} [why]
+   */
+  stop(why = new Stopped('stopped')) {
+    this.worker?.terminate();
+    this.worker = null;
+    const open = [...this.open.values()];
+    this.open.clear();
+    for (const { reject } of open) reject(why);
+    this.changed();
+  }
+
+  /** @param {{ id: number, result?: any, part?: any, fault?: string }} data */
+  #answered({ id, result, part, fault }) {
+    const asked = this.open.get(id);
+    if (!asked) return;
+    if (part !== undefined) {
+      asked.part?.(part);
+      return;
+    }
+    this.open.delete(id);
+    if (fault !== undefined) asked.reject(new Error(fault)); else asked.resolve(result);
+    this.changed();
+  }
+}

@@ -1,0 +1,130 @@
+// The rows of a list or a table that scrolls: only those in view are made, so a million of them cost no more than a screen.
+
+/** Browsers give no element more than some ten million pixels; a longer list scrolls in larger steps. */
+const TALLEST = 8_000_000;
+
+/**
+ * An element with a class and children; strings become text, never markup.
+ * @param {string} tag @param {string} [name] @param {...(Node | string)} children
+ */
+export function make(tag, name = '', ...children) {
+  const element = document.createElement(tag);
+  if (name) element.className = name;
+  element.append(...children);
+  return element;
+}
+
+export class Rows {
+  /**
+   * @param {HTMLElement} viewport the part that scrolls; its `--row` is the height of a row in pixels
+   * @param {HTMLElement} body the part that is as tall as all rows @param {(k: number) => HTMLElement} draw makes row `k`
+   */
+  constructor(viewport, body, draw) {
+    this.viewport = viewport;
+    this.body = body;
+    this.draw = draw;
+    this.count = 0;
+    this.offset = 0; // pixels of rows above the first that is seen
+    this.placed = -1; // where the viewport was last scrolled to from here
+    /** @type {Map<number, HTMLElement>} */
+    this.made = new Map();
+    viewport.addEventListener('scroll', () => this.#scrolled(), { passive: true });
+    viewport.addEventListener('wheel', (event) => this.#wheel(event), { passive: false });
+    new ResizeObserver(() => this.#measure()).observe(viewport);
+  }
+
+  /**
+   * Shows `count` rows from the first on.
+   * @param {number} count
+   */
+  show(count) {
+    this.count = count;
+    this.offset = 0;
+    this.#clear();
+    this.#measure();
+  }
+
+  /** Makes the rows in view anew, and `count` of them all. @param {number} [count] */
+  redraw(count = this.count) {
+    this.count = count;
+    this.#clear();
+    this.#measure();
+  }
+
+  /**
+   * Scrolls no further than is needed to see row `k`, or until it is the first that is seen.
+   * @param {number} k @param {boolean} [first]
+   */
+  reveal(k, first = false) {
+    const top = k * this.height, view = this.#view();
+    if (first || top < this.offset) this.offset = top;
+    else if (top + this.height > this.offset + view) this.offset = top + this.height - view;
+    this.#place();
+  }
+
+  /** Row `k` where it is made. @param {number} k */
+  row(k) {
+    return this.made.get(k);
+  }
+
+  #clear() {
+    for (const row of this.made.values()) row.remove();
+    this.made.clear();
+  }
+
+  /** The height in which rows are seen; what stands above the body takes its part. */
+  #view() {
+    return Math.max(0, this.viewport.clientHeight - this.body.offsetTop);
+  }
+
+  #measure() {
+    this.height = parseFloat(getComputedStyle(this.viewport).getPropertyValue('--row')) || 40;
+    this.body.style.height = `${Math.min(TALLEST, this.count * this.height)}px`;
+    this.#place();
+  }
+
+  /** Pixels of rows to a pixel of scrolling. */
+  #ratio() {
+    const view = this.#view(), total = this.count * this.height;
+    return total <= TALLEST ? 1 : (total - view) / (TALLEST - view);
+  }
+
+  #scrolled() {
+    if (Math.abs(this.viewport.scrollTop - this.placed) >= 1) this.offset = this.viewport.scrollTop * this.#ratio();
+    this.#fill();
+  }
+
+  /** @param {WheelEvent} event */
+  #wheel(event) {
+    if (this.#ratio() === 1 || event.ctrlKey) return;
+    event.preventDefault();
+    this.offset += event.deltaY * (event.deltaMode === 1 ? this.height : 1);
+    this.#place();
+  }
+
+  #place() {
+    this.offset = Math.max(0, Math.min(this.offset, this.count * this.height - this.#view()));
+    this.viewport.scrollTop = this.offset / this.#ratio();
+    this.placed = this.viewport.scrollTop;
+    this.#fill();
+  }
+
+  #fill() {
+    const first = Math.max(0, Math.floor(this.offset / this.height) - 4);
+    const last = Math.min(this.count, Math.ceil((this.offset + this.#view()) / this.height) + 4);
+    for (const [k, row] of this.made) {
+      if (k >= first && k < last) continue;
+      row.remove();
+      this.made.delete(k);
+    }
+    const moved = this.#ratio() === 1 ? 0 : this.viewport.scrollTop - this.offset;
+    for (let k = last - 1; k >= first; k--) {
+      const row = this.made.get(k) ?? this.draw(k);
+      row.style.transform = `translateY(${k * this.height + moved}px)`;
+      if (this.made.has(k)) continue;
+      this.made.set(k, row);
+      const next = this.made.get(k + 1); // rows stand in their order, for those who hear them read
+      if (next) next.before(row); else this.body.append(row);
+    }
+  }
+}

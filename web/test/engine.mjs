@@ -1,0 +1,87 @@
+// engine.mjs FOLDER WADLOOK SAMPLE: runs each command in the module of FOLDER and in the native program, and compares them.
+import { readFileSync, mkdtempSync, rmSync, writeFileSync } from 'node:fs';
+import { spawnSync } from 'node:child_process';
+import { tmpdir } from 'node:os';
+import { join } from 'node:path';
+import { pathToFileURL } from 'node:url';
+
+const [folder, program, sample] = process.argv.slice(2);
+// What a page fetches lies in the folder here.
+globalThis.fetch = async (url) => new Response(readFileSync(new URL(url)), { headers: { 'Content-Type': 'application/wasm' } });
+const { run } = await import(pathToFileURL(join(folder, 'wad_page.mjs')).href);
+
+const room = mkdtempSync(join(tmpdir(), 'engine-'));
+process.on('exit', () => rmSync(room, { recursive: true, force: true }));
+let passed = 0, failed = 0;
+
+/** The files that cases name. */
+const base = readFileSync(sample), names = new Map();
+const keep = (name, bytes) => { writeFileSync(join(room, name), bytes); names.set(name, bytes); };
+
+/** A WAD of these lumps, `[name, bytes]` each. */
+function wad(lumps) {
+  const parts = [], directory = Buffer.alloc(16 * lumps.length);
+  let at = 12;
+  lumps.forEach(([name, bytes], i) => {
+    directory.writeInt32LE(at, 16 * i);
+    directory.writeInt32LE(bytes.length, 16 * i + 4);
+    directory.write(name, 16 * i + 8, 'latin1');
+    parts.push(bytes);
+    at += bytes.length;
+  });
+  const header = Buffer.from('PWAD\0\0\0\0\0\0\0\0', 'latin1');
+  header.writeInt32LE(lumps.length, 4);
+  header.writeInt32LE(at, 8);
+  return Buffer.concat([header, ...parts, directory]);
+}
+
+/** The sample with a byte turned at each of some places. */
+function damaged(places) {
+  const bytes = Buffer.from(base);
+  for (const place of places) bytes[place % bytes.length] ^= 0xff;
+  return bytes;
+}
+
+const demo = Buffer.from([109, 2, 1, 1, 0, 0, 0, 0, 0, 1, 0, 0, 0, 50, 0, 0, 0, 206, 24, 255, 3, 128, 7]);
+keep('base.wad', base);
+keep('demo.lmp', demo);
+keep('cut.lmp', demo.subarray(0, 19));
+keep('short.wad', Buffer.from('PWAD'));
+keep('empty.wad', wad([]));
+keep('demo.wad', wad([['DEMO1', demo], ['BROKEN', demo.subarray(0, 5)]]));
+for (let i = 0; i < 40; i++) keep(`damaged${i}.wad`, damaged([i * 37 + 13, i * 101 + 40]));
+
+/** Compares a run of these words; those of `paths` are files. */
+async function check(words, paths, input = '') {
+  const given = Buffer.from(input);
+  const native = spawnSync(program, [...words, ...paths], { cwd: room, input: given, maxBuffer: 1 << 30 });
+  const page = await run([...words, ...paths], paths.map((path) => names.get(path)), given);
+  const reason = page.refused && `refused: ${page.refused}\n`;
+  if (page.status === native.status && native.stdout.equals(page.answer) && native.stderr.toString() === reason) {
+    passed++;
+    return;
+  }
+  failed++;
+  console.log(`FAILED ${[...words, ...paths].join(' ')}\n`, page.status, native.status, reason, native.stderr.toString());
+}
+
+const points = '0 5\n-20 3\n16383 -16384\nx\n16384 0\n', pairs = '0 1\n1 0\n0 7\n', rectangles = '0 0 9 9\n-5 -5 5 5\n5 5 1 1\n';
+const commands = [
+  [['lumps']], [['levels']], [['show', 'E1M1']], [['show', '--wide', 'E1M1']], [['audit', 'E1M1']], [['audit', '--wide', 'E1M1']],
+  [['points', 'E1M1'], points], [['points', '--wide', 'E1M1'], points], [['census', 'E1M1'], rectangles],
+  [['census', '--wide', 'E1M1'], rectangles], [['sight', 'E1M1'], pairs], [['blocks', 'E1M1'], points],
+  [['blocks', '--wide', 'E1M1'], points], [['extract', 'E1M1']], [['demo', 'DEMO1']], [['demo', 'BROKEN']],
+];
+for (const [words, input] of commands) {
+  for (const paths of [['base.wad'], ['base.wad', 'demo.wad'], ['demo.wad', 'base.wad'], ['short.wad'], ['empty.wad']]) {
+    await check(words, paths, input);
+  }
+}
+for (const path of ['demo.lmp', 'cut.lmp', 'short.wad']) await check(['lmp'], [path]);
+for (let i = 0; i < 40; i++) await check(['audit', 'E1M1'], [`damaged${i}.wad`]);
+for (const words of [['nothing', 'E1M1'], ['points'], ['audit', '-x'], ['lmp', 'base.wad'], ['sight', '--wide', 'E1M1']]) {
+  await check(words, ['base.wad']);
+}
+await check(['points', 'E1M1'], ['base.wad'], points.repeat(20000));
+console.log(`${passed} passed, ${failed} failed`);
+process.exitCode = failed ? 1 : 0;

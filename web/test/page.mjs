@@ -1,0 +1,480 @@
+// The cases of the page: see `page`, which runs this.
+import { existsSync, mkdirSync, mkdtempSync, readFileSync, rmSync, writeFileSync } from 'node:fs';
+import { tmpdir } from 'node:os';
+import { join } from 'node:path';
+import { Browser, chromium, wait } from './browser.mjs';
+import { measure } from './measure.mjs';
+import { runProgram, serve } from './server.mjs';
+import { demo, farLinedef, lostLinedef, oneMistaken, rooms, wad } from './wads.mjs';
+
+const [root, ...options] = process.argv.slice(2);
+const valueOf = (/** @type {string} */ name) => options.includes(name) ? options[options.indexOf(name) + 1] : '';
+const programs = { wadlook: join(root, 'crates/wadlook/out/wadlook'), wadlens: join(root, 'crates/wadlens/out/wadlens') };
+const built = join(root, 'web/out'), module = join(built, 'wad_page.wasm'), isBuilt = existsSync(module) && !options.includes('--native');
+// The programs also answer where the module hasn't the words of `wadlens`.
+const isNative = !isBuilt || !readFileSync(module).includes('lens_run');
+const pictures = valueOf('--pictures');
+if (pictures) mkdirSync(pictures, { recursive: true });
+if (isNative) console.log("the programs answer in the module's place");
+
+const room = mkdtempSync(join(tmpdir(), 'page-'));
+const overPrograms = (/** @type {import('./server.mjs').Words} */ which) => serve(join(root, 'web'), room, programs, which);
+const whole = isNative ? await overPrograms(options.includes('--bare') ? 'both' : 'doubled') : await serve(built, room);
+const less = isBuilt && isNative ? await serve(built, room) : await overPrograms('wadlook');
+let server = whole;
+const browser = new Browser(chromium(), join(room, 'profile'));
+
+let passed = 0, failed = 0;
+/** @param {string} what @param {unknown} came @param {unknown} wanted */
+function check(what, came, wanted) {
+  const [is, should] = [came, wanted].map((value) => typeof value === 'string' ? value : JSON.stringify(value));
+  if (is === should) {
+    passed++;
+    return;
+  }
+  failed++;
+  console.log(`FAILED ${what}\n--- wanted\n${should?.slice(0, 1000)}\n--- came\n${is?.slice(0, 1000)}\n---`);
+}
+
+// What a person sees and does ---------------------------------------------------------------------------------------------------
+
+const textOf = (/** @type {string} */ selector) => browser.run(`document.querySelector(${JSON.stringify(selector)}).textContent`);
+const textsOf = (/** @type {string} */ selector) => browser.run(`[...document.querySelectorAll(${JSON.stringify(selector)})].map((e) => e.textContent)`);
+const isHidden = (/** @type {string} */ selector) => browser.run(`document.querySelector(${JSON.stringify(selector)}).hidden`);
+const viewOf = async () => (await browser.run("document.querySelector('#map').dataset.view")).split(' ').map(Number);
+const drawn = (/** @type {string} */ name) => browser.until(`document.querySelector('#map').dataset.drawn === ${JSON.stringify(name)}`, `the level ${name}`);
+const judged = () => browser.until("!!document.querySelector('#levels .row-state') && ![...document.querySelectorAll('#levels .row-state')].some((e) => e.textContent === '…')", 'all judged');
+const pointTold = (/** @type {string} */ begin) => browser.until(`document.querySelector('#point-line').textContent.startsWith(${JSON.stringify(begin)}) && !document.querySelector('#point').hidden && document.querySelector('#point-clear').textContent !== ''`, `the point ${begin}`);
+/** Clicks the row of a list whose name is this. @param {string} list @param {string} name */
+const pick = async (list, name) => {
+  const at = await browser.run(`(() => { const row = [...document.querySelectorAll('#${list} .row')].find((r) => r.querySelector('.row-name').firstChild.textContent === ${JSON.stringify(name)});
+    row.scrollIntoView({ block: 'nearest' }); const b = row.getBoundingClientRect(); return [b.x + 40, b.y + b.height / 2]; })()`);
+  await browser.click(at[0], at[1]);
+};
+/** Waits until what was done is drawn. */
+const drawnAnew = () => browser.run('new Promise((go) => requestAnimationFrame(() => requestAnimationFrame(() => go(1))))');
+const filterBy = (/** @type {string} */ words) => browser.run(`{ const e = document.querySelector('#filter'); e.value = ${JSON.stringify(words)}; e.dispatchEvent(new Event('input')); }`);
+const fresh = async () => {
+  await browser.send('Page.navigate', { url: server.address });
+  await browser.until("document.body?.dataset.ready === 'yes'", 'the page');
+};
+/** @param {string} name @param {Buffer | string} body */
+const written = (name, body) => {
+  writeFileSync(join(room, name), body);
+  return join(room, name);
+};
+/** What a program prints of a file. @param {string[]} words @param {Buffer} file @param {string} [input] */
+const printed = (words, file, input = '') => runProgram(programs, room, words, [file], Buffer.from(input)).answer;
+/** The place on the screen of a place of the map. @param {number} x @param {number} y @returns {Promise<[number, number]>} */
+const placeOf = async (x, y) => {
+  const [vx, vy, zoom] = await viewOf(), [mx, my] = await browser.middle('#map');
+  return [mx + (x - vx) * zoom, my - (y - vy) * zoom];
+};
+
+/** Pins a point by its numbers. @param {string} numbers */
+const pinBy = async (numbers) => {
+  await browser.run(`{ document.querySelector('#at').value = ${JSON.stringify(numbers)}; }`);
+  await browser.press('#pin');
+};
+/** Pins a point by a click where there is a map. @param {number} x @param {number} y */
+const pinAt = async (x, y) => hasPictures ? browser.click(...await placeOf(x, y)) : pinBy(`${x} ${y}`);
+
+// Cases -------------------------------------------------------------------------------------------------------------------------
+
+const twoRooms = wad([...rooms('MAP01'), ...rooms('MAP02', { damage: oneMistaken }), ['DEMO1', demo(10000)]]);
+let hasPictures = false;
+
+async function files() {
+  await fresh();
+  check('no file yet', await textOf('#welcome-title'), 'Drop WAD files here');
+  await browser.drop(written('rooms.wad', twoRooms), written('notes.txt', 'notes about the rooms'), written('walk.lmp', demo(35)), written('short.wad', 'PWAD'));
+  await browser.until("document.querySelectorAll('#files .row').length === 4 && !document.querySelector('#files').textContent.includes('reading')", 'four files');
+  check('each file, its kind or why it was refused', await textsOf('#files .row-state'), ['PWAD', 'refused', 'demo', 'refused']);
+  check('a refusal in words', (await textsOf('#files .row-more'))[1], 'not a WAD file: it begins with neither IWAD nor PWAD');
+  check('another', (await textsOf('#files .row-more'))[3], 'shorter than a WAD header');
+  check('what a file holds', (await textsOf('#files .row-more'))[0].split(' · ').slice(1), ['2 levels', '1 demo']);
+}
+
+async function levels() {
+  await judged();
+  check('the levels', await textsOf('#levels .row-name'), ['MAP01 doom', 'MAP02 doom']);
+  check('what was found', await textsOf('#levels .row-state'), ['sound', 'sound, 1 note']);
+  check('their counts', (await textsOf('#levels .row-more'))[0], '7 linedefs · 2 sectors · 2 things');
+  await filterBy('map02');
+  check('the filter', await textsOf('#levels .row-name'), ['MAP02 doom']);
+  await filterBy('n3 sound');
+  check('a filter by code', await textsOf('#levels .row-name'), ['MAP02 doom']);
+  await filterBy('nothing');
+  check('a filter that nothing passes', await textOf('#levels-none'), 'No level matches.');
+  await filterBy('');
+  await browser.press('#only');
+  check('those with findings', await textsOf('#levels .row-name'), ['MAP02 doom']);
+  await browser.press('#only');
+  await browser.run("document.querySelector('#levels').focus()");
+  await browser.key('ArrowDown');
+  await drawn('MAP02');
+  check('an arrow key chooses the next level', await textOf('#levels [aria-selected=true] .row-name'), 'MAP02 doom');
+  await browser.key('Home');
+  await drawn('MAP01');
+  check('its verdict', await textOf('#told'), 'sound');
+  check('its counts', (await textsOf('#counts div')).join(' '), 'things2 linedefs7 sidedefs8 vertexes6 segs8 ssectors2 nodes1 sectors2');
+}
+
+async function picture() {
+  const none = await textOf('#map-none');
+  hasPictures = !/draws no pictures/.test(none);
+  if (!hasPictures) {
+    console.log('skipped, as the module has no pictures: what is drawn');
+    return;
+  }
+  check('as many paths as the picture has', await browser.run("document.querySelector('#map').dataset.paths"), '4'); // two sectors, one-sided, two-sided
+  await browser.mouse('mouseMoved', ...await placeOf(130, 100));
+  check('what lies under the pointer', await textOf('#under'), 'sector 0 · floor 0 FLOOR0_1 · ceiling 128 CEIL1_1 · light 160 · special 0 · tag 0');
+  await browser.mouse('mouseMoved', ...await placeOf(384, 128));
+  check('a thing under the pointer', (await textOf('#under')).split('  –  ')[0], 'thing 1 · type 3004 · angle 0 · flags 7');
+  await browser.mouse('mouseMoved', ...await placeOf(130, -8));
+  check('nothing under the pointer', await textOf('#under'), 'nothing is shown here');
+  const ink = await browser.run(`(() => { const e = document.querySelector('#map canvas'), p = e.getContext('2d');
+    return [0.35, 0.65].map((x) => [...p.getImageData(e.width * x, e.height / 2, 1, 1).data]); })()`);
+  check('the brighter room is drawn brighter', ink[1][0] > ink[0][0], true);
+}
+
+async function point() {
+  await pinAt(100, 100);
+  await browser.until("!document.querySelector('#point').hidden && document.querySelector('#point-clear').textContent !== ''", 'a pinned point');
+  const line = await textOf('#point-line'), at = `${line.split(' ').slice(0, 2).join(' ')}\n`;
+  check('the line of a pinned point is the program\'s', `${line}\n`, printed(['points', 'MAP01', 'f'], twoRooms, at).toString());
+  check('its sector', line.split(' ').slice(2, 4), ['sector', '0']);
+  check('the linedefs of its block', `${await textOf('#point-block .numbers')}\n`, printed(['blocks', 'MAP01', 'f'], twoRooms, at).toString().split(' lines ')[1]);
+  check('what REJECT lets it see', await textOf('#point-clear'), '1 sector 0');
+  check('and what not', await textOf('#point-blocked'), '1 sector 1');
+  await pinBy('300 100');
+  await pointTold('300 100');
+  check('a point by its numbers', await textOf('#point-line'), '300 100 sector 1 ssector 1');
+  check('what it sees', await textOf('#point-clear'), '2 sectors 0 1');
+  await pinBy('20000 0');
+  await pointTold('20000');
+  check('a point out of range', await textOf('#point-line'), "20000 0 isn't told: places reach from -16384 to 16383");
+  await browser.press('#unpin');
+  check('let go', await isHidden('#point'), true);
+}
+
+async function moves() {
+  if (!hasPictures) return;
+  await browser.press('#fit');
+  await drawnAnew();
+  const [x, y, zoom] = await viewOf(), [mx, my] = await browser.middle('#map');
+  await browser.mouse('mouseWheel', mx, my, { deltaX: 0, deltaY: -200 });
+  await drawnAnew();
+  const nearer = (await viewOf())[2];
+  check('the wheel zooms', nearer > zoom, true);
+  await browser.mouse('mousePressed', mx, my);
+  for (const step of [20, 40, 60]) await browser.mouse('mouseMoved', mx + step, my, { button: 'left', buttons: 1 });
+  await browser.mouse('mouseReleased', mx + 60, my);
+  await drawnAnew();
+  check('a drag moves', (await viewOf())[0] < x, true);
+  check('a drag pins nothing', await isHidden('#point'), true);
+  await browser.run("document.querySelector('#map').focus()");
+  await browser.key('0');
+  await drawnAnew();
+  check('0 shows all', (await viewOf()), [x, y, zoom]);
+  await browser.key('ArrowLeft');
+  await browser.key('+');
+  await drawnAnew();
+  const moved = await viewOf();
+  check('keys move and zoom', moved[0] < x && moved[2] > zoom, true);
+  await browser.key('Enter');
+  await browser.until("!document.querySelector('#point').hidden", 'a point by a key');
+  check('Enter pins the middle', (await textOf('#point-line')).split(' ').slice(0, 2), [String(Math.floor(moved[0])), String(Math.floor(moved[1]))]);
+  await browser.key('Escape');
+  check('Escape lets it go', await isHidden('#point'), true);
+}
+
+async function finer() {
+  if (!hasPictures) return;
+  const place = await placeOf(128, 128);
+  await browser.mouse('mouseMoved', ...place);
+  for (let k = 0; k < 4; k++) await browser.mouse('mouseWheel', ...place, { deltaX: 0, deltaY: -300 });
+  await browser.until("document.querySelector('#map').dataset.fine === '1'", 'cells of a unit');
+  await browser.mouse('mouseMoved', place[0] + 1, place[1]);
+  check('what lies under the pointer, in finer cells', (await textOf('#under')).startsWith('sector 0 · floor 0 FLOOR0_1'), true);
+}
+
+async function findings() {
+  await pick('levels', 'MAP02');
+  await drawn('MAP02');
+  check('a finding\'s codes', await textOf('#codes'), 'N3 1');
+  check('a finding', await textsOf('#findings .row > span'), ['N3', 'linedef 4', 'Two-sided, without a back sidedef, from (256, 256) to (512, 256)']);
+  const before = await viewOf();
+  await browser.press('#findings .row');
+  if (!hasPictures) return;
+  await browser.until("document.querySelector('#map').dataset.view.startsWith('384.000 256.000')", 'the view at the finding');
+  check('a finding moves the view to its place', before.slice(0, 2).join(' ') !== (await viewOf()).slice(0, 2).join(' '), true);
+}
+
+async function faults() {
+  const lost = Buffer.concat(Array.from({ length: 100 }, () => lostLinedef));
+  const file = wad([...rooms('MAP01', { linedefs: lost }), ['MAP02', Buffer.alloc(0)], ['THINGS', Buffer.alloc(0)], ['MAP03', Buffer.alloc(0)], ['TEXTMAP', Buffer.alloc(0)]]);
+  await fresh();
+  await browser.drop(written('lost.wad', file));
+  await drawn('MAP01');
+  await judged();
+  check('levels that are not judged', await textsOf('#levels .row-state'), ['100 faults', 'not judged', 'not judged']);
+  check('and why', (await textsOf('#levels .row-more')).slice(1), ['incomplete: no LINEDEFS where it belongs', 'udmf: not read']);
+  check('the verdict of a level with faults', await textOf('#told'), '100 faults');
+  await browser.run("{ const e = document.querySelector('#findings'); e.focus(); e.scrollTop = e.scrollHeight; }");
+  await browser.until("[...document.querySelectorAll('#findings .row')].pop().getAttribute('aria-posinset') === '21'", 'the last finding');
+  check('as many as are listed at first', (await textsOf('#findings .row-name')).pop(), '80 more');
+  await browser.key('End');
+  await browser.until("document.querySelector('#findings .row')?.getAttribute('aria-setsize') === '100'", 'all findings');
+  check('all of them', await textOf('#findings .row .row-message'), "Start vertex 4000 isn't there (6 vertexes)");
+  await pick('levels', 'MAP02');
+  await browser.until("document.querySelector('#title').textContent === 'MAP02' && document.querySelector('#map-none').textContent !== ''", 'MAP02');
+  check('no picture of it', await browser.run("document.querySelector('#map').dataset.drawn ?? ''"), '');
+}
+
+async function demos() {
+  await fresh();
+  await browser.drop(join(room, 'rooms.wad'));
+  await drawn('MAP01');
+  await browser.press('#demos .row');
+  await browser.until("document.querySelectorAll('.cells-row').length > 0", 'the commands');
+  check('a demo in one line', /version 109.*10000/.test(await textOf('#told')), true);
+  check('only rows in view are made', await browser.run("document.querySelectorAll('.cells-row').length < 80"), true);
+  check('of all its commands', await browser.run("document.querySelector('#commands').getAttribute('aria-rowcount')"), '10001');
+  await browser.run("{ document.querySelector('#tic').value = '9000'; }");
+  await browser.press('#tic-form button');
+  await browser.until("[...document.querySelectorAll('.cells-row')].some((row) => row.firstChild.textContent === '9000')", 'tic 9000');
+  check('a command', await browser.run("[...document.querySelectorAll('.cells-row')].find((row) => row.firstChild.textContent === '9000').innerText.split(/\\s+/)"),
+    ['9000', '1', '50', '0', '0', '00']);
+  await pick('levels', 'MAP01');
+  await drawn('MAP01');
+  check('back to the level', await isHidden('#demo'), true);
+}
+
+async function saves() {
+  await judged();
+  await browser.send('Browser.setDownloadBehavior', { behavior: 'allow', downloadPath: room });
+  /** @param {string} id @param {string} name */
+  const saved = async (id, name) => {
+    await browser.run("document.querySelector('#said').textContent = ''");
+    await browser.press(`#save-${id}`);
+    await browser.until("/ saved$/.test(document.querySelector('#said').textContent)", `${name} saved`);
+    for (let k = 0; !existsSync(join(room, name)) && k < 500; k++) await wait(10);
+    return readFileSync(join(room, name)).toString('latin1');
+  };
+  check('the saved level is the program\'s', await saved('pwad', 'MAP01.wad'), printed(['extract', 'MAP01', 'f'], twoRooms).toString('latin1'));
+  check('the saved report', await saved('report', 'rooms.wad.txt'), printed(['check', '--max', '0', 'rooms.wad'], twoRooms).toString('latin1'));
+  check('the saved survey', await saved('json', 'rooms.wad.jsonl'), printed(['survey', 'rooms.wad'], twoRooms).toString('latin1'));
+  if (hasPictures) check('the saved picture', (await saved('svg', 'MAP01.svg')).includes('<title>MAP01: faults 0 notes 0</title>'), true);
+}
+
+async function markup() {
+  const label = '<img on=', name = '<img src=x onerror=document.title=1>.wad';
+  await fresh();
+  await browser.drop(written(name, wad(rooms(label, { flat: '<b>"&\'</' }))));
+  const shown = '<img\\x20on='; // as names are shown
+  await judged();
+  check('a hostile label stays text', await textsOf('#title, #levels .row-name'), [`${shown} doom`, shown]);
+  check('so does a file\'s name', await textOf('#files .row-name'), name);
+  check('nothing of it is made', await browser.run("document.querySelectorAll('img, b').length"), 0);
+  await browser.until("document.querySelector('#map').dataset.drawn || document.querySelector('#map-none').textContent", 'a picture or why there is none');
+  if (/can't be cut/.test(await textOf('#map-none'))) {
+    console.log('skipped, as the module cuts out no entry: a level that no name finds');
+    return;
+  }
+  if (hasPictures) {
+    await drawn(shown);
+    await browser.mouse('mouseMoved', ...await placeOf(130, 100));
+    check('so does a flat', (await textOf('#under')).includes(' · floor 0 <b>"&\'</ · '), true);
+  }
+  await pinAt(100, 100);
+  await browser.until("!document.querySelector('#point').hidden", 'a point of a level that no name finds');
+  check('a level that no name finds is asked', (await textOf('#point-line')).split(' ').slice(2), ['sector', '0', 'ssector', '0']);
+}
+
+async function hostile() {
+  const count = options.includes('--hostile') ? 1_000_000 : 50_000;
+  await fresh();
+  await browser.drop(written('levels.wad', wad(Array.from({ length: count + 1 }, () => ['THINGS', Buffer.alloc(0)]))));
+  await browser.until(`document.querySelector('#levels-count').textContent === '${count}'`, 'so many levels', 120);
+  await browser.until("document.querySelector('#levels .row-state')?.textContent === 'not judged'", 'all judged', 120);
+  check('only rows in view', await browser.run("document.querySelectorAll('#levels .row').length < 80"), true);
+  await browser.run("document.querySelector('#levels').focus()");
+  await browser.key('End');
+  check('the last of very many levels', await browser.run("document.querySelector('#levels [aria-selected=true]').getAttribute('aria-posinset')"), String(count));
+  await filterBy('linedefs incomplete');
+  await browser.until(`document.querySelector('#levels-count').textContent === '${count} of ${count}'`, 'a filter over very many levels', 120);
+  check('the page answers', await drawnAnew(), 1);
+
+  const lost = options.includes('--hostile') ? 1_400_000 : 60_000;
+  await browser.drop(written('lost.wad', wad(rooms('MAP01', { linedefs: Buffer.alloc(14 * lost, lostLinedef) }))));
+  await browser.until("document.querySelector('#title').textContent === 'MAP01' && document.querySelector('#findings .row')", 'a level of very many findings', 120);
+  await drawn('MAP01');
+  await browser.run("document.querySelector('#findings').focus()");
+  await browser.key('End');
+  await browser.until(`document.querySelector('#findings .row')?.getAttribute('aria-setsize') === '${lost}'`, 'very many findings', 120);
+  await browser.key('End');
+  check('the last of very many findings', await textOf('#findings [aria-selected=true] .row-name'), `linedef ${lost + 6}`);
+  check('only findings in view', await browser.run("document.querySelectorAll('#findings .row').length < 40"), true);
+}
+
+async function stop() {
+  await fresh();
+  await browser.run(`{ const send = Worker.prototype.postMessage; window.free = () => { Worker.prototype.postMessage = send; };
+    Worker.prototype.postMessage = function (data, ...more) { if (data.job !== 'survey') send.call(this, data, ...more); }; }`); // a survey that never ends
+  await browser.drop(join(room, 'rooms.wad'));
+  await drawn('MAP01');
+  check('what is under way', await textOf('#work-label'), 'Judging rooms.wad');
+  await browser.press('#stop');
+  await browser.until("document.querySelector('#levels-none').textContent.startsWith('Stopped')", 'a stop');
+  check('nothing is under way', await isHidden('#work'), true);
+  check('its levels are not judged', await textsOf('#levels .row-state'), ['stopped', 'stopped']);
+  check('what was found stays', await textOf('#told'), 'sound');
+  await browser.run('free()');
+  await browser.press('#levels-none button');
+  await judged();
+  await browser.until("document.querySelector('#levels .row-state').textContent === 'sound'", 'the rest');
+  check('and gone on', await textsOf('#levels .row-state'), ['sound', 'sound, 1 note']);
+}
+
+async function wide() {
+  await fresh();
+  const far = wad(rooms('MAP01', { damage: ({ SIDEDEFS }) => SIDEDEFS.writeInt16LE(-1, 28) }));
+  await browser.drop(written('wide.wad', far));
+  await drawn('MAP01');
+  check('signed', await textOf('#findings .row-message'), "Sector -1 isn't there (2 sectors), of linedef 0");
+  await browser.press('#wide');
+  await browser.until("document.querySelector('#findings .row-message')?.textContent.includes('65535')", 'the wide reading');
+  check('wide', await textOf('#findings .row-message'), "Sector 65535 isn't there (2 sectors), of linedef 0");
+
+  await fresh();
+  await browser.drop(written('large.wad', wad(rooms('MAP01', { linedefs: farLinedef, vertexes: 40001 }))));
+  await drawn('MAP01');
+  check('faults under the signed reading alone', [await textOf('#told'), (await textsOf('#findings .row-name')).pop()], ['1 fault', 'sound with --wide']);
+  await browser.run("document.querySelector('#findings').focus()");
+  await browser.key('End');
+  await browser.until("document.querySelector('#told').textContent === 'sound'", 'the wide reading');
+  await judged();
+  check('are none under the wide one', await textOf('#levels .row-state'), 'sound');
+}
+
+/** A module with `wadlook`'s words alone. */
+async function onlyLooks() {
+  server = less;
+  await fresh();
+  await browser.drop(join(room, 'rooms.wad'), join(room, 'walk.lmp'));
+  await drawn('MAP01');
+  await browser.until("!document.querySelector('#levels').textContent.includes('…')", 'the levels');
+  check('the levels of a module without surveys', await textsOf('#levels .row'), ['MAP01 entry 0', 'MAP02 entry 11']);
+  check('its verdict', await textOf('#told'), 'sound');
+  check('its counts', (await textsOf('#counts div')).join(' '), 'things2 linedefs7 sidedefs8 vertexes6 segs8 ssectors2 nodes1 sectors2');
+  check('no picture, in words', (await textOf('#map-none')).startsWith('The engine of this page draws no pictures yet.'), true);
+  await pinBy('300 100');
+  await pointTold('300 100');
+  check('a point', await textOf('#point-line'), '300 100 sector 1 ssector 1');
+  await pick('levels', 'MAP02');
+  await drawn('MAP02');
+  check('a finding as audit tells it', await textsOf('#findings .row > span'), ['N3', '4', 'Two-sided flag without side 1']);
+  await pick('files', 'walk.lmp');
+  await browser.press('#demos .row');
+  await browser.until("/tics 35/.test(document.querySelector('#told').textContent)", 'a demo file');
+  check('a demo file', (await textOf('#told')).endsWith('tics 35 odd 0 after 0'), true);
+  server = whole;
+}
+
+/** WCAG's contrast of colours of page.css. */
+async function contrast() {
+  const script = `(() => { const style = getComputedStyle(document.documentElement);
+    const light = (name) => { const d = style.getPropertyValue('--' + name).trim().slice(1);
+      const [r, g, b] = [0, 2, 4].map((k) => parseInt(d.slice(k, k + 2), 16) / 255).map((c) => c <= 0.04045 ? c / 12.92 : ((c + 0.055) / 1.055) ** 2.4);
+      return 0.2126 * r + 0.7152 * g + 0.0722 * b; };
+    const ratio = (a, b) => { const [x, y] = [light(a), light(b)].sort((p, q) => q - p); return (x + 0.05) / (y + 0.05); };
+    const texts = ['ink', 'soft'].flatMap((a) => ['ground', 'panel', 'raised'].map((b) => [a, b, 4.5]));
+    const more = [['ink', 'wash', 4.5], ['fault', 'panel', 4.5], ['fault', 'wash', 4.5], ['fault', 'fault-wash', 4.5], ['on-accent', 'accent', 4.5], ['soft', 'void', 4.5],
+      ['edge', 'panel', 3], ['edge', 'ground', 3], ['accent', 'panel', 3], ['accent', 'void', 3], ['fault', 'void', 3], ['wall', 'void', 3], ['wall', 'cell-dark', 3],
+      ['thing', 'cell-light', 3 * (matchMedia('(prefers-color-scheme: light)').matches)]];
+    return [...texts, ...more].filter(([a, b, least]) => ratio(a, b) < least).map(([a, b]) => a + ' on ' + b + ' ' + ratio(a, b).toFixed(2)); })()`;
+  for (const scheme of /** @type {const} */ (['dark', 'light'])) {
+    await browser.screen(1440, 900, scheme);
+    check(`contrast, ${scheme}`, await browser.run(script), []);
+  }
+}
+
+async function labels() {
+  const { nodes } = await browser.send('Accessibility.getFullAXTree');
+  const named = ['button', 'textbox', 'searchbox', 'checkbox', 'listbox', 'spinbutton', 'option', 'table', 'application'];
+  const bare = nodes.filter((/** @type {any} */ node) => !node.ignored && named.includes(node.role?.value) && !node.name?.value);
+  check('all that can be used has a name', bare.map((/** @type {any} */ node) => node.role.value), []);
+}
+
+async function phone() {
+  await browser.screen(390, 844, 'dark', true);
+  await fresh();
+  await browser.drop(join(room, 'rooms.wad'));
+  await drawn('MAP01');
+  for (const pane of ['files', 'levels', 'notes', 'map']) {
+    await browser.press(`.tabs [data-to=${pane}]`);
+    check(`one pane at a time: ${pane}`, await browser.run("[...document.querySelectorAll('.pane')].filter((e) => e.checkVisibility()).map((e) => e.dataset.pane)"), [pane]);
+    check(`nothing wider than a phone: ${pane}`, await browser.run('document.documentElement.scrollWidth'), 390);
+  }
+  if (!hasPictures) return;
+  const zoom = (await viewOf())[2], [mx, my] = await browser.middle('#map');
+  await browser.touch('touchStart', [mx - 50, my], [mx + 50, my]);
+  for (const d of [10, 20, 30]) await browser.touch('touchMove', [mx - 50 - d, my], [mx + 50 + d, my]);
+  await browser.touch('touchEnd');
+  await drawnAnew();
+  check('two fingers zoom', (await viewOf())[2] > zoom, true);
+  await browser.touch('touchStart', [mx, my]);
+  await browser.touch('touchEnd');
+  await browser.until("!document.querySelector('#point').hidden", 'a point by a tap');
+  check('a tap pins', /sector/.test(await textOf('#under')), true);
+  await browser.press('.tabs [data-to=levels]');
+  await pick('levels', 'MAP02');
+  await drawn('MAP02');
+  await browser.press('.tabs [data-to=notes]');
+  await browser.press('#findings .row');
+  await browser.until("document.querySelector('#map').dataset.view.startsWith('384.000 256.000')", 'the finding on a phone');
+  check('a finding leads to the map', await browser.run("document.body.dataset.pane"), 'map');
+}
+
+async function unable() {
+  const { identifier } = await browser.send('Page.addScriptToEvaluateOnNewDocument', { source: 'WebAssembly.validate = () => false' });
+  await fresh();
+  check('a browser that cannot is told so', (await textOf('#unable')).startsWith("This browser can't run the engine: it has no 64-bit WebAssembly memory."), true);
+  check('and takes no files', await browser.run("document.querySelector('#choose-too').disabled"), true);
+  await browser.send('Page.removeScriptToEvaluateOnNewDocument', { identifier });
+}
+
+async function alone() {
+  const away = browser.requests.filter((url) => ![whole, less].some(({ address }) => url.startsWith(address)) && !/^(blob:|about:)/.test(url));
+  check('no request leaves the page', away, []);
+  check('requests were watched', browser.requests.some((url) => url.endsWith('/worker.mjs')), true);
+  check('no complaint of the browser', browser.complaints, []);
+}
+
+const isThere = await Promise.race([browser.attach().then(() => true, () => false), wait(60000).then(() => false)]);
+if (!isThere) console.log("skipped, as Chromium doesn't start here: the page");
+let at = 'the start';
+try {
+  const all = [files, levels, picture, point, moves, finer, findings, faults, demos, saves, markup, hostile, stop, wide, onlyLooks, contrast, labels, phone, unable, alone];
+  const only = valueOf('--only').split(',');
+  for (const one of all.filter(({ name }) => isThere && (!only[0] || only.includes(name)))) {
+    at = one.name;
+    await browser.screen(1440, 900, 'dark');
+    await one();
+  }
+  const games = valueOf('--games');
+  if (games && isThere) await measure({ browser, address: whole.address, games, pictures, check, programs });
+} catch (error) {
+  failed++;
+  console.log(`FAILED at ${at}\n${error instanceof Error ? error.stack : error}\n${browser.complaints.join('\n')}`);
+  if (pictures) writeFileSync(join(pictures, 'failed.png'), await browser.picture());
+} finally {
+  await browser.close();
+  whole.close();
+  less.close();
+  rmSync(room, { recursive: true, force: true, maxRetries: 5 });
+}
+console.log(`${passed} passed, ${failed} failed`);
+process.exit(failed ? 1 : 0);

@@ -1,0 +1,83 @@
+// Serves the page from a subfolder, as any host does; with programs, these answer in the engine's place.
+import { spawnSync } from 'node:child_process';
+import { existsSync, mkdirSync, readFileSync, rmSync, statSync, writeFileSync } from 'node:fs';
+import { createServer } from 'node:http';
+import { basename, extname, join, normalize } from 'node:path';
+import { picture } from './picture_double.mjs';
+
+const TYPES = /** @type {Record<string, string>} */ ({
+  '.html': 'text/html', '.css': 'text/css', '.mjs': 'text/javascript', '.wasm': 'application/wasm', '.svg': 'image/svg+xml',
+});
+const LENS = ['check', 'survey', 'picture', 'cut', 'demos'];
+
+/** @typedef {{ wadlook: string, wadlens: string }} Programs */
+/** @typedef {{ status: number, answer: Buffer, refused: string }} Ended */
+
+/**
+ * Runs a program on words as the engine takes them: files and input are bytes.
+ * @param {Programs} programs @param {string} room @param {string[]} words @param {Buffer[]} files @param {Buffer} input @returns {Ended}
+ */
+export function runProgram({ wadlook, wadlens }, room, words, files, input) {
+  const paths = words.slice(words.length - files.length), folder = join(room, 'run');
+  mkdirSync(folder, { recursive: true });
+  paths.forEach((path, k) => writeFileSync(join(folder, basename(path)), files[k]));
+  const isLens = LENS.includes(words[0]);
+  const ran = spawnSync(isLens ? wadlens : wadlook, words, { cwd: folder, input, maxBuffer: 1 << 30 });
+  paths.forEach((path) => rmSync(join(folder, basename(path)), { force: true }));
+  return { status: ran.status ?? 3, answer: ran.stdout, refused: ran.stderr.toString().replace(/^refused: /, '').trimEnd() };
+}
+
+/** Which words are answered: those of `wadlook`, those of both programs, or also `picture` of a double where they lack it. */
+/** @typedef {'wadlook' | 'both' | 'doubled'} Words */
+
+/** As `runProgram`. @param {Programs} programs @param {string} room @param {Words} which */
+const answerer = (programs, room, which) => (/** @type {string[]} */ words, /** @type {Buffer[]} */ files, /** @type {Buffer} */ input) => {
+  if (which === 'wadlook' && LENS.includes(words[0])) return { status: 2, answer: Buffer.alloc(0), refused: 'usage' };
+  const ended = runProgram(programs, room, words, files, input);
+  if (which !== 'doubled' || ended.status !== 2 || !/usage/i.test(ended.refused)) return ended;
+  return words[0] === 'picture' ? picture((more, given) => runProgram(programs, room, more, files, given), words, files[0]) : ended;
+};
+
+/** A question: 4 bytes of length, JSON of words and sizes, the bytes. @param {Buffer} body */
+function question(body) {
+  const from = 4 + body.readUInt32LE(0), { words, files, input } = JSON.parse(body.toString('utf8', 4, from));
+  let at = from;
+  const take = (/** @type {number} */ size) => body.subarray(at, at += size);
+  return { words, files: files.map(take), input: take(input) };
+}
+
+/** @param {Ended} ended */
+function answer({ status, answer: bytes, refused }) {
+  const head = Buffer.from(JSON.stringify({ status, refused })), size = Buffer.alloc(4);
+  size.writeUInt32LE(head.length);
+  return Buffer.concat([size, head, bytes]);
+}
+
+/**
+ * @param {string} folder the page's @param {string} room for files of runs @param {Programs} [programs] @param {Words} [which]
+ * @returns {Promise<{ address: string, close: () => void }>}
+ */
+export async function serve(folder, room, programs, which = 'doubled') {
+  const native = programs && answerer(programs, room, which);
+  const server = createServer((asked, reply) => {
+    const path = normalize(decodeURIComponent(new URL(asked.url ?? '', 'http://x').pathname));
+    if (asked.method === 'POST' && native) {
+      /** @type {Buffer[]} */
+      const parts = [];
+      asked.on('data', (part) => parts.push(part));
+      asked.on('end', () => {
+        const { words, files, input } = question(Buffer.concat(parts));
+        reply.end(answer(native(words, files, input)));
+      });
+      return;
+    }
+    const name = path.replace(/^\/sub\//, '') || 'index.html';
+    const file = programs && name === 'wad_page.mjs' ? join(import.meta.dirname ?? '', 'native_page.mjs') : join(folder, name);
+    if (!path.startsWith('/sub/') || !existsSync(file) || !statSync(file).isFile()) return reply.writeHead(404).end();
+    reply.writeHead(200, { 'content-type': TYPES[extname(file)] ?? 'application/octet-stream', 'cache-control': 'no-store' });
+    reply.end(readFileSync(file));
+  });
+  await new Promise((go) => server.listen(0, '127.0.0.1', () => go(undefined)));
+  const address = /** @type {import('node:net').AddressInfo} */ (server.address());
+  return { address: `http://127.0.0.1:${address.port}/sub/`, close: () => server.close() };
+}

@@ -1,0 +1,67 @@
+// Small WAD files for the tests, built by the formats.
+
+/** @param {string} name */
+const eight = (name) => Buffer.concat([Buffer.from(name, 'latin1'), Buffer.alloc(8)]).subarray(0, 8);
+/** @param {number[]} words of 16 bits */
+const words = (...words) => Buffer.from(Uint8Array.from(words.flatMap((word) => [word & 255, (word >> 8) & 255])));
+
+/** @param {[string, Buffer][]} lumps @param {string} [kind] */
+export function wad(lumps, kind = 'PWAD') {
+  let at = 12;
+  const directory = lumps.map(([name, body]) => {
+    const entry = Buffer.alloc(8);
+    entry.writeInt32LE(at, 0);
+    entry.writeInt32LE(body.length, 4);
+    at += body.length;
+    return Buffer.concat([entry, eight(name)]);
+  });
+  const head = Buffer.alloc(12, kind);
+  head.writeInt32LE(lumps.length, 4);
+  head.writeInt32LE(at, 8);
+  return Buffer.concat([head, ...lumps.map(([, body]) => body), ...directory]);
+}
+
+/**
+ * Two rooms side by side, from (0, 0) to (256, 256) and from (256, 0) to (512, 256): sector 0 in the west, 1 in the east, and a step
+ * between them. Player 1 starts in the west; REJECT hides the east from there, and nothing from the east.
+ * @param {string} label @param {{ flat?: string, damage?: (lumps: Record<string, Buffer>) => void, linedefs?: Buffer, vertexes?: number }} [more]
+ * @returns {[string, Buffer][]}
+ */
+export function rooms(label, { flat = 'FLOOR0_1', damage, linedefs = Buffer.alloc(0), vertexes = 6 } = {}) {
+  const west = [0, 1, 2, 3], corners = [[0, 0], [0, 256], [256, 256], [256, 0], [512, 256], [512, 0]];
+  const lines = [[0, 1, -1], [1, 2, -1], [2, 3, 1], [3, 0, -1], [2, 4, -1], [4, 5, -1], [5, 3, -1]];
+  const line = ([from, to, back], k) => words(from, to, back < 0 ? 1 : 4, 0, 0, k, back < 0 ? -1 : 7);
+  const side = (sector) => Buffer.concat([words(0, 0), eight('-'), eight('-'), eight('STONE2'), words(sector)]);
+  const seg = ([from, to, linedef, back]) => words(from, to, 0, linedef, back, 0);
+  const sector = (floor, light) => Buffer.concat([words(floor, 128), eight(flat), eight('CEIL1_1'), words(light, 0, 0)]);
+  const segs = [[0, 1, 0, 0], [1, 2, 1, 0], [2, 3, 2, 0], [3, 0, 3, 0], [3, 2, 2, 1], [2, 4, 4, 0], [4, 5, 5, 0], [5, 3, 6, 0]];
+  const offsets = Array.from({ length: 15 }, () => 19);
+  /** @type {Record<string, Buffer>} */
+  const lumps = {
+    THINGS: Buffer.concat([words(64, 64, 90, 1, 7), words(384, 128, 0, 3004, 7)]),
+    LINEDEFS: Buffer.concat([...lines.map(line), linedefs]),
+    SIDEDEFS: Buffer.concat([...lines.map((_, k) => side(west.includes(k) ? 0 : 1)), side(1)]),
+    VERTEXES: Buffer.concat([...corners.map((at) => words(...at)), Buffer.alloc(4 * (vertexes - 6))]),
+    SEGS: Buffer.concat(segs.map(seg)),
+    SSECTORS: words(4, 0, 4, 4),
+    NODES: words(256, 0, 0, 256, 256, 0, 256, 512, 256, 0, 0, 256, 0x8001, 0x8000),
+    SECTORS: Buffer.concat([sector(0, 160), sector(24, 224)]),
+    REJECT: Buffer.from([0b0010]),
+    BLOCKMAP: words(-8, -8, 5, 3, ...offsets, 0, 0, 1, 2, 3, 4, 5, 6, -1),
+  };
+  damage?.(lumps);
+  return [[label, Buffer.alloc(0)], .../** @type {[string, Buffer][]} */ (Object.entries(lumps))];
+}
+
+/** A demo of version 109 in which player 1 walks so many tics. @param {number} tics */
+export function demo(tics) {
+  const commands = Array.from({ length: tics }, (_, k) => [50, 0, k % 5, k % 7 ? 0 : 1]).flat();
+  return Buffer.from(Uint8Array.from([109, 2, 1, 4, 0, 0, 0, 0, 0, 1, 0, 0, 0, ...commands, 128]));
+}
+
+/** A linedef between vertexes that aren't there. */
+export const lostLinedef = words(4000, 4001, 1, 0, 0, 0, -1);
+/** A linedef from a vertex that only the wide reading finds. */
+export const farLinedef = words(40000, 1, 1, 0, 0, 0, -1);
+/** Makes linedef 4 tell two sides, where it has one. @param {Record<string, Buffer>} lumps */
+export const oneMistaken = ({ LINEDEFS }) => { LINEDEFS.writeUInt16LE(4, 4 * 14 + 4); };

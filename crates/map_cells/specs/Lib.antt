@@ -3,6 +3,7 @@ pub mod Frame
 pub mod Shown
 pub mod Grid
 pub mod Cells
+pub mod Counts
 pub mod Blocks
 pub mod Groups
 pub mod Laws

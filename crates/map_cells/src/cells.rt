@@ -1,6 +1,6 @@
 //! Which sector each cell shows.
 
-ghost use Rattle.std.specs.Prelude.{◌≡◌, ◌<◌, ◌≤◌, ℕ, None, IfOk, IfSome, OnOk, OnSome, Some};
+ghost use Rattle.std.specs.Prelude.{◌≡◌, ◌<◌, ◌≤◌, ℕ, None, IfOk, IfSome, OnOk, OnSome, Some, length};
 ghost use Rattle.std.specs.List.{slice_get};
 ghost use Rattle.map_cells.specs.Grid.{columns_of, rows_of};
 ghost use Rattle.map_cells.specs.Cells.{cell, AddsRow, AreCells};
@@ -65,9 +65,18 @@ impl<A: Allocator> Cells<A> {
         self.grid
     }
 
+    // What the cells show, row by row: at most 1,048,576.
+    pub(crate) fn shown(&self) -> &[Option<u16>]
+        ensures value { result.now ≡ self.now.shown }
+        ensures few { length result.now ≤ 1048576 }
+    {
+        &self.shown
+    }
+
     // A number above each sector that a cell shows.
     pub(crate) fn sector_bound(&self) -> usize
         ensures bound { (i j s : ℕ) → cell self.now i j ≡ Some s → s < result }
+        ensures listed { (p s : ℕ) → slice_get self.now.shown p ≡ Some (Some s) → s < result }
         ensures few { result ≤ 65536 }
     {
         sector_bound(&self.shown)

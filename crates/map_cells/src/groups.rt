@@ -17,12 +17,14 @@ pub struct Groups<A: Allocator = Global> {
 }
 
 impl<A: Allocator> Model for Groups<A> {
-    ghost use Rattle.std.specs.Prelude.{List, map};
+    ghost use Rattle.std.specs.Prelude.{◌≤◌, List, length, map};
     ghost use Rattle.map_cells.specs.declared.block.Block as block;
 
     ghost Value = { List (List block.Block) };
 
     ghost view = { λ g. map (λ list. list.items) g.lists.items };
+
+    ghost invariant = { λ g. length g.lists.items ≤ 65536 };
 }
 
 impl<A: Allocator + Copy> Groups<A> {
@@ -43,7 +45,8 @@ impl<A: Allocator + Copy> Groups<A> {
 impl<A: Allocator> Groups<A> {
     /// A number above each sector that a cell shows, at most 65,536.
     pub fn len(&self) -> usize
-        ensures { result ≡ length self.now }
+        ensures value { result ≡ length self.now }
+        ensures few { result ≤ 65536 }
     {
         self.lists.len()
     }

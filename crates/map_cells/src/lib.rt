@@ -4,6 +4,7 @@
 
 mod block;
 mod cells;
+mod counts;
 mod ends;
 mod frame;
 mod grid;
@@ -13,6 +14,7 @@ mod shown;
 
 pub use block::Block;
 pub use cells::Cells;
+pub use counts::Counts;
 pub use ends::{Ends, linedef_ends, seg_ends};
 pub use frame::Frame;
 pub use grid::Grid;

@@ -19,6 +19,7 @@ loop-j-preserved g c =
     subst (λ n. take n (new ++ rest) ≡ new) long (take-append_seam new rest) in
     rw whole (record {
       before = c.in_ok-add_row.ensures.after;
+      few = omega (arith, c.in_ok-add_row.ensures.long, same, c.loop-j.invariant.few);
       bound = λ i j s shows. omega (arith, c.in_ok-add_row.ensures.long, same, c.loop-j.invariant.bound i j s shows);
     })
 

@@ -1,0 +1,73 @@
+//! How many cells show each sector.
+
+ghost use Rattle.std.specs.Prelude.{◌≡◌, ◌+◌, ◌<◌, ◌≤◌, ℕ, Some, IfOk, IfSome, count_by, length, slice_index_or, if◌then◌else◌};
+ghost use Rattle.std.specs.List.{slice_get};
+ghost use Rattle.map_cells.specs.Counts.{shows};
+
+use crate::cells::Cells;
+use std::alloc::{AllocError, Allocator, Global};
+use std::marker::Model;
+
+/// How many cells of a picture show each sector: four bytes a sector.
+#[derive(Drop)]
+pub struct Counts<A: Allocator = Global> {
+    counts: Vec<u32, A>,
+}
+
+impl<A: Allocator> Model for Counts<A> {
+    ghost use Rattle.std.specs.Prelude.{List, ℕ};
+
+    ghost Value = { List ℕ };
+
+    ghost view = { λ c. c.counts.items };
+}
+
+impl<A: Allocator> Counts<A> {
+    ghost use Rattle.map_cells.specs.Counts.{AreCounts};
+
+    /// The counts of all cells.
+    pub fn of<B: Allocator>(alloc: A, cells: &Cells<B>) -> Result<Counts<A>, AllocError>
+        ensures { IfOk result (AreCounts cells.now) }
+    {
+        let mut counts = Vec::from_elem(alloc, 0, cells.sector_bound())?;
+        count_cells(cells.shown(), &mut counts);
+        Ok(Counts { counts })
+    }
+
+    /// How many cells show a sector.
+    pub fn get(&self, sector: usize) -> u32
+        ensures { result ≡ slice_index_or self.now sector 0 }
+    {
+        if sector < self.counts.len() {
+            self.counts[sector]
+        } else {
+            0
+        }
+    }
+}
+
+// Counts what cells show.
+fn count_cells(shown: &[Option<u16>], counts: &mut [u32])
+    requires bound { (p s : ℕ) → slice_get shown.now p ≡ Some (Some s) → s < length counts.old }
+    requires few { length shown.now ≤ 1048576 }
+    requires none { (s : ℕ) → slice_index_or counts.old s 0 ≡ 0 }
+    ensures told { (s : ℕ) → slice_index_or counts.new s 0 ≡ count_by (shows s) shown.now }
+    ensures long { length counts.new ≡ length counts.old }
+{
+    for k in 0..shown.len() {
+        count_cell(shown[k], counts);
+    }
+}
+
+// Counts what a cell shows.
+#[inline]
+fn count_cell(seen: Option<u16>, counts: &mut [u32])
+    requires there { IfSome seen (λ s. s < length counts.old) }
+    requires few { IfSome seen (λ s. slice_index_or counts.old s 0 ≤ 1048576) }
+    ensures told { (s : ℕ) → slice_index_or counts.new s 0 ≡ slice_index_or counts.old s 0 + (if shows s seen then 1 else 0) }
+    ensures long { length counts.new ≡ length counts.old }
+{
+    if let Some(s) = seen {
+        counts[usize::from(s)] += 1;
+    }
+}

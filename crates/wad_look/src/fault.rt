@@ -40,28 +40,59 @@ pub enum RunFault {
 impl fmt::Display for RunFault {
     fn fmt<W: fmt::Write>(&self, f: &mut fmt::Formatter<W>) -> fmt::Result {
         match *self {
-            RunFault::Set(n, WadFault::Short) => write!(f, "file {n}: 1 short"),
-            RunFault::Set(n, WadFault::Magic) => write!(f, "file {n}: 2 magic"),
-            RunFault::Set(n, WadFault::Count) => write!(f, "file {n}: 3 count"),
-            RunFault::Set(n, WadFault::Directory) => write!(f, "file {n}: 4 directory"),
-            RunFault::Lump(LumpFault::NoSuch) => write!(f, "5 no such lump"),
-            RunFault::Lump(LumpFault::Outside) => write!(f, "6 outside file"),
-            RunFault::Pack(PackFault::TooLarge) => write!(f, "7 too large"),
-            RunFault::Level(LevelFault::NoLabel) => write!(f, "8 no label"),
-            RunFault::Level(LevelFault::Missing(k)) => write!(f, "F1 {k}"),
-            RunFault::Level(LevelFault::Outside(k)) => write!(f, "F2 {k}"),
-            RunFault::Audit => write!(f, "audit"),
-            RunFault::NoBlockMap => write!(f, "no blockmap"),
-            RunFault::Demo(DemoFault::Empty) => write!(f, "demo 1"),
-            RunFault::Demo(DemoFault::Version(version)) => write!(f, "demo 2 version {version}"),
-            RunFault::Demo(DemoFault::ShortHeader) => write!(f, "demo 3"),
-            RunFault::Demo(DemoFault::NoPlayers) => write!(f, "demo 4"),
-            RunFault::Demo(DemoFault::NoMarker(place)) => write!(f, "demo 5 at {place}"),
-            RunFault::Read => write!(f, "read"),
-            RunFault::Write => write!(f, "write"),
-            RunFault::TooLong => write!(f, "too long"),
-            RunFault::Memory | RunFault::Pack(PackFault::Memory) => write!(f, "memory"),
+            RunFault::Set(n, fault) => write!(f, "file {n}: {}", file_text(fault)),
+            RunFault::Lump(fault) => f.write_str(lump_text(fault)),
+            RunFault::Level(fault) => write_level(fault, f),
+            RunFault::Audit => f.write_str("audit"),
+            RunFault::NoBlockMap => f.write_str("no blockmap"),
+            RunFault::Demo(fault) => write_demo(fault, f),
+            RunFault::Pack(fault) => f.write_str(pack_text(fault)),
+            RunFault::Read => f.write_str("read"),
+            RunFault::Write => f.write_str("write"),
+            RunFault::TooLong => f.write_str("too long"),
+            RunFault::Memory => f.write_str("memory"),
         }
+    }
+}
+
+fn file_text(fault: WadFault) -> &'static str {
+    match fault {
+        WadFault::Short => "1 short",
+        WadFault::Magic => "2 magic",
+        WadFault::Count => "3 count",
+        WadFault::Directory => "4 directory",
+    }
+}
+
+fn lump_text(fault: LumpFault) -> &'static str {
+    match fault {
+        LumpFault::NoSuch => "5 no such lump",
+        LumpFault::Outside => "6 outside file",
+    }
+}
+
+fn pack_text(fault: PackFault) -> &'static str {
+    match fault {
+        PackFault::TooLarge => "7 too large",
+        PackFault::Memory => "memory",
+    }
+}
+
+fn write_level<W: fmt::Write>(fault: LevelFault, f: &mut fmt::Formatter<W>) -> fmt::Result {
+    match fault {
+        LevelFault::NoLabel => f.write_str("8 no label"),
+        LevelFault::Missing(k) => write!(f, "F1 {k}"),
+        LevelFault::Outside(k) => write!(f, "F2 {k}"),
+    }
+}
+
+fn write_demo<W: fmt::Write>(fault: DemoFault, f: &mut fmt::Formatter<W>) -> fmt::Result {
+    match fault {
+        DemoFault::Empty => f.write_str("demo 1"),
+        DemoFault::Version(version) => write!(f, "demo 2 version {version}"),
+        DemoFault::ShortHeader => f.write_str("demo 3"),
+        DemoFault::NoPlayers => f.write_str("demo 4"),
+        DemoFault::NoMarker(place) => write!(f, "demo 5 at {place}"),
     }
 }
 

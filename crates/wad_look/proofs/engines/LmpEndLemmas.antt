@@ -1,5 +1,5 @@
 -- How the listing of a demo ends.
-use Rattle.std.proofs.Common.{◌≡◌, ℕ, zero, suc, ◌+◌, ◌-◌, ◌≤◌, false, List, [], ◌∷◌, ◌++◌, length, take, Some, None, Result, Ok, Err, inl, inr, refl, sym, ap, ◌∙◌, arith, subst, length-append}
+use Rattle.std.proofs.Common.{◌≡◌, ℕ, zero, suc, ◌+◌, ◌-◌, ◌≤◌, false, List, [], ◌∷◌, ◌++◌, length, take, Some, Result, Ok, Err, inl, inr, refl, sym, ap, ◌∙◌, arith, subst, length-append}
 use Rattle.std.proofs.KnownBytes.{Appends-nil, Appends-trans, Consumes-nil, Consumes-trans}
 use Rattle.std.proofs.Math.Seq.{take-append-add}
 use Rattle.std.proofs.lemmas.List.{append-nil, append_assoc}
@@ -12,7 +12,6 @@ use Rattle.demo_lump.specs.NextPiece.{IsNext, RefusesNext}
 use Rattle.demo_lump.specs.Pieces.{NoneBegins}
 use Rattle.demo_lump.specs.declared.command.Command.{Command}
 use Rattle.demo_lump.specs.declared.header.Header.{Header}
-use Rattle.demo_lump.specs.declared.fault.DemoFault.TheVariants.{NoMarker}
 use Rattle.demo_lump.specs.declared.fault.StreamFault.{StreamFault}
 use Rattle.demo_lump.specs.declared.fault.StreamFault.TheVariants as stream
 use Rattle.demo_lump.proofs.CommandLemmas.{short_stops}

@@ -8,15 +8,15 @@ use Rattle.std.proofs.lemmas.Option.{slice_get_past}
 use Rattle.le_rec.specs.declared.records.LineDef.{LineDef}
 use Rattle.map_level.specs.Level.{Level}
 use Rattle.map_level.specs.Reading.{linedef_under, ssector_under}
-use Rattle.map_level.specs.Links.{linedefs_of, ssectors_of}
+use Rattle.map_level.specs.Links.{linedefs_of, ssectors_of, things_of}
 use Rattle.map_level.proofs.BoundLemmas.{some_within}
 use Rattle.map_checks.specs.declared.warning.Side.{Side}
 use Rattle.map_checks.specs.declared.warning.Side.TheVariants.{Front, Back}
 use Rattle.map_checks.specs.declared.warning.Part.{Part}
 use Rattle.map_checks.specs.declared.warning.Part.TheVariants.{Middle, Upper, Lower}
 use Rattle.map_checks.specs.declared.warning.Warning.{Warning}
-use Rattle.map_checks.specs.declared.warning.Warning.TheVariants.{Bare, Untagged, Mismatched, Twin}
-use Rattle.map_checks.specs.declared.warning.WarningCode.TheVariants.{W2, W4, W5, W6}
+use Rattle.map_checks.specs.declared.warning.Warning.TheVariants.{Bare, InVoid, Untagged, Mismatched, Twin}
+use Rattle.map_checks.specs.declared.warning.WarningCode.TheVariants.{W2, W3, W4, W5, W6}
 use Rattle.map_checks.specs.Warnings.{rank, side_number, part_number}
 use Rattle.map_checks.specs.Facing.{IsMismatched}
 use Rattle.map_checks.specs.Twin.{ends_of, AreSamePlaces, HaveSameEnds}
@@ -65,6 +65,14 @@ bare_within level (Bare k t q) h =
     let within = linedef-within level k _ h.1 in
     omega (arith, within, side-below t, part-below q)
 bare_within level v h = absurd (let other = h.0 in cc)
+
+pub void_alone : (level : Level) (k : ℕ) (w : Warning) → HoldsOf level W3 w → rank w ≡ k → w ≡ InVoid k
+void_alone level k (InVoid j) h e = ap InVoid e
+void_alone level k v h e = absurd (let other = h.0 in cc)
+
+pub void_within : (level : Level) (w : Warning) → HoldsOf level W3 w → rank w < length level.things.records
+void_within level (InVoid k) h = some_within (things_of level) k _ h.1
+void_within level v h = absurd (let other = h.0 in cc)
 
 pub untagged_alone : (level : Level) (l : ℕ) (w : Warning) → HoldsOf level W4 w → rank w ≡ l → w ≡ Untagged l
 untagged_alone level l (Untagged k) h e = ap Untagged e

@@ -105,3 +105,14 @@ told_only holds most w here alone =
 
 pub told_nothing : (holds : Warning → Type 0) (most : ℕ) → ((v : Warning) → ¬ holds v) → Tells holds (record { most = most; first = []; count = 0 })
 told_nothing holds most none = told_all holds (record { most = most; first = []; count = 0 }) 0 (told_none holds most) (λ v h. absurd (none v h))
+
+-- what holds where something else does is told there
+pub told_given : (given : Type 0) (holds : Warning → Type 0) (cut : Cut) → given → Tells holds cut → Tells (λ w. given × holds w) cut
+told_given given holds cut here told = record {
+  all = told.all;
+  are = record {
+    ascending = told.are.ascending;
+    exact = λ w. ((λ there. (here, (told.are.exact w).0 there)), (λ h. (told.are.exact w).1 h.1));
+  };
+  is = told.is;
+}

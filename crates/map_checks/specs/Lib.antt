@@ -1,6 +1,7 @@
 pub mod Warnings
 pub mod References
 pub mod Bare
+pub mod Void
 pub mod Tag
 pub mod Facing
 pub mod Twin

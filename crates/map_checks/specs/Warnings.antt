@@ -5,13 +5,14 @@ use Rattle.map_checks.specs.declared.warning.Side.TheVariants.{Front, Back}
 use Rattle.map_checks.specs.declared.warning.Part.{Part}
 use Rattle.map_checks.specs.declared.warning.Part.TheVariants.{Middle, Upper, Lower}
 use Rattle.map_checks.specs.declared.warning.Warning.{Warning}
-use Rattle.map_checks.specs.declared.warning.Warning.TheVariants.{Bare, Untagged, Mismatched, Twin, NoStart, FewStarts}
+use Rattle.map_checks.specs.declared.warning.Warning.TheVariants.{Bare, InVoid, Untagged, Mismatched, Twin, NoStart, FewStarts}
 use Rattle.map_checks.specs.declared.warning.WarningCode.{WarningCode}
-use Rattle.map_checks.specs.declared.warning.WarningCode.TheVariants.{W2, W4, W5, W6, W7, W8}
+use Rattle.map_checks.specs.declared.warning.WarningCode.TheVariants.{W2, W3, W4, W5, W6, W7, W8}
 
 -- the code of a warning
 abbrev pub code_of : Warning → WarningCode
 code_of (Bare linedef side part) = W2
+code_of (InVoid thing) = W3
 code_of (Untagged linedef) = W4
 code_of (Mismatched ssector first other) = W5
 code_of (Twin linedef earlier) = W6
@@ -32,6 +33,7 @@ part_number Lower = 2
 -- where a warning stands among those of its code: by the record, then by side and part; what can hold only once stands at 0
 abbrev pub rank : Warning → ℕ
 rank (Bare linedef side part) = linedef * 6 + side_number side * 3 + part_number part
+rank (InVoid thing) = thing
 rank (Untagged linedef) = linedef
 rank (Mismatched ssector first other) = ssector
 rank (Twin linedef earlier) = linedef

@@ -10,9 +10,10 @@ mod starts;
 mod tags;
 mod told;
 mod twins;
+mod void;
 mod warning;
 
-pub use checks::warnings;
+pub use checks::Checks;
 pub use references::has_references;
 pub use told::Told;
 pub use twins::Ends;

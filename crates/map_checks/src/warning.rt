@@ -8,6 +8,8 @@ ghost use Rattle.map_checks.specs.Warnings.{code_of};
 pub enum WarningCode {
     /// A wall lacks the texture that its side shows.
     W2,
+    /// A thing stands in the void.
+    W3,
     /// A linedef's tag is no sector's.
     W4,
     /// An ssector's segs face several sectors.
@@ -44,6 +46,10 @@ pub enum Warning {
         side: Side,
         part: Part,
     },
+    /// W3: a thing stands where nothing is shown.
+    InVoid {
+        thing: u32,
+    },
     /// W4: a linedef has a special and a tag, and no sector has the tag.
     Untagged {
         linedef: u32,
@@ -76,6 +82,7 @@ impl Warning {
     {
         match self {
             Warning::Bare { .. } => WarningCode::W2,
+            Warning::InVoid { .. } => WarningCode::W3,
             Warning::Untagged { .. } => WarningCode::W4,
             Warning::Mismatched { .. } => WarningCode::W5,
             Warning::Twin { .. } => WarningCode::W6,

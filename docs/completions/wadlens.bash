@@ -6,6 +6,7 @@ declare -gA _wadlens_options=(
     [check]='--wide --max --files-from --null --progress --help'
     [survey]='--wide --files-from --null --progress --help'
     [cut]='--entry --help'
+    [demos]='--json --files-from --null --progress --help'
 )
 
 _wadlens() {
@@ -33,6 +34,8 @@ _wadlens() {
         compgen -d -- "$current"
         compgen -f -X '!*.wad' -- "$current"
         compgen -f -X '!*.WAD' -- "$current"
+        [[ ${COMP_WORDS[1]} != demos ]] || compgen -f -X '!*.lmp' -- "$current"
+        [[ ${COMP_WORDS[1]} != demos ]] || compgen -f -X '!*.LMP' -- "$current"
     )
     compopt -o filenames 2>/dev/null
 }

@@ -1,5 +1,5 @@
 -- What is told of one file, from what its engine says, and how a run goes on from file to file.
-use Rattle.std.proofs.Common.{◌≡◌, ℕ, ◌+◌, ◌<◌, inl, inr, List, [], ◌∷◌, ◌++◌, length, take, drop, map, get_or, Option, Result, Ok, Err, false, refl, sym, ap, ◌∙◌, subst, arith}
+use Rattle.std.proofs.Common.{◌≡◌, ℕ, ◌+◌, ◌<◌, inl, inr, List, [], ◌∷◌, ◌++◌, length, take, drop, map, get_or, Option, Result, Ok, Err, false, refl, sym, ap, ◌∙◌, subst}
 use Rattle.std.proofs.lemmas.List.{take_more, drop_more, take-append-drop, map_push, map-append}
 use Rattle.le_rec.specs.Sink.{SinkState}
 use Rattle.map_level.specs.declared.reading.Reading.{Reading}
@@ -8,12 +8,12 @@ use Rattle.wad_lens.specs.Survey.{RefusesSurvey, RunsSurvey, SurveysFile}
 use Rattle.wad_lens.specs.Totals.{no_totals, verdict_of_totals}
 use Rattle.wad_lens.specs.declared.totals.Totals.{Totals}
 use Rattle.wad_lens.specs.declared.verdict.FileFault.{FileFault}
-use Rattle.wad_lens.specs.declared.verdict.FileFault.TheVariants as fault
+use Rattle.wad_lens.specs.declared.verdict.FileFault.TheVariants as engine
 use Rattle.wad_lens.specs.declared.verdict.Verdict.{Verdict}
 use Rattle.std.specs.Prelude.{IfErr, IfOk}
 use Rattle.wad_lens.specs.declared.object.Refusal.{Refusal}
-use Rattle.wadlens.specs.Run.{RefusesFile, StopsRefusal, WritesRefusal}
-use Rattle.wadlens.specs.Run.{ChecksBytes, LeavesBytes, StopsAt, StopsPath, SurveysBytes, TellsPath, ToldTo, stop_after, tally_with, with_path}
+use Rattle.wadlens.specs.Run.{LeavesLevels, RefusesFile, StopsRefusal, WritesRefusal, fault_of}
+use Rattle.wadlens.specs.Run.{ChecksBytes, StopsAt, StopsPath, SurveysBytes, TellsPath, ToldTo, stop_after, tally_with, with_path}
 use Rattle.wadlens.specs.declared.tell.Asked.{Asked}
 use Rattle.wadlens.specs.declared.tell.Stop.{Stop}
 use Rattle.wadlens.specs.declared.tell.Stop.TheVariants as stop
@@ -41,22 +41,22 @@ surveyed state path bytes reading out out' verdict tally of none (inr ran) = (
 
 -- a survey that didn't
 pub survey_left : {W : Type 0} (state : W → SinkState) (path bytes : List ℕ) (reading : Reading) (out out' : W) (why : FileFault)
-    → RunsSurvey state path bytes reading out out' (Err why) → LeavesBytes state Survey path bytes reading out out' why
+    → RunsSurvey state path bytes reading out out' (Err why) → LeavesLevels state Survey path bytes reading out out' (fault_of why)
 survey_left state path bytes reading out out' why (inl left) = go why (subst (RefusesSurvey bytes) (sym (err_same why left.fault left.ended)) left.holds)
   where
     err_same : (v w : FileFault) → ◌≡◌ {A = Result Verdict FileFault} (Err v) (Err w) → v ≡ w
     err_same v w same = cc
 
-    go : (f : FileFault) → RefusesSurvey bytes f → LeavesBytes state Survey path bytes reading out out' f
-    go (fault.NoWad w) refuses = (refuses, left.untouched)
-    go (fault.Write found) refuses = absurd refuses
-    go fault.Memory refuses = tt
+    go : (f : FileFault) → RefusesSurvey bytes f → LeavesLevels state Survey path bytes reading out out' (fault_of f)
+    go (engine.NoWad w) refuses = (refuses, left.untouched)
+    go (engine.Write found) refuses = absurd refuses
+    go engine.Memory refuses = tt
 survey_left state path bytes reading out out' why (inr ran) = go why ran
   where
-    go : (f : FileFault) → SurveysFile path bytes reading (state out) (state out') (Err f) → LeavesBytes state Survey path bytes reading out out' f
-    go (fault.NoWad w) stopped = absurd stopped.does.some.stops
-    go (fault.Write found) stopped = (stopped, stopped.does.some.stops.1)
-    go fault.Memory stopped = tt
+    go : (f : FileFault) → SurveysFile path bytes reading (state out) (state out') (Err f) → LeavesLevels state Survey path bytes reading out out' (fault_of f)
+    go (engine.NoWad w) stopped = absurd stopped.does.some.stops
+    go (engine.Write found) stopped = (stopped, stopped.does.some.stops.1)
+    go engine.Memory stopped = tt
 
 -- a check that came to its end
 pub checked : {W : Type 0} (state : W → SinkState) (asked : CheckAsked) (bytes : List ℕ) (out out' : W) (totals : Totals) (tally : Tally)
@@ -79,22 +79,22 @@ checked state asked bytes out out' totals tally of says (inr ran) = (
 
 -- a check that didn't
 pub check_left : {W : Type 0} (state : W → SinkState) (asked : CheckAsked) (bytes : List ℕ) (out out' : W) (why : FileFault)
-    → RunsCheck state asked bytes out out' (Err why) → LeavesBytes state (Check asked.most) asked.path bytes asked.reading out out' why
+    → RunsCheck state asked bytes out out' (Err why) → LeavesLevels state (Check asked.most) asked.path bytes asked.reading out out' (fault_of why)
 check_left state asked bytes out out' why (inl left) = go why (subst (RefusesCheck bytes) (sym (err_same why left.fault left.ended)) left.holds)
   where
     err_same : (v w : FileFault) → ◌≡◌ {A = Result Totals FileFault} (Err v) (Err w) → v ≡ w
     err_same v w same = cc
 
-    go : (f : FileFault) → RefusesCheck bytes f → LeavesBytes state (Check asked.most) asked.path bytes asked.reading out out' f
-    go (fault.NoWad w) refuses = (refuses, left.untouched)
-    go (fault.Write found) refuses = absurd refuses
-    go fault.Memory refuses = tt
+    go : (f : FileFault) → RefusesCheck bytes f → LeavesLevels state (Check asked.most) asked.path bytes asked.reading out out' (fault_of f)
+    go (engine.NoWad w) refuses = (refuses, left.untouched)
+    go (engine.Write found) refuses = absurd refuses
+    go engine.Memory refuses = tt
 check_left state asked bytes out out' why (inr ran) = go why ran
   where
-    go : (f : FileFault) → ChecksFile asked bytes (state out) (state out') (Err f) → LeavesBytes state (Check asked.most) asked.path bytes asked.reading out out' f
-    go (fault.NoWad w) stopped = absurd stopped.does.some
-    go (fault.Write found) stopped = (stopped, stopped.does.some.failed)
-    go fault.Memory stopped = tt
+    go : (f : FileFault) → ChecksFile asked bytes (state out) (state out') (Err f) → LeavesLevels state (Check asked.most) asked.path bytes asked.reading out out' (fault_of f)
+    go (engine.NoWad w) stopped = absurd stopped.does.some
+    go (engine.Write found) stopped = (stopped, stopped.does.some.failed)
+    go engine.Memory stopped = tt
 
 -- a refused file was told
 pub refused_told : (held : Option (List ℕ)) (asked : Asked) (path : List ℕ) (refusal : Refusal) (out out' errors errors' : SinkState) (result : Result Tally Stop)
@@ -109,7 +109,7 @@ pub refused_stopped : (held : Option (List ℕ)) (asked : Asked) (path : List �
 refused_stopped held asked path refusal out out' errors errors' (Ok tally) why stops = tt
 refused_stopped held asked path refusal out out' errors errors' (Err stop.Memory) why stops = tt
 refused_stopped held asked path refusal out out' errors errors' (Err (stop.Output found)) why stops = inr (record { refusal = refusal; why = why; stops = stops })
-refused_stopped held asked path refusal out out' errors errors' (Err stop.Errors) why stops = record { refusal = refusal; why = why; stops = stops }
+refused_stopped held asked path refusal out out' errors errors' (Err stop.Errors) why stops = inr (record { refusal = refusal; why = why; stops = stops })
 
 module _ {P : Type 0} (path_of : P → List ℕ) (paths : List P) (i : ℕ) (d : P) (within : i < length paths) (held : List ℕ → Option (List ℕ)) (asked : Asked) (out errors between between_errors after after_errors : SinkState) where
   -- one path more

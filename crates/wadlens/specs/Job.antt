@@ -1,5 +1,5 @@
 -- What a run of a job does (ours): the paths of the words and of the list are told, and it ends as that ended.
-use Rattle.std.specs.Prelude.{◌≡◌, ◌⊎◌, ℕ, Bool, true, false, List, [], ◌++◌, codes, length, map, Option, None, Some, Result, Ok, Err, if◌then◌else◌}
+use Rattle.std.specs.Prelude.{◌≡◌, ◌⊎◌, ℕ, Bool, true, List, [], ◌++◌, codes, length, map, Option, None, Some, Result, Ok, Err, if◌then◌else◌}
 use Rattle.std.specs.Io.KnownBytes.{Appends, Keeps}
 use Rattle.std.specs.Str.{bytes_eq}
 use Rattle.le_rec.specs.Sink.{SinkState}
@@ -20,7 +20,7 @@ use Rattle.wadlens.specs.declared.tell.Stop.{Stop}
 use Rattle.wadlens.specs.declared.tell.Stop.TheVariants as stop
 use Rattle.wadlens.specs.declared.tell.Tally.{Tally}
 use Rattle.wadlens.specs.declared.tell.Word.{Word}
-use Rattle.wadlens.specs.declared.tell.Word.TheVariants.{Check, Survey}
+use Rattle.wadlens.specs.declared.tell.Word.TheVariants.{Check, Demos, Survey}
 use Rattle.wadlens.specs.declared.words.Job.{Job}
 
 -- the path of the list of more paths
@@ -59,10 +59,11 @@ list_name_at (Some path) = if bytes_eq path dash then codes "standard input" els
 abbrev pub list_name : Job → List ℕ
 list_name job = list_name_at (list_path job)
 
--- what a run ends with: a check with its totals, a survey with nothing more
+-- what a run ends with: a check with its totals, and else nothing more
 abbrev pub closing_line : Word → ℕ → Totals → List ℕ
 closing_line (Check most) files totals = totals_line files totals
 closing_line Survey files totals = []
+closing_line (Demos form) files totals = []
 
 -- how a run ends whose output failed
 abbrev pub output_end : Bool → Verdict → End

@@ -1,4 +1,5 @@
 pub mod CutJob
+pub mod DemosTold
 pub mod Files
 pub mod Job
 pub mod Output

@@ -1,5 +1,5 @@
 -- What a run tells of its files (ours): of each path in order the engine's text, or why its file is refused.
-use Rattle.std.specs.Prelude.{◌≡◌, ◌⊎◌, ℕ, ◌≤◌, false, true, List, [], ◌∷◌, ◌++◌, codes, length, Option, Some, Err}
+use Rattle.std.specs.Prelude.{◌≡◌, ◌⊎◌, ℕ, ◌≤◌, false, true, List, [], ◌∷◌, ◌++◌, codes, length, Option, Some, Ok, Err}
 use Rattle.std.specs.Io.KnownBytes.{Appends, Keeps}
 use Rattle.le_rec.specs.Sink.{SinkState}
 use Rattle.map_level.specs.declared.reading.Reading.{Reading}
@@ -13,28 +13,31 @@ use Rattle.wad_lens.specs.Survey.{SurveysAll, SurveysFile, graver}
 use Rattle.wad_lens.specs.Totals.{no_totals, totals_with, verdict_of_totals}
 use Rattle.wad_lens.specs.declared.object.Refusal.{Refusal}
 use Rattle.wad_lens.specs.declared.object.Refusal.TheVariants as refusal
-use Rattle.wad_lens.specs.declared.totals.Totals.{Totals}
 use Rattle.wad_lens.specs.declared.verdict.FileFault.{FileFault}
-use Rattle.wad_lens.specs.declared.verdict.FileFault.TheVariants as fault
+use Rattle.wad_lens.specs.declared.verdict.FileFault.TheVariants as engine
 use Rattle.wad_lens.specs.declared.verdict.Verdict.{Verdict}
 use Rattle.wad_lens.specs.declared.verdict.Verdict.TheVariants.{Clean, Unjudged}
+use Rattle.wadlens.specs.DemosTold.{StopsDemos, StopsOthers, TellsDemos, TellsDemosOf, answers_in}
 use Rattle.wadlens.specs.Files.{RefusesRead, max_read}
 use Rattle.wadlens.specs.declared.files.ReadFault.TheVariants.{Refused}
 use Rattle.wadlens.specs.declared.tell.Asked.{Asked}
+use Rattle.wadlens.specs.declared.tell.BytesFault.{BytesFault}
+use Rattle.wadlens.specs.declared.tell.BytesFault.TheVariants as fault
 use Rattle.wadlens.specs.declared.tell.Stop.{Stop}
 use Rattle.wadlens.specs.declared.tell.Stop.TheVariants as stop
 use Rattle.wadlens.specs.declared.tell.Tally.{Tally}
 use Rattle.wadlens.specs.declared.tell.Word.{Word}
-use Rattle.wadlens.specs.declared.tell.Word.TheVariants.{Check, Survey}
+use Rattle.wadlens.specs.declared.tell.Word.TheVariants.{Check, Demos, Survey}
 
 -- a refused file's line on standard error: `wadlens: PATH: TEXT`
 abbrev pub refusal_line : List ℕ → Refusal → List ℕ
 refusal_line path refusal = codes "wadlens: " ++ (path ++ (codes ": " ++ (refusal_text refusal ++ codes "\n")))
 
--- what is answered of a refused file: a survey's object, and nothing of a check
+-- what is answered of a refused file: a survey's object, and else nothing
 abbrev pub refusal_answer : Word → List ℕ → Refusal → List ℕ
 refusal_answer Survey path refusal = refused_object path refusal
 refusal_answer (Check most) path refusal = []
+refusal_answer (Demos form) path refusal = []
 
 -- of no file
 abbrev pub no_tally : Tally
@@ -71,30 +74,54 @@ pub record ChecksBytes (most : ℕ) (path bytes : List ℕ) (reading : Reading) 
   pub says : tally.verdict ≡ verdict_of_totals tally.totals
 
 -- what was asked was told of these bytes
-abbrev pub TellsWord : Word → List ℕ → List ℕ → Reading → SinkState → SinkState → Tally → Type 0
-TellsWord Survey path bytes reading before after tally = SurveysBytes path bytes reading before after tally
-TellsWord (Check most) path bytes reading before after tally = ChecksBytes most path bytes reading before after tally
+abbrev pub TellsWord : Word → List ℕ → List ℕ → Reading → SinkState → SinkState → SinkState → SinkState → Tally → Type 0
+TellsWord Survey path bytes reading out out' errors errors' tally = SurveysBytes path bytes reading out out' tally × (errors' ≡ errors)
+TellsWord (Check most) path bytes reading out out' errors errors' tally = ChecksBytes most path bytes reading out out' tally × (errors' ≡ errors)
+TellsWord (Demos form) path bytes reading out out' errors errors' tally = TellsDemosOf form path bytes out out' errors errors' tally
 
--- a write failed within what the levels of these bytes are told by, and so much was found up to there
+-- a write failed within what these bytes are told by, and so much was found up to there
 abbrev pub TellsSome : Word → List ℕ → List ℕ → Reading → SinkState → SinkState → Verdict → Type 0
-TellsSome Survey path bytes reading before after found = SurveysFile path bytes reading before after (Err (fault.Write found))
+TellsSome Survey path bytes reading before after found = SurveysFile path bytes reading before after (Err (engine.Write found))
 TellsSome (Check most) path bytes reading before after found =
-    ChecksFile (record { path = path; most = most; reading = reading }) bytes before after (Err (fault.Write found))
+    ChecksFile (record { path = path; most = most; reading = reading }) bytes before after (Err (engine.Write found))
+TellsSome (Demos form) path bytes reading before after found = StopsDemos form path bytes before after found
 
--- why bytes aren't gone over to their end: they have no directory, and nothing was written; or the output failed
-abbrev pub LeavesBytes : {W : Type 0} → (W → SinkState) → Word → List ℕ → List ℕ → Reading → W → W → FileFault → Type 0
-LeavesBytes state word path bytes reading out out' (fault.NoWad why) = RefusesWad bytes why × (out' ≡ out)
-LeavesBytes state word path bytes reading out out' (fault.Write found) =
+-- standard error failed where demos were to be told that aren't read, and the others were answered
+abbrev pub StopsErrors : Word → List ℕ → List ℕ → SinkState → SinkState → SinkState → SinkState → Type 0
+StopsErrors Survey path bytes out out' errors errors' = ⊥
+StopsErrors (Check most) path bytes out out' errors errors' = ⊥
+StopsErrors (Demos form) path bytes out out' errors errors' =
+    TellsDemos (answers_in form path) bytes out out' (Ok false) × StopsOthers path bytes errors errors' fault.Errors
+
+-- how an engine's fault is told
+abbrev pub fault_of : FileFault → BytesFault
+fault_of (engine.NoWad why) = fault.NoWad why
+fault_of (engine.Write found) = fault.Output found
+fault_of engine.Memory = fault.Memory
+
+-- why bytes aren't gone over to their end: they have no directory, and nothing was written; or an end failed
+abbrev pub LeavesBytes : {W E : Type 0} → (W → SinkState) → (E → SinkState) → Word → List ℕ → List ℕ → Reading → W → W → E → E → BytesFault → Type 0
+LeavesBytes state state' word path bytes reading out out' errors errors' (fault.NoWad why) = RefusesWad bytes why × (out' ≡ out) × (errors' ≡ errors)
+LeavesBytes state state' word path bytes reading out out' errors errors' (fault.Output found) =
     TellsSome word path bytes reading (state out) (state out') found × ((state out').failed ≡ true)
-LeavesBytes state word path bytes reading out out' fault.Memory = Unit {0}
+LeavesBytes state state' word path bytes reading out out' errors errors' fault.Errors =
+    StopsErrors word path bytes (state out) (state out') (state' errors) (state' errors')
+LeavesBytes state state' word path bytes reading out out' errors errors' fault.Memory = Unit {0}
+
+-- of levels, which are told on standard output alone
+abbrev pub LeavesLevels : {W : Type 0} → (W → SinkState) → Word → List ℕ → List ℕ → Reading → W → W → BytesFault → Type 0
+LeavesLevels state word path bytes reading out out' (fault.NoWad why) = RefusesWad bytes why × (out' ≡ out)
+LeavesLevels state word path bytes reading out out' (fault.Output found) =
+    TellsSome word path bytes reading (state out) (state out') found × ((state out').failed ≡ true)
+LeavesLevels state word path bytes reading out out' fault.Errors = ⊥
+LeavesLevels state word path bytes reading out out' fault.Memory = Unit {0}
 
 -- the file under a path was told
 pub record TellsHeld (held : Option (List ℕ)) (asked : Asked) (path : List ℕ) (out out' errors errors' : SinkState) (tally : Tally) : Type 0 where
   pub bytes : List ℕ
   pub are : Keeps held (Some bytes)
   pub few : length bytes ≤ max_read
-  pub told : TellsWord asked.word path bytes asked.reading out out' tally
-  pub silent : errors' ≡ errors
+  pub told : TellsWord asked.word path bytes asked.reading out out' errors errors' tally
 
 -- the bytes under a path, where they are known, have no directory
 pub record HasNoDirectory (held : Option (List ℕ)) (why : WadFault) : Type 0 where
@@ -151,6 +178,12 @@ pub record StopsTelling (held : Option (List ℕ)) (asked : Asked) (path : List 
   pub told : TellsSome asked.word path bytes asked.reading out out' found
   pub failed : out'.failed ≡ true
 
+-- a run stopped while it told of demos that aren't read, in the file under a path
+pub record StopsOnErrors (held : Option (List ℕ)) (asked : Asked) (path : List ℕ) (out out' errors errors' : SinkState) : Type 0 where
+  pub bytes : List ℕ
+  pub are : Keeps held (Some bytes)
+  pub stops : StopsErrors asked.word path bytes out out' errors errors'
+
 -- a run stopped while it told that the file under a path is refused
 pub record StopsRefusing (held : Option (List ℕ)) (word : Word) (path : List ℕ) (out out' errors errors' : SinkState) (stop : Stop) : Type 0 where
   pub refusal : Refusal
@@ -162,7 +195,8 @@ abbrev pub StopsPath : Option (List ℕ) → Asked → List ℕ → SinkState �
 StopsPath held asked path out out' errors errors' stop.Memory = Unit {0}
 StopsPath held asked path out out' errors errors' (stop.Output found) =
     StopsTelling held asked path out out' found ⊎ StopsRefusing held asked.word path out out' errors errors' (stop.Output found)
-StopsPath held asked path out out' errors errors' stop.Errors = StopsRefusing held asked.word path out out' errors errors' stop.Errors
+StopsPath held asked path out out' errors errors' stop.Errors =
+    StopsOnErrors held asked path out out' errors errors' ⊎ StopsRefusing held asked.word path out out' errors errors' stop.Errors
 
 -- a run stopped at a path, and all before it were told
 pub record StopsAt (held : List ℕ → Option (List ℕ)) (asked : Asked) (paths : List (List ℕ)) (out errors out' errors' : SinkState) (stop : Stop) : Type 0 where

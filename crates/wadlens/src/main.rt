@@ -2,6 +2,7 @@
 #![tactic(auto)]
 
 mod cut;
+mod demos;
 mod end;
 mod files;
 mod output;

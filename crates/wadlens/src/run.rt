@@ -99,14 +99,14 @@ pub fn write_rest<O: Write + Drop>(found: Verdict, out: &mut Output<O>) -> Resul
     }
 }
 
-// A check ends with its totals, and a survey with nothing more.
+// A check ends with its totals, and else there is nothing more.
 fn write_last<W: Sink>(word: Word, files: u64, totals: &Totals, out: &mut W) -> Result<(), IoFault>
     requires { (W.state out.old).failed ≡ false }
     ensures { Writes (W.state out.old) (W.state out.new) (closing_line word files totals.now) result }
 {
     match word {
         Word::Check(_) => write_totals(files, totals, out),
-        Word::Survey => emit(out, b""),
+        Word::Survey | Word::Demos(_) => emit(out, b""),
     }
 }
 

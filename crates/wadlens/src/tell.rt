@@ -3,11 +3,12 @@ ghost use Rattle.std.specs.Prelude.{◌≡◌, ◌++◌, codes, false, map, IfOk
 ghost use Rattle.line_io.specs.Writes.{Writes};
 ghost use Rattle.wad_lens.specs.Objects.{refusal_text};
 ghost use Rattle.wadlens.specs.Files.{max_read};
-ghost use Rattle.wadlens.specs.Run.{AreSound, ChecksBytes, LeavesBytes, StopsAt, StopsPath, StopsRefusal, SurveysBytes};
+ghost use Rattle.wadlens.specs.Run.{AreSound, ChecksBytes, LeavesBytes, LeavesLevels, StopsAt, StopsPath, StopsRefusal, SurveysBytes};
 ghost use Rattle.wadlens.specs.Run.{TellsPath, TellsWord, ToldTo, WritesRefusal, no_tally, refusal_answer, refusal_line};
 ghost use Rattle.wadlens.specs.Run.{stop_after, tally_with};
 ghost use Rattle.wadlens.specs.declared.tell.Word.TheVariants as word;
 
+use crate::demos::{DemoForm, tell_demos};
 use crate::files::{ReadFault, Storage, read_file};
 use crate::progress::Progress;
 use le_rec::Sink;
@@ -15,6 +16,7 @@ use line_io::{IoFault, emit};
 use map_level::Reading;
 use std::alloc::Global;
 use std::io::Write;
+use wad_dir::WadFault;
 use wad_lens::{
     FileFault, Question, Refusal, Totals, Verdict, check_file, refused_line, survey_file,
 };
@@ -26,9 +28,11 @@ pub enum Word {
     Check(u64),
     /// An object for each level.
     Survey,
+    /// The demos, in a form.
+    Demos(DemoForm),
 }
 
-/// What is asked of each file, and how its levels are read.
+/// What is asked of each file, and how its levels are read, which says nothing of demos.
 #[derive(Clone, Copy, Debug, PartialEq, Eq)]
 pub struct Asked {
     pub word: Word,
@@ -63,6 +67,35 @@ impl Stop {
         match self {
             Stop::Output(found) => Stop::Output(before.graver(found)),
             Stop::Memory | Stop::Errors => self,
+        }
+    }
+}
+
+/// Why the bytes of a file weren't told to their end.
+#[derive(Clone, Copy, Debug, PartialEq, Eq)]
+pub enum BytesFault {
+    /// They have no directory. Nothing was written.
+    NoWad(WadFault),
+    /// What is answered can't be written. The gravest of what was found up to there.
+    Output(Verdict),
+    /// What is refused can't be told.
+    Errors,
+    /// A growth was refused.
+    Memory,
+}
+
+impl BytesFault {
+    ghost use Rattle.std.specs.Prelude.{◌≡◌};
+    ghost use Rattle.wadlens.specs.Run.{fault_of};
+
+    // The fault of an engine that tells levels.
+    fn from_engine(fault: FileFault) -> BytesFault
+        ensures { result ≡ fault_of fault }
+    {
+        match fault {
+            FileFault::NoWad(why) => BytesFault::NoWad(why),
+            FileFault::Write(found) => BytesFault::Output(found),
+            FileFault::Memory => BytesFault::Memory,
         }
     }
 }
@@ -141,16 +174,17 @@ fn tell_path<S: Storage, W: Sink, E: Sink, P: Write + Drop>(
         (W.state out.old) (W.state out.new) (E.state errors.old) (E.state errors.new)) }
 {
     match read_file(alloc, storage, path) {
-        Ok(bytes) => match tell_bytes(alloc, asked, path, &bytes, out) {
+        Ok(bytes) => match tell_bytes(alloc, asked, path, &bytes, out, errors, progress) {
             Ok(tally) => {
                 progress.add(alloc, &bytes);
                 Ok(tally)
             }
-            Err(FileFault::NoWad(why)) => {
+            Err(BytesFault::NoWad(why)) => {
                 tell_refusal(asked.word, path, Refusal::NoWad(why), out, errors, progress)
             }
-            Err(FileFault::Write(found)) => Err(Stop::Output(found)),
-            Err(FileFault::Memory) => Err(Stop::Memory),
+            Err(BytesFault::Output(found)) => Err(Stop::Output(found)),
+            Err(BytesFault::Errors) => Err(Stop::Errors),
+            Err(BytesFault::Memory) => Err(Stop::Memory),
         },
         Err(ReadFault::Refused(refusal)) => {
             tell_refusal(asked.word, path, refusal, out, errors, progress)
@@ -210,7 +244,7 @@ fn write_reason<E: Sink>(refusal: Refusal, errors: &mut E) -> Result<(), IoFault
     emit(errors, b"\n")
 }
 
-// A survey has an object for a refused file, and a check nothing.
+// A survey has an object for a refused file.
 fn answer_refusal<W: Sink>(
     word: Word,
     path: &[u8],
@@ -222,22 +256,26 @@ fn answer_refusal<W: Sink>(
 {
     match word {
         Word::Survey => refused_line(path, refusal, out),
-        Word::Check(_) => emit(out, b""),
+        Word::Check(_) | Word::Demos(_) => emit(out, b""),
     }
 }
 
-// Tells what is asked of the levels in a file's bytes.
-fn tell_bytes<W: Sink>(
+// Tells what is asked of a file's bytes.
+fn tell_bytes<W: Sink, E: Sink, P: Write + Drop>(
     alloc: Global,
     asked: Asked,
     path: &[u8],
     bytes: &[u8],
     out: &mut W,
-) -> Result<Tally, FileFault>
-    requires { (W.state out.old).failed ≡ false }
-    ensures told { IfOk result (TellsWord asked.word path.now bytes.now asked.reading (W.state out.old) (W.state out.new)) }
-    ensures sound { OnOk result ((W.state out.new).failed ≡ false) }
-    ensures left { IfErr result (LeavesBytes W.state asked.word path.now bytes.now asked.reading out.old out.new) }
+    errors: &mut E,
+    progress: &mut Progress<P>,
+) -> Result<Tally, BytesFault>
+    requires { AreSound (W.state out.old) (E.state errors.old) }
+    ensures told { IfOk result (TellsWord asked.word path.now bytes.now asked.reading (W.state out.old) (W.state out.new)
+        (E.state errors.old) (E.state errors.new)) }
+    ensures sound { OnOk result (AreSound (W.state out.new) (E.state errors.new)) }
+    ensures left { IfErr result (LeavesBytes W.state E.state asked.word path.now bytes.now asked.reading
+        out.old out.new errors.old errors.new) }
 {
     match asked.word {
         Word::Survey => survey_bytes(alloc, path, bytes, asked.reading, out),
@@ -249,6 +287,7 @@ fn tell_bytes<W: Sink>(
             };
             check_bytes(alloc, &question, bytes, out)
         }
+        Word::Demos(form) => tell_demos(alloc, form, path, bytes, out, errors, progress),
     }
 }
 
@@ -259,18 +298,18 @@ fn survey_bytes<W: Sink>(
     bytes: &[u8],
     reading: Reading,
     out: &mut W,
-) -> Result<Tally, FileFault>
+) -> Result<Tally, BytesFault>
     requires { (W.state out.old).failed ≡ false }
     ensures told { IfOk result (SurveysBytes path.now bytes.now reading (W.state out.old) (W.state out.new)) }
     ensures sound { OnOk result ((W.state out.new).failed ≡ false) }
-    ensures left { IfErr result (LeavesBytes W.state word.Survey path.now bytes.now reading out.old out.new) }
+    ensures left { IfErr result (LeavesLevels W.state word.Survey path.now bytes.now reading out.old out.new) }
 {
     match survey_file(alloc, path, bytes, reading, out) {
         Ok(verdict) => Ok(Tally {
             verdict,
             totals: no_tally().totals,
         }),
-        Err(fault) => Err(fault),
+        Err(fault) => Err(BytesFault::from_engine(fault)),
     }
 }
 
@@ -280,12 +319,12 @@ fn check_bytes<W: Sink>(
     question: &Question<'_>,
     bytes: &[u8],
     out: &mut W,
-) -> Result<Tally, FileFault>
+) -> Result<Tally, BytesFault>
     requires { (W.state out.old).failed ≡ false }
     ensures told { IfOk result (ChecksBytes question.now.most question.now.path.now bytes.now question.now.reading
         (W.state out.old) (W.state out.new)) }
     ensures sound { OnOk result ((W.state out.new).failed ≡ false) }
-    ensures left { IfErr result (LeavesBytes W.state (word.Check question.now.most) question.now.path.now bytes.now
+    ensures left { IfErr result (LeavesLevels W.state (word.Check question.now.most) question.now.path.now bytes.now
         question.now.reading out.old out.new) }
 {
     match check_file(alloc, question, bytes, out) {
@@ -293,6 +332,6 @@ fn check_bytes<W: Sink>(
             verdict: totals.verdict(),
             totals,
         }),
-        Err(fault) => Err(fault),
+        Err(fault) => Err(BytesFault::from_engine(fault)),
     }
 }

@@ -1,5 +1,6 @@
 //! What the words of the command line ask for.
 
+use crate::demos::DemoForm;
 use crate::tell::{Asked, Word};
 use clap::{Arg, ArgAction, ArgMatches, Command, Error, value_parser};
 use map_level::Reading;
@@ -79,13 +80,21 @@ fn program<'a>(alloc: Global) -> Result<Command<'a>, AllocError> {
     let survey = Command::new(alloc, "survey").about(
         "Write a JSON object a line for each level and each refused file",
     );
+    let json = Arg::new(alloc, "json")
+        .long("json")
+        .action(ArgAction::SetTrue)
+        .help("Write a JSON object a line for each demo");
+    let demos = Command::new(alloc, "demos")
+        .about("Tell each demo in a line: demo files, and the demos in WAD files")
+        .arg(json)?;
     Command::new(alloc, "wadlens")
         .version("0.1.0")
         .about("Looks over all levels of Doom WAD files")
         .subcommand_required(true)
         .disable_help_subcommand(true)
-        .subcommand(with_files(alloc, check)?)?
-        .subcommand(with_files(alloc, survey)?)?
+        .subcommand(with_levels(alloc, check)?)?
+        .subcommand(with_levels(alloc, survey)?)?
+        .subcommand(with_files(alloc, demos)?)?
         .subcommand(cut_command(alloc)?)
 }
 
@@ -107,18 +116,23 @@ fn cut_command<'a>(alloc: Global) -> Result<Command<'a>, AllocError> {
         .arg(file)
 }
 
-// Adds the words on files, and on how they are read.
-fn with_files<'a>(alloc: Global, command: Command<'a>) -> Result<Command<'a>, AllocError> {
+// Adds the words on files, and on how their levels are read.
+fn with_levels<'a>(alloc: Global, command: Command<'a>) -> Result<Command<'a>, AllocError> {
     let wide = Arg::new(alloc, "wide")
         .long("wide")
         .action(ArgAction::SetTrue)
         .help("Read vertexes, sidedefs, segs and ssectors as numbers from 0 to 65535");
+    with_files(alloc, command.arg(wide)?)
+}
+
+// Adds the words on files.
+fn with_files<'a>(alloc: Global, command: Command<'a>) -> Result<Command<'a>, AllocError> {
     let files = Arg::new(alloc, "files")
         .value_name("FILE")
         .action(ArgAction::Append)
         .num_args(1..)
         .required_unless_present("files-from")?
-        .help("WAD files, each a set by itself");
+        .help("The files, each a set by itself");
     let list = Arg::new(alloc, "files-from")
         .long("files-from")
         .value_name("LIST")
@@ -132,12 +146,7 @@ fn with_files<'a>(alloc: Global, command: Command<'a>) -> Result<Command<'a>, Al
         .long("progress")
         .action(ArgAction::SetTrue)
         .help("Tell on standard error how many files and levels are done");
-    command
-        .arg(wide)?
-        .arg(files)?
-        .arg(list)?
-        .arg(null)?
-        .arg(progress)
+    command.arg(files)?.arg(list)?.arg(null)?.arg(progress)
 }
 
 // What matches of the words ask for.
@@ -159,9 +168,19 @@ fn job_of<'a>(alloc: Global, matches: &ArgMatches<'a>) -> Result<Job<'a>, AllocE
             let most = of_check.get_one::<u64>("max").unwrap_or(SHOWN);
             job_over(alloc, Word::Check(most), of_check)
         }
-        None => match matches.subcommand_matches("survey") {
-            Some(of_survey) => job_over(alloc, Word::Survey, of_survey),
-            None => job_over(alloc, Word::Survey, matches),
+        None => match matches.subcommand_matches("demos") {
+            Some(of_demos) => {
+                let form = if of_demos.get_flag("json") {
+                    DemoForm::Objects
+                } else {
+                    DemoForm::Lines
+                };
+                job_over(alloc, Word::Demos(form), of_demos)
+            }
+            None => match matches.subcommand_matches("survey") {
+                Some(of_survey) => job_over(alloc, Word::Survey, of_survey),
+                None => job_over(alloc, Word::Survey, matches),
+            },
         },
     }
 }

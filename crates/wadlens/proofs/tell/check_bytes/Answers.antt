@@ -12,5 +12,5 @@ pub returns-in-Err : goal.returns-in-Err
 returns-in-Err g c = record {
   told = tt;
   sound = tt;
-  left = check_left g.W.Sink.state (asked_of c.args.question.now) c.args.bytes.now c.args.out.now c.check_file.new.out c.in-Err.fault c.in-Err.ensures;
+  left = rw c.from_engine.ensures (check_left g.W.Sink.state (asked_of c.args.question.now) c.args.bytes.now c.args.out.now c.check_file.new.out c.in-Err.fault c.in-Err.ensures);
 }

@@ -13,5 +13,5 @@ pub returns-in-Err : goal.returns-in-Err
 returns-in-Err g c = record {
   told = tt;
   sound = tt;
-  left = survey_left g.W.Sink.state c.args.path.now c.args.bytes.now c.args.reading c.args.out.now c.survey_file.new.out c.in-Err.fault c.in-Err.ensures;
+  left = rw c.from_engine.ensures (survey_left g.W.Sink.state c.args.path.now c.args.bytes.now c.args.reading c.args.out.now c.survey_file.new.out c.in-Err.fault c.in-Err.ensures);
 }

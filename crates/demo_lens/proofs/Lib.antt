@@ -1,1 +1,2 @@
 pub mod DemosLemmas
+mod DifferenceLemmas

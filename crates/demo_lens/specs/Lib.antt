@@ -1,4 +1,6 @@
 pub mod Demos
+pub mod Differences
+pub mod Laws
 pub mod Objects
 pub mod RefusalText
 pub mod Summary

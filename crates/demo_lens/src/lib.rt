@@ -2,9 +2,13 @@
 //! many files: the engines take bytes and a path to print, and write to a sink.
 #![tactic(auto)]
 
+mod compare;
 mod demos;
+pub mod laws;
 mod object;
 mod refusal;
 mod summary;
 
+pub use compare::compare_demos;
 pub use demos::{DemoQuestion, DemosFault, Telling, demos_file};
+pub use refusal::write_demo_refusal;

@@ -1,6 +1,6 @@
 //! Why a demo isn't told, in words.
 
-ghost use Rattle.std.specs.Prelude.{◌≡◌, ◌+◌, ◌<◌, ◌≤◌, ◌++◌, ◌∷◌, [], codes, false, length};
+ghost use Rattle.std.specs.Prelude.{◌≡◌, ◌+◌, ◌<◌, ◌≤◌, ◌++◌, ◌∷◌, [], codes, false, length, None};
 ghost use Rattle.line_io.specs.Writes.{Writes};
 ghost use Rattle.demo_lens.specs.RefusalText.{engine_text, fault_text, outside_text, refusal_line};
 ghost use Rattle.demo_lens.specs.Summary.{lump_text};
@@ -10,6 +10,19 @@ use crate::summary::{Heading, prepend_lump};
 use demo_lump::DemoFault;
 use le_rec::Sink;
 use line_io::{IoFault, TextLine, emit};
+
+/// Writes why a demo file of so many bytes is refused: `wadlens: PATH: empty`. The path is written as its bytes.
+pub fn write_demo_refusal<W: Sink>(
+    path: &[u8],
+    size: usize,
+    fault: DemoFault,
+    err: &mut W,
+) -> Result<(), IoFault>
+    requires { (W.state err.old).failed ≡ false }
+    ensures { Writes (W.state err.old) (W.state err.new) (refusal_line path.now None (fault_text size fault)) result }
+{
+    write_refused(&Heading { path, lump: None }, size, fault, err)
+}
 
 /// Writes the message about a demo of so many bytes that is refused.
 pub fn write_refused<W: Sink>(

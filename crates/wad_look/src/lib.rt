@@ -32,4 +32,5 @@ pub use fault::RunFault;
 pub use input::read_all;
 pub use line_io::MAX_READ;
 pub use outcome::status;
+pub use turn::Turn;
 pub use words::job;

@@ -1,0 +1,141 @@
+//! The run of words over files.
+
+ghost use Rattle.std.specs.Prelude.{◌≡◌, ◌<◌, false, length, map, string_bytes, IfOk, OnOk};
+ghost use Rattle.lens_page.specs.Run.{Answers, RunsWords, TellsAll, ToldTo, closing_line, status_of};
+ghost use Rattle.lens_page.specs.Tell.{Adds, AreSound};
+ghost use Rattle.wad_look.specs.Opening.{bytes_of};
+
+use crate::cut::cut_file;
+use crate::tell::{NoRoom, Tally, no_tally, put_all, tell_file};
+use crate::words::{Asked, Word, asked_by};
+use le_rec::Sink;
+use std::alloc::Allocator;
+use wad_lens::{Totals, Verdict, write_totals};
+
+/// Why there is no answer.
+#[derive(Clone, Copy, Debug, PartialEq, Eq)]
+pub enum LensFault {
+    /// The words ask for nothing, or not of so many files. Nothing was written.
+    Usage,
+    /// A growth was refused, or an end failed.
+    Full,
+}
+
+/// The status with which the program ends: 0 nothing found, 1 a fault, 2 what isn't judged or was refused.
+pub fn status(verdict: Verdict) -> u8
+    ensures { result ≡ status_of verdict }
+{
+    match verdict {
+        Verdict::Clean => 0,
+        Verdict::Faulty => 1,
+        Verdict::Unjudged => 2,
+    }
+}
+
+/// Does what the words ask for. The last of them are the paths of the files, in order.
+pub fn run_words<A: Allocator + Copy, W: Sink, E: Sink>(
+    alloc: A,
+    words: &[String<A>],
+    files: &[Vec<u8, A>],
+    out: &mut W,
+    errors: &mut E,
+) -> Result<Verdict, LensFault>
+    requires { AreSound (W.state out.old) (E.state errors.old) }
+    ensures { RunsWords W.state E.state (map string_bytes words.now) (bytes_of files.now) out.old out.new errors.old errors.new result }
+{
+    let count = files.len();
+    if count > words.len() {
+        return Err(LensFault::Usage);
+    }
+    let (front, paths) = words.split_at(words.len() - count);
+    let Some(asked) = asked_by(front, count) else {
+        return Err(LensFault::Usage);
+    };
+    match answer(alloc, asked, paths, files, out, errors) {
+        Ok(verdict) => Ok(verdict),
+        Err(NoRoom) => Err(LensFault::Full),
+    }
+}
+
+// Answers what is asked of the files.
+fn answer<A: Allocator + Copy, W: Sink, E: Sink>(
+    alloc: A,
+    asked: Asked,
+    paths: &[String<A>],
+    files: &[Vec<u8, A>],
+    out: &mut W,
+    errors: &mut E,
+) -> Result<Verdict, NoRoom>
+    requires many { length paths.now ≡ length files.now }
+    requires some { 0 < length files.now }
+    requires sound { AreSound (W.state out.old) (E.state errors.old) }
+    ensures { IfOk result (Answers asked (map string_bytes paths.now) (bytes_of files.now) (W.state out.old) (W.state out.new) (E.state errors.old) (E.state errors.new)) }
+{
+    match asked.word {
+        Word::Cut(entry) => cut_file(
+            alloc,
+            entry,
+            paths[0].as_str().as_bytes(),
+            files[0].as_slice(),
+            out,
+            errors,
+        ),
+        Word::Check(_) | Word::Survey => tell_all(alloc, asked, paths, files, out, errors),
+    }
+}
+
+// Tells what is asked of the files, and adds it up.
+fn tell_all<A: Allocator + Copy, W: Sink, E: Sink>(
+    alloc: A,
+    asked: Asked,
+    paths: &[String<A>],
+    files: &[Vec<u8, A>],
+    out: &mut W,
+    errors: &mut E,
+) -> Result<Verdict, NoRoom>
+    requires many { length paths.now ≡ length files.now }
+    requires sound { AreSound (W.state out.old) (E.state errors.old) }
+    ensures { IfOk result (TellsAll asked (map string_bytes paths.now) (bytes_of files.now) (W.state out.old) (W.state out.new) (E.state errors.old) (E.state errors.new)) }
+{
+    let tally = tell_files(alloc, asked, paths, files, out, errors)?;
+    write_last(asked.word, files.len() as u64, &tally.totals, out)?;
+    Ok(tally.verdict)
+}
+
+// Tells what is asked of each file, in order.
+fn tell_files<A: Allocator + Copy, W: Sink, E: Sink>(
+    alloc: A,
+    asked: Asked,
+    paths: &[String<A>],
+    files: &[Vec<u8, A>],
+    out: &mut W,
+    errors: &mut E,
+) -> Result<Tally, NoRoom>
+    requires many { length paths.now ≡ length files.now }
+    requires sound { AreSound (W.state out.old) (E.state errors.old) }
+    ensures told { IfOk result (ToldTo asked (map string_bytes paths.now) (bytes_of files.now) (W.state out.old) (E.state errors.old)
+        (length files.now) (W.state out.new) (E.state errors.new)) }
+    ensures sound { OnOk result (AreSound (W.state out.new) (E.state errors.new)) }
+{
+    let mut sum = no_tally();
+    for i in 0..files.len() {
+        let path = paths[i].as_str().as_bytes();
+        let tally = tell_file(alloc, asked, path, files[i].as_slice(), out, errors)?;
+        sum = sum.with(tally);
+    }
+    Ok(sum)
+}
+
+// A check ends with its totals, and the others with nothing more.
+fn write_last<W: Sink>(word: Word, files: u64, totals: &Totals, out: &mut W) -> Result<(), NoRoom>
+    requires { (W.state out.old).failed ≡ false }
+    ensures { OnOk result (Adds (W.state out.old) (W.state out.new) (closing_line word files totals.now)) }
+{
+    match word {
+        Word::Check(_) => match write_totals(files, totals, out) {
+            Ok(()) => Ok(()),
+            Err(_) => Err(NoRoom),
+        },
+        Word::Survey | Word::Cut(_) => put_all(out, b""),
+    }
+}

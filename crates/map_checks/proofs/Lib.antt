@@ -1,5 +1,6 @@
 pub mod ToldLemmas
 pub mod RankLemmas
+pub mod ClosingLemmas
 pub mod TagLemmas
 pub mod TwinLemmas
 pub mod FacingLemmas

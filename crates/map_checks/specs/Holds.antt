@@ -2,6 +2,7 @@
 use Rattle.std.specs.Prelude.{◌≡◌}
 use Rattle.map_level.specs.Level.{Level}
 use Rattle.map_checks.specs.Warnings.{code_of}
+use Rattle.map_checks.specs.Closing.{IsUnclosed}
 use Rattle.map_checks.specs.Bare.{IsBare}
 use Rattle.map_checks.specs.References.{HasReferences}
 use Rattle.map_checks.specs.Tag.{IsUntagged}
@@ -11,12 +12,13 @@ use Rattle.map_checks.specs.Facing.{IsMismatched}
 use Rattle.map_checks.specs.Twin.{IsTwin}
 use Rattle.map_checks.specs.Starts.{IsWithoutStart, AreFewStarts}
 use Rattle.map_checks.specs.declared.warning.Warning.{Warning}
-use Rattle.map_checks.specs.declared.warning.Warning.TheVariants.{Bare, InVoid, Untagged, Mismatched, Twin, NoStart, FewStarts}
+use Rattle.map_checks.specs.declared.warning.Warning.TheVariants.{Unclosed, Bare, InVoid, Untagged, Mismatched, Twin, NoStart, FewStarts}
 use Rattle.map_checks.specs.declared.warning.WarningCode.{WarningCode}
 use Rattle.map_checks.specs.declared.warning.WarningCode.TheVariants.{W3, W5}
 
 -- a warning holds of a level
 abbrev pub Holds : Level → Warning → Type 0
+Holds level (Unclosed sector vertex) = IsUnclosed level sector vertex
 Holds level (Bare linedef side part) = IsBare level linedef side part
 Holds level (InVoid thing) = IsInVoid level thing
 Holds level (Untagged linedef) = IsUntagged level linedef

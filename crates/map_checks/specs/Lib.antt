@@ -1,5 +1,7 @@
 pub mod Warnings
 pub mod References
+pub mod Closing
+pub mod RunNumbers
 pub mod Bare
 pub mod Void
 pub mod Tag
@@ -8,3 +10,4 @@ pub mod Twin
 pub mod EndsKey
 pub mod Starts
 pub mod Holds
+pub mod Laws

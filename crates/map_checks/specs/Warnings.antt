@@ -5,12 +5,13 @@ use Rattle.map_checks.specs.declared.warning.Side.TheVariants.{Front, Back}
 use Rattle.map_checks.specs.declared.warning.Part.{Part}
 use Rattle.map_checks.specs.declared.warning.Part.TheVariants.{Middle, Upper, Lower}
 use Rattle.map_checks.specs.declared.warning.Warning.{Warning}
-use Rattle.map_checks.specs.declared.warning.Warning.TheVariants.{Bare, InVoid, Untagged, Mismatched, Twin, NoStart, FewStarts}
+use Rattle.map_checks.specs.declared.warning.Warning.TheVariants.{Unclosed, Bare, InVoid, Untagged, Mismatched, Twin, NoStart, FewStarts}
 use Rattle.map_checks.specs.declared.warning.WarningCode.{WarningCode}
-use Rattle.map_checks.specs.declared.warning.WarningCode.TheVariants.{W2, W3, W4, W5, W6, W7, W8}
+use Rattle.map_checks.specs.declared.warning.WarningCode.TheVariants.{W1, W2, W3, W4, W5, W6, W7, W8}
 
 -- the code of a warning
 abbrev pub code_of : Warning → WarningCode
+code_of (Unclosed sector vertex) = W1
 code_of (Bare linedef side part) = W2
 code_of (InVoid thing) = W3
 code_of (Untagged linedef) = W4
@@ -32,6 +33,7 @@ part_number Lower = 2
 
 -- where a warning stands among those of its code: by the record, then by side and part; what can hold only once stands at 0
 abbrev pub rank : Warning → ℕ
+rank (Unclosed sector vertex) = sector * 65536 + vertex
 rank (Bare linedef side part) = linedef * 6 + side_number side * 3 + part_number part
 rank (InVoid thing) = thing
 rank (Untagged linedef) = linedef

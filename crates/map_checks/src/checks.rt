@@ -5,6 +5,7 @@ ghost use Rattle.map_checks.specs.Warnings.{Tells};
 ghost use Rattle.map_checks.specs.Holds.{HoldsOf, IsLookedFor};
 
 use crate::bare::bare_walls;
+use crate::closing::unclosed;
 use crate::facing::mismatched;
 use crate::references::has_references;
 use crate::starts::{few_starts, missing_start};
@@ -72,6 +73,7 @@ impl<'l, 'a> Checks<'l, 'a> {
         match code {
             WarningCode::W3 => self.is_sound,
             WarningCode::W5 => self.is_sound,
+            WarningCode::W1 => self.has_references,
             WarningCode::W2 => self.has_references,
             WarningCode::W4 => self.has_references,
             WarningCode::W6 => self.has_references,
@@ -111,6 +113,7 @@ fn warnings<A: Allocator + Copy>(
     ensures most { IfOk result (λ told. told.most ≡ most) }
 {
     match code {
+        WarningCode::W1 => unclosed(alloc, level, most),
         WarningCode::W2 => bare_walls(alloc, level, most),
         WarningCode::W3 => in_void(alloc, level, most),
         WarningCode::W4 => untagged(alloc, level, most),

@@ -5,12 +5,12 @@ ghost use Rattle.std.specs.Prelude.{IfNone, IfOk, IfSome, IsTrue, OnOk};
 ghost use Rattle.std.specs.Option.{option_map};
 ghost use Rattle.map_level.specs.Reading.{linedef_under, seg_under, sidedef_under, ssector_under};
 ghost use Rattle.map_level.specs.Links.{linedef_of, side_at, side_of};
-ghost use Rattle.map_level.specs.SectorOf.{number_named, sidedef_of};
+ghost use Rattle.map_level.specs.SectorOf.{sidedef_of};
 ghost use Rattle.map_checks.specs.Facing.{AreRunEnds, IsMismatched, IsRunEnd, Mismatch, sector_faced};
 ghost use Rattle.map_checks.specs.Warnings.{Tells, TellsBelow};
 ghost use Rattle.map_checks.specs.Holds.{HoldsOf};
 
-use crate::records::{linedef_at, seg_at, sidedef_named, ssector_at};
+use crate::records::{linedef_at, number_named, seg_at, sidedef_named, ssector_at};
 use crate::told::{Told, tell_where};
 use crate::warning::{Warning, WarningCode};
 use le_rec::{LineDef, SSector, Seg, SideDef};
@@ -201,16 +201,6 @@ fn sector_faced(level: &Level<'_>, j: usize) -> Option<u32>
         number(sidedef.sector, level.reading()),
         level.sectors().len(),
     )
-}
-
-// The number that an index names one of so many records by.
-fn number_named(index: i32, count: usize) -> Option<u32>
-    ensures { result ≡ number_named count index }
-{
-    if index < 0 || index as usize >= count {
-        return None;
-    }
-    Some(index as u32)
 }
 
 // The sidedef of a seg.

@@ -3,7 +3,9 @@
 
 mod bare;
 mod checks;
+mod closing;
 mod facing;
+pub mod laws;
 mod records;
 mod references;
 mod starts;
@@ -14,6 +16,7 @@ mod void;
 mod warning;
 
 pub use checks::Checks;
+pub use closing::SideRun;
 pub use references::has_references;
 pub use told::Told;
 pub use twins::Ends;

@@ -5,7 +5,7 @@ ghost use Rattle.std.specs.Option.{option_map};
 ghost use Rattle.std.specs.List.{slice_get};
 ghost use Rattle.map_level.specs.Reading.{number_of, linedef_under, seg_under, sidedef_under, ssector_under};
 ghost use Rattle.map_level.specs.Links.{linedefs_of, no_side, named, segs_of, sidedefs_of, ssectors_of, vertexes_of};
-ghost use Rattle.map_level.specs.SectorOf.{sidedef_named};
+ghost use Rattle.map_level.specs.SectorOf.{number_named, sidedef_named};
 
 use le_rec::{LineDef, Record, SSector, Seg, SideDef, Table, Vertex};
 use map_level::{Level, Reading, number};
@@ -93,4 +93,15 @@ fn no_side(reading: Reading) -> i32
         Reading::Signed => -1,
         Reading::Wide => 65535,
     }
+}
+
+/// The number that an index names one of so many records by.
+#[inline]
+pub fn number_named(index: i32, count: usize) -> Option<u32>
+    ensures { result ≡ number_named count index }
+{
+    if index < 0 || index as usize >= count {
+        return None;
+    }
+    Some(index as u32)
 }

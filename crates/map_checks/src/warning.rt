@@ -6,6 +6,8 @@ ghost use Rattle.map_checks.specs.Warnings.{code_of};
 /// What is warned of, in the order in which it is told.
 #[derive(Clone, Copy, Debug, PartialEq, Eq)]
 pub enum WarningCode {
+    /// A sector isn't closed at a vertex.
+    W1,
     /// A wall lacks the texture that its side shows.
     W2,
     /// A thing stands in the void.
@@ -40,6 +42,11 @@ pub enum Part {
 /// A warning, with the numbers of the records that it is of.
 #[derive(Clone, Copy, Debug, PartialEq, Eq)]
 pub enum Warning {
+    /// W1: of a sector's sides not as many leave a vertex as reach it.
+    Unclosed {
+        sector: u32,
+        vertex: u32,
+    },
     /// W2: a part of a linedef's side has no texture and can be seen.
     Bare {
         linedef: u32,
@@ -81,6 +88,7 @@ impl Warning {
         ensures { result ≡ code_of self }
     {
         match self {
+            Warning::Unclosed { .. } => WarningCode::W1,
             Warning::Bare { .. } => WarningCode::W2,
             Warning::InVoid { .. } => WarningCode::W3,
             Warning::Untagged { .. } => WarningCode::W4,

@@ -1,5 +1,5 @@
 -- What is written for bytes is read as these bytes.
-use Rattle.std.proofs.Common.{◌≡◌, ◌≢◌, ℕ, List, [], ◌∷◌, ◌++◌, sym, subst}
+use Rattle.std.proofs.Common.{ℕ, List, [], ◌∷◌, ◌++◌, sym, subst}
 use Rattle.std.specs.Prelude.{◌==◌, codes, if◌then◌else◌}
 use Rattle.std.proofs.lemmas.Bool.{cond_both, eqb-false, eqb-true}
 use Rattle.map_picture.specs.Escape.{StandsFor, escaped, escaped_byte, nothing, byte, ampersand, less_than, greater_than, quotation_mark}

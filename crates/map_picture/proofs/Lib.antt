@@ -1,3 +1,5 @@
 pub mod PartsLemmas
 pub mod EscapeLemmas
+pub mod ListingLemmas
+pub mod DrawingLemmas
 mod WorkedCases

@@ -9,11 +9,9 @@ use Rattle.le_rec.specs.declared.records.Sector.{Sector}
 use Rattle.le_rec.specs.declared.records.Thing.{Thing}
 use Rattle.map_level.specs.Level.{Level}
 use Rattle.map_level.specs.declared.finding.Code.TheVariants.{F3, F4, F7, F9, F17, N3, N5, N11}
-use Rattle.map_level.specs.declared.finding.Finding.{Finding}
 use Rattle.map_level.specs.declared.reading.Reading.{Reading}
 use Rattle.map_level.specs.declared.reading.Reading.TheVariants.{Signed, Wide}
 use Rattle.map_cells.specs.Frame.{frame_at}
-use Rattle.map_picture.specs.Escape.{escaped}
 use Rattle.map_picture.specs.Grey.{grey, shade}
 use Rattle.map_picture.specs.Head.{ground_line, svg_line, title_line}
 use Rattle.map_picture.specs.Lines.{lines_line}

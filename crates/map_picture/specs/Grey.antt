@@ -1,5 +1,5 @@
 -- The colour of a sector, by its light (ours): a grey that is a little blue.
-use Rattle.std.specs.Prelude.{ℕ, ◌+◌, ◌*◌, ◌/◌, ◌%◌, ℤ, pos, negsuc, List, [], ◌∷◌, ◌++◌, min}
+use Rattle.std.specs.Prelude.{ℕ, ◌+◌, ◌*◌, ◌/◌, ◌%◌, ℤ, pos, negsuc, List, ◌∷◌, min}
 use Rattle.le_rec.specs.Name.{hex_digit}
 
 -- a light cut to 0..255

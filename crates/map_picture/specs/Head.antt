@@ -1,5 +1,5 @@
 -- What a picture begins with (SVG 1.1): the part of the map that is seen, a title, and how things look.
-use Rattle.std.specs.Prelude.{ℕ, ◌-◌, List, [], ◌∷◌, ◌++◌, codes, count_by, length, not, slice_index_or, take}
+use Rattle.std.specs.Prelude.{ℕ, ◌-◌, List, [], ◌∷◌, ◌++◌, codes, length, slice_index_or, take}
 use Rattle.std.specs.Fmt.{signed_decimal}
 use Rattle.le_rec.specs.Name.{shown_name}
 use Rattle.map_level.specs.Level.{Level}

@@ -9,4 +9,6 @@ pub mod Lines
 pub mod Marks
 pub mod Things
 pub mod Picture
+pub mod Listing
+pub mod Drawing
 pub mod Laws

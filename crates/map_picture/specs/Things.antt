@@ -1,5 +1,5 @@
 -- The things of a picture.
-use Rattle.std.specs.Prelude.{ℕ, List, [], ◌∷◌, ◌++◌, codes}
+use Rattle.std.specs.Prelude.{ℕ, List, ◌++◌, codes}
 use Rattle.std.specs.Fmt.{decimal, signed_decimal}
 use Rattle.le_rec.specs.declared.records.Thing.{Thing}
 use Rattle.map_level.specs.Level.{Level}

@@ -1,11 +1,13 @@
 //! A picture of a level: what of it shows which sector, its linedefs, its findings and its things, as the text of an SVG.
 #![tactic(auto)]
 
+mod draw;
 mod escape;
 mod grey;
 mod head;
 pub mod laws;
 mod lines;
+mod listing;
 mod marks;
 mod parts;
 mod paths;
@@ -15,5 +17,6 @@ mod things;
 mod window;
 mod word;
 
+pub use draw::{Asked, DrawFault, draw_level};
 pub use picture::{Drawn, write_picture};
 pub use sectors::SectorCells;

@@ -1,0 +1,181 @@
+//! A level drawn: its frame, its findings and what its cells show are found here.
+
+ghost use Rattle.std.specs.Prelude.{◌≡◌, ◌↔◌, ◌≤◌, ◌<◌, [], false, Some, None, Err, IsTrue, IfOk, IfErr, IfSome, OnOk, length};
+ghost use Rattle.map_audit.specs.Findings.{AuditHolds};
+ghost use Rattle.map_cells.specs.Cells.{AreCells, cell};
+ghost use Rattle.map_cells.specs.Counts.{AreCounts};
+ghost use Rattle.map_cells.specs.Groups.{AreGroups};
+ghost use Rattle.map_level.specs.Findings.{AreFindings};
+ghost use Rattle.map_tree.specs.Sound.{IsSound};
+ghost use Rattle.map_picture.specs.Drawing.{AreSectorsOf, HasNothing, IsDrawn, IsFrameOf, IsPicture, StopsDrawing, TakesWhole};
+ghost use Rattle.map_picture.specs.Picture.{picture_text};
+ghost use Rattle.map_picture.specs.declared.draw.DrawFault.TheVariants.{NothingToDraw};
+
+use crate::listing::listed;
+use crate::picture::{Drawn, write_picture};
+use crate::sectors::SectorCells;
+use le_rec::Sink;
+use map_audit::{Report, audit};
+use map_cells::{Cells, Counts, Frame, Grid, Groups, Shown};
+use map_level::Level;
+use std::alloc::{AllocError, Allocator};
+
+/// What of a level is drawn, and how finely.
+#[derive(Clone, Copy, Debug, PartialEq, Eq)]
+pub struct Asked {
+    /// The part that is drawn in cells; where there is none, that of the level's linedefs.
+    pub frame: Option<Frame>,
+    /// How many cells the frame's longer side has at most, from 1 to 1024.
+    pub cells: u32,
+}
+
+/// Why a level isn't drawn.
+#[derive(Clone, Copy, Debug, PartialEq, Eq)]
+pub enum DrawFault {
+    /// No linedef has both of its vertexes, and no frame is asked for.
+    NothingToDraw,
+    /// A growth was refused.
+    Memory,
+    /// The output failed.
+    Write,
+}
+
+impl From<AllocError> for DrawFault {
+    ghost use Rattle.map_picture.specs.declared.draw.DrawFault.TheVariants.{Memory};
+
+    ghost from_gives = { λ _ fault. fault ≡ Memory };
+
+    fn from(_error: AllocError) -> DrawFault {
+        DrawFault::Memory
+    }
+}
+
+/// Writes the picture of a level, and answers whether the level has a fault: then it is drawn without cells. `NothingToDraw`
+/// and `Memory` come before anything is written. It takes some four bytes a cell.
+pub fn draw_level<A: Allocator + Copy, W: Sink>(
+    alloc: A,
+    level: &Level<'_>,
+    asked: Asked,
+    out: &mut W,
+) -> Result<bool, DrawFault>
+    requires least { 1 ≤ asked.cells }
+    requires most { asked.cells ≤ 1024 }
+    requires sound { (W.state out.old).failed ≡ false }
+    ensures drawn { OnOk result (TakesWhole (IsPicture level.now asked) (W.state out.old) (W.state out.new)) }
+    ensures faulty { IfOk result (λ faulty. IsTrue faulty ↔ (¬ IsSound level.now)) }
+    ensures stopped { IfErr result (StopsDrawing W.state (HasNothing level.now asked.frame) (IsPicture level.now asked) out.old out.new) }
+    ensures nothing { (result ≡ Err NothingToDraw) ↔ HasNothing level.now asked.frame }
+{
+    let Some(frame) = frame_of(level, asked.frame) else {
+        return Err(DrawFault::NothingToDraw);
+    };
+    let report = audit(alloc, level)?;
+    draw_report(alloc, level, &report, Grid::new(frame, asked.cells), out)?;
+    Ok(report.faults() > 0)
+}
+
+// The part that is drawn: the one that is asked for, and else the level's.
+fn frame_of(level: &Level<'_>, asked: Option<Frame>) -> Option<Frame>
+    ensures frame { IfSome result (IsFrameOf level.now asked) }
+    ensures none { (result ≡ None) ↔ HasNothing level.now asked }
+{
+    match asked {
+        Some(frame) => Some(frame),
+        None => Frame::of(level),
+    }
+}
+
+// Writes the picture of a level with its report.
+fn draw_report<A: Allocator + Copy, W: Sink>(
+    alloc: A,
+    level: &Level<'_>,
+    report: &Report<A>,
+    grid: Grid,
+    out: &mut W,
+) -> Result<(), DrawFault>
+    requires audited { AreFindings (AuditHolds level.now) report.now }
+    requires sound { (W.state out.old).failed ≡ false }
+    ensures drawn { OnOk result (TakesWhole (IsDrawn level.now report.now grid) (W.state out.old) (W.state out.new)) }
+    ensures stopped { IfErr result (StopsDrawing W.state ⊥ (IsDrawn level.now report.now grid) out.old out.new) }
+{
+    if report.faults() > 0 {
+        draw_shown(level, report, grid, &[], out)
+    } else {
+        draw_sound(alloc, level, report, grid, out)
+    }
+}
+
+// Writes the picture of a sound level.
+fn draw_sound<A: Allocator + Copy, W: Sink>(
+    alloc: A,
+    level: &Level<'_>,
+    report: &Report<A>,
+    grid: Grid,
+    out: &mut W,
+) -> Result<(), DrawFault>
+    requires level_sound { IsSound level.now }
+    requires sound { (W.state out.old).failed ≡ false }
+    ensures drawn { OnOk result (TakesWhole (IsDrawn level.now report.now grid) (W.state out.old) (W.state out.new)) }
+    ensures stopped { IfErr result (StopsDrawing W.state ⊥ (IsDrawn level.now report.now grid) out.old out.new) }
+{
+    let cells = cells_of(alloc, level, grid)?;
+    draw_cells(alloc, level, report, &cells, out)
+}
+
+// What is shown at the points of a grid's cells.
+fn cells_of<A: Allocator + Copy>(
+    alloc: A,
+    level: &Level<'_>,
+    grid: Grid,
+) -> Result<Cells<A>, AllocError>
+    requires { IsSound level.now }
+    ensures { IfOk result (λ cells. (cells.grid ≡ grid) × AreCells level.now cells) }
+{
+    let shown = Shown::of(alloc, level)?;
+    Cells::of(alloc, &shown, grid)
+}
+
+// Writes the picture of a sound level by its cells.
+fn draw_cells<A: Allocator + Copy, W: Sink>(
+    alloc: A,
+    level: &Level<'_>,
+    report: &Report<A>,
+    cells: &Cells<A>,
+    out: &mut W,
+) -> Result<(), DrawFault>
+    requires level_sound { IsSound level.now }
+    requires are { AreCells level.now cells.now }
+    requires sound { (W.state out.old).failed ≡ false }
+    ensures drawn { OnOk result (TakesWhole (IsDrawn level.now report.now cells.now.grid) (W.state out.old) (W.state out.new)) }
+    ensures stopped { IfErr result (StopsDrawing W.state ⊥ (IsDrawn level.now report.now cells.now.grid) out.old out.new) }
+{
+    let groups = Groups::of(alloc, cells)?;
+    let counts = Counts::of(alloc, cells)?;
+    let shown = listed(alloc, &groups, &counts)?;
+    draw_shown(level, report, cells.grid(), &shown, out)
+}
+
+// Writes the picture of a level by the sectors that cells show.
+fn draw_shown<A: Allocator, W: Sink>(
+    level: &Level<'_>,
+    report: &Report<A>,
+    grid: Grid,
+    shown: &[SectorCells<'_>],
+    out: &mut W,
+) -> Result<(), DrawFault>
+    requires { (W.state out.old).failed ≡ false }
+    ensures drawn { OnOk result (TakesWhole (λ text. text ≡ picture_text level.now report.now grid.frame grid.size shown.now)
+        (W.state out.old) (W.state out.new)) }
+    ensures stopped { IfErr result (StopsDrawing W.state ⊥ (λ text. text ≡ picture_text level.now report.now grid.frame grid.size shown.now)
+        out.old out.new) }
+{
+    let drawn = Drawn {
+        frame: grid.frame(),
+        size: grid.size(),
+        shown,
+    };
+    match write_picture(level, report, &drawn, out) {
+        Ok(()) => Ok(()),
+        Err(_) => Err(DrawFault::Write),
+    }
+}

@@ -1,7 +1,7 @@
 // The host's side of the engine: one run of one command, in an instance of its own, whose memory is let go with it.
 
 /** The words of `wadlens`; all others are those of `wadlook`. */
-const LENS = ['survey', 'check', 'picture', 'cut', 'demos', 'compare'];
+const LENS = ['survey', 'check', 'picture', 'cut', 'demos'];
 /** Room that runs need beside their files and their answer. */
 const ROOM = 32 << 20;
 
@@ -50,7 +50,7 @@ function runOnce(module, words, files, input, room, heap) {
   const block = place(16, 8), ended = place(24, 8);
   const wordSizes = place(8 * texts.length, 8), fileSizes = place(8 * files.length, 8);
   const wordBytes = place(total(texts), 1), fileBytes = place(total(files), 1), given = place(input.length, 1);
-  const whyRoom = 4096 + 2 * total(texts), why = place(whyRoom, 1), answer = place(room, 1), arena = place(heap, 16);
+  const whyRoom = 4096 + 2 * total(texts) + (program === exports.lens_run ? room : 0), why = place(whyRoom, 1), answer = place(room, 1), arena = place(heap, 16);
   const pages = Math.ceil(end / 65536) - exports.memory.buffer.byteLength / 65536;
   if (pages > 0) {
     try { exports.memory.grow(BigInt(pages)); } catch (error) {

@@ -1,11 +1,11 @@
-// engine.mjs FOLDER WADLOOK SAMPLE: runs each command in the module of FOLDER and in the native program, and compares them.
+// engine.mjs FOLDER WADLOOK WADLENS SAMPLE: runs each command in the module of FOLDER and in the native programs, and compares them.
 import { readFileSync, mkdtempSync, rmSync, writeFileSync } from 'node:fs';
 import { spawnSync } from 'node:child_process';
 import { tmpdir } from 'node:os';
 import { join } from 'node:path';
 import { pathToFileURL } from 'node:url';
 
-const [folder, program, sample] = process.argv.slice(2);
+const [folder, wadlook, wadlens, sample] = process.argv.slice(2);
 // What a page fetches lies in the folder here.
 globalThis.fetch = async (url) => new Response(readFileSync(new URL(url)), { headers: { 'Content-Type': 'application/wasm' } });
 const { run } = await import(pathToFileURL(join(folder, 'wad_page.mjs')).href);
@@ -51,18 +51,36 @@ keep('empty.wad', wad([]));
 keep('demo.wad', wad([['DEMO1', demo], ['BROKEN', demo.subarray(0, 5)]]));
 for (let i = 0; i < 40; i++) keep(`damaged${i}.wad`, damaged([i * 37 + 13, i * 101 + 40]));
 
-/** Compares a run of these words; those of `paths` are files. */
-async function check(words, paths, input = '') {
-  const given = Buffer.from(input);
-  const native = spawnSync(program, [...words, ...paths], { cwd: room, input: given, maxBuffer: 1 << 30 });
-  const page = await run([...words, ...paths], paths.map((path) => names.get(path)), given);
-  const reason = page.refused && `refused: ${page.refused}\n`;
-  if (page.status === native.status && native.stdout.equals(page.answer) && native.stderr.toString() === reason) {
+const native = (program, words, input) => spawnSync(program, words, { cwd: room, input, maxBuffer: 1 << 30 });
+
+/** Compares a run of a program with that of the module, of which `reason` is told besides. */
+function compare(words, program, page, reason) {
+  if (page.status === program.status && program.stdout.equals(page.answer) && program.stderr.toString() === reason) {
     passed++;
     return;
   }
   failed++;
-  console.log(`FAILED ${[...words, ...paths].join(' ')}\n`, page.status, native.status, reason, native.stderr.toString());
+  console.log(`FAILED ${words.join(' ')}\n`, page.status, program.status, reason, program.stderr.toString());
+}
+
+/** Compares a run of words of `wadlook`; those of `paths` are files. */
+async function check(words, paths, input = '') {
+  const given = Buffer.from(input), all = [...words, ...paths];
+  const page = await run(all, paths.map((path) => names.get(path)), given);
+  compare(all, native(wadlook, all, given), page, page.refused && `refused: ${page.refused}\n`);
+}
+
+/** The same of words of `wadlens`, whose messages are the module's. */
+async function checkLens(words, paths) {
+  const all = [...words, ...paths], page = await run(all, paths.map((path) => names.get(path)));
+  compare(all, native(wadlens, all, ''), page, page.refused);
+}
+
+/** Words of `wadlens` that are mistaken: the command line's own text is the program's alone. */
+async function refuses(words, paths) {
+  const all = [...words, ...paths], { stdout, status } = native(wadlens, all, '');
+  const page = await run(all, paths.map((path) => names.get(path)));
+  compare(all, { stdout, status, stderr: 'usage' }, page, page.refused);
 }
 
 const points = '0 5\n-20 3\n16383 -16384\nx\n16384 0\n', pairs = '0 1\n1 0\n0 7\n', rectangles = '0 0 9 9\n-5 -5 5 5\n5 5 1 1\n';
@@ -83,5 +101,22 @@ for (const words of [['nothing', 'E1M1'], ['points'], ['audit', '-x'], ['lmp', '
   await check(words, ['base.wad']);
 }
 await check(['points', 'E1M1'], ['base.wad'], points.repeat(20000));
+
+// The words of `wadlens`.
+const label = (name) => [name, Buffer.alloc(0)];
+keep('other.wad', wad([label('MAP01'), label('THINGS'), label('MAP02'), label('TEXTMAP'), label('E1M1'), label('THINGS'), label('LINEDEFS')]));
+keep('notes.txt', Buffer.from('notes about the rooms'));
+keep('behind.wad', Buffer.concat([wad([label('MAP01')]).subarray(0, 12), Buffer.from([1])]));
+const files = [['base.wad'], ['base.wad', 'demo.wad'], ['other.wad', 'base.wad'], ['short.wad', 'damaged3.wad', 'notes.txt'], ['empty.wad'], ['behind.wad']];
+const told = [['check'], ['check', '--wide'], ['check', '--max', '0'], ['check', '--wide', '--max', '1'], ['survey'], ['survey', '--wide']];
+for (const words of told) for (const paths of files) await checkLens(words, paths);
+for (let i = 0; i < 40; i++) for (const words of [['check'], ['survey', '--wide'], ['cut', '--entry', '0']]) await checkLens(words, [`damaged${i}.wad`]);
+for (const entry of ['0', '1', '5', '11', '12', '18446744073709551615']) {
+  for (const path of ['base.wad', 'other.wad', 'demo.wad', 'short.wad', 'empty.wad']) await checkLens(['cut', '--entry', entry], [path]);
+}
+for (const words of [['check', '--max', '-1'], ['check', '--max', 'x'], ['check', '--max'], ['check', '--wider'], ['survey', '--max', '1'], ['cut'],
+  ['cut', '--entry', '18446744073709551616'], ['cut', '--wide', '--entry', '0']]) await refuses(words, ['base.wad']);
+await refuses(['cut', '--entry', '0'], ['base.wad', 'base.wad']);
+await refuses(['check'], []);
 console.log(`${passed} passed, ${failed} failed`);
 process.exitCode = failed ? 1 : 0;

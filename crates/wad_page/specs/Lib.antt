@@ -2,3 +2,4 @@ pub mod Answer
 pub mod Parts
 pub mod Refusal
 pub mod Look
+pub mod Lens

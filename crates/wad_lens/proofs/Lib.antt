@@ -15,4 +15,5 @@ pub mod RestLemmas
 pub mod ShownLemmas
 pub mod SurveyLemmas
 mod WorkedCases
+pub mod WarnedLemmas
 pub mod WritingLemmas

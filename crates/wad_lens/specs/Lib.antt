@@ -5,6 +5,8 @@ pub mod FormatLine
 pub mod JsonString
 pub mod Kind
 pub mod Laws
+pub mod WarningLine
+pub mod Warned
 pub mod LevelLines
 pub mod Message
 pub mod Objects

@@ -20,14 +20,18 @@ mod records;
 mod survey;
 mod totals;
 mod verdict;
+mod warned;
+mod warning_lines;
 
 pub use check::{Question, check_file};
 pub use counts::Counts;
 pub use cut::{CutFault, cut_level, write_cut_fault};
 pub use json_string::write_string;
 pub use kind::Kind;
+pub use lines::Heading;
 pub use object::{Refusal, prepend_number, refused_line, write_file, write_name};
 pub use place::{Place, Spot};
 pub use survey::survey_file;
 pub use totals::{Totals, write_totals};
 pub use verdict::{FileFault, Verdict};
+pub use warned::{Warned, warnings_of, write_warned};

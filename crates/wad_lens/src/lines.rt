@@ -71,8 +71,8 @@ pub fn write_both<W: Sink>(first: &[u8], second: &[u8], out: &mut W) -> Result<(
     emit(out, second)
 }
 
-// Puts `: LEVEL: ` before the line.
-fn prepend_label(line: &mut TextLine, name: Name8)
+/// Puts `: LEVEL: ` before the line.
+pub fn prepend_label(line: &mut TextLine, name: Name8)
     requires { length line.old ≤ 108 }
     ensures { line.new ≡ label_text name line.old }
 {

@@ -2,6 +2,7 @@
 
 ghost use Rattle.std.specs.Prelude.{◌≡◌, ◌+◌, ◌≤◌, length};
 ghost use Rattle.wad_lens.specs.Owners.{AreOwners};
+ghost use Rattle.wad_lens.specs.declared.kind.Kind.TheVariants as kind;
 ghost use Rattle.wad_lens.specs.Place.{between, owner_of, place_at, place_of, place_text, spot_text};
 
 use crate::digits::{prepend_count, prepend_word};
@@ -45,10 +46,7 @@ fn place_at(level: &Level<'_>, owners: &[Option<u32>], kind: Kind, i: usize) -> 
     ensures { result ≡ place_at level.now kind i }
 {
     match kind {
-        Kind::Linedef => match level.linedefs().get(i) {
-            Some(linedef) => between(level, &linedef.v1, &linedef.v2),
-            None => Place::Nowhere,
-        },
+        Kind::Linedef => linedef_place(level, i),
         Kind::Seg => match level.segs().get(i) {
             Some(seg) => between(level, &seg.v1, &seg.v2),
             None => Place::Nowhere,
@@ -57,10 +55,7 @@ fn place_at(level: &Level<'_>, owners: &[Option<u32>], kind: Kind, i: usize) -> 
             Some(linedef) => Place::OfLinedef(linedef),
             None => Place::Nowhere,
         },
-        Kind::Ssector => match first_spot(level, i) {
-            Some(spot) => Place::At(spot),
-            None => Place::Nowhere,
-        },
+        Kind::Ssector => ssector_place(level, i),
         Kind::Node => match level.nodes().get(i) {
             Some(node) => Place::At(Spot {
                 x: node.x,
@@ -69,6 +64,26 @@ fn place_at(level: &Level<'_>, owners: &[Option<u32>], kind: Kind, i: usize) -> 
             None => Place::Nowhere,
         },
         Kind::Vertex | Kind::Lump | Kind::Block | Kind::Whole => Place::Nowhere,
+    }
+}
+
+/// Where a linedef lies: between its vertexes.
+pub fn linedef_place(level: &Level<'_>, i: usize) -> Place
+    ensures { result ≡ place_at level.now kind.Linedef i }
+{
+    match level.linedefs().get(i) {
+        Some(linedef) => between(level, &linedef.v1, &linedef.v2),
+        None => Place::Nowhere,
+    }
+}
+
+/// Where an ssector lies: where its first seg starts.
+pub fn ssector_place(level: &Level<'_>, i: usize) -> Place
+    ensures { result ≡ place_at level.now kind.Ssector i }
+{
+    match first_spot(level, i) {
+        Some(spot) => Place::At(spot),
+        None => Place::Nowhere,
     }
 }
 

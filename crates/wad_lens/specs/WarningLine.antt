@@ -1,0 +1,100 @@
+-- The lines of warnings (ours).
+use Rattle.std.specs.Prelude.{ℕ, List, [], ◌∷◌, ◌++◌, codes}
+use Rattle.std.specs.Fmt.{decimal, signed_decimal}
+use Rattle.std.specs.List.{slice_get}
+use Rattle.std.specs.Option.{option_map_or}
+use Rattle.map_checks.specs.Warnings.{code_of}
+use Rattle.map_checks.specs.declared.warning.Part.{Part}
+use Rattle.map_checks.specs.declared.warning.Part.TheVariants.{Middle, Upper, Lower}
+use Rattle.map_checks.specs.declared.warning.Side.{Side}
+use Rattle.map_checks.specs.declared.warning.Side.TheVariants.{Front, Back}
+use Rattle.map_checks.specs.declared.warning.Warning.{Warning}
+use Rattle.map_checks.specs.declared.warning.Warning.TheVariants as warning
+use Rattle.map_checks.specs.declared.warning.WarningCode.{WarningCode}
+use Rattle.map_checks.specs.declared.warning.WarningCode.TheVariants.{W1, W2, W3, W4, W5, W6, W7, W8}
+use Rattle.map_level.specs.Level.{Level}
+use Rattle.wad_lens.specs.FindingLine.{label_text}
+use Rattle.wad_lens.specs.Place.{place_at, place_text}
+use Rattle.wad_lens.specs.declared.kind.Kind.TheVariants.{Linedef, Ssector}
+use Rattle.wad_lens.specs.declared.place.Place.{Place}
+use Rattle.wad_lens.specs.declared.place.Place.TheVariants.{Nowhere, At}
+
+-- a code as it is printed
+abbrev pub warning_name : WarningCode → List ℕ
+warning_name W1 = codes "W1"
+warning_name W2 = codes "W2"
+warning_name W3 = codes "W3"
+warning_name W4 = codes "W4"
+warning_name W5 = codes "W5"
+warning_name W6 = codes "W6"
+warning_name W7 = codes "W7"
+warning_name W8 = codes "W8"
+
+-- what a warning is of, and its number, a space before it
+abbrev pub subject_text : Warning → List ℕ → List ℕ
+subject_text (warning.Unclosed sector vertex) rest = codes " sector " ++ (decimal sector ++ rest)
+subject_text (warning.Bare linedef side part) rest = codes " linedef " ++ (decimal linedef ++ rest)
+subject_text (warning.InVoid thing) rest = codes " thing " ++ (decimal thing ++ rest)
+subject_text (warning.Untagged linedef) rest = codes " linedef " ++ (decimal linedef ++ rest)
+subject_text (warning.Mismatched ssector first other) rest = codes " ssector " ++ (decimal ssector ++ rest)
+subject_text (warning.Twin linedef earlier) rest = codes " linedef " ++ (decimal linedef ++ rest)
+subject_text (warning.NoStart player) rest = codes " level" ++ rest
+subject_text (warning.FewStarts starts) rest = codes " level" ++ rest
+
+-- a part of a wall that has no texture
+abbrev pub part_text : Part → List ℕ → List ℕ
+part_text Middle rest = codes "no middle texture " ++ rest
+part_text Upper rest = codes "no upper texture " ++ rest
+part_text Lower rest = codes "no lower texture " ++ rest
+
+-- a side of a linedef
+abbrev pub side_text : Side → List ℕ → List ℕ
+side_text Front rest = codes "in front" ++ rest
+side_text Back rest = codes "at the back" ++ rest
+
+-- that no sector has a tag
+abbrev pub tag_text : Level → ℕ → List ℕ → List ℕ
+tag_text level linedef rest =
+    option_map_or (λ found. codes "no sector has tag " ++ (signed_decimal found.tag ++ rest)) (slice_get level.linedefs.records linedef) rest
+
+-- what a warning says, before other bytes
+abbrev pub warning_message : Level → Warning → List ℕ → List ℕ
+warning_message level (warning.Unclosed sector vertex) rest = codes "isn't closed" ++ rest
+warning_message level (warning.Bare linedef side part) rest = part_text part (side_text side rest)
+warning_message level (warning.InVoid thing) rest = codes "stands in the void" ++ rest
+warning_message level (warning.Untagged linedef) rest = tag_text level linedef rest
+warning_message level (warning.Mismatched ssector first other) rest =
+    codes "its segs face sectors " ++ (decimal first ++ (codes " and " ++ (decimal other ++ rest)))
+warning_message level (warning.Twin linedef earlier) rest = codes "lies on linedef " ++ (decimal earlier ++ rest)
+warning_message level (warning.NoStart player) rest = codes "no player " ++ (decimal player ++ (codes " start" ++ rest))
+warning_message level (warning.FewStarts starts) rest = decimal starts ++ (codes " deathmatch starts" ++ rest)
+
+-- where a vertex is, and where a thing
+abbrev pub vertex_place : Level → ℕ → Place
+vertex_place level i = option_map_or (λ found. At (record { x = found.x; y = found.y })) (slice_get level.vertexes.records i) Nowhere
+
+abbrev pub thing_place : Level → ℕ → Place
+thing_place level i = option_map_or (λ found. At (record { x = found.x; y = found.y })) (slice_get level.things.records i) Nowhere
+
+-- where a warning lies
+abbrev pub warning_place : Level → Warning → Place
+warning_place level (warning.Unclosed sector vertex) = vertex_place level vertex
+warning_place level (warning.Bare linedef side part) = place_at level Linedef linedef
+warning_place level (warning.InVoid thing) = thing_place level thing
+warning_place level (warning.Untagged linedef) = place_at level Linedef linedef
+warning_place level (warning.Mismatched ssector first other) = place_at level Ssector ssector
+warning_place level (warning.Twin linedef earlier) = place_at level Linedef linedef
+warning_place level (warning.NoStart player) = Nowhere
+warning_place level (warning.FewStarts starts) = Nowhere
+
+-- `CODE KIND INDEX: `
+abbrev pub warning_lead : Warning → List ℕ
+warning_lead w = warning_name (code_of w) ++ subject_text w (codes ": ")
+
+-- `MESSAGE[, PLACE]`, and the line's end
+abbrev pub warning_body : Level → Warning → List ℕ
+warning_body level w = warning_message level w (place_text (warning_place level w) (10 ∷ []))
+
+-- `PATH: LEVEL: CODE KIND INDEX: MESSAGE[, PLACE]`
+abbrev pub warning_line : List ℕ → List ℕ → Level → Warning → List ℕ
+warning_line path name level w = path ++ (label_text name (warning_lead w) ++ warning_body level w)

@@ -1,0 +1,159 @@
+//! What is told of a level's warnings.
+
+ghost use Rattle.std.specs.Prelude.{◌≡◌, ◌-◌, ◌<◌, IfOk, OnOk, false, length, slice_index_or};
+ghost use Rattle.std.specs.List.{flat_map};
+ghost use Rattle.line_io.specs.Writes.{Writes};
+ghost use Rattle.map_checks.specs.declared.warning.WarningCode.TheVariants.{W1};
+ghost use Rattle.wad_lens.specs.WarningLine.{warning_line};
+ghost use Rattle.wad_lens.specs.Warned.{AddsWarned, AreWarned, more_warnings, warned_part, warned_text, warning_order};
+
+use crate::lines::{Heading, write_line};
+use crate::warning_lines::{warning_name, write_warning};
+use le_rec::Sink;
+use line_io::{IoFault, TextLine};
+use map_checks::{Checks, Told, Warning, WarningCode};
+use map_level::Level;
+use std::alloc::{AllocError, Allocator, Global};
+use std::marker::Model;
+
+// How many codes of warnings there are.
+const WARNING_COUNT: usize = 8;
+
+// The codes in their order.
+const WARNINGS: [WarningCode; WARNING_COUNT] = [
+    WarningCode::W1,
+    WarningCode::W2,
+    WarningCode::W3,
+    WarningCode::W4,
+    WarningCode::W5,
+    WarningCode::W6,
+    WarningCode::W7,
+    WarningCode::W8,
+];
+
+/// What is told of one code of warnings: the first of them, and how many there are.
+#[derive(Debug, Drop)]
+pub struct Warned<A: Allocator = Global> {
+    code: WarningCode,
+    told: Told<A>,
+}
+
+impl<A: Allocator> Model for Warned<A> {
+    ghost use Rattle.wad_lens.specs.Warned as warned;
+
+    ghost Value = { warned.Warned };
+
+    ghost view = { λ w. record { code = w.code; cut = w.told } };
+}
+
+/// What is told of each code of a level's warnings, so many of one code at most.
+pub fn warnings_of<A: Allocator + Copy>(
+    alloc: A,
+    level: &Level<'_>,
+    most: usize,
+) -> Result<Vec<Warned<A>, A>, AllocError>
+    ensures { IfOk result (λ all. AreWarned level.now most all.items) }
+{
+    let checks = Checks::of(alloc, level)?;
+    let mut all = Vec::new(alloc);
+    'codes: for i in 0..WARNING_COUNT {
+        push_code(alloc, &checks, code_at(i), most, &mut all)?;
+    }
+    Ok(all)
+}
+
+// The code of a place.
+fn code_at(place: usize) -> WarningCode
+    requires { place < 8 }
+    ensures { result ≡ slice_index_or warning_order place W1 }
+{
+    WARNINGS[place]
+}
+
+// Adds what is told of a code.
+fn push_code<A: Allocator + Copy>(
+    alloc: A,
+    checks: &Checks<'_, '_>,
+    code: WarningCode,
+    most: usize,
+    all: &mut Vec<Warned<A>, A>,
+) -> Result<(), AllocError>
+    ensures { OnOk result (AddsWarned checks.now most code all.old.items all.new.items) }
+{
+    let told = checks.told(alloc, code, most)?;
+    all.push(Warned { code, told })?;
+    Ok(())
+}
+
+/// Writes the lines of a level's warnings.
+pub fn write_warned<A: Allocator, W: Sink>(
+    heading: &Heading<'_>,
+    level: &Level<'_>,
+    all: &[Warned<A>],
+    out: &mut W,
+) -> Result<(), IoFault>
+    requires { (W.state out.old).failed ≡ false }
+    ensures { Writes (W.state out.old) (W.state out.new)
+        (warned_text heading.now.path.now heading.now.name level.now all.now) result }
+{
+    'codes: for i in 0..all.len() {
+        write_part(heading, level, &all[i], out)?;
+    }
+    Ok(())
+}
+
+// Writes the lines of a code's warnings.
+fn write_part<A: Allocator, W: Sink>(
+    heading: &Heading<'_>,
+    level: &Level<'_>,
+    warned: &Warned<A>,
+    out: &mut W,
+) -> Result<(), IoFault>
+    requires { (W.state out.old).failed ≡ false }
+    ensures { Writes (W.state out.old) (W.state out.new)
+        (warned_part heading.now.path.now heading.now.name level.now warned.now) result }
+{
+    let first = warned.told.first();
+    write_first(heading, level, first, out)?;
+    let left = warned.told.count().saturating_sub(first.len());
+    write_more(heading, warned.code, left, out)
+}
+
+// Writes the lines of some warnings.
+fn write_first<W: Sink>(
+    heading: &Heading<'_>,
+    level: &Level<'_>,
+    first: &[Warning],
+    out: &mut W,
+) -> Result<(), IoFault>
+    requires { (W.state out.old).failed ≡ false }
+    ensures { Writes (W.state out.old) (W.state out.new)
+        (flat_map (warning_line heading.now.path.now heading.now.name level.now) first.now) result }
+{
+    'first: for i in 0..first.len() {
+        write_warning(heading, level, first[i], out)?;
+    }
+    Ok(())
+}
+
+// Writes how many warnings of a code are left out.
+fn write_more<W: Sink>(
+    heading: &Heading<'_>,
+    code: WarningCode,
+    left: usize,
+    out: &mut W,
+) -> Result<(), IoFault>
+    requires { (W.state out.old).failed ≡ false }
+    ensures { Writes (W.state out.old) (W.state out.new)
+        (more_warnings heading.now.path.now heading.now.name code left) result }
+{
+    if left == 0 {
+        return Ok(());
+    }
+    let mut line = TextLine::new();
+    line.prepend_bytes(b" more\n");
+    line.prepend_natural(left as u64);
+    line.prepend_bytes(b": ");
+    line.prepend_bytes(warning_name(code));
+    write_line(heading, &mut line, out)
+}

@@ -1,10 +1,15 @@
--- The texts of findings, computed on a small level: each is what stands here.
+-- The texts of findings and warnings, computed on a small level: each is what stands here.
 use Rattle.std.proofs.Common.{◌≡◌, ℕ, ℤ, pos, negsuc, List, [], ◌∷◌, ◌++◌, refl}
 use Rattle.std.specs.Fmt.{digits}
 use Rattle.std.specs.Prelude.{codes}
 use Rattle.le_rec.specs.Number.{signed16, unsigned16}
 use Rattle.le_rec.specs.Table.{Rows}
 use Rattle.le_rec.specs.declared.records.LineDef.{LineDef}
+use Rattle.map_checks.specs.declared.warning.Part.TheVariants.{Middle, Upper, Lower}
+use Rattle.map_checks.specs.declared.warning.Side.TheVariants.{Front, Back}
+use Rattle.map_checks.specs.declared.warning.Warning.{Warning}
+use Rattle.map_checks.specs.declared.warning.Warning.TheVariants as warning
+use Rattle.map_checks.specs.declared.warning.WarningCode.TheVariants.{W2}
 use Rattle.map_level.specs.Level.{Level}
 use Rattle.map_level.specs.declared.finding.Code.{Code}
 use Rattle.map_level.specs.declared.finding.Code.TheVariants.{F3, F4, F5, F6, F7, F8, F9, F10, F11, F12, F13, F14, F15, F16, F17, F18, N2, N3, N4, N5, N6, N7, N8, N9, N10, N11, N12}
@@ -14,6 +19,8 @@ use Rattle.wad_lens.specs.FindingLine.{finding_line, lead_text}
 use Rattle.wad_lens.specs.LevelLines.{code_part}
 use Rattle.wad_lens.specs.Message.{message}
 use Rattle.wad_lens.specs.Place.{place_of, place_text}
+use Rattle.wad_lens.specs.Warned.{more_warnings}
+use Rattle.wad_lens.specs.WarningLine.{warning_lead, warning_message, warning_place}
 
 abbrev rows : {R : Type 0} → List R → Rows R
 rows records = record { records = records; rest = 3 }
@@ -214,3 +221,51 @@ two_of_two : code_part (codes "a") (codes "M") 2 (level Signed) N6 (0 ∷ 1 ∷ 
     ≡ codes "a: M: N6 ssector 0: without segs, at (20000, 1)" ++ (10 ∷ codes "a: M: N6 ssector 1: without segs" ++ 10 ∷ [])
 unfolding digits
 two_of_two = refl
+
+-- what is told of a warning
+abbrev warns : Warning → List ℕ
+warns w = warning_lead w ++ warning_message (level Signed) w (place_text (warning_place (level Signed) w) [])
+
+unclosed_told : warns (warning.Unclosed 3 0) ≡ codes "W1 sector 3: isn't closed, at (16, -16)"
+unfolding digits
+unclosed_told = refl
+
+bare_front_told : warns (warning.Bare 1 Front Middle) ≡ codes "W2 linedef 1: no middle texture in front, from (16, -16) to (20000, 1)"
+unfolding digits
+bare_front_told = refl
+
+bare_back_told : warns (warning.Bare 1 Back Upper) ≡ codes "W2 linedef 1: no upper texture at the back, from (16, -16) to (20000, 1)"
+unfolding digits
+bare_back_told = refl
+
+bare_lower_told : warns (warning.Bare 0 Front Lower) ≡ codes "W2 linedef 0: no lower texture in front"
+unfolding digits
+bare_lower_told = refl
+
+void_told : warns (warning.InVoid 12) ≡ codes "W3 thing 12: stands in the void"
+unfolding digits
+void_told = refl
+
+untagged_told : warns (warning.Untagged 1) ≡ codes "W4 linedef 1: no sector has tag 0, from (16, -16) to (20000, 1)"
+unfolding digits
+untagged_told = refl
+
+mismatched_told : warns (warning.Mismatched 0 4 2) ≡ codes "W5 ssector 0: its segs face sectors 4 and 2, at (20000, 1)"
+unfolding digits
+mismatched_told = refl
+
+twin_told : warns (warning.Twin 1 0) ≡ codes "W6 linedef 1: lies on linedef 0, from (16, -16) to (20000, 1)"
+unfolding digits
+twin_told = refl
+
+no_start_told : warns (warning.NoStart 3) ≡ codes "W7 level: no player 3 start"
+unfolding digits
+no_start_told = refl
+
+few_starts_told : warns (warning.FewStarts 2) ≡ codes "W8 level: 2 deathmatch starts"
+unfolding digits
+few_starts_told = refl
+
+warnings_left_told : more_warnings (codes "a.wad") name W2 5 ≡ codes "a.wad: FLAT: W2: 5 more" ++ 10 ∷ []
+unfolding digits
+warnings_left_told = refl

@@ -14,22 +14,65 @@ export const canRun = () => typeof WebAssembly === 'object' &&
 const utf8 = new TextEncoder();
 const total = (/** @type {Uint8Array[]} */ parts) => parts.reduce((sum, part) => sum + part.length, 0);
 
-/** @type {Promise<WebAssembly.Module> | undefined} */
-let compiled;
+/** @type {Map<string, Promise<WebAssembly.Module | null>>} */
+const compiled = new Map();
 
-/** The module, compiled once. */
-export function load() {
-  compiled ??= (async () => {
-    const url = new URL('wad_page.wasm', import.meta.url);
-    try {
-      return await WebAssembly.compileStreaming(fetch(url));
-    } catch { // a host that serves it as another type
-      const told = await fetch(url);
-      if (!told.ok) throw new Error("the engine of this page, wad_page.wasm, isn't beside its files");
-      return WebAssembly.compile(await told.arrayBuffer());
+/**
+ * A module, compiled once; null where it isn't beside the page's files.
+ * @param {string} name
+ */
+function load(name) {
+  const found = compiled.get(name) ?? compile(new URL(`${name}.wasm`, import.meta.url));
+  compiled.set(name, found);
+  return found;
+}
+
+/** @param {URL} url @returns {Promise<WebAssembly.Module | null>} */
+async function compile(url) {
+  try {
+    return await WebAssembly.compileStreaming(fetch(url));
+  } catch { // a host that serves it as another type, or has none
+    const told = await fetch(url).catch(() => null);
+    return told?.ok ? WebAssembly.compile(await told.arrayBuffer()) : null;
+  }
+}
+
+/** An instance's memory behind what the module itself has: places first, and then what stands there. */
+class Room {
+  /** @param {WebAssembly.Module} module */
+  constructor(module) {
+    this.exports = /** @type {any} */ (new WebAssembly.Instance(module, {}).exports);
+    this.end = Number(this.exports.__heap_base.value);
+  }
+
+  /** @param {number} size @param {number} align */
+  place(size, align) {
+    const at = Math.ceil(this.end / align) * align;
+    this.end = at + size;
+    return at;
+  }
+
+  /** Makes the memory as large as the places want. */
+  open() {
+    const { memory } = this.exports, pages = Math.ceil(this.end / 65536) - memory.buffer.byteLength / 65536;
+    if (pages > 0) {
+      try { memory.grow(BigInt(pages)); } catch (error) {
+        if (!(error instanceof TypeError)) throw error;
+        memory.grow(pages); // Node 20 takes a number here, and browsers a BigInt
+      }
     }
-  })();
-  return compiled;
+    this.view = new DataView(memory.buffer);
+    this.bytes = new Uint8Array(memory.buffer);
+  }
+
+  /** @param {number} at @param {number} value */
+  put(at, value) { this.view?.setBigUint64(at, BigInt(value), true); }
+
+  /** @param {number} at @param {number} size */
+  take(at, size) { return /** @type {Uint8Array} */ (this.bytes).slice(at, at + size); }
+
+  /** @param {number} at */
+  count(at) { return Number(this.view?.getBigUint64(at, true)); }
 }
 
 /**
@@ -38,48 +81,58 @@ export function load() {
  * @param {number} room @param {number} heap @returns {Ended}
  */
 function runOnce(module, words, files, input, room, heap) {
-  const exports = /** @type {any} */ (new WebAssembly.Instance(module, {}).exports), program = LENS.includes(words[0]) ? exports.lens_run : exports.wad_run;
+  const memory = new Room(module), isLens = LENS.includes(words[0]), program = isLens ? memory.exports.lens_run : memory.exports.wad_run;
   if (!program) return { status: 2, answer: new Uint8Array(), refused: 'usage' };
-  let end = Number(exports.__heap_base.value);
-  const place = (/** @type {number} */ size, /** @type {number} */ align) => {
-    const at = Math.ceil(end / align) * align;
-    end = at + size;
-    return at;
-  };
   const texts = words.map((word) => utf8.encode(word));
-  const block = place(16, 8), ended = place(24, 8);
-  const wordSizes = place(8 * texts.length, 8), fileSizes = place(8 * files.length, 8);
-  const wordBytes = place(total(texts), 1), fileBytes = place(total(files), 1), given = place(input.length, 1);
-  const whyRoom = 4096 + 2 * total(texts) + (program === exports.lens_run ? room : 0), why = place(whyRoom, 1), answer = place(room, 1), arena = place(heap, 16);
-  const pages = Math.ceil(end / 65536) - exports.memory.buffer.byteLength / 65536;
-  if (pages > 0) {
-    try { exports.memory.grow(BigInt(pages)); } catch (error) {
-      if (!(error instanceof TypeError)) throw error;
-      exports.memory.grow(pages); // Node 20 takes a number here, and browsers a BigInt
-    }
-  }
-  const view = new DataView(exports.memory.buffer), bytes = new Uint8Array(exports.memory.buffer);
-  const put = (/** @type {number} */ at, /** @type {number} */ value) => view.setBigUint64(at, BigInt(value), true);
+  const block = memory.place(16, 8), ended = memory.place(24, 8);
+  const wordSizes = memory.place(8 * texts.length, 8), fileSizes = memory.place(8 * files.length, 8);
+  const wordBytes = memory.place(total(texts), 1), fileBytes = memory.place(total(files), 1), given = memory.place(input.length, 1);
+  const whyRoom = 4096 + 2 * total(texts) + (isLens ? room : 0);
+  const why = memory.place(whyRoom, 1), answer = memory.place(room, 1), arena = memory.place(heap, 16);
+  memory.open();
   const putParts = (/** @type {number} */ at, /** @type {number} */ sizes, /** @type {Uint8Array[]} */ parts) => {
     parts.forEach((part, i) => {
-      bytes.set(part, at);
+      memory.bytes?.set(part, at);
       at += part.length;
-      put(sizes + 8 * i, part.length);
+      memory.put(sizes + 8 * i, part.length);
     });
   };
-  put(block, arena);
-  put(block + 8, heap);
+  memory.put(block, arena);
+  memory.put(block + 8, heap);
   putParts(wordBytes, wordSizes, texts);
   putParts(fileBytes, fileSizes, files);
-  bytes.set(input, given);
+  memory.bytes?.set(input, given);
   program(...[block, wordBytes, total(texts), wordSizes, texts.length, fileBytes, total(files), fileSizes, files.length,
     given, input.length, answer, room, why, whyRoom, ended].map(BigInt));
-  const told = (/** @type {number} */ at) => Number(view.getBigUint64(at, true));
   return {
-    status: view.getUint8(ended),
-    answer: bytes.slice(answer, answer + told(ended + 8)),
-    refused: new TextDecoder().decode(bytes.slice(why, why + told(ended + 16))),
+    status: memory.view?.getUint8(ended) ?? 3,
+    answer: memory.take(answer, memory.count(ended + 8)),
+    refused: new TextDecoder().decode(memory.take(why, memory.count(ended + 16))),
   };
+}
+
+/** The value of an option. @param {string[]} words @param {string} option */
+const valueOf = (words, option) => words.includes(option) ? words[words.indexOf(option) + 1] : '';
+
+/**
+ * Draws the level that a file alone holds: `picture [--wide] [--cells N] [--frame X0,Y0,X1,Y1] NAME FILE`.
+ * @param {WebAssembly.Module} module @param {string[]} words @param {Uint8Array} file @param {number} room @param {number} heap @returns {Ended}
+ */
+function drawOnce(module, words, file, room, heap) {
+  const memory = new Room(module), frame = valueOf(words, '--frame').split(',').filter(Boolean).map(Number);
+  const block = memory.place(16, 8), ended = memory.place(16, 8), question = memory.place(16, 8), bytes = memory.place(file.length, 1);
+  const answer = memory.place(room, 1), arena = memory.place(heap, 16);
+  memory.open();
+  memory.put(block, arena);
+  memory.put(block + 8, heap);
+  memory.bytes?.set(file, bytes);
+  memory.view?.setUint32(question, Number(valueOf(words, '--cells') || 512), true);
+  memory.view?.setUint8(question + 4, Number(words.includes('--wide')));
+  memory.view?.setUint8(question + 5, Number(frame.length === 4));
+  frame.forEach((bound, k) => memory.view?.setInt16(question + 6 + 2 * k, bound, true));
+  memory.exports.draw_run(...[block, bytes, file.length, question, answer, room, ended].map(BigInt));
+  const status = memory.view?.getUint8(ended) ?? 3;
+  return { status, answer: memory.take(answer, memory.count(ended + 8)), refused: status === 2 ? `wadlens: ${words[words.length - 2]}: nothing to draw\n` : '' };
 }
 
 /**
@@ -88,10 +141,14 @@ function runOnce(module, words, files, input, room, heap) {
  * @returns {Promise<Ended>}
  */
 export async function run(words, files, input = new Uint8Array(), room = 1 << 20) {
-  const module = await load(), held = total(files) + input.length;
+  const draws = words[0] === 'picture', module = await load(draws ? 'draw_page' : 'wad_page'), held = total(files) + input.length;
+  if (!module && draws) return { status: 2, answer: new Uint8Array(), refused: 'usage' };
+  if (!module) throw new Error("the engine of this page, wad_page.wasm, isn't beside its files");
   for (let heap = 2 * held + 2 * room + ROOM; ; room *= 4, heap = 2 * heap + 2 * room) {
     let ended;
-    try { ended = runOnce(module, words, files, input, room, heap); } catch (error) {
+    try {
+      ended = draws ? drawOnce(module, words, files[0], room, heap) : runOnce(module, words, files, input, room, heap);
+    } catch (error) {
       if (!(error instanceof RangeError)) throw error;
       return { status: 3, answer: new Uint8Array(), refused: 'memory' }; // the browser gives no more
     }

@@ -118,5 +118,19 @@ for (const words of [['check', '--max', '-1'], ['check', '--max', 'x'], ['check'
   ['cut', '--entry', '18446744073709551616'], ['cut', '--wide', '--entry', '0']]) await refuses(words, ['base.wad']);
 await refuses(['cut', '--entry', '0'], ['base.wad', 'base.wad']);
 await refuses(['check'], []);
+
+// The picture of a level alone, where the program draws too.
+if (/picture/.test(native(wadlens, ['--help'], '').stdout.toString())) {
+  const options = [[], ['--cells', '64'], ['--wide'], ['--cells', '1024', '--frame', '-20,-30,100,90'], ['--wide', '--cells', '1', '--frame', '5,5,5,5']];
+  for (const path of ['base.wad', ...Array.from({ length: 40 }, (_, i) => `damaged${i}.wad`)]) {
+    const { answer } = await run(['cut', '--entry', '0', path], [names.get(path)]);
+    keep('alone.wad', Buffer.from(answer));
+    const { level, format } = JSON.parse(native(wadlens, ['survey', 'alone.wad'], '').stdout.toString().split('\n')[0] || '{}');
+    if (level !== 'E1M1' || format !== 'doom') continue; // the page asks for no picture of it
+    for (const words of options) await checkLens(['picture', ...words, 'E1M1'], ['alone.wad']);
+  }
+} else {
+  console.log("skipped, as wadlens has no word for it: pictures");
+}
 console.log(`${passed} passed, ${failed} failed`);
 process.exitCode = failed ? 1 : 0;

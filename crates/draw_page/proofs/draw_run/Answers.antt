@@ -1,0 +1,18 @@
+use Rattle.std.proofs.Common.{◌∙◌, length, ap, inr}
+use Rattle.draw_page.proofs.draw_run.Goals as goal
+
+pub returns : goal.returns
+returns c =
+    inr (record {
+      asked = c.in-Some-asked_of.asked;
+      is = c.in-Some-asked_of.ensures.some;
+      sink = c.in-Ok.sink;
+      sink' = c.draw_first-outcome.new.out;
+      empty = c.in-Ok.ensures.taken;
+      outcome = c.draw_first-outcome.result;
+      drawn = rw c.reading_of.ensures at c.draw_first-outcome.ensures.drawn;
+      refused = rw c.reading_of.ensures at c.draw_first-outcome.ensures.refused;
+      status = c.draw_status-ended.ensures;
+      answered = c.hand_out-ended.ensures.count ∙ ap length c.taken-picture.ensures;
+      picture = c.hand_out-ended.ensures.front ∙ c.taken-picture.ensures;
+    })

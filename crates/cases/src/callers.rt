@@ -31,32 +31,44 @@ fn firing(bytes: &[u8]) -> (Result<u64, StreamFault>, usize) {
     (counted, source.left().len())
 }
 
+// The tics of a demo.
+fn tics(bytes: &[u8]) -> Result<usize, DemoFault> {
+    full_tics(bytes)
+}
+
 #[test]
 fn demos(rt: HostRuntime) {
-    assert_eq!(rt; full_tics(&DEMO), Ok(4));
-    assert_eq!(rt; full_tics(&DEMO[..29]), Err(DemoFault::NoMarker(29)));
+    assert_eq!(rt; tics(&DEMO), Ok(4));
+    assert_eq!(rt; tics(&DEMO[..29]), Err(DemoFault::NoMarker(29)));
     assert_eq!(rt; firing(&DEMO), (Ok(2), 1));
     let cut = StreamFault::Demo(DemoFault::NoMarker(25));
     assert_eq!(rt; firing(&DEMO[..28]), (Err(cut), 0));
 }
 
-// The level E1M1 of a file: its first fault, the sectors of its things, and how many points from
+// How many points from (-2, 0) to (1, 0) are in a sector of a sound level.
+fn points_of(rt: &impl AllocGlobal, level: &Level<'_>, sector: u16) -> Result<Option<u32>, Fail> {
+    let Some(tree) = sound_tree(rt.alloc(), level)? else {
+        return Ok(None);
+    };
+    let row = Rect::new(-2, 0, 1, 0).ok_or("no rectangle")?;
+    Ok(Some(points_in_sector(rt.alloc(), &tree, row, sector)?))
+}
+
+// The sector of the first thing of a level.
+fn first_thing(rt: &impl AllocGlobal, level: &Level<'_>) -> Result<Option<u16>, Fail> {
+    let sectors = sectors_of_things(rt.alloc(), level)?;
+    Ok(sectors.and_then(|list| list.first().copied()).flatten())
+}
+
+// The level E1M1 of a file: its first fault, the sector of its first thing, and how many points from
 // (-2, 0) to (1, 0) are in a sector.
-fn told_of(rt: &(impl Abort + AllocGlobal), file: &[u8], sector: u16) -> Result<Told, Fail> {
+fn told_of(rt: &impl AllocGlobal, file: &[u8], sector: u16) -> Result<Told, Fail> {
     let set = Set::one(rt.alloc(), file)?;
     let level = Level::open(&set, Name8::query(b"E1M1"), Reading::Signed)?;
-    let points = match sound_tree(rt.alloc(), &level)? {
-        Some(tree) => {
-            let row = Rect::new(-2, 0, 1, 0).ok_or("no rectangle")?;
-            Some(points_in_sector(rt.alloc(), &tree, row, sector)?)
-        }
-        None => None,
-    };
-    let sectors = sectors_of_things(rt.alloc(), &level)?;
     Ok(Told {
         fault: first_fault(rt.alloc(), &level)?,
-        thing: sectors.and_then(|list| list.first().copied()).flatten(),
-        points,
+        thing: first_thing(rt, &level)?,
+        points: points_of(rt, &level, sector)?,
     })
 }
 

@@ -132,17 +132,25 @@ fn small_rect(rt: &impl Abort, seed: u64) -> Rect {
     rect_of(rt, [x0, y0, x0 + columns, y0 + rows])
 }
 
-// Compares the censuses of 400 rectangles of a level with plain counts.
+// Compares the censuses of 400 rectangles with plain counts.
+fn check_tree(
+    rt: &(impl Abort + AllocGlobal),
+    tree: &Tree<'_, '_>,
+    first: u64,
+) -> Result<(), Fail> {
+    for i in 0..400u64 {
+        check_plain(rt, tree, small_rect(rt, first ^ i))?;
+    }
+    Ok(())
+}
+
+// Compares those of a level.
 fn check_all_plain(rt: &(impl Abort + AllocGlobal), file: Vec<u8>, first: u64) -> Result<(), Fail> {
     let files = vec![in rt.alloc(); file]?;
     let set = Set::new(rt.alloc(), &files)?;
     let level = Level::open(&set, Name8::query(b"E1M1"), Reading::Signed)?;
     assert!(rt; is_sound(rt.alloc(), &level)?);
-    let tree = Tree::of(&level);
-    for i in 0..400u64 {
-        check_plain(rt, &tree, small_rect(rt, first ^ i))?;
-    }
-    Ok(())
+    check_tree(rt, &Tree::of(&level), first)
 }
 
 #[test]

@@ -4,12 +4,12 @@ use crate::demo_cases::{TEXT, TWO};
 use crate::sample::{LINE_WITHOUT_SIDE_1, base, base_not_reached, base_with, pack};
 use crate::texts::{LISTED, NOT_REACHED, SHOWN, SIDE_MISSING};
 use le_rec::{Sink, Source};
-use std::alloc::Allocator;
+use std::alloc::{Allocator, Global};
 use std::process::Abort;
 use std::test::Fail;
 use test_alloc::Refusing;
 use test_ends::{SliceSink, SliceSource};
-use wad_look::{RunFault, job, run, status};
+use wad_look::{Job, RunFault, job, run, status};
 
 // A command line, its input, and what it writes.
 #[derive(Clone, Copy)]
@@ -66,6 +66,30 @@ const LINES: [Line<'static>; 8] = [
     },
 ];
 
+// The words of a line.
+fn words_of(rt: &impl AllocGlobal, line: &str) -> Result<Vec<String>, Fail> {
+    let mut words = Vec::new(rt.alloc());
+    for word in line.split(' ') {
+        words.push(String::from_str(rt.alloc(), word)?)?;
+    }
+    Ok(words)
+}
+
+// How a job over these files ends.
+fn run_job<A: Allocator + Copy>(
+    rt: &impl Abort,
+    alloc: A,
+    job: &Job<'_, Global>,
+    files: &[Vec<u8>],
+    input: &mut SliceSource<'_>,
+    out: &mut SliceSink<'_>,
+) -> Result<bool, RunFault> {
+    let fresh = !input.failed() && !out.failed();
+    let all = job.paths().len() == files.len();
+    assert!(rt; fresh && all);
+    run(alloc, job, files, input, out)
+}
+
 // How a command line over these files ends.
 fn run_line<A: Allocator + Copy>(
     rt: &(impl Abort + AllocGlobal),
@@ -75,15 +99,9 @@ fn run_line<A: Allocator + Copy>(
     input: &mut SliceSource<'_>,
     out: &mut SliceSink<'_>,
 ) -> Result<Result<bool, RunFault>, Fail> {
-    let mut words = Vec::new(rt.alloc());
-    for word in line.split(' ') {
-        words.push(String::from_str(rt.alloc(), word)?)?;
-    }
+    let words = words_of(rt, line)?;
     let job = job(&words).ok_or("no form of a command")?;
-    let fresh = !input.failed() && !out.failed();
-    let all = job.paths().len() == files.len();
-    assert!(rt; fresh && all);
-    Ok(run(alloc, &job, files, input, out))
+    Ok(run_job(rt, alloc, &job, files, input, out))
 }
 
 // Whether a command line met growth `n` refused; then it has read and written nothing, but `census` a front of its text.

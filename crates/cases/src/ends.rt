@@ -28,35 +28,68 @@ fn run<S: Source, W: Sink>(
     points(alloc, files, b"E1M1", Reading::Signed, source, limit, out)
 }
 
-#[test]
-fn failing_ends(rt: HostRuntime) -> Result<(), Fail> {
+// That `points` over the sample level ends so, and what it has written into so much room.
+fn check_end(
+    rt: &(impl Abort + AllocGlobal),
+    source: &mut SliceSource<'_>,
+    limit: u64,
+    room: &mut [u8],
+    fault: RunFault,
+    text: &[u8],
+) -> Result<(), Fail> {
     let files = vec![in rt.alloc(); base(rt.alloc())?]?;
-    let mut ten = [0; 10];
-    let mut out = SliceSink::new(&mut ten);
+    let mut out = SliceSink::new(room);
+    let result = run(rt, rt.alloc(), &files, source, limit, &mut out);
+    assert_eq!(rt; result, Err(fault));
+    assert_eq!(rt; out.taken(), text);
+    Ok(())
+}
+
+const LINE: &[u8] = b"1 5 sector 0 ssector 0\n";
+
+fn failing_write(rt: &(impl Abort + AllocGlobal)) -> Result<(), Fail> {
     let mut source = SliceSource::new(b"0 5\n");
-    let result = run(&rt, rt.alloc(), &files, &mut source, MAX_READ, &mut out);
-    assert_eq!(rt; result, Err(RunFault::Write));
-    assert_eq!(rt; out.taken(), b"0 5 sector".as_slice());
+    check_end(
+        rt,
+        &mut source,
+        MAX_READ,
+        &mut [0; 10],
+        RunFault::Write,
+        b"0 5 sector",
+    )
+}
 
-    let mut room = [0; 100];
-    let mut out = SliceSink::new(&mut room);
+fn failing_read(rt: &(impl Abort + AllocGlobal)) -> Result<(), Fail> {
     let mut source = SliceSource::new(b"1 5\n").failing_at(2);
-    let result = run(&rt, rt.alloc(), &files, &mut source, MAX_READ, &mut out);
-    assert_eq!(rt; result, Err(RunFault::Read));
-    assert_eq!(rt; out.taken(), b"1 5 sector 0 ssector 0\n".as_slice());
+    check_end(
+        rt,
+        &mut source,
+        MAX_READ,
+        &mut [0; 100],
+        RunFault::Read,
+        LINE,
+    )
+}
 
-    let mut room = [0; 100];
-    let mut out = SliceSink::new(&mut room);
+fn input_too_long(rt: &(impl Abort + AllocGlobal)) -> Result<(), Fail> {
     let mut source = SliceSource::new(b"1 5\n0 5");
-    let result = run(&rt, rt.alloc(), &files, &mut source, 4, &mut out);
-    assert_eq!(rt; result, Err(RunFault::TooLong));
-    assert_eq!(rt; out.taken(), b"1 5 sector 0 ssector 0\n".as_slice());
+    check_end(rt, &mut source, 4, &mut [0; 100], RunFault::TooLong, LINE)
+}
 
+fn read_whole(rt: &(impl Abort + AllocGlobal)) -> Result<(), Fail> {
     let bytes = read_all(rt.alloc(), &mut SliceSource::new(b"1 5\n"), 4)?;
     assert_eq!(rt; bytes.as_slice(), b"1 5\n".as_slice());
     let fault = read_all(rt.alloc(), &mut SliceSource::new(b"1 5\n"), 3).err();
     assert_eq!(rt; fault, Some(RunFault::TooLong));
     Ok(())
+}
+
+#[test]
+fn failing_ends(rt: HostRuntime) -> Result<(), Fail> {
+    failing_write(&rt)?;
+    failing_read(&rt)?;
+    input_too_long(&rt)?;
+    read_whole(&rt)
 }
 
 #[test]

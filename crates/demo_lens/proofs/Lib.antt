@@ -1,2 +1,3 @@
+mod AssemblyLemmas
 pub mod DemosLemmas
 mod DifferenceLemmas

@@ -1,3 +1,4 @@
+pub mod Assembly
 pub mod Demos
 pub mod Differences
 pub mod Laws

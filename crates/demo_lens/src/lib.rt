@@ -2,13 +2,17 @@
 //! many files: the engines take bytes and a path to print, and write to a sink.
 #![tactic(auto)]
 
+mod assembly;
 mod compare;
 mod demos;
+mod guess;
 pub mod laws;
+mod numbers;
 mod object;
 mod refusal;
 mod summary;
 
+pub use assembly::{AssembleFault, assemble};
 pub use compare::compare_demos;
 pub use demos::{DemoQuestion, DemosFault, Telling, demos_file};
 pub use refusal::write_demo_refusal;

@@ -19,7 +19,7 @@ pub use command::{Cmd, Job};
 pub use engines::audit::{audit_text, prepend_finding, prepend_totals};
 pub use engines::blocks::blocks;
 pub use engines::census::census_text;
-pub use engines::demo::demo_text;
+pub use engines::demo::{demo_text, write_demo as write_listing};
 pub use engines::extract::{extract, pack_level};
 pub use engines::levels::levels;
 pub use engines::lmp::lmp;

@@ -57,8 +57,8 @@ fn named_demo<'a, A: Allocator, F: Allocator>(
     }
 }
 
-// Writes the listing of a demo.
-fn write_demo<W: Sink>(demo: &Demo<'_>, out: &mut W) -> Result<(), IoFault>
+/// Writes the listing of a demo. `Write` is the one fault.
+pub fn write_demo<W: Sink>(demo: &Demo<'_>, out: &mut W) -> Result<(), IoFault>
     requires { (W.state out.old).failed ≡ false }
     ensures { Writes (W.state out.old) (W.state out.new) (listing demo.now) result }
 {

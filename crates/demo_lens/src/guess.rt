@@ -5,16 +5,19 @@ use std::alloc::{AllocError, Global};
 /// The number of bytes of a header.
 const HEADER: usize = 13;
 
+/// What ends a demo (Unofficial Doom Specs 1.666).
+const MARKER: u8 = 128;
+
 /// A header, commands and a marker, up to the first line that tells none.
 pub fn guess_demo(alloc: Global, listing: &[u8]) -> Result<Vec<u8>, AllocError> {
     let mut bytes = Vec::new(alloc);
     let mut going = true;
-    for line in listing.split(|byte| *byte == 10) {
+    for line in listing.split(|byte| *byte == b'\n') {
         if going {
             going = push_line(&mut bytes, line)?;
         }
     }
-    bytes.push(128)?;
+    bytes.push(MARKER)?;
     Ok(bytes)
 }
 
@@ -37,7 +40,7 @@ fn push_line(bytes: &mut Vec<u8>, line: &[u8]) -> Result<bool, AllocError> {
 fn guess_header(line: &[u8]) -> [u8; HEADER] {
     let mut numbers = [0; HEADER];
     let mut found = 0;
-    for word in line.split(|byte| *byte == 32) {
+    for word in line.split(|byte| *byte == b' ') {
         if let Some(number) = guess_number(word) {
             if found < HEADER {
                 numbers[found] = number;
@@ -52,7 +55,7 @@ fn guess_header(line: &[u8]) -> [u8; HEADER] {
 fn guess_command(line: &[u8]) -> Option<[u8; 4]> {
     let mut command = [0; 4];
     let mut at = 0;
-    for word in line.split(|byte| *byte == 32) {
+    for word in line.split(|byte| *byte == b' ') {
         if 2 <= at && at < 6 {
             command[at - 2] = guess_part(word, at == 5)?;
         }
@@ -74,7 +77,7 @@ fn guess_part(word: &[u8], in_hex: bool) -> Option<u8> {
 // The byte that a number stands for, in two's complement where a dash stands before it.
 fn guess_number(word: &[u8]) -> Option<u8> {
     match word.split_first() {
-        Some((45, digits)) => match guess_digits(digits) {
+        Some((b'-', digits)) => match guess_digits(digits) {
             Some(number) => Some(number.wrapping_neg()),
             None => None,
         },
@@ -88,10 +91,10 @@ fn guess_digits(digits: &[u8]) -> Option<u8> {
     }
     let mut number: u8 = 0;
     for byte in digits {
-        if *byte < 48 || 57 < *byte {
+        if *byte < b'0' || b'9' < *byte {
             return None;
         }
-        number = number.checked_mul(10)?.checked_add(*byte - 48)?;
+        number = number.checked_mul(10)?.checked_add(*byte - b'0')?;
     }
     Some(number)
 }
@@ -101,8 +104,8 @@ fn guess_hex(digits: &[u8]) -> Option<u8> {
     let mut number: u8 = 0;
     for byte in digits {
         let digit = match *byte {
-            48..=57 => *byte - 48,
-            97..=102 => *byte - 87,
+            b'0'..=b'9' => *byte - b'0',
+            b'a'..=b'f' => *byte - b'a' + 10,
             _ => return None,
         };
         number = number.wrapping_mul(16).wrapping_add(digit);

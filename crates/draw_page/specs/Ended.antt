@@ -1,16 +1,15 @@
 -- How a run that draws ends, as the host reads it (ours).
 use Rattle.std.specs.Prelude.{◌≡◌, ◌⊎◌, ◌==◌, ℕ, Bool, true, false, List, [], length, take, Option, Some, None, Result, Ok, Err, IfErr, IfOk, if◌then◌else◌}
-use Rattle.draw_page.specs.Answer.{state_of, taken_of}
 use Rattle.draw_page.specs.Draw.{DrawsFirst, RefusesFirst}
 use Rattle.draw_page.specs.declared.Ended.{Ended}
 use Rattle.draw_page.specs.declared.Question.{Question}
-use Rattle.draw_page.specs.declared.answer.Answer.{Answer}
 use Rattle.draw_page.specs.declared.draw.PictureFault.{PictureFault}
 use Rattle.draw_page.specs.declared.draw.PictureFault.TheVariants.{NoWad, NoEntry, NoLevel, NothingToDraw, Full}
 use Rattle.map_cells.specs.Frame.{Frame, frame_at}
 use Rattle.map_level.specs.declared.reading.Reading.{Reading}
 use Rattle.map_level.specs.declared.reading.Reading.TheVariants.{Signed, Wide}
 use Rattle.map_picture.specs.declared.draw.Asked.{Asked}
+use Rattle.memory_ends.specs.ToVec.{ToVec, state_of}
 
 abbrev pub reading_of : ℕ → Reading
 reading_of wide = if wide == 0 then Signed else Wide
@@ -38,15 +37,15 @@ draw_status (Err Full) = 3
 pub record Drew (file : List ℕ) (question : Question) (out : List ℕ) (ended : Ended) : Type 0 where
   pub asked : Asked
   pub is : IsQuestion question asked
-  pub sink : Answer
-  pub sink' : Answer
-  pub empty : taken_of sink ≡ []
+  pub sink : ToVec
+  pub sink' : ToVec
+  pub empty : sink.taken ≡ []
   pub outcome : Result Bool PictureFault
   pub drawn : IfOk outcome (DrawsFirst file (reading_of question.wide) asked (state_of sink) (state_of sink'))
   pub refused : IfErr outcome (RefusesFirst file (reading_of question.wide) asked sink sink')
   pub status : ended.status ≡ draw_status outcome
-  pub answered : ended.answered ≡ length (taken_of sink')
-  pub picture : take ended.answered out ≡ taken_of sink'
+  pub answered : ended.answered ≡ length sink'.taken
+  pub picture : take ended.answered out ≡ sink'.taken
 
 -- or there was no room, or the question is out of its bounds, with nothing drawn
 abbrev pub DrawEnds : List ℕ → Question → List ℕ → Ended → Type 0

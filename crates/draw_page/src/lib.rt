@@ -1,17 +1,16 @@
 //! The picture of a level for a page in a browser: an export over memory that a host hands in.
 #![tactic(auto)]
 
-ghost use Rattle.std.specs.Prelude.{◌≡◌, ◌≤◌, IfSome, length, take};
+ghost use Rattle.std.specs.Prelude.{◌≡◌, ◌≤◌, IfSome};
 ghost use Rattle.draw_page.specs.Ended.{DrawEnds, IsQuestion, draw_status, reading_of};
 
-mod answer;
 mod draw;
 
-use answer::Answer;
 use draw::{PictureFault, draw_first};
 use map_cells::Frame;
 use map_level::Reading;
 use map_picture::Asked;
+use memory_ends::{ToVec, hand_out};
 use one_block::{Block, arena};
 
 /// How a run ended, as the host reads it.
@@ -64,15 +63,17 @@ pub extern "C" fn draw_run(
         ended.status = 2;
         return;
     };
-    let Ok(mut sink) = Answer::with_room(&arena, out.len()) else {
+    let Ok(mut sink) = ToVec::with_capacity(&arena, out.len()) else {
         return;
     };
     let outcome = draw_first(&arena, file, reading_of(question.wide), asked, &mut sink);
-    let picture = sink.taken();
-    if outcome == Err(PictureFault::Full) || picture.len() > out.len() {
+    if outcome == Err(PictureFault::Full) {
         return;
     }
-    ended.answered = hand_out(picture, out);
+    let Some(answered) = hand_out(sink.taken(), out) else {
+        return;
+    };
+    ended.answered = answered;
     ended.status = draw_status(&outcome);
 }
 
@@ -116,15 +117,4 @@ fn draw_status(outcome: &Result<bool, PictureFault>) -> u8
         Err(PictureFault::Full) => 3,
         Err(_) => 2,
     }
-}
-
-// Copies a text to the front of a slice that has room for it.
-fn hand_out(text: &[u8], to: &mut [u8]) -> usize
-    requires { length text.now ≤ length to.old }
-    ensures count { result ≡ length text.now }
-    ensures front { take result to.new ≡ text.now }
-{
-    let count = text.len();
-    to[..count].copy_from_slice(text);
-    count
 }

@@ -10,10 +10,11 @@ ghost use Rattle.map_checks.specs.Bare.{behind, sidedef_at_side, ShowsLower, Sho
 ghost use Rattle.map_checks.specs.Warnings.{part_number, side_number, Tells, TellsBelow};
 ghost use Rattle.map_checks.specs.Holds.{HoldsOf};
 
-use crate::records::{linedef_at, named, sidedef};
+use crate::records::sidedef;
 use crate::told::{Told, tell_where};
 use crate::warning::{Part, Side, Warning, WarningCode};
 use le_rec::{LineDef, Name8, Sector, SideDef};
+use map_level::links::{linedef_at, named};
 use map_level::{Level, number};
 use std::alloc::{AllocError, Allocator};
 
@@ -97,7 +98,7 @@ fn tell_part<A: Allocator>(
 fn is_bare(level: &Level<'_>, i: u32, side: Side, part: Part) -> bool
     ensures { IsTrue result ↔ IsBare level.now i side part }
 {
-    match linedef_at(level, i) {
+    match linedef_at(level, i as usize) {
         Some(linedef) => is_bare_side(level, &linedef, side, part),
         None => false,
     }

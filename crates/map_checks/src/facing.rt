@@ -3,18 +3,17 @@
 ghost use Rattle.std.specs.Prelude.{◌≡◌, ◌+◌, ◌<◌, ◌^◌, ◌↔◌, ℕ, pos, length, slice_index_or};
 ghost use Rattle.std.specs.Prelude.{IfNone, IfOk, IfSome, IsTrue, OnOk};
 ghost use Rattle.std.specs.Option.{option_map};
-ghost use Rattle.map_level.specs.Reading.{linedef_under, seg_under, sidedef_under, ssector_under};
-ghost use Rattle.map_level.specs.Links.{linedef_of, side_at, side_of};
-ghost use Rattle.map_level.specs.SectorOf.{sidedef_of};
+ghost use Rattle.map_level.specs.Reading.{ssector_under};
 ghost use Rattle.map_checks.specs.Facing.{AreRunEnds, IsMismatched, IsRunEnd, Mismatch, sector_faced};
 ghost use Rattle.map_checks.specs.Warnings.{Tells, TellsBelow};
 ghost use Rattle.map_checks.specs.Holds.{HoldsOf};
 
-use crate::records::{linedef_at, number_named, seg_at, sidedef_named, ssector_at};
+use crate::records::number_named;
 use crate::told::{Told, tell_where};
 use crate::warning::{Warning, WarningCode};
-use le_rec::{LineDef, SSector, Seg, SideDef};
-use map_level::{Level, Reading, number};
+use le_rec::SSector;
+use map_level::links::{seg_at, sidedef_of, ssector_at};
+use map_level::{Level, number};
 use std::alloc::{AllocError, Allocator};
 
 /// W5 of a level: its ssectors whose segs don't all face the sector of the first. It takes four bytes a seg.
@@ -201,44 +200,4 @@ fn sector_faced(level: &Level<'_>, j: usize) -> Option<u32>
         number(sidedef.sector, level.reading()),
         level.sectors().len(),
     )
-}
-
-// The sidedef of a seg.
-fn sidedef_of(level: &Level<'_>, seg: &Seg) -> Option<SideDef>
-    ensures { option_map (sidedef_under level.now.reading) result
-        ≡ sidedef_of level.now (seg_under level.now.reading seg.now) }
-{
-    let side = side_of(level, seg)?;
-    sidedef_named(level, side)
-}
-
-// The index of a seg's sidedef.
-fn side_of(level: &Level<'_>, seg: &Seg) -> Option<i32>
-    ensures { result ≡ side_of level.now (seg_under level.now.reading seg.now) }
-{
-    let linedef = linedef_of(level, seg)?;
-    side_at(&linedef, level.reading(), seg.side)
-}
-
-// The linedef of a seg.
-fn linedef_of(level: &Level<'_>, seg: &Seg) -> Option<LineDef>
-    ensures { option_map (linedef_under level.now.reading) result
-        ≡ linedef_of level.now (seg_under level.now.reading seg.now) }
-{
-    let index = number(seg.linedef, level.reading());
-    if index < 0 {
-        return None;
-    }
-    linedef_at(level, index as u32)
-}
-
-// The index that a linedef has at a side number.
-fn side_at(linedef: &LineDef, reading: Reading, side: i16) -> Option<i32>
-    ensures { result ≡ side_at (linedef_under reading linedef.now) side }
-{
-    match side {
-        0 => Some(number(linedef.side0, reading)),
-        1 => Some(number(linedef.side1, reading)),
-        _ => None,
-    }
 }

@@ -7,11 +7,11 @@ ghost use Rattle.map_checks.specs.Tag.{AreTags, IsSectorTag, IsUntagged};
 ghost use Rattle.map_checks.specs.Warnings.{Tells};
 ghost use Rattle.map_checks.specs.Holds.{HoldsOf};
 
-use crate::records::linedef_at;
 use crate::told::{Told, tell_where};
 use crate::warning::{Warning, WarningCode};
 use le_rec::LineDef;
 use map_level::Level;
+use map_level::links::linedef_at;
 use std::alloc::{AllocError, Allocator};
 
 // How many tags there are, which have 16 bits.
@@ -59,7 +59,7 @@ fn is_untagged(level: &Level<'_>, tags: &[bool], i: u32) -> bool
     requires { AreTags level.now tags.now }
     ensures { IsTrue result ↔ IsUntagged level.now i }
 {
-    match linedef_at(level, i) {
+    match linedef_at(level, i as usize) {
         Some(linedef) => acts_on_none(level, tags, &linedef),
         None => false,
     }

@@ -8,11 +8,11 @@ ghost use Rattle.map_checks.specs.EndsKey.{place_number};
 ghost use Rattle.map_checks.specs.Warnings.{Tells, TellsBelow};
 ghost use Rattle.map_checks.specs.Holds.{HoldsOf};
 
-use crate::records::{linedef_at, vertex};
 use crate::told::{Told, tell_where};
 use crate::warning::{Warning, WarningCode};
 use le_rec::{LineDef, Vertex};
 use map_level::Level;
+use map_level::links::{linedef_at, vertex};
 use std::alloc::{AllocError, Allocator};
 use std::collections::BTreeMap;
 
@@ -92,7 +92,7 @@ fn ends_at(level: &Level<'_>, i: u32) -> Option<Ends>
     ensures ends { result ≡ ends_of level.now i }
     ensures short { IfSome result AreShortEnds }
 {
-    let linedef = linedef_at(level, i)?;
+    let linedef = linedef_at(level, i as usize)?;
     ends_of(level, &linedef)
 }
 

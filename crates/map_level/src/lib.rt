@@ -7,7 +7,7 @@ mod level;
 mod link_bounds;
 mod link_codes;
 mod link_faults;
-mod links;
+pub mod links;
 mod reading;
 pub mod search;
 mod sector_of;

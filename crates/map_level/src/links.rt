@@ -8,6 +8,7 @@ ghost use Rattle.map_level.specs.Reading.{seg_under, ssector_under};
 ghost use Rattle.map_level.specs.Links.{linedefs_of, sidedefs_of, vertexes_of, segs_of};
 ghost use Rattle.map_level.specs.Links.{ssectors_of, named, Names, no_side, linedef_of, side_at};
 ghost use Rattle.map_level.specs.Links.{side_of};
+ghost use Rattle.map_level.specs.SectorOf.{sidedef_named, sidedef_of};
 
 use crate::level::Level;
 use crate::reading::{Reading, number};
@@ -118,6 +119,17 @@ pub fn named<R: Record>(table: &Table<'_, R>, index: i32) -> Option<R>
     table.get(index as usize)
 }
 
+/// The sidedef that an index names, where it doesn't say that there is no side.
+#[inline]
+pub fn sidedef_named(level: &Level<'_>, side: i32) -> Option<SideDef>
+    ensures { option_map (sidedef_under level.now.reading) result ≡ sidedef_named level.now side }
+{
+    if side < 0 || side == no_side(level.reading()) {
+        return None;
+    }
+    sidedef_at(level, side as usize)
+}
+
 /// The vertex that a word names.
 #[inline]
 pub fn vertex(level: &Level<'_>, word: i16) -> Option<Vertex>
@@ -158,4 +170,14 @@ pub fn side_of(level: &Level<'_>, seg: &Seg) -> Option<i32>
 {
     let linedef = linedef_of(level, seg)?;
     side_at(&linedef, level.reading(), seg.side)
+}
+
+/// The sidedef of a seg.
+#[inline]
+pub fn sidedef_of(level: &Level<'_>, seg: &Seg) -> Option<SideDef>
+    ensures { option_map (sidedef_under level.now.reading) result
+        ≡ sidedef_of level.now (seg_under level.now.reading seg.now) }
+{
+    let side = side_of(level, seg)?;
+    sidedef_named(level, side)
 }

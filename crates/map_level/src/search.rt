@@ -24,11 +24,11 @@ pub trait Search: Searched {
         ensures below { IfSome result (λ at. at + 1 < 2 ^ 32) };
 }
 
-// How many codes there are.
-const CODE_COUNT: usize = 30;
+/// How many codes there are.
+pub const CODE_COUNT: usize = 30;
 
-// The codes in the order of a report.
-const CODES: [Code; CODE_COUNT] = [
+/// The codes in the order of a report.
+pub const CODES: [Code; CODE_COUNT] = [
     Code::F1,
     Code::F2,
     Code::F3,

@@ -2,18 +2,18 @@
 
 ghost use Rattle.std.specs.Prelude.{◌≡◌, ◌<◌, ◌<ℤ◌, ◌↔◌, pos, length, Some, All, IsTrue};
 ghost use Rattle.std.specs.Option.{option_map};
-ghost use Rattle.map_level.specs.Reading.{seg_under, sidedef_under};
+ghost use Rattle.map_level.specs.Reading.{seg_under};
 ghost use Rattle.map_level.specs.Links.{segs_of, ssectors_of, named};
 ghost use Rattle.map_level.specs.Findings.{AreFindings};
 ghost use Rattle.map_level.specs.LinkFaults.{LinkHolds};
 ghost use Rattle.map_level.specs.SectorOf.{IsLinkFault, IsLinked, first_seg, number_named};
-ghost use Rattle.map_level.specs.SectorOf.{sector_of, sidedef_named, sidedef_of};
+ghost use Rattle.map_level.specs.SectorOf.{sector_of};
 
 use crate::finding::{Code, Finding, Findings};
 use crate::level::Level;
-use crate::links::{names_none, no_side, seg_at, side_of, sidedef_at, ssector_at};
+use crate::links::{names_none, seg_at, sidedef_of, ssector_at};
 use crate::reading::number;
-use le_rec::{Seg, SideDef};
+use le_rec::Seg;
 use std::alloc::Allocator;
 
 impl<'a> Level<'a> {
@@ -77,25 +77,6 @@ fn seg_named(level: &Level<'_>, index: i32) -> Option<Seg>
         return None;
     }
     seg_at(level, index as usize)
-}
-
-// The sidedef of a seg.
-fn sidedef_of(level: &Level<'_>, seg: &Seg) -> Option<SideDef>
-    ensures { option_map (sidedef_under level.now.reading) result
-        ≡ sidedef_of level.now (seg_under level.now.reading seg.now) }
-{
-    let side = side_of(level, seg)?;
-    sidedef_named(level, side)
-}
-
-// The sidedef that an index names, where it doesn't say that there is no side.
-fn sidedef_named(level: &Level<'_>, side: i32) -> Option<SideDef>
-    ensures { option_map (sidedef_under level.now.reading) result ≡ sidedef_named level.now side }
-{
-    if side < 0 || side == no_side(level.reading()) {
-        return None;
-    }
-    sidedef_at(level, side as usize)
 }
 
 // The number that an index names one of so many records by.

@@ -2,14 +2,14 @@
 #![tactic(auto)]
 
 mod draw;
-mod escape;
+pub mod escape;
 mod grey;
 mod head;
 pub mod laws;
 mod lines;
 mod listing;
 mod marks;
-mod parts;
+pub mod parts;
 mod paths;
 mod picture;
 mod sectors;

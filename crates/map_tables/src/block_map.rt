@@ -198,6 +198,16 @@ fn head(bytes: &[u8], k: usize) -> i16
     }
 }
 
+/// How many blocks a row or a column of a BLOCKMAP has, by word 2 or 3 of its head: 0 where that is negative or isn't there. It
+/// doesn't look over the lump, as `BlockMap::of` does.
+#[inline]
+pub fn blocks_along(bytes: &[u8], k: usize) -> u16
+    ensures value { result ≡ count_of (head bytes.now k) }
+    ensures below { result < 32768 }
+{
+    count(head(bytes, k))
+}
+
 // A width or a height as a number of blocks.
 #[inline]
 fn count(size: i16) -> u16

@@ -10,6 +10,6 @@ mod reject;
 mod words;
 
 pub use block_lines::BlockLines;
-pub use block_map::{BlockFault, BlockMap};
+pub use block_map::{BlockFault, BlockMap, blocks_along};
 pub use findings::{Tables, table_findings};
 pub use reject::Reject;

@@ -1,4 +1,6 @@
 pub mod ContentsLemmas
+pub mod DigitLemmas
+pub mod LevelFileLemmas
 pub mod OpeningLemmas
 pub mod RestLemmas
 pub mod TurnLemmas

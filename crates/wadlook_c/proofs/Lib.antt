@@ -2,5 +2,4 @@ pub mod SliceLemmas
 pub mod DescentLemmas
 pub mod LumpLemmas
 pub mod ListLemmas
-pub mod ExtractLemmas
 pub mod BlockLemmas

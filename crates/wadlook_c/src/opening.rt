@@ -8,7 +8,6 @@ ghost use Rattle.wadlook_c.specs.Ends.{reading_of};
 use le_rec::Name8;
 use map_audit::sound_tree;
 use map_level::{Level, Reading};
-use map_tree::SectorTree;
 use std::alloc::Allocator;
 use wad_dir::{Set, SetFault};
 use wad_look::RunFault;
@@ -46,24 +45,6 @@ pub fn open_level<'a, A: Allocator>(
     match Level::open(&set, Name8::query(name), reading) {
         Ok(level) => Ok(level),
         Err(fault) => Err(RunFault::Level(fault)),
-    }
-}
-
-/// The tree of a level that is accepted, with its ssectors' sectors.
-pub fn sector_tree<'l, 'a, A: Allocator + Copy>(
-    alloc: A,
-    level: &'l Level<'a>,
-) -> Result<SectorTree<'l, 'a, A>, RunFault>
-    ensures ok { IfOk result (λ tree. (tree ≡ level.now) × IsSound level.now) }
-    ensures err { IfErr result (RefusesAudit level.now) }
-{
-    match sound_tree(alloc, level) {
-        Ok(Some(tree)) => match SectorTree::of(alloc, tree) {
-            Ok(tree) => Ok(tree),
-            Err(_) => Err(RunFault::Memory),
-        },
-        Ok(None) => Err(RunFault::Audit),
-        Err(_) => Err(RunFault::Memory),
     }
 }
 

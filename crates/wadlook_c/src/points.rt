@@ -7,13 +7,13 @@ ghost use Rattle.wadlook_c.specs.Ends.{EndsBy, reading_of};
 ghost use Rattle.wadlook_c.specs.Places.{TellsLeaf, TellsPlace, TellsPlaces};
 ghost use Rattle.wadlook_c.specs.Status.{number_of};
 
-use crate::opening::{open_level, reading_of, sector_tree};
+use crate::opening::{open_level, reading_of};
 use crate::status::{DONE, NO_ROOM, number_of};
 use map_geo::Point;
 use map_level::Reading;
 use map_tree::SectorTree;
 use std::alloc::{Allocator, Global};
-use wad_look::RunFault;
+use wad_look::{RunFault, sector_tree};
 
 /// A point, in map units.
 #[repr(C)]

@@ -13,6 +13,6 @@ returns c =
       drawn = rw c.reading_of.ensures at c.draw_first-outcome.ensures.drawn;
       refused = rw c.reading_of.ensures at c.draw_first-outcome.ensures.refused;
       status = c.draw_status-ended.ensures;
-      answered = c.hand_out-ended.ensures.count ∙ ap length c.taken-picture.ensures;
-      picture = c.hand_out-ended.ensures.front ∙ c.taken-picture.ensures;
+      answered = c.in-Some-hand_out.ensures.count ∙ ap length c.taken.ensures;
+      picture = c.in-Some-hand_out.ensures.front ∙ c.taken.ensures;
     })

@@ -6,17 +6,11 @@ use Rattle.std.proofs.lemmas.Option.{slice_get-get_or, slice_get_within}
 use Rattle.wad_dir.specs.Wad.{Wad}
 use Rattle.wad_dir.specs.Entries.{joined}
 use Rattle.wad_dir.specs.Slice.{IsLump}
-use Rattle.wad_dir.specs.Packing.{NamedLump, packed}
-use Rattle.wad_dir.specs.declared.packer.PackFault.{PackFault}
-use Rattle.wad_dir.specs.declared.packer.PackFault.TheVariants.{TooLarge, Memory}
-use Rattle.wad_look.specs.Opening.{AreRead}
-use Rattle.wad_look.specs.declared.fault.RunFault.TheVariants as fault
-use Rattle.le_rec.specs.Name.{query_of}
-use Rattle.map_level.specs.Level.{Level, lump_of}
-use Rattle.map_level.specs.Opening.{AreLumps, IsLevel}
-use Rattle.map_level.specs.declared.reading.Reading.TheVariants.{Signed}
+use Rattle.wad_dir.specs.Packing.{NamedLump}
+use Rattle.map_level.specs.Level.{lump_of}
+use Rattle.map_level.specs.Opening.{AreLumps}
 use Rattle.wad_dir.proofs.LumpLemmas.{IsLump-one}
-use Rattle.wad_look.specs.Engines.Extract.{HasLumps, HoldsLumps, IsPacked, RefusesExtract, named_lumps, extracted}
+use Rattle.wad_look.specs.Engines.Extract.{named_lumps, extracted}
 
 abbrev named : List ℕ → List ℕ → NamedLump
 named name bytes = record { name = name; bytes = bytes }
@@ -66,22 +60,3 @@ extracted-all names lumps eleven ten =
 -- an entry whose lump is there is listed
 pub there_listed : (files : List Wad) (g : ℕ) (lump : List ℕ) → IsLump files g lump → g < length (joined files)
 there_listed files g lump there = slice_get_within (joined files) g there.listed there.numbered
-
-module _ (bytes : List (List ℕ)) (asked : List ℕ) (files : List Wad) (level : Level) (read : AreRead bytes files) (opened : IsLevel files (query_of asked) Signed level) where
-  has_lumps : HasLumps bytes asked (extracted level.names opened.there.lumps)
-  has_lumps = record { files = files; level = level; lumps = opened.there.lumps; read = read; opened = opened; stand = opened.there.stand; are = refl }
-
-  pub level_packed : (file : List ℕ) → ((lumps : List (List ℕ)) → AreLumps files level.label lumps → file ≡ packed (extracted level.names lumps))
-      → length file ≤ 2147483647 → ((lumps : List (List ℕ)) → AreLumps files level.label lumps → HoldsLumps file (extracted level.names lumps)) → IsPacked bytes asked file
-  level_packed file is fits holds = record {
-    named = extracted level.names opened.there.lumps;
-    has = has_lumps;
-    is = is opened.there.lumps opened.there.stand;
-    fits = fits;
-    holds = holds opened.there.lumps opened.there.stand;
-  }
-
-  pub level_refused : (why : PackFault) → ((lumps : List (List ℕ)) → AreLumps files level.label lumps → why ≡ TooLarge → 2147483647 < length (packed (extracted level.names lumps)))
-      → RefusesExtract bytes asked (fault.Pack why)
-  level_refused TooLarge large = (extracted level.names opened.there.lumps, has_lumps, large opened.there.lumps opened.there.stand refl)
-  level_refused Memory large = tt

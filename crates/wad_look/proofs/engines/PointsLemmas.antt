@@ -23,7 +23,7 @@ use Rattle.std.proofs.lemmas.Option.{same_Some}
 use Rattle.std.specs.Fmt.{signed_decimal}
 use Rattle.std.specs.List.{AllByRecursion}
 use Rattle.wad_look.proofs.ContentsLemmas.{coordinates_or_not}
-use Rattle.wad_look.proofs.engines.ShowLemmas.{signed_decimal-short}
+use Rattle.wad_look.proofs.DigitLemmas.{signed_decimal-short}
 use Rattle.wad_look.specs.Laws.{EachPointIsAnswered, LinesNameTheLeaf, NamesTheLeaf}
 use Rattle.wad_look.specs.Engines.Points.{AnswersPoints, AreLeaves, TellsPoints, point_text}
 use Rattle.wad_look.specs.declared.engines.points.Leaf.{Leaf}

@@ -1,17 +1,9 @@
 -- The text of a record before other bytes.
-use Rattle.std.proofs.Common.{◌≡◌, ◌≤◌, ◌≤ℤ◌, ℤ, pos, negsuc, neg_ℤ, decimal, ℕ, zero, suc, ◌+◌, List, [], ◌∷◌, ◌++◌, ◌<◌, length, drop, Some, refl, ap, sym, ◌∙◌, arith}
-use Rattle.std.proofs.lemmas.Fmt.{length-decimal-le}
-use Rattle.std.proofs.lemmas.Int.{ints}
+use Rattle.std.proofs.Common.{◌≡◌, ℕ, zero, suc, ◌+◌, List, [], ◌∷◌, ◌++◌, ◌<◌, length, drop, Some, refl, ap, sym, ◌∙◌, arith}
 use Rattle.std.proofs.lemmas.List.{append_assoc}
-use Rattle.std.specs.Fmt.{signed_decimal}
 use Rattle.std.specs.List.{slice_get, flat_map}
 use Rattle.std.specs.Prelude.{slice_index_or}
 use Rattle.le_rec.specs.Layout.{Field, Values, Layout}
-use Rattle.std.proofs.Common.{FitsSigned, w16, Bool, true, false, cond, ◌<ℤ◌, ◌+ℤ◌}
-use Rattle.std.specs.Prelude.{int_lt}
-use Rattle.map_level.specs.Reading.{number_of}
-use Rattle.map_level.specs.declared.reading.Reading.{Reading}
-use Rattle.map_level.specs.declared.reading.Reading.TheVariants.{Signed, Wide}
 use Rattle.wad_look.specs.Engines.Show.{field_text, fields_text, record_text, record_line, record_lines}
 use Rattle.wad_look.proofs.RestLemmas.{drop-at}
 
@@ -38,20 +30,3 @@ pub texts-drop : (texts : List (List ℕ)) (i : ℕ) → i < length texts → fl
 texts-drop [] i below = absurd (omega arith)
 texts-drop (text ∷ texts) zero below = refl
 texts-drop (text ∷ texts) (suc i) below = let next : suc i + 1 ≡ suc (i + 1) = omega arith in rw next (texts-drop texts i (omega arith))
-
--- a number of at most five digits has a text of at most six bytes
-pub signed_decimal-short : (z : ℤ) → neg_ℤ (pos 99999) ≤ℤ z → z ≤ℤ pos 99999 → length (signed_decimal z) ≤ 6
-signed_decimal-short (pos n) low high = let digits : length (decimal n) ≤ 5 = length-decimal-le 5 n (omega (arith, ints)) (omega (arith, ints)) (omega (arith, ints)) in omega arith
-signed_decimal-short (negsuc n) low high = let digits : length (decimal (suc n)) ≤ 5 = length-decimal-le 5 (suc n) (omega (arith, ints)) (omega (arith, ints)) (omega (arith, ints)) in omega arith
-
--- an index under a reading has at most five digits
-index_low : (reading : Reading) (word : ℤ) → FitsSigned w16 word → neg_ℤ (pos 99999) ≤ℤ number_of reading word
-index_low Signed word fits = omega (arith, ints)
-index_low Wide word fits = go (int_lt word (pos 0)) refl
-  where
-    go : (b : Bool) → int_lt word (pos 0) ≡ b → neg_ℤ (pos 99999) ≤ℤ cond b (word +ℤ pos 65536) word
-    go true low = omega (arith, ints)
-    go false low = omega (arith, ints)
-
-pub index-short : (reading : Reading) (word index : ℤ) → FitsSigned w16 word → index ≡ number_of reading word → index <ℤ pos 65536 → length (signed_decimal index) ≤ 6
-index-short reading word index fits is below = let low = index_low reading word fits in signed_decimal-short index (rw is low) (omega (arith, ints))

@@ -1,5 +1,5 @@
 use Rattle.std.proofs.Common.{Err, ap}
-use Rattle.wad_look.proofs.engines.ExtractLemmas.{level_packed, level_refused}
+use Rattle.wad_look.proofs.LevelFileLemmas.{level_packed, level_refused}
 use Rattle.wad_look.specs.Opening.{bytes_of}
 use Rattle.wad_look.proofs.engines.extract.packed_level.Goals as goal
 

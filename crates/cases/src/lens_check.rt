@@ -9,7 +9,7 @@ use std::test::Fail;
 use test_alloc::Refusing;
 use test_ends::SliceSink;
 use wad_dir::WadFault;
-use wad_lens::{FileFault, Question, Totals, Verdict, check_file, write_totals};
+use wad_lens::{FileFault, Judging, Question, Totals, Verdict, Warnings, check_file, write_totals};
 
 // A check into an output that hasn't failed.
 fn check<A: Allocator + Copy>(
@@ -30,8 +30,17 @@ fn totals(levels: u64, faults: u64, notes: u64, broken: u64, unread: u64) -> Tot
         levels,
         faults,
         notes,
+        warnings: 0,
         broken,
         unread,
+    }
+}
+
+// The signed reading, with warnings asked for so.
+fn signed(warnings: Warnings) -> Judging {
+    Judging {
+        reading: Reading::Signed,
+        warnings,
     }
 }
 
@@ -43,12 +52,24 @@ fn tells(
     text: &[u8],
     answer: Result<Totals, FileFault>,
 ) {
+    tells_with(rt, Warnings::Unasked, most, file, text, answer);
+}
+
+// The same, with warnings asked for so.
+fn tells_with(
+    rt: &(impl Abort + AllocGlobal),
+    warnings: Warnings,
+    most: u64,
+    file: &[u8],
+    text: &[u8],
+    answer: Result<Totals, FileFault>,
+) {
     let mut room = [0; 1024];
     let mut out = SliceSink::new(&mut room);
     let question = Question {
         path: b"a.wad",
         most,
-        reading: Reading::Signed,
+        judging: signed(warnings),
     };
     let result = check(rt, rt.alloc(), &question, file, &mut out);
     assert_eq!(rt; out.taken(), text);
@@ -109,7 +130,10 @@ fn all_of_a_code(rt: HostRuntime) -> Result<(), Fail> {
     let question = Question {
         path: b"a.wad",
         most: 0,
-        reading: Reading::Wide,
+        judging: Judging {
+            reading: Reading::Wide,
+            warnings: Warnings::Unasked,
+        },
     };
     let result = check(&rt, rt.alloc(), &question, &file, &mut out);
     assert_eq!(rt; result, Ok(totals(1, 2, 7, 0, 0)));
@@ -183,7 +207,7 @@ fn output_fails(rt: HostRuntime) -> Result<(), Fail> {
     let question = Question {
         path: b"a.wad",
         most: 20,
-        reading: Reading::Signed,
+        judging: signed(Warnings::Unasked),
     };
     let result = check(&rt, rt.alloc(), &question, &file, &mut out);
     assert_eq!(rt; result, Err(FileFault::Write(Verdict::Faulty)));
@@ -199,7 +223,7 @@ fn is_refused(rt: &(impl Abort + AllocGlobal), file: &[u8], n: u64) -> bool {
     let question = Question {
         path: b"a.wad",
         most: 20,
-        reading: Reading::Signed,
+        judging: signed(Warnings::Unasked),
     };
     let result = check(rt, &heap, &question, file, &mut out);
     if !heap.has_refused() {
@@ -233,8 +257,58 @@ fn totals_of_a_run(rt: HostRuntime) -> Result<(), Fail> {
     let all = totals(2, 1, 3, 1, 2).with(totals(1, 0, 1, 0, 1));
     let fresh = !out.failed();
     assert!(&rt; fresh);
-    assert_eq!(&rt; write_totals(2, &all, &mut out), Ok(()));
+    assert_eq!(&rt; write_totals(2, Warnings::Unasked, &all, &mut out), Ok(()));
     let text = b"3 levels in 2 files: 1 faults, 4 notes, 4 not judged\n";
+    assert_eq!(&rt; out.taken(), text.as_slice());
+    Ok(())
+}
+
+// The sample's two sectors are open at both ends of its linedef, and it has one start.
+const WARNINGS: &[u8] = b"a.wad: E1M1: W1 sector 0: isn't closed, at (0, 0)\n\
+a.wad: E1M1: W1 sector 0: isn't closed, at (0, 64)\n\
+a.wad: E1M1: W1 sector 1: isn't closed, at (0, 0)\n\
+a.wad: E1M1: W1: 1 more\n\
+a.wad: E1M1: W7 level: no player 2 start\n\
+a.wad: E1M1: W8 level: 0 deathmatch starts\n";
+
+// The totals of the sample where it is warned of.
+fn warned() -> Totals {
+    Totals {
+        warnings: 6,
+        ..totals(1, 0, 0, 0, 0)
+    }
+}
+
+#[test]
+fn warnings(rt: HostRuntime) -> Result<(), Fail> {
+    let file = base(rt.alloc())?;
+    tells_with(&rt, Warnings::Told, 3, &file, WARNINGS, Ok(warned()));
+    tells_with(&rt, Warnings::Strict, 3, &file, WARNINGS, Ok(warned()));
+    let clean = warned().verdict_with(Warnings::Told);
+    assert_eq!(&rt; clean, Verdict::Clean);
+    let faulty = warned().verdict_with(Warnings::Strict);
+    assert_eq!(&rt; faulty, Verdict::Faulty);
+    Ok(())
+}
+
+// A level whose references don't hold isn't warned of.
+#[test]
+fn no_warnings(rt: HostRuntime) -> Result<(), Fail> {
+    let file = base_with(rt.alloc(), &[(2, &LINE_WITHOUT_SIDE_1)])?;
+    let answer = Ok(totals(1, 1, 1, 0, 0));
+    tells_with(&rt, Warnings::Strict, 20, &file, SIDELESS, answer);
+    Ok(())
+}
+
+#[test]
+fn totals_with_warnings(rt: HostRuntime) -> Result<(), Fail> {
+    let mut room = [0; 256];
+    let mut out = SliceSink::new(&mut room);
+    let all = warned().with(warned()).with(totals(1, 2, 1, 0, 1));
+    let fresh = !out.failed();
+    assert!(&rt; fresh);
+    assert_eq!(&rt; write_totals(2, Warnings::Told, &all, &mut out), Ok(()));
+    let text = b"3 levels in 2 files: 2 faults, 1 notes, 12 warnings, 1 not judged\n";
     assert_eq!(&rt; out.taken(), text.as_slice());
     Ok(())
 }

@@ -9,7 +9,7 @@ use std::test::Fail;
 use test_alloc::Refusing;
 use test_ends::SliceSink;
 use wad_dir::WadFault;
-use wad_lens::{FileFault, Refusal, Verdict, refused_line, survey_file};
+use wad_lens::{FileFault, Judging, Refusal, Verdict, Warnings, refused_line, survey_file};
 
 const SAMPLE: &[u8] = b"{\"file\":\"a.wad\",\"level\":\"E1M1\",\"entry\":0,\"format\":\"doom\",\
 \"things\":1,\"linedefs\":1,\"sidedefs\":2,\"vertexes\":2,\"segs\":2,\"ssectors\":2,\"nodes\":1,\"sectors\":2,\
@@ -21,12 +21,20 @@ fn survey<A: Allocator + Copy>(
     alloc: A,
     path: &[u8],
     file: &[u8],
-    reading: Reading,
+    judging: Judging,
     out: &mut SliceSink<'_>,
 ) -> Result<Verdict, FileFault> {
     let fresh = !out.failed();
     assert!(rt; fresh);
-    survey_file(alloc, path, file, reading, out)
+    survey_file(alloc, path, file, judging, out)
+}
+
+// The signed reading, with warnings asked for so.
+fn signed(warnings: Warnings) -> Judging {
+    Judging {
+        reading: Reading::Signed,
+        warnings,
+    }
 }
 
 // What the survey of a file under that path and the signed reading writes and answers.
@@ -39,7 +47,14 @@ fn check(
 ) {
     let mut room = [0; 1024];
     let mut out = SliceSink::new(&mut room);
-    let result = survey(rt, rt.alloc(), path, file, Reading::Signed, &mut out);
+    let result = survey(
+        rt,
+        rt.alloc(),
+        path,
+        file,
+        signed(Warnings::Unasked),
+        &mut out,
+    );
     assert_eq!(rt; out.taken(), text);
     assert_eq!(rt; result, answer);
 }
@@ -227,7 +242,14 @@ fn is_refused(rt: &(impl Abort + AllocGlobal), file: &[u8], n: u64, text: &[u8])
     let heap = Refusing::new(rt.alloc(), n);
     let mut room = [0; 1024];
     let mut out = SliceSink::new(&mut room);
-    let result = survey(rt, &heap, b"a.wad", file, Reading::Signed, &mut out);
+    let result = survey(
+        rt,
+        &heap,
+        b"a.wad",
+        file,
+        signed(Warnings::Unasked),
+        &mut out,
+    );
     if !heap.has_refused() {
         assert_eq!(rt; result, Ok(Verdict::Clean));
         assert_eq!(rt; out.taken(), text);
@@ -272,7 +294,14 @@ fn fails_at(rt: &(impl Abort + AllocGlobal), file: &[u8], n: usize) {
     assert!(rt; 0 < n && n <= BOTH.len() && n <= 1024);
     let mut room = [0; 1024];
     let mut out = SliceSink::new(&mut room).at_most(1).failing_at(n as u32);
-    let result = survey(rt, rt.alloc(), b"a.wad", file, Reading::Signed, &mut out);
+    let result = survey(
+        rt,
+        rt.alloc(),
+        b"a.wad",
+        file,
+        signed(Warnings::Unasked),
+        &mut out,
+    );
     assert_eq!(rt; result, Err(FileFault::Write(Verdict::Clean)));
     assert_eq!(rt; out.taken(), &BOTH[..n - 1]);
 }
@@ -283,5 +312,44 @@ fn failing_writes(rt: HostRuntime) -> Result<(), Fail> {
     for n in 1..BOTH.len() {
         fails_at(&rt, &file, n);
     }
+    Ok(())
+}
+
+const WARNED: &[u8] = b"{\"file\":\"a.wad\",\"level\":\"E1M1\",\"entry\":0,\"format\":\"doom\",\
+\"things\":1,\"linedefs\":1,\"sidedefs\":2,\"vertexes\":2,\"segs\":2,\"ssectors\":2,\"nodes\":1,\"sectors\":2,\
+\"reject\":1,\"blockmap\":16,\"sound\":true,\"faults\":0,\"notes\":0,\"findings\":{},\
+\"warnings\":{\"W1\":4,\"W7\":1,\"W8\":1}}\n";
+
+// What the survey of a file with warnings asked for so writes and answers.
+fn warns(
+    rt: &(impl Abort + AllocGlobal),
+    warnings: Warnings,
+    file: &[u8],
+    text: &[u8],
+    answer: Verdict,
+) {
+    let mut room = [0; 1024];
+    let mut out = SliceSink::new(&mut room);
+    let result = survey(rt, rt.alloc(), b"a.wad", file, signed(warnings), &mut out);
+    assert_eq!(rt; out.taken(), text);
+    assert_eq!(rt; result, Ok(answer));
+}
+
+#[test]
+fn warnings(rt: HostRuntime) -> Result<(), Fail> {
+    let file = base(rt.alloc())?;
+    warns(&rt, Warnings::Told, &file, WARNED, Verdict::Clean);
+    warns(&rt, Warnings::Strict, &file, WARNED, Verdict::Faulty);
+    Ok(())
+}
+
+// A level whose references don't hold isn't warned of.
+#[test]
+fn no_warnings(rt: HostRuntime) -> Result<(), Fail> {
+    let text = b"{\"file\":\"a.wad\",\"level\":\"E1M1\",\"entry\":0,\"format\":\"doom\",\
+\"things\":1,\"linedefs\":1,\"sidedefs\":2,\"vertexes\":2,\"segs\":2,\"ssectors\":2,\"nodes\":1,\"sectors\":2,\
+\"reject\":1,\"blockmap\":16,\"sound\":false,\"faults\":1,\"notes\":1,\"findings\":{\"F9\":1,\"N3\":1},\"warnings\":{}}\n";
+    let file = base_with(rt.alloc(), &[(2, &LINE_WITHOUT_SIDE_1)])?;
+    warns(&rt, Warnings::Told, &file, text, Verdict::Faulty);
     Ok(())
 }

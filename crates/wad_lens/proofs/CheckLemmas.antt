@@ -36,7 +36,8 @@ use Rattle.wad_lens.specs.FindingLine.{level_line}
 use Rattle.wad_lens.specs.FormatLine.{format_text}
 use Rattle.wad_lens.specs.LevelLines.{AreCounted, AreTold, judged_text}
 use Rattle.wad_lens.specs.Survey.{fault_after}
-use Rattle.wad_lens.specs.Totals.{format_totals, judged_totals, no_totals, totals_with, verdict_of_totals}
+use Rattle.wad_lens.specs.Totals.{format_totals, judged_totals, no_totals, totals_with, verdict_with}
+use Rattle.wad_lens.specs.Warned.{AreAskedFor, Warned, kept_count, warned_total}
 use Rattle.wad_lens.specs.declared.totals.Totals.{Totals}
 use Rattle.wad_lens.specs.declared.verdict.FileFault.{FileFault}
 use Rattle.wad_lens.specs.declared.verdict.FileFault.TheVariants as fault
@@ -90,19 +91,20 @@ wide_alone files g reading level wide (Ok sound) signed unsound there is = (
 wide_alone files g reading level wide (Err e) signed unsound there is = tt
 
 -- the text of a judged level was written
-pub judged_written : {W : Type 0} (state : W → SinkState) (asked : Asked) (files : List Wad) (g : ℕ) (name : List ℕ) (level : Level) (counts : List ℕ) (sound_wide : Bool) (out out' : W)
+pub judged_written : {W : Type 0} (state : W → SinkState) (asked : Asked) (files : List Wad) (g : ℕ) (name : List ℕ) (level : Level) (counts : List ℕ) (warned : List Warned) (sound_wide : Bool) (out out' : W)
     (wrote : Result (Unit {0}) IoFault) (result : Result Totals FileFault)
-    → IsLevelAt files g asked.reading level → AreCounts (AuditHolds level) counts → (IsTrue sound_wide ↔ IsSoundWideAlone files g asked.reading level)
+    → IsLevelAt files g asked.judging.reading level → AreCounts (AuditHolds level) counts → AreAskedFor asked.judging.warnings level (kept_count asked.most) warned
+    → (IsTrue sound_wide ↔ IsSoundWideAlone files g asked.judging.reading level)
     → ((told : Code → List ℕ) → AreTold (AuditHolds level) told → AreCounted counts told
-    → Writes (state out) (state out') (judged_text asked.path name asked.most level told sound_wide) wrote)
-    → result ≡ text_end (judged_totals counts) wrote → ChecksText state (IsJudged asked files g name) out out' result
-judged_written state asked files g name level counts sound_wide out out' wrote result there are wide writes ended =
+    → Writes (state out) (state out') (judged_text asked.path name asked.most level told warned sound_wide) wrote)
+    → result ≡ text_end asked.judging.warnings (judged_totals counts (warned_total warned)) wrote → ChecksText state asked.judging.warnings (IsJudged asked files g name) out out' result
+judged_written state asked files g name level counts warned sound_wide out out' wrote result there are are_warned wide writes ended =
     let told = λ (code : Code). (are.each code).indexes in
     let are_told : AreTold (AuditHolds level) told = λ code. record { ascending = (are.each code).ascending; exact = (are.each code).exact } in
     let counted : AreCounted counts told = λ code. sym (are.each code).counted in
     inr (record {
-      text = judged_text asked.path name asked.most level told sound_wide;
-      totals = judged_totals counts;
+      text = judged_text asked.path name asked.most level told warned sound_wide;
+      totals = judged_totals counts (warned_total warned);
       is = record {
         level = level;
         there = there;
@@ -111,6 +113,8 @@ judged_written state asked files g name level counts sound_wide out out' wrote r
         told = told;
         are_told = are_told;
         counted = counted;
+        warned = warned;
+        are_warned = are_warned;
         sound_wide = sound_wide;
         wide = wide;
         is = refl;
@@ -123,8 +127,8 @@ judged_written state asked files g name level counts sound_wide out out' wrote r
 
 -- the text of a level of Doom's format
 pub doom_text : {W : Type 0} (state : W → SinkState) (asked : Asked) (files : List Wad) (name : List ℕ) (g : ℕ) (out out' : W) (result : Result Totals FileFault)
-    → slice_get (names files) g ≡ Some name → IsFormat files g Doom → ChecksText state (IsJudged asked files g name) out out' result
-    → ChecksText state (IsLevelText asked files g) out out' result
+    → slice_get (names files) g ≡ Some name → IsFormat files g Doom → ChecksText state asked.judging.warnings (IsJudged asked files g name) out out' result
+    → ChecksText state asked.judging.warnings (IsLevelText asked files g) out out' result
 doom_text state asked files name g out out' result named is (inl wants) = inl wants
 doom_text state asked files name g out out' result named is (inr wrote) = inr (record {
   text = wrote.text;
@@ -139,8 +143,8 @@ doom_text state asked files name g out out' result named is (inr wrote) = inr (r
 pub format_line : {W : Type 0} (state : W → SinkState) (asked : Asked) (files : List Wad) (name : List ℕ) (g : ℕ) (format : Format) (out out' : W) (wrote : Result (Unit {0}) IoFault)
     (result : Result Totals FileFault)
     → slice_get (names files) g ≡ Some name → IsFormat files g format → (format ≡ Doom → ⊥)
-    → Writes (state out) (state out') (level_line asked.path name (format_text format)) wrote → result ≡ text_end (format_totals format) wrote
-    → ChecksText state (IsLevelText asked files g) out out' result
+    → Writes (state out) (state out') (level_line asked.path name (format_text format)) wrote → result ≡ text_end asked.judging.warnings (format_totals format) wrote
+    → ChecksText state asked.judging.warnings (IsLevelText asked files g) out out' result
 format_line state asked files name g format out out' wrote result named is other writes ended = inr (record {
   text = level_line asked.path name (format_text format);
   totals = format_totals format;
@@ -167,14 +171,14 @@ pub record ToldLevel (asked : Asked) (files : List Wad) (g : ℕ) (before after 
 
 -- one level more was told
 pub level_told : {W : Type 0} (state : W → SinkState) (asked : Asked) (files : List Wad) (g : ℕ) (out out' : W) (totals : Totals)
-    → ChecksText state (IsLevelText asked files g) out out' (Ok totals) → ToldLevel asked files g (state out) (state out') totals
+    → ChecksText state asked.judging.warnings (IsLevelText asked files g) out out' (Ok totals) → ToldLevel asked files g (state out) (state out') totals
 level_told state asked files g out out' totals (inl wants) = absurd (ok_is_no_err totals wants.ended)
   where
     ok_is_no_err : (t : Totals) → ◌≡◌ {A = Result Totals FileFault} (Ok t) (Err fault.Memory) → ⊥
     ok_is_no_err t same = cc
 level_told state asked files g out out' totals (inr wrote) = go wrote.outcome wrote.writes wrote.ended
   where
-    go : (outcome : Result (Unit {0}) IoFault) → Writes (state out) (state out') wrote.text outcome → ◌≡◌ {A = Result Totals FileFault} (Ok totals) (text_end wrote.totals outcome)
+    go : (outcome : Result (Unit {0}) IoFault) → Writes (state out) (state out') wrote.text outcome → ◌≡◌ {A = Result Totals FileFault} (Ok totals) (text_end asked.judging.warnings wrote.totals outcome)
         → ToldLevel asked files g (state out) (state out') totals
     go (Ok x) writes ended =
         let same : wrote.totals ≡ totals = cc in
@@ -206,16 +210,16 @@ SoFar-level asked files before between after from g sum totals so_far next level
 
 -- it stopped within the text of a level
 stopped_in_text : (asked : Asked) (files : List Wad) (before between after : SinkState) (from g : ℕ) (sum : Totals) (why : FileFault)
-    → SoFar asked files before between from sum → IsNextStart (names files) from g → WritesText (IsLevelText asked files g) between after (Err why)
-    → ChecksSome asked files before after (fault_after (verdict_of_totals sum) why)
+    → SoFar asked files before between from sum → IsNextStart (names files) from g → WritesText asked.judging.warnings (IsLevelText asked files g) between after (Err why)
+    → ChecksSome asked files before after (fault_after (verdict_with asked.judging.warnings sum) why)
 stopped_in_text asked files before between after from g sum why so_far next wrote = go wrote.outcome wrote.writes wrote.ended
   where
-    go : (outcome : Result (Unit {0}) IoFault) → Writes between after wrote.text outcome → ◌≡◌ {A = Result Totals FileFault} (Err why) (text_end wrote.totals outcome)
-        → ChecksSome asked files before after (fault_after (verdict_of_totals sum) why)
+    go : (outcome : Result (Unit {0}) IoFault) → Writes between after wrote.text outcome → ◌≡◌ {A = Result Totals FileFault} (Err why) (text_end asked.judging.warnings wrote.totals outcome)
+        → ChecksSome asked files before after (fault_after (verdict_with asked.judging.warnings sum) why)
     go (Ok x) writes ended = absurd (cc)
     go (Err e) writes ended =
-        let same : fault.Write (verdict_of_totals wrote.totals) ≡ why = cc in
-        subst (λ w. ChecksSome asked files before after (fault_after (verdict_of_totals sum) w)) same (record {
+        let same : fault.Write (verdict_with asked.judging.warnings wrote.totals) ≡ why = cc in
+        subst (λ w. ChecksSome asked files before after (fault_after (verdict_with asked.judging.warnings sum) w)) same (record {
           from = from;
           text = so_far.text;
           sum = sum;
@@ -233,10 +237,10 @@ stopped_in_text asked files before between after from g sum why so_far next wrot
 -- it stopped at a level
 pub level_stopped : {W : Type 0} (state : W → SinkState) (asked : Asked) (files : List Wad) (before : SinkState) (from g : ℕ) (sum : Totals) (out out' : W) (why : FileFault)
     → SoFar asked files before (state out) from sum → (state out).failed ≡ false → IsNextStart (names files) from g
-    → ChecksText state (IsLevelText asked files g) out out' (Err why) → ChecksSome asked files before (state out') (fault_after (verdict_of_totals sum) why)
+    → ChecksText state asked.judging.warnings (IsLevelText asked files g) out out' (Err why) → ChecksSome asked files before (state out') (fault_after (verdict_with asked.judging.warnings sum) why)
 level_stopped state asked files before from g sum out out' why so_far sound next (inl wants) =
     let same : fault.Memory ≡ why = err_same why wants.ended in
-    subst (λ w. ChecksSome asked files before (state out') (fault_after (verdict_of_totals sum) w)) same
+    subst (λ w. ChecksSome asked files before (state out') (fault_after (verdict_with asked.judging.warnings sum) w)) same
     (subst (λ o. ChecksSome asked files before (state o) fault.Memory) (sym wants.untouched)
     (record { from = from; text = so_far.text; sum = sum; told = so_far.told; took = so_far.took; sound = sound }))
   where

@@ -20,7 +20,7 @@ use Rattle.wad_lens.proofs.CheckLemmas.{faultless, sound_faultless}
 -- all levels that start below an entry are sound
 abbrev AreSoundBelow : Asked → List Wad → ℕ → Type 0
 AreSoundBelow asked files end =
-    (g : ℕ) (level : Level) → g < end → LevelStartsAt (names files) g → IsLevelAt files g asked.reading level → IsSound level
+    (g : ℕ) (level : Level) → g < end → LevelStartsAt (names files) g → IsLevelAt files g asked.judging.reading level → IsSound level
 
 abbrev AreDoom : List Wad → Type 0
 AreDoom files = (g : ℕ) → LevelStartsAt (names files) g → IsFormat files g Doom
@@ -34,11 +34,11 @@ judged asked files g text totals doom is =
 
 -- its faults are none exactly where it is sound
 level_faultless : (asked : Asked) (files : List Wad) (g : ℕ) (text : List ℕ) (totals : Totals) → IsFormat files g Doom → IsLevelText asked files g text totals
-    → (totals.faults ≡ 0) ↔ ((level : Level) → IsLevelAt files g asked.reading level → IsSound level)
+    → (totals.faults ≡ 0) ↔ ((level : Level) → IsLevelAt files g asked.judging.reading level → IsSound level)
 level_faultless asked files g text totals doom is =
     let j = judged asked files g text totals doom is in
     let faults = ap (λ (t : Totals). t.faults) j.adds in (
-      (λ zero level there. subst IsSound (IsLevelAt-one files g asked.reading j.level level j.there there) (faultless j.level j.counts j.are_counts (sym faults ∙ zero))),
+      (λ zero level there. subst IsSound (IsLevelAt-one files g asked.judging.reading j.level level j.there there) (faultless j.level j.counts j.are_counts (sym faults ∙ zero))),
       (λ sound. faults ∙ sound_faultless j.level j.counts j.are_counts (sound j.level j.there)),
     )
 
@@ -51,7 +51,7 @@ below_faultless asked files from text totals doom (with_level before front sum g
       (λ zero h level below starts there. elim (cases_lt h before) [
         | inl old ↦ earlier.0 (omega (arith, zero)) h level old starts there
         | inr later ↦ elim (cases_eq h g) [
-          | inl same ↦ here.0 (omega (arith, zero)) level (subst (λ k. IsLevelAt files k asked.reading level) same there)
+          | inl same ↦ here.0 (omega (arith, zero)) level (subst (λ k. IsLevelAt files k asked.judging.reading level) same there)
           | inr other ↦ absurd (next.first h later (omega (arith, below, other)) starts)
         ]
       ]),

@@ -3,7 +3,6 @@ pub mod CheckLemmas
 pub mod CheckedLemmas
 pub mod CodeLemmas
 pub mod CountLemmas
-pub mod DigitLemmas
 pub mod IndexLemmas
 pub mod JsonLemmas
 pub mod LawLemmas

@@ -20,7 +20,7 @@ use Rattle.line_io.specs.Writes.{TakesFront, Writes}
 use Rattle.line_io.specs.declared.fault.IoFault.{IoFault}
 use Rattle.line_io.specs.declared.fault.IoFault.TheVariants as io
 use Rattle.line_io.proofs.WriteLemmas.{TakesFront-after}
-use Rattle.map_level.specs.declared.reading.Reading.{Reading}
+use Rattle.wad_lens.specs.declared.judging.Judging.{Judging}
 use Rattle.wad_dir.specs.Entries.{names}
 use Rattle.wad_dir.specs.Wad.{IsRead, Wad}
 use Rattle.wad_lens.specs.Objects.{HasPlace, level_members, other_members}
@@ -38,14 +38,14 @@ start_within all g starts = elim starts [
   | inr named ↦ omega (arith, slice_get_within all (g + 1) _ named)
 ]
 
-no_starts : (all : List (List ℕ)) → AreStartsBelow all 0 []
+pub no_starts : (all : List (List ℕ)) → AreStartsBelow all 0 []
 no_starts all = record {
   ascending = λ i j d before below. absurd (omega (arith, below));
   exact = λ g. (λ there. absurd (omega (arith, there.1)), λ told. absurd (omega (arith, told.1)));
 }
 
 -- one start more
-start_more : (all : List (List ℕ)) (from at : ℕ) (starts : List ℕ) → AreStartsBelow all from starts → IsNextStart all from at
+pub start_more : (all : List (List ℕ)) (from at : ℕ) (starts : List ℕ) → AreStartsBelow all from starts → IsNextStart all from at
     → AreStartsBelow all (at + 1) (starts ++ at ∷ [])
 start_more all from at starts before next = record {
   ascending = all_pairs_push (λ a b. a < b) starts at before.ascending (λ k d below.
@@ -67,7 +67,7 @@ start_more all from at starts before next = record {
 }
 
 -- these are all starts
-all_starts : (all : List (List ℕ)) (from : ℕ) (starts : List ℕ) → AreStartsBelow all from starts → NoneStartsFrom all from
+pub all_starts : (all : List (List ℕ)) (from : ℕ) (starts : List ℕ) → AreStartsBelow all from starts → NoneStartsFrom all from
     → AreStartsBelow all (length all) starts
 all_starts all from starts before none = record {
   ascending = before.ascending;
@@ -80,26 +80,26 @@ all_starts all from starts before none = record {
   );
 }
 
-told_more : (path : List ℕ) (files : List Wad) (reading : Reading) (starts : List ℕ) (told : List Told) (g : ℕ) (one : Told)
-    → AreTold path files reading starts told → IsTold path files reading g one
-    → AreTold path files reading (starts ++ g ∷ []) (told ++ one ∷ [])
-told_more path files reading [] [] g one before is = (is, tt)
-told_more path files reading [] (t ∷ told) g one before is = absurd before
-told_more path files reading (s ∷ starts) [] g one before is = absurd before
-told_more path files reading (s ∷ starts) (t ∷ told) g one before is = (before.0, told_more path files reading starts told g one before.1 is)
+told_more : (path : List ℕ) (files : List Wad) (judging : Judging) (starts : List ℕ) (told : List Told) (g : ℕ) (one : Told)
+    → AreTold path files judging starts told → IsTold path files judging g one
+    → AreTold path files judging (starts ++ g ∷ []) (told ++ one ∷ [])
+told_more path files judging [] [] g one before is = (is, tt)
+told_more path files judging [] (t ∷ told) g one before is = absurd before
+told_more path files judging (s ∷ starts) [] g one before is = absurd before
+told_more path files judging (s ∷ starts) (t ∷ told) g one before is = (before.0, told_more path files judging starts told g one before.1 is)
 
 lines-push : (told : List Told) (one : Told) → lines_of (told ++ one ∷ []) ≡ lines_of told ++ one.line
 lines-push told one = flat_map-append (λ (t : Told). t.line) told (one ∷ []) ∙ ap (λ line. lines_of told ++ line) (append-nil one.line)
 
 -- the levels before an entry were told
-pub record ToldSoFar (path : List ℕ) (files : List Wad) (reading : Reading) (before after : SinkState) (from : ℕ) (worst : Verdict) : Type 0 where
+pub record ToldSoFar (path : List ℕ) (files : List Wad) (judging : Judging) (before after : SinkState) (from : ℕ) (worst : Verdict) : Type 0 where
   pub told : List Told
-  pub are : AreToldBelow path files reading from told
+  pub are : AreToldBelow path files judging from told
   pub took : Appends before.taken after.taken (lines_of told)
   pub says : worst ≡ gravest told
 
-pub ToldSoFar-none : (path : List ℕ) (files : List Wad) (reading : Reading) (before : SinkState) → ToldSoFar path files reading before before 0 Clean
-ToldSoFar-none path files reading before = record {
+pub ToldSoFar-none : (path : List ℕ) (files : List Wad) (judging : Judging) (before : SinkState) → ToldSoFar path files judging before before 0 Clean
+ToldSoFar-none path files judging before = record {
   told = [];
   are = record { starts = []; are = no_starts (names files); each = tt };
   took = Appends-nil before.taken;
@@ -107,31 +107,31 @@ ToldSoFar-none path files reading before = record {
 }
 
 -- what is told with one level more
-told_next : (path : List ℕ) (files : List Wad) (reading : Reading) (from g : ℕ) (told : List Told) (one : Told)
-    → AreToldBelow path files reading from told → IsNextStart (names files) from g → IsTold path files reading g one
-    → AreToldBelow path files reading (g + 1) (told ++ one ∷ [])
-told_next path files reading from g told one before next is = record {
+told_next : (path : List ℕ) (files : List Wad) (judging : Judging) (from g : ℕ) (told : List Told) (one : Told)
+    → AreToldBelow path files judging from told → IsNextStart (names files) from g → IsTold path files judging g one
+    → AreToldBelow path files judging (g + 1) (told ++ one ∷ [])
+told_next path files judging from g told one before next is = record {
   starts = before.starts ++ g ∷ [];
   are = start_more (names files) from g before.starts before.are next;
-  each = told_more path files reading before.starts told g one before.each is;
+  each = told_more path files judging before.starts told g one before.each is;
 }
 
 -- one level more was told
-pub ToldSoFar-more : (path : List ℕ) (files : List Wad) (reading : Reading) (before between after : SinkState) (from g : ℕ) (worst verdict : Verdict)
-    → ToldSoFar path files reading before between from worst → IsNextStart (names files) from g
-    → WritesLevel path files reading g between after (Ok verdict)
-    → ToldSoFar path files reading before after (g + 1) (graver worst verdict) × (after.failed ≡ false)
-ToldSoFar-more path files reading before between after from g worst verdict so_far next wrote = go wrote.writes.outcome wrote.writes.writes wrote.writes.ended
+pub ToldSoFar-more : (path : List ℕ) (files : List Wad) (judging : Judging) (before between after : SinkState) (from g : ℕ) (worst verdict : Verdict)
+    → ToldSoFar path files judging before between from worst → IsNextStart (names files) from g
+    → WritesLevel path files judging g between after (Ok verdict)
+    → ToldSoFar path files judging before after (g + 1) (graver worst verdict) × (after.failed ≡ false)
+ToldSoFar-more path files judging before between after from g worst verdict so_far next wrote = go wrote.writes.outcome wrote.writes.writes wrote.writes.ended
   where
     go : (outcome : Result (Unit {0}) IoFault) → Writes between after wrote.told.line outcome → Ok verdict ≡ line_end wrote.told.verdict outcome
-        → ToldSoFar path files reading before after (g + 1) (graver worst verdict) × (after.failed ≡ false)
+        → ToldSoFar path files judging before after (g + 1) (graver worst verdict) × (after.failed ≡ false)
     go (Ok x) writes ended =
         let one = wrote.told in
         let told = so_far.told in
         let same : verdict ≡ one.verdict = cc in (
           record {
             told = told ++ one ∷ [];
-            are = told_next path files reading from g told one so_far.are next wrote.is;
+            are = told_next path files judging from g told one so_far.are next wrote.is;
             took = subst (Appends before.taken after.taken) (sym (lines-push told one))
                 (Appends-trans before.taken between.taken after.taken (lines_of told) one.line so_far.took writes.takes.whole);
             says = ap (λ v. graver v verdict) so_far.says ∙ ap (graver (gravest told)) same
@@ -149,22 +149,22 @@ line_stopped between after line io.TooLong writes = absurd writes.ends.fault
 line_stopped between after line io.Memory writes = absurd writes.ends.fault
 
 -- the survey stopped within the line of a level
-pub stopped_in_line : (path : List ℕ) (files : List Wad) (reading : Reading) (before between after : SinkState) (from g : ℕ) (worst : Verdict) (why : FileFault)
-    → ToldSoFar path files reading before between from worst → IsNextStart (names files) from g
-    → WritesLevel path files reading g between after (Err why) → SurveysSome path files reading before after (fault_after worst why)
-stopped_in_line path files reading before between after from g worst why so_far next wrote = go wrote.writes.outcome wrote.writes.writes wrote.writes.ended
+pub stopped_in_line : (path : List ℕ) (files : List Wad) (judging : Judging) (before between after : SinkState) (from g : ℕ) (worst : Verdict) (why : FileFault)
+    → ToldSoFar path files judging before between from worst → IsNextStart (names files) from g
+    → WritesLevel path files judging g between after (Err why) → SurveysSome path files judging before after (fault_after worst why)
+stopped_in_line path files judging before between after from g worst why so_far next wrote = go wrote.writes.outcome wrote.writes.writes wrote.writes.ended
   where
     go : (outcome : Result (Unit {0}) IoFault) → Writes between after wrote.told.line outcome → Err why ≡ line_end wrote.told.verdict outcome
-        → SurveysSome path files reading before after (fault_after worst why)
+        → SurveysSome path files judging before after (fault_after worst why)
     go (Ok x) writes ended = absurd (cc)
     go (Err e) writes ended =
         let one = wrote.told in
         let told = so_far.told in
         let same : fault.Write one.verdict ≡ why = cc in
-        subst (λ w. SurveysSome path files reading before after (fault_after worst w)) same (record {
+        subst (λ w. SurveysSome path files judging before after (fault_after worst w)) same (record {
           end = g + 1;
           told = told ++ one ∷ [];
-          are = told_next path files reading from g told one so_far.are next wrote.is;
+          are = told_next path files judging from g told one so_far.are next wrote.is;
           stops = (
             subst (TakesFront before after) (sym (lines-push told one))
                 (TakesFront-after before between after (lines_of told) so_far.took writes.takes.front),
@@ -174,9 +174,9 @@ stopped_in_line path files reading before between after from g worst why so_far 
         })
 
 -- it stopped before a level for want of memory
-pub stopped_before_line : (path : List ℕ) (files : List Wad) (reading : Reading) (before after : SinkState) (from : ℕ) (worst : Verdict)
-    → ToldSoFar path files reading before after from worst → after.failed ≡ false → SurveysSome path files reading before after fault.Memory
-stopped_before_line path files reading before after from worst so_far sound = record {
+pub stopped_before_line : (path : List ℕ) (files : List Wad) (judging : Judging) (before after : SinkState) (from : ℕ) (worst : Verdict)
+    → ToldSoFar path files judging before after from worst → after.failed ≡ false → SurveysSome path files judging before after fault.Memory
+stopped_before_line path files judging before after from worst so_far sound = record {
   end = from;
   told = so_far.told;
   are = so_far.are;
@@ -184,10 +184,10 @@ stopped_before_line path files reading before after from worst so_far sound = re
 }
 
 -- all levels were told
-pub told_all : (path : List ℕ) (files : List Wad) (reading : Reading) (before after : SinkState) (from : ℕ) (worst : Verdict)
-    → ToldSoFar path files reading before after from worst → NoneStartsFrom (names files) from → after.failed ≡ false
-    → SurveysAll path files reading before after worst
-told_all path files reading before after from worst so_far none sound = record {
+pub told_all : (path : List ℕ) (files : List Wad) (judging : Judging) (before after : SinkState) (from : ℕ) (worst : Verdict)
+    → ToldSoFar path files judging before after from worst → NoneStartsFrom (names files) from → after.failed ≡ false
+    → SurveysAll path files judging before after worst
+told_all path files judging before after from worst so_far none sound = record {
   told = so_far.told;
   are = record {
     starts = so_far.are.starts;
@@ -209,20 +209,20 @@ place_of_format files g (Extended tag) is = tt
 place_of_format files g Doom is = tt
 
 -- how the object of a level ends whose format isn't Doom's
-pub other_ends : (files : List Wad) (reading : Reading) (g : ℕ) (format : Format) → (format ≡ Doom → ⊥)
-    → EndsObject files reading g format (other_members format) (verdict_of_format format)
-other_ends files reading g Udmf other = (refl, refl)
-other_ends files reading g (Incomplete k) other = (refl, refl)
-other_ends files reading g Hexen other = (refl, refl)
-other_ends files reading g (Outside k) other = (refl, refl)
-other_ends files reading g (Extended tag) other = (refl, refl)
-other_ends files reading g Doom other = absurd (other refl)
+pub other_ends : (files : List Wad) (judging : Judging) (g : ℕ) (format : Format) → (format ≡ Doom → ⊥)
+    → EndsObject files judging g format (other_members format) (verdict_of_format format)
+other_ends files judging g Udmf other = (refl, refl)
+other_ends files judging g (Incomplete k) other = (refl, refl)
+other_ends files judging g Hexen other = (refl, refl)
+other_ends files judging g (Outside k) other = (refl, refl)
+other_ends files judging g (Extended tag) other = (refl, refl)
+other_ends files judging g Doom other = absurd (other refl)
 
 -- the line of a level of Doom's format
-pub doom_line : {W : Type 0} (state : W → SinkState) (path : List ℕ) (files : List Wad) (reading : Reading) (name : List ℕ) (g : ℕ) (out out' : W) (result : Result Verdict FileFault)
+pub doom_line : {W : Type 0} (state : W → SinkState) (path : List ℕ) (files : List Wad) (judging : Judging) (name : List ℕ) (g : ℕ) (out out' : W) (result : Result Verdict FileFault)
     → slice_get (names files) g ≡ Some name → IsFormat files g Doom
-    → SurveysDoom state path files reading name g out out' result → SurveysLevel state path files reading g out out' result
-doom_line state path files reading name g out out' result named is does = elim does [
+    → SurveysDoom state path files judging name g out out' result → SurveysLevel state path files judging g out out' result
+doom_line state path files judging name g out out' result named is does = elim does [
   | inl wants ↦ inl wants
   | inr wrote ↦ inr (record {
     told = record { line = level_members path name g Doom ++ wrote.members; verdict = wrote.verdict };
@@ -232,20 +232,20 @@ doom_line state path files reading name g out out' result named is does = elim d
 ]
 
 -- and of another format
-pub other_line : {W : Type 0} (state : W → SinkState) (path : List ℕ) (files : List Wad) (reading : Reading) (name : List ℕ) (g : ℕ) (format : Format) (out out' : W) (result : Result Verdict FileFault)
+pub other_line : {W : Type 0} (state : W → SinkState) (path : List ℕ) (files : List Wad) (judging : Judging) (name : List ℕ) (g : ℕ) (format : Format) (out out' : W) (result : Result Verdict FileFault)
     → slice_get (names files) g ≡ Some name → IsFormat files g format → (format ≡ Doom → ⊥)
     → WritesLine (state out) (state out') (level_members path name g format ++ other_members format) (verdict_of_format format) result
-    → SurveysLevel state path files reading g out out' result
-other_line state path files reading name g format out out' result named is other wrote = inr (record {
+    → SurveysLevel state path files judging g out out' result
+other_line state path files judging name g format out out' result named is other wrote = inr (record {
   told = record { line = level_members path name g format ++ other_members format; verdict = verdict_of_format format };
-  is = record { format = format; is = is; name = name; named = named; members = other_members format; ends = other_ends files reading g format other; line = refl };
+  is = record { format = format; is = is; name = name; named = named; members = other_members format; ends = other_ends files judging g format other; line = refl };
   writes = wrote;
 })
 
 -- a level that was told was written
-pub level_told : {W : Type 0} (state : W → SinkState) (path : List ℕ) (files : List Wad) (reading : Reading) (g : ℕ) (out out' : W) (verdict : Verdict)
-    → SurveysLevel state path files reading g out out' (Ok verdict) → WritesLevel path files reading g (state out) (state out') (Ok verdict)
-level_told state path files reading g out out' verdict does = elim does [
+pub level_told : {W : Type 0} (state : W → SinkState) (path : List ℕ) (files : List Wad) (judging : Judging) (g : ℕ) (out out' : W) (verdict : Verdict)
+    → SurveysLevel state path files judging g out out' (Ok verdict) → WritesLevel path files judging g (state out) (state out') (Ok verdict)
+level_told state path files judging g out out' verdict does = elim does [
   | inl wants ↦ absurd (ok_is_no_err verdict wants.ended)
   | inr wrote ↦ wrote
 ]
@@ -254,30 +254,30 @@ level_told state path files reading g out out' verdict does = elim does [
     ok_is_no_err v same = cc
 
 -- the survey stopped at a level
-pub level_stopped : {W : Type 0} (state : W → SinkState) (path : List ℕ) (files : List Wad) (reading : Reading) (before : SinkState) (from g : ℕ) (worst : Verdict) (out out' : W) (why : FileFault)
-    → ToldSoFar path files reading before (state out) from worst → (state out).failed ≡ false → IsNextStart (names files) from g
-    → SurveysLevel state path files reading g out out' (Err why) → SurveysSome path files reading before (state out') (fault_after worst why)
-level_stopped state path files reading before from g worst out out' why so_far sound next does = elim does [
+pub level_stopped : {W : Type 0} (state : W → SinkState) (path : List ℕ) (files : List Wad) (judging : Judging) (before : SinkState) (from g : ℕ) (worst : Verdict) (out out' : W) (why : FileFault)
+    → ToldSoFar path files judging before (state out) from worst → (state out).failed ≡ false → IsNextStart (names files) from g
+    → SurveysLevel state path files judging g out out' (Err why) → SurveysSome path files judging before (state out') (fault_after worst why)
+level_stopped state path files judging before from g worst out out' why so_far sound next does = elim does [
   | inl wants ↦
       let same : fault.Memory ≡ why = err_same why wants.ended in
-      subst (λ w. SurveysSome path files reading before (state out') (fault_after worst w)) same
-      (subst (λ (o : _). SurveysSome path files reading before (state o) fault.Memory) (sym wants.untouched)
-      (stopped_before_line path files reading before (state out) from worst so_far sound))
-  | inr wrote ↦ stopped_in_line path files reading before (state out) (state out') from g worst why so_far next wrote
+      subst (λ w. SurveysSome path files judging before (state out') (fault_after worst w)) same
+      (subst (λ (o : _). SurveysSome path files judging before (state o) fault.Memory) (sym wants.untouched)
+      (stopped_before_line path files judging before (state out) from worst so_far sound))
+  | inr wrote ↦ stopped_in_line path files judging before (state out) (state out') from g worst why so_far next wrote
 ]
   where
     err_same : (w : FileFault) → ◌≡◌ {A = Result Verdict FileFault} (Err w) (Err fault.Memory) → fault.Memory ≡ w
     err_same w same = cc
 
 -- the survey of the one file of these bytes
-pub one_file : (path bytes : List ℕ) (files : List Wad) (reading : Reading) (before after : SinkState) (result : Result Verdict FileFault)
-    → map (λ file. file.bytes) files ≡ bytes ∷ [] → All IsRead files → Surveys path files reading before after result
-    → SurveysFile path bytes reading before after result
-one_file path bytes [] reading before after result of_bytes read does = absurd (cc)
-one_file path bytes (file ∷ []) reading before after result of_bytes read does = record {
+pub one_file : (path bytes : List ℕ) (files : List Wad) (judging : Judging) (before after : SinkState) (result : Result Verdict FileFault)
+    → map (λ file. file.bytes) files ≡ bytes ∷ [] → All IsRead files → Surveys path files judging before after result
+    → SurveysFile path bytes judging before after result
+one_file path bytes [] judging before after result of_bytes read does = absurd (cc)
+one_file path bytes (file ∷ []) judging before after result of_bytes read does = record {
   file = file;
   of_bytes = cc;
   read = read 0 file (omega arith);
   does = does;
 }
-one_file path bytes (file ∷ other ∷ files) reading before after result of_bytes read does = absurd (cc)
+one_file path bytes (file ∷ other ∷ files) judging before after result of_bytes read does = absurd (cc)

@@ -1,13 +1,17 @@
 -- How what is told of warnings is written and put together.
-use Rattle.std.proofs.Common.{◌≡◌, ℕ, zero, suc, ◌+◌, ◌≤◌, List, [], ◌∷◌, ◌++◌, length, map, drop, take, Some, refl, sym, ap, ◌∙◌, arith}
-use Rattle.std.specs.Prelude.{All}
-use Rattle.std.specs.List.{flat_map, slice_get}
-use Rattle.std.proofs.lemmas.List.{map-append}
+use Rattle.std.proofs.Common.{◌≡◌, ℕ, zero, suc, inl, inr, ◌+◌, ◌-◌, ◌^◌, ◌<◌, ◌≤◌, List, [], get_or, ◌∷◌, ◌++◌, length, map, drop, take, Some, true, false, refl, sym, ap, ◌∙◌, arith}
+use Rattle.std.specs.Prelude.{All, min, nat_lt}
+use Rattle.std.proofs.Math.Nat.{min-eq_left, min-eq_right}
+use Rattle.std.proofs.lemmas.Bool.{cases_lt, lt-ltb, le-ltb}
+use Rattle.std.specs.List.{flat_map, slice_get, sum_by}
+use Rattle.std.proofs.lemmas.List.{drop_all, map-append, take_more}
 use Rattle.std.proofs.lemmas.List.Elements.{All-push}
+use Rattle.std.proofs.lemmas.List.Sums.{sum_by-append}
 use Rattle.std.proofs.lemmas.Option.{same_Some}
 use Rattle.map_checks.specs.declared.warning.WarningCode.{WarningCode}
 use Rattle.map_level.specs.Level.{Level}
-use Rattle.wad_lens.specs.Warned.{AddsWarned, IsWarned, Warned, warning_order}
+use Rattle.wad_lens.specs.Objects.{warned_member, warned_members}
+use Rattle.wad_lens.specs.Warned.{AddsWarned, IsWarned, Warned, warned_total, warning_order}
 
 -- the parts from a place on begin with the one there
 pub parts-drop : {X : Type 0} (part : X → List ℕ) (xs : List X) (i : ℕ) (x : X) → slice_get xs i ≡ Some x
@@ -36,3 +40,52 @@ warned_more level most i code old new next before adds = record {
       ∙ ap (λ xs. xs ++ adds.warned.code ∷ []) before.codes ∙ ap (λ c. take i warning_order ++ c ∷ []) adds.of_code ∙ sym next;
   each = rw adds.is (All-push (IsWarned level most) old adds.warned before.each adds.told);
 }
+
+-- the members of the codes from a place on, where there are warnings of the first of them
+pub warned-some : (all : List Warned) (i : ℕ) (w : Warned) → slice_get all i ≡ Some w → 0 < w.cut.count
+    → warned_members (drop i all) ≡ warned_member w ∷ warned_members (drop (i + 1) all)
+warned-some [] i w at some = absurd (let f : ⊥ = cc in f)
+warned-some (x ∷ all) zero w at some =
+    let same : x ≡ w = same_Some x w at in
+    let passes : nat_lt 0 w.cut.count ≡ true = lt-ltb 0 w.cut.count some in
+    rw (same, passes) refl
+warned-some (x ∷ all) (suc i) w at some = let next : suc i + 1 ≡ suc (i + 1) = omega arith in rw next (warned-some all i w at some)
+
+-- and where there are none
+pub warned-none : (all : List Warned) (i : ℕ) (w : Warned) → slice_get all i ≡ Some w → w.cut.count ≤ 0
+    → warned_members (drop i all) ≡ warned_members (drop (i + 1) all)
+warned-none [] i w at none = absurd (let f : ⊥ = cc in f)
+warned-none (x ∷ all) zero w at none =
+    let same : x ≡ w = same_Some x w at in
+    let fails : nat_lt 0 w.cut.count ≡ false = le-ltb 0 w.cut.count none in
+    rw (same, fails) refl
+warned-none (x ∷ all) (suc i) w at none = let next : suc i + 1 ≡ suc (i + 1) = omega arith in rw next (warned-none all i w at none)
+
+-- there are no codes past the last
+pub warned-past : (all : List Warned) (i : ℕ) → length all ≤ i → warned_members (drop i all) ≡ []
+warned-past all i past = ap warned_members (drop_all i all past)
+
+capped_twice : (a b m : ℕ) → min (min a m + b) m ≡ min (a + b) m
+capped_twice a b m = elim (cases_lt a m) [
+  | inl below ↦ ap (λ n. min (n + b) m) (min-eq_left (omega (arith, below)))
+  | inr past ↦
+      ap (λ n. min (n + b) m) (min-eq_right past)
+      ∙ min-eq_right (omega arith)
+      ∙ sym (min-eq_right (omega (arith, past)))
+]
+
+sum-more : (all : List Warned) (i : ℕ) (w : Warned) → i < length all → w ≡ get_or all i w
+    → sum_by (λ (x : Warned). x.cut.count) (take (i + 1) all) ≡ sum_by (λ (x : Warned). x.cut.count) (take i all) + w.cut.count
+sum-more all i w below at =
+    let count = λ (x : Warned). x.cut.count in
+    let one : sum_by count (w ∷ []) ≡ w.cut.count = omega arith in
+    ap (sum_by count) (take_more all i w below ∙ ap (λ x. take i all ++ x ∷ []) (sym at))
+    ∙ sum_by-append count (take i all) (w ∷ [])
+    ∙ ap (λ n. sum_by count (take i all) + n) one
+
+-- the total with one code more
+pub total-more : (all : List Warned) (i : ℕ) (w : Warned) → i < length all → w ≡ get_or all i w
+    → min (warned_total (take i all) + w.cut.count) (2 ^ 64 - 1) ≡ warned_total (take (i + 1) all)
+total-more all i w below at =
+    capped_twice (sum_by (λ (x : Warned). x.cut.count) (take i all)) w.cut.count (2 ^ 64 - 1)
+    ∙ ap (λ n. min n (2 ^ 64 - 1)) (sym (sum-more all i w below at))

@@ -24,22 +24,25 @@ use Rattle.wad_lens.specs.FindingLine.{level_line}
 use Rattle.wad_lens.specs.FormatLine.{format_text}
 use Rattle.wad_lens.specs.LevelLines.{AreCounted, AreTold, judged_text}
 use Rattle.wad_lens.specs.Survey.{graver}
-use Rattle.wad_lens.specs.Totals.{format_totals, judged_totals, no_totals, totals_with, verdict_of_totals}
+use Rattle.wad_lens.specs.Totals.{format_totals, judged_totals, no_totals, totals_with, verdict_with}
+use Rattle.wad_lens.specs.Warned.{AreAskedFor, Warned, kept_count, warned_total}
 use Rattle.wad_lens.specs.declared.check.Question.{Question}
+use Rattle.wad_lens.specs.declared.judging.Judging.{Judging}
+use Rattle.wad_lens.specs.declared.judging.Warnings.{Warnings}
 use Rattle.wad_lens.specs.declared.totals.Totals.{Totals}
 use Rattle.wad_lens.specs.declared.verdict.FileFault.{FileFault}
 use Rattle.wad_lens.specs.declared.verdict.FileFault.TheVariants.{NoWad, Write, Memory}
 use Rattle.wad_lens.specs.declared.verdict.Verdict.{Verdict}
 
--- how a run is asked for: the file's path, how many findings of a code are shown at most, and the reading
+-- how a run is asked for: the file's path, how many findings of a code are shown at most, and how levels are judged
 pub record Asked : Type 0 where
   pub path : List ℕ
   pub most : ℕ
-  pub reading : Reading
+  pub judging : Judging
 
 -- what a question asks
 abbrev pub asked_of : Question → Asked
-asked_of question = record { path = question.path.now; most = question.most; reading = question.reading }
+asked_of question = record { path = question.path.now; most = question.most; judging = question.judging }
 
 -- the level at a label isn't sound under the signed reading, and is under the wide one
 pub record IsSoundWideAlone (files : List Wad) (g : ℕ) (reading : Reading) (level : Level) : Type 0 where
@@ -49,20 +52,22 @@ pub record IsSoundWideAlone (files : List Wad) (g : ℕ) (reading : Reading) (le
   pub there : IsLevelAt files g Wide wide
   pub sound : IsSound wide
 
--- what is told of a level of Doom's format: its findings by what the audit finds, and whether the wide reading alone finds
--- it sound
+-- what is told of a level of Doom's format: its findings by what the audit finds, its warnings where they are asked for, and
+-- whether the wide reading alone finds it sound
 pub record IsJudged (asked : Asked) (files : List Wad) (g : ℕ) (name text : List ℕ) (totals : Totals) : Type 0 where
   pub level : Level
-  pub there : IsLevelAt files g asked.reading level
+  pub there : IsLevelAt files g asked.judging.reading level
   pub counts : List ℕ
   pub are_counts : AreCounts (AuditHolds level) counts
   pub told : Code → List ℕ
   pub are_told : AreTold (AuditHolds level) told
   pub counted : AreCounted counts told
+  pub warned : List Warned
+  pub are_warned : AreAskedFor asked.judging.warnings level (kept_count asked.most) warned
   pub sound_wide : Bool
-  pub wide : IsTrue sound_wide ↔ IsSoundWideAlone files g asked.reading level
-  pub is : text ≡ judged_text asked.path name asked.most level told sound_wide
-  pub adds : totals ≡ judged_totals counts
+  pub wide : IsTrue sound_wide ↔ IsSoundWideAlone files g asked.judging.reading level
+  pub is : text ≡ judged_text asked.path name asked.most level told warned sound_wide
+  pub adds : totals ≡ judged_totals counts (warned_total warned)
 
 -- what is told of a level by its format
 abbrev pub IsToldBy : Format → Asked → List Wad → ℕ → List ℕ → List ℕ → Totals → Type 0
@@ -106,7 +111,7 @@ pub record StopsWriting (asked : Asked) (files : List Wad) (before after : SinkS
   pub is : IsLevelText asked files g line totals
   pub took : TakesFront before after (text ++ line)
   pub failed : after.failed ≡ true
-  pub says : found ≡ graver (verdict_of_totals sum) (verdict_of_totals totals)
+  pub says : found ≡ graver (verdict_with asked.judging.warnings sum) (verdict_with asked.judging.warnings totals)
 
 -- there was no memory to judge the level behind those that were told
 pub record StopsJudging (asked : Asked) (files : List Wad) (before after : SinkState) : Type 0 where
@@ -134,22 +139,22 @@ pub record WantsMemory {W T : Type 0} (out out' : W) (result : Result T FileFaul
   pub untouched : out' ≡ out
 
 -- the end of a level's text: its totals, where the text was written
-abbrev pub text_end : Totals → Result (Unit {0}) IoFault → Result Totals FileFault
-text_end totals (Ok x) = Ok totals
-text_end totals (Err fault) = Err (Write (verdict_of_totals totals))
+abbrev pub text_end : Warnings → Totals → Result (Unit {0}) IoFault → Result Totals FileFault
+text_end warnings totals (Ok x) = Ok totals
+text_end warnings totals (Err fault) = Err (Write (verdict_with warnings totals))
 
 -- a text was written whose level has these totals
-pub record WritesText (Is : List ℕ → Totals → Type 0) (before after : SinkState) (result : Result Totals FileFault) : Type 0 where
+pub record WritesText (warnings : Warnings) (Is : List ℕ → Totals → Type 0) (before after : SinkState) (result : Result Totals FileFault) : Type 0 where
   pub text : List ℕ
   pub totals : Totals
   pub is : Is text totals
   pub outcome : Result (Unit {0}) IoFault
   pub writes : Writes before after text outcome
-  pub ended : result ≡ text_end totals outcome
+  pub ended : result ≡ text_end warnings totals outcome
 
 -- one of the two
-abbrev pub ChecksText : {W : Type 0} → (W → SinkState) → (List ℕ → Totals → Type 0) → W → W → Result Totals FileFault → Type 0
-ChecksText state Is out out' result = WantsMemory out out' result ⊎ WritesText Is (state out) (state out') result
+abbrev pub ChecksText : {W : Type 0} → (W → SinkState) → Warnings → (List ℕ → Totals → Type 0) → W → W → Result Totals FileFault → Type 0
+ChecksText state warnings Is out out' result = WantsMemory out out' result ⊎ WritesText warnings Is (state out) (state out') result
 
 -- why a file isn't checked: its bytes have no directory, or a growth was refused
 abbrev pub RefusesCheck : List ℕ → FileFault → Type 0

@@ -46,4 +46,4 @@ abbrev pub CheckedIsSound : Type 0
 CheckedIsSound =
     (asked : Asked) (files : List Wad) (before after : SinkState) (totals : Totals) → ChecksAll asked files before after totals
     → ((g : ℕ) → LevelStartsAt (names files) g → IsFormat files g Doom)
-    → (totals.faults ≡ 0) ↔ ((g : ℕ) (level : Level) → LevelStartsAt (names files) g → IsLevelAt files g asked.reading level → IsSound level)
+    → (totals.faults ≡ 0) ↔ ((g : ℕ) (level : Level) → LevelStartsAt (names files) g → IsLevelAt files g asked.judging.reading level → IsSound level)

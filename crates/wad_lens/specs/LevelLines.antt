@@ -8,6 +8,7 @@ use Rattle.map_level.specs.declared.finding.Code.{Code}
 use Rattle.wad_lens.specs.Counts.{report_order}
 use Rattle.wad_lens.specs.FindingLine.{finding_line, level_line}
 use Rattle.wad_lens.specs.Kind.{code_text}
+use Rattle.wad_lens.specs.Warned.{Warned, warned_text}
 
 -- the indexes at which something holds, ascending, and no others
 pub record AreIndexes (holds : ℕ → Type 0) (indexes : List ℕ) : Type 0 where
@@ -51,6 +52,7 @@ wide_part path name is_sound = if is_sound then level_line path name (codes "sou
 abbrev pub AreCounted : List ℕ → (Code → List ℕ) → Type 0
 AreCounted counts told = (code : Code) → length (told code) ≡ slice_index counts (place code)
 
--- the lines of a judged level
-abbrev pub judged_text : List ℕ → List ℕ → ℕ → Level → (Code → List ℕ) → Bool → List ℕ
-judged_text path name most level told sound_wide = findings_part path name most level told ++ wide_part path name sound_wide
+-- the lines of a judged level: its findings, its warnings, and whether the wide reading alone finds it sound
+abbrev pub judged_text : List ℕ → List ℕ → ℕ → Level → (Code → List ℕ) → List Warned → Bool → List ℕ
+judged_text path name most level told warned sound_wide =
+    findings_part path name most level told ++ (warned_text path name level warned ++ wide_part path name sound_wide)

@@ -12,6 +12,10 @@ use Rattle.wad_dir.specs.declared.wad.WadFault.TheVariants as wad
 use Rattle.wad_lens.specs.Counts.{fault_total, note_total, report_order}
 use Rattle.wad_lens.specs.JsonString.{bool_text, json_string}
 use Rattle.wad_lens.specs.Kind.{code_text}
+use Rattle.wad_lens.specs.Warned.{Warned}
+use Rattle.wad_lens.specs.WarningLine.{warning_name}
+use Rattle.wad_lens.specs.declared.judging.Warnings.{Warnings}
+use Rattle.wad_lens.specs.declared.judging.Warnings.TheVariants.{Unasked, Told, Strict}
 use Rattle.wad_lens.specs.declared.object.Refusal.{Refusal}
 use Rattle.wad_lens.specs.declared.object.Refusal.TheVariants.{Unopened, Unread, TooLarge, NoWad}
 
@@ -86,11 +90,26 @@ findings_text counts = join_with_byte 44 (count_members counts report_order)
 -- what was found at a level, by the counts of all codes
 abbrev pub found_members : List ℕ → List ℕ
 found_members counts =
-    sound_members (fault_total counts) (note_total counts) ++ (codes ",\"findings\":{" ++ (findings_text counts ++ codes "}}\n"))
+    sound_members (fault_total counts) (note_total counts) ++ (codes ",\"findings\":{" ++ (findings_text counts ++ codes "}"))
+
+-- a code of warnings with how many there are: `"W2":12`
+abbrev pub warned_member : Warned → List ℕ
+warned_member warned = codes "\"" ++ (warning_name warned.code ++ (codes "\":" ++ decimal warned.cut.count))
+
+-- those of which there are some, with commas between them
+abbrev pub warned_members : List Warned → List (List ℕ)
+warned_members all = map warned_member (filter (λ warned. nat_lt 0 warned.cut.count) all)
+
+-- a level's warnings, where they are asked for: `,"warnings":{..}`
+abbrev pub warnings_member : Warnings → List Warned → List ℕ
+warnings_member Unasked all = []
+warnings_member Told all = codes ",\"warnings\":{" ++ (join_with_byte 44 (warned_members all) ++ codes "}")
+warnings_member Strict all = codes ",\"warnings\":{" ++ (join_with_byte 44 (warned_members all) ++ codes "}")
 
 -- what the object of a level of Doom's format ends with
-abbrev pub doom_members : Level → List ℕ → List ℕ
-doom_members level counts = flat_map (λ text. text) (lump_members level) ++ found_members counts
+abbrev pub doom_members : Level → List ℕ → Warnings → List Warned → List ℕ
+doom_members level counts warnings warned =
+    flat_map (λ text. text) (lump_members level) ++ (found_members counts ++ (warnings_member warnings warned ++ codes "}\n"))
 
 -- the usual name of a lump, by its place after the label
 abbrev pub usual_name : ℕ → List ℕ

@@ -12,12 +12,13 @@ use Rattle.line_io.specs.declared.fault.IoFault.{IoFault}
 use Rattle.map_audit.specs.Findings.{AuditHolds}
 use Rattle.map_level.specs.Level.{Level}
 use Rattle.map_level.specs.Opening.{IsLevelAt}
-use Rattle.map_level.specs.declared.reading.Reading.{Reading}
 use Rattle.wad_dir.specs.Entries.{names}
 use Rattle.wad_dir.specs.Refusal.{RefusesWad}
 use Rattle.wad_dir.specs.Wad.{IsRead, Wad}
 use Rattle.wad_lens.specs.Counts.{AreCounts, fault_total}
 use Rattle.wad_lens.specs.Objects.{doom_members, level_members, other_members}
+use Rattle.wad_lens.specs.Warned.{AreAskedFor, Warned, warned_total, warned_verdict}
+use Rattle.wad_lens.specs.declared.judging.Judging.{Judging}
 use Rattle.wad_lens.specs.declared.verdict.FileFault.{FileFault}
 use Rattle.wad_lens.specs.declared.verdict.FileFault.TheVariants.{NoWad, Write, Memory}
 use Rattle.wad_lens.specs.declared.verdict.Verdict.{Verdict}
@@ -49,19 +50,21 @@ verdict_of_format Doom = Clean
 abbrev pub verdict_of_counts : List ℕ → Verdict
 verdict_of_counts counts = if fault_total counts == 0 then Clean else Faulty
 
--- what a level's object ends with, and its verdict, by what its audit finds
-pub record IsJudged (files : List Wad) (reading : Reading) (g : ℕ) (members : List ℕ) (verdict : Verdict) : Type 0 where
+-- what a level's object ends with, and its verdict, by what its audit finds and, where they are asked for, its warnings
+pub record IsJudged (files : List Wad) (judging : Judging) (g : ℕ) (members : List ℕ) (verdict : Verdict) : Type 0 where
   pub level : Level
-  pub there : IsLevelAt files g reading level
+  pub there : IsLevelAt files g judging.reading level
   pub counts : List ℕ
   pub are : AreCounts (AuditHolds level) counts
-  pub ends : members ≡ doom_members level counts
-  pub says : verdict ≡ verdict_of_counts counts
+  pub warned : List Warned
+  pub are_warned : AreAskedFor judging.warnings level 0 warned
+  pub ends : members ≡ doom_members level counts judging.warnings warned
+  pub says : verdict ≡ graver (verdict_of_counts counts) (warned_verdict judging.warnings (warned_total warned))
 
 -- what the object of a level ends with, and its verdict, by the level's format: only Doom's is judged
-abbrev pub EndsObject : List Wad → Reading → ℕ → Format → List ℕ → Verdict → Type 0
-EndsObject files reading g Doom members verdict = IsJudged files reading g members verdict
-EndsObject files reading g format members verdict = (members ≡ other_members format) × (verdict ≡ verdict_of_format format)
+abbrev pub EndsObject : List Wad → Judging → ℕ → Format → List ℕ → Verdict → Type 0
+EndsObject files judging g Doom members verdict = IsJudged files judging g members verdict
+EndsObject files judging g format members verdict = (members ≡ other_members format) × (verdict ≡ verdict_of_format format)
 
 -- what is told of a level
 pub record Told : Type 0 where
@@ -69,20 +72,20 @@ pub record Told : Type 0 where
   pub verdict : Verdict
 
 -- what is told of the level that starts at an entry
-pub record IsTold (path : List ℕ) (files : List Wad) (reading : Reading) (g : ℕ) (told : Told) : Type 0 where
+pub record IsTold (path : List ℕ) (files : List Wad) (judging : Judging) (g : ℕ) (told : Told) : Type 0 where
   pub format : Format
   pub is : IsFormat files g format
   pub name : List ℕ
   pub named : slice_get (names files) g ≡ Some name
   pub members : List ℕ
-  pub ends : EndsObject files reading g format members told.verdict
+  pub ends : EndsObject files judging g format members told.verdict
   pub line : told.line ≡ level_members path name g format ++ members
 
 -- what is told of the levels that start at some entries, in their order
-abbrev pub AreTold : List ℕ → List Wad → Reading → List ℕ → List Told → Type 0
-AreTold path files reading [] [] = Unit {0}
-AreTold path files reading (g ∷ starts) (told ∷ others) = IsTold path files reading g told × AreTold path files reading starts others
-AreTold path files reading _ _ = ⊥
+abbrev pub AreTold : List ℕ → List Wad → Judging → List ℕ → List Told → Type 0
+AreTold path files judging [] [] = Unit {0}
+AreTold path files judging (g ∷ starts) (told ∷ others) = IsTold path files judging g told × AreTold path files judging starts others
+AreTold path files judging _ _ = ⊥
 
 -- all entries below a number at which levels start, ascending
 pub record AreStartsBelow (names : List (List ℕ)) (end : ℕ) (starts : List ℕ) : Type 0 where
@@ -90,10 +93,10 @@ pub record AreStartsBelow (names : List (List ℕ)) (end : ℕ) (starts : List �
   pub exact : (g : ℕ) → Contains starts g ↔ (LevelStartsAt names g × (g < end))
 
 -- what is told of the levels that start below an entry
-pub record AreToldBelow (path : List ℕ) (files : List Wad) (reading : Reading) (end : ℕ) (told : List Told) : Type 0 where
+pub record AreToldBelow (path : List ℕ) (files : List Wad) (judging : Judging) (end : ℕ) (told : List Told) : Type 0 where
   pub starts : List ℕ
   pub are : AreStartsBelow (names files) end starts
-  pub each : AreTold path files reading starts told
+  pub each : AreTold path files judging starts told
 
 -- their lines
 abbrev pub lines_of : List Told → List ℕ
@@ -104,9 +107,9 @@ abbrev pub gravest : List Told → Verdict
 gravest told = fold (λ verdict one. graver verdict one.verdict) Clean told
 
 -- all levels were told, and their lines were taken
-pub record SurveysAll (path : List ℕ) (files : List Wad) (reading : Reading) (before after : SinkState) (verdict : Verdict) : Type 0 where
+pub record SurveysAll (path : List ℕ) (files : List Wad) (judging : Judging) (before after : SinkState) (verdict : Verdict) : Type 0 where
   pub told : List Told
-  pub are : AreToldBelow path files reading (length (names files)) told
+  pub are : AreToldBelow path files judging (length (names files)) told
   pub took : Appends before.taken after.taken (lines_of told)
   pub sound : after.failed ≡ false
   pub says : verdict ≡ gravest told
@@ -118,16 +121,16 @@ StopsLines before after told Memory = Appends before.taken after.taken (lines_of
 StopsLines before after told (NoWad why) = ⊥
 
 -- the levels up to some entry were told, and no others
-pub record SurveysSome (path : List ℕ) (files : List Wad) (reading : Reading) (before after : SinkState) (fault : FileFault) : Type 0 where
+pub record SurveysSome (path : List ℕ) (files : List Wad) (judging : Judging) (before after : SinkState) (fault : FileFault) : Type 0 where
   pub end : ℕ
   pub told : List Told
-  pub are : AreToldBelow path files reading end told
+  pub are : AreToldBelow path files judging end told
   pub stops : StopsLines before after told fault
 
 -- a survey of all levels of some files
-pub record Surveys (path : List ℕ) (files : List Wad) (reading : Reading) (before after : SinkState) (result : Result Verdict FileFault) : Type 0 where
-  pub all : IfOk result (SurveysAll path files reading before after)
-  pub some : IfErr result (SurveysSome path files reading before after)
+pub record Surveys (path : List ℕ) (files : List Wad) (judging : Judging) (before after : SinkState) (result : Result Verdict FileFault) : Type 0 where
+  pub all : IfOk result (SurveysAll path files judging before after)
+  pub some : IfErr result (SurveysSome path files judging before after)
 
 -- why a file isn't surveyed: its bytes have no directory, or a growth was refused
 abbrev pub RefusesSurvey : List ℕ → FileFault → Type 0
@@ -143,16 +146,16 @@ pub record LeavesFile {W : Type 0} (bytes : List ℕ) (out out' : W) (result : R
   pub untouched : out' ≡ out
 
 -- the file's levels were surveyed
-pub record SurveysFile (path bytes : List ℕ) (reading : Reading) (before after : SinkState) (result : Result Verdict FileFault) : Type 0 where
+pub record SurveysFile (path bytes : List ℕ) (judging : Judging) (before after : SinkState) (result : Result Verdict FileFault) : Type 0 where
   pub file : Wad
   pub of_bytes : file.bytes ≡ bytes
   pub read : IsRead file
-  pub does : Surveys path (file ∷ []) reading before after result
+  pub does : Surveys path (file ∷ []) judging before after result
 
 -- over a file of these bytes and a sink, of which clauses see its state
-abbrev pub RunsSurvey : {W : Type 0} → (W → SinkState) → List ℕ → List ℕ → Reading → W → W → Result Verdict FileFault → Type 0
-RunsSurvey state path bytes reading out out' result =
-    LeavesFile bytes out out' result ⊎ SurveysFile path bytes reading (state out) (state out') result
+abbrev pub RunsSurvey : {W : Type 0} → (W → SinkState) → List ℕ → List ℕ → Judging → W → W → Result Verdict FileFault → Type 0
+RunsSurvey state path bytes judging out out' result =
+    LeavesFile bytes out out' result ⊎ SurveysFile path bytes judging (state out) (state out') result
 
 -- the end of a level's line: its verdict, where the line was written
 abbrev pub line_end : Verdict → Result (Unit {0}) IoFault → Result Verdict FileFault
@@ -166,10 +169,10 @@ pub record WritesLine (before after : SinkState) (line : List ℕ) (verdict : Ve
   pub ended : result ≡ line_end verdict outcome
 
 -- the line of a level of Doom's format was written, by what its audit finds
-pub record WritesDoom (path : List ℕ) (files : List Wad) (reading : Reading) (name : List ℕ) (g : ℕ) (before after : SinkState) (result : Result Verdict FileFault) : Type 0 where
+pub record WritesDoom (path : List ℕ) (files : List Wad) (judging : Judging) (name : List ℕ) (g : ℕ) (before after : SinkState) (result : Result Verdict FileFault) : Type 0 where
   pub members : List ℕ
   pub verdict : Verdict
-  pub judged : IsJudged files reading g members verdict
+  pub judged : IsJudged files judging g members verdict
   pub writes : WritesLine before after (level_members path name g Doom ++ members) verdict result
 
 -- nothing was written for want of memory
@@ -178,17 +181,17 @@ pub record WantsMemory {W : Type 0} (out out' : W) (result : Result Verdict File
   pub untouched : out' ≡ out
 
 -- one of the two
-abbrev pub SurveysDoom : {W : Type 0} → (W → SinkState) → List ℕ → List Wad → Reading → List ℕ → ℕ → W → W → Result Verdict FileFault → Type 0
-SurveysDoom state path files reading name g out out' result =
-    WantsMemory out out' result ⊎ WritesDoom path files reading name g (state out) (state out') result
+abbrev pub SurveysDoom : {W : Type 0} → (W → SinkState) → List ℕ → List Wad → Judging → List ℕ → ℕ → W → W → Result Verdict FileFault → Type 0
+SurveysDoom state path files judging name g out out' result =
+    WantsMemory out out' result ⊎ WritesDoom path files judging name g (state out) (state out') result
 
 -- the line of a level was written
-pub record WritesLevel (path : List ℕ) (files : List Wad) (reading : Reading) (g : ℕ) (before after : SinkState) (result : Result Verdict FileFault) : Type 0 where
+pub record WritesLevel (path : List ℕ) (files : List Wad) (judging : Judging) (g : ℕ) (before after : SinkState) (result : Result Verdict FileFault) : Type 0 where
   pub told : Told
-  pub is : IsTold path files reading g told
+  pub is : IsTold path files judging g told
   pub writes : WritesLine before after told.line told.verdict result
 
 -- or nothing was
-abbrev pub SurveysLevel : {W : Type 0} → (W → SinkState) → List ℕ → List Wad → Reading → ℕ → W → W → Result Verdict FileFault → Type 0
-SurveysLevel state path files reading g out out' result =
-    WantsMemory out out' result ⊎ WritesLevel path files reading g (state out) (state out') result
+abbrev pub SurveysLevel : {W : Type 0} → (W → SinkState) → List ℕ → List Wad → Judging → ℕ → W → W → Result Verdict FileFault → Type 0
+SurveysLevel state path files judging g out out' result =
+    WantsMemory out out' result ⊎ WritesLevel path files judging g (state out) (state out') result

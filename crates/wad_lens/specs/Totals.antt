@@ -4,26 +4,37 @@ use Rattle.std.specs.Fmt.{decimal}
 use Rattle.level_list.specs.declared.format.Format.{Format}
 use Rattle.level_list.specs.declared.format.Format.TheVariants.{Udmf, Incomplete, Hexen, Outside, Extended, Doom}
 use Rattle.wad_lens.specs.Counts.{fault_total, note_total}
+use Rattle.wad_lens.specs.Survey.{graver}
+use Rattle.wad_lens.specs.Warned.{warned_verdict}
+use Rattle.wad_lens.specs.declared.judging.Warnings.{Warnings}
+use Rattle.wad_lens.specs.declared.judging.Warnings.TheVariants.{Unasked, Told, Strict}
 use Rattle.wad_lens.specs.declared.totals.Totals.{Totals}
 use Rattle.wad_lens.specs.declared.verdict.Verdict.{Verdict}
 use Rattle.wad_lens.specs.declared.verdict.Verdict.TheVariants.{Clean, Unjudged, Faulty}
 
 -- of no level
 abbrev pub no_totals : Totals
-no_totals = record { levels = 0; faults = 0; notes = 0; broken = 0; unread = 0 }
+no_totals = record { levels = 0; faults = 0; notes = 0; warnings = 0; broken = 0; unread = 0 }
 
--- of a judged level, of which each code holds so often
-abbrev pub judged_totals : List ℕ → Totals
-judged_totals counts = record { levels = 1; faults = fault_total counts; notes = note_total counts; broken = 0; unread = 0 }
+-- of a judged level, of which each code holds so often, with so many warnings
+abbrev pub judged_totals : List ℕ → ℕ → Totals
+judged_totals counts warnings = record {
+  levels = 1;
+  faults = fault_total counts;
+  notes = note_total counts;
+  warnings = warnings;
+  broken = 0;
+  unread = 0;
+}
 
 -- of a level of another format than Doom's: one that lacks a lump is broken, and the others aren't read
 abbrev pub format_totals : Format → Totals
-format_totals Udmf = record { levels = 1; faults = 0; notes = 0; broken = 0; unread = 1 }
-format_totals (Incomplete k) = record { levels = 1; faults = 0; notes = 0; broken = 1; unread = 0 }
-format_totals Hexen = record { levels = 1; faults = 0; notes = 0; broken = 0; unread = 1 }
-format_totals (Outside k) = record { levels = 1; faults = 0; notes = 0; broken = 1; unread = 0 }
-format_totals (Extended tag) = record { levels = 1; faults = 0; notes = 0; broken = 0; unread = 1 }
-format_totals Doom = record { levels = 1; faults = 0; notes = 0; broken = 0; unread = 0 }
+format_totals Udmf = record { levels = 1; faults = 0; notes = 0; warnings = 0; broken = 0; unread = 1 }
+format_totals (Incomplete k) = record { levels = 1; faults = 0; notes = 0; warnings = 0; broken = 1; unread = 0 }
+format_totals Hexen = record { levels = 1; faults = 0; notes = 0; warnings = 0; broken = 0; unread = 1 }
+format_totals (Outside k) = record { levels = 1; faults = 0; notes = 0; warnings = 0; broken = 1; unread = 0 }
+format_totals (Extended tag) = record { levels = 1; faults = 0; notes = 0; warnings = 0; broken = 0; unread = 1 }
+format_totals Doom = record { levels = 1; faults = 0; notes = 0; warnings = 0; broken = 0; unread = 0 }
 
 -- a sum in 64 bits, which stops at the greatest number
 abbrev pub capped : ℕ → ℕ → ℕ
@@ -35,23 +46,33 @@ totals_with a b = record {
   levels = capped a.levels b.levels;
   faults = capped a.faults b.faults;
   notes = capped a.notes b.notes;
+  warnings = capped a.warnings b.warnings;
   broken = capped a.broken b.broken;
   unread = capped a.unread b.unread;
 }
 
--- what totals say
+-- what totals say, warnings aside
 abbrev pub verdict_of_totals : Totals → Verdict
 verdict_of_totals totals =
     if totals.faults == 0 then (if totals.broken == 0 then (if totals.unread == 0 then Clean else Unjudged) else Faulty) else Faulty
 
--- `N levels in M files: F faults, K notes, U not judged`
+-- what they say where warnings are asked for so
+abbrev pub verdict_with : Warnings → Totals → Verdict
+verdict_with warnings totals = graver (verdict_of_totals totals) (warned_verdict warnings totals.warnings)
+
+-- `N levels in M files: F faults, K notes, U not judged`, with `V warnings, ` where they are asked for
 abbrev pub levels_text : ℕ → Totals → List ℕ
 levels_text files totals = decimal totals.levels ++ (codes " levels in " ++ (decimal files ++ codes " files: "))
 
-abbrev pub found_text : Totals → List ℕ
-found_text totals =
-    decimal totals.faults ++ (codes " faults, " ++ (decimal totals.notes ++ (codes " notes, "
-    ++ (decimal (capped totals.broken totals.unread) ++ (codes " not judged" ++ 10 ∷ [])))))
+abbrev pub warnings_text : Warnings → ℕ → List ℕ → List ℕ
+warnings_text Unasked count rest = rest
+warnings_text Told count rest = decimal count ++ (codes " warnings, " ++ rest)
+warnings_text Strict count rest = decimal count ++ (codes " warnings, " ++ rest)
 
-abbrev pub totals_line : ℕ → Totals → List ℕ
-totals_line files totals = levels_text files totals ++ found_text totals
+abbrev pub found_text : Warnings → Totals → List ℕ
+found_text warnings totals =
+    decimal totals.faults ++ (codes " faults, " ++ (decimal totals.notes ++ (codes " notes, "
+    ++ warnings_text warnings totals.warnings (decimal (capped totals.broken totals.unread) ++ (codes " not judged" ++ 10 ∷ [])))))
+
+abbrev pub totals_line : ℕ → Warnings → Totals → List ℕ
+totals_line files warnings totals = levels_text files totals ++ found_text warnings totals

@@ -11,11 +11,13 @@ ghost use Rattle.wad_lens.specs.Counts.{AreCounts};
 
 use crate::counts::Counts;
 use crate::judged::Judged;
+use crate::judging::{Judging, Warnings};
 use crate::level_lines::write_judged;
 use crate::lines::{Heading, write_format};
 use crate::survey::{label_of, level_at};
-use crate::totals::{Totals, format_totals, judged_totals, no_totals};
+use crate::totals::{Totals, format_totals, judged_totals};
 use crate::verdict::FileFault;
+use crate::warned::{Warned, asked_warnings, kept_count, warned_total};
 use le_rec::Sink;
 use level_list::{Format, format_of, next_start};
 use line_io::IoFault;
@@ -29,16 +31,16 @@ use wad_dir::{Set, SetFault};
 pub struct Question<'p> {
     /// The file's path, as it is written before each line. Nothing is looked up by it.
     pub path: &'p [u8],
-    /// How many findings of one code are shown of a level at most; 0: all.
+    /// How many findings, or warnings, of one code are shown of a level at most; 0: all.
     pub most: u64,
-    pub reading: Reading,
+    pub judging: Judging,
 }
 
 /// Writes what is found at each level of a file, hidden ones too, in the order of their labels, and answers what it adds up
 /// to.
 ///
 /// `NoWad` comes before anything is written, and so may `Memory`; a later `Memory` comes between the lines of two levels,
-/// `Write` within those of one. No finding is kept.
+/// `Write` within those of one. No finding is kept, and of the warnings those that are shown of one level.
 pub fn check_file<A: Allocator + Copy, W: Sink>(
     alloc: A,
     question: &Question<'_>,
@@ -66,12 +68,12 @@ fn check_set<A: Allocator + Copy, W: Sink>(
     ensures { Checks (asked_of question.now) set.now (W.state out.old) (W.state out.new) result }
 {
     let total = set.total();
-    let mut sum = no_totals();
+    let mut sum = Totals::none();
     let mut from = 0;
     'levels: while let Some(g) = next_start(set, from) {
         let totals = match check_level(alloc, question, set, g, out) {
             Ok(totals) => totals,
-            Err(fault) => return Err(fault.after(sum.verdict())),
+            Err(fault) => return Err(fault.after(sum.verdict_with(question.judging.warnings))),
         };
         sum = sum.with(totals);
         from = g + 1;
@@ -89,7 +91,7 @@ fn check_level<A: Allocator + Copy, W: Sink>(
 ) -> Result<Totals, FileFault>
     requires starts { LevelStartsAt (names set.now) g }
     requires sound { (W.state out.old).failed ≡ false }
-    ensures { ChecksText W.state (IsLevelText (asked_of question.now) set.now g) out.old out.new result }
+    ensures { ChecksText W.state question.now.judging.warnings (IsLevelText (asked_of question.now) set.now g) out.old out.new result }
 {
     let heading = Heading {
         path: question.path,
@@ -97,7 +99,11 @@ fn check_level<A: Allocator + Copy, W: Sink>(
     };
     match format_of(set, g) {
         Format::Doom => check_doom(alloc, question, &heading, set, g, out),
-        format => text_end(format_totals(format), write_format(&heading, format, out)),
+        format => text_end(
+            question.judging.warnings,
+            format_totals(format),
+            write_format(&heading, format, out),
+        ),
     }
 }
 
@@ -113,10 +119,15 @@ fn check_doom<A: Allocator + Copy, W: Sink>(
     requires is { IsFormat set.now g format.Doom }
     requires path { heading.now.path.now ≡ question.now.path.now }
     requires sound { (W.state out.old).failed ≡ false }
-    ensures { ChecksText W.state (IsJudged (asked_of question.now) set.now g heading.now.name) out.old out.new result }
+    ensures { ChecksText W.state question.now.judging.warnings (IsJudged (asked_of question.now) set.now g heading.now.name) out.old out.new result }
 {
-    let level = level_at(set, g, question.reading);
-    let Ok(told) = judge(alloc, set, g, question.reading, &level) else {
+    let judging = question.judging;
+    let level = level_at(set, g, judging.reading);
+    let most = kept_count(question.most);
+    let Ok(told) = judge(alloc, set, g, judging.reading, &level) else {
+        return Err(FileFault::Memory);
+    };
+    let Ok(warned) = asked_warnings(alloc, &level, most, judging.warnings) else {
         return Err(FileFault::Memory);
     };
     let wrote = write_judged(
@@ -124,10 +135,12 @@ fn check_doom<A: Allocator + Copy, W: Sink>(
         heading,
         question.most,
         &told.counts,
+        &warned,
         told.sound_wide,
         out,
     );
-    text_end(judged_totals(&told.counts), wrote)
+    let totals = judged_totals(&told.counts, warned_total(&warned));
+    text_end(judging.warnings, totals, wrote)
 }
 
 // What a level's lines are made of.
@@ -221,11 +234,15 @@ fn is_sound_wide_alone<A: Allocator + Copy>(
 }
 
 // The end of a level's text: its totals, where the text was written.
-fn text_end(totals: Totals, wrote: Result<(), IoFault>) -> Result<Totals, FileFault>
-    ensures { result ≡ text_end totals wrote }
+fn text_end(
+    warnings: Warnings,
+    totals: Totals,
+    wrote: Result<(), IoFault>,
+) -> Result<Totals, FileFault>
+    ensures { result ≡ text_end warnings totals wrote }
 {
     match wrote {
         Ok(()) => Ok(totals),
-        Err(_) => Err(FileFault::Write(totals.verdict())),
+        Err(_) => Err(FileFault::Write(totals.verdict_with(warnings))),
     }
 }

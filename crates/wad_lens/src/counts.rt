@@ -8,47 +8,10 @@ ghost use Rattle.std.specs.Prelude.{slice_index_or};
 ghost use Rattle.wad_lens.specs.Counts.{AreCounts, IsCount, fault_total, note_total, report_order};
 
 use map_audit::Parts;
-use map_level::search::Search;
+use map_level::search::{CODE_COUNT, CODES, Search};
 use map_level::{Code, Level};
 use std::alloc::{AllocError, Allocator};
 use std::marker::Model;
-
-/// How many codes there are.
-pub const CODE_COUNT: usize = 30;
-
-/// The codes in the order of a report.
-const CODES: [Code; CODE_COUNT] = [
-    Code::F1,
-    Code::F2,
-    Code::F3,
-    Code::F4,
-    Code::F5,
-    Code::F6,
-    Code::F7,
-    Code::F8,
-    Code::F9,
-    Code::F10,
-    Code::F11,
-    Code::F12,
-    Code::F13,
-    Code::F14,
-    Code::F15,
-    Code::F16,
-    Code::F17,
-    Code::F18,
-    Code::N1,
-    Code::N2,
-    Code::N3,
-    Code::N4,
-    Code::N5,
-    Code::N6,
-    Code::N7,
-    Code::N8,
-    Code::N9,
-    Code::N10,
-    Code::N11,
-    Code::N12,
-];
 
 /// How often each code holds of a level, by the codes' places.
 #[derive(Drop)]
@@ -58,7 +21,7 @@ pub struct Counts {
 
 impl Model for Counts {
     ghost use Rattle.std.specs.Prelude.{◌≡◌, List, ℕ, length};
-    ghost use Rattle.wad_lens.specs.declared.counts.TheConstants.{CODE_COUNT};
+    ghost use Rattle.map_level.specs.declared.search.TheConstants.{CODE_COUNT};
 
     ghost Value = { List ℕ };
 

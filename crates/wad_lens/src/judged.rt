@@ -56,6 +56,13 @@ impl<'l, 'a, A: Allocator + Copy> Judged<'l, 'a, A> {
 }
 
 impl<'l, 'a, A: Allocator> Judged<'l, 'a, A> {
+    /// The level.
+    pub fn level(&self) -> &'l Level<'a>
+        ensures { result.now ≡ self.now }
+    {
+        self.level
+    }
+
     /// How often each code holds.
     pub fn counts(&self) -> Counts
         ensures { AreCounts (AuditHolds self.now) result }

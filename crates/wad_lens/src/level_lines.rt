@@ -1,27 +1,32 @@
 //! The lines of a level.
 
-ghost use Rattle.std.specs.Prelude.{◌≡◌, ◌-◌, ◌≤◌, ℕ, List, false, length, take};
+ghost use Rattle.std.specs.Prelude.{◌≡◌, ◌-◌, ◌≤◌, ◌++◌, ℕ, List, false, length, take};
 ghost use Rattle.line_io.specs.Writes.{EndsWriting, Writes};
 ghost use Rattle.map_audit.specs.Findings.{AuditHolds};
 ghost use Rattle.wad_lens.specs.LevelLines.{AreCounted, AreIndexes, AreTold, code_lines, code_part, findings_part, judged_text};
 ghost use Rattle.wad_lens.specs.LevelLines.{more_line, shown_count, wide_part};
+ghost use Rattle.wad_lens.specs.Warned.{warned_text};
 ghost use Rattle.map_level.specs.declared.finding.Code.{Code};
 
-use crate::counts::{CODE_COUNT, Counts, code_at};
+use crate::counts::{Counts, code_at};
 use crate::judged::Judged;
 use crate::kind::prepend_code;
 use crate::lines::{Heading, write_line};
+use crate::warned::{Warned, write_warned};
 use le_rec::Sink;
 use line_io::{IoFault, TextLine};
-use map_level::{Code, Finding};
+use map_level::search::CODE_COUNT;
+use map_level::{Code, Finding, Level};
 use std::alloc::Allocator;
 
-/// Writes the lines of a level, whose codes hold so many times, and whether the wide reading alone finds it sound.
+/// Writes the lines of a level, whose codes hold so many times: its findings, its warnings, and that the wide reading alone finds
+/// it sound, where it does.
 pub fn write_judged<A: Allocator, W: Sink>(
     judged: &Judged<'_, '_, A>,
     heading: &Heading<'_>,
     most: u64,
     counts: &Counts,
+    warned: &[Warned<A>],
     sound_wide: bool,
     out: &mut W,
 ) -> Result<(), IoFault>
@@ -29,9 +34,26 @@ pub fn write_judged<A: Allocator, W: Sink>(
     ensures ends { EndsWriting (W.state out.new) result }
     ensures text { (told : Code → List ℕ) → AreTold (AuditHolds judged.now) told → AreCounted counts.now told
         → Writes (W.state out.old) (W.state out.new)
-        (judged_text heading.now.path.now heading.now.name most judged.now told sound_wide) result }
+        (judged_text heading.now.path.now heading.now.name most judged.now told warned.now sound_wide) result }
 {
     write_codes(judged, heading, most, counts, out)?;
+    write_rest(judged.level(), heading, warned, sound_wide, out)
+}
+
+// Writes what stands behind a level's findings.
+fn write_rest<A: Allocator, W: Sink>(
+    level: &Level<'_>,
+    heading: &Heading<'_>,
+    warned: &[Warned<A>],
+    sound_wide: bool,
+    out: &mut W,
+) -> Result<(), IoFault>
+    requires { (W.state out.old).failed ≡ false }
+    ensures { Writes (W.state out.old) (W.state out.new)
+        (warned_text heading.now.path.now heading.now.name level.now warned.now
+        ++ wide_part heading.now.path.now heading.now.name sound_wide) result }
+{
+    write_warned(heading, level, warned, out)?;
     write_wide(heading, sound_wide, out)
 }
 

@@ -11,12 +11,13 @@ ghost use Rattle.wad_lens.specs.Owners.{AreOwners};
 
 use crate::digits::{prepend_count, prepend_short};
 use crate::kind::{Kind, kind_name, kind_of, prepend_code};
-use crate::message::{blocks_along, prepend_message};
+use crate::message::prepend_message;
 use crate::place::{place_of, prepend_place};
 use le_rec::{Name8, Sink};
 use level_list::Format;
 use line_io::{IoFault, TextLine, emit};
 use map_level::{Finding, Level, usual_name};
+use map_tables::blocks_along;
 
 /// What stands before each line of a level: its file's path and its label.
 #[derive(Clone, Copy)]
@@ -192,7 +193,7 @@ fn prepend_index_of(line: &mut TextLine, level: &Level<'_>, kind: Kind, index: u
 {
     match kind {
         Kind::Whole => {}
-        Kind::Block => prepend_block(line, blocks_along(level, 2), index),
+        Kind::Block => prepend_block(line, blocks_along(level.blockmap(), 2), index),
         _ => {
             prepend_count(line, index as usize);
             line.prepend_bytes(b" ");

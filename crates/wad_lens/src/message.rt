@@ -4,7 +4,6 @@ ghost use Rattle.std.specs.Prelude.{◌≡◌, ◌+◌, ◌<◌, ◌≤◌, ◌^
 ghost use Rattle.std.specs.List.{slice_get};
 ghost use Rattle.map_level.specs.LinkFaults.{rests};
 ghost use Rattle.map_level.specs.declared.finding.Code.TheVariants.{F3, F4, F5, F6, F7, F8, F9, F10, F11, F12, F18, N2, N8, N9, N12};
-ghost use Rattle.map_tables.specs.BlockMap.{count_of, head};
 ghost use Rattle.map_tree.specs.Child.{has, place_of};
 ghost use Rattle.map_tree.specs.Paths.{node, ssector};
 ghost use Rattle.wad_lens.specs.Message.{is_offset_inside, is_side_missing, list_text, message, missing_text};
@@ -13,10 +12,12 @@ ghost use Rattle.wad_lens.specs.Place.{index_of, spot_text};
 
 use crate::digits::{prepend_count, prepend_index, prepend_short, prepend_word};
 use crate::place::prepend_spot;
-use crate::records::{index_of, named, no_side, spot_at};
+use crate::records::{index_of, spot_at};
 use le_rec::{Table, Word};
 use line_io::TextLine;
+use map_level::links::{named, no_side};
 use map_level::{Code, Level};
+use map_tables::blocks_along;
 
 // The bit of a child word that says that it names an ssector (doomdata.h).
 const NF_SUBSECTOR: u16 = 0x8000;
@@ -149,7 +150,7 @@ fn is_side_missing(level: &Level<'_>, word: &i16) -> bool
     ensures { result ≡ is_side_missing level.now word.now }
 {
     let index = index_of(level, *word);
-    index != no_side(level) && named(&level.sidedefs(), index).is_none()
+    index != no_side(level.reading()) && named(&level.sidedefs(), index).is_none()
 }
 
 // F5
@@ -427,26 +428,7 @@ fn wanted_words(level: &Level<'_>) -> usize
     if level.blockmap().len() < 8 {
         return 4;
     }
-    4 + blocks_along(level, 2) as usize * blocks_along(level, 3) as usize
-}
-
-/// How many blocks a row or a column of BLOCKMAP has, by word 2 or 3 of its head.
-pub fn blocks_along(level: &Level<'_>, k: usize) -> u16
-    ensures value { result ≡ count_of (head level.now.blockmap k) }
-    ensures below { result < 32768 }
-{
-    let blocks = head(level.blockmap(), k);
-    if blocks < 0 { 0 } else { blocks as u16 }
-}
-
-// Signed word k of a lump.
-fn head(bytes: &[u8], k: usize) -> i16
-    ensures { result ≡ head bytes.now k }
-{
-    match Table::<Word>::of(bytes).get(k) {
-        Some(word) => word.number,
-        None => 0,
-    }
+    4 + blocks_along(level.blockmap(), 2) as usize * blocks_along(level.blockmap(), 3) as usize
 }
 
 // N10

@@ -9,15 +9,20 @@ ghost use Rattle.wad_lens.specs.JsonString.{bool_text, json_string};
 ghost use Rattle.wad_lens.specs.Objects.{HasPlace, count_member, doom_members, file_member, findings_text, format_member};
 ghost use Rattle.wad_lens.specs.Objects.{format_name, found_members, label_members, level_members, lump_members, name_string};
 ghost use Rattle.wad_lens.specs.Objects.{number_member, other_members, refusal_text, refused_object, sound_members};
-ghost use Rattle.wad_lens.specs.Objects.{telling_members, usual_name};
+ghost use Rattle.wad_lens.specs.Objects.{telling_members, usual_name, warnings_member};
 
-use crate::counts::{CODE_COUNT, Counts, code_at};
+use crate::counts::{Counts, code_at};
 use crate::json_string::write_string;
+use crate::judging::Warnings;
 use crate::kind::prepend_code;
+use crate::warned::Warned;
+use crate::warned_members::write_warnings;
 use le_rec::{Name8, Sink};
 use level_list::Format;
 use line_io::{IoFault, TextLine, emit};
+use map_level::search::CODE_COUNT;
 use map_level::{Code, Level, usual_name};
+use std::alloc::Allocator;
 use wad_dir::WadFault;
 
 /// Why a file is refused.
@@ -213,12 +218,34 @@ fn write_tag<W: Sink>(tag: &[u8; 4], out: &mut W) -> Result<(), IoFault>
 }
 
 /// Writes what the object of a level of Doom's format ends with.
-pub fn write_doom<W: Sink>(level: &Level<'_>, counts: &Counts, out: &mut W) -> Result<(), IoFault>
+pub fn write_doom<A: Allocator, W: Sink>(
+    level: &Level<'_>,
+    counts: &Counts,
+    warnings: Warnings,
+    warned: &[Warned<A>],
+    out: &mut W,
+) -> Result<(), IoFault>
     requires { (W.state out.old).failed ≡ false }
-    ensures { Writes (W.state out.old) (W.state out.new) (doom_members level.now counts.now) result }
+    ensures { Writes (W.state out.old) (W.state out.new) (doom_members level.now counts.now warnings warned.now) result }
 {
     write_lumps(level, out)?;
-    write_found(counts, out)
+    write_end(counts, warnings, warned, out)
+}
+
+// Writes what was found and what is warned of, and the object's end.
+fn write_end<A: Allocator, W: Sink>(
+    counts: &Counts,
+    warnings: Warnings,
+    warned: &[Warned<A>],
+    out: &mut W,
+) -> Result<(), IoFault>
+    requires { (W.state out.old).failed ≡ false }
+    ensures { Writes (W.state out.old) (W.state out.new)
+        (found_members counts.now ++ (warnings_member warnings warned.now ++ codes "}\n")) result }
+{
+    write_found(counts, out)?;
+    write_warnings(warnings, warned, out)?;
+    emit(out, b"}\n")
 }
 
 // Writes how many records or bytes the ten lumps have.
@@ -281,15 +308,15 @@ fn bool_text(value: bool) -> &'static [u8]
     if value { b"true" } else { b"false" }
 }
 
-// `,"findings":{<codes>}}`
+// `,"findings":{<codes>}`
 fn write_findings<W: Sink>(counts: &Counts, out: &mut W) -> Result<(), IoFault>
     requires { (W.state out.old).failed ≡ false }
     ensures { Writes (W.state out.old) (W.state out.new)
-        (codes ",\"findings\":{" ++ (findings_text counts.now ++ codes "}}\n")) result }
+        (codes ",\"findings\":{" ++ (findings_text counts.now ++ codes "}")) result }
 {
     emit(out, b",\"findings\":{")?;
     write_codes(counts, out)?;
-    emit(out, b"}}\n")
+    emit(out, b"}")
 }
 
 // Writes the codes that hold with how often, commas between them.

@@ -5,8 +5,9 @@ ghost use Rattle.map_level.specs.Links.{no_side};
 ghost use Rattle.wad_lens.specs.Owners.{AreOwners, PutsOwner};
 ghost use Rattle.wad_lens.specs.Place.{index_of, names_sidedef};
 
-use crate::records::{index_of, no_side};
+use crate::records::index_of;
 use map_level::Level;
+use map_level::links::no_side;
 use std::alloc::{AllocError, Allocator};
 
 /// For each sidedef the first linedef that names it, told by one pass over the linedefs.
@@ -57,7 +58,7 @@ fn sidedef_number(level: &Level<'_>, word: i16) -> Option<usize>
     ensures none { IfNone result ((i : ℕ) → names_sidedef level.now i word ≡ false) }
 {
     let index = index_of(level, word);
-    if index < 0 || index == no_side(level) {
+    if index < 0 || index == no_side(level.reading()) {
         return None;
     }
     Some(index as usize)

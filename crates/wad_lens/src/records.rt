@@ -1,12 +1,11 @@
 //! What the words of a level's records name under its reading.
 
 ghost use Rattle.std.specs.Prelude.{◌≡◌, ◌<ℤ◌, pos};
-ghost use Rattle.map_level.specs.Links.{named, no_side};
 ghost use Rattle.wad_lens.specs.Place.{first_spot, index_of, spot_at};
 
 use crate::place::Spot;
-use le_rec::{Record, Table};
-use map_level::{Level, Reading, number};
+use map_level::links::named;
+use map_level::{Level, number};
 
 /// A word as an index under the level's reading.
 #[inline]
@@ -15,28 +14,6 @@ pub fn index_of(level: &Level<'_>, word: i16) -> i32
     ensures below { result <ℤ pos 65536 }
 {
     number(word, level.reading())
-}
-
-/// The record that an index names.
-#[inline]
-pub fn named<R: Record>(table: &Table<'_, R>, index: i32) -> Option<R>
-    ensures { result ≡ named table.now.records index }
-{
-    if index < 0 {
-        return None;
-    }
-    table.get(index as usize)
-}
-
-/// The index that says that there is no side.
-#[inline]
-pub fn no_side(level: &Level<'_>) -> i32
-    ensures { result ≡ no_side level.now.reading }
-{
-    match level.reading() {
-        Reading::Signed => -1,
-        Reading::Wide => 65535,
-    }
 }
 
 /// Where the vertex is that a word names.

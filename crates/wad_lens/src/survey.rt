@@ -1,44 +1,49 @@
 //! The survey of a file: an object for each of its levels, a line each.
 
-ghost use Rattle.std.specs.Prelude.{◌≡◌, ◌++◌, false, Some};
+ghost use Rattle.std.specs.Prelude.{◌≡◌, ◌++◌, false, IfOk, Some};
 ghost use Rattle.std.specs.List.{slice_get};
 ghost use Rattle.level_list.specs.Format.{IsFormat};
 ghost use Rattle.level_list.specs.Starts.{LevelStartsAt};
 ghost use Rattle.level_list.specs.declared.format.Format.TheVariants as format;
 ghost use Rattle.line_io.specs.Writes.{Writes};
+ghost use Rattle.map_audit.specs.Findings.{AuditHolds};
 ghost use Rattle.map_level.specs.Opening.{IsLevelAt};
 ghost use Rattle.wad_dir.specs.Entries.{names};
+ghost use Rattle.wad_lens.specs.Counts.{AreCounts};
 ghost use Rattle.wad_lens.specs.Objects.{HasPlace, doom_members, level_members, other_members};
 ghost use Rattle.wad_lens.specs.Survey.{RunsSurvey, Surveys, SurveysDoom, SurveysLevel, WritesLine};
 ghost use Rattle.wad_lens.specs.Survey.{line_end, verdict_of_counts, verdict_of_format};
+ghost use Rattle.wad_lens.specs.Warned.{AreAskedFor};
 
 use crate::counts::Counts;
+use crate::judging::{Judging, Warnings};
 use crate::object::{write_doom, write_level, write_other};
 use crate::verdict::{FileFault, Verdict};
+use crate::warned::{Warned, asked_warnings, warned_total};
 use le_rec::{Name8, Sink};
 use level_list::{Format, format_of, next_start};
 use line_io::IoFault;
 use map_level::{Level, Reading};
-use std::alloc::Allocator;
+use std::alloc::{AllocError, Allocator};
 use wad_dir::{Set, SetFault};
 
 /// Writes an object for each level of a file, hidden ones too, in the order of their labels, and answers the gravest verdict.
 /// The path is written as it is handed in, and nothing is looked up by it.
 ///
 /// `NoWad` comes before anything is written, and so may `Memory`; a later `Memory` comes between two lines, `Write` within one.
-/// What judging a level takes is given back before the next one, and no finding is kept.
+/// What judging a level takes is given back before the next one, and no finding or warning is kept.
 pub fn survey_file<A: Allocator + Copy, W: Sink>(
     alloc: A,
     path: &[u8],
     bytes: &[u8],
-    reading: Reading,
+    judging: Judging,
     out: &mut W,
 ) -> Result<Verdict, FileFault>
     requires { (W.state out.old).failed ≡ false }
-    ensures { RunsSurvey W.state path.now bytes.now reading out.old out.new result }
+    ensures { RunsSurvey W.state path.now bytes.now judging out.old out.new result }
 {
     match Set::one(alloc, bytes) {
-        Ok(set) => survey_set(alloc, path, &set, reading, out),
+        Ok(set) => survey_set(alloc, path, &set, judging, out),
         Err(SetFault::File(_, fault)) => Err(FileFault::NoWad(fault)),
         Err(SetFault::Memory) => Err(FileFault::Memory),
     }
@@ -49,17 +54,17 @@ fn survey_set<A: Allocator + Copy, W: Sink>(
     alloc: A,
     path: &[u8],
     set: &Set<'_, A>,
-    reading: Reading,
+    judging: Judging,
     out: &mut W,
 ) -> Result<Verdict, FileFault>
     requires { (W.state out.old).failed ≡ false }
-    ensures { Surveys path.now set.now reading (W.state out.old) (W.state out.new) result }
+    ensures { Surveys path.now set.now judging (W.state out.old) (W.state out.new) result }
 {
     let total = set.total();
     let mut worst = Verdict::Clean;
     let mut from = 0;
     'levels: while let Some(g) = next_start(set, from) {
-        let verdict = match survey_level(alloc, path, set, g, reading, out) {
+        let verdict = match survey_level(alloc, path, set, g, judging, out) {
             Ok(verdict) => verdict,
             Err(fault) => return Err(fault.after(worst)),
         };
@@ -75,16 +80,16 @@ fn survey_level<A: Allocator + Copy, W: Sink>(
     path: &[u8],
     set: &Set<'_, A>,
     g: usize,
-    reading: Reading,
+    judging: Judging,
     out: &mut W,
 ) -> Result<Verdict, FileFault>
     requires starts { LevelStartsAt (names set.now) g }
     requires sound { (W.state out.old).failed ≡ false }
-    ensures { SurveysLevel W.state path.now set.now reading g out.old out.new result }
+    ensures { SurveysLevel W.state path.now set.now judging g out.old out.new result }
 {
     let name = label_of(set, g);
     match format_of(set, g) {
-        Format::Doom => survey_doom(alloc, path, set, &name, g, reading, out),
+        Format::Doom => survey_doom(alloc, path, set, &name, g, judging, out),
         format => survey_other(path, &name, g, format, out),
     }
 }
@@ -153,20 +158,20 @@ fn survey_doom<A: Allocator + Copy, W: Sink>(
     set: &Set<'_, A>,
     name: &Name8,
     g: usize,
-    reading: Reading,
+    judging: Judging,
     out: &mut W,
 ) -> Result<Verdict, FileFault>
     requires is { IsFormat set.now g format.Doom }
     requires sound { (W.state out.old).failed ≡ false }
-    ensures { SurveysDoom W.state path.now set.now reading name.now g out.old out.new result }
+    ensures { SurveysDoom W.state path.now set.now judging name.now g out.old out.new result }
 {
-    let level = level_at(set, g, reading);
-    let Ok(counts) = Counts::of(alloc, &level) else {
+    let level = level_at(set, g, judging.reading);
+    let Ok(found) = find(alloc, &level, judging.warnings) else {
         return Err(FileFault::Memory);
     };
     line_end(
-        verdict_of_counts(&counts),
-        write_doom_line(path, name, g, &level, &counts, out),
+        found.verdict(),
+        write_doom_line(path, name, g, &level, &found, out),
     )
 }
 
@@ -181,6 +186,47 @@ pub fn level_at<'a, A: Allocator>(set: &Set<'a, A>, g: usize, reading: Reading) 
     }
 }
 
+// What is found at a level.
+#[derive(Drop)]
+struct Found<A: Allocator> {
+    counts: Counts,
+    warnings: Warnings,
+    warned: Vec<Warned<A>, A>,
+}
+
+impl<A: Allocator> Found<A> {
+    ghost use Rattle.std.specs.Prelude.{◌≡◌};
+    ghost use Rattle.wad_lens.specs.Survey.{graver, verdict_of_counts};
+    ghost use Rattle.wad_lens.specs.Warned.{warned_total, warned_verdict};
+
+    // What it says.
+    fn verdict(&self) -> Verdict
+        ensures { result ≡ graver (verdict_of_counts self.now.counts) (warned_verdict self.now.warnings (warned_total self.now.warned.items)) }
+    {
+        let warned = self.warnings.verdict(warned_total(&self.warned));
+        verdict_of_counts(&self.counts).graver(warned)
+    }
+}
+
+// Finds what there is at a level. No finding and no warning is kept.
+fn find<A: Allocator + Copy>(
+    alloc: A,
+    level: &Level<'_>,
+    warnings: Warnings,
+) -> Result<Found<A>, AllocError>
+    ensures counts { IfOk result (λ found. AreCounts (AuditHolds level.now) found.counts) }
+    ensures warned { IfOk result (λ found. AreAskedFor warnings level.now 0 found.warned.items) }
+    ensures asked { IfOk result (λ found. found.warnings ≡ warnings) }
+{
+    let counts = Counts::of(alloc, level)?;
+    let warned = asked_warnings(alloc, level, 0, warnings)?;
+    Ok(Found {
+        counts,
+        warnings,
+        warned,
+    })
+}
+
 // What the counts of a level say of it.
 fn verdict_of_counts(counts: &Counts) -> Verdict
     ensures { result ≡ verdict_of_counts counts.now }
@@ -192,20 +238,21 @@ fn verdict_of_counts(counts: &Counts) -> Verdict
     }
 }
 
-fn write_doom_line<W: Sink>(
+fn write_doom_line<A: Allocator, W: Sink>(
     path: &[u8],
     name: &Name8,
     g: usize,
     level: &Level<'_>,
-    counts: &Counts,
+    found: &Found<A>,
     out: &mut W,
 ) -> Result<(), IoFault>
     requires { (W.state out.old).failed ≡ false }
     ensures { Writes (W.state out.old) (W.state out.new)
-        (level_members path.now name.now g format.Doom ++ doom_members level.now counts.now) result }
+        (level_members path.now name.now g format.Doom
+        ++ doom_members level.now found.now.counts found.now.warnings found.now.warned.items) result }
 {
     write_level(path, name, g, Format::Doom, out)?;
-    write_doom(level, counts, out)
+    write_doom(level, &found.counts, found.warnings, &found.warned, out)
 }
 
 // The end of a line's level: its verdict, where the line was written.

@@ -2,49 +2,41 @@
 
 ghost use Rattle.std.specs.Prelude.{◌≡◌, [], false};
 ghost use Rattle.line_io.specs.Writes.{Writes};
-ghost use Rattle.wad_lens.specs.Totals.{format_totals, found_text, judged_totals, levels_text, no_totals, totals_line};
+ghost use Rattle.std.specs.Prelude.{◌+◌, ◌≤◌, length};
+ghost use Rattle.wad_lens.specs.Totals.{format_totals, found_text, judged_totals, levels_text, totals_line, warnings_text};
 
 use crate::counts::Counts;
+use crate::judging::Warnings;
 use crate::lines::write_both;
 use crate::verdict::Verdict;
 use le_rec::Sink;
 use level_list::Format;
 use line_io::{IoFault, TextLine};
 
-/// How many levels there are, their faults and notes, and how many of the levels aren't judged. Each number stops at the
-/// greatest of 64 bits.
+/// How many levels there are, their faults, notes and warnings, and how many of the levels aren't judged. Each number stops at
+/// the greatest of 64 bits.
 #[derive(Clone, Copy, Debug, PartialEq, Eq)]
 pub struct Totals {
     pub levels: u64,
     pub faults: u64,
     pub notes: u64,
+    /// 0 where warnings aren't asked for.
+    pub warnings: u64,
     /// Levels that lack a lump, or one of whose lumps isn't inside the file.
     pub broken: u64,
     /// Levels in a format that isn't read.
     pub unread: u64,
 }
 
-/// The totals of no level.
-pub fn no_totals() -> Totals
-    ensures { result ≡ no_totals }
-{
-    Totals {
-        levels: 0,
-        faults: 0,
-        notes: 0,
-        broken: 0,
-        unread: 0,
-    }
-}
-
-/// The totals of a judged level.
-pub fn judged_totals(counts: &Counts) -> Totals
-    ensures { result ≡ judged_totals counts.now }
+/// The totals of a judged level with so many warnings.
+pub fn judged_totals(counts: &Counts, warnings: u64) -> Totals
+    ensures { result ≡ judged_totals counts.now warnings }
 {
     Totals {
         levels: 1,
         faults: counts.faults(),
         notes: counts.notes(),
+        warnings,
         broken: 0,
         unread: 0,
     }
@@ -63,13 +55,28 @@ pub fn format_totals(format: Format) -> Totals
         levels: 1,
         faults: 0,
         notes: 0,
+        warnings: 0,
         broken,
         unread,
     }
 }
 
 impl Totals {
-    ghost use Rattle.wad_lens.specs.Totals.{totals_with, verdict_of_totals};
+    ghost use Rattle.wad_lens.specs.Totals.{no_totals, totals_with, verdict_of_totals, verdict_with};
+
+    /// The totals of no level.
+    pub fn none() -> Totals
+        ensures { result ≡ no_totals }
+    {
+        Totals {
+            levels: 0,
+            faults: 0,
+            notes: 0,
+            warnings: 0,
+            broken: 0,
+            unread: 0,
+        }
+    }
 
     /// Both together.
     pub fn with(self, other: Totals) -> Totals
@@ -79,12 +86,13 @@ impl Totals {
             levels: self.levels.saturating_add(other.levels),
             faults: self.faults.saturating_add(other.faults),
             notes: self.notes.saturating_add(other.notes),
+            warnings: self.warnings.saturating_add(other.warnings),
             broken: self.broken.saturating_add(other.broken),
             unread: self.unread.saturating_add(other.unread),
         }
     }
 
-    /// What they say: a fault or a level that lacks a lump goes before one that isn't read.
+    /// What they say, warnings aside: a fault or a level that lacks a lump goes before one that isn't read.
     pub fn verdict(&self) -> Verdict
         ensures { result ≡ verdict_of_totals self.now }
     {
@@ -98,17 +106,29 @@ impl Totals {
             Verdict::Faulty
         }
     }
+
+    /// What they say where warnings are asked for so.
+    pub fn verdict_with(&self, warnings: Warnings) -> Verdict
+        ensures { result ≡ verdict_with warnings self.now }
+    {
+        self.verdict().graver(warnings.verdict(self.warnings))
+    }
 }
 
-/// Writes the totals of so many files.
-pub fn write_totals<W: Sink>(files: u64, totals: &Totals, out: &mut W) -> Result<(), IoFault>
+/// Writes the totals of so many files, with the warnings where they were asked for.
+pub fn write_totals<W: Sink>(
+    files: u64,
+    warnings: Warnings,
+    totals: &Totals,
+    out: &mut W,
+) -> Result<(), IoFault>
     requires { (W.state out.old).failed ≡ false }
-    ensures { Writes (W.state out.old) (W.state out.new) (totals_line files totals.now) result }
+    ensures { Writes (W.state out.old) (W.state out.new) (totals_line files warnings totals.now) result }
 {
     let mut levels = TextLine::new();
     prepend_levels(&mut levels, files, totals);
     let mut found = TextLine::new();
-    prepend_found(&mut found, totals);
+    prepend_found(&mut found, warnings, totals);
     write_both(levels.as_bytes(), found.as_bytes(), out)
 }
 
@@ -123,15 +143,31 @@ fn prepend_levels(line: &mut TextLine, files: u64, totals: &Totals)
     line.prepend_natural(totals.levels);
 }
 
-// `F faults, K notes, U not judged`
-fn prepend_found(line: &mut TextLine, totals: &Totals)
+// `F faults, K notes, [V warnings, ]U not judged`
+fn prepend_found(line: &mut TextLine, warnings: Warnings, totals: &Totals)
     requires { line.old ≡ [] }
-    ensures { line.new ≡ found_text totals.now }
+    ensures { line.new ≡ found_text warnings totals.now }
 {
     line.prepend_bytes(b" not judged\n");
     line.prepend_natural(totals.broken.saturating_add(totals.unread));
+    prepend_warnings(line, warnings, totals.warnings);
     line.prepend_bytes(b" notes, ");
     line.prepend_natural(totals.notes);
     line.prepend_bytes(b" faults, ");
     line.prepend_natural(totals.faults);
+}
+
+// `V warnings, `, where they were asked for
+fn prepend_warnings(line: &mut TextLine, warnings: Warnings, count: u64)
+    requires { length line.old ≤ 40 }
+    ensures text { line.new ≡ warnings_text warnings count line.old }
+    ensures length { length line.new ≤ length line.old + 31 }
+{
+    match warnings {
+        Warnings::Unasked => {}
+        Warnings::Told | Warnings::Strict => {
+            line.prepend_bytes(b" warnings, ");
+            line.prepend_natural(count);
+        }
+    }
 }

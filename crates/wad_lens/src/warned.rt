@@ -5,8 +5,10 @@ ghost use Rattle.std.specs.List.{flat_map};
 ghost use Rattle.line_io.specs.Writes.{Writes};
 ghost use Rattle.map_checks.specs.declared.warning.WarningCode.TheVariants.{W1};
 ghost use Rattle.wad_lens.specs.WarningLine.{warning_line};
-ghost use Rattle.wad_lens.specs.Warned.{AddsWarned, AreWarned, more_warnings, warned_part, warned_text, warning_order};
+ghost use Rattle.wad_lens.specs.Warned.{AddsWarned, AreAskedFor, AreWarned, kept_count, more_warnings, warned_part};
+ghost use Rattle.wad_lens.specs.Warned.{warned_text, warned_total, warning_order};
 
+use crate::judging::Warnings;
 use crate::lines::{Heading, write_line};
 use crate::warning_lines::{warning_name, write_warning};
 use le_rec::Sink;
@@ -44,6 +46,58 @@ impl<A: Allocator> Model for Warned<A> {
     ghost Value = { warned.Warned };
 
     ghost view = { λ w. record { code = w.code; cut = w.told } };
+}
+
+impl<A: Allocator> Warned<A> {
+    ghost use Rattle.std.specs.Prelude.{◌≡◌};
+
+    /// The code.
+    pub fn code(&self) -> WarningCode
+        ensures { result ≡ self.now.code }
+    {
+        self.code
+    }
+
+    /// How many there are.
+    pub fn count(&self) -> usize
+        ensures { result ≡ self.now.cut.count }
+    {
+        self.told.count()
+    }
+}
+
+/// What is told of a level's warnings where they are asked for so, so many of one code at most: nothing where they aren't looked
+/// for.
+pub fn asked_warnings<A: Allocator + Copy>(
+    alloc: A,
+    level: &Level<'_>,
+    most: usize,
+    warnings: Warnings,
+) -> Result<Vec<Warned<A>, A>, AllocError>
+    ensures { IfOk result (λ all. AreAskedFor warnings level.now most all.items) }
+{
+    match warnings {
+        Warnings::Unasked => Ok(Vec::new(alloc)),
+        Warnings::Told | Warnings::Strict => warnings_of(alloc, level, most),
+    }
+}
+
+/// How many of a code are shown at most, where 0 asks for all.
+pub fn kept_count(most: u64) -> usize
+    ensures { result ≡ kept_count most }
+{
+    if most == 0 { usize::MAX } else { most as usize }
+}
+
+/// How many warnings there are, up to the greatest number of 64 bits.
+pub fn warned_total<A: Allocator>(all: &[Warned<A>]) -> u64
+    ensures { result ≡ warned_total all.now }
+{
+    let mut sum: u64 = 0;
+    'codes: for i in 0..all.len() {
+        sum = sum.saturating_add(all[i].count() as u64);
+    }
+    sum
 }
 
 /// What is told of each code of a level's warnings, so many of one code at most.

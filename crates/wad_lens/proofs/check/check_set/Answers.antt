@@ -7,13 +7,13 @@ use Rattle.wad_lens.proofs.SurveyLemmas.{start_within}
 use Rattle.wad_lens.proofs.check.check_set.Goals as goal
 
 pub levels-init : goal.levels-init
-levels-init g c = record { sound = c.requires; so_far = rw c.no_totals-sum.ensures (SoFar-start _ _ _) }
+levels-init g c = record { sound = c.requires; so_far = rw c.none-sum.ensures (SoFar-start _ _ _) }
 
 pub returns-in-Err : goal.returns-in-Err
 returns-in-Err g c =
     let some = level_stopped g.W.Sink.state (asked_of c.args.question.now) c.args.set.now (g.W.Sink.state c.args.out.now) c.levels.from c.in-Some.g c.levels.sum
     c.levels.out c.check_level.new.out c.in-Err.fault c.levels.invariant.so_far c.levels.invariant.sound c.in-Some.ensures.some c.in-Err.ensures in
-    rw (c.after.ensures, c.verdict.ensures) (record { all = tt; some = some })
+    rw (c.after.ensures, c.verdict_with.ensures) (record { all = tt; some = some })
 
 pub overflow_add-from : goal.overflow_add-from
 overflow_add-from g c =

@@ -9,12 +9,12 @@ use Rattle.wad_lens.proofs.object.write_findings.Goals as goal
 pub returns-in_err-emit : goal.returns-in_err-emit
 returns-in_err-emit g c =
     let p = err_from_is_err_and c.from_residual.result c.from_residual.ensures.1 in
-    rw (p.1, p.2) (Writes-stop (findings_text c.args.counts.now ++ codes "}}\n") c.in_err-emit.ensures)
+    rw (p.1, p.2) (Writes-stop (findings_text c.args.counts.now ++ codes "}") c.in_err-emit.ensures)
 
 pub returns-in_err-write_codes : goal.returns-in_err-write_codes
 returns-in_err-write_codes g c =
     let p = err_from_is_err_and c.from_residual-in_err-write_codes.result c.from_residual-in_err-write_codes.ensures.1 in
-    rw (p.1, p.2) (Writes-later c.in_ok-emit.ensures (Writes-stop {U = Unit {0}} (codes "}}\n") c.in_err-write_codes.ensures))
+    rw (p.1, p.2) (Writes-later c.in_ok-emit.ensures (Writes-stop {U = Unit {0}} (codes "}") c.in_err-write_codes.ensures))
 
 pub returns : goal.returns
 returns g c = Writes-after c.in_ok-emit.ensures (Writes-after c.in_ok-write_codes.ensures c.emit-2.ensures)

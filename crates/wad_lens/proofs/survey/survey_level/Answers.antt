@@ -14,10 +14,10 @@ survey_other-requires g c = record {
 
 pub returns-in-Doom : goal.returns-in-Doom
 returns-in-Doom g c =
-    doom_line g.W.Sink.state c.args.path.now c.args.set.now c.args.reading c.label_of-name.result c.args.g c.args.out.now c.survey_doom.new.out c.survey_doom.result
+    doom_line g.W.Sink.state c.args.path.now c.args.set.now c.args.judging c.label_of-name.result c.args.g c.args.out.now c.survey_doom.new.out c.survey_doom.result
     c.label_of-name.ensures ((c.in-Doom.ensures Doom).0 refl) c.survey_doom.ensures
 
 pub returns-in_default : goal.returns-in_default
 returns-in_default g c =
-    other_line g.W.Sink.state c.args.path.now c.args.set.now c.args.reading c.label_of-name.result c.args.g c.format_of.result c.args.out.now c.survey_other.new.out c.survey_other.result
+    other_line g.W.Sink.state c.args.path.now c.args.set.now c.args.judging c.label_of-name.result c.args.g c.format_of.result c.args.out.now c.survey_other.new.out c.survey_other.result
     c.label_of-name.ensures ((c.format_of.ensures c.format_of.result).0 refl) c.in_default.not-Doom c.survey_other.ensures

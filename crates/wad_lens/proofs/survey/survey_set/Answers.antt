@@ -9,7 +9,7 @@ levels-init g c = record { sound = c.requires; so_far = ToldSoFar-none _ _ _ _ }
 
 pub returns-in-Err : goal.returns-in-Err
 returns-in-Err g c =
-    let some = level_stopped g.W.Sink.state c.args.path.now c.args.set.now c.args.reading (g.W.Sink.state c.args.out.now) c.levels.from c.in-Some.g c.levels.worst
+    let some = level_stopped g.W.Sink.state c.args.path.now c.args.set.now c.args.judging (g.W.Sink.state c.args.out.now) c.levels.from c.in-Some.g c.levels.worst
     c.levels.out c.survey_level.new.out c.in-Err.fault c.levels.invariant.so_far c.levels.invariant.sound c.in-Some.ensures.some c.in-Err.ensures in
     rw c.after.ensures (record { all = tt; some = some })
 
@@ -25,14 +25,14 @@ levels-smaller g c =
 
 pub levels-preserved : goal.levels-preserved
 levels-preserved g c =
-    let wrote = level_told g.W.Sink.state c.args.path.now c.args.set.now c.args.reading c.in-Some.g c.levels.out c.survey_level.new.out c.in-Ok.verdict c.in-Ok.ensures in
-    let more = ToldSoFar-more c.args.path.now c.args.set.now c.args.reading (g.W.Sink.state c.args.out.now) (g.W.Sink.state c.levels.out) (g.W.Sink.state c.survey_level.new.out)
+    let wrote = level_told g.W.Sink.state c.args.path.now c.args.set.now c.args.judging c.in-Some.g c.levels.out c.survey_level.new.out c.in-Ok.verdict c.in-Ok.ensures in
+    let more = ToldSoFar-more c.args.path.now c.args.set.now c.args.judging (g.W.Sink.state c.args.out.now) (g.W.Sink.state c.levels.out) (g.W.Sink.state c.survey_level.new.out)
     c.levels.from c.in-Some.g c.levels.worst c.in-Ok.verdict c.levels.invariant.so_far c.in-Some.ensures.some wrote in
     record { sound = more.1; so_far = rw c.graver-worst.ensures more.0 }
 
 pub returns : goal.returns
 returns g c = record {
-  all = told_all c.args.path.now c.args.set.now c.args.reading (g.W.Sink.state c.args.out.now) (g.W.Sink.state c.levels.out) c.levels.from c.levels.worst
+  all = told_all c.args.path.now c.args.set.now c.args.judging (g.W.Sink.state c.args.out.now) (g.W.Sink.state c.levels.out) c.levels.from c.levels.worst
       c.levels.invariant.so_far c.in_default.ensures.none c.levels.invariant.sound;
   some = tt;
 }

@@ -5,7 +5,7 @@ use Rattle.wad_lens.proofs.survey.survey_set.Given as goal
 abbrev pub invariant-levels : goal.invariant-levels
 invariant-levels g l = record {
   sound : (g.W.Sink.state l.out).failed ≡ false;
-  so_far : ToldSoFar l.path l.set l.reading (g.W.Sink.state l.fn.out) (g.W.Sink.state l.out) l.from l.worst;
+  so_far : ToldSoFar l.path l.set l.judging (g.W.Sink.state l.fn.out) (g.W.Sink.state l.out) l.from l.worst;
 }
 
 abbrev pub decreases-levels : goal.decreases-levels

@@ -1,92 +1,322 @@
--- Bytes that are a listing's demo, by what is printed of them.
-use Rattle.std.proofs.Common.{◌≡◌, ℕ, ◌+◌, ◌/◌, ◌%◌, List, [], ◌∷◌, ◌++◌, decimal, drop, length, replicate, true, refl, sym, ap, ◌∙◌, subst, arith, codes}
-use Rattle.std.proofs.lemmas.Bool.Decides.{Decides-eqb}
-use Rattle.std.proofs.lemmas.Fmt.{decimal_digit}
-use Rattle.std.proofs.lemmas.List.{append_assoc, append_cancel_right, length-replicate}
-use Rattle.std.proofs.lemmas.Slice.Eq.{starts_is}
-use Rattle.std.specs.List.{starts_with}
-use Rattle.std.specs.Prelude.{nat_eq}
-use Rattle.demo_lump.specs.Demo.{Demo, IsDemo, IsRead}
+-- What a text tells as a listing, as far as it was taken, and where it is wrong.
+use Rattle.std.proofs.Common.{◌≡◌, ◌≢◌, ◌⊎◌, inl, inr, ℕ, ◌+◌, ◌/◌, ◌%◌, ◌^◌, ◌<◌, List, [], ◌∷◌, ◌++◌, length, All, refl, sym, ap, ◌∙◌, subst, arith}
+use Rattle.std.proofs.lemmas.List.{append_assoc, append-nil}
+use Rattle.std.proofs.lemmas.List.Elements.{All-head}
+use Rattle.std.specs.Fmt.{decimal}
+use Rattle.std.specs.List.{AllByRecursion}
+use Rattle.demo_lump.specs.Demo.{Demo}
 use Rattle.demo_lump.specs.Header.{players_in}
-use Rattle.wad_look.specs.Listing.{header_line, listing, ticcmds_text, totals_line}
-use Rattle.demo_lens.specs.Assembly.{IsAssembled, IsSameButLast}
+use Rattle.demo_lump.specs.declared.command.Command.{Command}
+use Rattle.demo_lump.specs.declared.header.Header.{Header}
+use Rattle.le_rec.proofs.BytesLemmas.{AreBytes-cons, AreBytes-nil}
+use Rattle.line_io.specs.Numbers.{IsDigit}
+use Rattle.demo_lens.specs.Assembly.{AreLines, BeginsListing, IsLine, IsListingOf, IsWrongLine}
+use Rattle.demo_lens.specs.Assembly.AreLines.{more, none}
+use Rattle.demo_lens.specs.Parts.{FitsCommand, FitsHeader, Stops}
+use Rattle.demo_lens.specs.Parts.Stops.{other}
+use Rattle.wad_look.specs.Listing.{header_line, listing, ticcmd_line, ticcmds_text, totals_line, totals_text}
+use Rattle.wad_look.specs.Turn.{player_of, tic_of}
+use Rattle.demo_lens.proofs.FitLemmas.{FitsDemo, fit_listed, listed_fits}
+use Rattle.demo_lens.proofs.HeaderLineLemmas.{same_header}
+use Rattle.demo_lens.proofs.LineLemmas.{header_is_line, lines_of, ticcmd_is_line, totals_is_line}
+use Rattle.demo_lens.proofs.ListingLemmas.{line_fields, same_line}
+use Rattle.demo_lens.proofs.RunLemmas.{decimal_is, same_run}
+use Rattle.demo_lens.proofs.TurnLemmas.{turns_small}
 
--- the front of a text is a label
-pub label_some : (text label : List ℕ) → starts_with nat_eq text label ≡ true → text ≡ label ++ drop (length label) text
-label_some text label starts = (starts_is Decides-eqb text label true (sym starts)).0 refl
+pub nothing : (text : List ℕ) → length text ≡ 0 → text ≡ []
+nothing [] long = refl
+nothing (b ∷ text) long = absurd (omega (arith, long))
 
--- the totals up to their last number
-abbrev totals_front : ℕ → ℕ → List ℕ
-totals_front tics odd = codes "tics " ++ (decimal tics ++ (codes " odd " ++ (decimal odd ++ codes " after ")))
+-- the first lines of equal texts are equal
+same_first : (a b x y : List ℕ) → IsLine a → IsLine b → a ++ x ≡ b ++ y → (a ≡ b) × (x ≡ y)
+same_first a b x y of_a of_b same =
+    let stop : (t : List ℕ) → Stops (λ byte. byte ≢ 10) (10 ∷ t) = λ t. other 10 t (λ not. not refl) in
+    let spread : (c content t : List ℕ) → c ≡ content ++ 10 ∷ [] → c ++ t ≡ content ++ 10 ∷ t =
+    λ c content t is. ap (λ u. u ++ t) is ∙ append_assoc content (10 ∷ []) t in
+    let run = same_run (λ byte. byte ≢ 10) of_a.content of_b.content (10 ∷ x) (10 ∷ y) of_a.unbroken of_b.unbroken (stop x) (stop y)
+    (sym (spread a of_a.content x of_a.is) ∙ same ∙ spread b of_b.content y of_b.is) in
+    let rest = run.1 in
+    (of_a.is ∙ ap (λ t. t ++ 10 ∷ []) run.0 ∙ sym of_b.is, cc)
 
-totals_split : (tics odd after : ℕ) → totals_line tics odd after ≡ totals_front tics odd ++ (decimal after ++ 10 ∷ [])
+-- a command's line begins with a digit, and the totals don't
+no_totals : (tic player : ℕ) (c : Command) (x y : List ℕ) → tic < 2 ^ 64 → ticcmd_line tic player c ++ x ≡ 116 ∷ y → ⊥
+no_totals tic player c x y small same = begins (decimal tic) _ (decimal_is tic small).some_digit (decimal_is tic small).all_digits (sym (line_fields tic player c x) ∙ same)
+  where
+    begins : (digits behind : List ℕ) → 0 < length digits → All IsDigit digits → digits ++ behind ≡ 116 ∷ y → ⊥
+    begins [] behind some all is = omega (arith, some)
+    begins (d ∷ digits) behind some all is =
+        let first : d ≡ 116 = cc in
+        let digit = All-head IsDigit d digits all in
+        omega (arith, digit.1, first)
+
+totals_begin : (tics odd after : ℕ) (x : List ℕ) → (y : List ℕ) × (totals_line tics odd after ++ x ≡ 116 ∷ y)
 unfolding totals_line
-totals_split tics odd after =
-    sym (append_assoc (codes "tics ") (decimal tics ++ (codes " odd " ++ (decimal odd ++ codes " after "))) (decimal after ++ 10 ∷ [])
-    ∙ ap (λ t. codes "tics " ++ t) (append_assoc (decimal tics) (codes " odd " ++ (decimal odd ++ codes " after ")) (decimal after ++ 10 ∷ [])
-    ∙ ap (λ t. decimal tics ++ t) (append_assoc (codes " odd ") (decimal odd ++ codes " after ") (decimal after ++ 10 ∷ [])
-    ∙ ap (λ t. codes " odd " ++ t) (append_assoc (decimal odd) (codes " after ") (decimal after ++ 10 ∷ [])))))
+totals_begin tics odd after x = (_, refl)
 
--- a listing up to its last number
-abbrev listing_front : Demo → List ℕ
-listing_front demo =
-    header_line demo.header ++ (ticcmds_text demo.header.players 0 demo.commands
-    ++ totals_front (length demo.commands / players_in demo.header.players) (length demo.commands % players_in demo.header.players))
+-- what another listing goes on with, behind commands that both have
+pub record GoesOn (players : List ℕ) (i : ℕ) (commands others : List Command) (rest tail : List ℕ) : Type 0 where
+  pub later : List Command
+  pub fit : AllByRecursion FitsCommand later
+  pub splits : others ≡ commands ++ later
+  pub goes : rest ≡ ticcmds_text players (i + length commands) later ++ tail
 
-listing_split : (demo : Demo) → listing demo ≡ listing_front demo ++ (decimal demo.after ++ 10 ∷ [])
-listing_split demo =
-    let header = header_line demo.header in
-    let lines = ticcmds_text demo.header.players 0 demo.commands in
-    let tics = length demo.commands / players_in demo.header.players in
-    let odd = length demo.commands % players_in demo.header.players in
-    let last = decimal demo.after ++ 10 ∷ [] in
-    ap (λ t. header ++ (lines ++ t)) (totals_split tics odd demo.after)
-    ∙ ap (λ t. header ++ t) (sym (append_assoc lines (totals_front tics odd) last))
-    ∙ sym (append_assoc header (lines ++ totals_front tics odd) last)
-
--- the text is the listing of the same demo with other bytes after its marker
-other_after : (demo : Demo) (printed text : List ℕ) → demo.after ≡ 0 → printed ≡ listing demo → (like : IsSameButLast printed text)
-    → text ≡ listing (record demo { after = like.number })
-other_after demo printed text none is like =
-    let zero_text : decimal demo.after ≡ 48 ∷ [] = ap decimal none ∙ decimal_digit 0 (omega arith) in
-    let whole : listing_front demo ++ 48 ∷ 10 ∷ [] ≡ like.front ++ 48 ∷ 10 ∷ [] =
-    ap (λ t. listing_front demo ++ (t ++ 10 ∷ [])) (sym zero_text) ∙ sym (listing_split demo) ∙ sym is ∙ like.ends in
-    let front : listing_front demo ≡ like.front = append_cancel_right (listing_front demo) like.front (48 ∷ 10 ∷ []) whole in
-    like.is ∙ ap (λ t. t ++ (decimal like.number ++ 10 ∷ [])) (sym front) ∙ sym (listing_split (record demo { after = like.number }))
-
-nothing : (xs : List ℕ) → 0 ≡ length xs → xs ≡ []
-nothing [] none = refl
-nothing (x ∷ xs) none = absurd (omega (arith, none))
-
--- bytes and more behind their marker
-with_rest : (bytes : List ℕ) (demo : Demo) (n : ℕ) → demo.after ≡ 0 → IsRead bytes demo → IsRead (bytes ++ replicate n 0) (record demo { after = n })
-with_rest bytes demo n none read =
-    let junk = replicate n 0 in
-    let d = read.reads in
-    let empty : read.rest ≡ [] = nothing read.rest (sym none ∙ read.counted) in
-    let joined : bytes ++ junk ≡ d.front ++ (d.body ++ 128 ∷ junk) =
-    ap (λ t. t ++ junk) (d.joined ∙ ap (λ r. d.front ++ (d.body ++ 128 ∷ r)) empty)
-    ∙ append_assoc d.front (d.body ++ 128 ∷ []) junk ∙ ap (λ t. d.front ++ t) (append_assoc d.body (128 ∷ []) junk) in
+goes_on : (players : List ℕ) (i : ℕ) (commands others : List Command) (rest tail end : List ℕ) → length players ≡ 4 → i + length commands < 2 ^ 64
+    → AllByRecursion FitsCommand commands → AllByRecursion FitsCommand others → tail ≡ 116 ∷ end
+    → ticcmds_text players i commands ++ rest ≡ ticcmds_text players i others ++ tail → GoesOn players i commands others rest tail
+goes_on players i [] others rest tail end four few fit fit_others totals same = record {
+  later = others;
+  fit = fit_others;
+  splits = refl;
+  goes = same ∙ ap (λ k. ticcmds_text players k others ++ tail) (omega arith);
+}
+goes_on players i (c ∷ commands) [] rest tail end four few fit fit_others totals same =
+    let here = turns_small players four i (omega (arith, few)) in
+    absurd (no_totals (tic_of players i) (player_of players i) c (ticcmds_text players (i + 1) commands ++ rest) end here.0
+    (sym (append_assoc (ticcmd_line (tic_of players i) (player_of players i) c) (ticcmds_text players (i + 1) commands) rest) ∙ same ∙ totals))
+goes_on players i (c ∷ commands) (d ∷ others) rest tail end four few fit fit_others totals same =
+    let line_c = ticcmd_line (tic_of players i) (player_of players i) c in
+    let line_d = ticcmd_line (tic_of players i) (player_of players i) d in
+    let both = same_line (tic_of players i) (player_of players i) c d (ticcmds_text players (i + 1) commands ++ rest) (ticcmds_text players (i + 1) others ++ tail) fit.0 fit_others.0
+    (sym (append_assoc line_c (ticcmds_text players (i + 1) commands) rest) ∙ same ∙ append_assoc line_d (ticcmds_text players (i + 1) others) tail) in
+    let deep = goes_on players (i + 1) commands others rest tail end four (omega (arith, few)) fit.1 fit_others.1 totals both.1 in
     record {
-      rest = junk;
-      reads = record { front = d.front; body = d.body; joined = joined; begins = d.begins; follow = d.follow };
-      counted = sym (length-replicate n 0);
+      later = deep.later;
+      fit = deep.fit;
+      splits = ap (λ e. e ∷ others) (sym both.0) ∙ ap (λ es. c ∷ es) deep.splits;
+      goes = deep.goes ∙ ap (λ k. ticcmds_text players k deep.later ++ tail) (omega arith);
     }
 
--- so they are the demo of the text
-pub assembled : (bytes printed text : List ℕ) (demo : Demo) → IsRead bytes demo → demo.header.version ≡ 109 → demo.after ≡ 0 → printed ≡ listing demo
-    → IsSameButLast printed text → IsAssembled text bytes
-assembled bytes printed text demo read version none is like = record {
-  demo = record demo { after = like.number };
-  is = record {
-    bytes = bytes ++ replicate like.number 0;
-    read = with_rest bytes demo like.number none read;
-    version = version;
-    printed = other_after demo printed text none is like;
-  };
-  written = subst (λ r. IsDemo bytes demo.header demo.commands r) (nothing read.rest (sym none ∙ read.counted)) read.reads;
+-- a text as far as it was taken: the header's line and those of commands
+pub record IsTaken (text : List ℕ) (header : Header) (commands : List Command) (rest : List ℕ) : Type 0 where
+  pub splits : text ≡ header_line header ++ (ticcmds_text header.players 0 commands ++ rest)
+  pub of_header : FitsHeader header
+  pub of_commands : AllByRecursion FitsCommand commands
+  pub few : length commands < 2 ^ 62
+
+module _ (text : List ℕ) (header : Header) (commands : List Command) (rest : List ℕ) (taken : IsTaken text header commands rest) where
+  -- another listing that begins so goes on with commands, and then its totals
+  agrees : (x : List ℕ) (demo : Demo) → header_line header ++ (ticcmds_text header.players 0 commands ++ x) ≡ listing demo → FitsDemo demo
+      → (later : List Command) × AllByRecursion FitsCommand later
+      × (x ≡ ticcmds_text header.players (length commands) later ++ totals_text header.players (length (commands ++ later)) demo.after)
+  agrees x demo same fits =
+      let heads = same_header header demo.header _ _ taken.of_header fits.header same in
+      let tail = totals_text demo.header.players (length demo.commands) demo.after in
+      let begin = totals_begin (length demo.commands / players_in demo.header.players) (length demo.commands % players_in demo.header.players) demo.after [] in
+      let totals : tail ≡ 116 ∷ begin.0 = sym (append-nil tail) ∙ begin.1 in
+      let few = taken.few in
+      let on : GoesOn header.players 0 commands demo.commands x tail =
+      goes_on header.players 0 commands demo.commands x tail begin.0 taken.of_header.long (omega arith) taken.of_commands fits.commands totals
+      (subst (λ (h : Header). ticcmds_text header.players 0 commands ++ x ≡ ticcmds_text h.players 0 demo.commands ++ tail) (sym heads.0) heads.1) in (
+        on.later,
+        on.fit,
+        on.goes ∙ ap (λ k. ticcmds_text header.players k on.later ++ tail) (omega arith)
+            ∙ ap (λ (h : Header). ticcmds_text header.players (length commands) on.later ++ totals_text h.players (length demo.commands) demo.after) (sym heads.0)
+            ∙ ap (λ (ds : List Command). ticcmds_text header.players (length commands) on.later ++ totals_text header.players (length ds) demo.after) on.splits,
+      )
+
+  -- the text up to there
+  abbrev text_there : List ℕ
+  text_there = header_line header ++ ticcmds_text header.players 0 commands
+
+  split_there : text ≡ text_there ++ rest
+  split_there = taken.splits ∙ sym (append_assoc (header_line header) (ticcmds_text header.players 0 commands) rest)
+
+  abbrev pub own_demo : ℕ → Demo
+  own_demo after = record { header = header; commands = commands; after = after }
+
+  own_fits : (after : ℕ) → after < 2 ^ 64 → FitsDemo (own_demo after)
+  own_fits after few = record { header = taken.of_header; commands = taken.of_commands; few = few }
+
+  abbrev pub own_totals : ℕ → List ℕ
+  own_totals after = totals_text header.players (length commands) after
+
+  own_listing : (after : ℕ) → text_there ++ own_totals after ≡ listing (own_demo after)
+  own_listing after = append_assoc (header_line header) (ticcmds_text header.players 0 commands) (own_totals after)
+
+  own_begins : BeginsListing text_there
+  own_begins =
+      record {
+        demo = own_demo 0;
+        more = own_totals 0;
+        is = subst (λ t. IsListingOf t (own_demo 0)) (sym (own_listing 0)) (fit_listed (own_demo 0) (own_fits 0 (omega arith)));
+      }
+
+  own_lines : AreLines (1 + length commands) text_there
+  own_lines =
+      let few = taken.few in
+      lines_of header.players 0 1 (header_line header) commands taken.of_commands (omega arith) (turns_small header.players taken.of_header.long)
+      (more 0 [] (header_line header) none (header_is_line header taken.of_header))
+
+  totals_line_is : (after : ℕ) → after < 2 ^ 64 → IsLine (own_totals after)
+  totals_line_is after small =
+      let few = taken.few in
+      totals_is_line (length commands / players_in header.players) (length commands % players_in header.players) after
+      (quotient_small (length commands) (players_in header.players) (omega arith)) (remainder_small (length commands) (players_in header.players) (omega arith)) small
+    where
+      quotient_small : (k n : ℕ) → k < 2 ^ 64 → k / n < 2 ^ 64
+      quotient_small k n small = grind arith
+
+      remainder_small : (k n : ℕ) → k < 2 ^ 64 → k % n < 2 ^ 64
+      remainder_small k n small = grind arith
+
+  -- a line of a command behind it, or the totals: the first line of what another listing goes on with
+  first_of_rest : (line z : List ℕ) (demo : Demo) → IsLine line → header_line header ++ (ticcmds_text header.players 0 commands ++ (line ++ z)) ≡ listing demo → FitsDemo demo
+      → ((c : Command) × FitsCommand c × (line ≡ ticcmd_line (tic_of header.players (length commands)) (player_of header.players (length commands)) c))
+      ⊎ ((after : ℕ) × (after < 2 ^ 64) × (line ≡ own_totals after) × (z ≡ []))
+  first_of_rest line z demo is same fits = at_later on.0 on.1 on.2
+    where
+      on : (later : List Command) × AllByRecursion FitsCommand later
+          × (line ++ z ≡ ticcmds_text header.players (length commands) later ++ totals_text header.players (length (commands ++ later)) demo.after)
+      on = agrees (line ++ z) demo same fits
+
+      at_later : (later : List Command) → AllByRecursion FitsCommand later
+          → line ++ z ≡ ticcmds_text header.players (length commands) later ++ totals_text header.players (length (commands ++ later)) demo.after
+          → ((c : Command) × FitsCommand c × (line ≡ ticcmd_line (tic_of header.players (length commands)) (player_of header.players (length commands)) c))
+          ⊎ ((after : ℕ) × (after < 2 ^ 64) × (line ≡ own_totals after) × (z ≡ []))
+      at_later [] fit goes =
+          let own : line ++ z ≡ own_totals demo.after ++ [] =
+          goes ∙ ap (λ (cs : List Command). totals_text header.players (length cs) demo.after) (append-nil commands) ∙ sym (append-nil (own_totals demo.after)) in
+          let first = same_first line (own_totals demo.after) z [] is (totals_line_is demo.after fits.few) own in
+          inr (demo.after, fits.few, first.0, first.1)
+      at_later (c ∷ later) fit goes =
+          let few = taken.few in
+          let here = turns_small header.players taken.of_header.long (length commands) (omega arith) in
+          let own = ticcmd_line (tic_of header.players (length commands)) (player_of header.players (length commands)) c in
+          let first = same_first line own z _ is (ticcmd_is_line (tic_of header.players (length commands)) (player_of header.players (length commands)) c here.0 here.1 fit.0)
+          (goes ∙ append_assoc own (ticcmds_text header.players (length commands + 1) later) (totals_text header.players (length (commands ++ c ∷ later)) demo.after)) in
+          inl (c, fit.0, first.0)
+
+  -- all of the rest is the totals, and so the text is a listing
+  pub listed : (after : ℕ) → after < 2 ^ 64 → rest ≡ own_totals after → IsListingOf text (own_demo after)
+  listed after few totals =
+      subst (λ t. IsListingOf t (own_demo after)) (sym (split_there ∙ ap (λ r. text_there ++ r) totals ∙ own_listing after)) (fit_listed (own_demo after) (own_fits after few))
+
+  -- no line of a command follows, and no totals
+  pub wrong_there : ((c : Command) (r : List ℕ) → FitsCommand c → rest ≢ ticcmd_line (tic_of header.players (length commands)) (player_of header.players (length commands)) c ++ r)
+      → ((after : ℕ) (r : List ℕ) → after < 2 ^ 64 → rest ≢ own_totals after ++ r) → IsWrongLine text (length commands + 2)
+  wrong_there no_command no_totals_there = record {
+    none = λ demo is.
+        let fits = listed_fits text demo is in
+        let on = agrees rest demo (sym taken.splits ∙ is.printed) fits in
+        no_rest on.0 on.1 demo.after fits.few on.2;
+    count = 1 + length commands;
+    before = text_there;
+    rest = rest;
+    splits = split_there;
+    lines = own_lines;
+    counted = omega arith;
+    begins = own_begins;
+    wrong = λ line behind is follows begins.
+        let demo = begins.demo in
+        let fits = listed_fits ((text_there ++ line) ++ begins.more) demo begins.is in
+        no_line line behind begins.more follows (first_of_rest line begins.more demo is (sym (append_assoc (header_line header) (ticcmds_text header.players 0 commands) (line ++ begins.more))
+        ∙ sym (append_assoc text_there line begins.more) ∙ begins.is.printed) fits);
+  }
+    where
+      no_rest : (later : List Command) → AllByRecursion FitsCommand later → (after : ℕ) → after < 2 ^ 64
+          → rest ≡ ticcmds_text header.players (length commands) later ++ totals_text header.players (length (commands ++ later)) after → ⊥
+      no_rest [] fit after few same =
+          no_totals_there after [] few (same ∙ ap (λ (cs : List Command). totals_text header.players (length cs) after) (append-nil commands) ∙ sym (append-nil (own_totals after)))
+      no_rest (c ∷ later) fit after few same =
+          no_command c _ fit.0 (same ∙ append_assoc (ticcmd_line (tic_of header.players (length commands)) (player_of header.players (length commands)) c)
+          (ticcmds_text header.players (length commands + 1) later) (totals_text header.players (length (commands ++ c ∷ later)) after))
+
+      no_line : (line behind z : List ℕ) → rest ≡ line ++ behind
+          → ((c : Command) × FitsCommand c × (line ≡ ticcmd_line (tic_of header.players (length commands)) (player_of header.players (length commands)) c))
+          ⊎ ((after : ℕ) × (after < 2 ^ 64) × (line ≡ own_totals after) × (z ≡ [])) → ⊥
+      no_line line behind z follows (inl found) = no_command found.0 behind found.1 (follows ∙ ap (λ l. l ++ behind) found.2)
+      no_line line behind z follows (inr found) = no_totals_there found.0 behind found.1 (follows ∙ ap (λ l. l ++ behind) found.2)
+
+  -- the totals follow, and then more
+  pub wrong_end : (after : ℕ) (behind : List ℕ) → after < 2 ^ 64 → rest ≡ own_totals after ++ behind → behind ≢ [] → IsWrongLine text (length commands + 3)
+  wrong_end after behind few totals some = record {
+    none = λ demo is. some (last behind demo (sym totals_there ∙ is.printed) (listed_fits text demo is));
+    count = 1 + length commands + 1;
+    before = text_there ++ own_totals after;
+    rest = behind;
+    splits = split_there ∙ ap (λ r. text_there ++ r) totals ∙ sym (append_assoc text_there (own_totals after) behind);
+    lines = more (1 + length commands) text_there (own_totals after) own_lines (totals_line_is after few);
+    counted = omega arith;
+    begins = record {
+      demo = own_demo after;
+      more = [];
+      is = subst (λ t. IsListingOf t (own_demo after)) (sym (append-nil (text_there ++ own_totals after) ∙ own_listing after)) (fit_listed (own_demo after) (own_fits after few));
+    };
+    wrong = λ line left is follows begins.
+        let fits = listed_fits (((text_there ++ own_totals after) ++ line) ++ begins.more) begins.demo begins.is in
+        let there : header_line header ++ (ticcmds_text header.players 0 commands ++ (own_totals after ++ (line ++ begins.more))) ≡ listing begins.demo =
+        sym (append_assoc (header_line header) (ticcmds_text header.players 0 commands) (own_totals after ++ (line ++ begins.more)))
+        ∙ sym (append_assoc text_there (own_totals after) (line ++ begins.more)) ∙ sym (append_assoc (text_there ++ own_totals after) line begins.more) ∙ begins.is.printed in
+        no_line_is_empty line begins.more is (last (line ++ begins.more) begins.demo there fits);
+  }
+    where
+      totals_there : text ≡ header_line header ++ (ticcmds_text header.players 0 commands ++ (own_totals after ++ behind))
+      totals_there = taken.splits ∙ ap (λ r. header_line header ++ (ticcmds_text header.players 0 commands ++ r)) totals
+
+      no_line_is_empty : (line z : List ℕ) → IsLine line → line ++ z ≡ [] → ⊥
+      no_line_is_empty line z is same = first (is.content) (sym (ap (λ l. l ++ z) is.is) ∙ same)
+        where
+          first : (content : List ℕ) → (content ++ 10 ∷ []) ++ z ≡ [] → ⊥
+          first [] e = let f : ⊥ = cc in f
+          first (b ∷ content) e = let f : ⊥ = cc in f
+
+      last : (z : List ℕ) (demo : Demo) → header_line header ++ (ticcmds_text header.players 0 commands ++ (own_totals after ++ z)) ≡ listing demo → FitsDemo demo → z ≡ []
+      last z demo same fits = at (first_of_rest (own_totals after) z demo (totals_line_is after few) same fits)
+        where
+          at : ((c : Command) × FitsCommand c × (own_totals after ≡ ticcmd_line (tic_of header.players (length commands)) (player_of header.players (length commands)) c))
+              ⊎ ((a : ℕ) × (a < 2 ^ 64) × (own_totals after ≡ own_totals a) × (z ≡ [])) → z ≡ []
+          at (inl found) =
+              let few_there = taken.few in
+              let here = turns_small header.players taken.of_header.long (length commands) (omega arith) in
+              let begin = totals_begin (length commands / players_in header.players) (length commands % players_in header.players) after [] in
+              absurd (no_totals (tic_of header.players (length commands)) (player_of header.players (length commands)) found.0 [] begin.0 here.0
+              (ap (λ l. l ++ []) (sym found.2) ∙ begin.1))
+          at (inr found) = found.3
+
+-- a header that the first line may tell
+some_header : Header
+some_header = record {
+  version = 109;
+  skill = 0;
+  episode = 1;
+  map = 1;
+  deathmatch = 0;
+  respawn = 0;
+  fast = 0;
+  no_monsters = 0;
+  viewpoint = 0;
+  players = 1 ∷ 0 ∷ 0 ∷ 0 ∷ [];
 }
 
--- what was taken from the start on
-pub all_taken : (before after text : List ℕ) → before ≡ [] → after ≡ before ++ text → after ≡ text
-all_taken before after text none is = is ∙ ap (λ t. t ++ text) none
+abbrev some_demo : Demo
+some_demo = record { header = some_header; commands = []; after = 0 }
+
+some_fits : FitsHeader some_header
+unfolding some_header
+some_fits = record {
+  numbers = AreBytes-cons 109 _ (omega arith) (AreBytes-cons 0 _ (omega arith) (AreBytes-cons 1 _ (omega arith) (AreBytes-cons 1 _ (omega arith)
+      (AreBytes-cons 0 _ (omega arith) (AreBytes-cons 0 _ (omega arith) (AreBytes-cons 0 _ (omega arith) (AreBytes-cons 0 _ (omega arith)
+      (AreBytes-cons 0 _ (omega arith) (AreBytes-cons 1 _ (omega arith) (AreBytes-cons 0 _ (omega arith) (AreBytes-cons 0 _ (omega arith)
+      (AreBytes-cons 0 [] (omega arith) AreBytes-nil))))))))))));
+  version = refl;
+  long = refl;
+  some = omega arith;
+}
+
+-- no header's line begins the text
+pub wrong_header : (text : List ℕ) → ((h : Header) (r : List ℕ) → FitsHeader h → text ≢ header_line h ++ r) → IsWrongLine text 1
+wrong_header text no_header = record {
+  none = λ demo is. no_header demo.header _ (listed_fits text demo is).header is.printed;
+  count = 0;
+  before = [];
+  rest = text;
+  splits = refl;
+  lines = none;
+  counted = refl;
+  begins = record { demo = some_demo; more = listing some_demo; is = fit_listed some_demo (record { header = some_fits; commands = tt; few = omega arith }) };
+  wrong = λ line left is follows begins.
+      let demo = begins.demo in
+      let fits = listed_fits (line ++ begins.more) demo begins.is in
+      let first = same_first line (header_line demo.header) begins.more _ is (header_is_line demo.header fits.header) begins.is.printed in
+      no_header demo.header left fits.header (follows ∙ ap (λ l. l ++ left) first.0);
+}

@@ -1,3 +1,11 @@
 mod AssemblyLemmas
 pub mod DemosLemmas
 mod DifferenceLemmas
+mod FitLemmas
+mod HeaderLineLemmas
+mod LineLemmas
+mod ListingLemmas
+mod NumberLemmas
+mod RunLemmas
+mod TakingLemmas
+mod TurnLemmas

@@ -1,17 +1,20 @@
 //! A demo put together from its listing.
 
-ghost use Rattle.std.specs.Prelude.{◌≡◌, true, IfOk};
-ghost use Rattle.demo_lump.specs.Demo as demo;
-ghost use Rattle.demo_lump.specs.Demo.{IsRead};
-ghost use Rattle.wad_look.specs.Listing.{listing as listing_of};
-ghost use Rattle.demo_lens.specs.Assembly.{IsAssembled, IsSameButLast};
+ghost use Rattle.std.specs.Prelude.{◌≡◌, ◌≢◌, ◌≤◌, ◌<◌, ◌^◌, ◌%◌, ◌++◌, ℕ, List, length, IfOk, IfErr, IfSome, IfNone};
+ghost use Rattle.std.specs.List.{AllByRecursion};
+ghost use Rattle.demo_lens.specs.Assembly.{IsAssembled, IsTakenFrom, WhyNone};
+ghost use Rattle.demo_lens.specs.Parts.{FitsCommand};
+ghost use Rattle.demo_lump.specs.Header.{players_in};
+ghost use Rattle.wad_look.specs.Listing.{ticcmds_text, totals_line};
+ghost use Rattle.wad_look.specs.Turn.{tic_of};
 
-use crate::guess::guess_demo;
-use crate::numbers::{behind_number, take_label};
-use demo_lump::Demo;
-use memory_ends::ToVec;
+use crate::command_line::take_command;
+use crate::header_line::take_header;
+use crate::numbers::{behind_last_number, take_label};
+use demo_lump::{Command, write_demo};
+use line_io::TextLine;
 use std::alloc::{AllocError, Global};
-use wad_look::write_listing;
+use wad_look::Turn;
 
 /// Why no demo is put together from a listing.
 #[derive(Clone, Copy, Debug, PartialEq, Eq)]
@@ -24,106 +27,80 @@ pub enum AssembleFault {
 
 /// The header, the commands and the marker of the demo of version 109 of which the text is the listing, as `demo_text` writes it.
 pub fn assemble(alloc: Global, listing: &[u8]) -> Result<Vec<u8>, AssembleFault>
-    ensures { IfOk result (λ bytes. IsAssembled listing.now bytes.items) }
+    ensures ok { IfOk result (λ bytes. IsAssembled listing.now bytes.items) }
+    ensures wrong { IfErr result (WhyNone listing.now) }
 {
-    let Ok(bytes) = guess_demo(alloc, listing) else {
+    let Some((header, behind)) = take_header(listing) else {
+        return Err(AssembleFault::Line(1));
+    };
+    let Ok(taken) = take_commands(alloc, header.players, behind) else {
         return Err(AssembleFault::Memory);
     };
-    let Ok(printed) = print_demo(alloc, &bytes) else {
-        return Err(AssembleFault::Memory);
+    let lines = taken.commands.len() as u64;
+    let Some(rest) = take_totals(taken.rest, &taken.turn) else {
+        return Err(AssembleFault::Line(lines + 2));
     };
-    if is_assembled(&bytes, &printed, listing) {
-        Ok(bytes)
-    } else {
-        Err(AssembleFault::Line(wrong_line(&bytes, &printed, listing)))
+    if !rest.is_empty() {
+        return Err(AssembleFault::Line(lines + 3));
+    }
+    match write_demo(alloc, &header, &taken.commands) {
+        Ok(bytes) => Ok(bytes),
+        Err(_) => Err(AssembleFault::Memory),
     }
 }
 
-// The listing of the demo that bytes are, where they are one.
-fn print_demo(alloc: Global, bytes: &[u8]) -> Result<Vec<u8>, AllocError>
-    ensures { IfOk result (λ text. (found : demo.Demo) → IsRead bytes.now found → text.items ≡ listing_of found) }
+// What was taken of the lines of commands.
+#[derive(Drop)]
+struct Taken<'t> {
+    commands: Vec<Command>,
+    // Whose turn is next.
+    turn: Turn,
+    // What follows the lines.
+    rest: &'t [u8],
+}
+
+// All commands of which the lines stand at the front, in turn.
+fn take_commands<'t>(
+    alloc: Global,
+    players: [u8; 4],
+    text: &'t [u8],
+) -> Result<Taken<'t>, AllocError>
+    requires { 0 < players_in players }
+    ensures { IfOk result (λ taken. IsTakenFrom players text.now taken.commands.items taken.turn taken.rest.now) }
 {
-    let mut out = ToVec::new(alloc);
-    match Demo::read(bytes) {
-        Ok(demo) => match write_listing(&demo, &mut out) {
-            Ok(()) => Ok(out.into_vec()),
-            Err(_) => Err(AllocError),
-        },
-        Err(_) => Ok(out.into_vec()),
+    let mut commands = Vec::new(alloc);
+    let mut turn = Turn::new(players);
+    let mut rest = text;
+    while let Some((command, behind)) = take_command(rest, &turn) {
+        commands.push(command)?;
+        turn.step();
+        rest = behind;
     }
+    Ok(Taken {
+        commands,
+        turn,
+        rest,
+    })
 }
 
-// Whether bytes are the demo of a listing, by what is printed of them.
-fn is_assembled(bytes: &[u8], printed: &[u8], listing: &[u8]) -> bool
-    requires { (found : demo.Demo) → IsRead bytes.now found → printed.now ≡ listing_of found }
-    ensures { result ≡ true → IsAssembled listing.now bytes.now }
+// What follows the totals' line that stands at the front when it is this turn.
+fn take_totals<'t>(text: &'t [u8], turn: &Turn) -> Option<&'t [u8]>
+    ensures some { IfSome result (λ rest. (after : ℕ) × (after < 2 ^ 64) × (text.now
+        ≡ totals_line (tic_of turn.now.players turn.now.index) (turn.now.index % players_in turn.now.players) after ++ rest.now)) }
+    ensures none { IfNone result ((after : ℕ) (rest : List ℕ) → after < 2 ^ 64 → text.now
+        ≢ totals_line (tic_of turn.now.players turn.now.index) (turn.now.index % players_in turn.now.players) after ++ rest) }
 {
-    match Demo::read(bytes) {
-        Ok(demo) => {
-            if !is_whole(&demo) {
-                return false;
-            }
-            is_same_but_last(printed, listing)
-        }
-        Err(_) => false,
-    }
-}
-
-// Whether a demo is of version 109 and ends with its marker.
-fn is_whole(demo: &Demo<'_>) -> bool
-    ensures version { result ≡ true → demo.now.header.version ≡ 109 }
-    ensures after { result ≡ true → demo.now.after ≡ 0 }
-{
-    demo.header().version == 109 && demo.after() == 0
-}
-
-// Whether a listing is the printed one, but for the bytes after the marker, of which there are none there.
-fn is_same_but_last(printed: &[u8], text: &[u8]) -> bool
-    ensures { result ≡ true → IsSameButLast printed.now text.now }
-{
-    let Some(count) = printed.len().checked_sub(2) else {
-        return false;
+    let mut front = TextLine::new();
+    front.prepend_bytes(b" after ");
+    front.prepend_natural(turn.odd());
+    front.prepend_bytes(b" odd ");
+    front.prepend_natural(turn.tic());
+    front.prepend_bytes(b"tics ");
+    let Some(behind) = take_label(text, front.as_bytes()) else {
+        return None;
     };
-    let (front, end) = printed.split_at(count);
-    if end[0] != 48 || end[1] != 10 {
-        return false;
+    match behind_last_number(behind) {
+        Some(rest) => Some(rest),
+        None => None,
     }
-    let Some(rest) = take_label(text, front) else {
-        return false;
-    };
-    match behind_number(rest, 10) {
-        Some(left) => left.is_empty(),
-        None => false,
-    }
-}
-
-// The first line that isn't as it is printed of bytes.
-fn wrong_line(bytes: &[u8], printed: &[u8], text: &[u8]) -> u64 {
-    if printed.is_empty() || !matches!(bytes.first(), Some(109)) {
-        return 1;
-    }
-    let count = printed.len().saturating_sub(2);
-    let front = &printed[..count];
-    let behind_totals = match take_label(text, front) {
-        Some(rest) => behind_number(rest, 10).is_some(),
-        None => false,
-    };
-    if behind_totals {
-        return count_lines(front, text).saturating_add(2);
-    }
-    count_lines(printed, text).saturating_add(1)
-}
-
-// How many lines both begin with.
-fn count_lines(a: &[u8], b: &[u8]) -> u64 {
-    let mut lines: u64 = 0;
-    for i in 0..a.len().min(b.len()) {
-        if a[i] != b[i] {
-            return lines;
-        }
-        if a[i] == 10 {
-            lines = lines.saturating_add(1);
-        }
-    }
-    lines
 }

@@ -208,8 +208,8 @@ fn prepend_command_line(line: &mut TextLine, turn: &Turn, a: &Command, b: &Comma
     line.prepend_bytes(b"tic ");
 }
 
-// `50 0 0 00`
-fn prepend_command(line: &mut TextLine, command: &Command)
+/// `50 0 0 00`
+pub fn prepend_command(line: &mut TextLine, command: &Command)
     requires { length line.old ≤ 60 }
     ensures text { line.new ≡ command_text command.now ++ line.old }
     ensures length { length line.new ≤ length line.old + 33 }

@@ -3,9 +3,10 @@
 #![tactic(auto)]
 
 mod assembly;
+mod command_line;
 mod compare;
 mod demos;
-mod guess;
+mod header_line;
 pub mod laws;
 mod numbers;
 mod object;

@@ -1,4 +1,4 @@
-use Rattle.std.proofs.Common.{inl, refl, true}
+use Rattle.std.proofs.Common.{inl, refl}
 use Rattle.demo_lens.proofs.DifferenceLemmas.{found_same}
 use Rattle.demo_lens.proofs.compare.compare_demos.Goals as goal
 

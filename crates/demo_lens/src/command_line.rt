@@ -1,0 +1,72 @@
+//! The line of a command in a listing, read.
+
+ghost use Rattle.std.specs.Prelude.{◌≡◌, ◌≢◌, ◌≤◌, ◌<◌, ◌++◌, ◌∷◌, ℕ, List, [], length, IfSome, IfNone};
+ghost use Rattle.demo_lens.specs.Parts.{FitsCommand, command_fields};
+ghost use Rattle.demo_lump.specs.declared.command.Command.{Command};
+ghost use Rattle.wad_look.specs.Listing.{ticcmd_line};
+ghost use Rattle.wad_look.specs.Turn.{player_of, tic_of};
+
+use crate::compare::prepend_command;
+use crate::numbers::{behind_first, guess_hex, guess_number, guess_signed, take_label};
+use demo_lump::Command;
+use line_io::TextLine;
+use wad_look::Turn;
+
+/// The command of version 109 of which the line stands at the front when it is this turn, and what follows it.
+pub fn take_command<'t>(text: &'t [u8], turn: &Turn) -> Option<(Command, &'t [u8])>
+    ensures some { IfSome result (λ found. text.now
+        ≡ ticcmd_line (tic_of turn.now.players turn.now.index) (player_of turn.now.players turn.now.index) found.0 ++ found.1.now) }
+    ensures fits { IfSome result (λ found. FitsCommand found.0) }
+    ensures none { IfNone result ((c : Command) (rest : List ℕ) → FitsCommand c → text.now
+        ≢ ticcmd_line (tic_of turn.now.players turn.now.index) (player_of turn.now.players turn.now.index) c ++ rest) }
+{
+    let mut front = TextLine::new();
+    front.prepend_bytes(b" ");
+    front.prepend_small(turn.player());
+    front.prepend_bytes(b" ");
+    front.prepend_natural(turn.tic());
+    let Some(behind) = take_label(text, front.as_bytes()) else {
+        return None;
+    };
+    match take_fields(behind) {
+        Some((command, rest)) => Some((command, rest)),
+        None => None,
+    }
+}
+
+// The command of which the fields stand at the front and end their line, and what follows it.
+fn take_fields(text: &[u8]) -> Option<(Command, &[u8])>
+    ensures some { IfSome result (λ found. text.now ≡ command_fields found.0 (10 ∷ found.1.now)) }
+    ensures fits { IfSome result (λ found. FitsCommand found.0) }
+    ensures none { IfNone result ((c : Command) (rest : List ℕ) → FitsCommand c → text.now ≢ command_fields c (10 ∷ rest)) }
+{
+    let command = guess_command(text);
+    // Its byte is the marker.
+    if command.forward == -128 {
+        return None;
+    }
+    let mut line = TextLine::new();
+    line.prepend_bytes(b"\n");
+    prepend_command(&mut line, &command);
+    match take_label(text, line.as_bytes()) {
+        Some(rest) => Some((command, rest)),
+        None => None,
+    }
+}
+
+// The command of which the fields stand at the front. Where none do it is any command.
+fn guess_command(text: &[u8]) -> Command
+    ensures is { (c : Command) (rest : List ℕ) → FitsCommand c → text.now ≡ command_fields c rest → result ≡ c }
+    ensures small { result.turn < 256 }
+{
+    let (forward, rest) = guess_signed(text);
+    let (side, rest) = guess_signed(behind_first(rest));
+    let (turn, rest) = guess_number(behind_first(rest));
+    let buttons = guess_hex(behind_first(rest));
+    Command {
+        forward,
+        side,
+        turn: u16::from(turn),
+        buttons,
+    }
+}

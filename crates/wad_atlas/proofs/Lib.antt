@@ -1,0 +1,4 @@
+pub mod ItemLemmas
+pub mod TotalLemmas
+pub mod LevelLemmas
+mod WorkedCases

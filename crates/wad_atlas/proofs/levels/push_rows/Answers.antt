@@ -1,0 +1,28 @@
+use Rattle.std.proofs.Common.{arith}
+use Rattle.std.proofs.lemmas.List.{length-map}
+use Rattle.wad_atlas.proofs.LevelLemmas.{AddsRows-end, AddsRows-more, AddsRows-none}
+use Rattle.wad_dir.specs.Entries.{joined, listed_name, names}
+use Rattle.wad_lens.proofs.SurveyLemmas.{start_within}
+use Rattle.wad_atlas.proofs.levels.push_rows.Goals as goal
+
+pub levels-init : goal.levels-init
+levels-init g c = AddsRows-none c.args.origin.now c.args.set.now c.args.rows.now.items
+
+pub overflow_add-from : goal.overflow_add-from
+overflow_add-from g c =
+    let files = c.args.set.now in
+    omega (arith, start_within (names files) c.in-Some.g c.in-Some.ensures.some.starts, length-map (joined files) listed_name, c.total-total.ensures)
+
+pub levels-smaller : goal.levels-smaller
+levels-smaller g c =
+    let files = c.args.set.now in
+    omega (arith, start_within (names files) c.in-Some.g c.in-Some.ensures.some.starts, length-map (joined files) listed_name, c.total-total.ensures, c.in-Some.ensures.some.after)
+
+pub levels-preserved : goal.levels-preserved
+levels-preserved g c =
+    AddsRows-more c.args.origin.now c.args.set.now c.levels.from c.in-Some.g c.args.rows.now.items c.levels.rows.items c.push_row.new.rows.items
+    c.levels.invariant c.in-Some.ensures.some c.in_ok-push_row.ensures
+
+pub returns : goal.returns
+returns g c =
+    AddsRows-end c.args.origin.now c.args.set.now c.levels.from c.args.rows.now.items c.levels.rows.items c.levels.invariant c.in_default.ensures.none

@@ -1,0 +1,11 @@
+use Rattle.std.proofs.Common.{subst}
+use Rattle.line_io.specs.Writes.{Writes}
+use Rattle.map_picture.specs.Parts.{joined}
+use Rattle.wad_atlas.specs.Page.{head_parts}
+use Rattle.wad_lens.specs.declared.totals.Totals.{Totals}
+use Rattle.wad_atlas.proofs.page.write_head.Goals as goal
+
+pub returns : goal.returns
+returns g c =
+    subst (λ (totals : Totals). Writes (g.W.Sink.state c.args.out.now) (g.W.Sink.state c.write_parts.new.out) (joined (head_parts c.args.page.now.files totals)) c.write_parts.result)
+    c.totals_of-totals.ensures c.write_parts.ensures

@@ -1,0 +1,63 @@
+-- The levels of a file as rows of the page (ours): what stands in each is exact.
+use Rattle.std.specs.Prelude.{◌≡◌, ◌≢◌, ◌↔◌, ℕ, List, [], ◌∷◌, ◌++◌, All, IsTrue, Some, map}
+use Rattle.std.specs.List.{slice_get}
+use Rattle.le_rec.specs.declared.records.Vertex.{Vertex}
+use Rattle.level_list.specs.Format.{IsFormat}
+use Rattle.level_list.specs.declared.format.Format.TheVariants.{Doom}
+use Rattle.map_audit.specs.Findings.{AuditHolds}
+use Rattle.map_cells.specs.Ends.{IsEnd}
+use Rattle.map_level.specs.Level.{Level}
+use Rattle.map_level.specs.Opening.{IsLevelAt}
+use Rattle.map_level.specs.declared.reading.Reading.{Reading}
+use Rattle.wad_atlas.specs.Tables.{tables_of}
+use Rattle.wad_atlas.specs.declared.levels.Origin.{Origin}
+use Rattle.wad_atlas.specs.declared.row.Found.{Found}
+use Rattle.wad_atlas.specs.declared.row.Found.TheVariants as found
+use Rattle.wad_atlas.specs.declared.row.Judged.{Judged}
+use Rattle.wad_atlas.specs.declared.row.Row.{Row}
+use Rattle.wad_dir.specs.Entries.{names}
+use Rattle.wad_dir.specs.Wad.{Wad}
+use Rattle.wad_lens.specs.Counts.{AreCounts}
+use Rattle.wad_lens.specs.Survey.{AreStartsBelow}
+
+-- a linedef has both of its vertexes, so there is something to draw
+abbrev pub HasLines : Level → Type 0
+HasLines level = (v : Vertex) × IsEnd level v
+
+-- what is told of a level of Doom's format: the counts are those of the audit
+pub record IsJudged (files : List Wad) (reading : Reading) (g : ℕ) (judged : Judged) : Type 0 where
+  pub level : Level
+  pub there : IsLevelAt files g reading level
+  pub tables : judged.tables ≡ tables_of level
+  pub counts : AreCounts (AuditHolds level) judged.counts
+  pub drawn : IsTrue judged.drawn ↔ HasLines level
+
+-- what is told of the level that starts at an entry, by its format
+abbrev pub FoundAt : List Wad → Reading → ℕ → Found → Type 0
+FoundAt files reading g (found.Judged judged) = IsFormat files g Doom × IsJudged files reading g judged
+FoundAt files reading g (found.Unjudged unjudged) = IsFormat files g unjudged.format × (unjudged.format ≢ Doom)
+
+-- its row
+pub record IsRow (origin : Origin) (files : List Wad) (g : ℕ) (row : Row) : Type 0 where
+  pub file : row.file ≡ origin.file
+  pub path : row.path.now ≡ origin.path.now
+  pub entry : row.entry ≡ g
+  pub named : slice_get (names files) g ≡ Some row.name
+  pub found : FoundAt files origin.reading g row.found
+
+-- the rows of all levels that start below an entry, in the order of their labels
+pub record AreRowsBelow (origin : Origin) (files : List Wad) (end : ℕ) (rows : List Row) : Type 0 where
+  pub starts : AreStartsBelow (names files) end (map (λ row. row.entry) rows)
+  pub each : All (λ row. IsRow origin files row.entry row) rows
+
+-- these rows were added
+pub record AddsRows (origin : Origin) (files : List Wad) (end : ℕ) (old new : List Row) : Type 0 where
+  pub added : List Row
+  pub is : new ≡ old ++ added
+  pub are : AreRowsBelow origin files end added
+
+-- one row was
+pub record AddsRow (origin : Origin) (files : List Wad) (g : ℕ) (old new : List Row) : Type 0 where
+  pub row : Row
+  pub is : new ≡ old ++ row ∷ []
+  pub exact : IsRow origin files g row

@@ -1,0 +1,50 @@
+-- The page of an atlas (HTML's living standard; its words and looks are ours).
+use Rattle.std.specs.Prelude.{ℕ, List, [], ◌∷◌, ◌++◌, codes}
+use Rattle.std.specs.Fmt.{decimal}
+use Rattle.map_picture.specs.Parts.{joined}
+use Rattle.wad_atlas.specs.Items.{number_item}
+use Rattle.wad_atlas.specs.Refused.{refused_part}
+use Rattle.wad_atlas.specs.Rows.{faulty_rows, other_rows, totals_of_rows}
+use Rattle.wad_atlas.specs.Style.{style_text}
+use Rattle.wad_atlas.specs.declared.refused.Refused.{Refused}
+use Rattle.wad_atlas.specs.declared.row.Row.{Row}
+use Rattle.wad_lens.specs.Totals.{capped}
+use Rattle.wad_lens.specs.declared.totals.Totals.{Totals}
+
+-- `<title>Atlas: {levels} levels in {files} files</title>`
+unfoldable pub title_line : ℕ → Totals → List ℕ
+title_line files totals =
+    codes "<title>Atlas: " ++ (decimal totals.levels ++ (codes " levels in " ++ (decimal files ++ codes " files</title>\n")))
+
+-- what levels and files add up to
+abbrev pub total_items : ℕ → Totals → List (List ℕ)
+total_items files totals =
+    number_item (codes "levels") totals.levels
+    ∷ number_item (codes "files") files
+    ∷ number_item (codes "faults") totals.faults
+    ∷ number_item (codes "notes") totals.notes
+    ∷ number_item (codes "not judged") (capped totals.broken totals.unread)
+    ∷ []
+
+-- what stands above the levels: what they add up to
+abbrev pub head_parts : ℕ → Totals → List (List ℕ)
+head_parts files totals =
+    codes "<!DOCTYPE html>\n<html lang=\"en\">\n<head>\n<meta charset=\"utf-8\">\n<meta name=\"viewport\" content=\"width=device-width, initial-scale=1\">\n"
+    ∷ title_line files totals
+    ∷ style_text
+    ∷ codes "</head>\n<body>\n<header>\n<h1>Atlas</h1>\n<ul class=\"totals\">\n"
+    ∷ joined (total_items files totals)
+    ∷ codes "</ul>\n"
+    ∷ []
+
+-- the refused files, and the levels: those with a fault first
+abbrev pub body_parts : List Row → List Refused → List (List ℕ)
+body_parts rows refused =
+    refused_part refused ∷ codes "</header>\n<main>\n<ol>\n" ∷ faulty_rows rows ∷ other_rows rows ∷ codes "</ol>\n</main>\n</body>\n</html>\n" ∷ []
+
+abbrev pub page_parts : ℕ → List Row → List Refused → List (List ℕ)
+page_parts files rows refused = joined (head_parts files (totals_of_rows rows)) ∷ joined (body_parts rows refused) ∷ []
+
+-- the page of so many files with these levels, some of the files refused
+abbrev pub page_text : ℕ → List Row → List Refused → List ℕ
+page_text files rows refused = joined (page_parts files rows refused)

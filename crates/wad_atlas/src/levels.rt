@@ -1,0 +1,129 @@
+//! The levels of a file as rows.
+
+ghost use Rattle.std.specs.Prelude.{◌≡◌, ◌↔◌, IfOk, IsTrue, OnOk, length};
+ghost use Rattle.level_list.specs.Format.{IsFormat};
+ghost use Rattle.level_list.specs.Starts.{LevelStartsAt};
+ghost use Rattle.level_list.specs.declared.format.Format.TheVariants as format;
+ghost use Rattle.wad_atlas.specs.Levels.{AddsRow, AddsRows, FoundAt, HasLines, IsJudged, IsRow};
+ghost use Rattle.wad_dir.specs.Entries.{names};
+
+use crate::row::{Found, Judged, Row};
+use crate::tables::Tables;
+use crate::unjudged::Unjudged;
+use level_list::{Format, format_of, next_start};
+use map_cells::Frame;
+use map_level::{Level, Reading};
+use std::alloc::{AllocError, Allocator};
+use wad_dir::Set;
+use wad_lens::{Counts, label_of, level_at};
+
+/// Where levels come from, and how they are read.
+#[derive(Clone, Copy, Debug, PartialEq, Eq)]
+pub struct Origin<'p> {
+    /// The number of the file, from 1.
+    pub file: u64,
+    /// Its path.
+    pub path: &'p [u8],
+    pub reading: Reading,
+}
+
+/// Adds a row for each level of a file, in the order of their labels. What judging a level takes is given back before the
+/// next one.
+pub fn push_rows<'p, A: Allocator + Copy, B: Allocator>(
+    alloc: A,
+    origin: &Origin<'p>,
+    set: &Set<'_, A>,
+    rows: &mut Vec<Row<'p>, B>,
+) -> Result<(), AllocError>
+    ensures { OnOk result (AddsRows origin.now set.now (length (names set.now)) rows.old.items rows.new.items) }
+{
+    let total = set.total();
+    let mut from = 0;
+    'levels: while let Some(g) = next_start(set, from) {
+        push_row(alloc, origin, set, g, rows)?;
+        from = g + 1;
+    }
+    Ok(())
+}
+
+// Adds the row of the level that starts at an entry.
+fn push_row<'p, A: Allocator + Copy, B: Allocator>(
+    alloc: A,
+    origin: &Origin<'p>,
+    set: &Set<'_, A>,
+    g: usize,
+    rows: &mut Vec<Row<'p>, B>,
+) -> Result<(), AllocError>
+    requires { LevelStartsAt (names set.now) g }
+    ensures { OnOk result (AddsRow origin.now set.now g rows.old.items rows.new.items) }
+{
+    let row = row_at(alloc, origin, set, g)?;
+    rows.push(row)?;
+    Ok(())
+}
+
+// The row of the level that starts at an entry.
+fn row_at<'p, A: Allocator + Copy>(
+    alloc: A,
+    origin: &Origin<'p>,
+    set: &Set<'_, A>,
+    g: usize,
+) -> Result<Row<'p>, AllocError>
+    requires { LevelStartsAt (names set.now) g }
+    ensures { IfOk result (IsRow origin.now set.now g) }
+{
+    let name = label_of(set, g);
+    let found = found_at(alloc, set, g, origin.reading)?;
+    Ok(Row {
+        file: origin.file,
+        path: origin.path,
+        entry: g as u64,
+        name,
+        found,
+    })
+}
+
+// What is told of the level that starts at an entry.
+fn found_at<A: Allocator + Copy>(
+    alloc: A,
+    set: &Set<'_, A>,
+    g: usize,
+    reading: Reading,
+) -> Result<Found, AllocError>
+    requires { LevelStartsAt (names set.now) g }
+    ensures { IfOk result (FoundAt set.now reading g) }
+{
+    match format_of(set, g) {
+        Format::Doom => {
+            let judged = judged_at(alloc, set, g, reading)?;
+            Ok(Found::Judged(judged))
+        }
+        format => Ok(Found::Unjudged(Unjudged::new(format))),
+    }
+}
+
+// What is told of a level of Doom's format.
+fn judged_at<A: Allocator + Copy>(
+    alloc: A,
+    set: &Set<'_, A>,
+    g: usize,
+    reading: Reading,
+) -> Result<Judged, AllocError>
+    requires { IsFormat set.now g format.Doom }
+    ensures { IfOk result (IsJudged set.now reading g) }
+{
+    let level = level_at(set, g, reading);
+    let counts = Counts::of(alloc, &level)?;
+    Ok(Judged {
+        tables: Tables::of(&level),
+        counts,
+        drawn: has_lines(&level),
+    })
+}
+
+// Whether a linedef has both of its vertexes.
+fn has_lines(level: &Level<'_>) -> bool
+    ensures { IsTrue result ↔ HasLines level.now }
+{
+    Frame::of(level).is_some()
+}

@@ -1,0 +1,21 @@
+//! An archive as a page: its levels in rows, with their pictures, their counts and what was found at them.
+#![tactic(auto)]
+
+mod items;
+mod levels;
+mod page;
+mod refused;
+mod row;
+mod rows;
+mod style;
+mod tables;
+mod text;
+mod unjudged;
+
+pub use levels::{Origin, push_rows};
+pub use page::{Page, write_page};
+pub use refused::Refused;
+pub use row::{Found, Judged, Row};
+pub use rows::prepend_picture_name;
+pub use tables::Tables;
+pub use unjudged::Unjudged;

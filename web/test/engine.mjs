@@ -108,29 +108,29 @@ keep('other.wad', wad([label('MAP01'), label('THINGS'), label('MAP02'), label('T
 keep('notes.txt', Buffer.from('notes about the rooms'));
 keep('behind.wad', Buffer.concat([wad([label('MAP01')]).subarray(0, 12), Buffer.from([1])]));
 const files = [['base.wad'], ['base.wad', 'demo.wad'], ['other.wad', 'base.wad'], ['short.wad', 'damaged3.wad', 'notes.txt'], ['empty.wad'], ['behind.wad']];
-const told = [['check'], ['check', '--wide'], ['check', '--max', '0'], ['check', '--wide', '--max', '1'], ['survey'], ['survey', '--wide']];
+const told = [['check'], ['check', '--wide'], ['check', '--max', '0'], ['check', '--wide', '--max', '1'], ['survey'], ['survey', '--wide'],
+  ['check', '--map'], ['check', '--wide', '--map', '--strict', '--max', '2'], ['survey', '--map'], ['survey', '--wide', '--map', '--strict']];
 for (const words of told) for (const paths of files) await checkLens(words, paths);
-for (let i = 0; i < 40; i++) for (const words of [['check'], ['survey', '--wide'], ['cut', '--entry', '0']]) await checkLens(words, [`damaged${i}.wad`]);
+for (const words of [['demos'], ['demos', '--json']]) {
+  for (const paths of [...files, ['demo.lmp'], ['cut.lmp', 'demo.lmp'], ['demo.wad', 'cut.lmp', 'demo.wad']]) await checkLens(words, paths);
+}
+for (let i = 0; i < 40; i++) for (const words of [['check'], ['survey', '--wide', '--map'], ['cut', '--entry', '0']]) await checkLens(words, [`damaged${i}.wad`]);
 for (const entry of ['0', '1', '5', '11', '12', '18446744073709551615']) {
   for (const path of ['base.wad', 'other.wad', 'demo.wad', 'short.wad', 'empty.wad']) await checkLens(['cut', '--entry', entry], [path]);
 }
-for (const words of [['check', '--max', '-1'], ['check', '--max', 'x'], ['check', '--max'], ['check', '--wider'], ['survey', '--max', '1'], ['cut'],
+for (const words of [['check', '--max', '-1'], ['check', '--max', 'x'], ['check', '--max'], ['check', '--wider'], ['check', '--strict'], ['demos', '--map'], ['survey', '--max', '1'], ['demos', '--wide'], ['demos', '--json', '--json'], ['cut'],
   ['cut', '--entry', '18446744073709551616'], ['cut', '--wide', '--entry', '0']]) await refuses(words, ['base.wad']);
 await refuses(['cut', '--entry', '0'], ['base.wad', 'base.wad']);
 await refuses(['check'], []);
 
-// The picture of a level alone, where the program draws too.
-if (/picture/.test(native(wadlens, ['--help'], '').stdout.toString())) {
-  const options = [[], ['--cells', '64'], ['--wide'], ['--cells', '1024', '--frame', '-20,-30,100,90'], ['--wide', '--cells', '1', '--frame', '5,5,5,5']];
-  for (const path of ['base.wad', ...Array.from({ length: 40 }, (_, i) => `damaged${i}.wad`)]) {
-    const { answer } = await run(['cut', '--entry', '0', path], [names.get(path)]);
-    keep('alone.wad', Buffer.from(answer));
-    const { level, format } = JSON.parse(native(wadlens, ['survey', 'alone.wad'], '').stdout.toString().split('\n')[0] || '{}');
-    if (level !== 'E1M1' || format !== 'doom') continue; // the page asks for no picture of it
-    for (const words of options) await checkLens(['picture', ...words, 'E1M1'], ['alone.wad']);
-  }
-} else {
-  console.log("skipped, as wadlens has no word for it: pictures");
+// The picture of a level alone.
+const options = [[], ['--cells', '64'], ['--wide'], ['--cells', '1024', '--frame', '-20,-30,100,90'], ['--wide', '--cells', '1', '--frame', '5,5,5,5']];
+for (const path of ['base.wad', ...Array.from({ length: 40 }, (_, i) => `damaged${i}.wad`)]) {
+  const { answer } = await run(['cut', '--entry', '0', path], [names.get(path)]);
+  keep('alone.wad', Buffer.from(answer));
+  const { level, format } = JSON.parse(native(wadlens, ['survey', 'alone.wad'], '').stdout.toString().split('\n')[0] || '{}');
+  if (level !== 'E1M1' || format !== 'doom') continue; // the page asks for no picture of it
+  for (const words of options) await checkLens(['picture', ...words, 'E1M1'], ['alone.wad']);
 }
 console.log(`${passed} passed, ${failed} failed`);
 process.exitCode = failed ? 1 : 0;

@@ -19,7 +19,7 @@ if (isNative) console.log("the programs answer in the module's place");
 
 const room = mkdtempSync(join(tmpdir(), 'page-'));
 const overPrograms = (/** @type {import('./server.mjs').Words} */ which) => serve(join(root, 'web'), room, programs, which);
-const whole = isNative ? await overPrograms(options.includes('--bare') ? 'both' : 'doubled') : await serve(built, room);
+const whole = isNative ? await overPrograms(options.includes('--bare') ? 'undrawn' : 'all') : await serve(built, room);
 const less = isBuilt && isNative ? await serve(built, room) : await overPrograms('wadlook');
 let server = whole;
 const browser = new Browser(chromium(), join(room, 'profile'));

@@ -3,7 +3,6 @@ import { spawnSync } from 'node:child_process';
 import { existsSync, mkdirSync, readFileSync, rmSync, statSync, writeFileSync } from 'node:fs';
 import { createServer } from 'node:http';
 import { basename, extname, join, normalize } from 'node:path';
-import { picture } from './picture_double.mjs';
 
 const TYPES = /** @type {Record<string, string>} */ ({
   '.html': 'text/html', '.css': 'text/css', '.mjs': 'text/javascript', '.wasm': 'application/wasm', '.svg': 'image/svg+xml',
@@ -27,15 +26,13 @@ export function runProgram({ wadlook, wadlens }, room, words, files, input) {
   return { status: ran.status ?? 3, answer: ran.stdout, refused: ran.stderr.toString().replace(/^refused: /, '').trimEnd() };
 }
 
-/** Which words are answered: those of `wadlook`, those of both programs, or also `picture` of a double where they lack it. */
-/** @typedef {'wadlook' | 'both' | 'doubled'} Words */
+/** Which words are answered: those of `wadlook`, those of both programs without `picture`, or all. */
+/** @typedef {'wadlook' | 'undrawn' | 'all'} Words */
 
 /** As `runProgram`. @param {Programs} programs @param {string} room @param {Words} which */
 const answerer = (programs, room, which) => (/** @type {string[]} */ words, /** @type {Buffer[]} */ files, /** @type {Buffer} */ input) => {
-  if (which === 'wadlook' && LENS.includes(words[0])) return { status: 2, answer: Buffer.alloc(0), refused: 'usage' };
-  const ended = runProgram(programs, room, words, files, input);
-  if (which !== 'doubled' || ended.status !== 2 || !/usage/i.test(ended.refused)) return ended;
-  return words[0] === 'picture' ? picture((more, given) => runProgram(programs, room, more, files, given), words, files[0]) : ended;
+  const isLeftOut = which === 'wadlook' ? LENS.includes(words[0]) : which === 'undrawn' && words[0] === 'picture';
+  return isLeftOut ? { status: 2, answer: Buffer.alloc(0), refused: 'usage' } : runProgram(programs, room, words, files, input);
 };
 
 /** A question: 4 bytes of length, JSON of words and sizes, the bytes. @param {Buffer} body */
@@ -57,7 +54,7 @@ function answer({ status, answer: bytes, refused }) {
  * @param {string} folder the page's @param {string} room for files of runs @param {Programs} [programs] @param {Words} [which]
  * @returns {Promise<{ address: string, close: () => void }>}
  */
-export async function serve(folder, room, programs, which = 'doubled') {
+export async function serve(folder, room, programs, which = 'all') {
   const native = programs && answerer(programs, room, which);
   const server = createServer((asked, reply) => {
     const path = normalize(decodeURIComponent(new URL(asked.url ?? '', 'http://x').pathname));

@@ -4,9 +4,10 @@ use Rattle.std.proofs.Math.Seq.{take-append_seam}
 use Rattle.std.proofs.lemmas.List.{get_or-map, length-map, map-append}
 use Rattle.le_rec.specs.Sink.{SinkState}
 use Rattle.lens_page.specs.Run.{ToldTo, with_file}
-use Rattle.lens_page.specs.Tell.{TellsFile, tally_with}
-use Rattle.lens_page.specs.declared.tell.Tally.{Tally}
-use Rattle.lens_page.specs.declared.words.Asked.{Asked}
+use Rattle.lens_page.specs.Tell.{TellsFile}
+use Rattle.lens_run.specs.Run.{tally_with}
+use Rattle.lens_run.specs.declared.tell.Asked.{Asked}
+use Rattle.lens_run.specs.declared.tell.Tally.{Tally}
 
 -- one file more
 module _ {P F : Type 0} (path_of : P → List ℕ) (bytes_of : F → List ℕ) (paths : List P) (files : List F) (i : ℕ) (p : P) (f : F) where

@@ -2,31 +2,25 @@
 use Rattle.std.specs.Prelude.{◌≡◌, ◌⊎◌, ℕ, ◌+◌, List, [], ◌++◌, length, slice_index_or, Result, Ok, Err}
 use Rattle.std.specs.Io.KnownBytes.{Appends}
 use Rattle.le_rec.specs.Sink.{SinkState}
-use Rattle.lens_page.specs.Tell.{TellsFile, heading, no_tally, tally_with}
+use Rattle.lens_page.specs.Tell.{TellsFile, most_of}
 use Rattle.lens_page.specs.Words.{IsAsked}
 use Rattle.lens_page.specs.declared.run.LensFault.{LensFault}
 use Rattle.lens_page.specs.declared.run.LensFault.TheVariants.{Usage, Full}
-use Rattle.lens_page.specs.declared.tell.Tally.{Tally}
 use Rattle.lens_page.specs.declared.words.Asked.{Asked}
 use Rattle.lens_page.specs.declared.words.Word.{Word}
-use Rattle.lens_page.specs.declared.words.Word.TheVariants.{Check, Survey, Cut}
-use Rattle.wad_lens.specs.Cut.{IsCut, RefusesCut, cut_fault_text}
-use Rattle.wad_lens.specs.Totals.{totals_line}
+use Rattle.lens_page.specs.declared.words.Word.TheVariants.{Check, Survey, Demos, Cut}
+use Rattle.lens_run.specs.CutJob.{cut_fault_line}
+use Rattle.lens_run.specs.Job.{closing_line}
+use Rattle.lens_run.specs.Run.{no_tally, tally_with}
+use Rattle.lens_run.specs.declared.tell.Asked.{Asked as FileAsked}
+use Rattle.lens_run.specs.declared.tell.Tally.{Tally}
+use Rattle.lens_run.specs.declared.tell.Word.TheVariants as file
+use Rattle.wad_lens.specs.declared.judging.Judging.{Judging}
+use Rattle.wad_lens.specs.Cut.{IsCut, RefusesCut}
 use Rattle.wad_lens.specs.declared.cut.CutFault.{CutFault}
 use Rattle.wad_lens.specs.declared.cut.CutFault.TheVariants as fault
-use Rattle.wad_lens.specs.declared.totals.Totals.{Totals}
 use Rattle.wad_lens.specs.declared.verdict.Verdict.{Verdict}
 use Rattle.wad_lens.specs.declared.verdict.Verdict.TheVariants.{Clean, Unjudged, Faulty}
-
--- the status of what was found: a fault goes before what isn't judged
-abbrev pub status_of : Verdict → ℕ
-status_of Clean = 0
-status_of Faulty = 1
-status_of Unjudged = 2
-
--- the message of a level that isn't cut out
-abbrev pub cut_fault_line : List ℕ → CutFault → List ℕ
-cut_fault_line path why = heading path ++ cut_fault_text why
 
 -- a level that lacks a lump is faulty, and one that isn't there is not judged
 abbrev pub verdict_of_cut : CutFault → Verdict
@@ -55,36 +49,34 @@ CutsFile entry path bytes out out' errors errors' verdict =
     CutsOut entry bytes out out' errors errors' verdict ⊎ CutsNone entry path bytes out out' errors errors' verdict
 
 -- so many files were told, one after another, and what was found
-pub data ToldTo (asked : Asked) (paths files : List (List ℕ)) (out errors : SinkState) : ℕ → SinkState → SinkState → Tally → Type 0 where
+pub data ToldTo (asked : FileAsked) (paths files : List (List ℕ)) (out errors : SinkState) : ℕ → SinkState → SinkState → Tally → Type 0 where
   at_start : ToldTo asked paths files out errors 0 out errors no_tally
   with_file : (i : ℕ) (out' errors' : SinkState) (sum : Tally) (out'' errors'' : SinkState) (tally : Tally)
       → ToldTo asked paths files out errors i out' errors' sum
       → TellsFile asked (slice_index_or paths i []) (slice_index_or files i []) out' out'' errors' errors'' tally
       → ToldTo asked paths files out errors (i + 1) out'' errors'' (tally_with sum tally)
 
--- what the answer ends with: a check with its totals, the others with nothing more
-abbrev pub closing_line : Word → ℕ → Totals → List ℕ
-closing_line (Check most) files totals = totals_line files totals
-closing_line Survey files totals = []
-closing_line (Cut entry) files totals = []
-
 -- all files were told
-pub record TellsAll (asked : Asked) (paths files : List (List ℕ)) (out out' errors errors' : SinkState) (verdict : Verdict) : Type 0 where
+pub record TellsAll (asked : FileAsked) (paths files : List (List ℕ)) (out out' errors errors' : SinkState) (verdict : Verdict) : Type 0 where
   pub between : SinkState
   pub tally : Tally
   pub told : ToldTo asked paths files out errors (length files) between errors' tally
-  pub closed : Appends between.taken out'.taken (closing_line asked.word (length files) tally.totals)
+  pub closed : Appends between.taken out'.taken (closing_line asked (length files) tally.totals)
   pub says : verdict ≡ tally.verdict
 
 -- what is asked of files was answered
-abbrev pub AnswersBy : Word → Asked → List (List ℕ) → List (List ℕ) → SinkState → SinkState → SinkState → SinkState → Verdict → Type 0
-AnswersBy (Check most) asked paths files out out' errors errors' verdict = TellsAll asked paths files out out' errors errors' verdict
-AnswersBy Survey asked paths files out out' errors errors' verdict = TellsAll asked paths files out out' errors errors' verdict
-AnswersBy (Cut entry) asked paths files out out' errors errors' verdict =
+abbrev pub AnswersBy : Word → Judging → List (List ℕ) → List (List ℕ) → SinkState → SinkState → SinkState → SinkState → Verdict → Type 0
+AnswersBy (Check most) judging paths files out out' errors errors' verdict =
+    TellsAll (record { word = file.Check (most_of most); judging = judging }) paths files out out' errors errors' verdict
+AnswersBy Survey judging paths files out out' errors errors' verdict =
+    TellsAll (record { word = file.Survey; judging = judging }) paths files out out' errors errors' verdict
+AnswersBy (Demos form) judging paths files out out' errors errors' verdict =
+    TellsAll (record { word = file.Demos form; judging = judging }) paths files out out' errors errors' verdict
+AnswersBy (Cut entry) judging paths files out out' errors errors' verdict =
     CutsFile entry (slice_index_or paths 0 []) (slice_index_or files 0 []) out out' errors errors' verdict
 
 abbrev pub Answers : Asked → List (List ℕ) → List (List ℕ) → SinkState → SinkState → SinkState → SinkState → Verdict → Type 0
-Answers asked paths files out out' errors errors' verdict = AnswersBy asked.word asked paths files out out' errors errors' verdict
+Answers asked paths files out out' errors errors' verdict = AnswersBy asked.word asked.judging paths files out out' errors errors' verdict
 
 -- the words ask for this of so many files, whose paths are the last of them
 pub record Asks (words : List (List ℕ)) (count : ℕ) (asked : Asked) (paths : List (List ℕ)) : Type 0 where

@@ -1,14 +1,14 @@
 //! A level of one file alone.
 
-ghost use Rattle.std.specs.Prelude.{◌≡◌, ◌++◌, false, IfOk, OnOk};
-ghost use Rattle.lens_page.specs.Run.{CutsFile, cut_fault_line, verdict_of_cut};
-ghost use Rattle.lens_page.specs.Tell.{Adds, AreSound};
-ghost use Rattle.wad_lens.specs.Cut.{HasLump};
+ghost use Rattle.std.specs.Prelude.{◌≡◌, IfOk};
+ghost use Rattle.lens_page.specs.Run.{CutsFile, verdict_of_cut};
+ghost use Rattle.lens_run.specs.Run.{AreSound};
 
-use crate::tell::{NoRoom, write_heading};
+use crate::tell::NoRoom;
 use le_rec::Sink;
+use lens_run::write_cut_line;
 use std::alloc::Allocator;
-use wad_lens::{CutFault, Verdict, cut_level, write_cut_fault};
+use wad_lens::{CutFault, Verdict, cut_level};
 
 /// Writes the level whose label is an entry of the bytes, or tells why not.
 pub fn cut_file<A: Allocator + Copy, W: Sink, E: Sink>(
@@ -25,23 +25,10 @@ pub fn cut_file<A: Allocator + Copy, W: Sink, E: Sink>(
     match cut_level(alloc, bytes, entry, out) {
         Ok(()) => Ok(Verdict::Clean),
         Err(CutFault::Memory | CutFault::Write) => Err(NoRoom),
-        Err(fault) => {
-            write_cut_line(path, fault, errors)?;
-            Ok(verdict_of_cut(fault))
-        }
-    }
-}
-
-// `wadlens: PATH: TEXT`
-fn write_cut_line<E: Sink>(path: &[u8], fault: CutFault, errors: &mut E) -> Result<(), NoRoom>
-    requires lump { HasLump fault }
-    requires sound { (E.state errors.old).failed ≡ false }
-    ensures { OnOk result (Adds (E.state errors.old) (E.state errors.new) (cut_fault_line path.now fault)) }
-{
-    write_heading(path, errors)?;
-    match write_cut_fault(fault, errors) {
-        Ok(()) => Ok(()),
-        Err(_) => Err(NoRoom),
+        Err(fault) => match write_cut_line(path, fault, errors) {
+            Ok(()) => Ok(verdict_of_cut(fault)),
+            Err(_) => Err(NoRoom),
+        },
     }
 }
 

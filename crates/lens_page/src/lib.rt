@@ -7,5 +7,5 @@ mod run;
 mod tell;
 mod words;
 
-pub use run::{LensFault, run_words, status};
+pub use run::{LensFault, run_words};
 pub use words::{Asked, Word};

@@ -1,16 +1,17 @@
 //! The run of words over files.
 
 ghost use Rattle.std.specs.Prelude.{◌≡◌, ◌<◌, false, length, map, string_bytes, IfOk, OnOk};
-ghost use Rattle.lens_page.specs.Run.{Answers, RunsWords, TellsAll, ToldTo, closing_line, status_of};
-ghost use Rattle.lens_page.specs.Tell.{Adds, AreSound};
+ghost use Rattle.lens_page.specs.Run.{Answers, RunsWords, TellsAll, ToldTo};
+ghost use Rattle.lens_run.specs.Run.{AreSound};
 ghost use Rattle.wad_look.specs.Opening.{bytes_of};
 
 use crate::cut::cut_file;
-use crate::tell::{NoRoom, Tally, no_tally, put_all, tell_file};
+use crate::tell::{NoRoom, most_of, tell_file};
 use crate::words::{Asked, Word, asked_by};
 use le_rec::Sink;
+use lens_run::{Asked as FileAsked, Tally, Word as FileWord, no_tally, write_last};
 use std::alloc::Allocator;
-use wad_lens::{Totals, Verdict, write_totals};
+use wad_lens::Verdict;
 
 /// Why there is no answer.
 #[derive(Clone, Copy, Debug, PartialEq, Eq)]
@@ -19,17 +20,6 @@ pub enum LensFault {
     Usage,
     /// A growth was refused, or an end failed.
     Full,
-}
-
-/// The status with which the program ends: 0 nothing found, 1 a fault, 2 what isn't judged or was refused.
-pub fn status(verdict: Verdict) -> u8
-    ensures { result ≡ status_of verdict }
-{
-    match verdict {
-        Verdict::Clean => 0,
-        Verdict::Faulty => 1,
-        Verdict::Unjudged => 2,
-    }
 }
 
 /// Does what the words ask for. The last of them are the paths of the files, in order.
@@ -71,6 +61,7 @@ fn answer<A: Allocator + Copy, W: Sink, E: Sink>(
     requires sound { AreSound (W.state out.old) (E.state errors.old) }
     ensures { IfOk result (Answers asked (map string_bytes paths.now) (bytes_of files.now) (W.state out.old) (W.state out.new) (E.state errors.old) (E.state errors.new)) }
 {
+    let judging = asked.judging;
     match asked.word {
         Word::Cut(entry) => cut_file(
             alloc,
@@ -80,14 +71,46 @@ fn answer<A: Allocator + Copy, W: Sink, E: Sink>(
             out,
             errors,
         ),
-        Word::Check(_) | Word::Survey => tell_all(alloc, asked, paths, files, out, errors),
+        Word::Check(most) => {
+            let word = FileWord::Check(most_of(most));
+            tell_all(
+                alloc,
+                FileAsked { word, judging },
+                paths,
+                files,
+                out,
+                errors,
+            )
+        }
+        Word::Survey => {
+            let word = FileWord::Survey;
+            tell_all(
+                alloc,
+                FileAsked { word, judging },
+                paths,
+                files,
+                out,
+                errors,
+            )
+        }
+        Word::Demos(form) => {
+            let word = FileWord::Demos(form);
+            tell_all(
+                alloc,
+                FileAsked { word, judging },
+                paths,
+                files,
+                out,
+                errors,
+            )
+        }
     }
 }
 
 // Tells what is asked of the files, and adds it up.
 fn tell_all<A: Allocator + Copy, W: Sink, E: Sink>(
     alloc: A,
-    asked: Asked,
+    asked: FileAsked,
     paths: &[String<A>],
     files: &[Vec<u8, A>],
     out: &mut W,
@@ -98,14 +121,16 @@ fn tell_all<A: Allocator + Copy, W: Sink, E: Sink>(
     ensures { IfOk result (TellsAll asked (map string_bytes paths.now) (bytes_of files.now) (W.state out.old) (W.state out.new) (E.state errors.old) (E.state errors.new)) }
 {
     let tally = tell_files(alloc, asked, paths, files, out, errors)?;
-    write_last(asked.word, files.len() as u64, &tally.totals, out)?;
-    Ok(tally.verdict)
+    match write_last(asked, files.len() as u64, &tally.totals, out) {
+        Ok(()) => Ok(tally.verdict),
+        Err(_) => Err(NoRoom),
+    }
 }
 
 // Tells what is asked of each file, in order.
 fn tell_files<A: Allocator + Copy, W: Sink, E: Sink>(
     alloc: A,
-    asked: Asked,
+    asked: FileAsked,
     paths: &[String<A>],
     files: &[Vec<u8, A>],
     out: &mut W,
@@ -124,18 +149,4 @@ fn tell_files<A: Allocator + Copy, W: Sink, E: Sink>(
         sum = sum.with(tally);
     }
     Ok(sum)
-}
-
-// A check ends with its totals, and the others with nothing more.
-fn write_last<W: Sink>(word: Word, files: u64, totals: &Totals, out: &mut W) -> Result<(), NoRoom>
-    requires { (W.state out.old).failed ≡ false }
-    ensures { OnOk result (Adds (W.state out.old) (W.state out.new) (closing_line word files totals.now)) }
-{
-    match word {
-        Word::Check(_) => match write_totals(files, totals, out) {
-            Ok(()) => Ok(()),
-            Err(_) => Err(NoRoom),
-        },
-        Word::Survey | Word::Cut(_) => put_all(out, b""),
-    }
 }

@@ -1,15 +1,15 @@
 -- What words of `wadlens` do over files in memory (ours).
 use Rattle.std.specs.Prelude.{◌≡◌, ◌⊎◌, ℕ, List, [], length, take, codes, Some, Result, Ok, Err}
 use Rattle.le_rec.specs.Sink.{SinkState}
-use Rattle.lens_page.specs.Run.{RunsWords, status_of}
+use Rattle.lens_page.specs.Run.{RunsWords}
 use Rattle.lens_page.specs.declared.run.LensFault.{LensFault}
 use Rattle.lens_page.specs.declared.run.LensFault.TheVariants.{Usage, Full}
+use Rattle.lens_run.specs.Status.{status_of}
+use Rattle.memory_ends.specs.ToVec.{ToVec, state_of as vec_state}
 use Rattle.wad_lens.specs.declared.verdict.Verdict.{Verdict}
-use Rattle.wad_page.specs.Answer.{state_of as answer_state, taken_of}
 use Rattle.wad_page.specs.Look.{AreGiven}
 use Rattle.wad_page.specs.Parts.{AreWords, cut}
 use Rattle.wad_page.specs.declared.Ended.{Ended}
-use Rattle.wad_page.specs.declared.answer.Answer.{Answer}
 use Rattle.wad_page.specs.declared.parts.Parts.{Parts}
 
 -- the words run over the files
@@ -52,19 +52,19 @@ pub record Lensed (words word_sizes files file_sizes out why : List ℕ) (ended 
   pub words_are : AreGiven asked words word_sizes
   pub given : Parts
   pub files_are : AreGiven given files file_sizes
-  pub sink : Answer
-  pub sink' : Answer
-  pub empty : taken_of sink ≡ []
-  pub messages : Answer
-  pub messages' : Answer
-  pub silent : taken_of messages ≡ []
+  pub sink : ToVec
+  pub sink' : ToVec
+  pub empty : sink.taken ≡ []
+  pub messages : ToVec
+  pub messages' : ToVec
+  pub silent : messages.taken ≡ []
   pub outcome : Result Verdict LensFault
-  pub does : DoesLens answer_state answer_state asked given sink sink' messages messages' outcome
+  pub does : DoesLens vec_state vec_state asked given sink sink' messages messages' outcome
   pub status : ended.status ≡ lens_status outcome
-  pub answered : ended.answered ≡ length (taken_of sink')
-  pub answer : take ended.answered out ≡ taken_of sink'
-  pub told : ended.told ≡ length (lens_message outcome (taken_of messages'))
-  pub message : take ended.told why ≡ lens_message outcome (taken_of messages')
+  pub answered : ended.answered ≡ length sink'.taken
+  pub answer : take ended.answered out ≡ sink'.taken
+  pub told : ended.told ≡ length (lens_message outcome messages'.taken)
+  pub message : take ended.told why ≡ lens_message outcome messages'.taken
 
 -- or there was no room for it, with nothing answered
 abbrev pub LensEnds : List ℕ → List ℕ → List ℕ → List ℕ → List ℕ → List ℕ → Ended → Type 0

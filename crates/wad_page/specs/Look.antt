@@ -2,6 +2,7 @@
 use Rattle.std.specs.Prelude.{◌≡◌, ◌⊎◌, ℕ, Bool, List, [], length, take, slice_index_or, Some, Result, Err}
 use Rattle.le_rec.specs.Sink.{SinkState}
 use Rattle.memory_ends.specs.FromSlice.{bytes_left, state_of as slice_state}
+use Rattle.memory_ends.specs.ToVec.{ToVec, state_of as vec_state}
 use Rattle.memory_ends.specs.declared.from_slice.FromSlice.{FromSlice}
 use Rattle.wad_look.specs.Command.{Job}
 use Rattle.wad_look.specs.RunsJob.{RunsJob}
@@ -10,11 +11,9 @@ use Rattle.wad_look.specs.declared.command.Cmd.{Cmd}
 use Rattle.wad_look.specs.declared.command.Cmd.TheVariants.{Lmp}
 use Rattle.wad_look.specs.declared.fault.RunFault.{RunFault}
 use Rattle.wad_look.specs.declared.fault.RunFault.TheVariants.{Memory}
-use Rattle.wad_page.specs.Answer.{state_of as answer_state, taken_of}
 use Rattle.wad_page.specs.Parts.{AreWords, cut}
 use Rattle.wad_page.specs.Refusal.{exit_status_of, page_end}
 use Rattle.wad_page.specs.declared.Ended.{Ended}
-use Rattle.wad_page.specs.declared.answer.Answer.{Answer}
 use Rattle.wad_page.specs.declared.parts.Parts.{Parts}
 use Rattle.wad_page.specs.declared.refusal.Refusal.{Refusal}
 use Rattle.wad_page.specs.declared.refusal.Refusal.TheVariants.{Usage, Run}
@@ -75,14 +74,14 @@ pub record Looked (words word_sizes files file_sizes input out : List ℕ) (ende
   pub words_are : AreGiven asked words word_sizes
   pub given : Parts
   pub files_are : AreGiven given files file_sizes
-  pub sink : Answer
-  pub sink' : Answer
-  pub empty : taken_of sink ≡ []
+  pub sink : ToVec
+  pub sink' : ToVec
+  pub empty : sink.taken ≡ []
   pub outcome : Result Bool Refusal
-  pub does : DoesLook answer_state asked given input sink sink' outcome
+  pub does : DoesLook vec_state asked given input sink sink' outcome
   pub status : ended.status ≡ exit_status_of outcome
-  pub answered : ended.answered ≡ length (taken_of sink')
-  pub answer : take ended.answered out ≡ taken_of sink'
+  pub answered : ended.answered ≡ length sink'.taken
+  pub answer : take ended.answered out ≡ sink'.taken
 
 -- or there was no room for it, with nothing answered
 abbrev pub LookEnds : List ℕ → List ℕ → List ℕ → List ℕ → List ℕ → List ℕ → Ended → Type 0

@@ -1,13 +1,14 @@
 //! What words of `wadlens` ask for.
 
-ghost use Rattle.std.specs.Prelude.{◌≡◌, ◌≤◌, length, take};
-ghost use Rattle.lens_page.specs.Tell.{AreSound};
+ghost use Rattle.std.specs.Prelude.{◌≡◌};
+ghost use Rattle.lens_run.specs.Run.{AreSound};
 ghost use Rattle.wad_page.specs.Lens.{DoesLens, lens_message, lens_status};
 
 use crate::parts::{Parts, copies, read_words};
 use crate::refusal::Refusal;
 use le_rec::Sink;
-use lens_page::{LensFault, run_words, status};
+use lens_page::{LensFault, run_words};
+use lens_run::status;
 use std::alloc::Allocator;
 use wad_lens::Verdict;
 
@@ -53,15 +54,4 @@ pub fn lens_message<'m>(outcome: &Result<Verdict, LensFault>, told: &'m [u8]) ->
         Err(LensFault::Usage) => b"usage",
         Ok(_) | Err(LensFault::Full) => told,
     }
-}
-
-/// Copies a text to the front of a slice that has room for it.
-pub fn hand_out(text: &[u8], to: &mut [u8]) -> usize
-    requires { length text.now ≤ length to.old }
-    ensures count { result ≡ length text.now }
-    ensures front { take result to.new ≡ text.now }
-{
-    let count = text.len();
-    to[..count].copy_from_slice(text);
-    count
 }

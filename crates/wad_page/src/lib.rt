@@ -2,24 +2,24 @@
 //! is answered is written into slices, and all that an engine needs meanwhile is allocated in the host's block.
 #![tactic(auto)]
 
-ghost use Rattle.wad_page.specs.Lens.{LensEnds};
-ghost use Rattle.wad_page.specs.Look.{LookEnds};
+ghost use Rattle.std.specs.Prelude.{IfSome};
+ghost use Rattle.wad_page.specs.Lens.{LensEnds, Lensed};
+ghost use Rattle.wad_page.specs.Look.{LookEnds, Looked};
 
-mod answer;
 mod lens;
 mod look;
 mod parts;
 mod refusal;
 
-use answer::Answer;
-use bumpalo::Bump;
 use le_rec::Sink;
-use lens::{do_lens, hand_out, lens_message, lens_status};
+use lens::{do_lens, lens_message, lens_status};
 use lens_page::LensFault;
 use look::do_words;
-use one_block::{Block, OneBlock, arena};
+use memory_ends::{ToVec, hand_out};
+use one_block::{Block, arena};
 use parts::Parts;
 use refusal::{Refusal, exit_status};
+use std::alloc::Allocator;
 
 /// How a run ended, as the host reads it.
 #[repr(C)]
@@ -32,6 +32,13 @@ pub struct Ended {
     /// How many bytes of `why` the reason has.
     pub told: usize,
 }
+
+// How a run ends for which there is no room.
+const NO_ROOM: Ended = Ended {
+    status: 3,
+    answered: 0,
+    told: 0,
+};
 
 /// Does what words of `wadlook` ask for. What the words name as files are those handed in, one for each path, in order; the
 /// answer goes into `out`, and why it was refused into `why`, as far as there is room.
@@ -52,12 +59,6 @@ pub extern "C" fn wad_run(
 )
     ensures { LookEnds words.now word_sizes.now files.now file_sizes.now input.now out.new ended.new }
 {
-    ended.status = 3;
-    ended.answered = 0;
-    ended.told = 0;
-    let Some(arena) = arena(heap) else {
-        return;
-    };
     let words = Parts {
         bytes: words,
         sizes: word_sizes,
@@ -66,21 +67,7 @@ pub extern "C" fn wad_run(
         bytes: files,
         sizes: file_sizes,
     };
-    let Ok(mut sink) = Answer::with_room(&arena, out.len()) else {
-        return;
-    };
-    let outcome = do_words(&arena, words, files, input, &mut sink);
-    let answer = sink.taken();
-    let count = answer.len();
-    if sink.failed() || count > out.len() {
-        return;
-    }
-    out[..count].copy_from_slice(answer);
-    ended.answered = count;
-    ended.status = exit_status(&outcome);
-    if let Err(refusal) = outcome {
-        ended.told = tell(&arena, refusal, why);
-    }
+    *ended = answer_look(heap, words, files, input, out, why).unwrap_or(NO_ROOM);
 }
 
 /// Does what words of `wadlens` ask for. The last of the words are the paths of the files that are handed in, in order; the
@@ -101,12 +88,6 @@ pub extern "C" fn lens_run(
 )
     ensures { LensEnds words.now word_sizes.now files.now file_sizes.now out.new why.new ended.new }
 {
-    ended.status = 3;
-    ended.answered = 0;
-    ended.told = 0;
-    let Some(arena) = arena(heap) else {
-        return;
-    };
     let words = Parts {
         bytes: words,
         sizes: word_sizes,
@@ -115,26 +96,67 @@ pub extern "C" fn lens_run(
         bytes: files,
         sizes: file_sizes,
     };
-    let Ok(mut sink) = Answer::with_room(&arena, out.len()) else {
-        return;
-    };
-    let Ok(mut messages) = Answer::with_room(&arena, why.len()) else {
-        return;
-    };
-    let outcome = do_lens(&arena, words, files, &mut sink, &mut messages);
-    let answer = sink.taken();
-    let message = lens_message(&outcome, messages.taken());
-    if outcome == Err(LensFault::Full) || answer.len() > out.len() || message.len() > why.len() {
-        return;
+    *ended = answer_lens(heap, words, files, out, why).unwrap_or(NO_ROOM);
+}
+
+// What `wad_run` answers, where there is room.
+fn answer_look(
+    heap: Block,
+    words: Parts<'_>,
+    files: Parts<'_>,
+    input: &[u8],
+    out: &mut [u8],
+    why: &mut [u8],
+) -> Option<Ended>
+    ensures { IfSome result (Looked words.entry.bytes.now words.entry.sizes.now files.entry.bytes.now files.entry.sizes.now input.now out.new) }
+{
+    let arena = arena(heap)?;
+    let mut sink = ToVec::with_capacity(&arena, out.len()).ok()?;
+    let outcome = do_words(&arena, words, files, input, &mut sink);
+    if sink.failed() {
+        return None;
     }
-    ended.answered = hand_out(answer, out);
-    ended.told = hand_out(message, why);
-    ended.status = lens_status(&outcome);
+    let answered = hand_out(sink.taken(), out)?;
+    let told = match outcome {
+        Ok(_) => 0,
+        Err(refusal) => tell(&arena, refusal, why),
+    };
+    Some(Ended {
+        status: exit_status(&outcome),
+        answered,
+        told,
+    })
+}
+
+// What `lens_run` answers, where there is room.
+fn answer_lens(
+    heap: Block,
+    words: Parts<'_>,
+    files: Parts<'_>,
+    out: &mut [u8],
+    why: &mut [u8],
+) -> Option<Ended>
+    ensures { IfSome result (Lensed words.entry.bytes.now words.entry.sizes.now files.entry.bytes.now files.entry.sizes.now out.new why.new) }
+{
+    let arena = arena(heap)?;
+    let mut sink = ToVec::with_capacity(&arena, out.len()).ok()?;
+    let mut messages = ToVec::with_capacity(&arena, why.len()).ok()?;
+    let outcome = do_lens(&arena, words, files, &mut sink, &mut messages);
+    if outcome == Err(LensFault::Full) {
+        return None;
+    }
+    let answered = hand_out(sink.taken(), out)?;
+    let told = hand_out(lens_message(&outcome, messages.taken()), why)?;
+    Some(Ended {
+        status: lens_status(&outcome),
+        answered,
+        told,
+    })
 }
 
 // Writes why it was refused, as far as there is room.
-fn tell(arena: &Bump<OneBlock>, refusal: Refusal, why: &mut [u8]) -> usize {
-    let Ok(text) = refusal.to_string(arena) else {
+fn tell<A: Allocator>(alloc: A, refusal: Refusal, why: &mut [u8]) -> usize {
+    let Ok(text) = refusal.to_string(alloc) else {
         return 0;
     };
     let text = text.as_str().as_bytes();

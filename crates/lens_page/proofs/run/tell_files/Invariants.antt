@@ -1,6 +1,6 @@
 use Rattle.std.proofs.Common.{map, string_bytes}
 use Rattle.lens_page.specs.Run.{ToldTo}
-use Rattle.lens_page.specs.Tell.{AreSound}
+use Rattle.lens_run.specs.Run.{AreSound}
 use Rattle.wad_look.specs.Opening.{bytes_of}
 use Rattle.lens_page.proofs.run.tell_files.Given as goal
 

@@ -1,0 +1,5 @@
+mod CompareLemmas
+pub mod CutLemmas
+pub mod JobLemmas
+pub mod TellLemmas
+pub mod PathLemmas

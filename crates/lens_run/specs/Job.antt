@@ -1,0 +1,129 @@
+-- What a run of a job does (ours): the paths of the words and of the list are told, and it ends as that ended.
+use Rattle.std.specs.Prelude.{◌≡◌, ◌⊎◌, ℕ, Bool, true, List, [], ◌++◌, codes, length, map, Option, None, Some, Result, Ok, Err, if◌then◌else◌}
+use Rattle.std.specs.Io.KnownBytes.{Appends, Keeps}
+use Rattle.std.specs.Str.{bytes_eq}
+use Rattle.le_rec.specs.Sink.{SinkState}
+use Rattle.line_io.specs.Writes.{TakesFront}
+use Rattle.wad_lens.specs.Totals.{totals_line}
+use Rattle.wad_lens.specs.declared.object.Refusal.{Refusal}
+use Rattle.wad_lens.specs.declared.judging.Warnings.{Warnings}
+use Rattle.wad_lens.specs.declared.totals.Totals.{Totals}
+use Rattle.wad_lens.specs.declared.verdict.Verdict.{Verdict}
+use Rattle.lens_run.specs.Files.{RefusesRead}
+use Rattle.lens_run.specs.Output.{held_back, is_closed, output_state}
+use Rattle.lens_run.specs.Paths.{listed_paths}
+use Rattle.lens_run.specs.Run.{StopsAt, ToldTo, refusal_line}
+use Rattle.lens_run.specs.declared.end.End.{End}
+use Rattle.lens_run.specs.declared.end.End.TheVariants as end
+use Rattle.lens_run.specs.declared.files.ReadFault.TheVariants.{Refused}
+use Rattle.lens_run.specs.declared.output.Output.{Output}
+use Rattle.lens_run.specs.declared.tell.Asked.{Asked}
+use Rattle.lens_run.specs.declared.tell.Stop.{Stop}
+use Rattle.lens_run.specs.declared.tell.Stop.TheVariants as stop
+use Rattle.lens_run.specs.declared.tell.Tally.{Tally}
+use Rattle.lens_run.specs.declared.tell.Word.{Word}
+use Rattle.lens_run.specs.declared.tell.Word.TheVariants.{Check, Demos, Survey}
+use Rattle.lens_run.specs.declared.job.Job.{Job}
+
+-- the path of the list of more paths
+abbrev pub list_path : Job → Option (List ℕ)
+list_path job = elim job.list [ None ↦ None | Some path ↦ Some path.now ]
+
+-- standard input
+abbrev pub dash : List ℕ
+dash = codes "-"
+
+-- what a list holds: standard input for `-`, which has the bytes `left`, and else the file under its path
+abbrev pub held_at : (List ℕ → Option (List ℕ)) → Option (List ℕ) → Option (List ℕ) → Option (List ℕ)
+held_at held left None = None
+held_at held left (Some path) = if bytes_eq path dash then left else held path
+
+abbrev pub list_held : (List ℕ → Option (List ℕ)) → Option (List ℕ) → Job → Option (List ℕ)
+list_held held left job = held_at held left (list_path job)
+
+-- these are the bytes of the list of a job: none where there is no list
+abbrev pub HoldsAt : (List ℕ → Option (List ℕ)) → Option (List ℕ) → Option (List ℕ) → List ℕ → Type 0
+HoldsAt held left None list = list ≡ []
+HoldsAt held left (Some path) list = Keeps (if bytes_eq path dash then left else held path) (Some list)
+
+abbrev pub HoldsList : (List ℕ → Option (List ℕ)) → Option (List ℕ) → Job → List ℕ → Type 0
+HoldsList held left job list = HoldsAt held left (list_path job) list
+
+-- the paths of a job: those of the words, and then those of the list
+abbrev pub job_paths : Job → List ℕ → List (List ℕ)
+job_paths job list = map (λ file. file.now) job.files.items ++ listed_paths job.list_end list
+
+-- the list as people are told of it
+abbrev pub list_name_at : Option (List ℕ) → List ℕ
+list_name_at None = codes "standard input"
+list_name_at (Some path) = if bytes_eq path dash then codes "standard input" else path
+
+abbrev pub list_name : Job → List ℕ
+list_name job = list_name_at (list_path job)
+
+-- what a run ends with: a check with its totals, and else nothing more
+abbrev pub last_line : Word → Warnings → ℕ → Totals → List ℕ
+last_line (Check most) warnings files totals = totals_line files warnings totals
+last_line Survey warnings files totals = []
+last_line (Demos form) warnings files totals = []
+
+abbrev pub closing_line : Asked → ℕ → Totals → List ℕ
+closing_line asked files totals = last_line asked.word asked.judging.warnings files totals
+
+-- how a run ends whose output failed
+abbrev pub output_end : Bool → Verdict → End
+output_end closed found = if closed then end.Closed found else end.Output
+
+-- how a run ends that stopped
+abbrev pub stop_end : Bool → Stop → End
+stop_end closed stop.Memory = end.Memory
+stop_end closed (stop.Output found) = output_end closed found
+stop_end closed stop.Errors = end.Errors
+
+-- all was found, and the rest of the text was taken and all written out; or a write failed
+abbrev pub TellsRest : {W : Type 0} → (W → Option (List ℕ)) → List ℕ → Verdict → Output W → Output W → Result Verdict End → Type 0
+TellsRest contents text found old new (Ok verdict) =
+    (verdict ≡ found) × Appends (output_state contents old).taken (output_state contents new).taken text × (held_back new ≡ [])
+TellsRest contents text found old new (Err why) =
+    (why ≡ output_end (is_closed new) found) × TakesFront (output_state contents old) (output_state contents new) text × (new.failed ≡ true)
+
+-- all paths were told, and then the run ended
+pub record TellsAll {W : Type 0} (held : List ℕ → Option (List ℕ)) (job : Job) (paths : List (List ℕ)) (contents : W → Option (List ℕ)) (old new : Output W) (errors errors' : SinkState) (result : Result Verdict End) : Type 0 where
+  pub between : Output W
+  pub tally : Tally
+  pub told : ToldTo held job.asked (output_state contents old) errors paths (output_state contents between) errors' tally
+  pub rest : TellsRest contents (closing_line job.asked (length paths) tally.totals) tally.verdict between new result
+
+-- the run stopped at a path
+pub record StopsJob {W : Type 0} (held : List ℕ → Option (List ℕ)) (job : Job) (paths : List (List ℕ)) (contents : W → Option (List ℕ)) (old new : Output W) (errors errors' : SinkState) (result : Result Verdict End) : Type 0 where
+  pub between : Output W
+  pub stop : Stop
+  pub stops : StopsAt held job.asked paths (output_state contents old) errors (output_state contents between) errors' stop
+  pub kept : Keeps (output_state contents between).taken (output_state contents new).taken
+  pub ended : result ≡ Err (stop_end (is_closed between) stop)
+
+-- the paths of the words and of the list were told, or the run stopped at one
+pub record RunsPaths {W : Type 0} (held : List ℕ → Option (List ℕ)) (left : Option (List ℕ)) (job : Job) (contents : W → Option (List ℕ)) (old new : Output W) (errors errors' : SinkState) (result : Result Verdict End) : Type 0 where
+  pub list : List ℕ
+  pub holds : HoldsList held left job list
+  pub tells : TellsAll held job (job_paths job list) contents old new errors errors' result ⊎ StopsJob held job (job_paths job list) contents old new errors errors' result
+
+-- the list was refused before any file was read, and nothing was answered
+pub record RefusesList {W : Type 0} (held : List ℕ → Option (List ℕ)) (left : Option (List ℕ)) (job : Job) (old new : Output W) (errors errors' : SinkState) (result : Result Verdict End) : Type 0 where
+  pub refusal : Refusal
+  pub why : RefusesRead (list_held held left job) (Refused refusal)
+  pub told : TakesFront errors errors' (refusal_line (list_name job) refusal)
+  pub untouched : new ≡ old
+  pub ended : result ≡ Err end.Refused
+
+-- there was no memory for the list or the paths, and nothing was told
+pub record WantsMemory {W : Type 0} (old new : Output W) (errors errors' : SinkState) (result : Result Verdict End) : Type 0 where
+  pub untouched : new ≡ old
+  pub silent : errors' ≡ errors
+  pub ended : result ≡ Err end.Memory
+
+-- the run of a job over files that hold what `held` says, and an input that has the bytes `left`, where they are known
+abbrev pub RunsJob : {W : Type 0} → (List ℕ → Option (List ℕ)) → Option (List ℕ) → Job → (W → Option (List ℕ)) → Output W → Output W → SinkState → SinkState → Result Verdict End → Type 0
+RunsJob held left job contents old new errors errors' result =
+    WantsMemory old new errors errors' result ⊎ RefusesList held left job old new errors errors' result
+    ⊎ RunsPaths held left job contents old new errors errors' result

@@ -1,0 +1,213 @@
+-- What a run tells of its files (ours): of each path in order the engine's text, or why its file is refused.
+use Rattle.std.specs.Prelude.{◌≡◌, ◌⊎◌, ℕ, ◌≤◌, false, true, List, [], ◌∷◌, ◌++◌, codes, length, Option, Some, Ok, Err}
+use Rattle.std.specs.Io.KnownBytes.{Appends, Keeps}
+use Rattle.le_rec.specs.Sink.{SinkState}
+use Rattle.wad_lens.specs.declared.judging.Judging.{Judging}
+use Rattle.wad_dir.specs.Refusal.{RefusesWad}
+use Rattle.wad_dir.specs.Wad.{IsRead, Wad}
+use Rattle.wad_dir.specs.declared.wad.WadFault.{WadFault}
+use Rattle.line_io.specs.Writes.{TakesFront}
+use Rattle.wad_lens.specs.Check.{ChecksAll, ChecksFile}
+use Rattle.wad_lens.specs.Objects.{refusal_text, refused_object}
+use Rattle.wad_lens.specs.Survey.{SurveysAll, SurveysFile, graver}
+use Rattle.wad_lens.specs.Totals.{no_totals, totals_with, verdict_with}
+use Rattle.wad_lens.specs.declared.object.Refusal.{Refusal}
+use Rattle.wad_lens.specs.declared.object.Refusal.TheVariants as refusal
+use Rattle.wad_lens.specs.declared.verdict.FileFault.{FileFault}
+use Rattle.wad_lens.specs.declared.verdict.FileFault.TheVariants as engine
+use Rattle.wad_lens.specs.declared.verdict.Verdict.{Verdict}
+use Rattle.wad_lens.specs.declared.verdict.Verdict.TheVariants.{Clean, Unjudged}
+use Rattle.lens_run.specs.DemosTold.{StopsDemos, StopsOthers, TellsDemos, TellsDemosOf, answers_in}
+use Rattle.lens_run.specs.Files.{RefusesRead, max_read}
+use Rattle.lens_run.specs.declared.files.ReadFault.TheVariants.{Refused}
+use Rattle.lens_run.specs.declared.tell.Asked.{Asked}
+use Rattle.lens_run.specs.declared.tell.BytesFault.{BytesFault}
+use Rattle.lens_run.specs.declared.tell.BytesFault.TheVariants as fault
+use Rattle.lens_run.specs.declared.tell.Stop.{Stop}
+use Rattle.lens_run.specs.declared.tell.Stop.TheVariants as stop
+use Rattle.lens_run.specs.declared.tell.Tally.{Tally}
+use Rattle.lens_run.specs.declared.tell.Word.{Word}
+use Rattle.lens_run.specs.declared.tell.Word.TheVariants.{Check, Demos, Survey}
+
+-- a refused file's line on standard error: `wadlens: PATH: TEXT`
+abbrev pub refusal_line : List ℕ → Refusal → List ℕ
+refusal_line path refusal = codes "wadlens: " ++ (path ++ (codes ": " ++ (refusal_text refusal ++ codes "\n")))
+
+-- what is answered of a refused file: a survey's object, and else nothing
+abbrev pub refusal_answer : Word → List ℕ → Refusal → List ℕ
+refusal_answer Survey path refusal = refused_object path refusal
+refusal_answer (Check most) path refusal = []
+refusal_answer (Demos form) path refusal = []
+
+-- of no file
+abbrev pub no_tally : Tally
+no_tally = record { verdict = Clean; totals = no_totals }
+
+-- of a refused file
+abbrev pub refused_tally : Tally
+refused_tally = record { verdict = Unjudged; totals = no_totals }
+
+-- of both
+abbrev pub tally_with : Tally → Tally → Tally
+tally_with a b = record { verdict = graver a.verdict b.verdict; totals = totals_with a.totals b.totals }
+
+-- a stop where files of a verdict were told before: where the output failed it tells of them, too
+abbrev pub stop_after : Verdict → Stop → Stop
+stop_after before stop.Memory = stop.Memory
+stop_after before (stop.Output found) = stop.Output (graver before found)
+stop_after before stop.Errors = stop.Errors
+
+-- the objects of all levels of these bytes were taken
+pub record SurveysBytes (path bytes : List ℕ) (judging : Judging) (before after : SinkState) (tally : Tally) : Type 0 where
+  pub file : Wad
+  pub of_bytes : file.bytes ≡ bytes
+  pub read : IsRead file
+  pub does : SurveysAll path (file ∷ []) judging before after tally.verdict
+  pub adds : tally.totals ≡ no_totals
+
+-- the lines of all levels of these bytes were taken
+pub record ChecksBytes (most : ℕ) (path bytes : List ℕ) (judging : Judging) (before after : SinkState) (tally : Tally) : Type 0 where
+  pub file : Wad
+  pub of_bytes : file.bytes ≡ bytes
+  pub read : IsRead file
+  pub does : ChecksAll (record { path = path; most = most; judging = judging }) (file ∷ []) before after tally.totals
+  pub says : tally.verdict ≡ verdict_with judging.warnings tally.totals
+
+-- what was asked was told of these bytes
+abbrev pub TellsWord : Word → List ℕ → List ℕ → Judging → SinkState → SinkState → SinkState → SinkState → Tally → Type 0
+TellsWord Survey path bytes judging out out' errors errors' tally = SurveysBytes path bytes judging out out' tally × (errors' ≡ errors)
+TellsWord (Check most) path bytes judging out out' errors errors' tally = ChecksBytes most path bytes judging out out' tally × (errors' ≡ errors)
+TellsWord (Demos form) path bytes judging out out' errors errors' tally = TellsDemosOf form path bytes out out' errors errors' tally
+
+-- a write failed within what these bytes are told by, and so much was found up to there
+abbrev pub TellsSome : Word → List ℕ → List ℕ → Judging → SinkState → SinkState → Verdict → Type 0
+TellsSome Survey path bytes judging before after found = SurveysFile path bytes judging before after (Err (engine.Write found))
+TellsSome (Check most) path bytes judging before after found =
+    ChecksFile (record { path = path; most = most; judging = judging }) bytes before after (Err (engine.Write found))
+TellsSome (Demos form) path bytes judging before after found = StopsDemos form path bytes before after found
+
+-- standard error failed where demos were to be told that aren't read, and the others were answered
+abbrev pub StopsErrors : Word → List ℕ → List ℕ → SinkState → SinkState → SinkState → SinkState → Type 0
+StopsErrors Survey path bytes out out' errors errors' = ⊥
+StopsErrors (Check most) path bytes out out' errors errors' = ⊥
+StopsErrors (Demos form) path bytes out out' errors errors' =
+    TellsDemos (answers_in form path) bytes out out' (Ok false) × StopsOthers path bytes errors errors' fault.Errors
+
+-- how an engine's fault is told
+abbrev pub fault_of : FileFault → BytesFault
+fault_of (engine.NoWad why) = fault.NoWad why
+fault_of (engine.Write found) = fault.Output found
+fault_of engine.Memory = fault.Memory
+
+-- why bytes aren't gone over to their end: they have no directory, and nothing was written; or an end failed
+abbrev pub LeavesBytes : {W E : Type 0} → (W → SinkState) → (E → SinkState) → Word → List ℕ → List ℕ → Judging → W → W → E → E → BytesFault → Type 0
+LeavesBytes state state' word path bytes judging out out' errors errors' (fault.NoWad why) = RefusesWad bytes why × (out' ≡ out) × (errors' ≡ errors)
+LeavesBytes state state' word path bytes judging out out' errors errors' (fault.Output found) =
+    TellsSome word path bytes judging (state out) (state out') found × ((state out').failed ≡ true)
+LeavesBytes state state' word path bytes judging out out' errors errors' fault.Errors =
+    StopsErrors word path bytes (state out) (state out') (state' errors) (state' errors')
+LeavesBytes state state' word path bytes judging out out' errors errors' fault.Memory = Unit {0}
+
+-- of levels, which are told on standard output alone
+abbrev pub LeavesLevels : {W : Type 0} → (W → SinkState) → Word → List ℕ → List ℕ → Judging → W → W → BytesFault → Type 0
+LeavesLevels state word path bytes judging out out' (fault.NoWad why) = RefusesWad bytes why × (out' ≡ out)
+LeavesLevels state word path bytes judging out out' (fault.Output found) =
+    TellsSome word path bytes judging (state out) (state out') found × ((state out').failed ≡ true)
+LeavesLevels state word path bytes judging out out' fault.Errors = ⊥
+LeavesLevels state word path bytes judging out out' fault.Memory = Unit {0}
+
+-- the file under a path was told
+pub record TellsHeld (held : Option (List ℕ)) (asked : Asked) (path : List ℕ) (out out' errors errors' : SinkState) (tally : Tally) : Type 0 where
+  pub bytes : List ℕ
+  pub are : Keeps held (Some bytes)
+  pub few : length bytes ≤ max_read
+  pub told : TellsWord asked.word path bytes asked.judging out out' errors errors' tally
+
+-- the bytes under a path, where they are known, have no directory
+pub record HasNoDirectory (held : Option (List ℕ)) (why : WadFault) : Type 0 where
+  pub bytes : List ℕ
+  pub are : Keeps held (Some bytes)
+  pub refuses : RefusesWad bytes why
+
+-- why a file is refused
+abbrev pub RefusesFile : Option (List ℕ) → Refusal → Type 0
+RefusesFile held (refusal.NoWad why) = HasNoDirectory held why
+RefusesFile held refusal = RefusesRead held (Refused refusal)
+
+-- a file was refused: both ends took what is told of it
+pub record WritesRefusal (word : Word) (path : List ℕ) (refusal : Refusal) (out out' errors errors' : SinkState) (tally : Tally) : Type 0 where
+  pub line : Appends errors.taken errors'.taken (refusal_line path refusal)
+  pub answer : Appends out.taken out'.taken (refusal_answer word path refusal)
+  pub counts : tally ≡ refused_tally
+
+-- the file under a path was refused
+pub record TellsRefusal (held : Option (List ℕ)) (word : Word) (path : List ℕ) (out out' errors errors' : SinkState) (tally : Tally) : Type 0 where
+  pub refusal : Refusal
+  pub why : RefusesFile held refusal
+  pub writes : WritesRefusal word path refusal out out' errors errors' tally
+
+-- what is told of the file under a path
+abbrev pub TellsPath : Option (List ℕ) → Asked → List ℕ → SinkState → SinkState → SinkState → SinkState → Tally → Type 0
+TellsPath held asked path out out' errors errors' tally =
+    TellsHeld held asked path out out' errors errors' tally ⊎ TellsRefusal held asked.word path out out' errors errors' tally
+
+-- what was told of some paths, one after another, and what was found
+pub data ToldTo (held : List ℕ → Option (List ℕ)) (asked : Asked) (out errors : SinkState) : List (List ℕ) → SinkState → SinkState → Tally → Type 0 where
+  at_start : ToldTo held asked out errors [] out errors no_tally
+  with_path : (paths : List (List ℕ)) (out' errors' : SinkState) (sum : Tally) (path : List ℕ) (out'' errors'' : SinkState) (tally : Tally)
+      → ToldTo held asked out errors paths out' errors' sum → TellsPath (held path) asked path out' out'' errors' errors'' tally
+      → ToldTo held asked out errors (paths ++ path ∷ []) out'' errors'' (tally_with sum tally)
+
+-- neither end has failed
+pub record AreSound (out errors : SinkState) : Type 0 where
+  pub answers : out.failed ≡ false
+  pub refusals : errors.failed ≡ false
+
+-- a write failed while a refused file was told: on standard error, or of what is answered
+abbrev pub StopsRefusal : Word → List ℕ → Refusal → SinkState → SinkState → SinkState → SinkState → Stop → Type 0
+StopsRefusal word path refusal out out' errors errors' stop.Memory = ⊥
+StopsRefusal word path refusal out out' errors errors' (stop.Output found) =
+    TakesFront out out' (refusal_answer word path refusal) × (out'.failed ≡ true) × (found ≡ Unjudged)
+StopsRefusal word path refusal out out' errors errors' stop.Errors =
+    TakesFront errors errors' (refusal_line path refusal) × (errors'.failed ≡ true) × (out' ≡ out)
+
+-- a run stopped while the file under a path was told
+pub record StopsTelling (held : Option (List ℕ)) (asked : Asked) (path : List ℕ) (out out' : SinkState) (found : Verdict) : Type 0 where
+  pub bytes : List ℕ
+  pub are : Keeps held (Some bytes)
+  pub told : TellsSome asked.word path bytes asked.judging out out' found
+  pub failed : out'.failed ≡ true
+
+-- a run stopped while it told of demos that aren't read, in the file under a path
+pub record StopsOnErrors (held : Option (List ℕ)) (asked : Asked) (path : List ℕ) (out out' errors errors' : SinkState) : Type 0 where
+  pub bytes : List ℕ
+  pub are : Keeps held (Some bytes)
+  pub stops : StopsErrors asked.word path bytes out out' errors errors'
+
+-- a run stopped while it told that the file under a path is refused
+pub record StopsRefusing (held : Option (List ℕ)) (word : Word) (path : List ℕ) (out out' errors errors' : SinkState) (stop : Stop) : Type 0 where
+  pub refusal : Refusal
+  pub why : RefusesFile held refusal
+  pub stops : StopsRefusal word path refusal out out' errors errors' stop
+
+-- why a run stopped at a path: a growth was refused, or an end failed
+abbrev pub StopsPath : Option (List ℕ) → Asked → List ℕ → SinkState → SinkState → SinkState → SinkState → Stop → Type 0
+StopsPath held asked path out out' errors errors' stop.Memory = Unit {0}
+StopsPath held asked path out out' errors errors' (stop.Output found) =
+    StopsTelling held asked path out out' found ⊎ StopsRefusing held asked.word path out out' errors errors' (stop.Output found)
+StopsPath held asked path out out' errors errors' stop.Errors =
+    StopsOnErrors held asked path out out' errors errors' ⊎ StopsRefusing held asked.word path out out' errors errors' stop.Errors
+
+-- a run stopped at a path, and all before it were told
+pub record StopsAt (held : List ℕ → Option (List ℕ)) (asked : Asked) (paths : List (List ℕ)) (out errors out' errors' : SinkState) (stop : Stop) : Type 0 where
+  pub before : List (List ℕ)
+  pub path : List ℕ
+  pub after : List (List ℕ)
+  pub stands : paths ≡ before ++ path ∷ after
+  pub out_before : SinkState
+  pub errors_before : SinkState
+  pub found : Tally
+  pub told : ToldTo held asked out errors before out_before errors_before found
+  pub at_path : Stop
+  pub stops : StopsPath (held path) asked path out_before out' errors_before errors' at_path
+  pub is : stop ≡ stop_after found.verdict at_path

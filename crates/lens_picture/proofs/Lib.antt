@@ -1,0 +1,3 @@
+mod FormatLemmas
+mod FileLemmas
+mod DrawLemmas

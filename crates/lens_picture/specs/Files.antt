@@ -1,0 +1,38 @@
+-- The files of a picture (ours): what they hold, and the first that is refused.
+use Rattle.std.specs.Prelude.{◌≡◌, ℕ, ◌<◌, ◌≤◌, List, [], ◌∷◌, length, take, Option, Some, ⊤}
+use Rattle.std.specs.Io.KnownBytes.{Keeps}
+use Rattle.std.specs.List.{slice_get}
+use Rattle.lens_run.specs.Files.{RefusesRead, max_read}
+use Rattle.lens_run.specs.declared.files.ReadFault.TheVariants as unread
+use Rattle.wad_lens.specs.declared.object.Refusal.{Refusal}
+use Rattle.lens_picture.specs.declared.files.FilesFault.{FilesFault}
+use Rattle.lens_picture.specs.declared.files.FilesFault.TheVariants.{Refused, Memory}
+
+-- these are the bytes of a file, where they are known, and not too many
+pub record IsHeld (held : Option (List ℕ)) (file : List ℕ) : Type 0 where
+  pub keeps : Keeps held (Some file)
+  pub few : length file ≤ max_read
+
+-- the files are what is held under the paths, in order
+abbrev pub AreHeld : (List ℕ → Option (List ℕ)) → List (List ℕ) → List (List ℕ) → Type 0
+AreHeld held [] [] = ⊤
+AreHeld held (path ∷ paths) (file ∷ files) = IsHeld (held path) file × AreHeld held paths files
+AreHeld held _ _ = ⊥
+
+-- the files before the one of a place are read, and that one isn't
+pub record IsFirstUnread (held : List ℕ → Option (List ℕ)) (paths : List (List ℕ)) (place : ℕ) (refusal : Refusal) : Type 0 where
+  pub path : List ℕ
+  pub there : slice_get paths place ≡ Some path
+  pub files : List (List ℕ)
+  pub read : AreHeld held (take place paths) files
+  pub why : RefusesRead (held path) (unread.Refused refusal)
+
+-- why files aren't read: the first that isn't, or a growth was refused
+abbrev pub RefusesFiles : (List ℕ → Option (List ℕ)) → List (List ℕ) → FilesFault → Type 0
+RefusesFiles held paths (Refused place refusal) = IsFirstUnread held paths place refusal
+RefusesFiles held paths Memory = ⊤
+
+-- a fault's place is among so many
+abbrev pub IsAmong : ℕ → FilesFault → Type 0
+IsAmong count (Refused place refusal) = place < count
+IsAmong count Memory = ⊤

@@ -1,0 +1,4 @@
+pub mod Files
+pub mod Format
+pub mod Told
+pub mod Picture

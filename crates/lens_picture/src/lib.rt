@@ -1,0 +1,11 @@
+//! The run of `picture`: the level of a name among files that form one set, drawn as the text of an SVG.
+#![tactic(auto)]
+
+mod draw;
+mod files;
+mod format;
+mod run;
+mod told;
+
+pub use draw::PictureQuestion;
+pub use run::run_picture;

@@ -1,0 +1,51 @@
+//! What is told on standard error of a picture.
+
+ghost use Rattle.std.specs.Prelude.{◌≡◌, ◌<◌, ◌++◌, codes, false, length, map};
+ghost use Rattle.lens_picture.specs.Told.{TellsRefused, name_head, named_line};
+ghost use Rattle.line_io.specs.Writes.{Writes};
+ghost use Rattle.wad_lens.specs.FormatLine.{format_text};
+ghost use Rattle.wad_lens.specs.Objects.{HasPlace};
+
+use le_rec::Sink;
+use lens_run::write_refusal;
+use level_list::Format;
+use line_io::{IoFault, emit};
+use wad_lens::{Refusal, write_format_alone};
+
+/// Tells that the file of a place is refused, and why. Where standard error fails, nobody is left to be told.
+pub fn tell_refused<E: Sink>(paths: &[&str], place: usize, refusal: Refusal, errors: &mut E)
+    requires there { place < length paths.now }
+    requires sound { (E.state errors.old).failed ≡ false }
+    ensures { TellsRefused (map (λ path. path.now) paths.now) place refusal (E.state errors.old) (E.state errors.new) }
+{
+    let _ = write_refusal(paths[place].as_bytes(), refusal, errors);
+}
+
+/// Writes what is told of a level, by the name that was asked for: `wadlens: NAME: TEXT`.
+pub fn write_named<E: Sink>(name: &[u8], text: &[u8], errors: &mut E) -> Result<(), IoFault>
+    requires { (E.state errors.old).failed ≡ false }
+    ensures { Writes (E.state errors.old) (E.state errors.new) (named_line name.now text.now) result }
+{
+    write_head(name, errors)?;
+    emit(errors, text)
+}
+
+/// Writes the format of a level that isn't drawn, by the name that was asked for.
+pub fn write_format<E: Sink>(name: &[u8], format: Format, errors: &mut E) -> Result<(), IoFault>
+    requires place { HasPlace format }
+    requires sound { (E.state errors.old).failed ≡ false }
+    ensures { Writes (E.state errors.old) (E.state errors.new) (named_line name.now (format_text format)) result }
+{
+    write_head(name, errors)?;
+    write_format_alone(format, errors)
+}
+
+// `wadlens: NAME: `
+fn write_head<E: Sink>(name: &[u8], errors: &mut E) -> Result<(), IoFault>
+    requires { (E.state errors.old).failed ≡ false }
+    ensures { Writes (E.state errors.old) (E.state errors.new) (name_head name.now) result }
+{
+    emit(errors, b"wadlens: ")?;
+    emit(errors, name)?;
+    emit(errors, b": ")
+}

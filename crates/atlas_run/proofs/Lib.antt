@@ -1,0 +1,4 @@
+pub mod FolderLemmas
+pub mod PictureLemmas
+pub mod GatherLemmas
+pub mod AtlasLemmas

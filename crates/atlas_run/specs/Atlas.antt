@@ -1,0 +1,136 @@
+-- The folder of an atlas (ours): a picture for each level that has one, then the survey, and at last the page; and how its run ends.
+use Rattle.std.specs.Prelude.{◌≡◌, ◌⊎◌, ℕ, List, [], ◌∷◌, ◌++◌, codes, length, Option, Some, Result, Ok, Err}
+use Rattle.std.specs.Io.KnownBytes.{Keeps}
+use Rattle.le_rec.specs.Sink.{SinkState}
+use Rattle.line_io.specs.Writes.{TakesFront}
+use Rattle.map_level.specs.declared.reading.Reading.{Reading}
+use Rattle.wad_atlas.specs.Page.{page_text}
+use Rattle.wad_atlas.specs.declared.refused.Refused.{Refused}
+use Rattle.wad_atlas.specs.declared.row.Row.{Row}
+use Rattle.wad_lens.specs.declared.object.Refusal.{Refusal}
+use Rattle.wad_lens.specs.declared.verdict.Verdict.{Verdict}
+use Rattle.lens_run.specs.Files.{RefusesRead}
+use Rattle.lens_run.specs.Job.{HoldsList, job_paths, list_held, list_name}
+use Rattle.lens_run.specs.Run.{ToldTo, refusal_line}
+use Rattle.lens_run.specs.declared.end.End.{End}
+use Rattle.lens_run.specs.declared.end.End.TheVariants as end
+use Rattle.lens_run.specs.declared.files.ReadFault.TheVariants as read
+use Rattle.lens_run.specs.declared.tell.Asked.{Asked as LensAsked}
+use Rattle.lens_run.specs.declared.tell.Tally.{Tally}
+use Rattle.lens_run.specs.declared.tell.Word.TheVariants.{Survey}
+use Rattle.wad_lens.specs.declared.judging.Warnings.TheVariants.{Unasked}
+use Rattle.atlas_run.specs.Folder.{IsBegun, Kept, with_files}
+use Rattle.atlas_run.specs.Gathered.{Gathers, GathersSome}
+use Rattle.atlas_run.specs.Tell.{fault_end, folder_line, refusal_text, write_text}
+use Rattle.atlas_run.specs.declared.fault.AtlasFault.{AtlasFault}
+use Rattle.atlas_run.specs.declared.fault.AtlasFault.TheVariants as fault
+use Rattle.atlas_run.specs.declared.folder.FolderRefusal.{FolderRefusal}
+use Rattle.atlas_run.specs.declared.job.Asked.{Asked}
+use Rattle.atlas_run.specs.declared.job.AtlasJob.{AtlasJob}
+
+-- the survey of files
+abbrev pub survey_of : Reading → LensAsked
+survey_of reading = record { word = Survey; judging = record { reading = reading; warnings = Unasked } }
+
+-- the survey among the files of the folder
+abbrev pub survey_file : List ℕ → Kept
+survey_file text = record { name = codes "survey.jsonl"; text = text }
+
+-- and the page of these files
+abbrev pub index_file : ℕ → List Row → List Refused → Kept
+index_file files rows refused = record { name = codes "index.html"; text = page_text files rows refused }
+
+-- this text is what a survey tells of these paths, and what standard error is told besides
+pub record IsSurvey (held : List ℕ → Option (List ℕ)) (reading : Reading) (paths : List (List ℕ)) (files : Option (List Kept)) (errors errors' : SinkState) (tally : Tally) (text : List ℕ) : Type 0 where
+  pub before : SinkState
+  pub begun : IsBegun files before
+  pub after : SinkState
+  pub told : ToldTo held (survey_of reading) before errors paths after errors' tally
+  pub whole : Keeps after.taken (Some text)
+
+-- all files of an atlas were added to a folder, the page behind all others
+pub record WritesAtlas (held : List ℕ → Option (List ℕ)) (asked : Asked) (paths : List (List ℕ)) (old new : Option (List Kept)) (errors errors' : SinkState) (verdict : Verdict) : Type 0 where
+  pub rows : List Row
+  pub refused : List Refused
+  pub shown : List Kept
+  pub gathered : Gathers held asked paths rows refused shown
+  pub tally : Tally
+  pub text : List ℕ
+  pub survey : IsSurvey held asked.reading paths old errors errors' tally text
+  pub adds : new ≡ with_files old (shown ++ survey_file text ∷ index_file (length paths) rows refused ∷ [])
+  pub says : verdict ≡ tally.verdict
+
+-- all but the page was
+pub record LacksPage (held : List ℕ → Option (List ℕ)) (asked : Asked) (paths : List (List ℕ)) (old new : Option (List Kept)) (errors errors' : SinkState) : Type 0 where
+  pub rows : List Row
+  pub refused : List Refused
+  pub shown : List Kept
+  pub gathered : Gathers held asked paths rows refused shown
+  pub tally : Tally
+  pub text : List ℕ
+  pub survey : IsSurvey held asked.reading paths old errors errors' tally text
+  pub adds : new ≡ with_files old (shown ++ survey_file text ∷ [])
+
+-- an atlas isn't whole, and has no page
+abbrev pub StopsAtlas : (List ℕ → Option (List ℕ)) → Asked → List (List ℕ) → Option (List Kept) → Option (List Kept) → SinkState → SinkState → Type 0
+StopsAtlas held asked paths old new errors errors' =
+    GathersSome held asked paths old new ⊎ LacksPage held asked paths old new errors errors'
+
+-- how an atlas is asked for
+abbrev pub asked_of : AtlasJob → Asked
+asked_of job = record { reading = job.job.asked.judging.reading; cells = job.cells }
+
+-- standard error was told of the folder, where a file in it can't be written
+abbrev pub TellsFault : List ℕ → AtlasFault → SinkState → SinkState → Type 0
+TellsFault folder fault.Memory errors errors' = errors' ≡ errors
+TellsFault folder fault.Write errors errors' = TakesFront errors errors' (folder_line folder write_text)
+TellsFault folder fault.Errors errors errors' = errors' ≡ errors
+
+-- the run ended before all was written
+pub record StopsRun (held : List ℕ → Option (List ℕ)) (job : AtlasJob) (paths : List (List ℕ)) (old new : Option (List Kept)) (errors errors' : SinkState) (result : Result Verdict End) : Type 0 where
+  pub between : SinkState
+  pub stops : StopsAtlas held (asked_of job) paths old new errors between
+  pub fault : AtlasFault
+  pub told : TellsFault job.folder.now fault between errors'
+  pub ended : result ≡ Err (fault_end fault)
+
+-- the folder wasn't taken, and nothing in it was touched
+pub record RefusesFolder (job : AtlasJob) (old new : Option (List Kept)) (errors errors' : SinkState) (result : Result Verdict End) : Type 0 where
+  pub refusal : FolderRefusal
+  pub told : TakesFront errors errors' (folder_line job.folder.now (refusal_text refusal))
+  pub untouched : new ≡ old
+  pub ended : result ≡ Err end.Refused
+
+-- the run wrote its files
+pub record EndsRun (held : List ℕ → Option (List ℕ)) (job : AtlasJob) (paths : List (List ℕ)) (old new : Option (List Kept)) (errors errors' : SinkState) (result : Result Verdict End) : Type 0 where
+  pub verdict : Verdict
+  pub writes : WritesAtlas held (asked_of job) paths old new errors errors' verdict
+  pub ended : result ≡ Ok verdict
+
+-- the paths of the words and of the list became an atlas, or it isn't whole, or the folder wasn't taken
+pub record RunsPaths (held : List ℕ → Option (List ℕ)) (left : Option (List ℕ)) (job : AtlasJob) (old new : Option (List Kept)) (errors errors' : SinkState) (result : Result Verdict End) : Type 0 where
+  pub list : List ℕ
+  pub holds : HoldsList held left job.job list
+  pub runs : EndsRun held job (job_paths job.job list) old new errors errors' result
+      ⊎ StopsRun held job (job_paths job.job list) old new errors errors' result
+      ⊎ RefusesFolder job old new errors errors' result
+
+-- the list was refused before any file was read, and the folder wasn't touched
+pub record RefusesList (held : List ℕ → Option (List ℕ)) (left : Option (List ℕ)) (job : AtlasJob) (old new : Option (List Kept)) (errors errors' : SinkState) (result : Result Verdict End) : Type 0 where
+  pub refusal : Refusal
+  pub why : RefusesRead (list_held held left job.job) (read.Refused refusal)
+  pub told : TakesFront errors errors' (refusal_line (list_name job.job) refusal)
+  pub untouched : new ≡ old
+  pub ended : result ≡ Err end.Refused
+
+-- there was no memory for the list or the paths
+pub record WantsMemory (old new : Option (List Kept)) (errors errors' : SinkState) (result : Result Verdict End) : Type 0 where
+  pub untouched : new ≡ old
+  pub silent : errors' ≡ errors
+  pub ended : result ≡ Err end.Memory
+
+-- the run over files that hold what `held` says, an input that has the bytes `left`, where they are known, and a folder
+abbrev pub RunsAtlas : (List ℕ → Option (List ℕ)) → Option (List ℕ) → AtlasJob → Option (List Kept) → Option (List Kept) → SinkState → SinkState → Result Verdict End → Type 0
+RunsAtlas held left job old new errors errors' result =
+    WantsMemory old new errors errors' result ⊎ RefusesList held left job old new errors errors' result
+    ⊎ RunsPaths held left job old new errors errors' result

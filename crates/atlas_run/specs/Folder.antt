@@ -1,0 +1,25 @@
+-- What clauses see of a folder (ours): the files that stand in it under their names.
+use Rattle.std.specs.Prelude.{◌≡◌, ℕ, false, List, [], ◌∷◌, ◌++◌, Option, Some, IfSome, Result, Ok, Err}
+use Rattle.std.specs.Option.{option_map}
+use Rattle.std.specs.Io.KnownBytes.{Keeps}
+use Rattle.le_rec.specs.Sink.{SinkState}
+use Rattle.atlas_run.specs.declared.fault.AtlasFault.{AtlasFault}
+
+-- a whole file under its name
+pub record Kept : Type 0 where
+  pub name : List ℕ
+  pub text : List ℕ
+
+-- the files that there were, where they are known, and then these
+abbrev pub with_files : Option (List Kept) → List Kept → Option (List Kept)
+with_files files added = option_map (λ kept. kept ++ added) files
+
+-- a file was begun: nothing stands in it, which is known where those of the folder are
+pub record IsBegun (files : Option (List Kept)) (file : SinkState) : Type 0 where
+  pub sound : file.failed ≡ false
+  pub empty : IfSome files (λ _. file.taken ≡ Some [])
+
+-- at Ok there is one file more, with what it took, and at Err there is none
+abbrev pub KeepsFile : Option (List Kept) → Option (List Kept) → SinkState → List ℕ → Result (Unit {0}) AtlasFault → Type 0
+KeepsFile old new file name (Ok x) = (text : List ℕ) × Keeps file.taken (Some text) × (new ≡ with_files old (record { name = name; text = text } ∷ []))
+KeepsFile old new file name (Err why) = new ≡ old

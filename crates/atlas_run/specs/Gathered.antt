@@ -1,0 +1,143 @@
+-- What of some files goes onto the page and into the folder (ours).
+use Rattle.std.specs.Prelude.{◌≡◌, ◌⊎◌, ℕ, suc, List, [], ◌∷◌, ◌++◌, length, Option, Some, take}
+use Rattle.std.specs.Io.KnownBytes.{Keeps}
+use Rattle.wad_atlas.specs.Levels.{AreRowsBelow}
+use Rattle.wad_atlas.specs.declared.levels.Origin.{Origin}
+use Rattle.wad_atlas.specs.declared.refused.Refused.{Refused}
+use Rattle.wad_atlas.specs.declared.row.Row.{Row}
+use Rattle.wad_dir.specs.Entries.{names}
+use Rattle.wad_dir.specs.Wad.{IsRead, Wad}
+use Rattle.lens_run.specs.Run.{RefusesFile}
+use Rattle.atlas_run.specs.Folder.{Kept, with_files}
+use Rattle.atlas_run.specs.Pictures.{ShowsRows}
+use Rattle.atlas_run.specs.declared.gather.Gathered.{Gathered}
+use Rattle.atlas_run.specs.declared.job.Asked.{Asked}
+
+-- the file of a number and a path
+pub record IsOrigin (asked : Asked) (number : ℕ) (path : List ℕ) (origin : Origin) : Type 0 where
+  pub numbered : origin.file ≡ number
+  pub of_path : origin.path.now ≡ path
+  pub read : origin.reading ≡ asked.reading
+
+-- all levels of these bytes
+pub record AreRowsOf (origin : Origin) (bytes : List ℕ) (file : Wad) (rows : List Row) : Type 0 where
+  pub of_bytes : file.bytes ≡ bytes
+  pub read : IsRead file
+  pub are : AreRowsBelow origin (file ∷ []) (length (names (file ∷ []))) rows
+
+-- the rows of a file's levels, and their pictures
+pub record GathersLevels (held : Option (List ℕ)) (cells : ℕ) (origin : Origin) (rows : List Row) (shown : List Kept) : Type 0 where
+  pub bytes : List ℕ
+  pub holds : Keeps held (Some bytes)
+  pub file : Wad
+  pub are : AreRowsOf origin bytes file rows
+  pub pictures : ShowsRows cells origin.reading (file ∷ []) rows shown
+
+-- a file with its levels
+pub record GathersFile (held : Option (List ℕ)) (cells : ℕ) (origin : Origin) (rows : List Row) (refused : List Refused) (shown : List Kept) : Type 0 where
+  pub levels : GathersLevels held cells origin rows shown
+  pub none : refused ≡ []
+
+-- a refused file has none
+pub record GathersRefused (held : Option (List ℕ)) (origin : Origin) (rows : List Row) (refused : List Refused) (shown : List Kept) : Type 0 where
+  pub one : Refused
+  pub of_path : one.path.now ≡ origin.path.now
+  pub why : RefusesFile held one.why
+  pub is : refused ≡ one ∷ []
+  pub rowless : rows ≡ []
+  pub none : shown ≡ []
+
+-- a file, refused or not
+abbrev pub GathersPath : Option (List ℕ) → ℕ → Origin → List Row → List Refused → List Kept → Type 0
+GathersPath held cells origin rows refused shown =
+    GathersFile held cells origin rows refused shown ⊎ GathersRefused held origin rows refused shown
+
+-- the rows, the refused files and the pictures of some paths, one after another
+pub data Gathers (held : List ℕ → Option (List ℕ)) (asked : Asked) : List (List ℕ) → List Row → List Refused → List Kept → Type 0 where
+  of_none : Gathers held asked [] [] [] []
+  with_path : (paths : List (List ℕ)) (rows : List Row) (refused : List Refused) (shown : List Kept)
+      (path : List ℕ) (origin : Origin) (more : List Row) (others : List Refused) (pictures : List Kept)
+      → Gathers held asked paths rows refused shown → IsOrigin asked (suc (length paths)) path origin
+      → GathersPath (held path) asked.cells origin more others pictures
+      → Gathers held asked (paths ++ path ∷ []) (rows ++ more) (refused ++ others) (shown ++ pictures)
+
+-- the pictures of the first rows of a file
+pub record ShowsPart (held : Option (List ℕ)) (cells : ℕ) (origin : Origin) (shown : List Kept) : Type 0 where
+  pub bytes : List ℕ
+  pub holds : Keeps held (Some bytes)
+  pub file : Wad
+  pub rows : List Row
+  pub are : AreRowsOf origin bytes file rows
+  pub count : ℕ
+  pub pictures : ShowsRows cells origin.reading (file ∷ []) (take count rows) shown
+
+abbrev pub ShowsFront : Option (List ℕ) → ℕ → Origin → List Kept → Type 0
+ShowsFront held cells origin shown = (shown ≡ []) ⊎ ShowsPart held cells origin shown
+
+-- a path was added to what was gathered, and to the folder
+pub record AddsPath (held : Option (List ℕ)) (cells : ℕ) (origin : Origin) (old new : Gathered) (files files' : Option (List Kept)) : Type 0 where
+  pub more : List Row
+  pub others : List Refused
+  pub pictures : List Kept
+  pub exact : GathersPath held cells origin more others pictures
+  pub rows : new.rows.items ≡ old.rows.items ++ more
+  pub refused : new.refused.items ≡ old.refused.items ++ others
+  pub tally : new.tally ≡ old.tally
+  pub adds : files' ≡ with_files files pictures
+
+-- some of it was added to the folder
+pub record AddsFront (held : Option (List ℕ)) (cells : ℕ) (origin : Origin) (files files' : Option (List Kept)) : Type 0 where
+  pub shown : List Kept
+  pub front : ShowsFront held cells origin shown
+  pub adds : files' ≡ with_files files shown
+
+-- the rows of a file's levels were added, and their pictures
+pub record AddsLevels (cells : ℕ) (origin : Origin) (bytes : List ℕ) (old new : List Row) (files files' : Option (List Kept)) : Type 0 where
+  pub file : Wad
+  pub more : List Row
+  pub are : AreRowsOf origin bytes file more
+  pub pictures : List Kept
+  pub shows : ShowsRows cells origin.reading (file ∷ []) more pictures
+  pub rows : new ≡ old ++ more
+  pub adds : files' ≡ with_files files pictures
+
+-- the first of them were, or none
+pub record AddsPart (cells : ℕ) (origin : Origin) (bytes : List ℕ) (files files' : Option (List Kept)) : Type 0 where
+  pub file : Wad
+  pub rows : List Row
+  pub are : AreRowsOf origin bytes file rows
+  pub count : ℕ
+  pub shown : List Kept
+  pub pictures : ShowsRows cells origin.reading (file ∷ []) (take count rows) shown
+  pub adds : files' ≡ with_files files shown
+
+abbrev pub AddsSome : ℕ → Origin → List ℕ → Option (List Kept) → Option (List Kept) → Type 0
+AddsSome cells origin bytes files files' = (files' ≡ files) ⊎ AddsPart cells origin bytes files files'
+
+-- the next of some paths, of which a front of the pictures was added
+pub record ShowsNext (held : List ℕ → Option (List ℕ)) (asked : Asked) (number : ℕ) (paths : List (List ℕ)) (shown : List Kept) : Type 0 where
+  pub path : List ℕ
+  pub rest : List (List ℕ)
+  pub stands : paths ≡ path ∷ rest
+  pub origin : Origin
+  pub is : IsOrigin asked number path origin
+  pub front : ShowsFront (held path) asked.cells origin shown
+
+-- all of some paths was gathered
+pub record GathersAll (held : List ℕ → Option (List ℕ)) (asked : Asked) (paths : List (List ℕ)) (rows : List Row) (refused : List Refused) (files files' : Option (List Kept)) : Type 0 where
+  pub shown : List Kept
+  pub gathered : Gathers held asked paths rows refused shown
+  pub adds : files' ≡ with_files files shown
+
+-- the first of them were, and of the next one a front of its pictures
+pub record GathersSome (held : List ℕ → Option (List ℕ)) (asked : Asked) (paths : List (List ℕ)) (files files' : Option (List Kept)) : Type 0 where
+  pub before : List (List ℕ)
+  pub rest : List (List ℕ)
+  pub stands : paths ≡ before ++ rest
+  pub rows : List Row
+  pub refused : List Refused
+  pub between : Option (List Kept)
+  pub gathers : GathersAll held asked before rows refused files between
+  pub shown : List Kept
+  pub next : (shown ≡ []) ⊎ ShowsNext held asked (suc (length before)) rest shown
+  pub adds : files' ≡ with_files between shown

@@ -1,0 +1,5 @@
+pub mod Folder
+pub mod Pictures
+pub mod Gathered
+pub mod Tell
+pub mod Atlas

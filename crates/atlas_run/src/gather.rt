@@ -1,0 +1,207 @@
+//! What of each file goes onto the page and into the folder.
+
+ghost use Rattle.std.specs.Prelude.{◌≡◌, ◌≤◌, ◌++◌, [], ◌∷◌, IfOk, OnOk, OnErr, map};
+ghost use Rattle.atlas_run.specs.Atlas.{survey_of};
+ghost use Rattle.atlas_run.specs.Gathered.{AddsFront, AddsLevels, AddsPath, AddsSome, GathersAll, GathersSome};
+ghost use Rattle.lens_run.specs.Run.{AreSound, TellsPath, ToldTo, WritesRefusal};
+ghost use Rattle.lens_run.specs.declared.tell.Word.TheVariants.{Survey};
+
+use crate::fault::AtlasFault;
+use crate::folder::Folder;
+use crate::job::Asked;
+use crate::pictures::draw_rows;
+use le_rec::Sink;
+use lens_run::{
+    Asked as LensAsked, BytesFault, ReadFault, Stop, Storage, Tally, Watch, Word, no_tally,
+    read_file, tell_bytes, tell_refusal,
+};
+use map_level::Reading;
+use std::alloc::Global;
+use wad_atlas::{Origin, Refused, Row, push_rows};
+use wad_dir::Set;
+use wad_lens::{Judging, Refusal, Warnings};
+
+/// What of some files goes onto the page.
+#[derive(Drop)]
+pub struct Gathered<'p> {
+    /// Their levels, in order.
+    pub rows: Vec<Row<'p>>,
+    /// The files that are refused, in order.
+    pub refused: Vec<Refused<'p>>,
+    /// What was found.
+    pub tally: Tally,
+}
+
+/// Goes over the files under some paths, in order: their survey goes into `survey`, their pictures into the folder, and why one
+/// is refused into `errors`. One file is let go before the next is opened.
+pub fn gather<'p, S: Storage, F: Folder, E: Sink, P: Watch>(
+    alloc: Global,
+    asked: Asked,
+    paths: &[&'p [u8]],
+    storage: &S,
+    survey: &mut F::File,
+    folder: &mut F,
+    errors: &mut E,
+    watch: &mut P,
+) -> Result<Gathered<'p>, AtlasFault>
+    requires least { 1 ≤ asked.cells }
+    requires most { asked.cells ≤ 1024 }
+    requires sound { AreSound (F.File.state survey.old) (E.state errors.old) }
+    ensures told { IfOk result (λ gathered. ToldTo (S.held storage.now) (survey_of asked.reading) (F.File.state survey.old) (E.state errors.old)
+        (map (λ path. path.now) paths.now) (F.File.state survey.new) (E.state errors.new) gathered.tally) }
+    ensures all { IfOk result (λ gathered. GathersAll (S.held storage.now) asked (map (λ path. path.now) paths.now)
+        gathered.rows.items gathered.refused.items (F.kept folder.old) (F.kept folder.new)) }
+    ensures some { OnErr result (GathersSome (S.held storage.now) asked (map (λ path. path.now) paths.now)
+        (F.kept folder.old) (F.kept folder.new)) }
+{
+    let mut gathered = Gathered {
+        rows: Vec::new(alloc),
+        refused: Vec::new(alloc),
+        tally: no_tally(),
+    };
+    for i in 0..paths.len() {
+        let origin = Origin {
+            file: i as u64 + 1,
+            path: paths[i],
+            reading: asked.reading,
+        };
+        let tally = add_path(
+            alloc,
+            asked.cells,
+            &origin,
+            storage,
+            &mut gathered,
+            survey,
+            folder,
+            errors,
+            watch,
+        )?;
+        gathered.tally = gathered.tally.with(tally);
+    }
+    Ok(gathered)
+}
+
+// Adds the file under a path.
+fn add_path<'p, S: Storage, F: Folder, E: Sink, P: Watch>(
+    alloc: Global,
+    cells: u32,
+    origin: &Origin<'p>,
+    storage: &S,
+    gathered: &mut Gathered<'p>,
+    survey: &mut F::File,
+    folder: &mut F,
+    errors: &mut E,
+    watch: &mut P,
+) -> Result<Tally, AtlasFault>
+    requires least { 1 ≤ cells }
+    requires most { cells ≤ 1024 }
+    requires sound { AreSound (F.File.state survey.old) (E.state errors.old) }
+    ensures told { IfOk result (TellsPath (S.held storage.now origin.now.path.now) (survey_of origin.now.reading) origin.now.path.now
+        (F.File.state survey.old) (F.File.state survey.new) (E.state errors.old) (E.state errors.new)) }
+    ensures sound { OnOk result (AreSound (F.File.state survey.new) (E.state errors.new)) }
+    ensures adds { OnOk result (AddsPath (S.held storage.now origin.now.path.now) cells origin.now gathered.old gathered.new
+        (F.kept folder.old) (F.kept folder.new)) }
+    ensures front { OnErr result (AddsFront (S.held storage.now origin.now.path.now) cells origin.now (F.kept folder.old) (F.kept folder.new)) }
+{
+    match read_file(alloc, storage, origin.path) {
+        Ok(bytes) => {
+            match tell_bytes(
+                alloc,
+                survey_of(origin.reading),
+                origin.path,
+                &bytes,
+                survey,
+                errors,
+                watch,
+            ) {
+                Ok(tally) => {
+                    add_levels(alloc, cells, origin, &bytes, &mut gathered.rows, folder)?;
+                    watch.add(alloc, &bytes);
+                    Ok(tally)
+                }
+                Err(BytesFault::NoWad(why)) => {
+                    let refused = Refused {
+                        path: origin.path,
+                        why: Refusal::NoWad(why),
+                    };
+                    add_refused(refused, &mut gathered.refused, survey, errors, watch)
+                }
+                Err(BytesFault::Output(_)) => Err(AtlasFault::Write),
+                Err(BytesFault::Errors) => Err(AtlasFault::Errors),
+                Err(BytesFault::Memory) => Err(AtlasFault::Memory),
+            }
+        }
+        Err(ReadFault::Refused(why)) => {
+            let refused = Refused {
+                path: origin.path,
+                why,
+            };
+            add_refused(refused, &mut gathered.refused, survey, errors, watch)
+        }
+        Err(ReadFault::Memory) => Err(AtlasFault::Memory),
+    }
+}
+
+// What is asked of the files: their survey.
+fn survey_of(reading: Reading) -> LensAsked
+    ensures { result ≡ survey_of reading }
+{
+    LensAsked {
+        word: Word::Survey,
+        judging: Judging {
+            reading,
+            warnings: Warnings::Unasked,
+        },
+    }
+}
+
+// Adds the levels of a file's bytes, and draws them.
+fn add_levels<'p, F: Folder>(
+    alloc: Global,
+    cells: u32,
+    origin: &Origin<'p>,
+    bytes: &[u8],
+    rows: &mut Vec<Row<'p>>,
+    folder: &mut F,
+) -> Result<(), AtlasFault>
+    requires least { 1 ≤ cells }
+    requires most { cells ≤ 1024 }
+    ensures adds { OnOk result (AddsLevels cells origin.now bytes.now rows.old.items rows.new.items (F.kept folder.old) (F.kept folder.new)) }
+    ensures front { OnErr result (AddsSome cells origin.now bytes.now (F.kept folder.old) (F.kept folder.new)) }
+{
+    // The directory was read before, so it is memory that is wanting.
+    let Ok(set) = Set::one(alloc, bytes) else {
+        return Err(AtlasFault::Memory);
+    };
+    let before = rows.len();
+    push_rows(alloc, origin, &set, rows)?;
+    draw_rows(alloc, cells, origin, &set, &rows[before..], folder)
+}
+
+// Tells that a file is refused, and adds it to those that are.
+fn add_refused<'p, W: Sink, E: Sink, P: Watch>(
+    one: Refused<'p>,
+    refused: &mut Vec<Refused<'p>>,
+    survey: &mut W,
+    errors: &mut E,
+    watch: &mut P,
+) -> Result<Tally, AtlasFault>
+    requires { AreSound (W.state survey.old) (E.state errors.old) }
+    ensures told { IfOk result (WritesRefusal Survey one.entry.path.now one.entry.why
+        (W.state survey.old) (W.state survey.new) (E.state errors.old) (E.state errors.new)) }
+    ensures sound { OnOk result (AreSound (W.state survey.new) (E.state errors.new)) }
+    ensures adds { OnOk result (refused.new.items ≡ refused.old.items ++ one.entry ∷ []) }
+{
+    let told = tell_refusal(Word::Survey, one.path, one.why, survey, errors, watch);
+    match told {
+        Ok(tally) => {
+            if refused.push(one).is_err() {
+                return Err(AtlasFault::Memory);
+            }
+            Ok(tally)
+        }
+        Err(Stop::Output(_)) => Err(AtlasFault::Write),
+        Err(Stop::Errors) => Err(AtlasFault::Errors),
+        Err(Stop::Memory) => Err(AtlasFault::Memory),
+    }
+}

@@ -1,0 +1,23 @@
+//! What a run is asked.
+
+use lens_run::Job;
+use map_level::Reading;
+
+/// How levels are read and drawn.
+#[derive(Clone, Copy, Debug, PartialEq, Eq)]
+pub struct Asked {
+    pub reading: Reading,
+    /// How many cells the longer side of a picture has at most, from 1 to 1024.
+    pub cells: u32,
+}
+
+/// An atlas of which files.
+#[derive(Drop)]
+pub struct AtlasJob<'a> {
+    /// The files; of what is asked of them the reading counts alone.
+    pub job: Job<'a>,
+    /// How many cells the longer side of a picture has at most, from 1 to 1024.
+    pub cells: u32,
+    /// The folder as it is named to people.
+    pub folder: &'a [u8],
+}

@@ -1,0 +1,94 @@
+//! The pictures of a file's levels, each a file of the folder.
+
+ghost use Rattle.std.specs.Prelude.{◌≡◌, ◌≤◌, All, OnOk, OnErr};
+ghost use Rattle.atlas_run.specs.Pictures.{DrawsFile, DrawsRow, DrawsRows, DrawsSome};
+ghost use Rattle.wad_atlas.specs.Levels.{HasLines, IsRow};
+
+use crate::fault::AtlasFault;
+use crate::folder::Folder;
+use line_io::TextLine;
+use map_level::Level;
+use map_picture::{Asked, DrawFault, draw_level};
+use std::alloc::Global;
+use wad_atlas::{Origin, Row, prepend_picture_name};
+use wad_dir::Set;
+use wad_lens::level_at;
+
+/// Draws the levels of a file's rows, each into a file of the folder, where the page shows a picture.
+pub fn draw_rows<F: Folder>(
+    alloc: Global,
+    cells: u32,
+    origin: &Origin<'_>,
+    set: &Set<'_>,
+    rows: &[Row<'_>],
+    folder: &mut F,
+) -> Result<(), AtlasFault>
+    requires least { 1 ≤ cells }
+    requires most { cells ≤ 1024 }
+    requires rows { All (λ row. IsRow origin.now set.now row.entry row) rows.now }
+    ensures all { OnOk result (DrawsRows cells origin.now.reading set.now rows.now (F.kept folder.old) (F.kept folder.new)) }
+    ensures some { OnErr result (DrawsSome cells origin.now.reading set.now rows.now (F.kept folder.old) (F.kept folder.new)) }
+{
+    for row in rows {
+        draw_row(alloc, cells, origin, set, row, folder)?;
+    }
+    Ok(())
+}
+
+// Draws the level of a row, where the page shows a picture.
+fn draw_row<F: Folder>(
+    alloc: Global,
+    cells: u32,
+    origin: &Origin<'_>,
+    set: &Set<'_>,
+    row: &Row<'_>,
+    folder: &mut F,
+) -> Result<(), AtlasFault>
+    requires least { 1 ≤ cells }
+    requires most { cells ≤ 1024 }
+    requires row { IsRow origin.now set.now row.now.entry row.now }
+    ensures drawn { OnOk result (DrawsRow cells origin.now.reading set.now row.now (F.kept folder.old) (F.kept folder.new)) }
+    ensures kept { OnErr result (F.kept folder.new ≡ F.kept folder.old) }
+{
+    if !row.found.is_drawn() {
+        return Ok(());
+    }
+    let level = level_at(set, row.entry as usize, origin.reading);
+    let mut name = TextLine::new();
+    prepend_picture_name(&mut name, row.file, row.entry);
+    draw_file(alloc, cells, &level, name.as_bytes(), folder)
+}
+
+// Draws a level into a file of the folder.
+fn draw_file<F: Folder>(
+    alloc: Global,
+    cells: u32,
+    level: &Level<'_>,
+    name: &[u8],
+    folder: &mut F,
+) -> Result<(), AtlasFault>
+    requires least { 1 ≤ cells }
+    requires most { cells ≤ 1024 }
+    requires lines { HasLines level.now }
+    ensures drawn { OnOk result (DrawsFile cells level.now name.now (F.kept folder.old) (F.kept folder.new)) }
+    ensures kept { OnErr result (F.kept folder.new ≡ F.kept folder.old) }
+{
+    let mut file = folder.begin(name)?;
+    let asked = Asked { frame: None, cells };
+    match draw_level(alloc, level, asked, &mut file) {
+        Ok(_) => folder.keep(file, name),
+        Err(DrawFault::NothingToDraw) => unreachable!(),
+        Err(fault) => {
+            folder.discard(file, name);
+            Err(fault_of(fault))
+        }
+    }
+}
+
+// How the end of a drawing is told.
+fn fault_of(fault: DrawFault) -> AtlasFault {
+    match fault {
+        DrawFault::Memory => AtlasFault::Memory,
+        DrawFault::Write | DrawFault::NothingToDraw => AtlasFault::Write,
+    }
+}

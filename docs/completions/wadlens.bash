@@ -3,10 +3,14 @@
 
 # The options of each command.
 declare -gA _wadlens_options=(
-    [check]='--wide --max --files-from --null --progress --help'
-    [survey]='--wide --files-from --null --progress --help'
+    [check]='--wide --map --strict --max --files-from --null --progress --help'
+    [survey]='--wide --map --strict --files-from --null --progress --help'
+    [picture]='--wide --cells --frame --help'
+    [atlas]='--out --wide --cells --files-from --null --progress --help'
     [cut]='--entry --help'
     [demos]='--json --files-from --null --progress --help'
+    [compare]='--help'
+    [assemble]='--help'
 )
 
 _wadlens() {
@@ -18,7 +22,12 @@ _wadlens() {
     fi
     [[ -n ${_wadlens_options[${COMP_WORDS[1]}]-} ]] || return
     case $before in
-        --max | --entry) return ;;
+        --max | --entry | --cells | --frame) return ;;
+        --out)
+            mapfile -t COMPREPLY < <(compgen -d -- "$current")
+            compopt -o filenames 2>/dev/null
+            return
+            ;;
         --files-from)
             mapfile -t COMPREPLY < <(compgen -f -- "$current")
             compopt -o filenames 2>/dev/null
@@ -29,13 +38,16 @@ _wadlens() {
         mapfile -t COMPREPLY < <(compgen -W "${_wadlens_options[${COMP_WORDS[1]}]}" -- "$current")
         return
     fi
-    # Folders, and the files with that ending in small or capital letters.
+    # Folders, and the files with these endings in small or capital letters.
+    local ending endings=(wad WAD)
+    case ${COMP_WORDS[1]} in
+        demos) endings+=(lmp LMP) ;;
+        compare) endings=(lmp LMP) ;;
+        assemble) return ;;
+    esac
     mapfile -t COMPREPLY < <(
         compgen -d -- "$current"
-        compgen -f -X '!*.wad' -- "$current"
-        compgen -f -X '!*.WAD' -- "$current"
-        [[ ${COMP_WORDS[1]} != demos ]] || compgen -f -X '!*.lmp' -- "$current"
-        [[ ${COMP_WORDS[1]} != demos ]] || compgen -f -X '!*.LMP' -- "$current"
+        for ending in "${endings[@]}"; do compgen -f -X "!*.$ending" -- "$current"; done
     )
     compopt -o filenames 2>/dev/null
 }

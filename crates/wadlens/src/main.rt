@@ -1,25 +1,23 @@
 //! The program `wadlens`: it reads its words, goes over the levels of each file in turn, and tells how that ended.
 #![tactic(auto)]
 
-mod cut;
-mod demos;
-mod end;
-mod files;
-mod output;
-mod paths;
+mod atlas_words;
+mod disk;
+mod disk_folder;
+mod mistake;
+mod picture_words;
 mod progress;
-mod run;
-mod tell;
 mod words;
 
+use atlas_run::run_atlas;
 use clap::error::ErrorKind;
-use cut::run_cut;
-use end::{End, exit_status};
-use files::Disk;
+use disk::Disk;
+use disk_folder::DiskFolder;
 use le_rec::ToWrite;
-use output::Output;
+use lens_picture::run_picture;
+use lens_run::{End, Output, exit_status, run_assemble, run_compare, run_cut, run_job};
+use mistake::Mistake;
 use progress::Progress;
-use run::run_job;
 use std::io::{IsTerminal, Write};
 use std::process::ExitCode;
 use std::rt::{Env, Files};
@@ -49,23 +47,31 @@ fn do_words<R: Env + Files + Input + Print + Eprint + AllocGlobal, E: Write + Dr
     let words = words_of(rt)?;
     let task = match read_words(rt.alloc(), &words) {
         Ok(task) => task,
-        Err(error) => return Err(tell_words(rt, &error)),
+        Err(mistake) => return Err(tell_mistake(rt, &mistake)),
     };
     let mut output = Output::new(rt.alloc(), io::writer(rt))?;
     let mut told = ToWrite::new(errors);
     match &task {
-        Task::Tell(job) => {
-            let shown = if job.progress || is_terminal {
-                Some(line)
-            } else {
-                None
-            };
+        Task::Tell(telling) => {
+            let shown = (telling.progress || is_terminal).then_some(line);
             run_job(
                 rt.alloc(),
-                job,
+                &telling.job,
                 &Disk(rt),
                 rt.reader(),
                 &mut output,
+                &mut told,
+                &mut Progress::new(shown),
+            )
+        }
+        Task::Atlas(words) => {
+            let shown = (words.progress || is_terminal).then_some(line);
+            run_atlas(
+                rt.alloc(),
+                &words.job,
+                &Disk(rt),
+                rt.reader(),
+                &mut DiskFolder::new(rt, words.folder),
                 &mut told,
                 &mut Progress::new(shown),
             )
@@ -78,6 +84,23 @@ fn do_words<R: Env + Files + Input + Print + Eprint + AllocGlobal, E: Write + Dr
             &mut output,
             &mut told,
         ),
+        Task::Draw(words) => run_picture(
+            rt.alloc(),
+            &words.question(),
+            words.files(),
+            &Disk(rt),
+            &mut output,
+            &mut told,
+        ),
+        Task::Compare(compare) => run_compare(
+            rt.alloc(),
+            compare.path_a.as_bytes(),
+            compare.path_b.as_bytes(),
+            &Disk(rt),
+            &mut output,
+            &mut told,
+        ),
+        Task::Assemble => run_assemble(rt.alloc(), rt.reader(), &mut output, &mut told),
     }
 }
 
@@ -90,6 +113,21 @@ fn words_of<R: Env + Eprint + AllocGlobal>(rt: &R) -> Result<Vec<String>, End> {
             let _ = rt.eprintln("wadlens: a word isn't UTF-8");
             Err(End::Refused)
         }
+    }
+}
+
+// Tells why the words ask for nothing that is done.
+fn tell_mistake<R: Print + Eprint + AllocGlobal>(rt: &R, mistake: &Mistake) -> End {
+    match mistake {
+        Mistake::Words(error) => tell_words(rt, error),
+        Mistake::Told(text) => match usage(rt.alloc()) {
+            Ok(usage) => {
+                // Where standard error fails, nobody is left to be told.
+                let _ = rt.eprintln(format_args!("error: {text}\n\n{}", usage.as_str()));
+                End::Refused
+            }
+            Err(_) => End::Memory,
+        },
     }
 }
 

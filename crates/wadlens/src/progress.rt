@@ -1,5 +1,6 @@
 //! How far a run is, on one line that is rewritten.
 
+use lens_run::Watch;
 use level_list::next_start;
 use std::alloc::Global;
 use std::io::Write;
@@ -26,18 +27,6 @@ impl<P: Write + Drop> Progress<P> {
         }
     }
 
-    /// A file is done, the one with these bytes.
-    pub fn add(&mut self, alloc: Global, bytes: &[u8]) {
-        if self.end.is_some() {
-            self.show(count_levels(alloc, bytes));
-        }
-    }
-
-    /// A file is done that was refused.
-    pub fn add_refused(&mut self) {
-        self.show(0);
-    }
-
     // Writes the line over the one that stands.
     fn show(&mut self, levels: u64) {
         self.files = self.files.saturating_add(1);
@@ -48,16 +37,6 @@ impl<P: Write + Drop> Progress<P> {
         }
     }
 
-    /// Clears the line, so that something else can be told there.
-    pub fn clear(&mut self) {
-        self.leave("\r\x1b[K");
-    }
-
-    /// Leaves the line as it is, and goes on to the next one.
-    pub fn finish(&mut self) {
-        self.leave("\n");
-    }
-
     // Leaves the line, where one stands.
     fn leave(&mut self, by: &str) {
         if let Some(end) = &mut self.end {
@@ -66,6 +45,28 @@ impl<P: Write + Drop> Progress<P> {
                 self.stands = false;
             }
         }
+    }
+}
+
+impl<P: Write + Drop> Watch for Progress<P> {
+    fn add(&mut self, alloc: Global, bytes: &[u8]) {
+        if self.end.is_some() {
+            self.show(count_levels(alloc, bytes));
+        }
+    }
+
+    fn add_refused(&mut self) {
+        self.show(0);
+    }
+
+    // Clears the line, so that something else can be told there.
+    fn clear(&mut self) {
+        self.leave("\r\x1b[K");
+    }
+
+    // Leaves the line as it is, and goes on to the next one.
+    fn finish(&mut self) {
+        self.leave("\n");
     }
 }
 

@@ -1,10 +1,13 @@
 //! What the words of the command line ask for.
 
-use crate::demos::DemoForm;
-use crate::tell::{Asked, Word};
-use clap::{Arg, ArgAction, ArgMatches, Command, Error, value_parser};
+use crate::atlas_words::{AtlasWords, atlas_command};
+use crate::mistake::Mistake;
+use crate::picture_words::{PictureWords, picture_command};
+use clap::{Arg, ArgAction, ArgMatches, Command, value_parser};
+use lens_run::{Asked, DemoForm, Job, Word};
 use map_level::Reading;
 use std::alloc::{AllocError, Global};
+use wad_lens::{Judging, Warnings};
 
 /// How many findings of one code in one level `check` shows where nothing is said.
 const SHOWN: u64 = 20;
@@ -13,9 +16,17 @@ const SHOWN: u64 = 20;
 #[derive(Drop)]
 pub enum Task<'a> {
     /// The levels of files are told.
-    Tell(Job<'a>),
+    Tell(Telling<'a>),
     /// A level is cut out.
     Cut(CutWords<'a>),
+    /// A level is drawn.
+    Draw(PictureWords<'a>),
+    /// Two demo files are compared.
+    Compare(CompareWords<'a>),
+    /// A demo is put together from its listing.
+    Assemble,
+    /// An atlas is made.
+    Atlas(AtlasWords<'a>),
 }
 
 /// Which level is cut out.
@@ -26,40 +37,26 @@ pub struct CutWords<'a> {
     pub path: &'a str,
 }
 
-/// How the levels of files are told.
+/// Which demo files are compared.
 #[derive(Drop)]
-pub struct Job<'a> {
-    pub asked: Asked,
-    /// The paths of the words, in order.
-    pub files: Vec<&'a str>,
-    /// The path of a list of more, `-` for standard input.
-    pub list: Option<&'a str>,
-    /// The byte that ends a path of the list.
-    pub list_end: u8,
+pub struct CompareWords<'a> {
+    pub path_a: &'a str,
+    pub path_b: &'a str,
+}
+
+/// What is told of files.
+#[derive(Drop)]
+pub struct Telling<'a> {
+    pub job: Job<'a>,
     /// Whether standard error is told how far the run is.
     pub progress: bool,
 }
 
-impl Job<'_> {
-    ghost use Rattle.std.specs.Prelude.{◌≡◌};
-    ghost use Rattle.wadlens.specs.Job.{list_name};
-
-    /// The list as it is named to people.
-    pub fn list_name(&self) -> &[u8]
-        ensures { result.now ≡ list_name self.now }
-    {
-        match self.list {
-            None | Some("-") => b"standard input",
-            Some(path) => path.as_bytes(),
-        }
-    }
-}
-
 /// Reads the words, the program's name first. An `Err` has the text for whoever wrote them: what is mistaken, or the help or
 /// the version that they ask for.
-pub fn read_words<'a>(alloc: Global, words: &'a [String]) -> Result<Task<'a>, Error> {
+pub fn read_words<'a>(alloc: Global, words: &'a [String]) -> Result<Task<'a>, Mistake> {
     let matches = program(alloc)?.try_get_matches_from(words)?;
-    Ok(task_of(alloc, &matches)?)
+    task_of(alloc, &matches)
 }
 
 /// The program's usage, for a mistake whose text lacks it.
@@ -73,7 +70,9 @@ fn program<'a>(alloc: Global) -> Result<Command<'a>, AllocError> {
         .long("max")
         .value_name("N")
         .value_parser(value_parser!(u64))
-        .help("Show at most N findings of one code in one level, 0: all [20 where it isn't given]");
+        .help(
+            "Show at most N findings, or warnings, of one code in one level, 0: all [20 where it isn't given]",
+        );
     let check = Command::new(alloc, "check")
         .about("Tell the findings of each level, a line each")
         .arg(most)?;
@@ -94,8 +93,35 @@ fn program<'a>(alloc: Global) -> Result<Command<'a>, AllocError> {
         .disable_help_subcommand(true)
         .subcommand(with_levels(alloc, check)?)?
         .subcommand(with_levels(alloc, survey)?)?
+        .subcommand(with_levels(alloc, atlas_command(alloc)?)?)?
         .subcommand(with_files(alloc, demos)?)?
-        .subcommand(cut_command(alloc)?)
+        .subcommand(picture_command(alloc)?)?
+        .subcommand(cut_command(alloc)?)?
+        .subcommand(compare_command(alloc)?)?
+        .subcommand(assemble_command(alloc))
+}
+
+// The words of `compare`.
+fn compare_command<'a>(alloc: Global) -> Result<Command<'a>, AllocError> {
+    let a = Arg::new(alloc, "a")
+        .value_name("A")
+        .required(true)
+        .help("A demo file");
+    let b = Arg::new(alloc, "b")
+        .value_name("B")
+        .required(true)
+        .help("Another one");
+    Command::new(alloc, "compare")
+        .about("Tell where two demo files first differ, in a line")
+        .arg(a)?
+        .arg(b)
+}
+
+// The word `assemble`, which stands alone.
+fn assemble_command<'a>(alloc: Global) -> Command<'a> {
+    Command::new(alloc, "assemble").about(
+        "Write the demo of which standard input is the listing, as `wadlook demo` prints it, on standard output",
+    )
 }
 
 // The words of `cut`.
@@ -116,13 +142,22 @@ fn cut_command<'a>(alloc: Global) -> Result<Command<'a>, AllocError> {
         .arg(file)
 }
 
-// Adds the words on files, and on how their levels are read.
+// Adds the words on files, and on how their levels are judged.
 fn with_levels<'a>(alloc: Global, command: Command<'a>) -> Result<Command<'a>, AllocError> {
     let wide = Arg::new(alloc, "wide")
         .long("wide")
         .action(ArgAction::SetTrue)
         .help("Read vertexes, sidedefs, segs and ssectors as numbers from 0 to 65535");
-    with_files(alloc, command.arg(wide)?)
+    let map = Arg::new(alloc, "map")
+        .long("map")
+        .action(ArgAction::SetTrue)
+        .help("Tell warnings, too: what references allow and no mapper wants");
+    let strict = Arg::new(alloc, "strict")
+        .long("strict")
+        .action(ArgAction::SetTrue)
+        .requires_arg("map")?
+        .help("End with status 1 at a warning, too");
+    with_files(alloc, command.arg(wide)?.arg(map)?.arg(strict)?)
 }
 
 // Adds the words on files.
@@ -149,20 +184,35 @@ fn with_files<'a>(alloc: Global, command: Command<'a>) -> Result<Command<'a>, Al
     command.arg(files)?.arg(list)?.arg(null)?.arg(progress)
 }
 
-// What matches of the words ask for.
-fn task_of<'a>(alloc: Global, matches: &ArgMatches<'a>) -> Result<Task<'a>, AllocError> {
-    match matches.subcommand_matches("cut") {
-        // Both are required.
-        Some(of_cut) => Ok(Task::Cut(CutWords {
+// What matches of the words ask for. What is asked of them is required.
+fn task_of<'a>(alloc: Global, matches: &ArgMatches<'a>) -> Result<Task<'a>, Mistake> {
+    if let Some(of_atlas) = matches.subcommand_matches("atlas") {
+        let telling = job_over(alloc, Word::Survey, of_atlas)?;
+        return Ok(Task::Atlas(AtlasWords::of(telling, of_atlas)));
+    }
+    if let Some(of_picture) = matches.subcommand_matches("picture") {
+        return Ok(Task::Draw(PictureWords::of(alloc, of_picture)?));
+    }
+    if let Some(of_cut) = matches.subcommand_matches("cut") {
+        return Ok(Task::Cut(CutWords {
             entry: of_cut.get_one::<u64>("entry").unwrap_or(0),
             path: of_cut.get_str("file").unwrap_or(""),
-        })),
-        None => Ok(Task::Tell(job_of(alloc, matches)?)),
+        }));
     }
+    if let Some(of_compare) = matches.subcommand_matches("compare") {
+        return Ok(Task::Compare(CompareWords {
+            path_a: of_compare.get_str("a").unwrap_or(""),
+            path_b: of_compare.get_str("b").unwrap_or(""),
+        }));
+    }
+    if matches.subcommand_matches("assemble").is_some() {
+        return Ok(Task::Assemble);
+    }
+    Ok(Task::Tell(job_of(alloc, matches)?))
 }
 
 // What matches of the words ask to be told.
-fn job_of<'a>(alloc: Global, matches: &ArgMatches<'a>) -> Result<Job<'a>, AllocError> {
+fn job_of<'a>(alloc: Global, matches: &ArgMatches<'a>) -> Result<Telling<'a>, AllocError> {
     match matches.subcommand_matches("check") {
         Some(of_check) => {
             let most = of_check.get_one::<u64>("max").unwrap_or(SHOWN);
@@ -190,21 +240,36 @@ fn job_over<'a>(
     alloc: Global,
     word: Word,
     matches: &ArgMatches<'a>,
-) -> Result<Job<'a>, AllocError> {
+) -> Result<Telling<'a>, AllocError> {
     let mut files = Vec::new(alloc);
     if let Some(paths) = matches.get_strs("files") {
         files.extend_from_slice(paths)?;
     }
+    let judging = judging_of(matches);
+    Ok(Telling {
+        job: Job {
+            asked: Asked { word, judging },
+            files,
+            list: matches.get_str("files-from"),
+            list_end: if matches.get_flag("null") { 0 } else { b'\n' },
+        },
+        progress: matches.get_flag("progress"),
+    })
+}
+
+// How a command's matches ask for levels to be judged.
+fn judging_of(matches: &ArgMatches<'_>) -> Judging {
     let reading = if matches.get_flag("wide") {
         Reading::Wide
     } else {
         Reading::Signed
     };
-    Ok(Job {
-        asked: Asked { word, reading },
-        files,
-        list: matches.get_str("files-from"),
-        list_end: if matches.get_flag("null") { 0 } else { b'\n' },
-        progress: matches.get_flag("progress"),
-    })
+    let warnings = if matches.get_flag("strict") {
+        Warnings::Strict
+    } else if matches.get_flag("map") {
+        Warnings::Told
+    } else {
+        Warnings::Unasked
+    };
+    Judging { reading, warnings }
 }

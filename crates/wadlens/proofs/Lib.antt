@@ -1,4 +1,0 @@
-mod CutLemmas
-mod JobLemmas
-mod TellLemmas
-mod PathLemmas

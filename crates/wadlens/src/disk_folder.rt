@@ -1,0 +1,108 @@
+//! A folder of the machine that an atlas is written into.
+
+use atlas_run::{AtlasFault, Folder, FolderRefusal};
+use le_rec::{EndFault, Sink};
+use lens_run::Output;
+use std::alloc::Global;
+use std::fs::File;
+use std::io::{ErrorKind, Write};
+use std::rt::Files;
+use std::{fs, str};
+
+/// A folder of the machine under its path. No clause knows what stands in it.
+#[derive(Drop)]
+pub struct DiskFolder<'a, R: Files + AllocGlobal> {
+    rt: &'a R,
+    path: &'a str,
+}
+
+impl<'a, R: Files + AllocGlobal> DiskFolder<'a, R> {
+    /// The folder under this path, there or not.
+    pub fn new(rt: &'a R, path: &'a str) -> Self {
+        DiskFolder { rt, path }
+    }
+
+    // The path under which a file stands that isn't whole, and the one that it takes then.
+    fn paths(&self, name: &[u8]) -> Result<(String, String), AtlasFault> {
+        let Ok(name) = str::from_utf8(name) else {
+            return Err(AtlasFault::Write);
+        };
+        let part = format!(in self.rt.alloc(); "{}/{name}.part", self.path)?;
+        let whole = format!(in self.rt.alloc(); "{}/{name}", self.path)?;
+        Ok((part, whole))
+    }
+
+    // Makes the folder, which isn't there.
+    fn create(&self) -> Result<(), FolderRefusal> {
+        match fs::create_dir(self.rt, self.path) {
+            Ok(()) => Ok(()),
+            Err(e) if e.kind() == ErrorKind::NotFound => Err(FolderRefusal::NoParent),
+            Err(_) => Err(FolderRefusal::Unmade),
+        }
+    }
+}
+
+/// A file of a folder of the machine, behind a buffer. No clause knows what it has.
+#[derive(Drop)]
+pub struct DiskFile<W: Write + Drop>(Output<W>);
+
+impl<W: Write + Drop> Sink for DiskFile<W> {
+    ghost use Rattle.std.specs.Prelude.{None};
+    ghost use Rattle.le_rec.specs.Sink.{SinkState};
+    ghost use Rattle.lens_run.specs.Output.{output_state};
+
+    ghost state = { λ file. record { taken = None; failed = (output_state W.contents file.0).failed } };
+
+    fn put(&mut self, bytes: &[u8]) -> Result<usize, EndFault> {
+        self.0.put(bytes)
+    }
+
+    fn failed(&self) -> bool {
+        self.0.failed()
+    }
+}
+
+impl<R: Files + AllocGlobal> Folder for DiskFolder<'_, R> {
+    ghost use Rattle.std.specs.Prelude.{None};
+
+    type File = DiskFile<R::File>;
+
+    ghost kept = { λ _. None };
+
+    fn make(&mut self) -> Result<(), FolderRefusal> {
+        match fs::read_dir(&self.rt, self.path) {
+            Ok(mut entries) => match entries.next() {
+                None => Ok(()),
+                Some(_) => Err(FolderRefusal::NotEmpty),
+            },
+            Err(e) if e.kind() == ErrorKind::NotFound => self.create(),
+            Err(e) if e.kind() == ErrorKind::NotADirectory => Err(FolderRefusal::NoFolder),
+            Err(_) => Err(FolderRefusal::Unread),
+        }
+    }
+
+    fn begin(&mut self, name: &[u8]) -> Result<Self::File, AtlasFault> {
+        let (part, _) = self.paths(name)?;
+        match File::create_new(self.rt, part.as_str()) {
+            Ok(file) => Ok(DiskFile(Output::new(self.rt.alloc(), file)?)),
+            Err(_) => Err(AtlasFault::Write),
+        }
+    }
+
+    fn keep(&mut self, mut file: Self::File, name: &[u8]) -> Result<(), AtlasFault> {
+        let (part, whole) = self.paths(name)?;
+        let written = file.0.write_out().is_ok();
+        if written && fs::rename(self.rt, part.as_str(), whole.as_str()).is_ok() {
+            return Ok(());
+        }
+        let _ = fs::remove_file(self.rt, part.as_str());
+        Err(AtlasFault::Write)
+    }
+
+    fn discard(&mut self, _file: Self::File, name: &[u8]) {
+        if let Ok((part, _)) = self.paths(name) {
+            // What is left there isn't taken for a whole file by its name.
+            let _ = fs::remove_file(self.rt, part.as_str());
+        }
+    }
+}

@@ -1,0 +1,141 @@
+//! The words of `picture`.
+
+ghost use Rattle.std.specs.Prelude.{◌≤◌, length, vec_len};
+ghost use Rattle.wad_dir.specs.declared.set.TheConstants.{MAX_FILES};
+
+use crate::mistake::Mistake;
+use clap::{Arg, ArgAction, ArgMatches, Command, value_parser};
+use lens_picture::PictureQuestion;
+use map_cells::Frame;
+use map_level::Reading;
+use map_picture::Asked;
+use std::alloc::{AllocError, Global};
+use wad_dir::MAX_FILES;
+
+/// How many cells the longer side has where nothing is said.
+const CELLS: u32 = 512;
+
+const BAD_FRAME: &str =
+    "--frame wants four numbers from -32768 to 32767, the lesser first: X0,Y0,X1,Y1";
+
+/// The words.
+pub fn picture_command<'a>(alloc: Global) -> Result<Command<'a>, AllocError> {
+    let wide = Arg::new(alloc, "wide")
+        .long("wide")
+        .action(ArgAction::SetTrue)
+        .help("Read vertexes, sidedefs, segs and ssectors as numbers from 0 to 65535");
+    let cells = Arg::new(alloc, "cells")
+        .long("cells")
+        .value_name("N")
+        .value_parser(value_parser!(u32).range(1..=1024))
+        .help("Draw at most N cells along the longer side [512 where it isn't given]");
+    let frame = Arg::new(alloc, "frame")
+        .long("frame")
+        .value_name("X0,Y0,X1,Y1")
+        .allow_hyphen_values(true)
+        .help("Draw the cells of this part of the map alone");
+    let name = Arg::new(alloc, "name")
+        .value_name("NAME")
+        .required(true)
+        .help("The level's name, as E1M1");
+    let files = Arg::new(alloc, "files")
+        .value_name("FILE")
+        .action(ArgAction::Append)
+        .num_args(1..)
+        .required(true)
+        .help(
+            "The files, at most 64, which form one set: a later one hides the names of those before it",
+        );
+    Command::new(alloc, "picture")
+        .about("Draw a level as an SVG on standard output")
+        .arg(wide)?
+        .arg(cells)?
+        .arg(frame)?
+        .arg(name)?
+        .arg(files)
+}
+
+/// Which level is drawn, of which files.
+#[derive(Drop)]
+pub struct PictureWords<'a> {
+    name: &'a str,
+    reading: Reading,
+    frame: Option<Frame>,
+    cells: u32,
+    files: Vec<&'a str>,
+    ghost least: { 1 ≤ cells },
+    ghost most: { cells ≤ 1024 },
+    ghost few: { vec_len files ≤ MAX_FILES },
+}
+
+impl<'a> PictureWords<'a> {
+    /// What matches of the words ask for.
+    pub fn of(alloc: Global, matches: &ArgMatches<'a>) -> Result<PictureWords<'a>, Mistake> {
+        let mut files = Vec::new(alloc);
+        if let Some(paths) = matches.get_strs("files") {
+            files.extend_from_slice(paths)?;
+        }
+        if files.len() > MAX_FILES {
+            return Err(Mistake::Told("at most 64 files form a set"));
+        }
+        let frame = match matches.get_str("frame") {
+            Some(text) => Some(frame_of(text).ok_or(Mistake::Told(BAD_FRAME))?),
+            None => None,
+        };
+        Ok(PictureWords {
+            // It is required.
+            name: matches.get_str("name").unwrap_or(""),
+            reading: if matches.get_flag("wide") {
+                Reading::Wide
+            } else {
+                Reading::Signed
+            },
+            frame,
+            // The words were refused where it is out of these bounds.
+            cells: matches
+                .get_one::<u32>("cells")
+                .unwrap_or(CELLS)
+                .clamp(1, 1024),
+            files,
+        })
+    }
+
+    /// What is asked of the engine.
+    pub fn question(&self) -> PictureQuestion<'_>
+        ensures least { 1 ≤ result.drawn.cells }
+        ensures most { result.drawn.cells ≤ 1024 }
+    {
+        PictureQuestion {
+            name: self.name.as_bytes(),
+            reading: self.reading,
+            drawn: Asked {
+                frame: self.frame,
+                cells: self.cells,
+            },
+        }
+    }
+
+    /// The paths of the files.
+    pub fn files(&self) -> &[&'a str]
+        ensures { length result.now ≤ MAX_FILES }
+    {
+        &self.files
+    }
+}
+
+// The frame of four numbers with commas between them: least x and y, then greatest.
+fn frame_of(text: &str) -> Option<Frame> {
+    let mut numbers = text.split(',');
+    let x0 = bound(numbers.next())?;
+    let y0 = bound(numbers.next())?;
+    let x1 = bound(numbers.next())?;
+    let y1 = bound(numbers.next())?;
+    if numbers.next().is_some() {
+        return None;
+    }
+    Frame::new(x0, y0, x1, y1)
+}
+
+fn bound(number: Option<&str>) -> Option<i16> {
+    number?.parse().ok()
+}

@@ -1,0 +1,129 @@
+// Looks at an atlas' page in headless Chromium, beside what `wadlens survey` says of the same files.
+import { spawnSync } from 'node:child_process';
+import { mkdirSync, mkdtempSync, readFileSync, readdirSync, rmSync, writeFileSync } from 'node:fs';
+import { tmpdir } from 'node:os';
+import { join } from 'node:path';
+import { Browser, chromium } from '../web/test/browser.mjs';
+import { oneMistaken, rooms, wad } from '../web/test/wads.mjs';
+
+const [root, ...rest] = process.argv.slice(2);
+/** @param {string} name @returns {string | undefined} */
+const option = (name) => (rest.includes(name) ? rest.splice(rest.indexOf(name), 2)[1] : undefined);
+const pictures = option('--pictures'), games = option('--games');
+const program = rest[0] ?? join(root, 'crates/wadlens/out/wadlens');
+const room = mkdtempSync(join(tmpdir(), 'atlas-'));
+
+let passed = 0, failed = 0;
+/** @param {string} name @param {unknown} came @param {unknown} [wanted] */
+function is(name, came, wanted = true) {
+  if (JSON.stringify(came) === JSON.stringify(wanted)) passed += 1;
+  else {
+    failed += 1;
+    console.log(`FAILED ${name}\n  wanted ${JSON.stringify(wanted)}\n  came   ${JSON.stringify(came)}`);
+  }
+}
+
+/** The files that the atlas is made of: a name that is markup, faults, levels that aren't judged, one without a picture, none at all. */
+function files() {
+  if (games) return ['freedoom1.wad', 'freedoom2.wad', 'freedm.wad'].map((name) => join(games, name));
+  const nothing = Buffer.alloc(0);
+  /** @type {[string, Buffer][]} */
+  const made = [
+    ['two.wad', wad([...rooms('E1M1'), ...rooms('E1M2', { flat: 'NUKAGE1' })])],
+    ['none.wad', nothing],
+    ['<b>&".wad', wad(rooms('<i>&"'))],
+    ['others.wad', wad([['MAP03', nothing], ['TEXTMAP', nothing], ...rooms('MAP04').slice(0, 8)])],
+    ['bare.wad', wad(rooms('MAP05', { damage: (lumps) => { lumps.LINEDEFS = nothing; } }))],
+    ['mistaken.wad', wad(rooms('MAP06', { damage: oneMistaken }))],
+  ];
+  return made.map(([name, bytes]) => {
+    writeFileSync(join(room, name), bytes);
+    return name;
+  });
+}
+
+const COUNTS = ['things', 'linedefs', 'sidedefs', 'vertexes', 'segs', 'ssectors', 'nodes', 'sectors'];
+
+/** What the page has to say of a level, by its object of the survey: texts that its row has. @param {any} one */
+function texts(one) {
+  const found = Object.entries(one.findings ?? {}).map(([code, count]) => `${code} ${count}`);
+  const counts = one.format === 'doom' ? COUNTS.map((name) => `${one[name]} ${name}`) : [];
+  return [one.level, one.file, `entry ${one.entry}, ${one.format}`, ...(one.sound ? ['sound'] : []), ...found, ...counts];
+}
+
+/** What each row of the page shows, its text with single blanks. */
+const ROWS = `[...document.querySelectorAll('main > ol > li')].map((row) => ({
+  text: row.innerText.replace(/\\s+/g, ' '),
+  href: row.querySelector('a')?.getAttribute('href') ?? '',
+  width: row.querySelector('img')?.naturalWidth ?? 0,
+}))`;
+
+/** @param {Browser} browser @param {any[]} objects @param {string} folder */
+async function look(browser, objects, folder) {
+  const levels = objects.filter((one) => 'level' in one);
+  const isFaulty = (/** @type {any} */ one) => (one.format === 'doom' ? !one.sound : 'lump' in one);
+  const wanted = [...levels.filter(isFaulty), ...levels.filter((one) => !isFaulty(one))];
+  await browser.run(`document.querySelectorAll('img').forEach((image) => { image.loading = 'eager'; })`);
+  await browser.until(`[...document.images].every((image) => image.complete)`, 'all pictures are there', 120);
+  const rows = await browser.run(ROWS);
+  is('as many rows as levels', rows.length, wanted.length);
+  wanted.forEach((one, k) => {
+    const missing = texts(one).filter((text) => !rows[k].text.includes(text));
+    is(`row ${k + 1}, ${one.file} ${one.level}`, missing, []);
+  });
+  const shown = rows.map((/** @type {any} */ row) => row.href).filter(Boolean).sort();
+  is('a link to each picture', shown, readdirSync(folder).filter((name) => name.endsWith('.svg')).sort());
+  is('each picture is drawn', rows.filter((/** @type {any} */ row) => row.href && !row.width), []);
+  const refused = objects.filter((one) => 'refused' in one);
+  const told = await browser.run(`[...document.querySelectorAll('.refused li')].map((item) => item.innerText)`);
+  is('a line for each refused file', told, refused.map((one) => `${one.file} ${one.refused}`));
+  is('no name makes markup', await browser.run(`document.querySelectorAll('h2 *, .where > :not(span), i, script').length`), 0);
+}
+
+/** @param {Browser} browser @param {number} width @param {'dark' | 'light'} scheme */
+async function fits(browser, width, scheme) {
+  await browser.screen(width, 900, scheme, width < 500);
+  const name = `${width} wide, ${scheme}`;
+  is(`${name}: nothing sticks out`, await browser.run('document.documentElement.scrollWidth <= innerWidth'));
+  const ground = await browser.run(`getComputedStyle(document.body).backgroundColor.match(/\\d+/g).slice(0, 3).map(Number)`);
+  is(`${name}: the ground`, ground.every((/** @type {number} */ part) => (scheme === 'dark' ? part < 64 : part > 192)));
+  if (pictures) writeFileSync(join(pictures, `atlas-${width}-${scheme}.png`), await browser.picture());
+}
+
+async function main() {
+  const given = files(), folder = join(room, 'atlas');
+  const run = (/** @type {string[]} */ ...words) => spawnSync(program, words, { cwd: room, encoding: 'utf8', maxBuffer: 1 << 28 });
+  const survey = run('survey', ...given), atlas = run('atlas', '--out', folder, ...given);
+  is('the status of both', atlas.status, survey.status);
+  is('the survey', readFileSync(join(folder, 'survey.jsonl'), 'utf8'), survey.stdout);
+  const objects = survey.stdout.trimEnd().split('\n').map((line) => JSON.parse(line));
+  if (pictures) mkdirSync(pictures, { recursive: true });
+  const browser = new Browser(chromium(), join(room, 'profile'));
+  try {
+    await browser.attach();
+    await browser.screen(1200, 900, 'light');
+    await browser.send('Page.navigate', { url: `file://${folder}/index.html` });
+    await browser.until(`document.readyState === 'complete'`);
+    await look(browser, objects, folder);
+    for (const width of [1200, 390]) for (const scheme of /** @type {('dark' | 'light')[]} */ (['dark', 'light'])) await fits(browser, width, scheme);
+    is('nothing is fetched from elsewhere', browser.requests.filter((url) => !url.startsWith(`file://${folder}/`)), []);
+    is('no complaint', browser.complaints, []);
+    const first = await browser.run(`document.querySelector('a.map').getAttribute('href')`);
+    await browser.screen(1200, 900, 'light');
+    await browser.press('a.map');
+    await browser.until(`location.pathname.endsWith('/${first}') && document.documentElement.localName === 'svg'`, 'a click shows the picture');
+    passed += 1;
+  } finally {
+    await browser.close();
+  }
+}
+
+try {
+  await main();
+} catch (error) {
+  is(String(error), false);
+} finally {
+  rmSync(room, { recursive: true, force: true, maxRetries: 5 });
+}
+console.log(`${passed} passed, ${failed} failed`);
+process.exitCode = failed ? 1 : 0;

@@ -1,0 +1,160 @@
+"""What mappers and node builders get wrong though every reference holds: the warnings W1 to
+W8, as docs/DEFINITIONS.md has them. Each is looked for at every record."""
+
+from collections.abc import Iterator
+from typing import NamedTuple
+
+from plain.levels import Level, LineDef, is_in_range
+
+REFERENCES = [f"F{n}" for n in range(3, 10)]
+WANT_SOUND = ("W3", "W5")
+
+
+class Warned(NamedTuple):
+    """A warning: its record, what it says, and where it lies, behind a comma."""
+
+    index: str
+    message: str
+    place: str = ""
+
+
+def at(x: int, y: int) -> str:
+    return f", at ({x}, {y})"
+
+
+def along(level: Level, linedef: LineDef) -> str:
+    a, b = level.vertexes[linedef.v1], level.vertexes[linedef.v2]
+    return f", from ({a.x}, {a.y}) to ({b.x}, {b.y})"
+
+
+def sector_at(level: Level, side: int) -> int | None:
+    return None if side == level.none else level.sidedefs[side].sector
+
+
+def unclosed(level: Level) -> Iterator[Warned]:
+    for s in range(len(level.sectors)):
+        leave = [0] * len(level.vertexes)
+        for linedef in level.linedefs:
+            if sector_at(level, linedef.side0) == s:
+                leave[linedef.v1] += 1
+                leave[linedef.v2] -= 1
+            if sector_at(level, linedef.side1) == s:
+                leave[linedef.v2] += 1
+                leave[linedef.v1] -= 1
+        for v, more in enumerate(leave):
+            if more:
+                yield Warned(f"sector {s}", "isn't closed", at(*level.vertexes[v]))
+
+
+def bare_parts(level: Level, side: int, other: int) -> Iterator[str]:
+    """Which parts of a side are seen and have no texture."""
+    if side == level.none:
+        return
+    own = level.sidedefs[side]
+    if other == level.none:
+        if own.middle == b"-":
+            yield "middle"
+        return
+    here = level.sectors[own.sector]
+    there = level.sectors[level.sidedefs[other].sector]
+    sky = here.ceiling_name == there.ceiling_name == b"F_SKY1"
+    if here.ceiling > there.ceiling and not sky and own.top == b"-":
+        yield "upper"
+    if here.floor < there.floor and own.bottom == b"-":
+        yield "lower"
+
+
+def bare(level: Level) -> Iterator[Warned]:
+    for i, linedef in enumerate(level.linedefs):
+        if linedef.side0 == level.none:
+            continue
+        sides = [
+            ("in front", linedef.side0, linedef.side1),
+            ("at the back", linedef.side1, linedef.side0),
+        ]
+        for name, side, other in sides:
+            for part in bare_parts(level, side, other):
+                message = f"no {part} texture {name}"
+                yield Warned(f"linedef {i}", message, along(level, linedef))
+
+
+def shows_nothing(level: Level, x: int, y: int) -> bool:
+    """Whether a seg of the point's leaf has the point behind it."""
+    leaf = level.ssectors[level.leaf(x, y)]
+    for seg in level.segs[leaf.first : leaf.first + leaf.count]:
+        a, b = level.vertexes[seg.v1], level.vertexes[seg.v2]
+        if (b.y - a.y) * (x - a.x) - (b.x - a.x) * (y - a.y) < 0:
+            return True
+    return False
+
+
+def in_void(level: Level) -> Iterator[Warned]:
+    for i, thing in enumerate(level.things):
+        if is_in_range(thing.x, thing.y) and shows_nothing(level, thing.x, thing.y):
+            yield Warned(f"thing {i}", "stands in the void", at(thing.x, thing.y))
+
+
+def untagged(level: Level) -> Iterator[Warned]:
+    tags = {sector.tag for sector in level.sectors}
+    for i, linedef in enumerate(level.linedefs):
+        if linedef.special and linedef.tag and linedef.tag not in tags:
+            message = f"no sector has tag {linedef.tag}"
+            yield Warned(f"linedef {i}", message, along(level, linedef))
+
+
+def mismatched(level: Level) -> Iterator[Warned]:
+    for t, ssector in enumerate(level.ssectors):
+        segs = level.segs[ssector.first : ssector.first + ssector.count]
+        faced = [level.sidedefs[level.side_of(seg) or 0].sector for seg in segs]
+        others = [sector for sector in faced if sector != faced[0]]
+        if others:
+            message = f"its segs face sectors {faced[0]} and {others[0]}"
+            yield Warned(f"ssector {t}", message, at(*level.vertexes[segs[0].v1]))
+
+
+def twins(level: Level) -> Iterator[Warned]:
+    first: dict[frozenset[tuple[int, int]], int] = {}
+    for i, linedef in enumerate(level.linedefs):
+        ends = frozenset((level.vertexes[linedef.v1], level.vertexes[linedef.v2]))
+        if ends in first:
+            message = f"lies on linedef {first[ends]}"
+            yield Warned(f"linedef {i}", message, along(level, linedef))
+        first.setdefault(ends, i)
+
+
+def without_start(level: Level) -> Iterator[Warned]:
+    kinds = {thing.kind for thing in level.things}
+    for player in (2, 3, 4):
+        if player not in kinds:
+            yield Warned("level", f"no player {player} start")
+            return
+
+
+def few_starts(level: Level) -> Iterator[Warned]:
+    starts = sum(thing.kind == 11 for thing in level.things)
+    if starts < 4:
+        yield Warned("level", f"{starts} deathmatch starts")
+
+
+LOOKED_FOR = {
+    "W1": unclosed,
+    "W2": bare,
+    "W3": in_void,
+    "W4": untagged,
+    "W5": mismatched,
+    "W6": twins,
+    "W7": without_start,
+    "W8": few_starts,
+}
+
+
+def warnings(level: Level) -> dict[str, list[Warned]]:
+    """The warnings of each code of which there are some, in their order."""
+    if any(code in level.findings for code in REFERENCES):
+        return {}
+    found = {
+        code: list(look(level))
+        for code, look in LOOKED_FOR.items()
+        if not level.faults or code not in WANT_SOUND
+    }
+    return {code: told for code, told in found.items() if told}

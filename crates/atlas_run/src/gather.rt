@@ -103,7 +103,7 @@ fn add_path<'p, S: Storage, F: Folder, E: Sink, P: Watch>(
         (F.kept folder.old) (F.kept folder.new)) }
     ensures front { OnErr result (AddsFront (S.held storage.now origin.now.path.now) cells origin.now (F.kept folder.old) (F.kept folder.new)) }
 {
-    match read_file(alloc, storage, origin.path) {
+    match read_file(Vec::new(alloc), storage, origin.path) {
         Ok(bytes) => {
             match tell_bytes(
                 alloc,

@@ -30,7 +30,7 @@ pub fn read_files<S: Storage>(
 {
     let mut files = Vec::new(alloc);
     for (i, path) in paths.iter().enumerate() {
-        let file = match read_file(alloc, storage, path.as_bytes()) {
+        let file = match read_file(Vec::new(alloc), storage, path.as_bytes()) {
             Ok(file) => file,
             Err(ReadFault::Refused(refusal)) => return Err(FilesFault::Refused(i, refusal)),
             Err(ReadFault::Memory) => return Err(FilesFault::Memory),

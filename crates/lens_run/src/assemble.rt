@@ -31,7 +31,7 @@ pub fn run_assemble<I: Read + Drop, O: Write + Drop, E: Sink>(
     requires { AreSound (output_state O.contents out.old) (E.state errors.old) }
     ensures { RunsAssemble (I.remaining reader) O.contents out.old out.new (E.state errors.old) (E.state errors.new) result }
 {
-    match read_whole(alloc, reader) {
+    match read_whole(Vec::new(alloc), reader) {
         Ok(listing) => assemble_bytes(alloc, &listing, out, errors),
         Err(ReadFault::Memory) => Err(End::Memory),
         Err(ReadFault::Refused(refusal)) => {

@@ -81,7 +81,7 @@ fn read_given<S: Storage>(alloc: Global, storage: &S, path: &[u8]) -> Result<Giv
     ensures given { IfOk result (IsGiven (S.held storage.now path.now)) }
     ensures memory { IfErr result (λ why. why ≡ end.Memory) }
 {
-    match read_file(alloc, storage, path) {
+    match read_file(Vec::new(alloc), storage, path) {
         Ok(bytes) => Ok(Given::Read(bytes)),
         Err(ReadFault::Refused(refusal)) => Ok(Given::Unread(refusal)),
         Err(ReadFault::Memory) => Err(End::Memory),

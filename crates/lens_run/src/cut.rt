@@ -33,7 +33,7 @@ pub fn run_cut<S: Storage, O: Write + Drop, E: Sink>(
     ensures { CutsPath (S.held storage.now path.now) entry path.now O.contents out.old out.new
         (E.state errors.old) (E.state errors.new) result }
 {
-    match read_file(alloc, storage, path) {
+    match read_file(Vec::new(alloc), storage, path) {
         Ok(bytes) => cut_bytes(alloc, entry, path, &bytes, out, errors),
         Err(ReadFault::Memory) => Err(End::Memory),
         Err(ReadFault::Refused(refusal)) => {

@@ -4,8 +4,7 @@ ghost use Rattle.std.specs.Io.KnownBytes.{Keeps};
 ghost use Rattle.lens_run.specs.Files.{RefusesRead, max_read};
 
 use le_rec::{EndFault, FromRead};
-use line_io::{IoFault, MAX_READ, read_all};
-use std::alloc::Global;
+use line_io::{IoFault, MAX_READ, read_again};
 use std::io::Read;
 use wad_lens::Refusal;
 
@@ -33,25 +32,25 @@ pub enum ReadFault {
     Memory,
 }
 
-/// Reads the file under a path to its end.
-pub fn read_file<S: Storage>(alloc: Global, storage: &S, path: &[u8]) -> Result<Vec<u8>, ReadFault>
+/// Reads the file under a path to its end, in the memory of `room`, whose own bytes go.
+pub fn read_file<S: Storage>(room: Vec<u8>, storage: &S, path: &[u8]) -> Result<Vec<u8>, ReadFault>
     ensures held { IfOk result (λ file. Keeps (S.held storage.now path.now) (Some file.items)) }
     ensures few { IfOk result (λ file. vec_len file ≤ max_read) }
     ensures refused { IfErr result (RefusesRead (S.held storage.now path.now)) }
 {
     match storage.open(path) {
-        Ok(file) => read_whole(alloc, file),
+        Ok(file) => read_whole(room, file),
         Err(EndFault) => Err(ReadFault::Refused(Refusal::Unopened)),
     }
 }
 
-/// Reads an input to its end.
-pub fn read_whole<R: Read + Drop>(alloc: Global, input: R) -> Result<Vec<u8>, ReadFault>
+/// Reads an input to its end, in the memory of `room`, whose own bytes go.
+pub fn read_whole<R: Read + Drop>(room: Vec<u8>, input: R) -> Result<Vec<u8>, ReadFault>
     ensures held { IfOk result (λ file. Keeps (R.remaining input) (Some file.items)) }
     ensures few { IfOk result (λ file. vec_len file ≤ max_read) }
     ensures refused { IfErr result (RefusesRead (R.remaining input)) }
 {
-    match read_all(alloc, &mut FromRead::new(input), MAX_READ) {
+    match read_again(room, &mut FromRead::new(input), MAX_READ) {
         Ok(bytes) => Ok(bytes),
         Err(IoFault::Memory) => Err(ReadFault::Memory),
         Err(IoFault::TooLong) => Err(ReadFault::Refused(Refusal::TooLarge)),

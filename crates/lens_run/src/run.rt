@@ -67,8 +67,8 @@ pub fn read_list<S: Storage, I: Read + Drop>(
 {
     match job.list {
         None => Ok(Vec::new(alloc)),
-        Some("-") => read_whole(alloc, reader),
-        Some(path) => read_file(alloc, storage, path.as_bytes()),
+        Some("-") => read_whole(Vec::new(alloc), reader),
+        Some(path) => read_file(Vec::new(alloc), storage, path.as_bytes()),
     }
 }
 

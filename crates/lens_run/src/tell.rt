@@ -14,6 +14,7 @@ use crate::watch::Watch;
 use le_rec::Sink;
 use line_io::{IoFault, emit};
 use std::alloc::{Allocator, Global};
+use std::mem::replace;
 use wad_dir::WadFault;
 use wad_lens::{
     FileFault, Judging, Question, Refusal, Totals, Verdict, check_file, refused_line, survey_file,
@@ -139,8 +140,9 @@ pub fn tell_paths<S: Storage, W: Sink, E: Sink, P: Watch>(
         (W.state out.old) (E.state errors.old) (W.state out.new) (E.state errors.new)) }
 {
     let mut sum = no_tally();
+    let mut room = Vec::new(alloc);
     for path in paths {
-        match tell_path(alloc, storage, asked, path, out, errors, watch) {
+        match tell_path(alloc, storage, asked, path, &mut room, out, errors, watch) {
             Ok(tally) => sum = sum.with(tally),
             Err(stop) => return Err(stop.after(sum.verdict)),
         }
@@ -148,12 +150,13 @@ pub fn tell_paths<S: Storage, W: Sink, E: Sink, P: Watch>(
     Ok(sum)
 }
 
-// Tells what is asked of the file under a path.
+// Tells what is asked of the file under a path, which is read in the memory of the one before it.
 fn tell_path<S: Storage, W: Sink, E: Sink, P: Watch>(
     alloc: Global,
     storage: &S,
     asked: Asked,
     path: &[u8],
+    room: &mut Vec<u8>,
     out: &mut W,
     errors: &mut E,
     watch: &mut P,
@@ -165,19 +168,22 @@ fn tell_path<S: Storage, W: Sink, E: Sink, P: Watch>(
     ensures stopped { IfErr result (StopsPath (S.held storage.now path.now) asked path.now
         (W.state out.old) (W.state out.new) (E.state errors.old) (E.state errors.new)) }
 {
-    match read_file(alloc, storage, path) {
-        Ok(bytes) => match tell_bytes(alloc, asked, path, &bytes, out, errors, watch) {
-            Ok(tally) => {
-                watch.add(alloc, &bytes);
-                Ok(tally)
+    match read_file(replace(room, Vec::new(alloc)), storage, path) {
+        Ok(bytes) => {
+            *room = bytes;
+            match tell_bytes(alloc, asked, path, room, out, errors, watch) {
+                Ok(tally) => {
+                    watch.add(alloc, room);
+                    Ok(tally)
+                }
+                Err(BytesFault::NoWad(why)) => {
+                    tell_refusal(asked.word, path, Refusal::NoWad(why), out, errors, watch)
+                }
+                Err(BytesFault::Output(found)) => Err(Stop::Output(found)),
+                Err(BytesFault::Errors) => Err(Stop::Errors),
+                Err(BytesFault::Memory) => Err(Stop::Memory),
             }
-            Err(BytesFault::NoWad(why)) => {
-                tell_refusal(asked.word, path, Refusal::NoWad(why), out, errors, watch)
-            }
-            Err(BytesFault::Output(found)) => Err(Stop::Output(found)),
-            Err(BytesFault::Errors) => Err(Stop::Errors),
-            Err(BytesFault::Memory) => Err(Stop::Memory),
-        },
+        }
         Err(ReadFault::Refused(refusal)) => {
             tell_refusal(asked.word, path, refusal, out, errors, watch)
         }

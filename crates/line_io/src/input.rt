@@ -44,8 +44,22 @@ pub fn read_all<S: Source, A: Allocator>(
     requires input { (S.state input.old).failed ≡ false }
     ensures { ReadsAll limit (S.state input.old) (S.state input.new) result }
 {
+    read_again(Vec::new(alloc), input, limit)
+}
+
+/// As [`read_all`], in the room of `bytes`, whose own bytes go: memory that the last input took serves the next.
+pub fn read_again<S: Source, A: Allocator>(
+    bytes: Vec<u8, A>,
+    input: &mut S,
+    limit: u64,
+) -> Result<Vec<u8, A>, IoFault>
+    requires limit { limit ≤ MAX_READ }
+    requires input { (S.state input.old).failed ≡ false }
+    ensures { ReadsAll limit (S.state input.old) (S.state input.new) result }
+{
     let mut block = [0; BLOCK];
-    let mut bytes = Vec::new(alloc);
+    let mut bytes = bytes;
+    bytes.clear();
     'turns: for _turn in 0..limit + 1 {
         let room = (limit + 1 - bytes.len() as u64).min(BLOCK as u64) as usize;
         let more = next_block(input, &mut block[..room])?;

@@ -16,7 +16,7 @@ mod tied;
 
 pub use content::{Numbers, read_numbers};
 pub use fault::IoFault;
-pub use input::{MAX_READ, read_all};
+pub use input::{MAX_READ, read_again, read_all};
 pub use lines::{LineCommand, MAX_CONTENT, answer_lines};
 pub use output::emit;
 pub use refusal::LineRefusal;

@@ -7,7 +7,7 @@ use Rattle.le_rec.specs.Source.{SourceState}
 use Rattle.line_io.specs.declared.fault.IoFault.{IoFault}
 use Rattle.line_io.specs.ReadsAll.{ReadFault, ReadsAll}
 use Rattle.line_io.proofs.InputLemmas.{nil_from_empty, one_past, some_from_empty}
-use Rattle.line_io.proofs.input.read_all.Goals as goal
+use Rattle.line_io.proofs.input.read_again.Goals as goal
 
 -- reading stops behind the block `more`
 stops : {A : Type 0} (before between after : SourceState) (limit : ℕ) (items more : List ℕ)

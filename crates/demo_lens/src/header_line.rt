@@ -1,16 +1,16 @@
 //! The header's line of a listing, read.
 
-ghost use Rattle.std.specs.Prelude.{◌≡◌, ◌≢◌, ◌+◌, ◌≤◌, ◌<◌, ◌++◌, ◌∷◌, ℕ, List, [], decimal, length, slice_index, IfSome, IfNone};
+ghost use Rattle.std.specs.Prelude.{◌≡◌, ◌≢◌, ◌<◌, ◌++◌, ◌∷◌, ℕ, List, length, slice_index, IfSome, IfNone};
 ghost use Rattle.demo_lens.specs.Parts.{FitsHeader, numbers_of};
 ghost use Rattle.demo_lump.specs.Header.{players_in};
 ghost use Rattle.demo_lump.specs.declared.header.Header.{Header};
 ghost use Rattle.le_rec.specs.Bytes.{AreBytes};
-ghost use Rattle.line_io.specs.declared.text_line.TheConstants.{ROOM};
 ghost use Rattle.wad_look.specs.Listing.{header_line};
 
 use crate::numbers::{guess_number, take_label};
 use demo_lump::Header;
 use line_io::TextLine;
+use wad_look::prepend_header;
 
 /// The version that a listing is read of.
 const VERSION: u8 = 109;
@@ -77,35 +77,4 @@ fn count_players(players: &[u8; 4]) -> usize
     ensures { result ≡ players_in players.now }
 {
     players.iter().filter(|byte| **byte != 0).count()
-}
-
-// `demo version 109 skill 3 ..`
-fn prepend_header(line: &mut TextLine, header: &Header)
-    requires { line.old ≡ [] }
-    ensures { line.new ≡ header_line header.now }
-{
-    line.prepend_bytes(b"\n");
-    prepend_field(line, b" ", header.players[3]);
-    prepend_field(line, b" ", header.players[2]);
-    prepend_field(line, b" ", header.players[1]);
-    prepend_field(line, b" players ", header.players[0]);
-    prepend_field(line, b" viewpoint ", header.viewpoint);
-    prepend_field(line, b" nomonsters ", header.no_monsters);
-    prepend_field(line, b" fast ", header.fast);
-    prepend_field(line, b" respawn ", header.respawn);
-    prepend_field(line, b" deathmatch ", header.deathmatch);
-    prepend_field(line, b" map ", header.map);
-    prepend_field(line, b" episode ", header.episode);
-    prepend_field(line, b" skill ", header.skill);
-    prepend_field(line, b"demo version ", header.version);
-}
-
-// A number of the header behind its label.
-fn prepend_field(line: &mut TextLine, label: &[u8], number: u8)
-    requires { length line.old + 3 + length label.now ≤ ROOM }
-    ensures text { line.new ≡ label.now ++ (decimal number ++ line.old) }
-    ensures length { length line.new ≤ length line.old + 3 + length label.now }
-{
-    line.prepend_small(number);
-    line.prepend_bytes(label);
 }

@@ -31,6 +31,7 @@ pub use engines::{MAX_INPUT, run};
 pub use fault::RunFault;
 pub use input::read_all;
 pub use line_io::MAX_READ;
+pub use listing::prepend_header;
 pub use opening::sector_tree;
 pub use outcome::status;
 pub use turn::Turn;

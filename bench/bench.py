@@ -129,9 +129,9 @@ def once(binary, argvs, inp, out='/dev/null'):
     u = t = w = 0.0; rss = 0; st = []; word = ''
     for a in argvs:
         q = subprocess.run([RUN, str(o.limit), inp or '/dev/null', out, p('err'), binary] + a, stdout=subprocess.PIPE).stdout.split()
-        if len(q) != 5 or q[4] == b'127': sys.exit('cannot run %s' % binary)
-        if q[4] == b'-1': raise Slow()
-        u += float(q[0]); t += float(q[0]) + float(q[1]); w += float(q[2]); rss = max(rss, int(q[3])); st.append(int(q[4]))
+        if len(q) != 6 or q[5] == b'127': sys.exit('cannot run %s' % binary)
+        if q[5] == b'-1': raise Slow()
+        u += float(q[0]); t += float(q[0]) + float(q[1]); w += float(q[2]); rss = max(rss, int(q[3])); st.append(int(q[5]))
         if st[-1] and not word: word = open(p('err'), errors='replace').read().strip().split('\n')[0]
     return u, t, w, rss, st, word
 def swap(argvs, base): return [[base] + a[1:] for a in argvs] if base else argvs

@@ -1,15 +1,17 @@
 #!/usr/bin/env python3
-"""hostile.py --wadlook PATH [--wadlens PATH]: runs wadlook, and wadlens where it is given, on inputs of their limits that no editor
+"""hostile.py --wadlook PATH [--wadlens PATH] [--library FOLDER]: runs wadlook, and wadlens and calls of libwadlook (calls.c beside
+this file) where these are given, on inputs of their limits that no editor
 writes, each at half its size and at its whole size, and prints user plus system
 time, peak memory, and the ratio of the two times, which is near 2 where time
 grows with the input.
-Needs gcc (runner.c beside this file) and about 600 MB in --dir; what a run
-prints goes to /dev/null."""
-import argparse, os, struct, subprocess, sys, tempfile
+Needs gcc (runner.c beside this file) and about 600 MB in --dir, with wadlens 4 GB, since an atlas and what is told of
+refused demos are written there; what a run prints goes to /dev/null."""
+import argparse, os, shutil, struct, subprocess, sys, tempfile
 
 A = argparse.ArgumentParser()
 A.add_argument('--wadlook', required=True)
-A.add_argument('--wadlens', default='', help='the program whose jobs are check and survey; they are left out without it')
+A.add_argument('--wadlens', default='', help='the program of the jobs from check on; they are left out without it')
+A.add_argument('--library', default='', help='the folder out/ of tools/library; the calls are left out without it')
 A.add_argument('--dir', default='', help='folder for the inputs (a temporary one, which is removed)')
 A.add_argument('--only', default='', help='jobs whose name holds one of these words (comma)')
 A.add_argument('--limit', type=int, default=300, help='seconds for one run')
@@ -106,14 +108,20 @@ def demo(version, players):
         k = 5 if version == 111 else 4; n = (int(FILES*part) - 14)//k
         out.write(bytes([version, 3, 1, 1, 0, 0, 0, 0, 0] + players)); again(out, bytes([25, 206, 7, 9, 1][:k]), n*k); out.write(b'\x80')
     return make
-def demo_lump(out, part):
-    n = (int(FILES*part) - 12 - 16 - 14)//4*4 + 14
-    out.write(head(1, 12) + entry(28, n, b'DEMO1') + bytes([109, 3, 1, 1, 0, 0, 0, 0, 0, 1, 0, 0, 0]))
-    again(out, bytes([25, 206, 7, 9]), n - 14); out.write(b'\x80')
-def chain_of_32767(out, part):
-    n = int(32767*part); node = w(0, 0, 0, 64, 64, 0, 0, 0, 64, 0, 0, 0)
-    lump = b''.join(node + (w(i - 1, 32769 + i) if i else w(32768, 32769)) for i in range(n))
-    level(out, {b'NODES': lump, b'SSECTORS': w(1, 0)*(n + 1)})
+def demo_lumps(count):
+    """so many demos over the same bytes, which take the whole room"""
+    def make(out, part):
+        n = (int(FILES*part) - 12 - 16*count - 14)//4*4 + 14
+        out.write(head(count, 12) + entry(12 + 16*count, n, b'DEMO1')*count + bytes([109, 3, 1, 1, 0, 0, 0, 0, 0, 1, 0, 0, 0]))
+        again(out, bytes([25, 206, 7, 9]), n - 14); out.write(b'\x80')
+    return make
+def chain(lumps, ssector=w(1, 0)):
+    """a level with these lumps and 32767 nodes in a chain, of which the last ssector has the points with x above 0"""
+    def make(out, part):
+        n = int(32767*part); node = w(0, 0, 0, 64, 64, 0, 0, 0, 64, 0, 0, 0)
+        lump = b''.join(node + (w(i - 1, 32769 + i) if i else w(32768, 32769)) for i in range(n))
+        level(out, {b'NODES': lump, b'SSECTORS': ssector*(n + 1), **lumps})
+    return make
 def hole(out, part):
     """a demo, or an empty directory, and one byte more than may be read"""
     out.write(head(0, 0)); out.truncate(int(FILES*part) + (part == 1))
@@ -151,15 +159,79 @@ for c in ('points', 'census', 'sight', 'blocks'):
     job(c + ': 16 MB of one line', c + ' E1M1 S', None, text(b'1'))
     job(c + ': 16 MB of empty lines', c + ' E1M1 S', None, text(b'\n'))
     job(c + ': 16 MB of the shortest lines', c + ' E1M1 S', None, text(b'0 0 0 0\n' if c == 'census' else b'0 0\n'))
-job('points: 1024 points down a chain of 32,767 nodes', 'points E1M1 F', chain_of_32767, lambda out, part: out.write(b'1 5\n'*1024))
-job('census: a square of 1024 on such a chain', 'census E1M1 F', chain_of_32767, lambda out, part: out.write(b'-512 -512 511 511\n'))
+job('points: 1024 points down a chain of 32,767 nodes', 'points E1M1 F', chain({}), lambda out, part: out.write(b'1 5\n'*1024))
+job('census: a square of 1024 on such a chain', 'census E1M1 F', chain({}), lambda out, part: out.write(b'-512 -512 511 511\n'))
 job('lmp: 67 million commands', 'lmp D', demo(109, [1, 0, 0, 0]))
 job('lmp: 53 million commands of the long form', 'lmp D', demo(111, [1, 1, 1, 1]))
-job('demo: 67 million commands in a lump', 'demo DEMO1 F', demo_lump)
+job('demo: 67 million commands in a lump', 'demo DEMO1 F', demo_lumps(1))
 job('lumps: a byte more than may be read', 'lumps F', hole, ends=2)
 job('lmp: a byte more than may be read', 'lmp D', demo_hole, ends=2)
 
-one_byte = big_level({}, NAMES, whole(1), lambda out, n: again(out, b'\xff', n))
+# ------------------------------------------------------- inputs for wadlens
+SIDE, SEG, THING = OWN[b'SIDEDEFS'][:30], OWN[b'SEGS'][:12], OWN[b'THINGS']
+# The second sector is a step up under a lower ceiling, so the wall to it lacks two textures.
+STEP = {b'SECTORS': OWN[b'SECTORS'][:26] + w(8, 100) + OWN[b'SECTORS'][30:]}
+TAGGED = w(0, 1, 1)                     # of a linedef: no flags, a special, and a tag that no sector has
+def vertexes(n): return {b'VERTEXES': b''.join(w(40503*i, 30011*i) for i in range(n))}
+def linedefs(lumps, lines):
+    """as many linedefs as fit, by turns of these: from where to where, and their sides"""
+    block = b''.join(w(a, b) + TAGGED + w(c, d) for a, b, c, d in lines)
+    return big_level(lumps, [b'LINEDEFS'], whole(14), lambda out, n: again(out, block, n))
+def apart(out, size):
+    """linedefs of which no two have the same places: from each of 32768 vertexes to the next, then to the one behind that"""
+    block = bytearray(b''.join(w(i, 0) + TAGGED + w(0, 1) for i in range(32768))); low, high = block[0::14], block[1::14]; k = 1
+    while size > 0:
+        block[2::14] = low[k:] + low[:k]; block[3::14] = high[k:] + high[:k]
+        size -= out.write(block[:size]); k += 1
+def of_bytes(byte, lumps=NAMES):
+    """lumps that share as many such bytes as fit"""
+    return big_level({}, lumps, whole(1), lambda out, n: again(out, byte, n))
+def levels_over(count, byte):
+    """so many levels, all lumps of all of them over the same bytes"""
+    def make(out, part):
+        start = 12 + 16*11*count; n = int((FILES - start)*part)
+        out.write(head(11*count, 12) + (entry(0, 0, b'E1M1') + b''.join(entry(start, n, k) for k in NAMES))*count); again(out, byte, n)
+    return make
+def samples(count):
+    """so many levels over the sample's lumps"""
+    def make(out, part):
+        body, d = b'', entry(0, 0, b'E1M1')
+        for k in NAMES: d += entry(12 + len(body), len(OWN[k]), k); body += OWN[k]
+        out.write(head(11*int(count*part), 12 + len(body)) + body + d*int(count*part))
+    return make
+LEAF = {b'SEGS': SEG*32767, b'SSECTORS': w(32766, 0, 1, 32766)}  # the thing is in the first ssector, before all of its segs
+def things(lumps, count): return lambda out, part: level(out, {**lumps, b'THINGS': THING*int(count*part)})
+ROW = {b'VERTEXES': w(0, 0, 1023, 0)}   # a frame of 1024 points
+def leaf_row(out, part): level(out, {**ROW, b'SEGS': SEG*int(32767*part), b'SSECTORS': w(int(32767*part), 0)*2})
+def slanted(out, part):
+    """1024 columns and as many rows whose cells show two sectors by turns, in stripes from corner to corner"""
+    rows, lines = int(1024*part), []
+    def half(a, b):                      # of the stripes from a to b - 1
+        if b - a == 1: return 32768 + a
+        m = (a + b)//2; back, front = half(a, m), half(m, b)
+        lines.append(w(m - rows, 0, 64, 64, 64, 0, 0, 0, 64, 0, 0, 0, front, back)); return len(lines) - 1
+    half(0, 1023 + rows)
+    level(out, {b'NODES': b''.join(lines), b'SSECTORS': b''.join(w(1, i % 2) for i in range(1023 + rows)),
+                b'SEGS': w(0, 0, 0, 0, 0, 0, 0, 0, 0, 0, 1, 0), b'VERTEXES': w(0, 0, 1023, rows - 1)})
+def many_demos(body):
+    """as many demos as fit, all over the same few bytes"""
+    def make(out, part):
+        n = int((FILES - 12 - len(body))//16*part)
+        out.write(head(n, 12 + len(body)) + body); again(out, entry(12, len(body), b'DEMO1'), 16*n)
+    return make
+def listing(more):
+    """the longest listing, whose last line tells of so many tics more than there are"""
+    def make(out, part):
+        left, n, block = int(FILES*part) - 200, -4096, b''
+        out.write(b'demo version 109 skill 3 episode 1 map 1 deathmatch 0 respawn 0 fast 0 nomonsters 0 viewpoint 0 players 1 0 0 0\n')
+        while len(block) <= left:
+            left -= out.write(block); n += 4096
+            block = ''.join('%d 1 0 0 0 00\n' % i for i in range(n, n + 4096)).encode()
+        out.write(b'tics %d odd 0 after 0\n' % (n + more))
+    return make
+
+LENS = ('check', 'survey', 'picture', 'atlas', 'demos', 'compare', 'assemble')
+one_byte = of_bytes(b'\xff')
 for word in ('check', 'survey') if o.wadlens else ():
     job(word + ': 16,777,215 entries of one name', word + ' F', one_name)
     job(word + ': 1,525,201 levels of one label', word + ' F', directory(None, [b'E1M1'] + NAMES), ends=1)
@@ -168,14 +240,63 @@ for word in ('check', 'survey') if o.wadlens else ():
     for k, record in ((b'LINEDEFS', 14), (b'SIDEDEFS', 30), (b'SSECTORS', 4)):
         job('%s: %s of bytes 255' % (word, k.decode()), word + ' F', big_level({}, [k], whole(record), lambda out, n: again(out, b'\xff', n)), ends=1)
     job(word + ': all lumps over the same bytes 255', word + ' F', one_byte, ends=1)
+    job(word + ': 8 levels, all lumps over the same bytes 255', word + ' F', levels_over(8, b'\xff'), ends=1)
+    word += ' --map'
+    job(word + ': 19 million linedefs at one place', word + ' F', linedefs(STEP, [(0, 1, 0, 1)]))
+    job(word + ': 19 million linedefs, all from one vertex', word + ' F', linedefs({**STEP, **vertexes(32768)}, [(0, i, 0, 1) for i in range(1, 32768)]))
+    job(word + ': 65,535 sidedefs of one sector', word + ' --wide F',
+        linedefs({b'SIDEDEFS': SIDE*65535, b'SEGS': SEG*2, **vertexes(65536)}, [(i//2*2, i//2*2 + 1, i, -1) for i in range(65535)]))
+    job(word + ': 19 million linedefs at different places', word + ' F', big_level({**STEP, **vertexes(32768)}, [b'LINEDEFS'], whole(14), apart))
+    job(word + ': 26.8 million things', word + ' F', big_level({}, [b'THINGS'], whole(10), lambda out, n: again(out, THING, n)))
+    job(word + ': 65,536 things before 32,766 segs', word + ' F', things(LEAF, 65536))
+    job(word + ': 1024 things down a chain of 32,767 nodes', word + ' F', chain({b'THINGS': THING*1024}))
+    job(word + ': 32,768 ssectors of the same 32,767 segs', word + ' F', chain({b'SEGS': SEG*32767}, w(32767, 0)))
+    job(word + ': all lumps over the same bytes 0', word + ' F', of_bytes(b'\0'), ends=1)
+if o.wadlens:
+    job('check --map --max 0: 19 million linedefs at one place', 'check --map --max 0 F', linedefs(STEP, [(0, 1, 0, 1)]))
+    p1024 = 'picture --cells 1024 '
+    job('picture: 1,048,576 cells, no two beside one another alike', p1024 + 'E1M1 F', slanted)
+    job('picture: 1024 cells down a chain of 32,767 nodes', p1024 + 'E1M1 F', chain(ROW))
+    job('picture: 1024 cells before 32,767 segs', p1024 + 'E1M1 F', leaf_row)
+    job('picture: 19 million linedefs without length', p1024 + 'E1M1 F', of_bytes(b'\0', [b'LINEDEFS']))
+    job('picture: 26.8 million things', p1024 + 'E1M1 F', big_level({}, [b'THINGS'], whole(10), lambda out, n: again(out, THING, n)))
+    frame = p1024 + '--frame=-32768,-32768,32767,32767 E1M1 F'
+    job('picture: LINEDEFS of bytes 255', frame, of_bytes(b'\xff', [b'LINEDEFS']), ends=1)
+    job('picture: all lumps over the same bytes 255', frame, one_byte, ends=1)
+    job('atlas: 50,000 levels over the same bytes', 'atlas --out O F', samples(50000))
+    job('atlas: 1,525,201 levels with nothing to draw', 'atlas --out O F', directory(None, [b'E1M1'] + NAMES), ends=1)
+    job('demos: 16,777,215 entries of one name', 'demos F', one_name)
+    job('demos: 16,777,214 demos over the same 14 bytes', 'demos F', many_demos(bytes([109, 3, 1, 1, 0, 0, 0, 0, 0, 1, 0, 0, 0, 128])))
+    job('demos: 16,777,215 refused demos', 'demos F', many_demos(b'\xff'), ends=2)
+    job('demos: a demo of 67 million commands', 'demos D', demo(109, [1, 0, 0, 0]))
+    job('demos: 8 demos over the same 67 million commands', 'demos F', demo_lumps(8))
+    job('compare: 67 million commands with themselves', 'compare D D', demo(109, [1, 0, 0, 0]))
+    job('assemble: the longest listing', 'assemble', None, listing(0))
+    job('assemble: the same, with a last line that is wrong', 'assemble', None, listing(1), ends=2)
+    job('assemble: 268 MB of one line', 'assemble', None, lambda out, part: again(out, b'1', int(FILES*part)), ends=2)
+
+# A call ends with its status: 1 where the level isn't sound.
+for word, name, make, ends in (
+    ('audit', '9.5 million nodes in a chain', big_level(MANY_SSECTORS, [b'NODES'], whole(28), CHAIN), 0),
+    ('audit', 'all lumps over the same bytes 255', one_byte, 0),
+    ('points', '9.5 million nodes that all name one, refused', big_level(MANY_SSECTORS, [b'NODES'], whole(28), ONE), 1),
+    ('points', '1024 points down a chain of 32,767 nodes', chain({}), 0),
+    ('extract', 'a level of 268 MB', of_bytes(b'\0', b), 0),
+    ('demo', '67 million commands', demo(109, [1, 0, 0, 0]), 0),
+    ('block', 'one list of 134 million words', big_level({}, b, whole(2), one_list), 0),
+) if o.library else (): job('wadlook_%s: %s' % (word, name), 'wadlook_%s F' % word, make, ends=ends)
 
 # ----------------------------------------------------------------------- runs
+CALLS = p('calls')
+if o.library: subprocess.check_call(['gcc', '-O3', '-I%s/include' % o.library, '-o', CALLS, HERE + '/calls.c', o.library + '/lib/libwadlook.a'])
 def once(args, inp):
     """user plus system seconds, peak KB, status, first word on standard error"""
-    program = o.wadlens if args[0] in ('check', 'survey') else o.wadlook
-    q = subprocess.run([RUN, str(o.limit), inp, '/dev/null', p('err'), program] + args, stdout=subprocess.PIPE).stdout.split()
-    if len(q) != 5 or q[4] == b'127': sys.exit('cannot run %s' % program)
-    return float(q[0]) + float(q[1]), int(q[3]), int(q[4]), open(p('err'), errors='replace').read().strip().split('\n')[0]
+    words = [o.wadlens if args[0] in LENS else o.wadlook] + args
+    if args[0].startswith('wadlook_'): words = [CALLS, args[0][8:]] + args[1:]
+    q = subprocess.run([RUN, str(o.limit), inp, '/dev/null', p('err')] + words, stdout=subprocess.PIPE).stdout.split()
+    if len(q) != 6 or q[5] == b'127': sys.exit('cannot run %s' % words[0])
+    shutil.rmtree(p('atlas'), ignore_errors=True)
+    with open(p('err'), errors='replace') as err: return float(q[0]) + float(q[1]), int(q[3]), int(q[5]), err.readline().strip()
 def best(words, make, lines, part):
     file, inp = p('file.wad'), '/dev/null'
     if make:
@@ -183,7 +304,7 @@ def best(words, make, lines, part):
     if lines:
         inp = p('lines')
         with open(inp, 'wb') as out: lines(out, part)
-    args = [{'F': file, 'D': file, 'S': SAMPLE}.get(q, q) for q in words.split()]
+    args = [{'F': file, 'D': file, 'S': SAMPLE, 'O': p('atlas')}.get(q, q) for q in words.split()]
     runs = [once(args, inp) for _ in range(o.repeat)]
     for n in (file, p('lines')):
         if os.path.exists(n): os.remove(n)

@@ -46,7 +46,7 @@ const COUNTS = ['things', 'linedefs', 'sidedefs', 'vertexes', 'segs', 'ssectors'
 
 /** What the page has to say of a level, by its object of the survey: texts that its row has. @param {any} one */
 function texts(one) {
-  const found = Object.entries(one.findings ?? {}).map(([code, count]) => `${code} ${count}`);
+  const found = Object.entries(one.findings ?? {}).map(([code, count]) => `${code} × ${count}`);
   const counts = one.format === 'doom' ? COUNTS.map((name) => `${one[name]} ${name}`) : [];
   return [one.level, one.file, `entry ${one.entry}, ${one.format}`, ...(one.sound ? ['sound'] : []), ...found, ...counts];
 }

@@ -3,7 +3,20 @@
 from random import Random
 from typing import NamedTuple
 
-from plain import harm, lens, look, make
+from plain import demos, harm, lens, look, make, wadlens
+from plain.runs import (
+    MISSING,
+    Run,
+    assemble_run,
+    atlas_run,
+    compare_run,
+    cut_run,
+    given,
+    lens_run,
+    look_runs,
+    picture_run,
+    point_lines,
+)
 from plain.wads import USUAL, Files
 
 LABELS = (
@@ -15,29 +28,52 @@ LABELS = (
     b"e1m1",
     b"A\\ \xff",
     b"LONGNAME",
+    b"<&\"'>",
 )
 OTHER_NAMES = ("E1M1", "e1m1", "E1M1LONG", "LONGNAMES", "A\\", "", "DEMO1", "THINGS")
-PATHS = ("a.wad", "b.wad", 'c "d".wad', "é\\.wad", "e\x01.wad", "f\n.wad", "g 😀.wad")
-MISSING = "missing.wad"
-FOLDER = "."
-NO_TEXT = (
-    b"\xff",
-    b"\xe2\x82.wad",
-    b"\xf0\x9f\x92x",
-    b"\xed\xa0\x80",
-    b"\xc0\xaf",
-    b"\xf4\x90\x80\x80",
+PATHS = (
+    "a.wad",
+    "b.wad",
+    'c "d".wad',
+    "é\\.wad",
+    "e\x01.wad",
+    "f\n.wad",
+    "g 😀.wad",
+    "<b>&amp;'.wad",
 )
-"""Paths that no words can be, and under which a list finds nothing."""
-
-
-class Run(NamedTuple):
-    """Words for a program and its input; of `wadlens` what they ask for, too."""
-
-    program: str
-    words: list[str]
-    given: bytes = b""
-    asked: lens.Asked | None = None
+FOLDER = "."
+MISTAKEN = (
+    "check",
+    "check --strict a.wad",
+    "check --null a.wad",
+    "check --max -1 a.wad",
+    "check --cells 3 a.wad",
+    "survey --max 3 a.wad",
+    "survey --strict a.wad",
+    "demos --map a.wad",
+    "picture E1M1",
+    "picture --cells 0 E1M1 a.wad",
+    "picture --cells 1025 E1M1 a.wad",
+    "picture --frame 5,0,4,9 E1M1 a.wad",
+    "picture --frame 0,5,9,4 E1M1 a.wad",
+    "picture --frame 0,0,32768,0 E1M1 a.wad",
+    "picture --frame=-32769,0,0,0 E1M1 a.wad",
+    "picture --frame 0,0,9 E1M1 a.wad",
+    "picture --map E1M1 a.wad",
+    "picture E1M1" + 65 * " a.wad",
+    "cut a.wad",
+    "cut --entry 0 a.wad a.wad",
+    "cut --entry -1 a.wad",
+    "atlas a.wad",
+    "atlas --out atlas",
+    "atlas --out atlas --cells 0 a.wad",
+    "atlas --out atlas --max 3 a.wad",
+    "compare a.wad",
+    "compare a.wad a.wad a.wad",
+    "assemble a.wad",
+    "look a.wad",
+)
+"""Words of `wadlens` that ask for nothing."""
 
 
 class Case(NamedTuple):
@@ -47,137 +83,11 @@ class Case(NamedTuple):
 
 def wanted(run: Run, files: Files) -> look.Answer:
     """What a run has to give, by the plain reading."""
-    if run.asked is None:
+    if run.program == "wadlook":
         return look.run(run.words, files, run.given)
-    return lens.run(run.asked, files)
-
-
-# ---- Input lines ---------------------------------------------------------------------
-
-
-def spoilt(random: Random, line: str) -> str:
-    """A line of another form, or the same numbers written otherwise."""
-    first, *others = line.split(" ")
-    return random.choice(
-        (
-            "",
-            line + " ",
-            " " + line,
-            line.replace(" ", "  "),
-            line + " 1",
-            first,
-            "+" + line,
-            line + "\r",
-            line + "\r\r",
-            "-" + line,
-            "x",
-            "-0 " + " ".join(others),
-            " ".join(["0" * 62 + first, *others]),
-            " ".join([first, *others[:-1], "9" * 40]),
-            line.rjust(64, "0"),
-            line.rjust(65, "0"),
-            line.replace(" ", "\t"),
-            line + "\0",
-        )
-    )
-
-
-def given(random: Random, lines: list[str]) -> bytes:
-    lines = [spoilt(random, line) if random.random() < 0.06 else line for line in lines]
-    end = random.choice(("\n", "\n", "\n", "", "\r\n", "\r"))
-    return "\n".join(lines).encode() + end.encode()
-
-
-def point_lines(random: Random, draft: make.Draft) -> list[str]:
-    return [f"{x} {y}" for x, y in make.spots(random, draft, 30)]
-
-
-def rectangle_lines(random: Random, draft: make.Draft) -> list[str]:
-    found = []
-    for x, y in make.spots(random, draft, 5):
-        width, height = random.choice(((0, 0), (4, 4), (18, 15), (1, 60), (200, 0)))
-        x, y = x - random.randint(0, width), y - random.randint(0, height)
-        found.append(f"{x} {y} {x + width} {y + height}")
-    far = ("0 0 1024 1023", "5 0 4 9", "0 5 9 4", "-16385 0 0 0", "16383 0 16384 0")
-    return found + random.sample(far, 1)
-
-
-def sector_lines(random: Random, draft: make.Draft) -> list[str]:
-    count = len(draft.tables[make.SECTORS])
-    near = range(-1, count + 2)
-    return [f"{random.choice(near)} {random.choice(near)}" for _ in range(12)]
-
-
-# ---- Runs ----------------------------------------------------------------------------
-
-
-def look_runs(
-    random: Random, draft: make.Draft, name: str, paths: list[str]
-) -> list[Run]:
-    """One command of each that opens a level, some under the wide reading."""
-    inputs = {
-        "points": given(random, point_lines(random, draft)),
-        "census": given(random, rectangle_lines(random, draft)),
-        "blocks": given(random, point_lines(random, draft)),
-        "sight": given(random, sector_lines(random, draft)),
-    }
-    found = []
-    for command in look.NAME_COMMANDS:
-        if command == "demo":
-            continue
-        can_be_wide = command in look.WIDE_COMMANDS
-        wide = can_be_wide and random.random() < 0.4
-        words = [command, *(["--wide"] if wide else []), name, *paths]
-        found.append(Run("wadlook", words, inputs.get(command, b"")))
-    return found
-
-
-def mixed(random: Random, paths: list[str], options: list[str]) -> list[str]:
-    """Options before, between and after paths."""
-    at = random.randrange(len(paths) + 1)
-    return [*paths[:at], *options, *paths[at:]]
-
-
-def lens_run(random: Random, command: str, paths: list[str]) -> Run:
-    options: list[str] = []
-    wide = command in ("check", "survey") and random.random() < 0.3
-    with_map = command in ("check", "survey") and random.random() < 0.5
-    strict = with_map and random.random() < 0.5
-    json = command == "demos" and random.random() < 0.5
-    most = random.choice((0, 1, 2, 3, 20)) if command == "check" else 20
-    options += ["--wide"] if wide else []
-    options += ["--map"] if with_map else []
-    options += ["--strict"] if strict else []
-    options += ["--json"] if json else []
-    if command == "check" and (most != 20 or random.random() < 0.3):
-        options += random.choice((["--max", str(most)], [f"--max={most}"]))
-    own, listed, data = paths, [], b""
-    if random.random() < 0.15:
-        count = random.randrange(len(paths) + 1)
-        own, listed = paths[:count], paths[count:]
-        if random.random() < 0.4:
-            odd = random.choice(NO_TEXT).decode(errors="surrogateescape")
-            listed = [*listed, odd]
-        broken = any("\n" in path for path in listed)
-        end = "\0" if broken else random.choice(("\n", "\0"))
-        options += ["--files-from", "-", *(["--null"] if end == "\0" else [])]
-        texts = [
-            text for path in listed for text in random.choice(([path], [path, ""]))
-        ]
-        text = end * random.randrange(2) + end.join(texts) + end * random.randrange(2)
-        data = text.encode(errors="surrogateescape")
-    words = [command, *mixed(random, own, options)]
-    asked = lens.Asked(
-        command, [*own, *listed], wide, most, json, map=with_map, strict=strict
-    )
-    return Run("wadlens", words, data, asked)
-
-
-def cut_run(random: Random, path: str, count: int) -> Run:
-    g = random.choice((0, 0, 1, count - 11, count - 1, count, 4294967296, 11))
-    g = max(g, 0)
-    words = ["cut", *mixed(random, [path], ["--entry", str(g)])]
-    return Run("wadlens", words, b"", lens.Asked("cut", [path], entry=g))
+    if run.asked is None:
+        return wadlens.MISTAKEN
+    return wadlens.run(run.asked, files, run.given)
 
 
 # ---- Cases ---------------------------------------------------------------------------
@@ -206,16 +116,33 @@ def of_level(random: Random) -> Case:
     lumps = make.named(draft, random.choice(LABELS))
     if random.random() < 0.1:
         harm.lumps(random, lumps)
-    path = random.choice(PATHS)
-    files = {path: make.file(random, lumps)}
-    runs = look_runs(random, draft, name_in(random, lumps), [path])
+    path, name = random.choice(PATHS), name_in(random, lumps)
+    files: Files = {path: make.file(random, lumps)}
+    runs = look_runs(random, draft, name, [path])
     runs += [lens_run(random, command, [path]) for command in ("check", "survey")]
-    return Case(files, runs)
+    return Case(files, [*runs, picture_run(random, draft, name, [path], files)])
+
+
+def of_oversights(random: Random) -> Case:
+    """A level in which every reference holds, with a few oversights or none."""
+    draft = make.neat(random)
+    for _ in range(random.choice((0, 1, 1, 1, 2, 4))):
+        harm.overlook(random, draft)
+    if random.random() < 0.2:
+        harm.level(random, draft)
+    path = random.choice(PATHS)
+    files: Files = {path: make.file(random, make.named(draft, b"E1M1"))}
+    runs = [
+        lens_run(random, command, [path], mapped=True)
+        for command in ("check", "survey")
+    ]
+    return Case(files, [*runs, picture_run(random, draft, "E1M1", [path], files)])
 
 
 def of_many(random: Random) -> Case:
     """A file of several levels, labels that hide others among them."""
     lumps: make.Lumps = [(b"PLAYPAL", random.randbytes(5))]
+    draft = make.level(random)
     for _ in range(random.randrange(2, 7)):
         draft = drafted(random, random.choice((1, 3, 12)))
         own = make.named(draft, random.choice(LABELS))
@@ -224,13 +151,14 @@ def of_many(random: Random) -> Case:
         lumps += own
         if random.random() < 0.2:
             lumps.append((b"BEHAVIOR", b"ACS\0"))
-    path = random.choice(PATHS)
-    files = {path: make.file(random, lumps)}
+    path, name = random.choice(PATHS), name_in(random, lumps)
+    files: Files = {path: make.file(random, lumps)}
     runs = [lens_run(random, command, [path]) for command in ("check", "survey")]
     runs += [lens_run(random, "check", [path]), cut_run(random, path, len(lumps))]
     runs += [Run("wadlook", [command, path]) for command in ("lumps", "levels")]
-    name = name_in(random, lumps)
-    return Case(files, runs + [Run("wadlook", ["audit", name, path])])
+    runs.append(Run("wadlook", ["audit", name, path]))
+    runs.append(picture_run(random, draft, name, [path], files))
+    return Case(files, [*runs, atlas_run(random, [path], files)])
 
 
 def of_set(random: Random) -> Case:
@@ -259,8 +187,9 @@ def of_set(random: Random) -> Case:
     runs += random.sample(look_runs(random, draft, name, paths), 4)
     commands = ("check", "survey", "demos")
     runs += [lens_run(random, command, paths) for command in commands]
-    path = random.choice(paths)
-    return Case(files, runs + [cut_run(random, path, 12)])
+    runs.append(cut_run(random, random.choice(paths), 12))
+    runs += [picture_run(random, draft, name, paths, files) for _ in "ab"]
+    return Case(files, [*runs, atlas_run(random, paths, files)])
 
 
 def of_demos(random: Random) -> Case:
@@ -287,12 +216,43 @@ def of_demos(random: Random) -> Case:
     paths = [*files, *random.choice(([], [], [MISSING]))]
     random.shuffle(paths)
     runs += [lens_run(random, "demos", paths) for _ in "ab"]
-    return Case(files, runs)
+    return Case(files, runs + [compare_run(random, paths) for _ in "ab"])
+
+
+def of_pairs(random: Random) -> Case:
+    """Demos that differ in few places, whole and damaged."""
+    data = make.demo(random)
+    files: Files = {"a.lmp": data}
+    for name in "bcde":
+        other = harm.sibling(random, data)
+        other = harm.sibling(random, other) if random.random() < 0.2 else other
+        other = harm.demo(random, other) if random.random() < 0.15 else other
+        files[f"{name}.lmp"] = other
+    paths = [*files, random.choice((MISSING, *files))]
+    return Case(files, [compare_run(random, paths) for _ in range(8)])
+
+
+def listing_of(random: Random) -> bytes:
+    """The listing of a demo, or a text that is almost one."""
+    data = make.demo(random)
+    if random.random() < 0.9:
+        data = bytes([109]) + data[1:]
+    demo = demos.read(data)
+    told = [*demos.front_lines(demo), demos.last_line(demo)]
+    text = "".join(line + "\n" for line in told).encode()
+    for _ in range(random.choice((0, 1, 1, 1, 2))):
+        text = harm.listing(random, text)
+    return text
+
+
+def of_listings(random: Random) -> Case:
+    return Case({}, [assemble_run(listing_of(random)) for _ in range(10)])
 
 
 def of_words(random: Random) -> Case:
     """Words that are a form, and words that are almost one."""
-    files = {"a.wad": make.file(random, make.named(make.level(random), b"E1M1"))}
+    files: Files = {}
+    files["a.wad"] = make.file(random, make.named(make.level(random), b"E1M1"))
     commands = (*look.NAME_COMMANDS, "lumps", "levels", "lmp", "Show", "help", "")
     runs = [Run("wadlook", [])] if random.random() < 0.2 else []
     for _ in range(12):
@@ -301,7 +261,8 @@ def of_words(random: Random) -> Case:
         words = words[: random.randrange(1, 5)]
         words += ["a.wad"] * random.choice((0, 0, 1, 63, 64))
         runs.append(Run("wadlook", words, b"0 0\n"))
-    return Case(files, runs)
+    mistaken = random.sample(MISTAKEN, 6)
+    return Case(files, runs + [Run("wadlens", words.split()) for words in mistaken])
 
 
 def of_large(random: Random) -> Case:
@@ -319,12 +280,24 @@ def of_large(random: Random) -> Case:
     return Case(files, runs + [lens_run(random, "check", paths)])
 
 
+def of_cells(random: Random) -> Case:
+    """A picture with as many cells as are usual."""
+    draft = make.built(random, 600, 0.1)
+    files: Files = {"a.wad": make.file(random, make.named(draft, b"E1M1"))}
+    asked = lens.Asked("picture", ["a.wad"], name="E1M1")
+    return Case(files, [Run("wadlens", ["picture", "E1M1", "a.wad"], b"", asked)])
+
+
 def of_formats(random: Random) -> Case:
-    """Levels of other formats, and labels in odd places."""
+    """Levels of other formats, some with nothing to draw, and labels in odd places."""
     lumps: make.Lumps = []
+    draft = make.Draft()
     for _ in range(random.randrange(1, 4)):
-        own = make.named(drafted(random, 1), random.choice(LABELS))
-        match random.randrange(6):
+        draft = drafted(random, 1)
+        if random.random() < 0.2:
+            harm.lose_lines(random, draft)
+        own = make.named(draft, random.choice(LABELS))
+        match random.randrange(8):
             case 0:
                 own[1:] = [(b"TEXTMAP", b"namespace"), (b"ENDMAP", b"")]
             case 1:
@@ -343,21 +316,32 @@ def of_formats(random: Random) -> Case:
     data = make.file(random, lumps)
     if random.random() < 0.3:
         data = harm.file(random, data)
-    files = {"formats.wad": data}
-    runs = [lens_run(random, command, [*files]) for command in ("check", "survey")]
+    files: Files = {"formats.wad": data}
+    paths, name = [*files], name_in(random, lumps)
+    runs = [lens_run(random, command, paths) for command in ("check", "survey")]
     runs += [cut_run(random, "formats.wad", len(lumps)) for _ in "ab"]
     runs.append(Run("wadlook", ["levels", "formats.wad"]))
-    return Case(files, runs)
+    runs.append(picture_run(random, draft, name, paths, files))
+    return Case(files, [*runs, atlas_run(random, paths, files)])
 
 
 KINDS = (
-    [of_level] * 10 + [of_many] * 4 + [of_set] * 6 + [of_demos] * 4 + [of_formats] * 3
+    [of_level] * 8
+    + [of_oversights] * 4
+    + [of_many] * 4
+    + [of_set] * 6
+    + [of_demos] * 3
+    + [of_pairs] * 2
+    + [of_listings] * 2
+    + [of_formats] * 3
 )
 
 
 def case(seed: int, number: int) -> Case:
     """The case of a number: of each kind so many, and now and then a large one."""
     random = Random(f"{seed} {number}")
+    if number % 200 == 124:
+        return of_cells(random)
     if number % 50 == 49:
         return of_large(random)
     if number % 25 == 24:

@@ -1,5 +1,7 @@
-"""Demos, read plainly: Header, Command, Demo and Listing of docs/DEFINITIONS.md."""
+"""Demos, read plainly: Header, Command, Demo, Listing, Difference of demos, Assembled demo
+and Wrong line of docs/DEFINITIONS.md."""
 
+import re
 from typing import NamedTuple
 
 VERSIONS = (109, 110, 111)
@@ -73,16 +75,29 @@ def read(data: bytes) -> Demo:
     return Demo(data[:13], commands, after, None if ended else at)
 
 
+def header_fields(header: bytes) -> list[str]:
+    """The fields of a header by their names, the four players as one."""
+    named = [f"{name} {byte}" for name, byte in zip(FIELDS.split(), header)]
+    return [*named, "players " + " ".join(str(byte) for byte in header[9:])]
+
+
+def turn_of(demo: Demo, i: int) -> tuple[int, int]:
+    """The tic of the command of a number, and its player."""
+    tic, place = divmod(i, len(demo.players))
+    return tic, demo.players[place]
+
+
+def command_text(command: Command) -> str:
+    forward, side, turn, buttons = command
+    return f"{forward} {side} {turn} {buttons:02x}"
+
+
 def front_lines(demo: Demo) -> list[str]:
     """The lines of a listing but for the last: the header's, and the commands'."""
-    named = [f"{name} {byte}" for name, byte in zip(FIELDS.split(), demo.header)]
-    players = " ".join(str(byte) for byte in demo.header[9:])
-    lines = [f"demo {' '.join(named)} players {players}"]
-    for i, (forward, side, turn, buttons) in enumerate(demo.commands):
-        tic, place = divmod(i, len(demo.players))
-        lines.append(
-            f"{tic} {demo.players[place]} {forward} {side} {turn} {buttons:02x}"
-        )
+    lines = [f"demo {' '.join(header_fields(demo.header))}"]
+    for i, command in enumerate(demo.commands):
+        tic, player = turn_of(demo, i)
+        lines.append(f"{tic} {player} {command_text(command)}")
     return lines
 
 
@@ -99,3 +114,85 @@ def refusal_words(data: bytes) -> str:
         return f"demo {number}"
     unended = read(data).unended
     return "" if unended is None else f"demo 5 at {unended}"
+
+
+# ---- Two demos -----------------------------------------------------------------------
+
+
+def difference(a: Demo, b: Demo) -> str:
+    """Where demos first differ; nothing where header and commands are the same."""
+    for one, other in zip(header_fields(a.header), header_fields(b.header)):
+        if one != other:
+            return f"header: {one}, {other.split(' ', 1)[1]}"
+    for i, (x, y) in enumerate(zip(a.commands, b.commands)):
+        if x != y:
+            tic, player = turn_of(a, i)
+            told = f"{command_text(x)}, {command_text(y)}"
+            return f"tic {tic} player {player}: {told}"
+    if len(a.commands) == len(b.commands):
+        return ""
+    name, ended = min(("A", a), ("B", b), key=lambda each: len(each[1].commands))
+    return f"{name} ends at tic {turn_of(a, len(ended.commands))[0]}"
+
+
+# ---- A demo from its listing ---------------------------------------------------------
+
+NUMBER = "(0|[1-9][0-9]*)"
+SIGNED = "(0|-?[1-9][0-9]*)"
+HEADER_LINE = " ".join(
+    ["demo", *(f"{name} {NUMBER}" for name in FIELDS.split()), "players", *[NUMBER] * 4]
+)
+COMMAND_LINE = f"{NUMBER} {NUMBER} {SIGNED} {SIGNED} {NUMBER} ([0-9a-f]{{2}})"
+LAST_LINE = f"tics {NUMBER} odd {NUMBER} after {NUMBER}"
+MOST_AFTER = 2**64 - 1
+
+
+def header_in(line: str) -> bytes | None:
+    """The header of version 109 that a line of a listing tells."""
+    form = re.fullmatch(HEADER_LINE, line)
+    numbers = [int(told) for told in form.groups()] if form else []
+    if not numbers or max(numbers) > 255 or numbers[0] != 109:
+        return None
+    return bytes(numbers) if any(numbers[9:]) else None
+
+
+def command_in(line: str, turn: tuple[int, int]) -> bytes | None:
+    """The four bytes of the command that a line tells, whose turn has to be that."""
+    form = re.fullmatch(COMMAND_LINE, line)
+    if form is None:
+        return None
+    tic, player, forward, side, angle = (int(told) for told in form.groups()[:5])
+    buttons = int(form[6], 16)
+    fits = -127 <= forward <= 127 and -128 <= side <= 127 and angle <= 255
+    if (tic, player) != turn or not fits:
+        return None
+    return bytes([forward % 256, side % 256, angle, buttons])
+
+
+def is_last(line: str, demo: Demo) -> bool:
+    form = re.fullmatch(LAST_LINE, line)
+    if form is None:
+        return False
+    tics, odd, after = (int(told) for told in form.groups())
+    return (tics, odd) == (demo.tics, demo.odd) and after <= MOST_AFTER
+
+
+def assembled(text: bytes) -> bytes | int:
+    """The demo of version 109 of which a text is the listing, without what came after its
+    marker; or the number of the first line with which the lines begin no listing."""
+    *parts, rest = text.split(b"\n")
+    lines = [part.decode(errors="replace") for part in parts]
+    header = header_in(lines[0]) if lines else None
+    if header is None:
+        return 1
+    demo, data = Demo(header, [], 0, None), header
+    for n, line in enumerate(lines[1:], 2):
+        if is_last(line, demo):
+            ended = n == len(lines) and not rest
+            return data + bytes([MARKER]) if ended else n + 1
+        told = command_in(line, turn_of(demo, len(demo.commands)))
+        if told is None:
+            return n
+        demo.commands.append(command(told))
+        data += told
+    return len(lines) + 1

@@ -1,6 +1,6 @@
 """What tests/fuzz runs: the built programs on cases that are made up from a seed, whose
-status, standard output and standard error are compared, byte by byte, with what a plain
-reading of the definitions gives. The last line is `N passed, M failed`."""
+status, standard output, standard error and folders are compared with what a plain reading
+of the definitions gives. The last line is `N passed, M failed`."""
 
 import os
 import shlex
@@ -10,8 +10,11 @@ import sys
 import tempfile
 from pathlib import Path
 
-from plain.cases import Case, Run, case, wanted
+from plain.cases import Case, case, wanted
 from plain.look import Answer
+from plain.page import events_of
+from plain.runs import Run
+from plain.wadlens import MISTAKEN
 
 ROOT = Path(__file__).resolve().parent.parent.parent
 CASES, SEED, MOST_TOLD, SECONDS = 800, 1, 20, 120
@@ -19,6 +22,15 @@ PROGRAMS = {
     name: os.environ.get(name.upper(), str(ROOT / f"crates/{name}/out/{name}"))
     for name in ("wadlook", "wadlens")
 }
+
+
+def gathered(folder: Path) -> dict[str, bytes] | None:
+    """The files of a folder, a page as its events; nothing where there is no folder."""
+    if not folder.is_dir():
+        return None
+    made = {path.name: path.read_bytes() for path in folder.iterdir()}
+    pages = {name: events_of(made[name]) for name in made if name.endswith(".html")}
+    return made | pages
 
 
 def came(run: Run, room: str) -> Answer:
@@ -30,25 +42,42 @@ def came(run: Run, room: str) -> Answer:
         cwd=room,
         timeout=SECONDS,
     )
-    return Answer(done.returncode, done.stdout, done.stderr)
+    error = MISTAKEN.error if b"\nUsage: wadlens" in done.stderr else done.stderr
+    folder = run.asked.folder if run.asked else ""
+    made = gathered(Path(room, folder)) if folder else None
+    return Answer(done.returncode, done.stdout, error, made)
+
+
+def first_lines(what: str, one: bytes, other: bytes) -> str:
+    """The first lines that differ of two texts; nothing where the texts are the same."""
+    if one == other:
+        return ""
+    lines, others = one.split(b"\n"), other.split(b"\n")
+    pairs = [*zip(lines, others), (lines[-1], others[-1])]
+    at = next(i for i, (a, b) in enumerate(pairs) if a != b or i == len(pairs) - 1)
+    a, b = (repr(part[:300]) for part in pairs[at])
+    return f"{what}, line {at + 1}\n    wanted: {a}\n    came:   {b}"
 
 
 def first_difference(want: Answer, got: Answer) -> str:
-    """The first lines that differ, of what was wanted and of what came."""
+    """Where what came first differs from what was wanted."""
     if want.status != got.status:
         return f"status {want.status} is wanted, and {got.status} came"
-    for stream, one, other in (
+    here, there = want.folder or {}, got.folder or {}
+    texts = [
         ("standard output", want.out, got.out),
         ("standard error", want.error, got.error),
-    ):
-        if one == other:
-            continue
-        lines, others = one.split(b"\n"), other.split(b"\n")
-        pairs = [*zip(lines, others), (lines[-1], others[-1])]
-        at = next(i for i, (a, b) in enumerate(pairs) if a != b or i == len(pairs) - 1)
-        a, b = (repr(part[:300]) for part in pairs[at])
-        return f"{stream}, line {at + 1}\n    wanted: {a}\n    came:   {b}"
-    return "no difference"
+        ("the files of the folder", names_in(want), names_in(got)),
+        *((name, here[name], there[name]) for name in here if name in there),
+    ]
+    told = [first_lines(*text) for text in texts]
+    return next((line for line in told if line), "no difference")
+
+
+def names_in(answer: Answer) -> bytes:
+    if answer.folder is None:
+        return b"no folder"
+    return "\n".join(sorted(answer.folder)).encode()
 
 
 def keep(seed: int, number: int, found: Case, run: Run, want: Answer) -> Path:
@@ -59,12 +88,16 @@ def keep(seed: int, number: int, found: Case, run: Run, want: Answer) -> Path:
     (folder / "input").write_bytes(run.given)
     (folder / "wanted.out").write_bytes(want.out)
     (folder / "wanted.error").write_bytes(want.error)
+    for name, data in (want.folder or {}).items():
+        (folder / f"wanted.{name}").write_bytes(data)
     return folder
 
 
 def write_files(found: Case, room: str) -> None:
     for path, data in found.files.items():
-        if data is not None:
+        if data is None:
+            Path(room, path).mkdir(exist_ok=True)
+        else:
             Path(room, path).write_bytes(data)
 
 
@@ -76,20 +109,16 @@ def tell(seed: int, number: int, found: Case, run: Run, want: Answer, why: str) 
     print(f"    again: tests/fuzz 1 {seed} {number}", flush=True)
 
 
-def judge(seed: int, number: int, room: str) -> bool:
+def judge(seed: int, number: int) -> bool:
     """Whether all runs of a case give what is wanted; the first that doesn't is told."""
     found = case(seed, number)
-    write_files(found, room)
-    try:
+    with tempfile.TemporaryDirectory() as room:
+        write_files(found, room)
         for run in found.runs:
             want, got = wanted(run, found.files), came(run, room)
             if want != got:
                 tell(seed, number, found, run, want, first_difference(want, got))
                 return False
-    finally:
-        for path, data in found.files.items():
-            if data is not None:
-                Path(room, path).unlink()
     return True
 
 
@@ -101,15 +130,14 @@ def main(words: list[str]) -> int:
             print(f"tests/fuzz: there is no program {program}\n0 passed, 1 failed")
             return 1
     passed = failed = 0
-    with tempfile.TemporaryDirectory() as room:
-        for number in range(first, first + count):
-            if judge(seed, number, room):
-                passed += 1
-            else:
-                failed += 1
-            if failed == MOST_TOLD:
-                print("and so on: the cases after this one weren't run")
-                break
+    for number in range(first, first + count):
+        if judge(seed, number):
+            passed += 1
+        else:
+            failed += 1
+        if failed == MOST_TOLD:
+            print("and so on: the cases after this one weren't run")
+            break
     print(f"{passed} passed, {failed} failed")
     return 0 if failed == 0 else 1
 

@@ -2,8 +2,21 @@
 
 from random import Random
 
+from plain.demos import read
 from plain.levels import LAYOUTS
-from plain.make import LINEDEFS, NODES, Draft, Lumps, entry, tangle
+from plain.make import (
+    LINEDEFS,
+    NODES,
+    SECTORS,
+    SEGS,
+    SIDEDEFS,
+    THINGS,
+    VERTEXES,
+    Draft,
+    Lumps,
+    entry,
+    tangle,
+)
 
 TAGS = (b"XNOD", b"ZNOD", b"xNd4\0\0\0\0", b"xNd4\0\0\0\1", b"XGLN", b"ZGL3", b"XGL4")
 
@@ -40,6 +53,15 @@ def change_line(random: Random, draft: Draft) -> None:
             record[1] = record[0]
         case _:
             record[random.choice((5, 6))] = -1
+
+
+def lose_lines(random: Random, draft: Draft) -> None:
+    """No linedef, or none that has both of its ends."""
+    draft.tables[LINEDEFS] = [
+        [*record[:1], -2, *record[2:]] for record in draft.tables[LINEDEFS]
+    ]
+    if random.random() < 0.5:
+        draft.tables[LINEDEFS].clear()
 
 
 def change_count(random: Random, draft: Draft) -> None:
@@ -90,6 +112,90 @@ def level(random: Random, draft: Draft) -> None:
         change_blockmap(random, draft)
     else:
         tangle(random, draft)
+
+
+# ---- Oversights ----------------------------------------------------------------------
+
+
+def turn_line(random: Random, draft: Draft) -> None:
+    """A linedef the other way round: its sectors aren't closed."""
+    record = random.choice(draft.tables[LINEDEFS])
+    record[0], record[1] = record[1], record[0]
+
+
+def strip_wall(random: Random, draft: Draft) -> None:
+    """A sidedef without textures, and mostly other heights behind it."""
+    sidedef = random.choice(draft.tables[SIDEDEFS])
+    for field in random.sample((2, 3, 4), random.choice((1, 3))):
+        sidedef[field] = random.choice((b"-", b"-", b"-\0X", b"-X"))
+    sector = random.choice(draft.tables[SECTORS])
+    sector[random.choice((0, 1))] += random.choice((-8, 0, 8))
+
+
+def move_thing(random: Random, draft: Draft) -> None:
+    """A thing on a vertex or a unit from it, far away, or beyond the range."""
+    x, y = random.choice(draft.tables[VERTEXES])
+    thing = random.choice(draft.tables[THINGS])
+    far = random.choice((0, 1, 1, 300, 20000))
+    thing[:2] = x + far * random.choice((-1, 0, 1)), y + far * random.choice((-1, 1))
+
+
+def lose_tag(random: Random, draft: Draft) -> None:
+    """A tag and a special, and mostly no sector of that tag."""
+    linedef = random.choice(draft.tables[LINEDEFS])
+    linedef[3] = random.choice((0, 11, 97, -1))
+    linedef[4] = random.choice((0, 7, 666, 667, -1))
+
+
+def turn_seg(random: Random, draft: Draft) -> None:
+    """A seg of a linedef with two sides on the other one: its ssector faces two sectors."""
+    linedefs = draft.tables[LINEDEFS]
+    segs = [seg for seg in draft.tables[SEGS] if -1 not in linedefs[seg[3]][5:]]
+    if segs:
+        seg = random.choice(segs)
+        seg[4] = 1 - seg[4]
+
+
+def lay_line(random: Random, draft: Draft) -> None:
+    """A linedef on another, by its vertexes or by others at their places."""
+    linedef = [*random.choice(draft.tables[LINEDEFS])]
+    ends = linedef[:2]
+    if random.random() < 0.4:
+        vertexes = draft.tables[VERTEXES]
+        vertexes += [[*vertexes[v]] for v in ends]
+        ends = [len(vertexes) - 2, len(vertexes) - 1]
+    linedef[:2] = random.choice((ends, ends[::-1]))
+    draft.tables[LINEDEFS].append(linedef)
+
+
+def lose_start(random: Random, draft: Draft) -> None:
+    """No start of a player, or one less for a deathmatch."""
+    things = draft.tables[THINGS]
+    kind = random.choice((2, 3, 4, 11, 11))
+    starts = [thing for thing in things if thing[3] == kind]
+    for start in starts if kind != 11 else starts[:1]:
+        things.remove(start)
+
+
+OVERSIGHTS = (
+    turn_line,
+    strip_wall,
+    move_thing,
+    move_thing,
+    lose_tag,
+    turn_seg,
+    turn_seg,
+    lay_line,
+    lose_start,
+)
+
+
+def overlook(random: Random, draft: Draft) -> None:
+    """One oversight, after which all references of a neat level still hold."""
+    random.choice(OVERSIGHTS)(random, draft)
+
+
+# ---- Lumps and files -----------------------------------------------------------------
 
 
 def turned(random: Random, data: bytes) -> bytes:
@@ -168,3 +274,66 @@ def demo(random: Random, data: bytes) -> bytes:
         case 2:
             return data[:9] + b"\0\0\0\0" + data[13:]
     return turned(random, data)
+
+
+# ---- Demos ---------------------------------------------------------------------------
+
+
+def sibling(random: Random, data: bytes) -> bytes:
+    """A demo that is like another up to a place, or differs behind the marker alone."""
+    long = 5 if data[0] == 111 else 4
+    count = read(data).commands
+    at = 13 + long * random.randrange(len(count) + 1)
+    end = 13 + long * len(count)
+    match random.randrange(6):
+        case 0:
+            return data[:at] + b"\x80"
+        case 1:
+            return data[: end + 1] + random.choice((b"", b"x", b"\x80\x80"))
+        case 2:
+            k = random.randrange(13)
+            return data[:k] + bytes([(data[k] + 1) % 256]) + data[k + 1 :]
+        case 3 if at < end:
+            k = at + random.randrange(long)
+            return data[:k] + bytes([data[k] ^ 1]) + data[k + 1 :]
+        case 4:
+            return data[:at] + bytes(long) + data[at:]
+    return data
+
+
+def line_words(random: Random, words: list[bytes]) -> None:
+    """One word of a line another, or no word, or written otherwise."""
+    i = random.randrange(len(words))
+    word = words[i]
+    edges = (b"-128", b"-127", b"-1", b"0", b"1", b"127", b"128", b"255", b"256", b"-0")
+    others = (b"", b"x", b"0" + word, b"+" + word, word.upper(), word + b"\r", b" " + word)
+    most = (b"18446744073709551615", b"18446744073709551616", b"4294967296", b"ff", b"FF")
+    if random.random() < 0.1:
+        del words[i]
+    else:
+        words[i] = random.choice((*edges, *others, *most))
+
+
+def listing(random: Random, text: bytes) -> bytes:
+    """A listing with one line, or its end, another than it was."""
+    lines = text.split(b"\n")
+    i = random.choice((0, len(lines) - 2, random.randrange(len(lines)))) % len(lines)
+    match random.randrange(10):
+        case 0:
+            del lines[i]
+        case 1:
+            lines.insert(i, random.choice((b"", lines[i], lines[0], lines[-1])))
+        case 2:
+            j = random.randrange(len(lines))
+            lines[i], lines[j] = lines[j], lines[i]
+        case 3:
+            return text[: random.randrange(len(text) + 1)]
+        case 4:
+            return text + random.choice((b"\n", b"x", lines[i], lines[i] + b"\n"))
+        case 5:
+            return turned(random, text)
+        case _:
+            words = lines[i].split(b" ")
+            line_words(random, words)
+            lines[i] = b" ".join(words)
+    return b"\n".join(lines)

@@ -1,10 +1,12 @@
-"""What `wadlens` answers, by docs/wadlens.1 and the definitions it stands on."""
+"""What `wadlens` tells of files one after another, by docs/wadlens.1 and the definitions it
+stands on: check, survey, cut and demos."""
 
 from typing import NamedTuple
 
 from plain import demos
 from plain.levels import Level, LineDef, Seg, opening_fault
 from plain.look import Answer
+from plain.picture import CELLS, Frame
 from plain.warnings import Warned, warnings
 from plain.wads import USUAL, Entry, Files, entries, lump, packed, refusal, shown
 
@@ -40,7 +42,8 @@ def graver(a: int, b: int) -> int:
 
 
 class Asked(NamedTuple):
-    """What words ask for: the paths are those of the words, then those of a list."""
+    """What words ask for: the paths are those of the words, then those of a list. `lost` is
+    a list that can't be read."""
 
     command: str
     paths: list[str]
@@ -50,6 +53,11 @@ class Asked(NamedTuple):
     entry: int = 0
     map: bool = False
     strict: bool = False
+    lost: str = ""
+    name: str = ""
+    cells: int = CELLS
+    frame: Frame | None = None
+    folder: str = ""
 
 
 class Run:
@@ -405,7 +413,7 @@ def survey_file(run: Run, asked: Asked, path: str, listed: list[Entry]) -> None:
             members |= level_members(level)
             warned = warned_of(run, asked, level)
             if asked.map:
-                members["warnings"] = {code: len(all_told) for code, all_told in warned.items()}
+                members["warnings"] = {code: len(told) for code, told in warned.items()}
             run.finds(FAULTY if level.faults else CLEAN)
         else:
             if form.told_by:
@@ -530,13 +538,19 @@ def refuse_file(run: Run, asked: Asked, path: str, why: str) -> None:
         run.out.append(written({"file": path, "refused": why}))
 
 
+def unread(path: str, held: Files) -> str:
+    """Why what is held under a path has no bytes; nothing where it has some."""
+    if path not in held:
+        return "can't be opened"
+    return "can't be read" if held[path] is None else ""
+
+
 def run(asked: Asked, held: Files) -> Answer:
-    """What the program does for what is asked, over files by their paths."""
+    """What is told of files by their paths, one after another."""
     told = Run()
     for path in asked.paths:
-        file = held.get(path)
-        if file is None:
-            why = "can't be read" if path in held else "can't be opened"
+        file = held.get(path) or b""
+        if why := unread(path, held):
             refuse_file(told, asked, path, why)
         elif asked.command == "demos" and file[:4] not in (b"IWAD", b"PWAD"):
             tell_demo(told, asked, path, None, file)

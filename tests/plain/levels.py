@@ -402,6 +402,20 @@ class Level:
         (only,) = leaves
         return only
 
+    def shown(self, x: int, y: int) -> int | None:
+        """The sector that a picture of a sound level shows at a point: its leaf's, where
+        no seg of the leaf has the point behind it."""
+        if not is_in_range(x, y):
+            return None
+        t = self.leaf(x, y)
+        count, first = self.ssectors[t]
+        hidden = any(self.is_behind(seg, x, y) for seg in self.segs[first : first + count])
+        return None if hidden else self.sector_of(t)
+
+    def is_behind(self, seg: Seg, x: int, y: int) -> bool:
+        a, b = self.vertexes[seg.v1], self.vertexes[seg.v2]
+        return (b.y - a.y) * (x - a.x) - (b.x - a.x) * (y - a.y) < 0
+
 
 def side(node: Node, x: int, y: int) -> int:
     """The side of a node on which a point lies: 0 in front, 1 behind."""

@@ -61,11 +61,13 @@ MOST_POINTS = 1048576
 
 
 class Answer(NamedTuple):
-    """How a program ends, and what it writes."""
+    """How a program ends, what it writes, and what then is in the folder that it was told
+    to write, where there is one."""
 
     status: int
     out: bytes = b""
     error: bytes = b""
+    folder: dict[str, bytes] | None = None
 
 
 class Refused(Exception):

@@ -74,10 +74,11 @@ def box(polygon: list[Point]) -> list[int]:
 
 
 class Builder:
-    """Cuts a polygon into rooms and writes down what fits."""
+    """Cuts a polygon into rooms and writes down what fits; some rooms lack edges."""
 
-    def __init__(self, random: Random) -> None:
+    def __init__(self, random: Random, lacking: float) -> None:
         self.random = random
+        self.lacking = lacking
         self.draft = Draft()
         self.vertexes: dict[Point, int] = {}
         self.linedefs: dict[tuple[int, int], int] = {}
@@ -121,7 +122,7 @@ class Builder:
         """An ssector; the child word that names it."""
         sector, first = self.sector(), len(self.draft.tables[SEGS])
         edges = list(zip(polygon, polygon[1:] + polygon[:1]))
-        if self.random.random() < 0.1:
+        if self.random.random() < self.lacking:
             edges = edges[: self.random.randrange(1, len(edges) + 1)]
         for start, end in edges:
             v1, v2 = self.vertex(start), self.vertex(end)
@@ -185,18 +186,38 @@ class Builder:
         self.draft.words += [value for numbers in lists for value in [*numbers, -1]]
 
 
-def level(random: Random) -> Draft:
-    """A level without faults, unless its rooms are beyond what points can have."""
-    span = random.choice((20, 200, 600, 600, 1500, 6000, 32767))
+def built(random: Random, span: int, lacking: float) -> Draft:
+    """A level so many units wide, in which so many of the rooms lack edges."""
     left = random.randint(-16384, 16383 - span)
     bottom = random.randint(-16384, 16383 - span)
     right, top = left + span, bottom + random.randint(span // 2, span)
     corners = [(left, bottom), (left, top), (right, top), (right, bottom)]
-    builder = Builder(random)
+    builder = Builder(random, lacking)
     builder.rooms(corners, random.choice((0, 1, 2, 3, 3, 4)))
     builder.things(corners)
     builder.tables(corners)
     return builder.draft
+
+
+def level(random: Random) -> Draft:
+    """A level without faults, unless its rooms are beyond what points can have."""
+    span = random.choice((20, 200, 600, 600, 1500, 6000, 32767))
+    return built(random, span, 0.1)
+
+
+def neat(random: Random) -> Draft:
+    """A level in which there is nothing to warn of, unless points were rounded."""
+    draft = built(random, random.choice((20, 200, 600, 6000)), 0)
+    tags = {sector[6] for sector in draft.tables[SECTORS]}
+    for linedef in draft.tables[LINEDEFS]:
+        if linedef[4] not in tags:
+            linedef[3 + random.randrange(2)] = 0
+    for sidedef in draft.tables[SIDEDEFS]:
+        sidedef[2:5] = random.choices((b"STARTAN3", b"", b"--"), k=3)
+    inside = draft.tables[THINGS][-1][:2]
+    for kind in (1, 2, 3, 4, 11, 11, 11, 11):
+        draft.tables[THINGS].append([*inside, 0, kind, 7])
+    return draft
 
 
 def tangle(random: Random, draft: Draft) -> None:

@@ -78,19 +78,10 @@ def bare(level: Level) -> Iterator[Warned]:
                 yield Warned(f"linedef {i}", message, along(level, linedef))
 
 
-def shows_nothing(level: Level, x: int, y: int) -> bool:
-    """Whether a seg of the point's leaf has the point behind it."""
-    leaf = level.ssectors[level.leaf(x, y)]
-    for seg in level.segs[leaf.first : leaf.first + leaf.count]:
-        a, b = level.vertexes[seg.v1], level.vertexes[seg.v2]
-        if (b.y - a.y) * (x - a.x) - (b.x - a.x) * (y - a.y) < 0:
-            return True
-    return False
-
-
 def in_void(level: Level) -> Iterator[Warned]:
     for i, thing in enumerate(level.things):
-        if is_in_range(thing.x, thing.y) and shows_nothing(level, thing.x, thing.y):
+        in_range = is_in_range(thing.x, thing.y)
+        if in_range and level.shown(thing.x, thing.y) is None:
             yield Warned(f"thing {i}", "stands in the void", at(thing.x, thing.y))
 
 

@@ -1,0 +1,168 @@
+"""What `wadlens` does for what is asked, by docs/wadlens.1: picture, compare, assemble and
+atlas here, and what it tells of files one after another in lens.py."""
+
+from os.path import dirname
+
+from plain import demos, lens, page
+from plain.lens import Asked, Format, Run
+from plain.levels import Level
+from plain.look import Answer
+from plain.picture import picture
+from plain.wads import Entry, Files, entries, joined, refusal, shown, winner
+
+MISTAKEN = Answer(2, b"", b"the usage\n")
+"""What words that are mistaken give, whatever the message before the usage says."""
+
+
+# ---- picture -------------------------------------------------------------------------
+
+
+def read_set(run: Run, asked: Asked, held: Files) -> list[Entry] | None:
+    """The entries of all files; nothing where one is refused, the first that is."""
+    for path in asked.paths:
+        if why := lens.unread(path, held):
+            run.refuses(path, why)
+            return None
+    files = [held[path] or b"" for path in asked.paths]
+    for path, file in zip(asked.paths, files):
+        if number := refusal(file):
+            run.refuses(path, lens.FILE_REFUSALS[number])
+            return None
+    return joined(files)
+
+
+def format_at(listed: list[Entry], g: int) -> Format:
+    """The format at an entry: where no level starts it lacks its first lump."""
+    if lens.is_start(listed, g):
+        return lens.format_of(listed, g)
+    return Format("incomplete", "THINGS")
+
+
+def draw(run: Run, asked: Asked, listed: list[Entry]) -> None:
+    g = winner(listed, asked.name.encode())
+    if g is None:
+        run.refuses(asked.name, "no level of this name")
+        return
+    form = format_at(listed, g)
+    if form.name != "doom":
+        run.refuses(asked.name, form.words, form.verdict)
+        return
+    level = Level(listed, g, asked.wide)
+    drawn = picture(level, asked.cells, asked.frame)
+    if drawn is None:
+        run.refuses(asked.name, "nothing to draw")
+        return
+    run.out = drawn
+    run.finds(lens.FAULTY if level.faults else lens.CLEAN)
+
+
+# ---- compare and assemble ------------------------------------------------------------
+
+
+def compare(run: Run, asked: Asked, held: Files) -> None:
+    for path in asked.paths:
+        if why := lens.unread(path, held) or lens.refusal_of(held[path] or b""):
+            run.refuses(path, why)
+    if run.errors:
+        return
+    a, b = (demos.read(held[path] or b"") for path in asked.paths)
+    if told := demos.difference(a, b):
+        run.out.append(told)
+        run.finds(lens.FAULTY)
+
+
+def assemble(run: Run, given: bytes) -> None:
+    made = demos.assembled(given)
+    if isinstance(made, int):
+        run.refuses("standard input", f"line {made} is no line of a listing")
+    else:
+        run.data = made
+
+
+# ---- atlas ---------------------------------------------------------------------------
+
+
+def contents(folder: str, held: Files) -> dict[str, bytes] | None:
+    """The files of a folder; nothing where there is none."""
+    if folder not in held or held[folder] is not None:
+        return None
+    front = folder + "/"
+    inner = {path.removeprefix(front): data for path, data in held.items()}
+    return {name: data or b"" for name, data in inner.items() if front + name in held}
+
+
+def folder_refusal(folder: str, held: Files) -> str:
+    above = dirname(folder)
+    if above and contents(above, held) is None:
+        return "the folder above it isn't there"
+    if folder not in held:
+        return ""
+    inside = contents(folder, held)
+    if inside is None:
+        return "it isn't a folder"
+    return "it isn't empty" if inside else ""
+
+
+def file_rows(
+    asked: Asked, n: int, listed: list[Entry], made: dict[str, bytes]
+) -> list[page.Row]:
+    """The rows of a file's levels; their pictures are made."""
+    rows = []
+    for g in range(len(listed)):
+        if not lens.is_start(listed, g):
+            continue
+        form, name = lens.format_of(listed, g), shown(listed[g].name)
+        row = page.Row(asked.paths[n - 1], g, name, form)
+        if form.name == "doom":
+            level = Level(listed, g, asked.wide)
+            row = row._replace(level=level)
+            if drawn := picture(level, asked.cells, None):
+                row = row._replace(picture=f"{n}-{g}.svg")
+                made[row.picture] = lens.lines(drawn)
+        rows.append(row)
+    return rows
+
+
+def atlas(run: Run, asked: Asked, held: Files) -> Answer:
+    """The survey, and a folder with it, the pictures and the events of the page."""
+    if why := folder_refusal(asked.folder, held):
+        run.refuses(asked.folder, why)
+        return run.answer()._replace(folder=contents(asked.folder, held))
+    survey = lens.run(asked._replace(command="survey"), held)
+    made = {"survey.jsonl": survey.out}
+    rows: list[page.Row] = []
+    refused = []
+    for n, path in enumerate(asked.paths, 1):
+        file = held.get(path) or b""
+        if why := lens.unread(path, held):
+            refused.append((path, why))
+        elif number := refusal(file):
+            refused.append((path, lens.FILE_REFUSALS[number]))
+        else:
+            rows += file_rows(asked, n, entries(file), made)
+    made["index.html"] = page.wanted(rows, refused, len(asked.paths))
+    return Answer(survey.status, b"", survey.error, made)
+
+
+# ---- The program ---------------------------------------------------------------------
+
+
+def run(asked: Asked, held: Files, given: bytes) -> Answer:
+    told = Run()
+    if asked.lost:
+        told.refuses(asked.lost, lens.unread(asked.lost, held))
+        return told.answer()._replace(folder=contents(asked.folder, held))
+    match asked.command:
+        case "picture":
+            listed = read_set(told, asked, held)
+            if listed is not None:
+                draw(told, asked, listed)
+        case "compare":
+            compare(told, asked, held)
+        case "assemble":
+            assemble(told, given)
+        case "atlas":
+            return atlas(told, asked, held)
+        case _:
+            return lens.run(asked, held)
+    return told.answer()

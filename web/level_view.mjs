@@ -1,7 +1,7 @@
 // One level: its picture, the pinned point, its findings.
 import { ListBox } from './list.mjs';
 import { Lines } from './lines.mjs';
-import { MapView } from './map_view.mjs';
+import { MapView, NOWHERE } from './map_view.mjs';
 import { Stopped } from './questions.mjs';
 import { make } from './rows.mjs';
 import { findingOf, get, field, inShort, isNarrow, notJudged, pane, plural, say, verdict, wordsOf } from './words.mjs';
@@ -13,6 +13,7 @@ import { findingOf, get, field, inShort, isNarrow, notJudged, pane, plural, say,
 const CELLS = 512; // of the picture of a level
 const FINE_CELLS = 1024; // and of that of a part
 const COARSE = 2.5; // pixels to a cell from which on a part is asked for in smaller ones
+const MARKED = 1000; // findings whose places are marked while none is chosen
 const COUNTS = /** @type {const} */ (['things', 'linedefs', 'sidedefs', 'vertexes', 'segs', 'ssectors', 'nodes', 'sectors']);
 
 const whyNot = (/** @type {unknown} */ error) => error instanceof Stopped ? 'Stopped. Choose the level again to draw it.' : wordsOf(error);
@@ -118,8 +119,9 @@ export class LevelView {
       get('findings-none').textContent = notJudged(level);
       return;
     }
-    this.#tell(level);
-    this.#list(new Lines(findings), before);
+    const lines = new Lines(findings), warnings = Number(/, (\d+) warnings,/.exec(lines.at(lines.count - 1))?.[1]);
+    this.#tell(level, verdict(level, warnings));
+    this.#list(lines, before);
     get('pin').removeAttribute('disabled');
     const { picture, svg, why } = await this.desk.ask('picture', { ...asked, cells: CELLS }, `Drawing ${asked.name}`)
       .catch((error) => ({ why: whyNot(error) })); // the findings stay
@@ -128,16 +130,17 @@ export class LevelView {
     get('save-svg').toggleAttribute('disabled', !svg);
     this.#none(why ?? '');
     this.map.show(picture ?? null);
-    get('map').setAttribute('aria-label', `Map of ${asked.name}: ${verdict(level)}`);
+    this.#mark();
+    get('map').setAttribute('aria-label', `Map of ${asked.name}: ${verdict(level, warnings)}`);
     Object.assign(get('map').dataset, { drawn: asked.name, paths: picture?.paths ?? 0, ms: (performance.now() - began).toFixed(0) });
     this.#rest();
-    say(`${asked.name}${picture ? ' drawn' : ''}, ${verdict(level)}`);
+    say(`${asked.name}${picture ? ' drawn' : ''}, ${verdict(level, warnings)}`);
     this.#linedefs(); // so that a pinned point needn't wait for them
   }
 
-  /** @param {Level} level */
-  #tell(level) {
-    get('told').textContent = verdict(level);
+  /** @param {Level} level @param {string} found */
+  #tell(level, found) {
+    get('told').textContent = found;
     get('told').className = level.sound ? '' : 'fault';
     get('counts').replaceChildren(...COUNTS.map((name) => make('div', '', make('dt', '', name), make('dd', '', String(level[name])))));
     const codes = Object.entries({ ...level.findings, ...level.warnings });
@@ -149,7 +152,7 @@ export class LevelView {
     const count = Math.max(0, lines.count - 1);
     this.findings.show(count, (k) => findingOf(lines.at(k).slice(before)));
     get('findings-none').hidden = count > 0;
-    get('findings-none').textContent = 'Nothing was found: all links and nodes hold together.';
+    get('findings-none').textContent = 'Nothing was found: all links and nodes hold together, and there is nothing to warn of.';
   }
 
   /** @param {Finding} finding */
@@ -159,18 +162,30 @@ export class LevelView {
     if (finding.all && asked) {
       try {
         const { findings, before } = await this.desk.ask('look', { ...asked, max: 0 }, 'Listing all findings');
-        if (this.asked === asked) this.#list(new Lines(findings), before);
+        if (this.asked !== asked) return;
+        this.#list(new Lines(findings), before);
+        this.#mark();
       } catch (error) { say(wordsOf(error)); }
       return;
     }
-    let place = finding.place;
-    if (finding.linedef >= 0) {
-      const ends = await this.#linedefs(), at = 4 * finding.linedef;
-      if (ends[at] !== undefined && ends[at] !== 0x7fffffff) place = [...ends.subarray(at, at + 4)];
-    }
+    const place = await this.#placeOf(finding);
     if (this.asked !== asked) return;
     if (place && this.map.picture && isNarrow()) pane('map');
     this.map.mark(place);
+  }
+
+  /** Marks the places of the first findings that are listed. */
+  async #mark() {
+    const { asked, findings } = this, places = [];
+    for (let k = 0; k < Math.min(MARKED, findings.count); k++) places.push(await this.#placeOf(findings.item(k)));
+    if (this.asked === asked) this.map.markAll(places.flatMap((place) => place ? [place] : []));
+  }
+
+  /** Where a finding is, if it is anywhere. @param {Finding} finding */
+  async #placeOf({ place, linedef }) {
+    if (linedef < 0) return place;
+    const ends = await this.#linedefs(), at = 4 * linedef;
+    return ends[at] === undefined || ends[at] === NOWHERE ? null : [...ends.subarray(at, at + 4)];
   }
 
   /** The ends of the linedefs, asked for once. */

@@ -9,7 +9,7 @@
  *   unpin: () => void, moved: (view: View) => void }} Tell
  */
 
-const NOWHERE = 0x7fffffff; // in ends: a linedef without both vertexes
+export const NOWHERE = 0x7fffffff; // in ends: a linedef without both vertexes
 const CLOSEST = 16; // pixels to a unit
 const CLEAR = 0.3; // of the accent, in sectors that REJECT lets the pinned one see; page.css has the same
 const SLOW = 30; // ms: a picture that takes longer is moved as it is, and drawn anew when it rests
@@ -111,6 +111,8 @@ export class MapView {
   forget() {
     /** @type {number[] | null} */
     this.found = null;
+    /** @type {number[][]} */
+    this.places = [];
     /** @type {{ x: number, y: number } | null} */
     this.pinned = null;
     this.block = new Path2D();
@@ -148,7 +150,13 @@ export class MapView {
     return (covers && this.fine ? this.fine : this.ground).picture.size;
   }
 
-  /** Marks a finding's place (x y, or x y x y) and brings it to the middle; none with null. @param {number[] | null} place */
+  /** Marks places of findings, x y or x y x y each. @param {number[][]} places */
+  markAll(places) {
+    this.places = places;
+    this.#redraw();
+  }
+
+  /** Marks the place of a chosen finding (x y, or x y x y) and brings it to the middle; none with null. @param {number[] | null} place */
   mark(place) {
     this.#resize(); // it may have been hidden until now
     this.found = place;
@@ -344,6 +352,7 @@ export class MapView {
     stroke(this.oneSided, css(inks.wall, thin), 1.3);
     stroke(this.mistaken, css(inks.fault), 3.5);
     this.#drawThings(pen, picture.things);
+    this.#drawPlaces(stroke);
     stroke(this.block, css(inks.void), 6);
     stroke(this.block, css(inks.accent), 2.6);
     this.#drawFound(pen, stroke);
@@ -366,6 +375,18 @@ export class MapView {
       pen.arc(things[k], things[k + 1], radius, 0, 2 * Math.PI);
     }
     pen.fill();
+  }
+
+  /** A line stands out, and a point has a ring. @param {(path: Path2D, colour: string, width: number) => void} stroke */
+  #drawPlaces(stroke) {
+    const rings = new Path2D(), radius = 5 / this.view.zoom;
+    for (const [x, y] of this.places.filter(({ length }) => length === 2)) {
+      rings.moveTo(x + radius, y);
+      rings.arc(x, y, radius, 0, 2 * Math.PI);
+    }
+    stroke(pathOf(this.places.filter(({ length }) => length === 4).flat()), css(this.inks.fault), 2.4);
+    stroke(rings, css(this.inks.void), 5);
+    stroke(rings, css(this.inks.fault), 2);
   }
 
   /** @param {CanvasRenderingContext2D} pen @param {(path: Path2D, colour: string, width: number) => void} stroke */

@@ -11,7 +11,7 @@ import { field, get, isNarrow, notJudged, pane, plural, say, sizeOf, verdict, wo
 /** @typedef {import('./words.mjs').Level} Level */
 /**
  * @typedef {{ key: string, file: File, kind: string, refused: string, heads: Lines, survey: Lines | null, demos: Lines,
- *   stopped: boolean, judged: boolean, surveys: number }} OpenFile  `heads` and `demos` are lines of `lumps`, `survey` those of the engine's answer
+ *   stopped: boolean, surveys: number }} OpenFile  `heads` and `demos` are lines of `lumps`, `survey` those of the engine's answer, once all is judged
  */
 
 const none = () => new Lines({ bytes: new Uint8Array(), ends: new Uint32Array() });
@@ -61,7 +61,7 @@ async function open(chosen) {
   document.body.classList.remove('empty');
   /** @type {OpenFile[]} */
   const fresh = [...chosen].map((file, k) => ({
-    key: `${performance.now()} ${k}`, file, kind: '', refused: '', heads: none(), survey: null, demos: none(), stopped: false, judged: false, surveys: 0,
+    key: `${performance.now()} ${k}`, file, kind: '', refused: '', heads: none(), survey: null, demos: none(), stopped: false, surveys: 0,
   }));
   state.files.push(...fresh);
   showFiles();
@@ -97,9 +97,8 @@ async function survey(f) {
   try {
     const told = await judge.ask('survey', { ...asking(f), path: pathOf(f), count: f.heads.count }, `Judging ${f.file.name}`);
     if (mine !== f.surveys) return;
-    f.survey = told && new Lines(told);
-    f.judged = true;
-    say(`${f.file.name}: ${plural(f.heads.count, 'level')} ${told ? 'judged' : 'listed'}`);
+    f.survey = new Lines(told);
+    say(`${f.file.name}: ${plural(f.heads.count, 'level')} judged`);
   } catch (error) {
     if (mine !== f.surveys) return;
     f.stopped = true;
@@ -131,13 +130,13 @@ function levelOf(f, k) {
 
 /** @type {ListBox<{ k: number, level: Level }>} */
 const levels = new ListBox(get('levels'), ({ level }) => {
-  const { format, faults } = level, doom = format === 'doom';
-  const told = doom ? verdict(level) : format ? 'not judged' : state.file?.stopped ? 'stopped' : state.file?.judged ? '' : '…';
+  const { format, faults } = level, doom = format === 'doom', codes = Object.keys(level.warnings ?? {});
+  const told = doom ? `${verdict(level)}${codes.length ? ` · ${codes.join(' ')}` : ''}` : format ? 'not judged' : state.file?.stopped ? 'stopped' : '…';
   const isFault = faults || format === 'incomplete' || format === 'outside';
   const more = doom ? `${level.linedefs} linedefs · ${level.sectors} sectors · ${level.things} things` : format ? notJudged(level) : `entry ${level.entry}`;
   return [
     make('span', 'row-name', level.level, ' ', make('span', 'format', format ?? '')),
-    make('span', `row-state${isFault ? ' fault' : level.notes ? ' noted' : ''}`, told),
+    make('span', `row-state${isFault ? ' fault' : level.notes || codes.length ? ' noted' : ''}`, told),
     make('span', 'row-more', more),
   ];
 }, ({ k }) => {
@@ -230,7 +229,6 @@ function readAnew() {
   judge.stop();
   for (const f of state.files) {
     f.survey = null;
-    f.judged = false;
     survey(f);
   }
   showLevels(true);
@@ -295,7 +293,7 @@ const saves = {
   'save-pwad': async () => view.asked && save(await desk.ask('cut', view.asked), `${view.asked.name}.wad`, 'application/octet-stream'),
   'save-svg': () => view.svg && save(view.svg, `${view.asked?.name}.svg`, 'image/svg+xml'),
   'save-report': async (f) => save(await judge.ask('report', { ...asking(f), path: pathOf(f) }, `Checking ${f.file.name}`), `${f.file.name}.txt`, 'text/plain'),
-  'save-json': (f) => f.survey ? save(f.survey.bytes, `${f.file.name}.jsonl`, 'application/jsonl') : say(f.judged ? 'the engine of this page makes no survey yet' : 'the levels are not judged yet'),
+  'save-json': (f) => f.survey ? save(f.survey.bytes, `${f.file.name}.jsonl`, 'application/jsonl') : say('the levels are not judged yet'),
 };
 for (const [id, act] of Object.entries(saves)) {
   get(id).addEventListener('click', async () => {

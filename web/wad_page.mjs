@@ -14,26 +14,29 @@ export const canRun = () => typeof WebAssembly === 'object' &&
 const utf8 = new TextEncoder();
 const total = (/** @type {Uint8Array[]} */ parts) => parts.reduce((sum, part) => sum + part.length, 0);
 
-/** @type {Map<string, Promise<WebAssembly.Module | null>>} */
+/** @type {Map<string, Promise<WebAssembly.Module>>} */
 const compiled = new Map();
 
 /**
- * A module, compiled once; null where it isn't beside the page's files.
+ * A module, compiled once.
  * @param {string} name
  */
 function load(name) {
-  const found = compiled.get(name) ?? compile(new URL(`${name}.wasm`, import.meta.url));
+  const found = compiled.get(name) ?? compile(`${name}.wasm`);
   compiled.set(name, found);
+  found.catch(() => compiled.delete(name)); // it may be there the next time
   return found;
 }
 
-/** @param {URL} url @returns {Promise<WebAssembly.Module | null>} */
-async function compile(url) {
+/** @param {string} name */
+async function compile(name) {
+  const url = new URL(name, import.meta.url);
   try {
     return await WebAssembly.compileStreaming(fetch(url));
   } catch { // a host that serves it as another type, or has none
     const told = await fetch(url).catch(() => null);
-    return told?.ok ? WebAssembly.compile(await told.arrayBuffer()) : null;
+    if (!told?.ok) throw new Error(`the engine of this page, ${name}, isn't beside its files`);
+    return WebAssembly.compile(await told.arrayBuffer());
   }
 }
 
@@ -82,7 +85,6 @@ class Room {
  */
 function runOnce(module, words, files, input, room, heap) {
   const memory = new Room(module), isLens = LENS.includes(words[0]), program = isLens ? memory.exports.lens_run : memory.exports.wad_run;
-  if (!program) return { status: 2, answer: new Uint8Array(), refused: 'usage' };
   const texts = words.map((word) => utf8.encode(word));
   const block = memory.place(16, 8), ended = memory.place(24, 8);
   const wordSizes = memory.place(8 * texts.length, 8), fileSizes = memory.place(8 * files.length, 8);
@@ -142,8 +144,6 @@ function drawOnce(module, words, file, room, heap) {
  */
 export async function run(words, files, input = new Uint8Array(), room = 1 << 20) {
   const draws = words[0] === 'picture', module = await load(draws ? 'draw_page' : 'wad_page'), held = total(files) + input.length;
-  if (!module && draws) return { status: 2, answer: new Uint8Array(), refused: 'usage' };
-  if (!module) throw new Error("the engine of this page, wad_page.wasm, isn't beside its files");
   for (let heap = 2 * held + 2 * room + ROOM; ; room *= 4, heap = 2 * heap + 2 * room) {
     let ended;
     try {

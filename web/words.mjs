@@ -29,24 +29,24 @@ export function pane(name) {
 /** Why a level isn't judged. @param {Level} level */
 export function notJudged({ format, tag, lump }) {
   switch (format) {
-    case 'incomplete': return `incomplete: no ${lump ?? tag} where it belongs`;
-    case 'outside': return `outside: ${lump ?? tag}`;
+    case 'incomplete': return `incomplete: no ${lump} where it belongs`;
+    case 'outside': return `outside: ${lump}`;
     case 'extended': return `extended nodes ${tag}: not read`;
     default: return `${format}: not read`;
   }
 }
 
-/** What was found in a level. @param {Level} level */
-export function verdict({ sound, faults = 0, notes = 0 }) {
-  return `${sound ? 'sound' : plural(faults, 'fault')}${notes ? `, ${plural(notes, 'note')}` : ''}`;
+/** What was found in a level. @param {Level} level @param {number} [warnings] */
+export function verdict({ sound, faults = 0, notes = 0 }, warnings = 0) {
+  return [sound ? 'sound' : plural(faults, 'fault'), notes && plural(notes, 'note'), warnings && plural(warnings, 'warning')].filter(Boolean).join(', ');
 }
 
 /**
- * A line of `check`, without its path and level, or one of `audit`.
+ * A line of `check`, without its path and level.
  * @param {string} line @returns {Finding}
  */
 export function findingOf(line) {
-  const told = /^([FNW]\d+) (.+?): (.*)$/.exec(line) ?? /^([FN]\d+) (\d+) (.*)$/.exec(line);
+  const told = /^([FNW]\d+) (.+?): (.*)$/.exec(line);
   if (!told) {
     const more = /^([FNW]\d+): (\d+ more)$/.exec(line), wide = line === 'sound with --wide';
     return {

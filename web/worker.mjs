@@ -1,7 +1,7 @@
 // The worker: holds the files that it was handed, asks the engine, and answers one message for each. What it tells are the engine's
 // answers; it only cuts them into lines and picks the places out of them.
 import { run } from './wad_page.mjs';
-import { Lines, linesOf } from './lines.mjs';
+import { linesOf } from './lines.mjs';
 import { read } from './picture.mjs';
 
 /** @typedef {import('./wad_page.mjs').Ended} Ended */
@@ -18,7 +18,7 @@ const NO_MEMORY = 'there is not enough memory for it';
 const utf8 = (/** @type {string} */ words) => new TextEncoder().encode(words);
 const text = (/** @type {Uint8Array} */ bytes) => new TextDecoder().decode(bytes);
 const firstLine = (/** @type {Ended} */ ended) => text(ended.answer).split('\n')[0];
-const isUnknown = (/** @type {Ended} */ ended) => ended.status === 2 && /usage/i.test(ended.refused);
+const reason = (/** @type {Ended} */ ended) => ended.refused.replace(/^wadlens: [^:]*: /, '').trim();
 
 /**
  * A run that has an answer: of `wadlens` also where it found faults or didn't judge a level.
@@ -33,14 +33,8 @@ async function ask(words, files, input, room) {
 /** @param {Asked} asked */
 const reading = ({ wide }) => wide ? ['--wide'] : [];
 
-/** @type {string[] | undefined} */
-let mapWords;
-/** The words that ask for warnings too, where the module has them. */
-async function warnings() {
-  const nothing = Uint8Array.from([...utf8('PWAD'), 0, 0, 0, 0, 12, 0, 0, 0]);
-  mapWords ??= (await run(['check', '--map', 'f'], [nothing])).status === 0 ? ['--map'] : [];
-  return mapWords;
-}
+/** How levels are looked at: warnings stand beside the findings. @param {Asked} asked */
+const looking = (asked) => [...reading(asked), '--map'];
 
 // Files ------------------------------------------------------------------------------------------------------------------------
 
@@ -104,14 +98,13 @@ function these(bytes, ends, which) {
 
 /**
  * What a file is that isn't a WAD file: a demo, or why neither.
- * @param {Uint8Array} bytes @param {string} name @param {string} refused what `lumps` says of it
+ * @param {Uint8Array} bytes @param {string} name
  */
-async function other(bytes, name, refused) {
-  const demo = await ask(['lmp', 'f'], [bytes]);
+async function other(bytes, name) {
+  const demo = await ask(['demos', 'f'], [bytes]);
   const nothing = linesOf(new Uint8Array()), line = linesOf(utf8(`0 0 ${bytes.length} demo\n`));
   if (demo.status === 0) return { kind: 'demo', levels: nothing, demos: line };
-  const survey = JSON.parse(firstLine(await ask(['survey', 'f'], [bytes])) || '{}');
-  return { refused: /\.lmp$/i.test(name) ? await demoFault(bytes, demo) : survey.refused ?? refused };
+  return { refused: /\.lmp$/i.test(name) ? reason(demo) : JSON.parse(firstLine(await ask(['survey', 'f'], [bytes]))).refused };
 }
 
 // Levels -----------------------------------------------------------------------------------------------------------------------
@@ -126,9 +119,8 @@ async function alone(asked) {
   const { bytes, levels } = await hold(asked);
   const found = levels.get(asked.entry);
   if (found) return found;
-  let ended = await ask(['cut', '--entry', String(asked.entry), 'f'], [bytes], undefined, 1 << 22);
-  if (isUnknown(ended)) ended = await ask(['extract', asked.name, 'f'], [bytes], undefined, 1 << 22);
-  if (!ended.answer.length) throw new Error(`the level can't be cut out: ${ended.refused.replace(/^wadlens: f: /, '').trim()}`);
+  const ended = await ask(['cut', '--entry', String(asked.entry), 'f'], [bytes], undefined, 1 << 22);
+  if (!ended.answer.length) throw new Error(`the level can't be cut out: ${reason(ended)}`);
   const level = { bytes: ended.answer, named: ended.answer, name: asked.name };
   if (!/^[A-Z][A-Z0-9_]*$/.test(level.name) || USUAL.test(level.name)) Object.assign(level, { named: labelled(level.bytes), name: 'LEVEL' });
   if (levels.size >= MOST_ALONE) levels.delete([...levels.keys()][0]);
@@ -144,20 +136,6 @@ function labelled(file) {
   const named = file.slice(), directory = new DataView(named.buffer).getInt32(8, true);
   named.set(utf8('LEVEL\0\0\0'), directory + 8);
   return named;
-}
-
-/**
- * What a module without `survey` and `check` tells of a level: by `audit`, and the counts of `show`.
- * @param {AskedLevel} asked
- */
-async function audited(asked) {
-  const { named, name } = await alone(asked), words = [...reading(asked), name, 'f'];
-  const audit = await ask(['audit', ...words], [named]), show = await ask(['show', ...words], [named], undefined, 65536 + 2 * named.length);
-  if (audit.status === 2) throw new Error(`refused: ${audit.refused}`);
-  const [, faults, notes] = /faults (\d+) notes (\d+)\n$/.exec(text(audit.answer)) ?? [];
-  const counts = [...text(show.answer).matchAll(/^([A-Z]+) (\d+) rest/gm)].map(([, table, count]) => [table.toLowerCase(), Number(count)]);
-  const level = { level: asked.name, entry: asked.entry, format: 'doom', sound: faults === '0', faults: Number(faults), notes: Number(notes) };
-  return { level: { ...level, ...Object.fromEntries(counts) }, before: 0, findings: linesOf(audit.answer) };
 }
 
 /**
@@ -182,28 +160,6 @@ function endsOf(shown) {
   return ends;
 }
 
-// Demos ------------------------------------------------------------------------------------------------------------------------
-
-/**
- * The one line that tells a demo; where the module has no `demos`, what its listing begins and ends with.
- * @param {Uint8Array} bytes @param {Ended} listing
- */
-async function demoLine(bytes, listing) {
-  const ended = await ask(['demos', 'f'], [bytes]);
-  if (!isUnknown(ended)) return firstLine(ended).replace(/^f: /, '');
-  const lines = new Lines(linesOf(listing.answer));
-  return `${lines.at(0)}, ${lines.at(lines.count - 1)}`;
-}
-
-/**
- * Why a demo is refused.
- * @param {Uint8Array} bytes @param {Ended} listing
- */
-async function demoFault(bytes, listing) {
-  const ended = await ask(['demos', 'f'], [bytes]);
-  return isUnknown(ended) ? listing.refused : ended.refused.replace(/^(wadlens: )?f: /, '').trim();
-}
-
 // Jobs -------------------------------------------------------------------------------------------------------------------------
 
 const jobs = {
@@ -211,24 +167,20 @@ const jobs = {
   async open(asked) {
     const { bytes } = await hold(asked);
     const lumps = await ask(['lumps', 'f'], [bytes]);
-    if (lumps.status !== 0) return other(bytes, asked.file.name, lumps.refused);
+    if (lumps.status !== 0) return other(bytes, asked.file.name);
     return { kind: firstLine(lumps).split(' ')[2], ...contents(lumps.answer) };
   },
 
-  /** An object of each level, as lines; null where the module has none. @param {Asked & { path: string, count: number }} asked */
+  /** An object of each level, as lines. @param {Asked & { path: string, count: number }} asked */
   async survey(asked) {
     const { bytes } = await hold(asked);
-    const words = ['survey', ...reading(asked), ...await warnings(), asked.path];
-    const ended = await ask(words, [bytes], undefined, 65536 + 400 * asked.count);
-    return isUnknown(ended) ? null : linesOf(ended.answer);
+    return linesOf((await ask(['survey', ...looking(asked), asked.path], [bytes], undefined, 65536 + 400 * asked.count)).answer);
   },
 
   /** All findings of all levels, as text. @param {Asked & { path: string }} asked */
   async report(asked) {
     const { bytes } = await hold(asked);
-    const ended = await ask(['check', ...reading(asked), ...await warnings(), '--max', '0', asked.path], [bytes]);
-    if (isUnknown(ended)) throw new Error('the engine of this page makes no report yet');
-    return ended.answer;
+    return (await ask(['check', ...looking(asked), '--max', '0', asked.path], [bytes])).answer;
   },
 
   /** The level's own file. @param {AskedLevel} asked */
@@ -238,10 +190,9 @@ const jobs = {
 
   /** The level's object, and `check`'s lines with how much stands before each. @param {AskedLevel & { max: number }} asked */
   async look(asked) {
-    const { bytes } = await alone(asked), options = [...reading(asked), ...await warnings()];
-    const survey = await ask(['survey', ...options, 'f'], [bytes]);
-    if (isUnknown(survey)) return audited(asked);
-    const level = JSON.parse(firstLine(survey)), check = await ask(['check', ...options, '--max', String(asked.max), 'f'], [bytes]);
+    const { bytes } = await alone(asked);
+    const level = JSON.parse(firstLine(await ask(['survey', ...looking(asked), 'f'], [bytes])));
+    const check = await ask(['check', ...looking(asked), '--max', String(asked.max), 'f'], [bytes]);
     return { level, before: `f: ${level.level}: `.length, findings: linesOf(check.answer) };
   },
 
@@ -250,8 +201,7 @@ const jobs = {
     const { named, name } = await alone(asked), frame = asked.frame ? ['--frame', asked.frame.join(',')] : [];
     const words = ['picture', ...reading(asked), '--cells', String(asked.cells), ...frame, name, 'f'];
     const ended = await ask(words, [named], undefined, 1 << 22);
-    if (isUnknown(ended)) return { why: 'The engine of this page draws no pictures yet. Findings, points and demos are all here.' };
-    if (!ended.answer.length) return { why: ended.refused.replace(/^wadlens: [^:]*: /, '').trim() };
+    if (!ended.answer.length) return { why: reason(ended) };
     const picture = read(ended.answer);
     return picture ? { picture, svg: ended.answer } : { why: 'the picture is too large to be shown here; it can be saved', svg: ended.answer };
   },
@@ -284,8 +234,9 @@ const jobs = {
     if (asked.at < 0 || asked.at + asked.size > bytes.length) return { refused: 'outside its file' };
     const demo = bytes.slice(asked.at, asked.at + asked.size);
     const listing = await ask(['lmp', 'f'], [demo], undefined, 65536 + 8 * demo.length);
-    if (listing.status !== 0) return { refused: await demoFault(demo, listing) };
-    return { line: await demoLine(demo, listing), listing: linesOf(listing.answer) };
+    const told = await ask(['demos', 'f'], [demo]);
+    if (listing.status !== 0) return { refused: reason(told) || listing.refused }; // bytes that begin as a WAD file's are told as one
+    return { line: firstLine(told).replace(/^f: /, ''), listing: linesOf(listing.answer) };
   },
 };
 

@@ -5,23 +5,18 @@ import { join } from 'node:path';
 import { Browser, chromium, wait } from './browser.mjs';
 import { measure } from './measure.mjs';
 import { runProgram, serve } from './server.mjs';
-import { demo, farLinedef, lostLinedef, oneMistaken, rooms, wad } from './wads.mjs';
+import { demo, farLinedef, lostLinedef, oneMistaken, rooms, twoOverlooked, wad } from './wads.mjs';
 
 const [root, ...options] = process.argv.slice(2);
 const valueOf = (/** @type {string} */ name) => options.includes(name) ? options[options.indexOf(name) + 1] : '';
 const programs = { wadlook: join(root, 'crates/wadlook/out/wadlook'), wadlens: join(root, 'crates/wadlens/out/wadlens') };
-const built = join(root, 'web/out'), module = join(built, 'wad_page.wasm'), isBuilt = existsSync(module) && !options.includes('--native');
-// The programs also answer where the module hasn't the words of `wadlens`.
-const isNative = !isBuilt || !readFileSync(module).includes('lens_run');
+const built = join(root, 'web/out'), isNative = options.includes('--native') || !existsSync(join(built, 'wad_page.wasm'));
 const pictures = valueOf('--pictures');
 if (pictures) mkdirSync(pictures, { recursive: true });
-if (isNative) console.log("the programs answer in the module's place");
+if (isNative) console.log("the programs answer in the modules' place");
 
 const room = mkdtempSync(join(tmpdir(), 'page-'));
-const overPrograms = (/** @type {import('./server.mjs').Words} */ which) => serve(join(root, 'web'), room, programs, which);
-const whole = isNative ? await overPrograms(options.includes('--bare') ? 'undrawn' : 'all') : await serve(built, room);
-const less = isBuilt && isNative ? await serve(built, room) : await overPrograms('wadlook');
-let server = whole;
+const server = isNative ? await serve(join(root, 'web'), room, programs) : await serve(built, room);
 const browser = new Browser(chromium(), join(room, 'profile'));
 
 let passed = 0, failed = 0;
@@ -71,23 +66,35 @@ const placeOf = async (x, y) => {
   return [mx + (x - vx) * zoom, my - (y - vy) * zoom];
 };
 
+/** Whether the ink at a place of the map, or so many pixels to its right, is that of findings. @param {number} x @param {number} y @param {number} [right] */
+const isFault = async (x, y, right = 0) => {
+  const [vx, vy, zoom] = await viewOf();
+  return browser.run(`(() => { const e = document.querySelectorAll('#map canvas')[1], style = getComputedStyle(document.documentElement);
+    const at = [e.width / 2 + (${x} - ${vx}) * ${zoom} + ${right}, e.height / 2 - (${y} - ${vy}) * ${zoom}].map(Math.floor), d = style.getPropertyValue('--fault').trim().slice(1);
+    return [0, 2, 4].every((k) => Math.abs(e.getContext('2d').getImageData(...at, 1, 1).data[k / 2] - parseInt(d.slice(k, k + 2), 16)) < 40); })()`);
+};
 /** Pins a point by its numbers. @param {string} numbers */
 const pinBy = async (numbers) => {
   await browser.run(`{ document.querySelector('#at').value = ${JSON.stringify(numbers)}; }`);
   await browser.press('#pin');
 };
-/** Pins a point by a click where there is a map. @param {number} x @param {number} y */
-const pinAt = async (x, y) => hasPictures ? browser.click(...await placeOf(x, y)) : pinBy(`${x} ${y}`);
+/** Pins a point by a click. @param {number} x @param {number} y */
+const pinAt = async (x, y) => browser.click(...await placeOf(x, y));
 
 // Cases -------------------------------------------------------------------------------------------------------------------------
 
 const twoRooms = wad([...rooms('MAP01'), ...rooms('MAP02', { damage: oneMistaken }), ['DEMO1', demo(10000)]]);
-let hasPictures = false;
+const roomsFile = written('rooms.wad', twoRooms);
+const dropRooms = async () => {
+  await fresh();
+  await browser.drop(roomsFile);
+  await drawn('MAP01');
+};
 
 async function files() {
   await fresh();
   check('no file yet', await textOf('#welcome-title'), 'Drop WAD files here');
-  await browser.drop(written('rooms.wad', twoRooms), written('notes.txt', 'notes about the rooms'), written('walk.lmp', demo(35)), written('short.wad', 'PWAD'));
+  await browser.drop(roomsFile, written('notes.txt', 'notes about the rooms'), written('walk.lmp', demo(35)), written('short.wad', 'PWAD'));
   await browser.until("document.querySelectorAll('#files .row').length === 4 && !document.querySelector('#files').textContent.includes('reading')", 'four files');
   check('each file, its kind or why it was refused', await textsOf('#files .row-state'), ['PWAD', 'refused', 'demo', 'refused']);
   check('a refusal in words', (await textsOf('#files .row-more'))[1], 'not a WAD file: it begins with neither IWAD nor PWAD');
@@ -99,7 +106,7 @@ async function levels() {
   await judged();
   check('the levels', await textsOf('#levels .row-name'), ['MAP01 doom', 'MAP02 doom']);
   check('what was found', await textsOf('#levels .row-state'), ['sound', 'sound, 1 note']);
-  check('their counts', (await textsOf('#levels .row-more'))[0], '7 linedefs · 2 sectors · 2 things');
+  check('their counts', (await textsOf('#levels .row-more'))[0], '7 linedefs · 2 sectors · 9 things');
   await filterBy('map02');
   check('the filter', await textsOf('#levels .row-name'), ['MAP02 doom']);
   await filterBy('n3 sound');
@@ -117,16 +124,10 @@ async function levels() {
   await browser.key('Home');
   await drawn('MAP01');
   check('its verdict', await textOf('#told'), 'sound');
-  check('its counts', (await textsOf('#counts div')).join(' '), 'things2 linedefs7 sidedefs8 vertexes6 segs8 ssectors2 nodes1 sectors2');
+  check('its counts', (await textsOf('#counts div')).join(' '), 'things9 linedefs7 sidedefs8 vertexes6 segs8 ssectors2 nodes1 sectors2');
 }
 
 async function picture() {
-  const none = await textOf('#map-none');
-  hasPictures = !/draws no pictures/.test(none);
-  if (!hasPictures) {
-    console.log('skipped, as the module has no pictures: what is drawn');
-    return;
-  }
   check('as many paths as the picture has', await browser.run("document.querySelector('#map').dataset.paths"), '4'); // two sectors, one-sided, two-sided
   await browser.mouse('mouseMoved', ...await placeOf(130, 100));
   check('what lies under the pointer', await textOf('#under'), 'sector 0 · floor 0 FLOOR0_1 · ceiling 128 CEIL1_1 · light 160 · special 0 · tag 0');
@@ -160,7 +161,6 @@ async function point() {
 }
 
 async function moves() {
-  if (!hasPictures) return;
   await browser.press('#fit');
   await drawnAnew();
   const [x, y, zoom] = await viewOf(), [mx, my] = await browser.middle('#map');
@@ -191,7 +191,6 @@ async function moves() {
 }
 
 async function finer() {
-  if (!hasPictures) return;
   const place = await placeOf(128, 128);
   await browser.mouse('mouseMoved', ...place);
   for (let k = 0; k < 4; k++) await browser.mouse('mouseWheel', ...place, { deltaX: 0, deltaY: -300 });
@@ -207,9 +206,35 @@ async function findings() {
   check('a finding', await textsOf('#findings .row > span'), ['N3', 'linedef 4', 'Two-sided, without a back sidedef, from (256, 256) to (512, 256)']);
   const before = await viewOf();
   await browser.press('#findings .row');
-  if (!hasPictures) return;
   await browser.until("document.querySelector('#map').dataset.view.startsWith('384.000 256.000')", 'the view at the finding');
   check('a finding moves the view to its place', before.slice(0, 2).join(' ') !== (await viewOf()).slice(0, 2).join(' '), true);
+}
+
+/** What no fault is, and no mapper wants. */
+async function warnings() {
+  const file = wad([...rooms('MAP01', { damage: twoOverlooked }), ...rooms('MAP02')]);
+  await fresh();
+  await browser.drop(written('overlooked.wad', file));
+  await drawn('MAP01');
+  await judged();
+  check('warnings beside the verdict', await textsOf('#levels .row-state'), ['sound · W2 W3', 'sound']);
+  check('how many of them', await textOf('#told'), 'sound, 2 warnings');
+  check('their codes', await textOf('#codes'), 'W2 1 · W3 1');
+  check('each in words', await textsOf('#findings .row > span'), ['W2', 'linedef 5', 'No middle texture in front, from (512, 256) to (512, 0)',
+    'W3', 'thing 1', 'Stands in the void, at (536, 128)']);
+  await drawnAnew();
+  check('where they are on the map', [await isFault(512, 128), await isFault(536, 128, 5), await isFault(0, 128)], [true, true, false]);
+  await browser.press('#findings .row');
+  await browser.until("document.querySelector('#map').dataset.view.startsWith('512.000 128.000')", 'the linedef of a warning');
+  await browser.run("document.querySelector('#findings').focus()");
+  await browser.key('ArrowDown');
+  await browser.until("document.querySelector('#map').dataset.view.startsWith('536.000 128.000')", 'the thing of a warning');
+  await filterBy('w3');
+  check('a filter by a warning', await textsOf('#levels .row-name'), ['MAP01 doom']);
+  await filterBy('');
+  await pick('levels', 'MAP02');
+  await drawn('MAP02');
+  check('a level without any', [await textOf('#told'), await textOf('#findings-none')], ['sound', 'Nothing was found: all links and nodes hold together, and there is nothing to warn of.']);
 }
 
 async function faults() {
@@ -234,9 +259,7 @@ async function faults() {
 }
 
 async function demos() {
-  await fresh();
-  await browser.drop(join(room, 'rooms.wad'));
-  await drawn('MAP01');
+  await dropRooms();
   await browser.press('#demos .row');
   await browser.until("document.querySelectorAll('.cells-row').length > 0", 'the commands');
   check('a demo in one line', /version 109.*10000/.test(await textOf('#told')), true);
@@ -253,6 +276,7 @@ async function demos() {
 }
 
 async function saves() {
+  await dropRooms();
   await judged();
   await browser.send('Browser.setDownloadBehavior', { behavior: 'allow', downloadPath: room });
   /** @param {string} id @param {string} name */
@@ -264,9 +288,9 @@ async function saves() {
     return readFileSync(join(room, name)).toString('latin1');
   };
   check('the saved level is the program\'s', await saved('pwad', 'MAP01.wad'), printed(['extract', 'MAP01', 'f'], twoRooms).toString('latin1'));
-  check('the saved report', await saved('report', 'rooms.wad.txt'), printed(['check', '--max', '0', 'rooms.wad'], twoRooms).toString('latin1'));
-  check('the saved survey', await saved('json', 'rooms.wad.jsonl'), printed(['survey', 'rooms.wad'], twoRooms).toString('latin1'));
-  if (hasPictures) check('the saved picture', (await saved('svg', 'MAP01.svg')).includes('<title>MAP01: faults 0 notes 0</title>'), true);
+  check('the saved report', await saved('report', 'rooms.wad.txt'), printed(['check', '--map', '--max', '0', 'rooms.wad'], twoRooms).toString('latin1'));
+  check('the saved survey', await saved('json', 'rooms.wad.jsonl'), printed(['survey', '--map', 'rooms.wad'], twoRooms).toString('latin1'));
+  check('the saved picture', (await saved('svg', 'MAP01.svg')).includes('<title>MAP01: faults 0 notes 0</title>'), true);
 }
 
 async function markup() {
@@ -278,16 +302,9 @@ async function markup() {
   check('a hostile label stays text', await textsOf('#title, #levels .row-name'), [`${shown} doom`, shown]);
   check('so does a file\'s name', await textOf('#files .row-name'), name);
   check('nothing of it is made', await browser.run("document.querySelectorAll('img, b').length"), 0);
-  await browser.until("document.querySelector('#map').dataset.drawn || document.querySelector('#map-none').textContent", 'a picture or why there is none');
-  if (/can't be cut/.test(await textOf('#map-none'))) {
-    console.log('skipped, as the module cuts out no entry: a level that no name finds');
-    return;
-  }
-  if (hasPictures) {
-    await drawn(shown);
-    await browser.mouse('mouseMoved', ...await placeOf(130, 100));
-    check('so does a flat', (await textOf('#under')).includes(' · floor 0 <b>"&\'</ · '), true);
-  }
+  await drawn(shown);
+  await browser.mouse('mouseMoved', ...await placeOf(130, 100));
+  check('so does a flat', (await textOf('#under')).includes(' · floor 0 <b>"&\'</ · '), true);
   await pinAt(100, 100);
   await browser.until("!document.querySelector('#point').hidden", 'a point of a level that no name finds');
   check('a level that no name finds is asked', (await textOf('#point-line')).split(' ').slice(2), ['sector', '0', 'ssector', '0']);
@@ -323,7 +340,7 @@ async function stop() {
   await fresh();
   await browser.run(`{ const send = Worker.prototype.postMessage; window.free = () => { Worker.prototype.postMessage = send; };
     Worker.prototype.postMessage = function (data, ...more) { if (data.job !== 'survey') send.call(this, data, ...more); }; }`); // a survey that never ends
-  await browser.drop(join(room, 'rooms.wad'));
+  await browser.drop(roomsFile);
   await drawn('MAP01');
   check('what is under way', await textOf('#work-label'), 'Judging rooms.wad');
   await browser.press('#stop');
@@ -354,33 +371,9 @@ async function wide() {
   check('faults under the signed reading alone', [await textOf('#told'), (await textsOf('#findings .row-name')).pop()], ['1 fault', 'sound with --wide']);
   await browser.run("document.querySelector('#findings').focus()");
   await browser.key('End');
-  await browser.until("document.querySelector('#told').textContent === 'sound'", 'the wide reading');
+  await browser.until("document.querySelector('#told').textContent === 'sound, 3 warnings'", 'the wide reading');
   await judged();
-  check('are none under the wide one', await textOf('#levels .row-state'), 'sound');
-}
-
-/** A module with `wadlook`'s words alone. */
-async function onlyLooks() {
-  server = less;
-  await fresh();
-  await browser.drop(join(room, 'rooms.wad'), join(room, 'walk.lmp'));
-  await drawn('MAP01');
-  await browser.until("!document.querySelector('#levels').textContent.includes('…')", 'the levels');
-  check('the levels of a module without surveys', await textsOf('#levels .row'), ['MAP01 entry 0', 'MAP02 entry 11']);
-  check('its verdict', await textOf('#told'), 'sound');
-  check('its counts', (await textsOf('#counts div')).join(' '), 'things2 linedefs7 sidedefs8 vertexes6 segs8 ssectors2 nodes1 sectors2');
-  check('no picture, in words', (await textOf('#map-none')).startsWith('The engine of this page draws no pictures yet.'), true);
-  await pinBy('300 100');
-  await pointTold('300 100');
-  check('a point', await textOf('#point-line'), '300 100 sector 1 ssector 1');
-  await pick('levels', 'MAP02');
-  await drawn('MAP02');
-  check('a finding as audit tells it', await textsOf('#findings .row > span'), ['N3', '4', 'Two-sided flag without side 1']);
-  await pick('files', 'walk.lmp');
-  await browser.press('#demos .row');
-  await browser.until("/tics 35/.test(document.querySelector('#told').textContent)", 'a demo file');
-  check('a demo file', (await textOf('#told')).endsWith('tics 35 odd 0 after 0'), true);
-  server = whole;
+  check('are none under the wide one', await textOf('#levels .row-state'), 'sound · W1 W6');
 }
 
 /** WCAG's contrast of colours of page.css. */
@@ -410,15 +403,12 @@ async function labels() {
 
 async function phone() {
   await browser.screen(390, 844, 'dark', true);
-  await fresh();
-  await browser.drop(join(room, 'rooms.wad'));
-  await drawn('MAP01');
+  await dropRooms();
   for (const pane of ['files', 'levels', 'notes', 'map']) {
     await browser.press(`.tabs [data-to=${pane}]`);
     check(`one pane at a time: ${pane}`, await browser.run("[...document.querySelectorAll('.pane')].filter((e) => e.checkVisibility()).map((e) => e.dataset.pane)"), [pane]);
     check(`nothing wider than a phone: ${pane}`, await browser.run('document.documentElement.scrollWidth'), 390);
   }
-  if (!hasPictures) return;
   const zoom = (await viewOf())[2], [mx, my] = await browser.middle('#map');
   await browser.touch('touchStart', [mx - 50, my], [mx + 50, my]);
   for (const d of [10, 20, 30]) await browser.touch('touchMove', [mx - 50 - d, my], [mx + 50 + d, my]);
@@ -447,7 +437,7 @@ async function unable() {
 }
 
 async function alone() {
-  const away = browser.requests.filter((url) => ![whole, less].some(({ address }) => url.startsWith(address)) && !/^(blob:|about:)/.test(url));
+  const away = browser.requests.filter((url) => !url.startsWith(server.address) && !/^(blob:|about:)/.test(url));
   check('no request leaves the page', away, []);
   check('requests were watched', browser.requests.some((url) => url.endsWith('/worker.mjs')), true);
   check('no complaint of the browser', browser.complaints, []);
@@ -457,7 +447,7 @@ const isThere = await Promise.race([browser.attach().then(() => true, () => fals
 if (!isThere) console.log("skipped, as Chromium doesn't start here: the page");
 let at = 'the start';
 try {
-  const all = [files, levels, picture, point, moves, finer, findings, faults, demos, saves, markup, hostile, stop, wide, onlyLooks, contrast, labels, phone, unable, alone];
+  const all = [files, levels, picture, point, moves, finer, findings, warnings, faults, demos, saves, markup, hostile, stop, wide, contrast, labels, phone, unable, alone];
   const only = valueOf('--only').split(',');
   for (const one of all.filter(({ name }) => isThere && (!only[0] || only.includes(name)))) {
     at = one.name;
@@ -465,15 +455,14 @@ try {
     await one();
   }
   const games = valueOf('--games');
-  if (games && isThere) await measure({ browser, address: whole.address, games, pictures, check, programs });
+  if (games && isThere) await measure({ browser, address: server.address, games, pictures, check, programs });
 } catch (error) {
   failed++;
   console.log(`FAILED at ${at}\n${error instanceof Error ? error.stack : error}\n${browser.complaints.join('\n')}`);
   if (pictures) writeFileSync(join(pictures, 'failed.png'), await browser.picture());
 } finally {
   await browser.close();
-  whole.close();
-  less.close();
+  server.close();
   rmSync(room, { recursive: true, force: true, maxRetries: 5 });
 }
 console.log(`${passed} passed, ${failed} failed`);

@@ -26,15 +26,6 @@ export function runProgram({ wadlook, wadlens }, room, words, files, input) {
   return { status: ran.status ?? 3, answer: ran.stdout, refused: ran.stderr.toString().replace(/^refused: /, '').trimEnd() };
 }
 
-/** Which words are answered: those of `wadlook`, those of both programs without `picture`, or all. */
-/** @typedef {'wadlook' | 'undrawn' | 'all'} Words */
-
-/** As `runProgram`. @param {Programs} programs @param {string} room @param {Words} which */
-const answerer = (programs, room, which) => (/** @type {string[]} */ words, /** @type {Buffer[]} */ files, /** @type {Buffer} */ input) => {
-  const isLeftOut = which === 'wadlook' ? LENS.includes(words[0]) : which === 'undrawn' && words[0] === 'picture';
-  return isLeftOut ? { status: 2, answer: Buffer.alloc(0), refused: 'usage' } : runProgram(programs, room, words, files, input);
-};
-
 /** A question: 4 bytes of length, JSON of words and sizes, the bytes. @param {Buffer} body */
 function question(body) {
   const from = 4 + body.readUInt32LE(0), { words, files, input } = JSON.parse(body.toString('utf8', 4, from));
@@ -51,20 +42,19 @@ function answer({ status, answer: bytes, refused }) {
 }
 
 /**
- * @param {string} folder the page's @param {string} room for files of runs @param {Programs} [programs] @param {Words} [which]
+ * @param {string} folder the page's @param {string} room for files of runs @param {Programs} [programs]
  * @returns {Promise<{ address: string, close: () => void }>}
  */
-export async function serve(folder, room, programs, which = 'all') {
-  const native = programs && answerer(programs, room, which);
+export async function serve(folder, room, programs) {
   const server = createServer((asked, reply) => {
     const path = normalize(decodeURIComponent(new URL(asked.url ?? '', 'http://x').pathname));
-    if (asked.method === 'POST' && native) {
+    if (asked.method === 'POST' && programs) {
       /** @type {Buffer[]} */
       const parts = [];
       asked.on('data', (part) => parts.push(part));
       asked.on('end', () => {
         const { words, files, input } = question(Buffer.concat(parts));
-        reply.end(answer(native(words, files, input)));
+        reply.end(answer(runProgram(programs, room, words, files, input)));
       });
       return;
     }

@@ -23,7 +23,7 @@ export function wad(lumps, kind = 'PWAD') {
 
 /**
  * Two rooms side by side, from (0, 0) to (256, 256) and from (256, 0) to (512, 256): sector 0 in the west, 1 in the east, and a step
- * between them. Player 1 starts in the west; REJECT hides the east from there, and nothing from the east.
+ * between them. Player 1 starts in the west; REJECT hides the east from there, and nothing from the east. There is nothing to warn of.
  * @param {string} label @param {{ flat?: string, damage?: (lumps: Record<string, Buffer>) => void, linedefs?: Buffer, vertexes?: number }} [more]
  * @returns {[string, Buffer][]}
  */
@@ -31,14 +31,15 @@ export function rooms(label, { flat = 'FLOOR0_1', damage, linedefs = Buffer.allo
   const west = [0, 1, 2, 3], corners = [[0, 0], [0, 256], [256, 256], [256, 0], [512, 256], [512, 0]];
   const lines = [[0, 1, -1], [1, 2, -1], [2, 3, 1], [3, 0, -1], [2, 4, -1], [4, 5, -1], [5, 3, -1]];
   const line = ([from, to, back], k) => words(from, to, back < 0 ? 1 : 4, 0, 0, k, back < 0 ? -1 : 7);
-  const side = (sector) => Buffer.concat([words(0, 0), eight('-'), eight('-'), eight('STONE2'), words(sector)]);
+  const side = (sector) => Buffer.concat([words(0, 0), eight('-'), eight('STEP1'), eight('STONE2'), words(sector)]);
   const seg = ([from, to, linedef, back]) => words(from, to, 0, linedef, back, 0);
   const sector = (floor, light) => Buffer.concat([words(floor, 128), eight(flat), eight('CEIL1_1'), words(light, 0, 0)]);
   const segs = [[0, 1, 0, 0], [1, 2, 1, 0], [2, 3, 2, 0], [3, 0, 3, 0], [3, 2, 2, 1], [2, 4, 4, 0], [4, 5, 5, 0], [5, 3, 6, 0]];
+  const starts = [[32, 200, 2], [64, 200, 3], [96, 200, 4], [480, 32, 11], [480, 80, 11], [480, 176, 11], [480, 224, 11]];
   const offsets = Array.from({ length: 15 }, () => 19);
   /** @type {Record<string, Buffer>} */
   const lumps = {
-    THINGS: Buffer.concat([words(64, 64, 90, 1, 7), words(384, 128, 0, 3004, 7)]),
+    THINGS: Buffer.concat([words(64, 64, 90, 1, 7), words(384, 128, 0, 3004, 7), ...starts.map(([x, y, kind]) => words(x, y, 0, kind, 7))]),
     LINEDEFS: Buffer.concat([...lines.map(line), linedefs]),
     SIDEDEFS: Buffer.concat([...lines.map((_, k) => side(west.includes(k) ? 0 : 1)), side(1)]),
     VERTEXES: Buffer.concat([...corners.map((at) => words(...at)), Buffer.alloc(4 * (vertexes - 6))]),
@@ -63,5 +64,10 @@ export function demo(tics) {
 export const lostLinedef = words(4000, 4001, 1, 0, 0, 0, -1);
 /** A linedef from a vertex that only the wide reading finds. */
 export const farLinedef = words(40000, 1, 1, 0, 0, 0, -1);
+/** Takes the texture of linedef 5, and puts thing 1 behind it into the void. @param {Record<string, Buffer>} lumps */
+export const twoOverlooked = ({ SIDEDEFS, THINGS }) => {
+  SIDEDEFS.fill(eight('-'), 5 * 30 + 20, 5 * 30 + 28);
+  THINGS.writeInt16LE(536, 10);
+};
 /** Makes linedef 4 tell two sides, where it has one. @param {Record<string, Buffer>} lumps */
 export const oneMistaken = ({ LINEDEFS }) => { LINEDEFS.writeUInt16LE(4, 4 * 14 + 4); };

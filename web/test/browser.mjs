@@ -150,6 +150,12 @@ export class Browser {
     for (const type of ['dragEnter', 'dragOver', 'drop']) await this.send('Input.dispatchDragEvent', { type, x: 300, y: 300, data });
   }
 
+  /** Chooses files in an input. @param {string} selector @param {...string} files */
+  async choose(selector, ...files) {
+    const { root } = await this.send('DOM.getDocument'), { nodeId } = await this.send('DOM.querySelector', { nodeId: root.nodeId, selector });
+    await this.send('DOM.setFileInputFiles', { nodeId, files });
+  }
+
   async close() {
     const gone = new Promise((go) => this.process.once('exit', go));
     this.send('Browser.close').catch(() => {});

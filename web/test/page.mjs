@@ -4,7 +4,7 @@ import { tmpdir } from 'node:os';
 import { join } from 'node:path';
 import { Browser, chromium, wait } from './browser.mjs';
 import { measure } from './measure.mjs';
-import { runProgram, serve } from './server.mjs';
+import { pythonHost, runProgram, serve } from './server.mjs';
 import { demo, farLinedef, lostLinedef, oneMistaken, rooms, twoOverlooked, wad } from './wads.mjs';
 
 const [root, ...options] = process.argv.slice(2);
@@ -49,8 +49,8 @@ const pick = async (list, name) => {
 /** Waits until what was done is drawn. */
 const drawnAnew = () => browser.run('new Promise((go) => requestAnimationFrame(() => requestAnimationFrame(() => go(1))))');
 const filterBy = (/** @type {string} */ words) => browser.run(`{ const e = document.querySelector('#filter'); e.value = ${JSON.stringify(words)}; e.dispatchEvent(new Event('input')); }`);
-const fresh = async () => {
-  await browser.send('Page.navigate', { url: server.address });
+const fresh = async (address = server.address) => {
+  await browser.send('Page.navigate', { url: address });
   await browser.until("document.body?.dataset.ready === 'yes'", 'the page');
 };
 /** @param {string} name @param {Buffer | string} body */
@@ -100,6 +100,10 @@ async function files() {
   check('a refusal in words', (await textsOf('#files .row-more'))[1], 'not a WAD file: it begins with neither IWAD nor PWAD');
   check('another', (await textsOf('#files .row-more'))[3], 'shorter than a WAD header');
   check('what a file holds', (await textsOf('#files .row-more'))[0].split(' · ').slice(1), ['2 levels', '1 demo']);
+  await fresh();
+  await browser.choose('#file', roomsFile, join(room, 'walk.lmp'));
+  await browser.until("document.querySelectorAll('#files .row').length === 2 && !document.querySelector('#files').textContent.includes('reading')", 'two files');
+  check('files that are chosen', await textsOf('#files .row-name'), ['rooms.wad', 'walk.lmp']);
 }
 
 async function levels() {
@@ -127,6 +131,13 @@ async function levels() {
   check('its counts', (await textsOf('#counts div')).join(' '), 'things9 linedefs7 sidedefs8 vertexes6 segs8 ssectors2 nodes1 sectors2');
 }
 
+/** The colours of the ground in the west and in the east. @returns {Promise<number[][]>} */
+const groundOfRooms = async () => {
+  await drawnAnew();
+  return browser.run(`(() => { const e = document.querySelector('#map canvas'), p = e.getContext('2d');
+    return [0.35, 0.65].map((x) => [...p.getImageData(e.width * x, e.height * 0.46, 1, 1).data]); })()`);
+};
+
 async function picture() {
   check('as many paths as the picture has', await browser.run("document.querySelector('#map').dataset.paths"), '4'); // two sectors, one-sided, two-sided
   await browser.mouse('mouseMoved', ...await placeOf(130, 100));
@@ -135,12 +146,12 @@ async function picture() {
   check('a thing under the pointer', (await textOf('#under')).split('  –  ')[0], 'thing 1 · type 3004 · angle 0 · flags 7');
   await browser.mouse('mouseMoved', ...await placeOf(130, -8));
   check('nothing under the pointer', await textOf('#under'), 'nothing is shown here');
-  const ink = await browser.run(`(() => { const e = document.querySelector('#map canvas'), p = e.getContext('2d');
-    return [0.35, 0.65].map((x) => [...p.getImageData(e.width * x, e.height / 2, 1, 1).data]); })()`);
-  check('the brighter room is drawn brighter', ink[1][0] > ink[0][0], true);
+  const [west, east] = await groundOfRooms();
+  check('the brighter room is drawn brighter', east[0] > west[0], true);
 }
 
 async function point() {
+  const [, east] = await groundOfRooms();
   await pinAt(100, 100);
   await browser.until("!document.querySelector('#point').hidden && document.querySelector('#point-clear').textContent !== ''", 'a pinned point');
   const line = await textOf('#point-line'), at = `${line.split(' ').slice(0, 2).join(' ')}\n`;
@@ -149,6 +160,8 @@ async function point() {
   check('the linedefs of its block', `${await textOf('#point-block .numbers')}\n`, printed(['blocks', 'MAP01', 'f'], twoRooms, at).toString().split(' lines ')[1]);
   check('what REJECT lets it see', await textOf('#point-clear'), '1 sector 0');
   check('and what not', await textOf('#point-blocked'), '1 sector 1');
+  check('what it cannot see is dark on the map', (await groundOfRooms())[1][0] < east[0], true);
+  check('and told by a legend', await isHidden('#legend'), false);
   await pinBy('300 100');
   await pointTold('300 100');
   check('a point by its numbers', await textOf('#point-line'), '300 100 sector 1 ssector 1');
@@ -158,6 +171,8 @@ async function point() {
   check('a point out of range', await textOf('#point-line'), "20000 0 isn't told: places reach from -16384 to 16383");
   await browser.press('#unpin');
   check('let go', await isHidden('#point'), true);
+  await browser.press('#fit');
+  check('and the map is as before', (await groundOfRooms())[1], east);
 }
 
 async function moves() {
@@ -208,6 +223,8 @@ async function findings() {
   await browser.press('#findings .row');
   await browser.until("document.querySelector('#map').dataset.view.startsWith('384.000 256.000')", 'the view at the finding');
   check('a finding moves the view to its place', before.slice(0, 2).join(' ') !== (await viewOf()).slice(0, 2).join(' '), true);
+  await drawnAnew();
+  check('and is marked there', await isFault(384, 256, 19), true);
 }
 
 /** What no fault is, and no mapper wants. */
@@ -260,14 +277,13 @@ async function faults() {
 
 async function demos() {
   await dropRooms();
-  await browser.press('#demos .row');
-  await browser.until("document.querySelectorAll('.cells-row').length > 0", 'the commands');
-  check('a demo in one line', /version 109.*10000/.test(await textOf('#told')), true);
+  await answering('a demo of 10000 tics, to its table', () => browser.press('#demos .row'), "document.querySelectorAll('.cells-row').length > 0");
+  await browser.until("document.querySelector('#told').textContent", 'the line of the demo');
+  check('a demo in one line', await textOf('#told'), 'version 109, skill 2, episode 1, map 4, 1 player, 10000 tics, 4:45.71');
   check('only rows in view are made', await browser.run("document.querySelectorAll('.cells-row').length < 80"), true);
   check('of all its commands', await browser.run("document.querySelector('#commands').getAttribute('aria-rowcount')"), '10001');
   await browser.run("{ document.querySelector('#tic').value = '9000'; }");
-  await browser.press('#tic-form button');
-  await browser.until("[...document.querySelectorAll('.cells-row')].some((row) => row.firstChild.textContent === '9000')", 'tic 9000');
+  await answering('a tic of it', () => browser.press('#tic-form button'), "[...document.querySelectorAll('.cells-row')].some((row) => row.firstChild.textContent === '9000')");
   check('a command', await browser.run("[...document.querySelectorAll('.cells-row')].find((row) => row.firstChild.textContent === '9000').innerText.split(/\\s+/)"),
     ['9000', '1', '50', '0', '0', '00']);
   await pick('levels', 'MAP01');
@@ -310,36 +326,63 @@ async function markup() {
   check('a level that no name finds is asked', (await textOf('#point-line')).split(' ').slice(2), ['sector', '0', 'ssector', '0']);
 }
 
+/** Begins to watch for how long the page doesn't answer. */
+const watch = () => browser.run(`{ window.longest = 0; let last = performance.now();
+  window.watched ??= requestAnimationFrame(function tick() { const now = performance.now(); window.longest = Math.max(window.longest, now - last); last = now; requestAnimationFrame(tick); }); }`);
+/** Does something, tells how long it took, and checks that the page answered all the while. @param {string} what @param {() => Promise<unknown>} act @param {string} condition */
+async function answering(what, act, condition) {
+  await watch();
+  const began = performance.now();
+  await act();
+  await browser.until(condition, what, 300);
+  const took = performance.now() - began, longest = await browser.run('window.longest');
+  if (isWhole) console.log(`${what}: ${took.toFixed(0)} ms, in which the page was silent for ${longest.toFixed(0)} ms at most`);
+  check(`the page answers meanwhile: ${what}`, longest < 3000, true);
+}
+const isWhole = options.includes('--hostile');
+
 async function hostile() {
-  const count = options.includes('--hostile') ? 1_000_000 : 50_000;
+  const count = isWhole ? 1_000_000 : 50_000, file = written('levels.wad', wad(Array.from({ length: count + 1 }, () => ['THINGS', Buffer.alloc(0)])));
   await fresh();
-  await browser.drop(written('levels.wad', wad(Array.from({ length: count + 1 }, () => ['THINGS', Buffer.alloc(0)]))));
-  await browser.until(`document.querySelector('#levels-count').textContent === '${count}'`, 'so many levels', 120);
-  await browser.until("document.querySelector('#levels .row-state')?.textContent === 'not judged'", 'all judged', 120);
+  await answering(`a file of ${count} levels, to their list`, () => browser.drop(file), `document.querySelector('#levels-count').textContent === '${count}'`);
+  await answering('until all are judged', async () => {}, "document.querySelector('#levels .row-state')?.textContent === 'not judged'");
   check('only rows in view', await browser.run("document.querySelectorAll('#levels .row').length < 80"), true);
   await browser.run("document.querySelector('#levels').focus()");
-  await browser.key('End');
-  check('the last of very many levels', await browser.run("document.querySelector('#levels [aria-selected=true]').getAttribute('aria-posinset')"), String(count));
-  await filterBy('linedefs incomplete');
-  await browser.until(`document.querySelector('#levels-count').textContent === '${count} of ${count}'`, 'a filter over very many levels', 120);
-  check('the page answers', await drawnAnew(), 1);
+  await answering('the last of them, by a key', () => browser.key('End'), `document.querySelector('#levels [aria-selected=true]')?.getAttribute('aria-posinset') === '${count}'`);
+  await answering('a filter over all', () => filterBy('linedefs incomplete'), `document.querySelector('#levels-count').textContent === '${count} of ${count}'`);
+}
 
-  const lost = options.includes('--hostile') ? 1_400_000 : 60_000;
-  await browser.drop(written('lost.wad', wad(rooms('MAP01', { linedefs: Buffer.alloc(14 * lost, lostLinedef) }))));
-  await browser.until("document.querySelector('#title').textContent === 'MAP01' && document.querySelector('#findings .row')", 'a level of very many findings', 120);
-  await drawn('MAP01');
+async function manyFindings() {
+  const lost = isWhole ? 1_400_000 : 60_000, file = written('lost.wad', wad(rooms('MAP01', { linedefs: Buffer.alloc(14 * lost, lostLinedef) })));
+  await fresh();
+  await answering(`a level of ${lost} findings, to its picture`, () => browser.drop(file), "document.querySelector('#map').dataset.drawn === 'MAP01'");
   await browser.run("document.querySelector('#findings').focus()");
-  await browser.key('End');
-  await browser.until(`document.querySelector('#findings .row')?.getAttribute('aria-setsize') === '${lost}'`, 'very many findings', 120);
-  await browser.key('End');
+  await answering('the list of all', () => browser.key('End'), `document.querySelector('#findings .row')?.getAttribute('aria-setsize') === '${lost}'`);
+  await answering('the last of them, by a key', () => browser.key('End'), "document.querySelector('#findings [aria-selected=true]')");
   check('the last of very many findings', await textOf('#findings [aria-selected=true] .row-name'), `linedef ${lost + 6}`);
   check('only findings in view', await browser.run("document.querySelectorAll('#findings .row').length < 40"), true);
+  await browser.run("document.querySelector('#map').focus()");
+  await answering('a point', () => browser.key('Enter'), "!document.querySelector('#point').hidden");
 }
+
+/** A file of 64 MB. */
+async function large() {
+  const file = written('bulk.wad', wad([...rooms('MAP01'), ['BULK', Buffer.alloc(64_000_000, 'wadlook ')], ...rooms('MAP02')]));
+  await fresh();
+  await answering('a file of 64 MB, to the list of its levels', () => browser.drop(file), "document.querySelector('#levels-count').textContent === '2'");
+  await answering('until all are judged and one is drawn', judged, "document.querySelector('#map').dataset.drawn === 'MAP01'");
+  check('its levels', await textsOf('#levels .row-state'), ['sound', 'sound']);
+  await answering('another level of it', () => pick('levels', 'MAP02'), "document.querySelector('#map').dataset.drawn === 'MAP02'");
+  await answering('a point of it', () => pinBy('300 100'), "document.querySelector('#point-line').textContent === '300 100 sector 1 ssector 1'");
+}
+
+/** Lets a job never end, until `free()` in the page. @param {string} job */
+const withhold = (job) => browser.run(`{ const send = Worker.prototype.postMessage; window.free = () => { Worker.prototype.postMessage = send; };
+  Worker.prototype.postMessage = function (data, ...more) { if (data.job !== '${job}') send.call(this, data, ...more); }; }`);
 
 async function stop() {
   await fresh();
-  await browser.run(`{ const send = Worker.prototype.postMessage; window.free = () => { Worker.prototype.postMessage = send; };
-    Worker.prototype.postMessage = function (data, ...more) { if (data.job !== 'survey') send.call(this, data, ...more); }; }`); // a survey that never ends
+  await withhold('survey');
   await browser.drop(roomsFile);
   await drawn('MAP01');
   check('what is under way', await textOf('#work-label'), 'Judging rooms.wad');
@@ -353,6 +396,17 @@ async function stop() {
   await judged();
   await browser.until("document.querySelector('#levels .row-state').textContent === 'sound'", 'the rest');
   check('and gone on', await textsOf('#levels .row-state'), ['sound', 'sound, 1 note']);
+
+  await withhold('picture');
+  await pick('levels', 'MAP02');
+  await browser.until("document.querySelector('#work-label').textContent === 'Drawing MAP02' && !document.querySelector('#work').hidden", 'a picture under way');
+  await browser.press('#stop');
+  await browser.until("document.querySelector('#map-none').textContent === 'Stopped. Choose the level again to draw it.'", 'a stopped picture');
+  check('its findings stay', await textsOf('#findings .row-name'), ['linedef 4']);
+  await browser.run('free()');
+  await pick('levels', 'MAP02');
+  await drawn('MAP02');
+  check('and it is drawn', await isHidden('#map-none'), true);
 }
 
 async function wide() {
@@ -394,20 +448,31 @@ async function contrast() {
   }
 }
 
+/** Names of all that can be used and is smaller than 24 pixels, which WCAG AA wants; a box is used by its label, too. */
+const small = () => browser.run(`[...document.querySelectorAll('button, input')].map((e) => e.type === 'checkbox' ? e.closest('label') : e).filter((e) => e.checkVisibility())
+  .filter((e) => { const { width, height } = e.getBoundingClientRect(); return width < 24 || height < 24; }).map((e) => e.id || e.textContent)`);
+
 async function labels() {
+  await dropRooms();
+  await pinBy('100 100');
+  await pointTold('100 100');
   const { nodes } = await browser.send('Accessibility.getFullAXTree');
   const named = ['button', 'textbox', 'searchbox', 'checkbox', 'listbox', 'spinbutton', 'option', 'table', 'application'];
   const bare = nodes.filter((/** @type {any} */ node) => !node.ignored && named.includes(node.role?.value) && !node.name?.value);
   check('all that can be used has a name', bare.map((/** @type {any} */ node) => node.role.value), []);
+  check('and is large enough', await small(), []);
 }
 
 async function phone() {
-  await browser.screen(390, 844, 'dark', true);
-  await dropRooms();
-  for (const pane of ['files', 'levels', 'notes', 'map']) {
-    await browser.press(`.tabs [data-to=${pane}]`);
-    check(`one pane at a time: ${pane}`, await browser.run("[...document.querySelectorAll('.pane')].filter((e) => e.checkVisibility()).map((e) => e.dataset.pane)"), [pane]);
-    check(`nothing wider than a phone: ${pane}`, await browser.run('document.documentElement.scrollWidth'), 390);
+  for (const width of [320, 390]) {
+    await browser.screen(width, 844, 'dark', true);
+    await dropRooms();
+    for (const pane of ['files', 'levels', 'notes', 'map']) {
+      await browser.press(`.tabs [data-to=${pane}]`);
+      check(`one pane at a time: ${pane}`, await browser.run("[...document.querySelectorAll('.pane')].filter((e) => e.checkVisibility()).map((e) => e.dataset.pane)"), [pane]);
+      check(`nothing wider than a phone: ${pane}`, await browser.run("[document.documentElement, ...document.querySelectorAll('.pane, .plate, .head')].map((e) => e.scrollWidth).filter((w) => w > innerWidth)"), []);
+      check(`large enough for a thumb: ${pane}`, await small(), []);
+    }
   }
   const zoom = (await viewOf())[2], [mx, my] = await browser.middle('#map');
   await browser.touch('touchStart', [mx - 50, my], [mx + 50, my]);
@@ -436,8 +501,72 @@ async function unable() {
   await browser.send('Page.removeScriptToEvaluateOnNewDocument', { identifier });
 }
 
+/** Without its modules the page says which one isn't there. */
+async function engineless() {
+  const bare = await serve(join(root, 'web'), room), before = browser.complaints.length;
+  await fresh(bare.address);
+  await browser.drop(roomsFile);
+  await browser.until("document.querySelector('#files .row-state')?.textContent === 'refused'", 'a page without its modules');
+  check('a module that is not there', await textOf('#files .row-more'), "the engine of this page, wad_page.wasm, isn't beside its files");
+  check('which the browser tells too', browser.complaints.splice(before).filter((told) => !/404.*wad_page\.wasm$/.test(told)), []);
+  hosts.push(bare.address);
+  bare.close();
+}
+
+/** Any host of files will do: one that doesn't know what a module is, and Python's. */
+async function anyHost() {
+  if (isNative) return;
+  const plain = await serve(built, room, undefined, 'application/octet-stream'), python = await pythonHost(built);
+  for (const host of [plain, ...python ? [python] : []]) {
+    await fresh(host.address);
+    await browser.drop(roomsFile);
+    await drawn('MAP01');
+    await judged();
+    check(`from ${host === plain ? 'a host of bytes' : "Python's"}`, await textsOf('#levels .row-state'), ['sound', 'sound, 1 note']);
+    hosts.push(host.address);
+    host.close();
+  }
+}
+const hosts = [server.address];
+
+/** All is reached by Tab and seen there, and the way to a finding needs no pointer. */
+async function keys() {
+  await dropRooms();
+  await judged();
+  const reached = [];
+  for (let k = 0; k < 60; k++) {
+    await browser.key('Tab');
+    const at = await browser.run(`(() => { const e = document.activeElement, style = getComputedStyle(e.querySelector('[aria-selected=true]') ?? e);
+      return { name: e.id || e.className, isSeen: e === document.body || style.outlineStyle !== 'none' }; })()`);
+    if (!at.name) break;
+    check(`the keys' place is seen: ${at.name}`, at.isSeen, true);
+    reached.push(at.name);
+  }
+  const wanted = ['skip', 'choose', 'wide', 'files', 'only', 'filter', 'levels', 'demos', 'save-pwad', 'save-svg', 'save-report', 'save-json', 'map', 'in', 'out', 'fit', 'at', 'pin'];
+  check('all is reached by Tab, in its order', reached.filter((name) => wanted.includes(name)), wanted);
+  await browser.key('/');
+  await browser.send('Input.insertText', { text: 'map02' });
+  await browser.until("document.querySelectorAll('#levels .row').length === 1", 'the filter by keys');
+  await browser.key('Enter');
+  await drawn('MAP02');
+  for (let k = 0; k < 30 && await browser.run("document.activeElement.id !== 'findings'"); k++) await browser.key('Tab');
+  await browser.key('ArrowDown');
+  await browser.until("document.querySelector('#map').dataset.view.startsWith('384.000 256.000')", 'a finding by keys');
+  check('a finding by keys', await textOf('#findings [aria-selected=true] .row-name'), 'linedef 4');
+}
+
+/** What the page's own policy refuses. */
+async function policy() {
+  await fresh();
+  const told = await browser.run(`(async () => { const script = document.createElement('script');
+    script.textContent = 'window.ran = 1';
+    document.body.append(script);
+    return [await fetch('https://example.invalid/').then(() => 'fetched', () => 'refused'), window.ran ?? 'refused', document.cookie, localStorage.length + (await indexedDB.databases()).length]; })()`);
+  check('nothing is fetched from elsewhere, no script is put in, nothing is kept', told, ['refused', 'refused', '', 0]);
+}
+
 async function alone() {
-  const away = browser.requests.filter((url) => !url.startsWith(server.address) && !/^(blob:|about:)/.test(url));
+  const away = browser.requests.filter((url) => !hosts.some((host) => url.startsWith(host)) && !/^(blob:|about:)/.test(url));
   check('no request leaves the page', away, []);
   check('requests were watched', browser.requests.some((url) => url.endsWith('/worker.mjs')), true);
   check('no complaint of the browser', browser.complaints, []);
@@ -447,7 +576,7 @@ const isThere = await Promise.race([browser.attach().then(() => true, () => fals
 if (!isThere) console.log("skipped, as Chromium doesn't start here: the page");
 let at = 'the start';
 try {
-  const all = [files, levels, picture, point, moves, finer, findings, warnings, faults, demos, saves, markup, hostile, stop, wide, contrast, labels, phone, unable, alone];
+  const all = [files, levels, picture, point, moves, finer, findings, warnings, faults, demos, saves, markup, hostile, manyFindings, large, stop, wide, contrast, labels, keys, phone, unable, engineless, anyHost, alone, policy];
   const only = valueOf('--only').split(',');
   for (const one of all.filter(({ name }) => isThere && (!only[0] || only.includes(name)))) {
     at = one.name;

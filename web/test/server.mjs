@@ -1,11 +1,11 @@
 // Serves the page from a subfolder, as any host does; with programs, these answer in the engine's place.
-import { spawnSync } from 'node:child_process';
+import { spawn, spawnSync } from 'node:child_process';
 import { existsSync, mkdirSync, readFileSync, rmSync, statSync, writeFileSync } from 'node:fs';
 import { createServer } from 'node:http';
 import { basename, extname, join, normalize } from 'node:path';
 
 const TYPES = /** @type {Record<string, string>} */ ({
-  '.html': 'text/html', '.css': 'text/css', '.mjs': 'text/javascript', '.wasm': 'application/wasm', '.svg': 'image/svg+xml',
+  '.html': 'text/html', '.css': 'text/css', '.mjs': 'text/javascript', '.svg': 'image/svg+xml',
 });
 const LENS = ['check', 'survey', 'picture', 'cut', 'demos'];
 
@@ -42,10 +42,10 @@ function answer({ status, answer: bytes, refused }) {
 }
 
 /**
- * @param {string} folder the page's @param {string} room for files of runs @param {Programs} [programs]
+ * @param {string} folder the page's @param {string} room for files of runs @param {Programs} [programs] @param {string} [wasm] the type of modules
  * @returns {Promise<{ address: string, close: () => void }>}
  */
-export async function serve(folder, room, programs) {
+export async function serve(folder, room, programs, wasm = 'application/wasm') {
   const server = createServer((asked, reply) => {
     const path = normalize(decodeURIComponent(new URL(asked.url ?? '', 'http://x').pathname));
     if (asked.method === 'POST' && programs) {
@@ -61,10 +61,25 @@ export async function serve(folder, room, programs) {
     const name = path.replace(/^\/sub\//, '') || 'index.html';
     const file = programs && name === 'wad_page.mjs' ? join(import.meta.dirname ?? '', 'native_page.mjs') : join(folder, name);
     if (!path.startsWith('/sub/') || !existsSync(file) || !statSync(file).isFile()) return reply.writeHead(404).end();
-    reply.writeHead(200, { 'content-type': TYPES[extname(file)] ?? 'application/octet-stream', 'cache-control': 'no-store' });
+    reply.writeHead(200, { 'content-type': TYPES[extname(file)] ?? wasm, 'cache-control': 'no-store' });
     reply.end(readFileSync(file));
   });
   await new Promise((go) => server.listen(0, '127.0.0.1', () => go(undefined)));
   const address = /** @type {import('node:net').AddressInfo} */ (server.address());
   return { address: `http://127.0.0.1:${address.port}/sub/`, close: () => server.close() };
+}
+
+/**
+ * Python's own server of files, where there is one.
+ * @param {string} folder @returns {Promise<{ address: string, close: () => void } | null>}
+ */
+export function pythonHost(folder) {
+  const host = spawn('python3', ['-u', '-m', 'http.server', '--bind', '127.0.0.1', '--directory', folder, '0'], { stdio: ['ignore', 'pipe', 'ignore'] });
+  return new Promise((go) => {
+    host.once('error', () => go(null)).once('exit', () => go(null));
+    host.stdout.on('data', (said) => {
+      const address = /http:\/\/[\d.]+:\d+\//.exec(String(said))?.[0];
+      if (address) go({ address, close: () => { host.kill(); } });
+    });
+  });
 }

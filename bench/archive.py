@@ -54,6 +54,8 @@ for cells in (512, 1024):
         J.append(('points of as many cells, %s' % where, o.wadlook, [['points', 'MAP12', wad]], points(cells)))
 J = [j for j in J if not o.only or any(k in j[0] for k in o.only.split(','))]
 
+if not J: sys.exit('no such job')
+
 # ----------------------------------------------------------------------- runs
 def once(program, runs, inp):
     """user, user + system and wall seconds, peak KB, page faults, files and bytes of the atlas"""

@@ -186,6 +186,7 @@ def judged(image: Image, view: tuple[int, int, int, int], place: Place, what: st
 
 def main() -> int:
     root, games, folder, room = (Path(word) for word in sys.argv[1:5])
+    folder.mkdir(parents=True, exist_ok=True)
     look, lens = (root / "crates" / name / "out" / name for name in ("wadlook", "wadlens"))
     levels = [("E1M1", games / "freedoom1.wad", CLEAR, 64, []), ("MAP01", games / "freedoom2.wad", CLEAR, 64, [])]
     levels = [level for level in levels if level[1].exists()]

@@ -1,0 +1,237 @@
+# Cases of words, paths, lists, refused files, surveys, levels cut out, progress, failed ends and memory, which tests/wadlens runs.
+# shellcheck shell=bash disable=SC2034,SC2154  # what tests/wadlens sets and reads
+
+cases_of_words() {
+    mistaken 'no words' 'requires a subcommand'
+    mistaken 'a command alone' 'FILE' survey
+    mistaken 'check alone' 'FILE' check
+    mistaken 'no such command' 'unrecognized subcommand' look base.wad
+    mistaken 'a hint at a mistyped word' "similar subcommand exists: 'survey'" survy base.wad
+    mistaken 'a flag that there is not' "unexpected argument '--tall'" survey --tall base.wad
+    mistaken '--max of a survey' "unexpected argument '--max'" survey --max 3 base.wad
+    mistaken '--null without --files-from' '--files-from' survey --null base.wad
+    mistaken '--strict without --map' '--map' check --strict base.wad
+    mistaken '--strict of a survey, without --map' '--map' survey --strict base.wad
+    mistaken '--map of demos' "unexpected argument '--map'" demos --map base.wad
+    mistaken 'a negative --max' '-1' check --max=-1 base.wad
+    mistaken 'a negative --max, apart' '-1' check --max -1 base.wad
+    mistaken 'a --max that is no number' 'three' check --max three base.wad
+    mistaken 'a path that begins with -' "unexpected argument '-x'" survey -x
+    mistaken '--files-from without a list' '--files-from' survey --files-from
+    tells '--help' 'Usage: wadlens' --help
+    tells '-h' 'Usage: wadlens' -h
+    tells '--version' 'wadlens 0.1.0' --version
+    tells '--help of survey' 'Usage: wadlens survey' survey --help
+    tells '--help of check' '--max <N>' check --help
+}
+
+cases_of_paths() {
+    says 'a file' 0 "$(sound base.wad E1M1 0)" '' survey base.wad
+    says 'two files, in order' 0 "$(sound base.wad E1M1 0)$(sound ./base.wad E1M1 0)" '' survey base.wad ./base.wad
+    says 'a path that begins with -, after --' 0 "$(sound -x.wad E1M1 0)" '' survey -- -x.wad
+    says '- is a path' 2 "$(refused - "$missing")" "$(told - "$missing")" survey -
+    cp base.wad -- -
+    says '- is a path, and its file is there' 0 "$(sound - E1M1 0)" '' survey -
+    says 'an empty path' 2 "$(refused '' "$missing")" "$(told '' "$missing")" survey ''
+    says 'a file from a pipe' 0 '' '' survey <(cat empty.wad)
+    mkfifo fifo
+    cat base.wad >fifo &
+    says 'a FIFO' 0 "$(sound fifo E1M1 0)" '' survey fifo
+    says 'a device without end' 2 "$(refused /dev/zero 'larger than 268435456 bytes')" \
+        "$(told /dev/zero 'larger than 268435456 bytes')" survey /dev/zero
+    cp base.wad $'a"b\\c\x1f.wad'
+    says 'a path with what JSON escapes' 0 "$(sound 'a\\"b\\\\c\\u001f.wad' E1M1 0)" '' survey $'a"b\\c\x1f.wad'
+    says 'a path is written as its bytes' 0 '1 levels in 1 files: 0 faults, 0 notes, 0 not judged\n' '' check $'a"b\\c\x1f.wad'
+    says 'a path is written as its bytes, refused' 2 '0 levels in 1 files: 0 faults, 0 notes, 0 not judged\n' \
+        "wadlens: no\\n\\x1f: $missing\\n" check $'no\n\x1f'
+    cp base.wad ü.wad
+    says 'a path with a line break' 0 "$(sound 'two\\u000alines.wad' E1M1 0)" '' survey $'two\nlines.wad'
+    says 'a path that is not ASCII' 0 "$(sound 'ü.wad' E1M1 0)" '' survey ü.wad
+}
+
+cases_of_lists() {
+    local one two
+    one=$(sound base.wad E1M1 0) two=$(sound ./base.wad E1M1 0)
+    says_on 'a list' 'base.wad\n./base.wad\n' 0 "$one$two" '' survey --files-from -
+    says_on 'a list whose last path has no end' 'base.wad\n./base.wad' 0 "$one$two" '' survey --files-from -
+    says_on 'empty paths of a list' '\n\nbase.wad\n\n' 0 "$one" '' survey --files-from -
+    says_on 'a list of NULs' 'base.wad\0./base.wad\0' 0 "$one$two" '' survey --files-from - --null
+    says_on 'a list of NULs has paths of several lines' 'two\nlines.wad\0' 0 "$(sound 'two\\u000alines.wad' E1M1 0)" '' \
+        survey --files-from - --null
+    says_on 'an empty list' '' 0 '' '' survey --files-from -
+    says_on 'files, and then those of a list' './base.wad\n' 0 "$one$two" '' survey base.wad --files-from -
+    says_on 'a path of a list begins with -' '-x.wad\n' 0 "$(sound -x.wad E1M1 0)" '' survey --files-from -
+    printf 'base.wad\n' >list
+    says 'a list in a file' 0 "$one" '' survey --files-from list
+    says 'a list that is not there' 2 '' "$(told no.list "$missing")" survey --files-from no.list base.wad
+    says 'a list that is a folder' 2 '' "$(told folder "$unread")" survey --files-from folder base.wad
+    timeout 60 "$program" survey --files-from - <folder >output 2>error
+    printf '%s' $? >status
+    judge 'a list that cannot be read' 2 '' "$(told 'standard input' "$unread")"
+    says_on 'a path of a list that is not UTF-8' '\0377.wad\n' 2 \
+        '{"file":"\0357\0277\0275.wad","refused":"'"$missing"'"}\n' "wadlens: \\0377.wad: $missing\\n" survey --files-from -
+    says_on 'an empty list of check' '' 0 '0 levels in 0 files: 0 faults, 0 notes, 0 not judged\n' '' check --files-from -
+}
+
+cases_of_refused() {
+    local kind text
+    while read -r kind text; do
+        says "survey: $kind" 2 "$(refused "$kind" "$text")" "$(told "$kind" "$text")" survey "$kind"
+        says "check: $kind" 2 '0 levels in 1 files: 0 faults, 0 notes, 0 not judged\n' "$(told "$kind" "$text")" check "$kind"
+    done <<END
+no.wad can't be opened
+folder can't be read
+none.wad shorter than a WAD header
+magic.wad not a WAD file: it begins with neither IWAD nor PWAD
+count.wad a negative count of lumps
+cut.wad its directory isn't inside the file
+END
+    if ((EUID)); then
+        cp base.wad closed.wad
+        chmod 0 closed.wad
+        says 'a file that may not be read' 2 "$(refused closed.wad "$missing")" "$(told closed.wad "$missing")" survey closed.wad
+    fi
+    says 'a refused file does not stop the run' 2 \
+        "$(refused none.wad 'shorter than a WAD header')$(sound base.wad E1M1 0)" \
+        "$(told none.wad 'shorter than a WAD header')" survey none.wad base.wad
+    cp empty.wad most.wad
+    truncate -s 268435456 most.wad
+    says 'a file of as many bytes as there may be' 0 '' '' survey most.wad
+    says 'two of them: one is let go before the next' 0 '' '' survey most.wad most.wad
+    printf x >>most.wad
+    says 'a file of one byte more' 2 "$(refused most.wad 'larger than 268435456 bytes')" \
+        "$(told most.wad 'larger than 268435456 bytes')" survey most.wad
+    rm most.wad
+}
+
+cases_of_survey() {
+    local faulty='{"file":"faulty.wad","level":"E1M1","entry":0,"format":"doom",'$counts
+    faulty+=',"sound":false,"faults":1,"notes":1,"findings":{"F9":1,"N3":1}}\n'
+    says 'a level with a fault' 1 "$faulty" '' survey faulty.wad
+    says 'incomplete' 1 '{"file":"hole.wad","level":"MAP01","entry":0,"format":"incomplete","lump":"BLOCKMAP"}\n' '' \
+        survey hole.wad
+    says 'hexen' 2 '{"file":"hexen.wad","level":"MAP01","entry":0,"format":"hexen"}\n' '' survey hexen.wad
+    says 'udmf' 2 '{"file":"udmf.wad","level":"MAP03","entry":0,"format":"udmf"}\n' '' survey udmf.wad
+    says 'extended' 2 '{"file":"extended.wad","level":"E1M1","entry":0,"format":"extended","tag":"XNOD"}\n' '' \
+        survey extended.wad
+    says 'a hidden label' 0 "$(sound hidden.wad MAP02 0)$(sound hidden.wad MAP02 11)" '' survey hidden.wad
+    says '1 goes before 2' 1 '{"file":"udmf.wad","level":"MAP03","entry":0,"format":"udmf"}\n'"$faulty" '' \
+        survey udmf.wad faulty.wad
+    says '1 goes before 2, of a refused file too' 1 "$faulty$(refused no.wad "$missing")" "$(told no.wad "$missing")" \
+        survey faulty.wad no.wad
+    says 'wide' 0 "$(sound base.wad E1M1 0)" '' survey --wide base.wad
+    says 'a name as it is shown' 0 "$(sound odd.wad 'a\\"\\\\x5c\\\\x20\\\\x01b' 0)" '' survey odd.wad
+}
+
+# cuts NAME FILE WORD...: `cut` writes the bytes of that file, and nothing else.
+cuts() {
+    timeout 60 "$program" cut "${@:3}" >output 2>error
+    printf '%s' $? >status
+    if cmp -s output "$2"; then : >output; fi
+    judge "$1" 0 '' ''
+}
+
+cases_of_cut() {
+    local parts tag
+    lumps 10
+    pack MAP02 '' "${parts[@]}" >one.wad
+    cuts 'a hidden level' one.wad --entry 0 hidden.wad
+    cuts 'the one that hides it' one.wad hidden.wad --entry 11
+    pack E1M1 '' "${parts[@]}" >first.wad
+    pack JUNK '\x01\x02' E1M1 '\x03' "${parts[@]}" MORE '\x04' >between.wad
+    cuts 'between other lumps, and a label with bytes' first.wad --entry=1 between.wad
+    renamed NODES NODEZ
+    pack MAP07 '' "${parts[@]}" >renamed.wad
+    cuts 'lumps under the names that they have' renamed.wad --entry 0 renamed.wad
+    says 'cut: incomplete' 1 '' 'wadlens: hole.wad: incomplete: no BLOCKMAP where it belongs\n' cut --entry 0 hole.wad
+    says 'cut: the last entry' 1 '' 'wadlens: hole.wad: incomplete: no THINGS where it belongs\n' cut --entry 9 hole.wad
+    for tag in THINGS BLOCKMAP; do
+        lumps 10
+        pack MAP01 '' "${parts[@]}" >format.wad
+        outside "$tag"
+        says "cut: outside, $tag" 1 '' "wadlens: format.wad: outside: $tag\\n" cut --entry 0 format.wad
+    done
+    says 'cut: no such entry' 2 '' 'wadlens: hole.wad: no entry of this number\n' cut --entry 10 hole.wad
+    says 'cut: no entry of a file without any' 2 '' 'wadlens: empty.wad: no entry of this number\n' cut --entry 0 empty.wad
+    says 'cut: the greatest number' 2 '' 'wadlens: hole.wad: no entry of this number\n' cut --entry 18446744073709551615 hole.wad
+    says 'cut: no file' 2 '' "$(told no.wad "$missing")" cut --entry 0 no.wad
+    says 'cut: a folder' 2 '' "$(told folder "$unread")" cut --entry 0 folder
+    says 'cut: no WAD file' 2 '' "$(told magic.wad 'not a WAD file: it begins with neither IWAD nor PWAD')" cut --entry 0 magic.wad
+    ends 'cut: a full disk' 2 "wadlens: standard output can't be written\\n" cut --entry 0 base.wad >/dev/full
+    mistaken 'cut without an entry' '--entry <G>' cut base.wad
+    mistaken 'cut without a file' 'FILE' cut --entry 0
+    mistaken 'cut of two files' "unexpected argument 'base.wad'" cut --entry 0 base.wad base.wad
+    mistaken 'a negative entry' '-1' cut --entry=-1 base.wad
+    mistaken 'an entry that is no number' 'E1M1' cut --entry E1M1 base.wad
+    mistaken 'an entry of more than 64 bits' '18446744073709551616' cut --entry 18446744073709551616 base.wad
+    mistaken '--wide of cut' "unexpected argument '--wide'" cut --wide --entry 0 base.wad
+}
+
+cases_of_progress() {
+    local none='shorter than a WAD header' gone='\r\x1b[K'
+    says '--progress' 0 "$(sound base.wad E1M1 0)" '\r1 files, 1 levels\n' survey --progress base.wad
+    says '--progress of check' 0 '2 levels in 2 files: 0 faults, 0 notes, 0 not judged\n' \
+        '\r1 files, 1 levels\r2 files, 2 levels\n' check base.wad --progress base.wad
+    says '--progress counts levels that are not judged' 1 "$(
+        printf '%s' 'udmf.wad: MAP03: udmf: not read\n' 'hole.wad: MAP01: incomplete: no BLOCKMAP where it belongs\n' \
+            '2 levels in 3 files: 0 faults, 0 notes, 2 not judged\n'
+    )" '\r1 files, 1 levels\r2 files, 1 levels\r3 files, 2 levels\n' check --progress udmf.wad empty.wad hole.wad
+    says '--progress counts hidden levels' 0 "$(sound hidden.wad MAP02 0)$(sound hidden.wad MAP02 11)" \
+        '\r1 files, 2 levels\n' survey --progress hidden.wad
+    says '--progress and a refused file' 2 '2 levels in 3 files: 0 faults, 0 notes, 0 not judged\n' \
+        "\\r1 files, 1 levels$gone$(told none.wad "$none")\\r2 files, 1 levels\\r3 files, 2 levels\\n" \
+        check --progress base.wad none.wad base.wad
+    says_on '--progress of no file' '' 0 '' '' survey --progress --files-from -
+    says_on 'no progress unasked' 'base.wad' 0 "$(sound base.wad E1M1 0)" '' survey --files-from -
+}
+
+# many.wad: a level in UDMF, and one with 4000 linedefs without length, whose lines don't fit into the program's buffer.
+many_lines() {
+    local i parts lines
+    lines=$(words 1 1 1 0 0 0 -1)
+    for ((i = 1; i < 4000; i *= 2)); do lines+=$lines; done
+    lumps 10
+    parts[3]+=$lines
+    pack MAP03 '' TEXTMAP '' MAP04 '' "${parts[@]}" >many.wad
+}
+
+cases_of_ends() {
+    local pipe file full="wadlens: standard output can't be written\\n"
+    many_lines
+    for file in base.wad faulty.wad; do
+        ends "a full disk, survey $file" 2 "$full" survey "$file" >/dev/full
+        ends "a full disk, check $file" 2 "$full" check "$file" >/dev/full
+    done
+    ends 'a full disk, and a refused file' 2 "$(told none.wad 'shorter than a WAD header')$full" check none.wad >/dev/full
+    ends 'no standard output' 2 "$full" survey faulty.wad >&-
+    ends 'a full disk, and the help' 2 "$full" --help >/dev/full
+    exec {pipe}> >(:)
+    wait $!
+    ends 'a closed pipe, a sound level' 0 '' survey base.wad >&"$pipe"
+    ends 'a closed pipe, a faulty level' 1 '' survey faulty.wad >&"$pipe"
+    ends 'a closed pipe, the lines of a faulty level' 1 '' check faulty.wad >&"$pipe"
+    ends 'a closed pipe, a level that is not judged' 2 '' check udmf.wad >&"$pipe"
+    ends 'a closed pipe, and a refused file' 2 "$(told none.wad 'shorter than a WAD header')" survey none.wad >&"$pipe"
+    ends 'a closed pipe within a file: what was found in its levels so far' 2 '' check --max 0 many.wad faulty.wad >&"$pipe"
+    ends 'a closed pipe within a file: and in those before' 1 '' check --max 0 faulty.wad many.wad >&"$pipe"
+    exec {pipe}>&-
+    ends 'a full disk within a file' 2 "$full" check --max 0 many.wad >/dev/full
+    timeout 60 "$program" survey none.wad >output 2>/dev/full
+    printf '%s' $? >status
+    : >error
+    judge 'a full standard error' 2 '' ''
+}
+
+cases_of_memory() {
+    local memory=200000
+    cp empty.wad most.wad
+    truncate -s 268435456 most.wad
+    says 'no memory for a file' 3 '' 'wadlens: no memory left\n' survey most.wad
+    says 'no memory for a file, after a fault' 3 "$(printf '%s' \
+        'faulty.wad: E1M1: F9 seg 1: linedef 0 has no sidedef on side 1, from (0, 64) to (0, 0)\n' \
+        'faulty.wad: E1M1: N3 linedef 0: two-sided, without a back sidedef, from (0, 0) to (0, 64)\n')" \
+        'wadlens: no memory left\n' check faulty.wad most.wad
+    memory=400000
+    says 'memory of one file at a time' 0 '0 levels in 3 files: 0 faults, 0 notes, 0 not judged\n' '' check most.wad most.wad most.wad
+    rm most.wad
+}

@@ -1,0 +1,334 @@
+# Cases of findings, warnings and formats, which tests/wadlens runs.
+# shellcheck shell=bash disable=SC2034,SC2154  # what tests/wadlens sets and reads
+
+# many_segs: in wide.wad the sample level, an ssector of which begins with seg 32768.
+many_segs() {
+    local i
+    [[ ! -e wide.wad ]] || return
+    level SEGS "$(for ((i = 0; i < 32768; i++)); do words 0 1 16384 0 0 0; done)$(words 1 0 -16384 0 1 0)" \
+        SSECTORS "$(words 1 0 1 -32768)" >wide.wad
+}
+
+cases_of_check() {
+    says 'nothing found' 0 '1 levels in 1 files: 0 faults, 0 notes, 0 not judged\n' '' check base.wad
+    says 'a fault and a note' 1 "$(
+        printf '%s' 'faulty.wad: E1M1: F9 seg 1: linedef 0 has no sidedef on side 1, from (0, 64) to (0, 0)\n' \
+            'faulty.wad: E1M1: N3 linedef 0: two-sided, without a back sidedef, from (0, 0) to (0, 64)\n' \
+            '1 levels in 1 files: 1 faults, 1 notes, 0 not judged\n'
+    )" '' check faulty.wad
+    says 'what is not judged' 1 "$(
+        printf '%s' 'hole.wad: MAP01: incomplete: no BLOCKMAP where it belongs\n' 'hexen.wad: MAP01: hexen: not read\n' \
+            'udmf.wad: MAP03: udmf: not read\n' 'extended.wad: E1M1: extended nodes XNOD: not read\n' \
+            '4 levels in 4 files: 0 faults, 0 notes, 4 not judged\n'
+    )" '' check hole.wad hexen.wad udmf.wad extended.wad
+    local i three="${own[LINEDEFS]}" lines='' end='1 levels in 1 files: 3 faults, 0 notes, 0 not judged\n'
+    for i in 1 2 3; do
+        three+=$(words 9 1 4 0 0 0 1)
+        lines+="many.wad: E1M1: F3 linedef $i: start vertex 9 isn't there (2 vertexes)\\n"
+    done
+    level LINEDEFS "$three" >many.wad
+    says 'findings of one code' 1 "$lines$end" '' check many.wad
+    says '--max 0: all' 1 "$lines$end" '' check --max 0 many.wad
+    says '--max of as many as there are' 1 "$lines$end" '' check --max 3 many.wad
+    lines="many.wad: E1M1: F3 linedef 1: start vertex 9 isn't there (2 vertexes)\\nmany.wad: E1M1: F3: 2 more\\n"
+    says '--max of fewer' 1 "$lines$end" '' check --max 1 many.wad
+    says '--max after the file, with =' 1 "$lines$end" '' check many.wad --max=1
+    many_segs
+    says 'sound with --wide' 1 "$(
+        printf '%s' "wide.wad: E1M1: F10 ssector 1: segs from -32768, 1 of them, aren't all there (32769 segs)\\n" \
+            'wide.wad: E1M1: sound with --wide\n' '1 levels in 1 files: 1 faults, 0 notes, 0 not judged\n'
+    )" '' check wide.wad
+    says 'wide' 0 '1 levels in 1 files: 0 faults, 0 notes, 0 not judged\n' '' check --wide wide.wad
+    says 'not judged alone' 2 'udmf.wad: MAP03: udmf: not read\n1 levels in 1 files: 0 faults, 0 notes, 1 not judged\n' '' \
+        check udmf.wad
+}
+
+# finds NAME LINES FAULTS NOTES [LUMP BYTES]...: what `check` tells of the sample level with these lumps, each line without
+# its path and level. `flags` are more words.
+flags=()
+finds() {
+    local line text='' status=0
+    while read -r line; do text+="code.wad: E1M1: $line\\n"; done <<<"$2"
+    (($3 == 0)) || status=1
+    level "${@:5}" >code.wad
+    says "$1" "$status" "${text}1 levels in 1 files: $3 faults, $4 notes, 0 not judged\\n" '' check "${flags[@]}" code.wad
+}
+
+# two A B: two lines of text.
+two() { printf '%s\n' "$@"; }
+
+cases_of_codes() {
+    local line='from (0, 0) to (0, 64)' back='from (0, 64) to (0, 0)' segs lines
+    segs=$(words 1 0 -16384 0 1 0) lines=$(words 0 1 4 0 0 0 1)
+    cases_of_links
+    finds F11 "$(two "F11 node 0: child 0 names ssector 2, which isn't there (2 ssectors), at (0, 0)" \
+        'F16 ssector 0: not reached from the root, at (0, 0)')" 2 0 NODES "$(node 0 0 0 64 32770 32769)"
+    finds 'F11, child 1' "$(two "F11 node 0: child 1 names node 5, which isn't there (1 nodes), at (-7, 9)" \
+        'F16 ssector 1: not reached from the root, at (0, 64)')" 2 0 NODES "$(node -7 9 0 64 32768 5)"
+    finds 'F11, both' "$(two "F11 node 0: child 0 names node 5, which isn't there (1 nodes), at (0, 0)" \
+        'F16 ssector 0: not reached from the root, at (0, 0)' 'F16 ssector 1: not reached from the root, at (0, 64)')" 3 0 \
+        NODES "$(node 0 0 0 64 5 6)"
+    finds F12 'F12 node 0: origin (16384, 0) is outside -16384 to 16383' 1 0 NODES "$(node 16384 0 0 64 32768 32769)"
+    finds 'F12, of y' 'F12 node 0: origin (0, -16385) is outside -16384 to 16383' 1 0 NODES "$(node 0 -16385 0 64 32768 32769)"
+    finds F13 "$(two 'F13 node 0: named more than once, or the root and named, at (0, 0)' \
+        'F16 ssector 0: not reached from the root, at (0, 0)')" 2 0 NODES "$(node 0 0 0 64 0 32769)"
+    finds F14 "$(two 'F14 node 0: not reached from the root, at (1, 2)' 'F14 node 1: not reached from the root, at (3, 4)' \
+        'F16 ssector 2: not reached from the root, at (0, 0)' 'F16 ssector 3: not reached from the root, at (0, 0)')" 4 0 \
+        NODES "$(node 1 2 0 64 1 32770)$(node 3 4 0 64 0 32771)$(node 0 0 0 64 32768 32769)" SSECTORS "$(words 1 0 1 0 1 0 1 0)"
+    finds F15 "$(two 'F15 ssector 0: named more than once, at (0, 0)' 'F16 ssector 1: not reached from the root, at (0, 64)')" 2 0 \
+        NODES "$(node 0 0 0 64 32768 32768)"
+    finds F16 'F16 ssector 1: not reached from the root, at (0, 64)' 1 0 NODES ''
+    finds F17 'F17 level: no ssector' 1 0 NODES '' SSECTORS ''
+    cases_of_many_nodes
+    cases_of_notes
+}
+
+# What names what isn't there.
+cases_of_links() {
+    finds F3 "F3 linedef 0: start vertex 9 isn't there (2 vertexes)" 1 0 LINEDEFS "$(words 9 1 4 0 0 0 1)"
+    finds 'F3, end' "F3 linedef 0: end vertex 2 isn't there (2 vertexes)" 1 0 LINEDEFS "$(words 0 2 4 0 0 0 1)"
+    finds 'F3, both' "F3 linedef 0: start vertex -1 isn't there (2 vertexes)" 1 0 LINEDEFS "$(words -1 9 4 0 0 0 1)"
+    finds F4 "F4 linedef 0: front sidedef 9 isn't there (2 sidedefs), $line" 1 0 LINEDEFS "$(words 0 1 4 0 0 9 1)"
+    finds 'F4, back' "F4 linedef 0: back sidedef 2 isn't there (2 sidedefs), $line" 1 0 LINEDEFS "$(words 0 1 4 0 0 0 2)"
+    finds 'F4, both' "F4 linedef 0: front sidedef -2 isn't there (2 sidedefs), $line" 1 0 LINEDEFS "$(words 0 1 4 0 0 -2 9)"
+    finds 'F4, back, without a front' "$(two "F4 linedef 0: back sidedef 9 isn't there (2 sidedefs), $line" \
+        "F9 seg 0: linedef 0 has no sidedef on side 0, $line" "N4 linedef 0: without a front sidedef, $line")" 2 1 \
+        LINEDEFS "$(words 0 1 4 0 0 -1 9)"
+    finds F5 "F5 sidedef 1: sector 9 isn't there (2 sectors), of linedef 0" 1 0 SIDEDEFS "$(sidedef 0)$(sidedef 9)"
+    finds 'F5, of the first linedef' "F5 sidedef 1: sector -1 isn't there (2 sectors), of linedef 0" 1 0 \
+        SIDEDEFS "$(sidedef 0)$(sidedef -1)" LINEDEFS "$lines$(words 0 1 1 0 0 1 -1)$lines"
+    finds 'F5, of no linedef' "F5 sidedef 2: sector 2 isn't there (2 sectors)" 1 0 SIDEDEFS "${own[SIDEDEFS]}$(sidedef 2)"
+    finds F6 "F6 seg 0: start vertex 9 isn't there (2 vertexes)" 1 0 SEGS "$(words 9 1 16384 0 0 0)$segs"
+    finds 'F6, end' "F6 seg 0: end vertex -5 isn't there (2 vertexes)" 1 0 SEGS "$(words 0 -5 16384 0 0 0)$segs"
+    finds F7 "F7 seg 0: linedef 9 isn't there (1 linedefs), $line" 1 0 SEGS "$(words 0 1 16384 9 0 0)$segs"
+    finds F8 "F8 seg 0: side 2 is neither 0 nor 1, $line" 1 0 SEGS "$(words 0 1 16384 0 2 0)$segs"
+    finds F9 "F9 seg 1: linedef 0 has no sidedef on side 1, $back" 1 0 LINEDEFS "$(words 0 1 1 0 0 0 -1)"
+    finds F10 "F10 ssector 1: segs from 1, 2 of them, aren't all there (2 segs), at (0, 64)" 1 0 SSECTORS "$(words 1 0 2 1)"
+    finds 'F10, a count below 0' "F10 ssector 1: segs from 1, -1 of them, aren't all there (2 segs), at (0, 64)" 1 0 \
+        SSECTORS "$(words 1 0 -1 1)"
+    finds 'F10, no first seg' "F10 ssector 1: segs from 9, 1 of them, aren't all there (2 segs)" 1 0 SSECTORS "$(words 1 0 1 9)"
+    finds 'F10, no start of the first seg' "$(two "F6 seg 1: start vertex 9 isn't there (2 vertexes)" \
+        "F10 ssector 1: segs from 1, 2 of them, aren't all there (2 segs)")" 2 0 \
+        SEGS "$(words 0 1 16384 0 0 0 9 0 -16384 0 1 0)" SSECTORS "$(words 1 0 2 1)"
+    flags=(--wide)
+    finds 'F3, wide' "F3 linedef 0: start vertex 65535 isn't there (2 vertexes)" 1 0 LINEDEFS "$(words -1 1 4 0 0 0 1)"
+    finds 'F4, wide' "F4 linedef 0: front sidedef 65534 isn't there (2 sidedefs), $line" 1 0 LINEDEFS "$(words 0 1 4 0 0 -2 1)"
+    finds 'F5, wide' "F5 sidedef 1: sector 65535 isn't there (2 sectors), of linedef 0" 1 0 SIDEDEFS "$(sidedef 0)$(sidedef -1)"
+    finds 'F6, wide' "F6 seg 0: end vertex 65531 isn't there (2 vertexes)" 1 0 SEGS "$(words 0 -5 16384 0 0 0)$segs"
+    finds 'F7, wide' "F7 seg 0: linedef 65535 isn't there (1 linedefs), $line" 1 0 SEGS "$(words 0 1 16384 -1 0 0)$segs"
+    finds 'F8, wide: a side stays as it is' "F8 seg 0: side -1 is neither 0 nor 1, $line" 1 0 SEGS "$(words 0 1 16384 0 -1 0)$segs"
+    finds 'F10, wide' "F10 ssector 1: segs from 1, 65535 of them, aren't all there (2 segs), at (0, 64)" 1 0 SSECTORS "$(words 1 0 -1 1)"
+    flags=()
+}
+
+# 32768 nodes of zeros: each names node 0 twice, and the last is the root.
+cases_of_many_nodes() {
+    local none='\x00'
+    while ((${#none} < 4 * 917504)); do none+=$none; done
+    flags=(--max 1)
+    finds F18 "$(two 'F13 node 0: named more than once, or the root and named, at (0, 0)' \
+        'F14 node 1: not reached from the root, at (0, 0)' 'F14: 32765 more' 'F16 ssector 0: not reached from the root, at (0, 0)' \
+        'F16: 1 more' 'F18 level: 32768 nodes, 32767 are the most' 'N7 node 0: without direction, at (0, 0)' 'N7: 32767 more')" \
+        32770 32768 NODES "${none:0:4*917504}"
+    flags=()
+}
+
+cases_of_notes() {
+    finds N2 'N2 lump 8: 1 bytes left over' 0 1 SECTORS "${own[SECTORS]}$(bytes 0)"
+    finds 'N2, of THINGS' 'N2 lump 1: 9 bytes left over' 0 1 THINGS "${own[THINGS]}$(bytes 1 2 3 4 5 6 7 8 9)"
+    finds N3 "N3 linedef 1: two-sided, without a back sidedef, $line" 0 1 LINEDEFS "$lines$(words 0 1 4 0 0 0 -1)"
+    finds N4 "N4 linedef 1: without a front sidedef, $line" 0 1 LINEDEFS "$lines$(words 0 1 1 0 0 -1 -1)"
+    finds N5 'N5 linedef 1: without length, from (0, 64) to (0, 64)' 0 1 LINEDEFS "$lines$(words 1 1 1 0 0 0 -1)"
+    finds N6 'N6 ssector 1: without segs, at (0, 64)' 0 1 SSECTORS "$(words 1 0 0 1)"
+    finds 'N6, no first seg' "$(two "F10 ssector 1: segs from 2, 0 of them, aren't all there (2 segs)" 'N6 ssector 1: without segs')" \
+        1 1 SSECTORS "$(words 1 0 0 2)"
+    finds N7 'N7 node 0: without direction, at (3, -4)' 0 1 NODES "$(node 3 -4 0 0 32768 32769)"
+    finds N8 'N8 level: REJECT has 0 bytes, 1 are wanted' 0 1 REJECT ''
+    finds N9 'N9 level: BLOCKMAP has 4 words, 5 are wanted' 0 1 BLOCKMAP "$(words -8 -8 1 1)"
+    finds 'N9, less than a head' 'N9 level: BLOCKMAP has 3 words, 4 are wanted' 0 1 BLOCKMAP "$(bytes 1 2 3 4 5 6 7)"
+    finds 'N9, as many blocks as there may be' 'N9 level: BLOCKMAP has 4 words, 1073676293 are wanted' 0 1 \
+        BLOCKMAP "$(words 0 0 32767 32767)"
+    finds N10 'N10 block (0, 0): its list has no end' 0 1 BLOCKMAP "$(words -8 -8 1 1 5 0 0)"
+    finds 'N10, outside' "N10 block (0, 0): its list isn't inside BLOCKMAP" 0 1 BLOCKMAP "$(words -8 -8 1 1 99 0 0 -1)"
+    finds 'N10, column and row' "N10 block (1, 0): its list isn't inside BLOCKMAP" 0 1 BLOCKMAP "$(words -8 -8 2 1 6 99 0 -1)"
+    finds 'N10, row and column' "N10 block (0, 1): its list isn't inside BLOCKMAP" 0 1 \
+        BLOCKMAP "$(words -8 -8 2 2 8 8 99 8 0 -1)"
+    finds N11 'N11 level: no player 1 start' 0 1 THINGS ''
+    finds N12 'N12 vertex 2: (16384, 0) is outside -16384 to 16383' 0 1 VERTEXES "$(words 0 0 0 64 16384 0)"
+    finds 'N12, of y' 'N12 vertex 2: (0, -16385) is outside -16384 to 16383' 0 1 VERTEXES "$(words 0 0 0 64 0 -16385)"
+}
+
+# A closed room, of which nothing is told: a square of one-sided linedefs, all starts in its middle.
+starts=$(for kind in 1 2 3 4 11 11 11 11; do words 32 32 0 $kind 7; done)
+walls=$(words 0 1 1 0 0 0 -1 1 2 1 0 0 1 -1 2 3 1 0 0 2 -1)
+room_sides=$(for side in 0 1 2 3; do printf '%s' "$(words 0 0)$(name8 -)$(name8 -)$(name8 WALL)$(words 0)"; done)
+closed=(THINGS "$starts" LINEDEFS "$walls$(words 3 0 1 0 0 3 -1)" SIDEDEFS "$room_sides"
+    VERTEXES "$(words 0 0 0 64 64 64 64 0)" SEGS "$(words 0 1 16384 0 0 0 1 2 0 1 0 0 2 3 -16384 2 0 0 3 0 -32768 3 0 0)"
+    SSECTORS "$(words 4 0)" NODES '' SECTORS "$(sector)")
+
+# warns NAME LINES COUNT [LUMP BYTES]...: what `check --map` tells of the sample level with these lumps, each line without its
+# path and level; then of that file `--strict` and a survey. `notes` are told first.
+notes=()
+warns() {
+    local line text='' status=0 codes='' code
+    for line in "${notes[@]}"; do text+="warned.wad: E1M1: $line\\n"; done
+    while read -r line; do [[ -z $line ]] || text+="warned.wad: E1M1: $line\\n"; done <<<"$2"
+    text+="1 levels in 1 files: 0 faults, ${#notes[@]} notes, $3 warnings, 0 not judged\\n"
+    level "${@:4}" >warned.wad
+    says "$1" 0 "$text" '' check --map --max 0 warned.wad
+    (($3 == 0)) || status=1
+    says "$1, strict" "$status" "$text" '' check --strict --max 0 --map warned.wad
+    for code in W1 W2 W3 W4 W5 W6 W7 W8; do
+        line=$(grep -c "^$code " <<<"$2")
+        ((line == 0)) || codes+=",\"$code\":$line"
+    done
+    run_on '' survey --map warned.wad
+    [[ $(<output) != *"},\"warnings\":{${codes#,}}}" ]] || : >output
+    judge "$1, surveyed" 0 '' ''
+    run_on '' survey --map --strict warned.wad
+    [[ $(<output) != *"},\"warnings\":{${codes#,}}}" ]] || : >output
+    judge "$1, surveyed strictly" "$status" '' ''
+}
+
+cases_of_warnings() {
+    local front='from (0, 0) to (0, 64)' back='from (0, 64) to (0, 0)' w1
+    w1=$(two "W1 sector 0: isn't closed, at (0, 0)" "W1 sector 0: isn't closed, at (0, 64)" \
+        "W1 sector 1: isn't closed, at (0, 0)" "W1 sector 1: isn't closed, at (0, 64)")
+    warns 'a closed room' '' 0 "${closed[@]}"
+    warns 'W1, W7 and W8 of the sample' "$(two "$w1" 'W7 level: no player 2 start' 'W8 level: 0 deathmatch starts')" 6
+    warns 'W1, of a linedef turned round' "$(two "W1 sector 0: isn't closed, at (0, 64)" "W1 sector 0: isn't closed, at (64, 64)")" 2 \
+        "${closed[@]}" LINEDEFS "$(words 0 1 1 0 0 0 -1 2 1 1 0 0 1 -1 2 3 1 0 0 2 -1 3 0 1 0 0 3 -1)"
+    notes=('N5 linedef 4: without length, from (64, 64) to (64, 64)')
+    warns 'W1, of a linedef from a vertex to itself: none' '' 0 "${closed[@]}" \
+        LINEDEFS "$walls$(words 3 0 1 0 0 3 -1)$(words 2 2 4 0 0 0 0)"
+    notes=()
+    cases_of_bare_walls
+    warns W3 'W3 thing 8: stands in the void, at (65, 32)' 1 "${closed[@]}" THINGS "$starts$(words 65 32 0 3001 7)"
+    warns 'W3, on the wall: none' '' 0 "${closed[@]}" THINGS "$starts$(words 64 32 0 3001 7)"
+    warns 'W3, past the range: none' '' 0 "${closed[@]}" THINGS "$starts$(words 16384 32 0 3001 7)"
+    warns W4 "W4 linedef 0: no sector has tag 7, $front" 1 "${closed[@]}" \
+        LINEDEFS "$(words 0 1 1 11 7 0 -1 1 2 1 0 0 1 -1 2 3 1 0 0 2 -1 3 0 1 0 0 3 -1)"
+    warns 'W4, without a special: none' '' 0 "${closed[@]}" \
+        LINEDEFS "$(words 0 1 1 0 7 0 -1 1 2 1 0 0 1 -1 2 3 1 0 0 2 -1 3 0 1 0 0 3 -1)"
+    warns W5 "$(two "$w1" 'W5 ssector 0: its segs face sectors 0 and 1, at (0, 0)')" 5 SSECTORS "$(words 2 0)" NODES '' \
+        THINGS "$(for kind in 1 2 3 4 11 11 11 11; do words 0 8 0 $kind 7; done)"
+    warns W6 "W6 linedef 4: lies on linedef 0, $back" 1 "${closed[@]}" LINEDEFS "$walls$(words 3 0 1 0 0 3 -1)$(words 1 0 4 0 0 0 0)"
+    warns 'W6, of other vertexes there' "W6 linedef 4: lies on linedef 0, $front" 1 "${closed[@]}" \
+        VERTEXES "$(words 0 0 0 64 64 64 64 0 0 0 0 64)" LINEDEFS "$walls$(words 3 0 1 0 0 3 -1)$(words 4 5 4 0 0 0 0)"
+    warns W7 'W7 level: no player 3 start' 1 "${closed[@]}" THINGS "$(for kind in 1 2 4 11 11 11 11; do words 32 32 0 $kind 7; done)"
+    warns W8 'W8 level: 3 deathmatch starts' 1 "${closed[@]}" THINGS "$(for kind in 1 2 3 4 11 11 11; do words 32 32 0 $kind 7; done)"
+    cases_of_warned_levels
+}
+
+# Walls without textures.
+cases_of_bare_walls() {
+    local front='from (0, 0) to (0, 64)' w1 all
+    w1=$(two "W1 sector 0: isn't closed, at (0, 0)" "W1 sector 0: isn't closed, at (0, 64)" \
+        "W1 sector 1: isn't closed, at (0, 0)" "W1 sector 1: isn't closed, at (0, 64)")
+    all=(THINGS "$(for kind in 1 2 3 4 11 11 11 11; do words 8 8 0 $kind 7; done)")
+    warns 'W2, middle' "W2 linedef 0: no middle texture in front, $front" 1 "${closed[@]}" \
+        SIDEDEFS "$(sidedef 0)${room_sides:120}"
+    warns 'W2, upper and lower in front' "$(two "$w1" "W2 linedef 0: no upper texture in front, $front" \
+        "W2 linedef 0: no lower texture in front, $front")" 6 "${all[@]}" SECTORS "$(sector_of 0 128 FLAT1)$(sector_of 8 120 FLAT1)"
+    warns 'W2, upper and lower at the back' "$(two "$w1" "W2 linedef 0: no upper texture at the back, $front" \
+        "W2 linedef 0: no lower texture at the back, $front")" 6 "${all[@]}" SECTORS "$(sector_of 8 120 FLAT1)$(sector_of 0 128 FLAT1)"
+    warns 'W2, front before back' "$(two "$w1" "W2 linedef 0: no upper texture in front, $front" \
+        "W2 linedef 0: no lower texture at the back, $front")" 6 "${all[@]}" SECTORS "$(sector_of 8 128 FLAT1)$(sector_of 0 120 FLAT1)"
+    warns 'W2, of the sky: none above' "$(two "$w1" "W2 linedef 0: no lower texture in front, $front")" 5 "${all[@]}" \
+        SECTORS "$(sector_of 0 128 F_SKY1)$(sector_of 8 120 F_SKY1)"
+    warns 'W2, of one sky' "$(two "$w1" "W2 linedef 0: no upper texture in front, $front")" 5 "${all[@]}" \
+        SECTORS "$(sector_of 0 128 F_SKY1)$(sector_of 0 120 FLAT1)"
+}
+
+# How many are shown, what stands behind them, and levels in which they aren't looked for.
+cases_of_warned_levels() {
+    local i few faulty two_levels
+    few=$(
+        for i in 0 64; do printf '%s' "base.wad: E1M1: W1 sector 0: isn't closed, at (0, $i)\\n"; done
+        printf '%s' 'base.wad: E1M1: W1: 2 more\n' 'base.wad: E1M1: W7 level: no player 2 start\n' \
+            'base.wad: E1M1: W8 level: 0 deathmatch starts\n'
+    )
+    says '--max of warnings' 0 "${few}1 levels in 1 files: 0 faults, 0 notes, 6 warnings, 0 not judged\\n" '' check --map --max 2 base.wad
+    faulty=$(
+        printf '%s' 'faulty.wad: E1M1: F9 seg 1: linedef 0 has no sidedef on side 1, from (0, 64) to (0, 0)\n' \
+            'faulty.wad: E1M1: N3 linedef 0: two-sided, without a back sidedef, from (0, 0) to (0, 64)\n'
+    )
+    says 'not looked for' 1 "${faulty}1 levels in 1 files: 1 faults, 1 notes, 0 warnings, 0 not judged\\n" '' check --map faulty.wad
+    two_levels="${few//base.wad/.\/base.wad}udmf.wad: MAP03: udmf: not read\\n"
+    two_levels+='2 levels in 2 files: 0 faults, 0 notes, 6 warnings, 1 not judged\n'
+    says 'a level that is not judged, too' 2 "$two_levels" '' check --map --max 2 ./base.wad udmf.wad
+    says '1 goes before 2, of a warning' 1 "$two_levels" '' check --map --strict --max 2 ./base.wad udmf.wad
+    many_segs
+    says 'before what the wide reading finds' 1 "$(
+        printf '%s' "wide.wad: E1M1: F10 ssector 1: segs from -32768, 1 of them, aren't all there (32769 segs)\\n" \
+            "${few//base.wad/wide.wad}" 'wide.wad: E1M1: sound with --wide\n' \
+            '1 levels in 1 files: 1 faults, 0 notes, 6 warnings, 0 not judged\n'
+    )" '' check --map --max 2 wide.wad
+    says 'surveyed, where they are not looked for' 1 \
+        '{"file":"faulty.wad","level":"E1M1","entry":0,"format":"doom",'"$counts"',"sound":false,"faults":1,"notes":1,"findings":{"F9":1,"N3":1},"warnings":{}}\n' \
+        '' survey --map faulty.wad
+    says 'surveyed, of another format' 2 '{"file":"udmf.wad","level":"MAP03","entry":0,"format":"udmf"}\n' '' survey --map udmf.wad
+}
+
+# not_judged NAME STATUS TEXT MEMBERS: what both commands tell of the level MAP01 of format.wad.
+not_judged() {
+    says "check: $1" "$2" "format.wad: MAP01: $3\\n1 levels in 1 files: 0 faults, 0 notes, 1 not judged\\n" '' check format.wad
+    says "survey: $1" "$2" '{"file":"format.wad","level":"MAP01","entry":0,"format":'"$4}\\n" '' survey format.wad
+}
+
+# begins LUMP TEXT: of the level in `parts` that lump begins with these bytes.
+begins() {
+    local i
+    for ((i = 0; i < ${#parts[@]}; i += 2)); do
+        [[ ${parts[i]} != "$1" ]] || parts[i + 1]=$2$(words 0 0 0 0)
+    done
+}
+
+cases_of_formats() {
+    local count tag parts
+    for ((count = 1; count < 10; count++)); do
+        lumps "$count"
+        pack MAP01 '' "${parts[@]}" >format.wad
+        not_judged "F1, ${usual[count]}" 1 "incomplete: no ${usual[count]} where it belongs" \
+            '"incomplete","lump":"'"${usual[count]}"'"'
+    done
+    lumps 10
+    renamed NODES NODEZ
+    renamed REJECT REJECTS
+    pack MAP01 '' "${parts[@]}" BEHAVIOR '' >format.wad
+    not_judged 'N1, before hexen' 1 'incomplete: no NODES where it belongs' '"incomplete","lump":"NODES"'
+    for tag in "${usual[@]}"; do
+        lumps 10
+        pack MAP01 '' "${parts[@]}" >format.wad
+        outside "$tag"
+        not_judged "F2, $tag" 1 "outside: $tag" '"outside","lump":"'"$tag"'"'
+    done
+    lumps 10
+    begins NODES '\x58\x4e\x4f\x44'
+    pack MAP01 '' "${parts[@]}" >format.wad
+    outside REJECT SEGS
+    not_judged 'F2, the first of two, before extended' 1 'outside: SEGS' '"outside","lump":"SEGS"'
+    pack MAP01 '' "${parts[@]}" BEHAVIOR '' >format.wad
+    outside SEGS
+    not_judged 'hexen, before outside' 2 'hexen: not read' '"hexen"'
+    pack MAP01 '' TEXTMAP '' "${parts[@]:2}" BEHAVIOR '' >format.wad
+    not_judged 'udmf, before incomplete' 2 'udmf: not read' '"udmf"'
+    cases_of_tags
+}
+
+cases_of_tags() {
+    local tag
+    for tag in XNOD ZNOD XGLN ZGLN XGL2 ZGL2 XGL3 ZGL3; do
+        lumps 10
+        if [[ $tag == ?NOD ]]; then begins NODES "$(name8 "$tag")"; else begins SSECTORS "$(name8 "$tag")"; fi
+        pack MAP01 '' "${parts[@]}" >format.wad
+        not_judged "extended, $tag" 2 "extended nodes $tag: not read" '"extended","tag":"'"$tag"'"'
+    done
+    lumps 10
+    begins NODES "$(name8 xNd4)"
+    begins SSECTORS "$(name8 XGLN)"
+    pack MAP01 '' "${parts[@]}" >format.wad
+    not_judged 'extended, both: that of NODES' 2 'extended nodes xNd4: not read' '"extended","tag":"xNd4"'
+    finds 'xNd4 and no four zeros' 'F12 node 0: origin (20088, 13412) is outside -16384 to 16383' 1 0 \
+        NODES "$(node 20088 13412 1 0 32768 32769)"
+}

@@ -1,0 +1,375 @@
+# Cases of pictures and atlases, which tests/wadlens runs.
+# shellcheck shell=bash disable=SC2034,SC2154  # what tests/wadlens sets and reads
+
+# drawn TITLE VIEW MATRIX SECTORS TWO-SIDED OTHERS MARKS: a picture of the sample level, in whose map the thing stands as it does there.
+drawn() {
+    local left top width height
+    read -r left top width height <<<"$2"
+    printf '%s' "<svg xmlns=\"http://www.w3.org/2000/svg\" viewBox=\"$2\">\\n<title>$1</title>\\n" \
+        '<style>path{vector-effect:non-scaling-stroke}.s{shape-rendering:crispEdges}.s path:hover{fill:#fb5}' \
+        '.w{fill:none;stroke:#eee;stroke-width:1.5}.t{fill:none;stroke:#778;stroke-width:.7}' \
+        '.f{fill:none;stroke:#f33;stroke-width:4}.p{fill:#5cf}.p:hover{fill:#fff}</style>\n' \
+        "<rect x=\"$left\" y=\"$top\" width=\"$width\" height=\"$height\" fill=\"#14161a\"/>\\n" \
+        "<g class=\"s\" transform=\"matrix($3)\">\\n$4</g><g transform=\"matrix(1 0 0 -1 0 0)\">\\n" \
+        "<path class=\"t\" d=\"$5\"/>\\n<path class=\"w\" d=\"$6\"/>\\n$7" \
+        '<circle class="p" cx="8" cy="8" r="12"><title>thing 0: type 1, angle 0, flags 7</title></circle>\n</g></svg>\n'
+}
+
+# shaded SECTOR BLOCKS CELLS: the path of a sector of the sample level.
+shaded() {
+    printf '<path fill="#7f7f93" d="%s"><title>sector %s: floor 0 FLAT1, ceiling 128 FLAT1' "$2" "$1"
+    printf ', light 160, special 0, tag 0, %s cells</title></path>\\n' "$3"
+}
+
+# marked LINE TEXT: the line of a finding.
+marked() { printf '<path class="f" d="%s"><title>%s</title></path>\\n' "$1" "$2"; }
+
+# The sample level: of its one linedef, from (0, 0) to (0, 64), all 65 points lie on its left, in sector 1.
+pictures() {
+    usual_view='-32 -96 64 128' usual_matrix='1 0 0 -1 0 0' line='M0 0L0 64'
+    whole=$(drawn 'E1M1: faults 0 notes 0' "$usual_view" "$usual_matrix" "$(shaded 1 'M0 0h1v65h-1z' 65)" "$line" '' '')
+    # Without its left side: seg 1 has no sidedef, and the linedef says that it has two sides.
+    half=$(drawn 'E1M1: faults 1 notes 1' "$usual_view" "$usual_matrix" '' '' "$line" \
+        "$(marked 'M0 64L0 0' "F9 1 seg's linedef has no side there")$(marked "$line" 'N3 0 two-sided flag without side 1')")
+    # A second linedef has an end that isn't there: it isn't drawn.
+    level LINEDEFS "$(words 0 1 4 0 0 0 1 0 9 4 0 0 0 1)" >torn.wad
+    level LINEDEFS "$(words 0 9 4 0 0 0 1)" >nothing.wad
+}
+
+cases_of_picture() {
+    local parts tag usual_view usual_matrix line whole half many=() framed
+    pictures
+    says 'picture' 0 "$whole" '' picture E1M1 base.wad
+    says 'picture: small letters' 0 "$whole" '' picture e1m1 base.wad
+    says 'picture: --wide' 0 "$whole" '' picture --wide E1M1 base.wad
+    says 'picture: as many cells as are usual' 0 "$whole" '' picture --cells 512 E1M1 base.wad
+    says 'picture: 65 cells' 0 "$whole" '' picture --cells 65 E1M1 base.wad
+    # The point of a cell of 2 units is a unit from its lower left corner, and so on the line's right.
+    says 'picture: 64 cells' 0 "$(drawn 'E1M1: faults 0 notes 0' "$usual_view" '2 0 0 -2 0 0' \
+        "$(shaded 0 'M0 0h1v33h-1z' 33)" "$line" '' '')" '' picture E1M1 base.wad --cells 64
+    says 'picture: 8 cells' 0 "$(drawn 'E1M1: faults 0 notes 0' "$usual_view" '9 0 0 -9 0 0' \
+        "$(shaded 0 'M0 0h1v8h-1z' 8)" "$line" '' '')" '' picture --cells=8 E1M1 base.wad
+    says 'picture: a cell' 0 "$(drawn 'E1M1: faults 0 notes 0' "$usual_view" '65 0 0 -65 0 0' \
+        "$(shaded 0 'M0 0h1v1h-1z' 1)" "$line" '' '')" '' picture --cells 1 E1M1 base.wad
+    framed=$(drawn 'E1M1: faults 0 notes 0' '-52 -122 184 184' '1 0 0 -1 -20 30' \
+        "$(shaded 0 'M21 0h100v121h-100z' 12100)$(shaded 1 'M0 0h21v121h-21z' 2541)" "$line" '' '')
+    says 'picture: a frame' 0 "$framed" '' picture --frame -20,-30,100,90 E1M1 base.wad
+    says 'picture: a frame, after =' 0 "$framed" '' picture E1M1 --frame=-20,-30,100,90 base.wad
+    says 'picture: a frame of one point' 0 "$(drawn 'E1M1: faults 0 notes 0' '-27 -37 64 64' '1 0 0 -1 5 -5' \
+        "$(shaded 0 'M0 0h1v1h-1z' 1)" "$line" '' '')" '' picture --frame 5,5,5,5 --cells 1024 E1M1 base.wad
+    # 65536 units, in cells of 64, of which those from -16384 to 16383 show something.
+    says 'picture: the greatest frame' 0 "$(drawn 'E1M1: faults 0 notes 0' '-32800 -32799 65599 65599' '64 0 0 -64 -32768 32768' \
+        "$(shaded 0 'M512 256h256v512h-256z' 131072)$(shaded 1 'M256 256h256v512h-256z' 131072)" "$line" '' '')" '' \
+        picture --frame -32768,-32768,32767,32767 --cells 1024 E1M1 base.wad
+    says 'picture: a level with a fault' 1 "$half" '' picture E1M1 faulty.wad
+    says 'picture: a later file hides an earlier one' 1 "$half" '' picture E1M1 base.wad faulty.wad
+    says 'picture: and the other way round' 0 "$whole" '' picture E1M1 faulty.wad base.wad
+    says 'picture: a linedef with one end' 1 "$(drawn 'E1M1: faults 1 notes 0' "$usual_view" "$usual_matrix" '' "$line" '' '')" '' \
+        picture E1M1 torn.wad
+    says 'picture: nothing to draw' 2 '' 'wadlens: E1M1: nothing to draw\n' picture E1M1 nothing.wad
+    says 'picture: nothing to draw, in a frame' 1 "$(drawn 'E1M1: faults 1 notes 0' "$usual_view" "$usual_matrix" '' '' '' '')" '' \
+        picture --frame 0,0,0,64 E1M1 nothing.wad
+    level SECTORS "$(sector)$(words 0 128)$(name8 '<&>"')$(name8 FLAT1)$(words 300 -1 7)" >marked.wad
+    says 'picture: no name makes markup' 0 "$(drawn 'E1M1: faults 0 notes 0' "$usual_view" "$usual_matrix" '<path fill="#b4b4c8" d="M0 0h1v65h-1z"><title>sector 1: floor 0 &lt;&amp;&gt;&quot;, ceiling 128 FLAT1, light 300, special -1, tag 7, 65 cells</title></path>\n' \
+        "$line" '' '')" '' picture E1M1 marked.wad
+    lumps 10
+    pack $'<A&"\\' '' "${parts[@]}" >label.wad
+    # shellcheck disable=SC1003  # a backslash at the end of a word
+    says 'picture: no label makes markup' 0 "$(drawn '&lt;A&amp;&quot;\\x5c: faults 0 notes 0' "$usual_view" "$usual_matrix" \
+        "$(shaded 1 'M0 0h1v65h-1z' 65)" "$line" '' '')" '' picture '<a&"\' label.wad
+    says 'picture: no such level' 2 '' 'wadlens: e1m9: no level of this name\n' picture e1m9 base.wad
+    says 'picture: an empty name' 2 '' 'wadlens: : no level of this name\n' picture '' base.wad
+    says 'picture: no level in no entries' 2 '' 'wadlens: E1M1: no level of this name\n' picture E1M1 empty.wad
+    says 'picture: incomplete' 1 '' 'wadlens: MAP01: incomplete: no BLOCKMAP where it belongs\n' picture MAP01 hole.wad
+    says 'picture: no level at its label' 1 '' 'wadlens: things: incomplete: no THINGS where it belongs\n' picture things base.wad
+    says 'picture: the last entry' 1 '' 'wadlens: BLOCKMAP: incomplete: no THINGS where it belongs\n' picture BLOCKMAP base.wad
+    says 'picture: hexen' 2 '' 'wadlens: MAP01: hexen: not read\n' picture MAP01 hexen.wad
+    says 'picture: udmf' 2 '' 'wadlens: MAP03: udmf: not read\n' picture MAP03 udmf.wad
+    says 'picture: extended' 2 '' 'wadlens: E1M1: extended nodes XNOD: not read\n' picture E1M1 extended.wad
+    for tag in THINGS BLOCKMAP; do
+        lumps 10
+        pack MAP01 '' "${parts[@]}" >format.wad
+        outside "$tag"
+        says "picture: outside, $tag" 1 '' "wadlens: MAP01: outside: $tag\\n" picture MAP01 format.wad
+    done
+    cases_of_picture_files
+    cases_of_picture_words
+}
+
+cases_of_picture_files() {
+    local kind text full="wadlens: standard output can't be written\\n" pipe
+    while read -r kind text; do
+        says "picture: $kind" 2 '' "$(told "$kind" "$text")" picture E1M1 "$kind"
+        says "picture: $kind behind others" 2 '' "$(told "$kind" "$text")" picture E1M1 base.wad "$kind" base.wad
+    done <<END
+no.wad can't be opened
+folder can't be read
+none.wad shorter than a WAD header
+magic.wad not a WAD file: it begins with neither IWAD nor PWAD
+count.wad a negative count of lumps
+cut.wad its directory isn't inside the file
+END
+    says 'picture: the first refused file alone is told' 2 '' "$(told none.wad 'shorter than a WAD header')" \
+        picture E1M1 none.wad magic.wad
+    says 'picture: all files are read before their directories' 2 '' "$(told no.wad "$missing")" picture E1M1 none.wad no.wad
+    says 'picture: a path that begins with -, after --' 0 "$whole" '' picture E1M1 -- -x.wad
+    for ((i = 0; i < 64; i++)); do many+=(base.wad); done
+    says 'picture: 64 files' 0 "$whole" '' picture E1M1 "${many[@]}"
+    mistaken 'picture: 65 files' '64 files' picture E1M1 "${many[@]}" base.wad
+    ends 'picture: a full disk' 2 "$full" picture E1M1 base.wad >/dev/full
+    exec {pipe}> >(:)
+    wait $!
+    ends 'picture: a closed pipe' 0 '' picture E1M1 base.wad >&"$pipe"
+    ends 'picture: a closed pipe, a level with a fault' 1 '' picture E1M1 faulty.wad >&"$pipe"
+    lumps 10
+    large_lines
+    ends 'picture: a closed pipe within the text' 0 '' picture MAP04 large.wad >&"$pipe"
+    ends 'picture: a closed pipe within the text, and a fault' 1 '' picture MAP05 large.wad >&"$pipe"
+    exec {pipe}>&-
+    ends 'picture: a full disk within the text' 2 "$full" picture MAP04 large.wad >/dev/full
+    memory=200000
+    cp empty.wad most.wad
+    truncate -s 268435456 most.wad
+    says 'picture: no memory for a file' 3 '' 'wadlens: no memory left\n' picture E1M1 base.wad most.wad
+    memory=''
+    rm most.wad
+}
+
+# large.wad: levels whose pictures don't fit into the program's buffer, MAP05 with a fault.
+large_lines() {
+    local i lines whole
+    lines=$(words 1 1 1 0 0 0 -1)
+    for ((i = 1; i < 4000; i *= 2)); do lines+=$lines; done
+    parts[3]=${own[LINEDEFS]}$lines
+    whole=("${parts[@]}")
+    parts[3]+=$(words 1 1 1 0 0 9 -1)
+    pack MAP04 '' "${whole[@]}" MAP05 '' "${parts[@]}" >large.wad
+}
+
+cases_of_picture_words() {
+    local word
+    mistaken 'picture alone' 'NAME' picture
+    mistaken 'picture: no file' 'FILE' picture E1M1
+    for word in 0 1025 -1 x ''; do mistaken "picture: --cells=$word" '--cells' picture "--cells=$word" E1M1 base.wad; done
+    mistaken 'picture: --cells apart' '0' picture --cells 0 E1M1 base.wad
+    for word in 1,2,3 1,2,3,4,5 1,2,3,x 5,0,4,0 0,5,0,4 0,0,32768,0 -32769,0,0,0 '' 1; do
+        mistaken "picture: --frame $word" '--frame' picture --frame "$word" E1M1 base.wad
+    done
+    mistaken 'picture: --frame twice' '--frame' picture --frame 0,0,1,1 --frame 0,0,1,1 E1M1 base.wad
+    mistaken 'picture: --max' "unexpected argument '--max'" picture --max 3 E1M1 base.wad
+    tells '--help of picture' '--frame <X0,Y0,X1,Y1>' picture --help
+}
+
+# Pictures of Freedoom 0.12.1's levels, where these are (FREEDOOM names their folder), by the sums of what a script made of the
+# answers of `show`, `audit` and `points`.
+cases_of_drawn_games() {
+    local wad name sum games=${FREEDOOM:-/usr/share/games/doom}
+    if [[ ! -e $games/freedoom1.wad || ! -e $games/freedoom2.wad ]]; then
+        printf 'skipped, as there are no freedoom1.wad and freedoom2.wad in %s: pictures of levels\n' "$games"
+        return
+    fi
+    while read -r wad name sum; do
+        run_on '' picture "$name" "$games/$wad"
+        sha256sum <output | head -c 64 >sum
+        mv sum output
+        judge "picture: $name" 0 "$sum" ''
+    done <<'END'
+freedoom1.wad E3M7 418e5a0335d958ebf733b29c1eba17700a0928f9d325e1e7bff2e840e58b6c09
+freedoom2.wad MAP01 80d3f2f215c6223512327b3d30ac884a1ac6500f69d633057854d0aa9a35a2e7
+freedoom2.wad MAP12 1cc8fff01f415f775a81b36ffcb130b6f9b25ca77434fccdc9c6997ceadcd874
+freedoom2.wad MAP28 d35035801b7513df40f4087ccd998b67453f3545c3156d8c8d088cab14ea1970
+END
+}
+
+# atlas_of NAME STATUS ERROR FILES WORD...: `atlas` into the folder `atlas`. Standard output stays empty, and then the folder
+# has these files.
+atlas_of() {
+    run_on '' atlas --out atlas "${@:5}"
+    ls -A atlas >>output
+    judge "$1" "$2" "${4:+${4// /\\n}\\n}" "$3"
+}
+
+# into_new NAME..: the same, where the folder isn't there.
+into_new() {
+    rm -rf atlas
+    atlas_of "$@"
+}
+
+# has NAME FILE TEXT: a file of the folder has exactly this text.
+has() {
+    printf '%b' "$3" >wanted
+    : >output
+    : >error
+    cmp wanted "atlas/$2" >>output 2>&1
+    printf '%s' $? >status
+    judge "$1" 0 '' ''
+}
+
+# shows NAME FILE TEXT...: a file of the folder has these texts, in this order.
+shows() {
+    local rest text
+    rest=$(<"atlas/$2")
+    : >output
+    : >error
+    for text in "${@:3}"; do
+        [[ $rest == *"$text"* ]] || printf 'no %s\n' "$text" >>output
+        rest=${rest#*"$text"}
+    done
+    printf 0 >status
+    judge "$1" 0 '' ''
+}
+
+# map VIEW SIZE SHOWN [LEVEL]: the picture of the sample level, with what its cells show.
+map() {
+    cat <<END
+<svg xmlns="http://www.w3.org/2000/svg" viewBox="-32 -96 64 128">
+<title>${4-E1M1}: faults 0 notes 0</title>
+<style>path{vector-effect:non-scaling-stroke}.s{shape-rendering:crispEdges}.s path:hover{fill:#fb5}.w{fill:none;stroke:#eee;stroke-width:1.5}.t{fill:none;stroke:#778;stroke-width:.7}.f{fill:none;stroke:#f33;stroke-width:4}.p{fill:#5cf}.p:hover{fill:#fff}</style>
+<rect x="-32" y="-96" width="64" height="128" fill="#14161a"/>
+<g class="s" transform="matrix($1 0 0 -$1 0 0)">
+<path fill="#7f7f93" d="$2 floor 0 FLAT1, ceiling 128 FLAT1, light 160, special 0, tag 0, $3 cells</title></path>
+</g><g transform="matrix(1 0 0 -1 0 0)">
+<path class="t" d="M0 0L0 64"/>
+<path class="w" d=""/>
+<circle class="p" cx="8" cy="8" r="12"><title>thing 0: type 1, angle 0, flags 7</title></circle>
+</g></svg>
+END
+}
+
+# The folder is refused, and nothing in it or beside it is touched; no file is read.
+cases_of_folders() {
+    local text="it isn't empty"
+    mkdir atlas
+    cp base.wad atlas
+    atlas_of 'atlas: a folder with a file' 2 "$(told atlas "$text")" base.wad no.wad
+    mv atlas/base.wad atlas/.hidden
+    atlas_of 'atlas: a folder with a hidden file' 2 "$(told atlas "$text")" .hidden no.wad
+    rm -r atlas
+    cp base.wad atlas
+    atlas_of 'atlas: a file' 2 "$(told atlas "it isn't a folder")" atlas no.wad
+    rm atlas
+    says 'atlas: no folder above it' 2 '' "$(told none/atlas "the folder above it isn't there")" atlas --out none/atlas no.wad
+    ln -s none atlas
+    says 'atlas: a link to nothing' 2 '' "$(told atlas "it can't be made")" atlas --out atlas no.wad
+    rm atlas
+    if ((EUID)); then
+        mkdir -m 555 shut
+        says 'atlas: a folder that takes no folder' 2 '' "$(told shut/atlas "it can't be made")" atlas --out shut/atlas base.wad
+        says 'atlas: a folder that takes no file' 2 '' "$(told shut "a file in it can't be written")" atlas --out shut base.wad
+        chmod 311 shut
+        says 'atlas: a folder that may not be read' 2 '' "$(told shut "it can't be read")" atlas --out shut base.wad
+        chmod 755 shut
+        rmdir shut
+    fi
+    mkdir atlas
+    atlas_of 'atlas: an empty folder' 0 '' '1-0.svg index.html survey.jsonl' base.wad
+    rm -r atlas
+    mkdir inner
+    ln -s inner atlas
+    atlas_of 'atlas: a link to an empty folder' 0 '' '1-0.svg index.html survey.jsonl' base.wad
+    rm -r inner atlas
+    says 'atlas: a list that is refused' 2 '' "$(told no.list "$missing")" atlas --out atlas --files-from no.list base.wad
+    says 'atlas: .. before the folder is made' 0 '' '' survey empty.wad
+    [[ ! -e atlas ]] || printf 'there is a folder\n' >output
+    judge 'atlas: .. and there is none' 0 '' ''
+}
+
+# A file that can't be written, a run that is killed, want of memory: no page, and no other file that isn't whole.
+cases_of_no_page() {
+    local text pid kib _
+    text=$(told atlas "a file in it can't be written")
+    for kib in 0 1; do
+        rm -rf atlas
+        # A pipe takes what is told, as no file has room for it.
+        (
+            trap '' XFSZ
+            ulimit -f "$kib"
+            exec timeout 60 "$program" atlas --out atlas faulty.wad base.wad
+        ) 2>&1 >output | cat >error
+        printf '%s' "${PIPESTATUS[0]}" >status
+        ls -A atlas >>output
+        # In 1024 bytes there is room for a picture and the survey of two levels, and none for the page.
+        judge "atlas: a disk with room for $kib KiB" 2 "$( ((kib == 0)) || printf '%s' '1-0.svg\n2-0.svg\nsurvey.jsonl\n')" "$text"
+    done
+    rm -rf atlas
+    mkfifo waits
+    "$program" atlas --out atlas base.wad waits &
+    pid=$!
+    for _ in {1..200}; do
+        [[ ! -e atlas/1-0.svg ]] || break
+        sleep 0.05
+    done
+    kill -9 $pid
+    wait $pid 2>killed
+    ls -A atlas >output
+    printf 0 >status
+    : >error
+    judge 'atlas: a run that is killed' 0 '1-0.svg\nsurvey.jsonl.part\n' ''
+    rm waits
+    local memory=200000
+    cp empty.wad most.wad
+    truncate -s 268435456 most.wad
+    into_new 'atlas: no memory for a file' 3 'wadlens: no memory left\n' 1-0.svg base.wad most.wad
+    memory=400000
+    into_new 'atlas: memory of one file at a time' 0 '' 'index.html survey.jsonl' most.wad most.wad most.wad
+    rm most.wad
+}
+
+cases_of_atlas() {
+    local parts name none='shorter than a WAD header'
+    cases_of_folders
+    into_new 'atlas: a level' 0 '' '1-0.svg index.html survey.jsonl' base.wad
+    has 'atlas: its picture' 1-0.svg "$(map 1 'M0 0h1v65h-1z"><title>sector 1:' 65)\n"
+    has 'atlas: its survey' survey.jsonl "$(sound base.wad E1M1 0)"
+    shows 'atlas: its page' index.html '<title>Atlas: 1 levels in 1 files</title>' '<li class="sound">' \
+        '<a class="map" href="1-0.svg"><img loading="lazy" src="1-0.svg" alt="map of E1M1"></a>' '<h2>E1M1</h2>' base.wad \
+        'entry 0, doom' '<b>1</b> linedefs' '<b>2</b> sidedefs' '</html>'
+    into_new 'atlas: --cells' 0 '' '1-0.svg index.html survey.jsonl' --cells 1 base.wad
+    has 'atlas: a picture of one cell' 1-0.svg "$(map 65 'M0 0h1v1h-1z"><title>sector 0:' 1)\n"
+    into_new 'atlas: several files and levels' 1 "$(told none.wad "$none")$(told no.wad "$missing")" \
+        '1-0.svg 1-11.svg 4-0.svg 6-0.svg index.html survey.jsonl' hidden.wad none.wad hole.wad faulty.wad no.wad base.wad
+    for name in hidden none hole faulty no base; do parts+=("$name.wad"); done
+    timeout 60 "$program" survey "${parts[@]}" >survey.told 2>error
+    has 'atlas: the survey of refused files, too' survey.jsonl "$(<survey.told)\n"
+    shows 'atlas: faults first' index.html '5 levels in 6 files' none.wad "$none" no.wad "$missing" hole.wad \
+        'incomplete: no BLOCKMAP where it belongs' faulty.wad '1-0.svg' '1-11.svg' '6-0.svg'
+    level LINEDEFS '' >bare.wad
+    into_new 'atlas: a level with nothing to draw' 1 '' 'index.html survey.jsonl' bare.wad
+    shows 'atlas: its row' index.html '<p class="map">no picture</p>' '<h2>E1M1</h2>' '<b>0</b> linedefs'
+    into_new 'atlas: levels that are not judged' 2 '' 'index.html survey.jsonl' hexen.wad udmf.wad extended.wad
+    shows 'atlas: their rows' index.html 'hexen: not read' 'udmf: not read' 'extended nodes XNOD: not read'
+    lumps 10
+    pack '<i>&"' '' "${parts[@]}" >'<b>&".wad'
+    into_new 'atlas: names that are markup' 0 '' '1-0.svg index.html survey.jsonl' '<b>&".wad'
+    shows 'atlas: .. on the page' index.html 'alt="map of &lt;i&gt;&amp;&quot;"' '<h2>&lt;i&gt;&amp;&quot;</h2>' \
+        '&lt;b&gt;&amp;&quot;.wad'
+    has 'atlas: .. and in the picture' 1-0.svg \
+        "$(map 1 'M0 0h1v65h-1z"><title>sector 1:' 65 '&lt;i&gt;&amp;&quot;')\n"
+    into_new 'atlas: the wide reading' 1 '' '1-0.svg index.html survey.jsonl' --wide faulty.wad
+    cases_of_lists_of_atlas
+    cases_of_no_page
+    mistaken 'atlas alone' '--out <FOLDER>' atlas
+    mistaken 'atlas without a folder' '--out <FOLDER>' atlas base.wad
+    mistaken 'atlas without files' 'FILE' atlas --out atlas
+    mistaken 'atlas: no cells' '--cells' atlas --out atlas --cells 0 base.wad
+    mistaken 'atlas: too many cells' '--cells' atlas --out atlas --cells 1025 base.wad
+    mistaken 'atlas: a number of cells that is none' 'many' atlas --out atlas --cells many base.wad
+    mistaken '--max of atlas' "unexpected argument '--max'" atlas --out atlas --max 3 base.wad
+}
+
+cases_of_lists_of_atlas() {
+    : >empty.list
+    into_new 'atlas: an empty list' 0 '' 'index.html survey.jsonl' --files-from empty.list
+    shows 'atlas: its page of no level' index.html '<title>Atlas: 0 levels in 0 files</title>'
+    printf 'two\nlines.wad\0' >nul.list
+    into_new 'atlas: a file, and a list of NULs' 0 '' '1-0.svg 2-0.svg index.html survey.jsonl' --null --files-from nul.list base.wad
+    into_new 'atlas: --progress' 2 \
+        "\\r1 files, 1 levels\\r\\x1b[K$(told none.wad 'shorter than a WAD header')\\r2 files, 1 levels\\n" \
+        '1-0.svg index.html survey.jsonl' --progress base.wad none.wad
+    rm -rf atlas
+    timeout 60 "$program" atlas --out atlas none.wad >output 2>/dev/full
+    printf '%s' $? >status
+    : >error
+    ls -A atlas >>output
+    judge 'atlas: a full standard error' 2 '' ''
+}

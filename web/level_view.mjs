@@ -201,19 +201,19 @@ export class LevelView {
     const { asked, level } = this, mine = ++this.pins, began = performance.now();
     if (!asked || !level || level.format !== 'doom') return;
     this.map.pin({ x, y });
-    const told = await this.desk.ask('pin', { ...asked, x, y }).catch((error) => ({ point: wordsOf(error), block: '' }));
+    const [point, block] = ['points', 'blocks'].map((word) => this.desk.ask('pin', { ...asked, word, x, y }).catch(wordsOf));
+    const line = await point, sector = /^-?\d+ -?\d+ sector (\d+) /.exec(line)?.[1];
     if (mine !== this.pins) return;
     get('point').dataset.ms = (performance.now() - began).toFixed(1); // for the tests
     get('point').hidden = get('unpin').hidden = false;
     get('point-none').hidden = true;
-    get('point-line').textContent = this.#inWords(told.point, x, y);
-    const list = this.#tellBlock(told.block), sector = /^-?\d+ -?\d+ sector (\d+) /.exec(told.point)?.[1];
+    get('point-line').textContent = this.#inWords(line, x, y);
     this.#rest();
     get('legend').hidden = sector === undefined || !this.map.picture;
     get('point-clear').textContent = get('point-blocked').textContent = sector === undefined ? 'not told' : '';
     if (sector === undefined) this.map.sight(-1, []); else this.#sight(Number(sector), mine);
-    const ends = await this.#linedefs();
-    if (mine === this.pins) this.map.showBlock(list, ends);
+    const told = await block, ends = await this.#linedefs();
+    if (mine === this.pins) this.map.showBlock(this.#tellBlock(told), ends);
   }
 
   /** @param {string} line @param {number} x @param {number} y */

@@ -45,10 +45,12 @@ const pathOf = (f) => f.file.name.replace(/^-/, './-');
 /** @type {ListBox<OpenFile>} */
 const files = new ListBox(get('files'), (f) => {
   const held = [sizeOf(f.file.size), f.heads.count && plural(f.heads.count, 'level'), f.kind !== 'demo' && f.demos.count && plural(f.demos.count, 'demo')];
+  const more = make('span', 'row-more', f.refused || held.filter(Boolean).join(' · '));
+  more.title = f.refused; // where it is cut off
   return [
     make('span', 'row-name', f.file.name),
     make('span', `row-state${f.refused ? ' fault' : ''}`, f.refused ? 'refused' : f.kind || 'reading'),
-    make('span', 'row-more', f.refused || held.filter(Boolean).join(' · ')),
+    more,
   ];
 }, (f) => {
   chooseFile(f);
@@ -135,7 +137,7 @@ const levels = new ListBox(get('levels'), ({ level }) => {
   const isFault = faults || format === 'incomplete' || format === 'outside';
   const more = doom ? `${level.linedefs} linedefs · ${level.sectors} sectors · ${level.things} things` : format ? notJudged(level) : `entry ${level.entry}`;
   return [
-    make('span', 'row-name', level.level, ' ', make('span', 'format', format ?? '')),
+    make('span', 'row-name level-name', make('span', '', level.level), ...(format ? [' ', make('span', 'format', format)] : [])),
     make('span', `row-state${isFault ? ' fault' : level.notes || codes.length ? ' noted' : ''}`, told),
     make('span', 'row-more', more),
   ];
@@ -189,7 +191,7 @@ function tellNone(f, count, listed) {
     showLevels(true);
   });
   told.hidden = listed > 0 && !f.stopped;
-  told.replaceChildren(...(!count ? ['No levels in this file.'] : f.stopped ? ['Stopped before all levels were judged. ', goOn] : ['No level matches.']));
+  told.replaceChildren(...(f.refused ? [`Refused: ${f.refused}.`] : !count ? ['No levels in this file.'] : f.stopped ? ['Stopped before all levels were judged. ', goOn] : ['No level matches.']));
 }
 
 /** @param {number} k */

@@ -212,12 +212,11 @@ const jobs = {
     return endsOf((await ask(['show', ...reading(asked), name, 'f'], [named], undefined, 65536 + 2 * named.length)).answer);
   },
 
-  /** The lines of `points` and `blocks` at a place, or why there are none. @param {AskedLevel & { x: number, y: number }} asked */
+  /** The line of `points` or of `blocks` at a place, or why there is none. @param {AskedLevel & { word: string, x: number, y: number }} asked */
   async pin(asked) {
-    const { named, name } = await alone(asked), at = utf8(`${asked.x} ${asked.y}\n`);
-    const point = await ask(['points', ...reading(asked), name, 'f'], [named], at);
-    const block = await ask(['blocks', ...reading(asked), name, 'f'], [named], at);
-    return { point: firstLine(point) || point.refused, block: firstLine(block) || block.refused };
+    const { named, name } = await alone(asked);
+    const told = await ask([asked.word, ...reading(asked), name, 'f'], [named], utf8(`${asked.x} ${asked.y}\n`));
+    return firstLine(told) || told.refused;
   },
 
   /** What `sight` says of each sector, from one. @param {AskedLevel & { sector: number, sectors: number }} asked */

@@ -39,13 +39,13 @@ async function keep({ browser, pictures }, name) {
 /** @param {Given} given */
 async function levels(given) {
   const { browser, games, check, programs: { wadlook, wadlens } } = given, file = join(games, 'freedoom2.wad');
-  const native = timeOf(() => execFileSync(wadlens, ['survey', file]));
+  const native = timeOf(() => execFileSync(wadlens, ['survey', '--map', file]));
   tell('a file of 28 MB to the list of its levels', await timed(given, () => browser.drop(file), "document.querySelector('#levels-count').textContent === '32'"), native);
   tell('until all are judged', await timed(given, async () => {}, "document.querySelector('#levels .row-state').textContent !== '…'"), native);
   await browser.until("document.querySelector('#map').dataset.drawn");
   await level(given, 'MAP12');
   tell('MAP12, from the click to its picture', await timed(given, () => browser.press('#levels .row'), "document.querySelector('#map').dataset.drawn === 'MAP12'"),
-    timeOf(() => execFileSync(wadlook, ['audit', 'MAP12', file])));
+    timeOf(() => execFileSync(wadlens, ['picture', 'MAP12', file], { maxBuffer: 1 << 28 })));
   const [x, y] = await browser.middle('#map'), times = [], lines = [];
   for (const [dx, dy] of [[-60, 40], [30, -80], [90, 90], [-140, -30], [10, 10]]) {
     await browser.run("delete document.querySelector('#point').dataset.ms");

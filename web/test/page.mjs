@@ -99,11 +99,14 @@ async function files() {
   check('each file, its kind or why it was refused', await textsOf('#files .row-state'), ['PWAD', 'refused', 'demo', 'refused']);
   check('a refusal in words', (await textsOf('#files .row-more'))[1], 'not a WAD file: it begins with neither IWAD nor PWAD');
   check('another', (await textsOf('#files .row-more'))[3], 'shorter than a WAD header');
+  await pick('files', 'notes.txt');
+  check('what a refused file holds', await textOf('#levels-none'), 'Refused: not a WAD file: it begins with neither IWAD nor PWAD.');
   check('what a file holds', (await textsOf('#files .row-more'))[0].split(' · ').slice(1), ['2 levels', '1 demo']);
   await fresh();
   await browser.choose('#file', roomsFile, join(room, 'walk.lmp'));
   await browser.until("document.querySelectorAll('#files .row').length === 2 && !document.querySelector('#files').textContent.includes('reading')", 'two files');
   check('files that are chosen', await textsOf('#files .row-name'), ['rooms.wad', 'walk.lmp']);
+  await drawn('MAP01');
 }
 
 async function levels() {

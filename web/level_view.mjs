@@ -87,6 +87,7 @@ export class LevelView {
     this.svg = null;
     this.ends = undefined;
     this.unpin();
+    this.#legend('found', false);
     this.map.show(null);
     for (const name of ['drawn', 'fine', 'paths']) delete get('map').dataset[name];
     this.#none(why);
@@ -177,8 +178,18 @@ export class LevelView {
   /** Marks the places of the first findings that are listed. */
   async #mark() {
     const { asked, findings } = this, places = [];
-    for (let k = 0; k < Math.min(MARKED, findings.count); k++) places.push(await this.#placeOf(findings.item(k)));
-    if (this.asked === asked) this.map.markAll(places.flatMap((place) => place ? [place] : []));
+    for (let k = 0; k < Math.min(MARKED, findings.count); k++) {
+      const finding = findings.item(k), at = await this.#placeOf(finding);
+      if (at) places.push({ at, title: `${finding.code} ${finding.where}: ${finding.message.replace(/, (?:from|at) \(.*$/, '')}` });
+    }
+    if (this.asked !== asked) return;
+    this.map.markAll(places);
+    this.#legend('found', places.length > 0);
+  }
+
+  /** Whether the legend tells of something. @param {'pinned' | 'found'} what @param {boolean} isThere */
+  #legend(what, isThere) {
+    get('legend').classList.toggle(what, isThere && !!this.map.picture);
   }
 
   /** Where a finding is, if it is anywhere. @param {Finding} finding */
@@ -209,7 +220,7 @@ export class LevelView {
     get('point-none').hidden = true;
     get('point-line').textContent = this.#inWords(line, x, y);
     this.#rest();
-    get('legend').hidden = sector === undefined || !this.map.picture;
+    this.#legend('pinned', sector !== undefined && !!this.map.picture);
     get('point-clear').textContent = get('point-blocked').textContent = sector === undefined ? 'not told' : '';
     if (sector === undefined) this.map.sight(-1, []); else this.#sight(Number(sector), mine);
     const told = await block, ends = await this.#linedefs();
@@ -247,7 +258,8 @@ export class LevelView {
   unpin() {
     this.pins++;
     this.map.pin(null);
-    get('point').hidden = get('unpin').hidden = get('legend').hidden = true;
+    get('point').hidden = get('unpin').hidden = true;
+    this.#legend('pinned', false);
     get('point-none').hidden = false;
     this.#rest();
   }
@@ -255,10 +267,10 @@ export class LevelView {
   // The map's readout ------------------------------------------------------------------------------------------------------------
 
   /** @param {number} x @param {number} y @param {import('./map_view.mjs').Under} under */
-  #hover(x, y, { sector, thing }) {
+  #hover(x, y, { sector, thing, found }) {
     if (!this.map.picture) return;
     get('where').textContent = `${x} ${y}`;
-    get('under').textContent = [thing, sector].filter(Boolean).map(inShort).join('  –  ') || 'nothing is shown here';
+    get('under').textContent = [found, thing, sector].filter(Boolean).map(inShort).join('  –  ') || 'nothing is shown here';
   }
 
   /** What the readout says while nothing is under the pointer. */

@@ -3,7 +3,8 @@
 /** @typedef {import('./picture.mjs').Picture} Picture */
 /** @typedef {{ x: number, y: number, zoom: number }} View  the map's place in the middle, and pixels to a unit */
 /** @typedef {[number, number, number]} Colour */
-/** @typedef {{ sector: string, thing: string }} Under  titles of what lies under the pointer */
+/** @typedef {{ at: number[], title: string }} Place  of a finding: x y, or x y x y */
+/** @typedef {{ sector: string, thing: string, found: string }} Under  titles of what lies under the pointer */
 /**
  * @typedef {{ hover: (x: number, y: number, under: Under) => void, leave: () => void, pin: (x: number, y: number) => void,
  *   unpin: () => void, moved: (view: View) => void }} Tell
@@ -32,6 +33,12 @@ function pathOf(at) {
     path.lineTo(at[k + 2], at[k + 3]);
   }
   return path;
+}
+
+/** How far a place is from a finding's. @param {number[]} at @param {number} x @param {number} y */
+function distance([ax, ay, bx = ax, by = ay], x, y) {
+  const dx = bx - ax, dy = by - ay, along = ((x - ax) * dx + (y - ay) * dy) / (dx * dx + dy * dy || 1), t = Math.max(0, Math.min(1, along));
+  return Math.hypot(ax + t * dx - x, ay + t * dy - y);
 }
 
 /** A picture's cells as an image of a pixel each, in the inks of the theme. */
@@ -111,8 +118,9 @@ export class MapView {
   forget() {
     /** @type {number[] | null} */
     this.found = null;
-    /** @type {number[][]} */
+    /** @type {Place[]} */
     this.places = [];
+    this.placeLines = new Path2D();
     /** @type {{ x: number, y: number } | null} */
     this.pinned = null;
     this.block = new Path2D();
@@ -150,9 +158,10 @@ export class MapView {
     return (covers && this.fine ? this.fine : this.ground).picture.size;
   }
 
-  /** Marks places of findings, x y or x y x y each. @param {number[][]} places */
+  /** Marks the places of findings. @param {Place[]} places */
   markAll(places) {
     this.places = places;
+    this.placeLines = pathOf(places.flatMap(({ at }) => at.length === 4 ? at : []));
     this.#redraw();
   }
 
@@ -380,11 +389,11 @@ export class MapView {
   /** A line stands out, and a point has a ring. @param {(path: Path2D, colour: string, width: number) => void} stroke */
   #drawPlaces(stroke) {
     const rings = new Path2D(), radius = 5 / this.view.zoom;
-    for (const [x, y] of this.places.filter(({ length }) => length === 2)) {
+    for (const { at: [x, y] } of this.places.filter(({ at }) => at.length === 2)) {
       rings.moveTo(x + radius, y);
       rings.arc(x, y, radius, 0, 2 * Math.PI);
     }
-    stroke(pathOf(this.places.filter(({ length }) => length === 4).flat()), css(this.inks.fault), 2.4);
+    stroke(this.placeLines, css(this.inks.fault), 2.4);
     stroke(rings, css(this.inks.void), 5);
     stroke(rings, css(this.inks.fault), 2);
   }
@@ -442,7 +451,7 @@ export class MapView {
   /** What lies under a place of the map. @param {number} x @param {number} y @returns {Under} */
   #under(x, y) {
     const { picture } = this, radius = Math.max(this.#thing(), 5 / this.view.zoom);
-    if (!picture) return { sector: '', thing: '' };
+    if (!picture) return { sector: '', thing: '', found: '' };
     let nearest = radius, thing = '';
     for (let k = 0; k < picture.things.length; k += 2) {
       const far = Math.hypot(picture.things[k] - x, picture.things[k + 1] - y);
@@ -455,7 +464,8 @@ export class MapView {
       this.hovered = shown?.sector ?? -1;
       this.#ink();
     }
-    return { sector: shown?.title ?? '', thing };
+    const found = this.places.find(({ at }) => distance(at, x, y) * this.view.zoom < 7)?.title ?? '';
+    return { sector: shown?.title ?? '', thing, found };
   }
 
   /** @param {WheelEvent} event */

@@ -13,6 +13,7 @@ import { read } from './picture.mjs';
 
 const MOST_BYTES = 268435456; // of a file, and of all that are held
 const MOST_ALONE = 8; // levels of a file that are kept cut out
+const NOWHERE = 0x7fffffff; // the ends of a linedef without both vertexes
 const NO_MEMORY = 'there is not enough memory for it';
 
 const utf8 = (/** @type {string} */ words) => new TextEncoder().encode(words);
@@ -139,24 +140,41 @@ function labelled(file) {
 }
 
 /**
- * The ends of the linedefs, by the tables of `show`: x y x y of each, where both vertexes are there.
+ * The first two numbers of each record of a table of `show`. There may be a million of them, so they are read from the bytes.
+ * @param {Uint8Array} shown @param {string} table
+ */
+function pairsOf(shown, table) {
+  const next = (/** @type {number} */ from) => shown.indexOf(10, from) + 1 || shown.length, first = table.charCodeAt(0);
+  let at = 0;
+  while (at < shown.length && !(shown[at] === first && isName(shown, at, at + table.length + 1, `${table} `))) at = next(at);
+  const number = () => {
+    const sign = shown[at] === 45 ? -1 : 1;
+    if (sign < 0) at++;
+    let value = 0;
+    for (; shown[at] >= 48; at++) value = 10 * value + shown[at] - 48;
+    if (shown[at] === 32) at++;
+    return sign * value;
+  };
+  const pairs = new Int32Array(2 * Number(text(shown.subarray(at, next(at))).split(' ')[1] ?? 0));
+  for (let k = 0; k < pairs.length; k += 2) {
+    at = next(at);
+    number();
+    pairs.set([number(), number()], k);
+  }
+  return pairs;
+}
+
+/**
+ * The ends of the linedefs: x y x y of each, where both vertexes are there.
  * @param {Uint8Array} shown
  */
 function endsOf(shown) {
-  /** @type {Record<string, number[][]>} */
-  const tables = { LINEDEFS: [], VERTEXES: [] };
-  /** @type {number[][] | undefined} */
-  let table;
-  for (const line of text(shown).split('\n')) {
-    const head = /^([A-Z]+) /.exec(line)?.[1];
-    if (head) table = tables[head];
-    else if (table) table.push(line.split(' ', 3).slice(1).map(Number));
+  const lines = pairsOf(shown, 'LINEDEFS'), places = pairsOf(shown, 'VERTEXES');
+  const ends = new Int32Array(2 * lines.length).fill(NOWHERE);
+  for (let k = 0; k < lines.length; k += 2) {
+    const [a, b] = [2 * lines[k], 2 * lines[k + 1]];
+    if (a in places && b in places) ends.set([places[a], places[a + 1], places[b], places[b + 1]], 2 * k);
   }
-  const ends = new Int32Array(4 * tables.LINEDEFS.length).fill(0x7fffffff);
-  tables.LINEDEFS.forEach(([from, to], k) => {
-    const both = [tables.VERTEXES[from], tables.VERTEXES[to]];
-    if (both[0] && both[1]) ends.set(both.flat(), 4 * k);
-  });
   return ends;
 }
 
@@ -192,7 +210,8 @@ const jobs = {
   async look(asked) {
     const { bytes } = await alone(asked);
     const level = JSON.parse(firstLine(await ask(['survey', ...looking(asked), 'f'], [bytes])));
-    const check = await ask(['check', ...looking(asked), '--max', String(asked.max), 'f'], [bytes]);
+    const found = asked.max ? 0 : Object.values({ ...level.findings, ...level.warnings }).reduce((sum, n) => sum + n, 0); // so many lines need room
+    const check = await ask(['check', ...looking(asked), '--max', String(asked.max), 'f'], [bytes], undefined, Math.max(1 << 20, 80 * found));
     return { level, before: `f: ${level.level}: `.length, findings: linesOf(check.answer) };
   },
 
@@ -209,7 +228,7 @@ const jobs = {
   /** The ends of all linedefs. @param {AskedLevel} asked */
   async ends(asked) {
     const { named, name } = await alone(asked);
-    return endsOf((await ask(['show', ...reading(asked), name, 'f'], [named], undefined, 65536 + 2 * named.length)).answer);
+    return endsOf((await ask(['show', ...reading(asked), name, 'f'], [named], undefined, 65536 + 3 * named.length)).answer);
   },
 
   /** The line of `points` or of `blocks` at a place, or why there is none. @param {AskedLevel & { word: string, x: number, y: number }} asked */

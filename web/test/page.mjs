@@ -1,5 +1,5 @@
 // The cases of the page: see `page`, which runs this.
-import { existsSync, mkdirSync, mkdtempSync, readFileSync, rmSync, writeFileSync } from 'node:fs';
+import { existsSync, mkdirSync, mkdtempSync, readFileSync, rmSync, statSync, writeFileSync } from 'node:fs';
 import { tmpdir } from 'node:os';
 import { join } from 'node:path';
 import { Browser, chromium, wait } from './browser.mjs';
@@ -153,6 +153,9 @@ async function picture() {
   check('the brighter room is drawn brighter', east[0] > west[0], true);
 }
 
+/** What the legend tells. @returns {Promise<string[]>} */
+const legend = () => browser.run("[...document.querySelectorAll('#legend li')].filter((e) => e.checkVisibility()).map((e) => e.textContent)");
+
 async function point() {
   const [, east] = await groundOfRooms();
   await pinAt(100, 100);
@@ -164,7 +167,7 @@ async function point() {
   check('what REJECT lets it see', await textOf('#point-clear'), '1 sector 0');
   check('and what not', await textOf('#point-blocked'), '1 sector 1');
   check('what it cannot see is dark on the map', (await groundOfRooms())[1][0] < east[0], true);
-  check('and told by a legend', await isHidden('#legend'), false);
+  check('and told by a legend', await legend(), ['pinned sector', 'REJECT lets it see', 'linedefs of its block']);
   await pinBy('300 100');
   await pointTold('300 100');
   check('a point by its numbers', await textOf('#point-line'), '300 100 sector 1 ssector 1');
@@ -243,7 +246,10 @@ async function warnings() {
   check('each in words', await textsOf('#findings .row > span'), ['W2', 'linedef 5', 'No middle texture in front, from (512, 256) to (512, 0)',
     'W3', 'thing 1', 'Stands in the void, at (536, 128)']);
   await drawnAnew();
+  check('the legend tells of them', await legend(), ['findings']);
   check('where they are on the map', [await isFault(512, 128), await isFault(536, 128, 5), await isFault(0, 128)], [true, true, false]);
+  await browser.mouse('mouseMoved', ...await placeOf(511, 40));
+  check('a warning under the pointer', (await textOf('#under')).split('  –  '), ['W2 linedef 5 · No middle texture in front', 'sector 1 · floor 24 FLOOR0_1 · ceiling 128 CEIL1_1 · light 224 · special 0 · tag 0']);
   await browser.press('#findings .row');
   await browser.until("document.querySelector('#map').dataset.view.startsWith('512.000 128.000')", 'the linedef of a warning');
   await browser.run("document.querySelector('#findings').focus()");
@@ -303,7 +309,8 @@ async function saves() {
     await browser.run("document.querySelector('#said').textContent = ''");
     await browser.press(`#save-${id}`);
     await browser.until("/ saved$/.test(document.querySelector('#said').textContent)", `${name} saved`);
-    for (let k = 0; !existsSync(join(room, name)) && k < 500; k++) await wait(10);
+    const isThere = () => existsSync(join(room, name)) && statSync(join(room, name)).size > 0; // its name may be taken before its bytes are there
+    for (let k = 0; !isThere() && k < 500; k++) await wait(10);
     return readFileSync(join(room, name)).toString('latin1');
   };
   check('the saved level is the program\'s', await saved('pwad', 'MAP01.wad'), printed(['extract', 'MAP01', 'f'], twoRooms).toString('latin1'));

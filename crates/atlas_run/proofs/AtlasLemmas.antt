@@ -45,7 +45,7 @@ module _ (held : List ℕ → Option (List ℕ)) (asked : Asked) (paths : List (
       adds = untouched ∙ sym (with_files-none k1);
     }
 
-    module _ (before after errors errors' : SinkState) (tally : Tally) (begun : IsBegun old before) (told : ToldTo held (survey_of asked.reading) before errors paths after errors' tally)
+    module _ (before after errors errors' : SinkState) (tally : Tally) (begun : IsBegun old before) (told : ToldTo held (survey_of asked.judging) before errors paths after errors' tally)
         (k2 : Option (List Kept)) (x : Unit {0}) (kept : KeepsFile k1 k2 after (codes "survey.jsonl") (Ok x)) where
       survey_added : k2 ≡ with_files old (all.shown ++ survey_file kept.0 ∷ [])
       survey_added = kept.2 ∙ ap (λ f. with_files f (survey_file kept.0 ∷ [])) all.adds ∙ with_files-more old all.shown (survey_file kept.0 ∷ [])
@@ -64,7 +64,7 @@ module _ (held : List ℕ → Option (List ℕ)) (asked : Asked) (paths : List (
       }
 
       -- and at last the page
-      pub atlas_written : (n : ℕ) (new : Option (List Kept)) → n ≡ length paths → new ≡ with_files k2 (index_file n rows refused ∷ [])
+      pub atlas_written : (n : ℕ) (new : Option (List Kept)) → n ≡ length paths → new ≡ with_files k2 (index_file n asked.judging.warnings rows refused ∷ [])
           → WritesAtlas held asked paths old new errors errors' tally.verdict
       atlas_written n new count paged = record {
         rows = rows;
@@ -75,9 +75,9 @@ module _ (held : List ℕ → Option (List ℕ)) (asked : Asked) (paths : List (
         text = kept.0;
         survey = record { before = before; begun = begun; after = after; told = told; whole = kept.1 };
         adds =
-            paged ∙ ap (λ f. with_files f (index_file n rows refused ∷ [])) survey_added
-            ∙ with_files-more old (all.shown ++ survey_file kept.0 ∷ []) (index_file n rows refused ∷ [])
-            ∙ ap (with_files old) (append_assoc all.shown (survey_file kept.0 ∷ []) (index_file n rows refused ∷ []))
-            ∙ ap (λ m. with_files old (all.shown ++ survey_file kept.0 ∷ index_file m rows refused ∷ [])) count;
+            paged ∙ ap (λ f. with_files f (index_file n asked.judging.warnings rows refused ∷ [])) survey_added
+            ∙ with_files-more old (all.shown ++ survey_file kept.0 ∷ []) (index_file n asked.judging.warnings rows refused ∷ [])
+            ∙ ap (with_files old) (append_assoc all.shown (survey_file kept.0 ∷ []) (index_file n asked.judging.warnings rows refused ∷ []))
+            ∙ ap (λ m. with_files old (all.shown ++ survey_file kept.0 ∷ index_file m asked.judging.warnings rows refused ∷ [])) count;
         says = refl;
       }

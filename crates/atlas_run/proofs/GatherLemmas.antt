@@ -66,14 +66,14 @@ module _ (cells : ℕ) (origin : Origin) (bytes : List ℕ) (old new : List Row)
   -- the levels of a file with their pictures
   pub levels_added : (files : List Wad) (part : List Row) → map (λ file. file.bytes) files ≡ bytes ∷ [] → All IsRead files
       → (adds : AddsRows origin files (length (names files)) old new) → part ≡ adds.added
-      → DrawsRows cells origin.reading files part k0 k1 → AddsLevels cells origin bytes old new k0 k1
+      → DrawsRows cells origin.judging.reading files part k0 k1 → AddsLevels cells origin bytes old new k0 k1
   levels_added [] part of_bytes read adds same draws = absurd (cc)
   levels_added (file ∷ []) part of_bytes read adds same draws = record {
     file = file;
     more = adds.added;
     are = record { of_bytes = cc; read = read 0 file (omega arith); are = adds.are };
     pictures = draws.shown;
-    shows = subst (λ rows. ShowsRows cells origin.reading (file ∷ []) rows draws.shown) same draws.exact;
+    shows = subst (λ rows. ShowsRows cells origin.judging.reading (file ∷ []) rows draws.shown) same draws.exact;
     rows = adds.is;
     adds = draws.adds;
   }
@@ -82,7 +82,7 @@ module _ (cells : ℕ) (origin : Origin) (bytes : List ℕ) (old new : List Row)
   -- and with some of them
   pub levels_stopped : (files : List Wad) (part : List Row) → map (λ file. file.bytes) files ≡ bytes ∷ [] → All IsRead files
       → (adds : AddsRows origin files (length (names files)) old new) → part ≡ adds.added
-      → DrawsSome cells origin.reading files part k0 k1 → AddsSome cells origin bytes k0 k1
+      → DrawsSome cells origin.judging.reading files part k0 k1 → AddsSome cells origin bytes k0 k1
   levels_stopped [] part of_bytes read adds same some = absurd (cc)
   levels_stopped (file ∷ []) part of_bytes read adds same some = inr (record {
     file = file;
@@ -90,7 +90,7 @@ module _ (cells : ℕ) (origin : Origin) (bytes : List ℕ) (old new : List Row)
     are = record { of_bytes = cc; read = read 0 file (omega arith); are = adds.are };
     count = some.count;
     shown = some.draws.shown;
-    pictures = subst (λ rows. ShowsRows cells origin.reading (file ∷ []) (take some.count rows) some.draws.shown) same some.draws.exact;
+    pictures = subst (λ rows. ShowsRows cells origin.judging.reading (file ∷ []) (take some.count rows) some.draws.shown) same some.draws.exact;
     adds = some.draws.adds;
   })
   levels_stopped (file ∷ other ∷ files) part of_bytes read adds same some = absurd (cc)

@@ -16,19 +16,20 @@ use Rattle.wad_atlas.specs.declared.row.Found.{Found}
 use Rattle.wad_atlas.specs.declared.row.Found.TheVariants as found
 use Rattle.wad_atlas.specs.declared.row.Row.{Row}
 use Rattle.wad_dir.specs.Wad.{Wad}
+use Rattle.wad_lens.specs.declared.judging.Judging.{Judging}
 use Rattle.atlas_run.specs.Folder.{IsBegun, Kept, KeepsFile, with_files}
 use Rattle.atlas_run.specs.Pictures.{DrawsFile, DrawsRow, DrawsRows, DrawsSome, ShowsRows, of_none, with_row}
 use Rattle.atlas_run.specs.declared.fault.AtlasFault.{AtlasFault}
 use Rattle.atlas_run.proofs.FolderLemmas.{kept_whole, with_files-more, with_files-none}
 
 -- a row with a picture is that of a level of Doom's format, in which there is something to draw
-pub drawn_level : (files : List Wad) (reading : Reading) (g : ℕ) (told : Found) → FoundAt files reading g told → is_drawn told ≡ true
-    → IsFormat files g Doom × ((level : Level) → IsLevelAt files g reading level → HasLines level)
-drawn_level files reading g (found.Judged judged) is drawn = (
+pub drawn_level : (files : List Wad) (judging : Judging) (g : ℕ) (told : Found) → FoundAt files judging g told → is_drawn told ≡ true
+    → IsFormat files g Doom × ((level : Level) → IsLevelAt files g judging.reading level → HasLines level)
+drawn_level files judging g (found.Judged judged) is drawn = (
   is.0,
-  λ level there. subst HasLines (IsLevelAt-one files g reading is.1.level level is.1.there there) (is.1.drawn.0 drawn),
+  λ level there. subst HasLines (IsLevelAt-one files g judging.reading is.1.level level is.1.there there) (is.1.drawn.0 drawn),
 )
-drawn_level files reading g (found.Unjudged unjudged) is drawn = absurd (cc)
+drawn_level files judging g (found.Unjudged unjudged) is drawn = absurd (cc)
 
 -- where something is to be drawn a frame isn't wanting
 pub drawn_lines : (level : Level) → HasLines level → ¬ HasNothing level None

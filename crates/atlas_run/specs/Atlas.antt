@@ -3,7 +3,6 @@ use Rattle.std.specs.Prelude.{◌≡◌, ◌⊎◌, ℕ, List, [], ◌∷◌, �
 use Rattle.std.specs.Io.KnownBytes.{Keeps}
 use Rattle.le_rec.specs.Sink.{SinkState}
 use Rattle.line_io.specs.Writes.{TakesFront}
-use Rattle.map_level.specs.declared.reading.Reading.{Reading}
 use Rattle.wad_atlas.specs.Page.{page_text}
 use Rattle.wad_atlas.specs.declared.refused.Refused.{Refused}
 use Rattle.wad_atlas.specs.declared.row.Row.{Row}
@@ -18,7 +17,8 @@ use Rattle.lens_run.specs.declared.files.ReadFault.TheVariants as read
 use Rattle.lens_run.specs.declared.tell.Asked.{Asked as LensAsked}
 use Rattle.lens_run.specs.declared.tell.Tally.{Tally}
 use Rattle.lens_run.specs.declared.tell.Word.TheVariants.{Survey}
-use Rattle.wad_lens.specs.declared.judging.Warnings.TheVariants.{Unasked}
+use Rattle.wad_lens.specs.declared.judging.Judging.{Judging}
+use Rattle.wad_lens.specs.declared.judging.Warnings.{Warnings}
 use Rattle.atlas_run.specs.Folder.{IsBegun, Kept, with_files}
 use Rattle.atlas_run.specs.Gathered.{Gathers, GathersSome}
 use Rattle.atlas_run.specs.Tell.{fault_end, folder_line, refusal_text, write_text}
@@ -29,23 +29,23 @@ use Rattle.atlas_run.specs.declared.job.Asked.{Asked}
 use Rattle.atlas_run.specs.declared.job.AtlasJob.{AtlasJob}
 
 -- the survey of files
-abbrev pub survey_of : Reading → LensAsked
-survey_of reading = record { word = Survey; judging = record { reading = reading; warnings = Unasked } }
+abbrev pub survey_of : Judging → LensAsked
+survey_of judging = record { word = Survey; judging = judging }
 
 -- the survey among the files of the folder
 abbrev pub survey_file : List ℕ → Kept
 survey_file text = record { name = codes "survey.jsonl"; text = text }
 
 -- and the page of these files
-abbrev pub index_file : ℕ → List Row → List Refused → Kept
-index_file files rows refused = record { name = codes "index.html"; text = page_text files rows refused }
+abbrev pub index_file : ℕ → Warnings → List Row → List Refused → Kept
+index_file files warnings rows refused = record { name = codes "index.html"; text = page_text files warnings rows refused }
 
 -- this text is what a survey tells of these paths, and what standard error is told besides
-pub record IsSurvey (held : List ℕ → Option (List ℕ)) (reading : Reading) (paths : List (List ℕ)) (files : Option (List Kept)) (errors errors' : SinkState) (tally : Tally) (text : List ℕ) : Type 0 where
+pub record IsSurvey (held : List ℕ → Option (List ℕ)) (judging : Judging) (paths : List (List ℕ)) (files : Option (List Kept)) (errors errors' : SinkState) (tally : Tally) (text : List ℕ) : Type 0 where
   pub before : SinkState
   pub begun : IsBegun files before
   pub after : SinkState
-  pub told : ToldTo held (survey_of reading) before errors paths after errors' tally
+  pub told : ToldTo held (survey_of judging) before errors paths after errors' tally
   pub whole : Keeps after.taken (Some text)
 
 -- all files of an atlas were added to a folder, the page behind all others
@@ -56,8 +56,8 @@ pub record WritesAtlas (held : List ℕ → Option (List ℕ)) (asked : Asked) (
   pub gathered : Gathers held asked paths rows refused shown
   pub tally : Tally
   pub text : List ℕ
-  pub survey : IsSurvey held asked.reading paths old errors errors' tally text
-  pub adds : new ≡ with_files old (shown ++ survey_file text ∷ index_file (length paths) rows refused ∷ [])
+  pub survey : IsSurvey held asked.judging paths old errors errors' tally text
+  pub adds : new ≡ with_files old (shown ++ survey_file text ∷ index_file (length paths) asked.judging.warnings rows refused ∷ [])
   pub says : verdict ≡ tally.verdict
 
 -- all but the page was
@@ -68,7 +68,7 @@ pub record LacksPage (held : List ℕ → Option (List ℕ)) (asked : Asked) (pa
   pub gathered : Gathers held asked paths rows refused shown
   pub tally : Tally
   pub text : List ℕ
-  pub survey : IsSurvey held asked.reading paths old errors errors' tally text
+  pub survey : IsSurvey held asked.judging paths old errors errors' tally text
   pub adds : new ≡ with_files old (shown ++ survey_file text ∷ [])
 
 -- an atlas isn't whole, and has no page
@@ -78,7 +78,7 @@ StopsAtlas held asked paths old new errors errors' =
 
 -- how an atlas is asked for
 abbrev pub asked_of : AtlasJob → Asked
-asked_of job = record { reading = job.job.asked.judging.reading; cells = job.cells }
+asked_of job = record { judging = job.job.asked.judging; cells = job.cells }
 
 -- standard error was told of the folder, where a file in it can't be written
 abbrev pub TellsFault : List ℕ → AtlasFault → SinkState → SinkState → Type 0

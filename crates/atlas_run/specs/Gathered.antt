@@ -17,7 +17,7 @@ use Rattle.atlas_run.specs.declared.job.Asked.{Asked}
 pub record IsOrigin (asked : Asked) (number : ℕ) (path : List ℕ) (origin : Origin) : Type 0 where
   pub numbered : origin.file ≡ number
   pub of_path : origin.path.now ≡ path
-  pub read : origin.reading ≡ asked.reading
+  pub judged : origin.judging ≡ asked.judging
 
 -- all levels of these bytes
 pub record AreRowsOf (origin : Origin) (bytes : List ℕ) (file : Wad) (rows : List Row) : Type 0 where
@@ -31,7 +31,7 @@ pub record GathersLevels (held : Option (List ℕ)) (cells : ℕ) (origin : Orig
   pub holds : Keeps held (Some bytes)
   pub file : Wad
   pub are : AreRowsOf origin bytes file rows
-  pub pictures : ShowsRows cells origin.reading (file ∷ []) rows shown
+  pub pictures : ShowsRows cells origin.judging.reading (file ∷ []) rows shown
 
 -- a file with its levels
 pub record GathersFile (held : Option (List ℕ)) (cells : ℕ) (origin : Origin) (rows : List Row) (refused : List Refused) (shown : List Kept) : Type 0 where
@@ -69,7 +69,7 @@ pub record ShowsPart (held : Option (List ℕ)) (cells : ℕ) (origin : Origin) 
   pub rows : List Row
   pub are : AreRowsOf origin bytes file rows
   pub count : ℕ
-  pub pictures : ShowsRows cells origin.reading (file ∷ []) (take count rows) shown
+  pub pictures : ShowsRows cells origin.judging.reading (file ∷ []) (take count rows) shown
 
 abbrev pub ShowsFront : Option (List ℕ) → ℕ → Origin → List Kept → Type 0
 ShowsFront held cells origin shown = (shown ≡ []) ⊎ ShowsPart held cells origin shown
@@ -97,7 +97,7 @@ pub record AddsLevels (cells : ℕ) (origin : Origin) (bytes : List ℕ) (old ne
   pub more : List Row
   pub are : AreRowsOf origin bytes file more
   pub pictures : List Kept
-  pub shows : ShowsRows cells origin.reading (file ∷ []) more pictures
+  pub shows : ShowsRows cells origin.judging.reading (file ∷ []) more pictures
   pub rows : new ≡ old ++ more
   pub adds : files' ≡ with_files files pictures
 
@@ -108,7 +108,7 @@ pub record AddsPart (cells : ℕ) (origin : Origin) (bytes : List ℕ) (files fi
   pub are : AreRowsOf origin bytes file rows
   pub count : ℕ
   pub shown : List Kept
-  pub pictures : ShowsRows cells origin.reading (file ∷ []) (take count rows) shown
+  pub pictures : ShowsRows cells origin.judging.reading (file ∷ []) (take count rows) shown
   pub adds : files' ≡ with_files files shown
 
 abbrev pub AddsSome : ℕ → Origin → List ℕ → Option (List Kept) → Option (List Kept) → Type 0

@@ -15,11 +15,10 @@ use lens_run::{
     Asked as LensAsked, BytesFault, ReadFault, Stop, Storage, Tally, Watch, Word, no_tally,
     read_file, tell_bytes, tell_refusal,
 };
-use map_level::Reading;
 use std::alloc::Global;
 use wad_atlas::{Origin, Refused, Row, push_rows};
 use wad_dir::Set;
-use wad_lens::{Judging, Refusal, Warnings};
+use wad_lens::{Judging, Refusal};
 
 /// What of some files goes onto the page.
 #[derive(Drop)]
@@ -47,7 +46,7 @@ pub fn gather<'p, S: Storage, F: Folder, E: Sink, P: Watch>(
     requires least { 1 ≤ asked.cells }
     requires most { asked.cells ≤ 1024 }
     requires sound { AreSound (F.File.state survey.old) (E.state errors.old) }
-    ensures told { IfOk result (λ gathered. ToldTo (S.held storage.now) (survey_of asked.reading) (F.File.state survey.old) (E.state errors.old)
+    ensures told { IfOk result (λ gathered. ToldTo (S.held storage.now) (survey_of asked.judging) (F.File.state survey.old) (E.state errors.old)
         (map (λ path. path.now) paths.now) (F.File.state survey.new) (E.state errors.new) gathered.tally) }
     ensures all { IfOk result (λ gathered. GathersAll (S.held storage.now) asked (map (λ path. path.now) paths.now)
         gathered.rows.items gathered.refused.items (F.kept folder.old) (F.kept folder.new)) }
@@ -63,7 +62,7 @@ pub fn gather<'p, S: Storage, F: Folder, E: Sink, P: Watch>(
         let origin = Origin {
             file: i as u64 + 1,
             path: paths[i],
-            reading: asked.reading,
+            judging: asked.judging,
         };
         let tally = add_path(
             alloc,
@@ -96,7 +95,7 @@ fn add_path<'p, S: Storage, F: Folder, E: Sink, P: Watch>(
     requires least { 1 ≤ cells }
     requires most { cells ≤ 1024 }
     requires sound { AreSound (F.File.state survey.old) (E.state errors.old) }
-    ensures told { IfOk result (TellsPath (S.held storage.now origin.now.path.now) (survey_of origin.now.reading) origin.now.path.now
+    ensures told { IfOk result (TellsPath (S.held storage.now origin.now.path.now) (survey_of origin.now.judging) origin.now.path.now
         (F.File.state survey.old) (F.File.state survey.new) (E.state errors.old) (E.state errors.new)) }
     ensures sound { OnOk result (AreSound (F.File.state survey.new) (E.state errors.new)) }
     ensures adds { OnOk result (AddsPath (S.held storage.now origin.now.path.now) cells origin.now gathered.old gathered.new
@@ -107,7 +106,7 @@ fn add_path<'p, S: Storage, F: Folder, E: Sink, P: Watch>(
         Ok(bytes) => {
             match tell_bytes(
                 alloc,
-                survey_of(origin.reading),
+                survey_of(origin.judging),
                 origin.path,
                 &bytes,
                 survey,
@@ -143,15 +142,12 @@ fn add_path<'p, S: Storage, F: Folder, E: Sink, P: Watch>(
 }
 
 // What is asked of the files: their survey.
-fn survey_of(reading: Reading) -> LensAsked
-    ensures { result ≡ survey_of reading }
+fn survey_of(judging: Judging) -> LensAsked
+    ensures { result ≡ survey_of judging }
 {
     LensAsked {
         word: Word::Survey,
-        judging: Judging {
-            reading,
-            warnings: Warnings::Unasked,
-        },
+        judging,
     }
 }
 

@@ -1,12 +1,12 @@
 //! What a run is asked.
 
 use lens_run::Job;
-use map_level::Reading;
+use wad_lens::Judging;
 
-/// How levels are read and drawn.
+/// How levels are judged and drawn.
 #[derive(Clone, Copy, Debug, PartialEq, Eq)]
 pub struct Asked {
-    pub reading: Reading,
+    pub judging: Judging,
     /// How many cells the longer side of a picture has at most, from 1 to 1024.
     pub cells: u32,
 }
@@ -14,7 +14,7 @@ pub struct Asked {
 /// An atlas of which files.
 #[derive(Drop)]
 pub struct AtlasJob<'a> {
-    /// The files; of what is asked of them the reading counts alone.
+    /// The files; of what is asked of them the judging counts alone.
     pub job: Job<'a>,
     /// How many cells the longer side of a picture has at most, from 1 to 1024.
     pub cells: u32,

@@ -26,8 +26,8 @@ pub fn draw_rows<F: Folder>(
     requires least { 1 ≤ cells }
     requires most { cells ≤ 1024 }
     requires rows { All (λ row. IsRow origin.now set.now row.entry row) rows.now }
-    ensures all { OnOk result (DrawsRows cells origin.now.reading set.now rows.now (F.kept folder.old) (F.kept folder.new)) }
-    ensures some { OnErr result (DrawsSome cells origin.now.reading set.now rows.now (F.kept folder.old) (F.kept folder.new)) }
+    ensures all { OnOk result (DrawsRows cells origin.now.judging.reading set.now rows.now (F.kept folder.old) (F.kept folder.new)) }
+    ensures some { OnErr result (DrawsSome cells origin.now.judging.reading set.now rows.now (F.kept folder.old) (F.kept folder.new)) }
 {
     for row in rows {
         draw_row(alloc, cells, origin, set, row, folder)?;
@@ -47,13 +47,13 @@ fn draw_row<F: Folder>(
     requires least { 1 ≤ cells }
     requires most { cells ≤ 1024 }
     requires row { IsRow origin.now set.now row.now.entry row.now }
-    ensures drawn { OnOk result (DrawsRow cells origin.now.reading set.now row.now (F.kept folder.old) (F.kept folder.new)) }
+    ensures drawn { OnOk result (DrawsRow cells origin.now.judging.reading set.now row.now (F.kept folder.old) (F.kept folder.new)) }
     ensures kept { OnErr result (F.kept folder.new ≡ F.kept folder.old) }
 {
     if !row.found.is_drawn() {
         return Ok(());
     }
-    let level = level_at(set, row.entry as usize, origin.reading);
+    let level = level_at(set, row.entry as usize, origin.judging.reading);
     let mut name = TextLine::new();
     prepend_picture_name(&mut name, row.file, row.entry);
     draw_file(alloc, cells, &level, name.as_bytes(), folder)

@@ -16,7 +16,7 @@ use lens_run::{End, ReadFault, Storage, Watch, all_paths, read_list, write_refus
 use std::alloc::Global;
 use std::io::Read;
 use wad_atlas::{Page, write_page};
-use wad_lens::Verdict;
+use wad_lens::{Verdict, Warnings};
 
 /// The survey among the files of the folder.
 const SURVEY: &[u8] = b"survey.jsonl";
@@ -59,7 +59,7 @@ pub fn run_atlas<S: Storage, I: Read + Drop, F: Folder, E: Sink, P: Watch>(
         return Err(End::Refused);
     }
     let asked = Asked {
-        reading: job.job.asked.judging.reading,
+        judging: job.job.asked.judging,
         cells: job.cells,
     };
     match write_atlas(alloc, asked, &paths, storage, folder, errors, watch) {
@@ -101,7 +101,12 @@ pub fn write_atlas<S: Storage, F: Folder, E: Sink, P: Watch>(
     match gathered {
         Ok(gathered) => {
             folder.keep(survey, SURVEY)?;
-            write_index(paths.len() as u64, &gathered, folder)?;
+            write_index(
+                paths.len() as u64,
+                asked.judging.warnings,
+                &gathered,
+                folder,
+            )?;
             Ok(gathered.tally.verdict)
         }
         Err(fault) => {
@@ -114,16 +119,18 @@ pub fn write_atlas<S: Storage, F: Folder, E: Sink, P: Watch>(
 // Writes the page into the folder.
 fn write_index<F: Folder>(
     files: u64,
+    warnings: Warnings,
     gathered: &Gathered<'_>,
     folder: &mut F,
 ) -> Result<(), AtlasFault>
     ensures written { OnOk result (F.kept folder.new
-        ≡ with_files (F.kept folder.old) (index_file files gathered.now.rows.items gathered.now.refused.items ∷ [])) }
+        ≡ with_files (F.kept folder.old) (index_file files warnings gathered.now.rows.items gathered.now.refused.items ∷ [])) }
     ensures kept { OnErr result (F.kept folder.new ≡ F.kept folder.old) }
 {
     let mut file = folder.begin(INDEX)?;
     let page = Page {
         files,
+        warnings,
         rows: &gathered.rows,
         refused: &gathered.refused,
     };

@@ -1,9 +1,10 @@
 -- Texts of the page, computed on small rows: each is what stands here.
-use Rattle.std.proofs.Common.{◌≡◌, ℕ, true, false, List, [], ◌∷◌, ◌++◌, refl}
+use Rattle.std.proofs.Common.{◌≡◌, ℕ, ◌+◌, true, false, List, [], ◌∷◌, ◌++◌, refl}
 use Rattle.std.specs.Fmt.{digits}
 use Rattle.std.specs.Prelude.{codes}
 use Rattle.level_list.specs.declared.format.Format.TheVariants.{Incomplete}
 use Rattle.wad_atlas.specs.Items.{code_item, number_item}
+use Rattle.wad_atlas.specs.Warned.{warning_item}
 use Rattle.wad_atlas.specs.Page.{title_line}
 use Rattle.wad_atlas.specs.Refused.{refused_part}
 use Rattle.wad_atlas.specs.Rows.{faulty_rows, is_faulty, other_rows, picture_name, row_text, totals_of_rows}
@@ -12,6 +13,7 @@ use Rattle.wad_atlas.specs.declared.row.Found.TheVariants as found
 use Rattle.wad_atlas.specs.declared.row.Row.{Row}
 use Rattle.wad_atlas.specs.declared.tables.Tables.{Tables}
 use Rattle.wad_atlas.specs.declared.unjudged.Unjudged.{Unjudged}
+use Rattle.wad_atlas.specs.declared.warned.WarningCounts.{WarningCounts}
 use Rattle.wad_lens.specs.declared.object.Refusal.TheVariants.{TooLarge}
 
 abbrev tables : Tables
@@ -22,6 +24,10 @@ abbrev counts : ℕ → ℕ → List ℕ
 counts faults notes =
     0 ∷ 0 ∷ faults ∷ 0 ∷ 0 ∷ 0 ∷ 0 ∷ 0 ∷ 0 ∷ 0 ∷ 0 ∷ 0 ∷ 0 ∷ 0 ∷ 0 ∷ 0 ∷ 0 ∷ 0 ∷ 0 ∷ 0 ∷ notes ∷ 0 ∷ 0 ∷ 0 ∷ 0 ∷ 0 ∷ 0 ∷ 0 ∷ 0 ∷ 0 ∷ []
 
+-- so many W1 and W8
+abbrev warned : ℕ → ℕ → WarningCounts
+warned first last = record { w1 = first; w2 = 0; w3 = 0; w4 = 0; w5 = 0; w6 = 0; w7 = 0; w8 = last; total = first + last }
+
 -- the items of a level's tables
 abbrev table_list : List ℕ
 table_list =
@@ -30,7 +36,7 @@ table_list =
 
 -- markup in a path and in a name; two faults of one code and seven notes of another
 faulty_row : (row : Row) → row.file ≡ 2 → row.path.now ≡ codes "<a&b>.wad" → row.entry ≡ 15 → row.name ≡ codes "E\"M1"
-    → row.found ≡ found.Judged (record { tables = tables; counts = counts 2 7; drawn = true })
+    → row.found ≡ found.Judged (record { tables = tables; counts = counts 2 7; warned = warned 0 0; drawn = true })
     → row_text row
     ≡ codes "<li class=\"faulty\">\n<a class=\"map\" href=\"2-15.svg\"><img loading=\"lazy\" src=\"2-15.svg\" alt=\"map of E&quot;M1\"></a>\n"
     ++ (codes "<div>\n<h2>E&quot;M1</h2>\n<p class=\"where\">&lt;a&amp;b&gt;.wad <span>entry 15, doom</span></p>\n"
@@ -38,14 +44,14 @@ faulty_row : (row : Row) → row.file ≡ 2 → row.path.now ≡ codes "<a&b>.wa
 unfolding digits number_item code_item picture_name
 faulty_row row file path entry name found = rw (file, path, entry, name, found) refl
 
--- no fault, and nothing to draw
+-- no fault, with a note and warnings of two codes, and nothing to draw
 sound_row : (row : Row) → row.file ≡ 1 → row.path.now ≡ codes "a.wad" → row.entry ≡ 0 → row.name ≡ codes "MAP01"
-    → row.found ≡ found.Judged (record { tables = tables; counts = counts 0 1; drawn = false })
+    → row.found ≡ found.Judged (record { tables = tables; counts = counts 0 1; warned = warned 4 1; drawn = false })
     → row_text row
     ≡ codes "<li class=\"sound\">\n<p class=\"map\">no picture</p>\n"
     ++ (codes "<div>\n<h2>MAP01</h2>\n<p class=\"where\">a.wad <span>entry 0, doom</span></p>\n"
-    ++ (codes "<ul class=\"found\">\n<li class=\"sound\">sound</li>\n<li class=\"note\">N3 &times; 1</li>\n</ul>\n" ++ table_list))
-unfolding digits number_item code_item picture_name
+    ++ (codes "<ul class=\"found\">\n<li class=\"sound\">sound</li>\n<li class=\"note\">N3 &times; 1</li>\n<li class=\"warning\">W1 &times; 4</li>\n<li class=\"warning\">W8 &times; 1</li>\n</ul>\n" ++ table_list))
+unfolding digits number_item code_item warning_item picture_name
 sound_row row file path entry name found = rw (file, path, entry, name, found) refl
 
 -- the last lump isn't there

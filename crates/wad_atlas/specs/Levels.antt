@@ -8,8 +8,8 @@ use Rattle.map_audit.specs.Findings.{AuditHolds}
 use Rattle.map_cells.specs.Ends.{IsEnd}
 use Rattle.map_level.specs.Level.{Level}
 use Rattle.map_level.specs.Opening.{IsLevelAt}
-use Rattle.map_level.specs.declared.reading.Reading.{Reading}
 use Rattle.wad_atlas.specs.Tables.{tables_of}
+use Rattle.wad_atlas.specs.Warned.{CountsWarnings}
 use Rattle.wad_atlas.specs.declared.levels.Origin.{Origin}
 use Rattle.wad_atlas.specs.declared.row.Found.{Found}
 use Rattle.wad_atlas.specs.declared.row.Found.TheVariants as found
@@ -19,23 +19,25 @@ use Rattle.wad_dir.specs.Entries.{names}
 use Rattle.wad_dir.specs.Wad.{Wad}
 use Rattle.wad_lens.specs.Counts.{AreCounts}
 use Rattle.wad_lens.specs.Survey.{AreStartsBelow}
+use Rattle.wad_lens.specs.declared.judging.Judging.{Judging}
 
 -- a linedef has both of its vertexes, so there is something to draw
 abbrev pub HasLines : Level → Type 0
 HasLines level = (v : Vertex) × IsEnd level v
 
--- what is told of a level of Doom's format: the counts are those of the audit
-pub record IsJudged (files : List Wad) (reading : Reading) (g : ℕ) (judged : Judged) : Type 0 where
+-- what is told of a level of Doom's format: the counts are those of the audit and, where they are asked for, of its warnings
+pub record IsJudged (files : List Wad) (judging : Judging) (g : ℕ) (judged : Judged) : Type 0 where
   pub level : Level
-  pub there : IsLevelAt files g reading level
+  pub there : IsLevelAt files g judging.reading level
   pub tables : judged.tables ≡ tables_of level
   pub counts : AreCounts (AuditHolds level) judged.counts
+  pub warned : CountsWarnings judging.warnings level judged.warned
   pub drawn : IsTrue judged.drawn ↔ HasLines level
 
 -- what is told of the level that starts at an entry, by its format
-abbrev pub FoundAt : List Wad → Reading → ℕ → Found → Type 0
-FoundAt files reading g (found.Judged judged) = IsFormat files g Doom × IsJudged files reading g judged
-FoundAt files reading g (found.Unjudged unjudged) = IsFormat files g unjudged.format × (unjudged.format ≢ Doom)
+abbrev pub FoundAt : List Wad → Judging → ℕ → Found → Type 0
+FoundAt files judging g (found.Judged judged) = IsFormat files g Doom × IsJudged files judging g judged
+FoundAt files judging g (found.Unjudged unjudged) = IsFormat files g unjudged.format × (unjudged.format ≢ Doom)
 
 -- its row
 pub record IsRow (origin : Origin) (files : List Wad) (g : ℕ) (row : Row) : Type 0 where
@@ -43,7 +45,7 @@ pub record IsRow (origin : Origin) (files : List Wad) (g : ℕ) (row : Row) : Ty
   pub path : row.path.now ≡ origin.path.now
   pub entry : row.entry ≡ g
   pub named : slice_get (names files) g ≡ Some row.name
-  pub found : FoundAt files origin.reading g row.found
+  pub found : FoundAt files origin.judging g row.found
 
 -- the rows of all levels that start below an entry, in the order of their labels
 pub record AreRowsBelow (origin : Origin) (files : List Wad) (end : ℕ) (rows : List Row) : Type 0 where

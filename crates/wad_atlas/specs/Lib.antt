@@ -1,6 +1,7 @@
 pub mod Format
 pub mod Tables
 pub mod Items
+pub mod Warned
 pub mod Rows
 pub mod Refused
 pub mod Style

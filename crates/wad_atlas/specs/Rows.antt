@@ -7,6 +7,7 @@ use Rattle.level_list.specs.declared.format.Format.TheVariants.{Doom}
 use Rattle.map_picture.specs.Escape.{escaped}
 use Rattle.map_picture.specs.Parts.{joined}
 use Rattle.wad_atlas.specs.Items.{code_items, table_items}
+use Rattle.wad_atlas.specs.Warned.{warning_parts}
 use Rattle.wad_atlas.specs.declared.row.Found.{Found}
 use Rattle.wad_atlas.specs.declared.row.Found.TheVariants as found
 use Rattle.wad_atlas.specs.declared.row.Judged.{Judged}
@@ -25,7 +26,7 @@ picture_name file entry = decimal file ++ (codes "-" ++ (decimal entry ++ codes 
 
 -- what a level adds to the totals
 abbrev pub totals_of : Found → Totals
-totals_of (found.Judged judged) = judged_totals judged.counts 0
+totals_of (found.Judged judged) = judged_totals judged.counts judged.warned.total
 totals_of (found.Unjudged unjudged) = format_totals unjudged.format
 
 -- the totals of all levels
@@ -78,10 +79,10 @@ where_parts row =
 abbrev pub sound_item : List ℕ → List ℕ
 sound_item counts = if nat_eq (fault_total counts) 0 then codes "<li class=\"sound\">sound</li>\n" else []
 
--- what was found at a level of Doom's format: the codes that hold, and its counts
+-- what was found at a level of Doom's format: the codes that hold, its warnings, and its counts
 abbrev pub judged_parts : Judged → List (List ℕ)
 judged_parts judged =
-    codes "<ul class=\"found\">\n" ∷ sound_item judged.counts ∷ joined (code_items judged.counts)
+    codes "<ul class=\"found\">\n" ∷ sound_item judged.counts ∷ joined (code_items judged.counts) ∷ joined (warning_parts judged.warned)
     ∷ codes "</ul>\n<ul class=\"counts\">\n" ∷ joined (table_items judged.tables) ∷ codes "</ul>\n" ∷ []
 
 -- why another isn't judged

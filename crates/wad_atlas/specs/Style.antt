@@ -5,8 +5,8 @@ use Rattle.map_picture.specs.Parts.{joined}
 abbrev pub style_lines : List (List ℕ)
 style_lines =
     codes "<style>\n"
-    ∷ codes ":root{color-scheme:dark light;--ground:#15171b;--panel:#1b1e23;--rule:#31363e;--ink:#eae7e0;--soft:#a3a8b0;--accent:#63c8da;--fault:#ff7f6b;--fault-wash:#3d2321;--note:#dcc78f;--note-wash:#332d1e;--sound:#8ecf9f;--sound-wash:#1c3226}\n"
-    ∷ codes "@media(prefers-color-scheme:light){:root{--ground:#efece5;--panel:#f8f6f1;--rule:#d9d4c8;--ink:#1f2124;--soft:#595c61;--accent:#0a6478;--fault:#b02a1a;--fault-wash:#f6dfd9;--note:#6b4f17;--note-wash:#efe5cb;--sound:#1f6637;--sound-wash:#d9eadb}}\n"
+    ∷ codes ":root{color-scheme:dark light;--ground:#15171b;--panel:#1b1e23;--rule:#31363e;--ink:#eae7e0;--soft:#a3a8b0;--accent:#63c8da;--fault:#ff7f6b;--fault-wash:#3d2321;--note:#dcc78f;--note-wash:#332d1e;--warning:#ffb84d;--warning-wash:#472e08;--sound:#8ecf9f;--sound-wash:#1c3226}\n"
+    ∷ codes "@media(prefers-color-scheme:light){:root{--ground:#efece5;--panel:#f8f6f1;--rule:#d9d4c8;--ink:#1f2124;--soft:#595c61;--accent:#0a6478;--fault:#b02a1a;--fault-wash:#f6dfd9;--note:#6b4f17;--note-wash:#efe5cb;--warning:#7a4300;--warning-wash:#fcdca4;--sound:#1f6637;--sound-wash:#d9eadb}}\n"
     ∷ codes "*{box-sizing:border-box}\n"
     ∷ codes "body{margin:0 auto;max-width:1160px;padding:40px 28px;background:var(--ground);color:var(--ink);font:15px/1.5 -apple-system,\"Segoe UI\",Roboto,\"Noto Sans\",\"Liberation Sans\",Arial,sans-serif;font-variant-numeric:tabular-nums lining-nums}\n"
     ∷ codes "h1,h2{margin:0;font:600 24px/1.2 \"Iowan Old Style\",Palatino,\"Palatino Linotype\",\"URW Palladio L\",\"Liberation Serif\",Cambria,serif}\n"
@@ -29,6 +29,7 @@ style_lines =
     ∷ codes ".found{display:flex;flex-wrap:wrap;align-content:start;gap:6px;margin-top:14px}\n"
     ∷ codes ".found li{padding:1px 10px;border-radius:99px;background:var(--note-wash);color:var(--note);font-weight:600;font-size:13px;line-height:1.7}\n"
     ∷ codes ".found .fault{background:var(--fault-wash);color:var(--fault)}\n"
+    ∷ codes ".found .warning{background:var(--warning-wash);color:var(--warning)}\n"
     ∷ codes ".found .sound{background:var(--sound-wash);color:var(--sound)}\n"
     ∷ codes ".counts{grid-column:2;grid-row:1/4;display:grid;grid-template-columns:1fr 1fr;gap:6px 20px;align-content:start;color:var(--soft);font-size:13px}\n"
     ∷ codes ".counts b{display:block;color:var(--ink);font-size:17px;line-height:1.25}\n"

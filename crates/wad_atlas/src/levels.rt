@@ -10,21 +10,22 @@ ghost use Rattle.wad_dir.specs.Entries.{names};
 use crate::row::{Found, Judged, Row};
 use crate::tables::Tables;
 use crate::unjudged::Unjudged;
+use crate::warned::WarningCounts;
 use level_list::{Format, format_of, next_start};
 use map_cells::Frame;
-use map_level::{Level, Reading};
+use map_level::Level;
 use std::alloc::{AllocError, Allocator};
 use wad_dir::Set;
-use wad_lens::{Counts, label_of, level_at};
+use wad_lens::{Counts, Judging, label_of, level_at};
 
-/// Where levels come from, and how they are read.
+/// Where levels come from, and how they are judged.
 #[derive(Clone, Copy, Debug, PartialEq, Eq)]
 pub struct Origin<'p> {
     /// The number of the file, from 1.
     pub file: u64,
     /// Its path.
     pub path: &'p [u8],
-    pub reading: Reading,
+    pub judging: Judging,
 }
 
 /// Adds a row for each level of a file, in the order of their labels. What judging a level takes is given back before the
@@ -73,7 +74,7 @@ fn row_at<'p, A: Allocator + Copy>(
     ensures { IfOk result (IsRow origin.now set.now g) }
 {
     let name = label_of(set, g);
-    let found = found_at(alloc, set, g, origin.reading)?;
+    let found = found_at(alloc, set, g, origin.judging)?;
     Ok(Row {
         file: origin.file,
         path: origin.path,
@@ -88,14 +89,14 @@ fn found_at<A: Allocator + Copy>(
     alloc: A,
     set: &Set<'_, A>,
     g: usize,
-    reading: Reading,
+    judging: Judging,
 ) -> Result<Found, AllocError>
     requires { LevelStartsAt (names set.now) g }
-    ensures { IfOk result (FoundAt set.now reading g) }
+    ensures { IfOk result (FoundAt set.now judging g) }
 {
     match format_of(set, g) {
         Format::Doom => {
-            let judged = judged_at(alloc, set, g, reading)?;
+            let judged = judged_at(alloc, set, g, judging)?;
             Ok(Found::Judged(judged))
         }
         format => Ok(Found::Unjudged(Unjudged::new(format))),
@@ -107,16 +108,18 @@ fn judged_at<A: Allocator + Copy>(
     alloc: A,
     set: &Set<'_, A>,
     g: usize,
-    reading: Reading,
+    judging: Judging,
 ) -> Result<Judged, AllocError>
     requires { IsFormat set.now g format.Doom }
-    ensures { IfOk result (IsJudged set.now reading g) }
+    ensures { IfOk result (IsJudged set.now judging g) }
 {
-    let level = level_at(set, g, reading);
+    let level = level_at(set, g, judging.reading);
     let counts = Counts::of(alloc, &level)?;
+    let warned = WarningCounts::of(alloc, &level, judging.warnings)?;
     Ok(Judged {
         tables: Tables::of(&level),
         counts,
+        warned,
         drawn: has_lines(&level),
     })
 }

@@ -11,6 +11,7 @@ mod style;
 mod tables;
 mod text;
 mod unjudged;
+mod warned;
 
 pub use levels::{Origin, push_rows};
 pub use page::{Page, write_page};
@@ -19,3 +20,4 @@ pub use row::{Found, Judged, Row};
 pub use rows::prepend_picture_name;
 pub use tables::Tables;
 pub use unjudged::Unjudged;
+pub use warned::WarningCounts;

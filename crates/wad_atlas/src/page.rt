@@ -3,7 +3,7 @@
 ghost use Rattle.std.specs.Prelude.{◌≡◌, [], false};
 ghost use Rattle.line_io.specs.Writes.{Writes};
 ghost use Rattle.map_picture.specs.Parts.{joined};
-ghost use Rattle.wad_atlas.specs.Page.{head_parts, page_text, title_line, total_items};
+ghost use Rattle.wad_atlas.specs.Page.{head_parts, page_text, title_line, total_items, warned_item};
 ghost use Rattle.wad_atlas.specs.Rows.{totals_of_rows};
 
 use crate::items::write_number_item;
@@ -14,13 +14,15 @@ use crate::style::write_style;
 use le_rec::Sink;
 use line_io::{IoFault, TextLine, emit};
 use map_picture::parts::{Parts, write_parts};
-use wad_lens::Totals;
+use wad_lens::{Totals, Warnings};
 
 /// What a page tells.
 #[derive(Clone, Copy)]
 pub struct Page<'r, 'p> {
     /// How many files there are, the refused ones too.
     pub files: u64,
+    /// How warnings were asked for.
+    pub warnings: Warnings,
     /// Their levels, in order.
     pub rows: &'r [Row<'p>],
     /// The files that are refused, in order.
@@ -64,16 +66,17 @@ fn prepend_title(line: &mut TextLine, files: u64, totals: &Totals)
 #[derive(Drop)]
 struct TotalItems {
     files: u64,
+    warnings: Warnings,
     totals: Totals,
 }
 
 impl Parts for TotalItems {
     ghost use Rattle.wad_atlas.specs.Page.{total_items};
 
-    ghost parts = { λ items. total_items items.files items.totals };
+    ghost parts = { λ items. total_items items.files items.warnings items.totals };
 
     fn count(&self) -> usize {
-        5
+        6
     }
 
     fn write<W: Sink>(&self, number: usize, out: &mut W) -> Result<(), IoFault> {
@@ -83,11 +86,23 @@ impl Parts for TotalItems {
             1 => write_number_item(b"files", self.files, out),
             2 => write_number_item(b"faults", totals.faults, out),
             3 => write_number_item(b"notes", totals.notes, out),
+            4 => write_warned(self.warnings, totals.warnings, out),
             _ => {
                 let unjudged = totals.broken.saturating_add(totals.unread);
                 write_number_item(b"not judged", unjudged, out)
             }
         }
+    }
+}
+
+// Writes how many warnings there are, where they are asked for.
+fn write_warned<W: Sink>(warnings: Warnings, count: u64, out: &mut W) -> Result<(), IoFault>
+    requires { (W.state out.old).failed ≡ false }
+    ensures { Writes (W.state out.old) (W.state out.new) (warned_item warnings count) result }
+{
+    match warnings {
+        Warnings::Unasked => emit(out, b""),
+        Warnings::Told | Warnings::Strict => write_number_item(b"warnings", count, out),
     }
 }
 
@@ -100,7 +115,7 @@ struct HeadParts {
 impl Parts for HeadParts {
     ghost use Rattle.wad_atlas.specs.Page.{head_parts};
 
-    ghost parts = { λ parts. head_parts parts.items.files parts.items.totals };
+    ghost parts = { λ parts. head_parts parts.items.files parts.items.warnings parts.items.totals };
 
     fn count(&self) -> usize {
         6
@@ -158,7 +173,7 @@ struct PageParts<'r, 'p> {
 impl Parts for PageParts<'_, '_> {
     ghost use Rattle.wad_atlas.specs.Page.{page_parts};
 
-    ghost parts = { λ parts. page_parts parts.page.now.files parts.page.now.rows.now parts.page.now.refused.now };
+    ghost parts = { λ parts. page_parts parts.page.now.files parts.page.now.warnings parts.page.now.rows.now parts.page.now.refused.now };
 
     fn count(&self) -> usize {
         2
@@ -175,11 +190,12 @@ impl Parts for PageParts<'_, '_> {
 // Writes what stands above the levels.
 fn write_head<W: Sink>(page: &Page<'_, '_>, out: &mut W) -> Result<(), IoFault>
     requires { (W.state out.old).failed ≡ false }
-    ensures { Writes (W.state out.old) (W.state out.new) (joined (head_parts page.now.files (totals_of_rows page.now.rows.now))) result }
+    ensures { Writes (W.state out.old) (W.state out.new) (joined (head_parts page.now.files page.now.warnings (totals_of_rows page.now.rows.now))) result }
 {
     let totals = totals_of(page.rows);
     let items = TotalItems {
         files: page.files,
+        warnings: page.warnings,
         totals,
     };
     write_parts(&HeadParts { items }, out)
@@ -188,7 +204,7 @@ fn write_head<W: Sink>(page: &Page<'_, '_>, out: &mut W) -> Result<(), IoFault>
 /// Writes the page of an atlas. `Write` where the sink fails: a front of the text was taken. It takes no memory.
 pub fn write_page<W: Sink>(page: &Page<'_, '_>, out: &mut W) -> Result<(), IoFault>
     requires { (W.state out.old).failed ≡ false }
-    ensures { Writes (W.state out.old) (W.state out.new) (page_text page.now.files page.now.rows.now page.now.refused.now) result }
+    ensures { Writes (W.state out.old) (W.state out.new) (page_text page.now.files page.now.warnings page.now.rows.now page.now.refused.now) result }
 {
     write_parts(&PageParts { page }, out)
 }

@@ -5,6 +5,7 @@ ghost use Rattle.wad_atlas.specs.Rows.{format_of, is_drawn, is_faulty, tells_fau
 
 use crate::tables::Tables;
 use crate::unjudged::Unjudged;
+use crate::warned::WarningCounts;
 use le_rec::Name8;
 use level_list::Format;
 use wad_lens::{Counts, Totals, Verdict, format_totals, judged_totals};
@@ -15,6 +16,8 @@ pub struct Judged {
     pub tables: Tables,
     /// How often each code holds.
     pub counts: Counts,
+    /// How many warnings of each code there are.
+    pub warned: WarningCounts,
     /// Whether it has a picture.
     pub drawn: bool,
 }
@@ -48,7 +51,7 @@ impl Found {
         ensures { result ≡ totals_of self.now }
     {
         match self {
-            Found::Judged(judged) => judged_totals(&judged.counts, 0),
+            Found::Judged(judged) => judged_totals(&judged.counts, judged.warned.total),
             Found::Unjudged(unjudged) => format_totals(unjudged.format()),
         }
     }

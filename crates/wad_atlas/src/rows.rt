@@ -9,6 +9,7 @@ use crate::items::{write_codes, write_tables};
 use crate::row::{Found, Judged, Row};
 use crate::text::{write_name, write_number};
 use crate::unjudged::Unjudged;
+use crate::warned::write_warnings;
 use le_rec::Sink;
 use level_list::Format;
 use line_io::{IoFault, TextLine, emit};
@@ -131,7 +132,7 @@ fn write_sound<W: Sink>(counts: &Counts, out: &mut W) -> Result<(), IoFault>
     }
 }
 
-// What was found at a level of Doom's format, and its counts.
+// What was found at a level of Doom's format, its warnings, and its counts.
 #[derive(Drop)]
 struct JudgedParts<'r> {
     judged: &'r Judged,
@@ -143,7 +144,7 @@ impl Parts for JudgedParts<'_> {
     ghost parts = { λ parts. judged_parts parts.judged.now };
 
     fn count(&self) -> usize {
-        6
+        7
     }
 
     fn write<W: Sink>(&self, number: usize, out: &mut W) -> Result<(), IoFault> {
@@ -151,8 +152,9 @@ impl Parts for JudgedParts<'_> {
             0 => emit(out, b"<ul class=\"found\">\n"),
             1 => write_sound(&self.judged.counts, out),
             2 => write_codes(&self.judged.counts, out),
-            3 => emit(out, b"</ul>\n<ul class=\"counts\">\n"),
-            4 => write_tables(&self.judged.tables, out),
+            3 => write_warnings(&self.judged.warned, out),
+            4 => emit(out, b"</ul>\n<ul class=\"counts\">\n"),
+            5 => write_tables(&self.judged.tables, out),
             _ => emit(out, b"</ul>\n"),
         }
     }

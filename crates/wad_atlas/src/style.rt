@@ -18,7 +18,7 @@ impl Parts for StyleLines {
     ghost parts = { λ _. style_lines };
 
     fn count(&self) -> usize {
-        33
+        34
     }
 
     fn write<W: Sink>(&self, number: usize, out: &mut W) -> Result<(), IoFault> {
@@ -26,11 +26,11 @@ impl Parts for StyleLines {
             0 => emit(out, b"<style>\n"),
             1 => emit(
                 out,
-                b":root{color-scheme:dark light;--ground:#15171b;--panel:#1b1e23;--rule:#31363e;--ink:#eae7e0;--soft:#a3a8b0;--accent:#63c8da;--fault:#ff7f6b;--fault-wash:#3d2321;--note:#dcc78f;--note-wash:#332d1e;--sound:#8ecf9f;--sound-wash:#1c3226}\n",
+                b":root{color-scheme:dark light;--ground:#15171b;--panel:#1b1e23;--rule:#31363e;--ink:#eae7e0;--soft:#a3a8b0;--accent:#63c8da;--fault:#ff7f6b;--fault-wash:#3d2321;--note:#dcc78f;--note-wash:#332d1e;--warning:#ffb84d;--warning-wash:#472e08;--sound:#8ecf9f;--sound-wash:#1c3226}\n",
             ),
             2 => emit(
                 out,
-                b"@media(prefers-color-scheme:light){:root{--ground:#efece5;--panel:#f8f6f1;--rule:#d9d4c8;--ink:#1f2124;--soft:#595c61;--accent:#0a6478;--fault:#b02a1a;--fault-wash:#f6dfd9;--note:#6b4f17;--note-wash:#efe5cb;--sound:#1f6637;--sound-wash:#d9eadb}}\n",
+                b"@media(prefers-color-scheme:light){:root{--ground:#efece5;--panel:#f8f6f1;--rule:#d9d4c8;--ink:#1f2124;--soft:#595c61;--accent:#0a6478;--fault:#b02a1a;--fault-wash:#f6dfd9;--note:#6b4f17;--note-wash:#efe5cb;--warning:#7a4300;--warning-wash:#fcdca4;--sound:#1f6637;--sound-wash:#d9eadb}}\n",
             ),
             3 => emit(out, b"*{box-sizing:border-box}\n"),
             4 => emit(
@@ -95,23 +95,27 @@ impl Parts for StyleLines {
             ),
             25 => emit(
                 out,
-                b".found .sound{background:var(--sound-wash);color:var(--sound)}\n",
+                b".found .warning{background:var(--warning-wash);color:var(--warning)}\n",
             ),
             26 => emit(
                 out,
-                b".counts{grid-column:2;grid-row:1/4;display:grid;grid-template-columns:1fr 1fr;gap:6px 20px;align-content:start;color:var(--soft);font-size:13px}\n",
+                b".found .sound{background:var(--sound-wash);color:var(--sound)}\n",
             ),
             27 => emit(
                 out,
+                b".counts{grid-column:2;grid-row:1/4;display:grid;grid-template-columns:1fr 1fr;gap:6px 20px;align-content:start;color:var(--soft);font-size:13px}\n",
+            ),
+            28 => emit(
+                out,
                 b".counts b{display:block;color:var(--ink);font-size:17px;line-height:1.25}\n",
             ),
-            28 => emit(out, b".faulty h2,.faulty .told{color:var(--fault)}\n"),
-            29 => emit(out, b".told{margin-top:14px}\n"),
-            30 => emit(
+            29 => emit(out, b".faulty h2,.faulty .told{color:var(--fault)}\n"),
+            30 => emit(out, b".told{margin-top:14px}\n"),
+            31 => emit(
                 out,
                 b"@media(max-width:900px){body{padding:28px 18px}h1{font-size:36px}main>ol>li,main div{grid-template-columns:minmax(0,1fr)}main>ol>li{gap:16px 0}.counts{grid-column:1;grid-row:auto;grid-template-columns:repeat(4,1fr);margin-top:16px}.totals{gap:10px 26px}}\n",
             ),
-            31 => emit(
+            32 => emit(
                 out,
                 b"@media(prefers-reduced-motion:reduce){.map img{transition:none}}\n",
             ),

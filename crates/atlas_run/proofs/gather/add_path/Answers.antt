@@ -23,7 +23,7 @@ returns-in-Ok-tell_bytes-clause-adds g c =
 
 pub returns-in-Err-NoWad-clause-told : goal.returns-in-Err-NoWad-clause-told
 returns-in-Err-NoWad-clause-told g c =
-    let left = subst (LeavesBytes g.F.File.Sink.state g.E.Sink.state Survey c.args.origin.now.path.now c.deref.result.now (survey_of c.args.origin.now.reading).judging c.args.survey.now c.tell_bytes.new.out
+    let left = subst (LeavesBytes g.F.File.Sink.state g.E.Sink.state Survey c.args.origin.now.path.now c.deref.result.now (survey_of c.args.origin.now.judging).judging c.args.survey.now c.tell_bytes.new.out
     c.args.errors.now c.tell_bytes.new.errors)
     c.in-Err-NoWad.field-0-is (rw c.survey_of.ensures at c.in-Err-NoWad.ensures.left) in
     let told = rw c.in-Err-NoWad.why-is at c.add_refused.ensures.told in
@@ -31,13 +31,13 @@ returns-in-Err-NoWad-clause-told g c =
     (g.F.File.Sink.state o) (g.F.File.Sink.state c.add_refused.new.survey) (g.E.Sink.state c.tell_bytes.new.errors) (g.E.Sink.state c.add_refused.new.errors))) left.1 told in
     let writes = subst (λ e. IfOk c.add_refused.result (WritesRefusal Survey c.args.origin.now.path.now (NoWad c.in-Err-NoWad.why)
     (g.F.File.Sink.state c.args.survey.now) (g.F.File.Sink.state c.add_refused.new.survey) (g.E.Sink.state e) (g.E.Sink.state c.add_refused.new.errors))) left.2 at_out in
-    path_told (g.S.Storage.held c.args.storage.now c.args.origin.now.path.now) (survey_of c.args.origin.now.reading) c.args.origin.now.path.now (NoWad c.in-Err-NoWad.why)
+    path_told (g.S.Storage.held c.args.storage.now c.args.origin.now.path.now) (survey_of c.args.origin.now.judging) c.args.origin.now.path.now (NoWad c.in-Err-NoWad.why)
     (g.F.File.Sink.state c.args.survey.now) (g.F.File.Sink.state c.add_refused.new.survey) (g.E.Sink.state c.args.errors.now) (g.E.Sink.state c.add_refused.new.errors) c.add_refused.result
     (record { bytes = c.deref.result.now; are = search rules; refuses = left.0 }) writes
 
 pub returns-in-Err-NoWad-clause-adds : goal.returns-in-Err-NoWad-clause-adds
 returns-in-Err-NoWad-clause-adds g c =
-    let left = subst (LeavesBytes g.F.File.Sink.state g.E.Sink.state Survey c.args.origin.now.path.now c.deref.result.now (survey_of c.args.origin.now.reading).judging c.args.survey.now c.tell_bytes.new.out
+    let left = subst (LeavesBytes g.F.File.Sink.state g.E.Sink.state Survey c.args.origin.now.path.now c.deref.result.now (survey_of c.args.origin.now.judging).judging c.args.survey.now c.tell_bytes.new.out
     c.args.errors.now c.tell_bytes.new.errors)
     c.in-Err-NoWad.field-0-is (rw c.survey_of.ensures at c.in-Err-NoWad.ensures.left) in
     on_ok c.add_refused.result

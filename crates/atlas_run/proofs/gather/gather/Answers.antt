@@ -18,19 +18,19 @@ returns-in_err-tally-clause-some g c =
     let p = err_from_is_err_and c.from_residual.result c.from_residual.ensures.1 in
     let some = some_stopped (g.S.Storage.held c.args.storage.now) c.args.asked c.args.paths.now c.loop-i.i _ (omega (arith, c.loop-i-test.true)) _
     (g.F.Folder.kept c.args.folder.now) (g.F.Folder.kept c.loop-i.folder) (g.F.Folder.kept c.add_path.new.folder)
-    c.loop-i.gathered.rows.items c.loop-i.gathered.refused.items (record { numbered = refl; of_path = refl; read = refl })
+    c.loop-i.gathered.rows.items c.loop-i.gathered.refused.items (record { numbered = refl; of_path = refl; judged = refl })
     c.loop-i.invariant.all c.in_err-tally.ensures.front in
     rw p.1 some
 
 pub loop-i-preserved : goal.loop-i-preserved
 loop-i-preserved g c =
     let more = told_more (λ (path : Bor (List ℕ)). path.now) c.args.paths.now c.loop-i.i _ (omega (arith, c.loop-i-test.true))
-    (g.S.Storage.held c.args.storage.now) (survey_of c.args.asked.reading) (g.F.File.Sink.state c.args.survey.now) (g.E.Sink.state c.args.errors.now)
+    (g.S.Storage.held c.args.storage.now) (survey_of c.args.asked.judging) (g.F.File.Sink.state c.args.survey.now) (g.E.Sink.state c.args.errors.now)
     (g.F.File.Sink.state c.loop-i.survey) (g.E.Sink.state c.loop-i.errors) (g.F.File.Sink.state c.add_path.new.survey) (g.E.Sink.state c.add_path.new.errors)
     c.loop-i.gathered.tally c.in_ok-tally.tally c.loop-i.invariant.told c.in_ok-tally.ensures.told in
     let all = all_more (g.S.Storage.held c.args.storage.now) c.args.asked c.args.paths.now c.loop-i.i _ (omega (arith, c.loop-i-test.true)) _
     (g.F.Folder.kept c.args.folder.now) (g.F.Folder.kept c.loop-i.folder) (g.F.Folder.kept c.add_path.new.folder)
-    c.loop-i.gathered c.add_path.new.gathered (record { numbered = refl; of_path = refl; read = refl })
+    c.loop-i.gathered c.add_path.new.gathered (record { numbered = refl; of_path = refl; judged = refl })
     c.loop-i.invariant.all c.in_ok-tally.ensures.adds in
     record {
       sound = c.in_ok-tally.ensures.sound;

@@ -7,7 +7,7 @@ use Rattle.atlas_run.proofs.gather.gather.Given as goal
 abbrev pub invariant-loop-i : goal.invariant-loop-i
 invariant-loop-i g l = record {
   sound : AreSound (g.F.File.Sink.state l.survey) (g.E.Sink.state l.errors);
-  told : ToldTo (g.S.Storage.held l.storage) (survey_of l.asked.reading) (g.F.File.Sink.state l.fn.survey) (g.E.Sink.state l.fn.errors)
+  told : ToldTo (g.S.Storage.held l.storage) (survey_of l.asked.judging) (g.F.File.Sink.state l.fn.survey) (g.E.Sink.state l.fn.errors)
       (map (λ path. path.now) (take l.i l.paths)) (g.F.File.Sink.state l.survey) (g.E.Sink.state l.errors) l.gathered.tally;
   all : GathersAll (g.S.Storage.held l.storage) l.asked (map (λ path. path.now) (take l.i l.paths)) l.gathered.rows.items l.gathered.refused.items
       (g.F.Folder.kept l.fn.folder) (g.F.Folder.kept l.folder);

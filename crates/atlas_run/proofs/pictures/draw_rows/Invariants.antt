@@ -3,4 +3,4 @@ use Rattle.atlas_run.specs.Pictures.{DrawsRows}
 use Rattle.atlas_run.proofs.pictures.draw_rows.Given as goal
 
 abbrev pub invariant-loop-row : goal.invariant-loop-row
-invariant-loop-row g l = DrawsRows l.cells l.origin.reading l.set (take l.row-index l.rows) (g.F.Folder.kept l.fn.folder) (g.F.Folder.kept l.folder)
+invariant-loop-row g l = DrawsRows l.cells l.origin.judging.reading l.set (take l.row-index l.rows) (g.F.Folder.kept l.fn.folder) (g.F.Folder.kept l.folder)

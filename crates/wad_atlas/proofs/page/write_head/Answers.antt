@@ -7,5 +7,5 @@ use Rattle.wad_atlas.proofs.page.write_head.Goals as goal
 
 pub returns : goal.returns
 returns g c =
-    subst (λ (totals : Totals). Writes (g.W.Sink.state c.args.out.now) (g.W.Sink.state c.write_parts.new.out) (joined (head_parts c.args.page.now.files totals)) c.write_parts.result)
+    subst (λ (totals : Totals). Writes (g.W.Sink.state c.args.out.now) (g.W.Sink.state c.write_parts.new.out) (joined (head_parts c.args.page.now.files c.args.page.now.warnings totals)) c.write_parts.result)
     c.totals_of-totals.ensures c.write_parts.ensures

@@ -1,10 +1,10 @@
-// Looks at an atlas' page in headless Chromium, beside what `wadlens survey` says of the same files.
+// Looks at an atlas' page in headless Chromium, beside what `wadlens survey` says of the same files, with warnings.
 import { spawnSync } from 'node:child_process';
 import { mkdirSync, mkdtempSync, readFileSync, readdirSync, rmSync, writeFileSync } from 'node:fs';
 import { tmpdir } from 'node:os';
 import { join } from 'node:path';
 import { Browser, chromium } from '../web/test/browser.mjs';
-import { oneMistaken, rooms, wad } from '../web/test/wads.mjs';
+import { oneMistaken, rooms, twoOverlooked, wad } from '../web/test/wads.mjs';
 
 const [root, ...rest] = process.argv.slice(2);
 /** @param {string} name @returns {string | undefined} */
@@ -23,7 +23,7 @@ function is(name, came, wanted = true) {
   }
 }
 
-/** The files that the atlas is made of: a name that is markup, faults, levels that aren't judged, one without a picture, none at all. */
+/** The files that the atlas is made of: a name that is markup, faults, warnings, levels that aren't judged, one without a picture, none at all. */
 function files() {
   if (games) return ['freedoom1.wad', 'freedoom2.wad', 'freedm.wad'].map((name) => join(games, name));
   const nothing = Buffer.alloc(0);
@@ -35,6 +35,7 @@ function files() {
     ['others.wad', wad([['MAP03', nothing], ['TEXTMAP', nothing], ...rooms('MAP04').slice(0, 8)])],
     ['bare.wad', wad(rooms('MAP05', { damage: (lumps) => { lumps.LINEDEFS = nothing; } }))],
     ['mistaken.wad', wad(rooms('MAP06', { damage: oneMistaken }))],
+    ['overlooked.wad', wad(rooms('MAP07', { damage: twoOverlooked }))],
   ];
   return made.map(([name, bytes]) => {
     writeFileSync(join(room, name), bytes);
@@ -46,14 +47,22 @@ const COUNTS = ['things', 'linedefs', 'sidedefs', 'vertexes', 'segs', 'ssectors'
 
 /** What the page has to say of a level, by its object of the survey: texts that its row has. @param {any} one */
 function texts(one) {
-  const found = Object.entries(one.findings ?? {}).map(([code, count]) => `${code} × ${count}`);
   const counts = one.format === 'doom' ? COUNTS.map((name) => `${one[name]} ${name}`) : [];
-  return [one.level, one.file, `entry ${one.entry}, ${one.format}`, ...(one.sound ? ['sound'] : []), ...found, ...counts];
+  return [one.level, one.file, `entry ${one.entry}, ${one.format}`, ...(one.sound ? ['sound'] : []), ...counts];
+}
+
+/** The items of what was found at a level, in order: faults, notes and then warnings, each with its class. @param {any} one */
+function items(one) {
+  /** @param {string} code */
+  const kind = (code) => (code.startsWith('F') ? 'fault' : code.startsWith('N') ? 'note' : 'warning');
+  const found = Object.entries({ ...one.findings, ...one.warnings });
+  return [...(one.sound ? ['sound: sound'] : []), ...found.map(([code, count]) => `${kind(code)}: ${code} × ${count}`)];
 }
 
 /** What each row of the page shows, its text with single blanks. */
 const ROWS = `[...document.querySelectorAll('main > ol > li')].map((row) => ({
   text: row.innerText.replace(/\\s+/g, ' '),
+  items: [...row.querySelectorAll('.found li')].map((item) => item.className + ': ' + item.innerText),
   href: row.querySelector('a')?.getAttribute('href') ?? '',
   width: row.querySelector('img')?.naturalWidth ?? 0,
 }))`;
@@ -70,14 +79,45 @@ async function look(browser, objects, folder) {
   wanted.forEach((one, k) => {
     const missing = texts(one).filter((text) => !rows[k].text.includes(text));
     is(`row ${k + 1}, ${one.file} ${one.level}`, missing, []);
+    is(`row ${k + 1}, what was found`, rows[k].items, items(one));
   });
   const shown = rows.map((/** @type {any} */ row) => row.href).filter(Boolean).sort();
   is('a link to each picture', shown, readdirSync(folder).filter((name) => name.endsWith('.svg')).sort());
   is('each picture is drawn', rows.filter((/** @type {any} */ row) => row.href && !row.width), []);
+  const warnings = levels.flatMap((one) => Object.values(one.warnings ?? {})).reduce((sum, count) => sum + count, 0);
+  const totals = await browser.run(`document.querySelector('.totals').innerText.replace(/\\s+/g, ' ')`);
+  is('there are warnings, and how many', warnings > 0 && totals.includes(`${warnings} warnings`));
   const refused = objects.filter((one) => 'refused' in one);
   const told = await browser.run(`[...document.querySelectorAll('.refused li')].map((item) => item.innerText)`);
   is('a line for each refused file', told, refused.map((one) => `${one.file} ${one.refused}`));
   is('no name makes markup', await browser.run(`document.querySelectorAll('h2 *, .where > :not(span), i, script').length`), 0);
+}
+
+/** How bright a colour is, by WCAG 2. @param {string} colour */
+function brightness(colour) {
+  const [red, green, blue] = (colour.match(/\d+/g) ?? []).slice(0, 3).map((part) => {
+    const share = Number(part) / 255;
+    return share <= 0.04045 ? share / 12.92 : ((share + 0.055) / 1.055) ** 2.4;
+  });
+  return 0.2126 * red + 0.7152 * green + 0.0722 * blue;
+}
+
+/** The classes of what was found, with their colours. */
+const COLOURS = `Object.fromEntries([...document.querySelectorAll('.found li')].map((item) => {
+  const style = getComputedStyle(item);
+  return [item.className, [style.color, style.backgroundColor]];
+}))`;
+
+/** Each class has colours of its own, which can be read. @param {Browser} browser @param {string} name */
+async function reads(browser, name) {
+  /** @type {Record<string, string[]>} */
+  const colours = await browser.run(COLOURS);
+  is(`${name}: warnings are there`, 'warning' in colours);
+  is(`${name}: colours of their own`, new Set(Object.values(colours).flat()).size, 2 * Object.keys(colours).length);
+  for (const [kind, pair] of Object.entries(colours)) {
+    const [less, more] = pair.map(brightness).sort((a, b) => a - b);
+    is(`${name}: ${kind} can be read`, (more + 0.05) / (less + 0.05) >= 4.5);
+  }
 }
 
 /** @param {Browser} browser @param {number} width @param {'dark' | 'light'} scheme */
@@ -87,13 +127,14 @@ async function fits(browser, width, scheme) {
   is(`${name}: nothing sticks out`, await browser.run('document.documentElement.scrollWidth <= innerWidth'));
   const ground = await browser.run(`getComputedStyle(document.body).backgroundColor.match(/\\d+/g).slice(0, 3).map(Number)`);
   is(`${name}: the ground`, ground.every((/** @type {number} */ part) => (scheme === 'dark' ? part < 64 : part > 192)));
+  await reads(browser, name);
   if (pictures) writeFileSync(join(pictures, `atlas-${width}-${scheme}.png`), await browser.picture());
 }
 
 async function main() {
   const given = files(), folder = join(room, 'atlas');
   const run = (/** @type {string[]} */ ...words) => spawnSync(program, words, { cwd: room, encoding: 'utf8', maxBuffer: 1 << 28 });
-  const survey = run('survey', ...given), atlas = run('atlas', '--out', folder, ...given);
+  const survey = run('survey', '--map', ...given), atlas = run('atlas', '--map', '--out', folder, ...given);
   is('the status of both', atlas.status, survey.status);
   is('the survey', readFileSync(join(folder, 'survey.jsonl'), 'utf8'), survey.stdout);
   const objects = survey.stdout.trimEnd().split('\n').map((line) => JSON.parse(line));

@@ -345,6 +345,7 @@ cases_of_atlas() {
         '&lt;b&gt;&amp;&quot;.wad'
     has 'atlas: .. and in the picture' 1-0.svg \
         "$(map 1 'M0 0h1v65h-1z"><title>sector 1:' 65 '&lt;i&gt;&amp;&quot;')\n"
+    cases_of_warned_atlases
     into_new 'atlas: the wide reading' 1 '' '1-0.svg index.html survey.jsonl' --wide faulty.wad
     cases_of_lists_of_atlas
     cases_of_no_page
@@ -355,6 +356,44 @@ cases_of_atlas() {
     mistaken 'atlas: too many cells' '--cells' atlas --out atlas --cells 1025 base.wad
     mistaken 'atlas: a number of cells that is none' 'many' atlas --out atlas --cells many base.wad
     mistaken '--max of atlas' "unexpected argument '--max'" atlas --out atlas --max 3 base.wad
+}
+
+# shows_not NAME FILE TEXT: a file of the folder doesn't have this text.
+shows_not() {
+    : >output >error
+    [[ $(<"atlas/$2") != *"$3"* ]] || printf 'there is %s\n' "$3" >output
+    printf 0 >status
+    judge "$1" 0 '' ''
+}
+
+# Warnings stand on the page where they are asked for, behind the findings and apart from them, and in no level with F3 to F9.
+cases_of_warned_atlases() {
+    local warned
+    warned=$(
+        printf '<li class="sound">sound</li>\n'
+        printf '<li class="warning">%s</li>\n' 'W1 &times; 4' 'W7 &times; 1' 'W8 &times; 1'
+        printf '</ul>'
+    )
+    into_new 'atlas: --map' 0 '' '1-0.svg index.html survey.jsonl' --map base.wad
+    timeout 60 "$program" survey --map base.wad >survey
+    has 'atlas: its survey with warnings' survey.jsonl "$(<survey)\n"
+    shows 'atlas: its warnings' index.html '<b>0</b> faults' '<b>0</b> notes' '<b>6</b> warnings' '<b>0</b> not judged' \
+        '<li class="sound">' "$warned" '<ul class="counts">'
+    into_new 'atlas: --map --strict' 1 '' '1-0.svg index.html survey.jsonl' --strict --map base.wad
+    has 'atlas: its survey, strictly' survey.jsonl "$(<survey)\n"
+    shows 'atlas: its warnings, strictly' index.html '<b>0</b> faults' '<b>6</b> warnings' '<li class="sound">' "$warned"
+    into_new 'atlas: warnings of some levels' 2 '' '1-0.svg 3-0.svg index.html survey.jsonl' --map base.wad udmf.wad base.wad
+    timeout 60 "$program" survey --map base.wad udmf.wad base.wad >survey
+    has 'atlas: their survey' survey.jsonl "$(<survey)\n"
+    shows 'atlas: their warnings' index.html '<b>12</b> warnings' '<b>1</b> not judged' "$warned" 'udmf: not read' "$warned"
+    into_new 'atlas: warnings are not looked for' 1 '' '1-0.svg index.html survey.jsonl' --map faulty.wad
+    shows 'atlas: no warnings' index.html '<b>1</b> faults' '<b>1</b> notes' '<b>0</b> warnings' \
+        $'<ul class="found">\n<li class="fault">F9 &times; 1</li>\n<li class="note">N3 &times; 1</li>\n</ul>'
+    into_new 'atlas: warnings are not asked for' 0 '' '1-0.svg index.html survey.jsonl' base.wad
+    shows 'atlas: .. and the notes are followed by' index.html $'<b>0</b> notes</li>\n<li><b>0</b> not judged</li>\n' \
+        $'<ul class="found">\n<li class="sound">sound</li>\n</ul>'
+    shows_not 'atlas: .. and no item is one' index.html '<li class="warning">'
+    mistaken 'atlas: --strict alone' '--map' atlas --out atlas --strict base.wad
 }
 
 cases_of_lists_of_atlas() {

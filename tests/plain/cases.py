@@ -68,6 +68,7 @@ MISTAKEN = (
     "atlas --out atlas",
     "atlas --out atlas --cells 0 a.wad",
     "atlas --out atlas --max 3 a.wad",
+    "atlas --out atlas --strict a.wad",
     "compare a.wad",
     "compare a.wad a.wad a.wad",
     "assemble a.wad",

@@ -15,7 +15,8 @@ MARKS = {CLEAN: "sound", UNJUDGED: "unread", FAULTY: "faulty"}
 
 
 class Row(NamedTuple):
-    """A level, its picture's name where it has one, and what it holds where it is judged."""
+    """A level, its picture's name where it has one, and where it is judged what it holds
+    and how many warnings of each code it has, if these are asked for."""
 
     path: str
     entry: int
@@ -23,6 +24,7 @@ class Row(NamedTuple):
     form: Format
     picture: str = ""
     level: Level | None = None
+    warned: dict[str, int] | None = None
 
     @property
     def verdict(self) -> int:
@@ -94,23 +96,28 @@ def number(count: int, what: str) -> list[str]:
     return [tag("li"), text(str(count)), text(what)]
 
 
-def total_events(rows: list[Row], files: int) -> list[str]:
+def total_events(rows: list[Row], files: int, mapped: bool) -> list[str]:
     judged = [row.level for row in rows if row.level is not None]
+    warned = sum(sum(row.warned.values()) for row in rows if row.warned)
     return [
         *number(len(rows), "levels"),
         *number(files, "files"),
         *number(sum(level.faults for level in judged), "faults"),
         *number(sum(level.notes_found for level in judged), "notes"),
+        *(number(warned, "warnings") if mapped else []),
         *number(len(rows) - len(judged), "not judged"),
     ]
 
 
-def level_events(level: Level) -> list[str]:
-    """The codes that hold, with how often, and how many records there are."""
+def level_events(level: Level, warned: dict[str, int]) -> list[str]:
+    """The codes that hold, with how often, those of warnings behind them, and how many
+    records there are."""
     events = [] if level.faults else [tag("li", **{"class": "sound"}), text("sound")]
     for code, where in level.findings.items():
         kind = "fault" if code[0] == "F" else "note"
         events += [tag("li", **{"class": kind}), text(f"{code} × {len(where)}")]
+    for code, count in warned.items():
+        events += [tag("li", **{"class": "warning"}), text(f"{code} × {count}")]
     for name, table in zip(USUAL, level.tables):
         events += number(len(table), name.decode().lower())
     return events
@@ -128,13 +135,17 @@ def row_events(row: Row) -> list[str]:
     events += [text(row.path), text(f"entry {row.entry}, {row.form.name}")]
     if row.level is None:
         return [*events, text(row.form.words)]
-    return [*events, *level_events(row.level)]
+    return [*events, *level_events(row.level, row.warned or {})]
 
 
-def wanted(rows: list[Row], refused: list[tuple[str, str]], files: int) -> bytes:
-    """The events of the page of so many files: those with a fault first."""
+def wanted(
+    rows: list[Row], refused: list[tuple[str, str]], files: int, mapped: bool
+) -> bytes:
+    """The events of the page of so many files, with warnings if these are asked for: those
+    with a fault first."""
     title = f"Atlas: {len(rows)} levels in {files} files"
-    events = [tag("title"), text(title), text("Atlas"), *total_events(rows, files)]
+    events = [tag("title"), text(title), text("Atlas")]
+    events += total_events(rows, files, mapped)
     for path, why in refused:
         events += [tag("li"), text(path), text(why)]
     for faulty in (True, False):

@@ -134,8 +134,8 @@ def flags(
     random: Random, command: str, mapped: bool
 ) -> tuple[list[str], lens.Asked]:
     """Options of what goes over files one after another, and what they ask for."""
-    judges = command in ("check", "survey")
-    wide = (judges or command == "atlas") and random.random() < 0.3
+    judges = command in ("check", "survey", "atlas")
+    wide = judges and random.random() < 0.3
     with_map = judges and (mapped or random.random() < 0.4)
     strict = with_map and random.random() < 0.5
     json = command == "demos" and random.random() < 0.5

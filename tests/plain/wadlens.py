@@ -9,6 +9,7 @@ from plain.levels import Level
 from plain.look import Answer
 from plain.picture import picture
 from plain.wads import Entry, Files, entries, joined, refusal, shown, winner
+from plain.warnings import warnings
 
 MISTAKEN = Answer(2, b"", b"the usage\n")
 """What words that are mistaken give, whatever the message before the usage says."""
@@ -115,7 +116,9 @@ def file_rows(
         row = page.Row(asked.paths[n - 1], g, name, form)
         if form.name == "doom":
             level = Level(listed, g, asked.wide)
-            row = row._replace(level=level)
+            warned = warnings(level) if asked.map else {}
+            counts = {code: len(all_told) for code, all_told in warned.items()}
+            row = row._replace(level=level, warned=counts)
             if drawn := picture(level, asked.cells, None):
                 row = row._replace(picture=f"{n}-{g}.svg")
                 made[row.picture] = lens.lines(drawn)
@@ -140,7 +143,7 @@ def atlas(run: Run, asked: Asked, held: Files) -> Answer:
             refused.append((path, lens.FILE_REFUSALS[number]))
         else:
             rows += file_rows(asked, n, entries(file), made)
-    made["index.html"] = page.wanted(rows, refused, len(asked.paths))
+    made["index.html"] = page.wanted(rows, refused, len(asked.paths), asked.map)
     return Answer(survey.status, b"", survey.error, made)
 
 

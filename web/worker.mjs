@@ -65,7 +65,11 @@ async function hold({ key, file }) {
  * Whether the bytes from `at` to `end` are the name.
  * @param {Uint8Array} bytes @param {number} at @param {number} end @param {string} name
  */
-const isName = (bytes, at, end, name) => end - at === name.length && [...name].every((sign, k) => bytes[at + k] === sign.charCodeAt(0));
+function isName(bytes, at, end, name) {
+  let same = end - at === name.length ? 0 : -1;
+  while (same >= 0 && same < name.length && bytes[at + same] === name.charCodeAt(same)) same++;
+  return same === name.length;
+}
 
 /**
  * The lines of `lumps` that are labels of levels, and those of demos.
@@ -183,8 +187,8 @@ function endsOf(shown) {
 const jobs = {
   /** What a file is: its kind, its levels and demos as lines of `lumps`; or why it is refused. @param {Asked} asked */
   async open(asked) {
-    const { bytes } = await hold(asked);
-    const lumps = await ask(['lumps', 'f'], [bytes]);
+    const { bytes } = await hold(asked), entries = bytes.length < 12 ? 0 : new DataView(bytes.buffer).getUint32(4, true); // room for so many lines
+    const lumps = await ask(['lumps', 'f'], [bytes], undefined, 65536 + 40 * Math.min(entries, bytes.length >> 4));
     if (lumps.status !== 0) return other(bytes, asked.file.name);
     return { kind: firstLine(lumps).split(' ')[2], ...contents(lumps.answer) };
   },

@@ -10,6 +10,7 @@ from plain.make import (
     SECTORS,
     SEGS,
     SIDEDEFS,
+    SSECTORS,
     THINGS,
     VERTEXES,
     Draft,
@@ -147,17 +148,18 @@ def lose_tag(random: Random, draft: Draft) -> None:
     linedef[4] = random.choice((0, 7, 666, 667, -1))
 
 
-def turn_seg(random: Random, draft: Draft) -> None:
-    """A seg of a linedef with two sides on the other one: its ssector faces two sectors."""
+def turn_segs(random: Random, draft: Draft) -> None:
+    """Segs of linedefs with two sides on the other one: their ssector faces several
+    sectors."""
     linedefs = draft.tables[LINEDEFS]
-    segs = [seg for seg in draft.tables[SEGS] if -1 not in linedefs[seg[3]][5:]]
-    if segs:
-        seg = random.choice(segs)
-        seg[4] = 1 - seg[4]
+    count, first = random.choice(draft.tables[SSECTORS])
+    for seg in draft.tables[SEGS][first : first + count]:
+        if -1 not in linedefs[seg[3]][5:] and random.random() < 0.6:
+            seg[4] = 1 - seg[4]
 
 
 def lay_line(random: Random, draft: Draft) -> None:
-    """A linedef on another, by its vertexes or by others at their places."""
+    """A linedef on another, by its vertexes or others at their places; a side, or two."""
     linedef = [*random.choice(draft.tables[LINEDEFS])]
     ends = linedef[:2]
     if random.random() < 0.4:
@@ -165,6 +167,8 @@ def lay_line(random: Random, draft: Draft) -> None:
         vertexes += [[*vertexes[v]] for v in ends]
         ends = [len(vertexes) - 2, len(vertexes) - 1]
     linedef[:2] = random.choice((ends, ends[::-1]))
+    if random.random() < 0.4:
+        linedef[5:] = [-1, linedef[5]]
     draft.tables[LINEDEFS].append(linedef)
 
 
@@ -183,8 +187,8 @@ OVERSIGHTS = (
     move_thing,
     move_thing,
     lose_tag,
-    turn_seg,
-    turn_seg,
+    turn_segs,
+    turn_segs,
     lay_line,
     lose_start,
 )

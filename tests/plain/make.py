@@ -13,6 +13,7 @@ Partition = tuple[int, int, int, int]
 Lumps = list[tuple[bytes, bytes]]
 
 THINGS, LINEDEFS, SIDEDEFS, VERTEXES, SEGS, SSECTORS, NODES, SECTORS = range(8)
+FLATS = (b"FLAT1", b"FLAT1", b"F_SKY1", b"F_SKY1", b"NUKAGE1", b"<&\"'>")
 WALLS = (b"STARTAN3", b"BRICK1", b"-", b"", b"AASTINKY", b"W\\ \x7f\xff")
 
 
@@ -97,8 +98,9 @@ class Builder:
         if count and self.random.random() < 0.4:
             return self.random.randrange(count)
         floor, height = self.random.randrange(-64, 65), self.random.randrange(257)
-        flats = [self.random.choice((b"FLAT1", b"F_SKY1", b"NUKAGE1")) for _ in "ab"]
-        light, special = self.random.randrange(256), self.random.choice((0, 0, 9))
+        flats = [self.random.choice(FLATS) for _ in "ab"]
+        light = self.random.choice((*[self.random.randrange(256)] * 8, -1, 256, 300))
+        special = self.random.choice((0, 0, 9))
         tag = self.random.choice((0, 0, 1, 7))
         return self.add(SECTORS, [floor, floor + height, *flats, light, special, tag])
 
@@ -202,7 +204,7 @@ def built(random: Random, span: int, lacking: float) -> Draft:
 def level(random: Random) -> Draft:
     """A level without faults, unless its rooms are beyond what points can have."""
     span = random.choice((20, 200, 600, 600, 1500, 6000, 32767))
-    return built(random, span, 0.1)
+    return built(random, span, random.choice((0.1, 0.4)))
 
 
 def neat(random: Random) -> Draft:

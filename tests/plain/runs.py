@@ -216,7 +216,7 @@ def cell_count(random: Random, side: int) -> int | None:
 
 def frame_in(random: Random, draft: make.Draft) -> picture.Frame:
     """A part of the map, in or around a level."""
-    if random.random() < 0.1:
+    if random.random() < 0.25:
         ends = (-32768, -16385, -16384, 16383, 16384, 32767)
         (x0, x1), (y0, y1) = (sorted(random.choices(ends, k=2)) for _ in "xy")
         return picture.Frame(x0, y0, x1, y1)

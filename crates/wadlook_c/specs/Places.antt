@@ -1,5 +1,5 @@
 -- What is told of points.
-use Rattle.std.specs.Prelude.{◌≡◌, ℕ, ◌<◌, List, length, Some, IsSomeAnd}
+use Rattle.std.specs.Prelude.{◌≡◌, ◌⊎◌, ℕ, ◌<◌, List, length, Some, IsSomeAnd}
 use Rattle.std.specs.List.{slice_get}
 use Rattle.map_geo.specs.Point.{IsInRange, Point, point_at}
 use Rattle.map_level.specs.Level.{Level}
@@ -22,6 +22,10 @@ nowhere = record { ssector = 65535; sector = 65535 }
 pub record TellsPlace (level : Level) (asked : WadlookPoint) (told : WadlookPlace) : Type 0 where
   pub inside : IsInRange asked.x → IsInRange asked.y → TellsLeaf level (point_at asked.x asked.y) told
   pub outside : ¬ (IsInRange asked.x × IsInRange asked.y) → told ≡ nowhere
+
+-- a sector that a list has for the ssector, or nothing
+abbrev pub IsListed : List ℕ → WadlookPlace → Type 0
+IsListed listed told = (told ≡ nowhere) ⊎ (slice_get listed told.ssector ≡ Some told.sector)
 
 -- the place of each point stands at the point's number
 abbrev pub TellsPlaces : Level → List WadlookPoint → List WadlookPlace → Type 0

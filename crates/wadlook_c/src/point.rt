@@ -9,7 +9,7 @@ ghost use Rattle.map_level.specs.Level.{Level};
 ghost use Rattle.map_tree.specs.Child.{word_at, place_of, root_of};
 ghost use Rattle.map_tree.specs.Leaf.{IsLeaf};
 ghost use Rattle.map_tree.specs.Sound.{IsSound};
-ghost use Rattle.wadlook_c.specs.Places.{TellsLeaf, TellsPlace};
+ghost use Rattle.wadlook_c.specs.Places.{IsListed, TellsLeaf, TellsPlace};
 ghost use Rattle.wadlook_c.specs.Prepared.{IsPrepared};
 
 use crate::points::{NOWHERE, WadlookPlace, WadlookPoint};
@@ -23,7 +23,8 @@ const NF_SUBSECTOR: u16 = 0x8000;
 /// is some ssector and its sector or `NOWHERE`.
 #[unsafe(no_mangle)]
 pub extern "C" fn wadlook_point(nodes: &[u8], sectors: &[u16], point: WadlookPoint) -> WadlookPlace
-    ensures { (level : Level) → IsPrepared level nodes.now sectors.now → TellsPlace level point result }
+    ensures prepared { (level : Level) → IsPrepared level nodes.now sectors.now → TellsPlace level point result }
+    ensures listed { IsListed sectors.now result }
 {
     match Point::new(point.x, point.y) {
         Some(at) => place_in(nodes, sectors, at),
@@ -33,7 +34,8 @@ pub extern "C" fn wadlook_point(nodes: &[u8], sectors: &[u16], point: WadlookPoi
 
 // The place of a point in range.
 fn place_in(nodes: &[u8], sectors: &[u16], point: Point) -> WadlookPlace
-    ensures { (level : Level) → IsPrepared level nodes.now sectors.now → TellsLeaf level point result }
+    ensures prepared { (level : Level) → IsPrepared level nodes.now sectors.now → TellsLeaf level point result }
+    ensures listed { IsListed sectors.now result }
 {
     let Some(ssector) = leaf_in(&Table::of(nodes), point) else {
         return NOWHERE;

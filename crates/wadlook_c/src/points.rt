@@ -51,6 +51,7 @@ pub extern "C" fn wadlook_points(
     ensures done { result ≡ 0 → (level : Level) × IsAccepted (wad.now ∷ []) name.now (reading_of wide) level
         × TellsPlaces level points.now out.new }
     ensures room { result ≡ NO_ROOM → length out.old < length points.now }
+    ensures fits { ¬ (result ≡ NO_ROOM) → length points.now ≤ length out.old }
     ensures refused { ¬ (result ≡ 0) → ¬ (result ≡ NO_ROOM)
         → EndsBy (RefusesAccepted (wad.now ∷ []) name.now (reading_of wide)) result }
     ensures untouched { ¬ (result ≡ 0) → out.new ≡ out.old }

@@ -7,17 +7,18 @@ use Rattle.lens_picture.specs.Files.{AreHeld, IsFirstUnread}
 use Rattle.lens_picture.specs.Format.{IsFormatAt}
 use Rattle.lens_picture.specs.Told.{TellsRefused, named_line}
 use Rattle.lens_picture.specs.declared.draw.PictureQuestion.{PictureQuestion}
-use Rattle.lens_run.specs.Job.{TellsRest}
+use Rattle.lens_run.specs.Job.{TellsRest, WantsMemory}
+use Rattle.lens_run.specs.Output.{output_state}
+use Rattle.lens_run.specs.Run.{IsTold}
 use Rattle.lens_run.specs.declared.end.End.{End}
 use Rattle.lens_run.specs.declared.end.End.TheVariants as end
 use Rattle.lens_run.specs.declared.output.Output.{Output}
 use Rattle.level_list.specs.Format.{IsFormat}
 use Rattle.level_list.specs.declared.format.Format.{Format}
 use Rattle.level_list.specs.declared.format.Format.TheVariants.{Doom}
-use Rattle.line_io.specs.Writes.{TakesFront}
 use Rattle.map_level.specs.Level.{Level}
 use Rattle.map_level.specs.Opening.{IsLevelAt}
-use Rattle.map_picture.specs.Drawing.{HasNothing, IsPicture}
+use Rattle.map_picture.specs.Drawing.{HasNothing, IsPicture, TakesSome}
 use Rattle.map_picture.specs.declared.draw.Asked.{Asked}
 use Rattle.map_tree.specs.Sound.{IsSound}
 use Rattle.wad_dir.specs.Entries.{names}
@@ -42,9 +43,9 @@ pub record IsFound (level : Level) (found : Verdict) : Type 0 where
   pub says : IsTrue faulty ↔ (¬ IsSound level)
   pub is : found ≡ drawn_verdict faulty
 
--- a text was told on standard error, at least a front of it, nothing was answered, and the run ended so
+-- a text was told on standard error, nothing was answered, and the run ended so
 pub record TellsAlone {W : Type 0} (text : List ℕ) (ended : Result Verdict End) (old new : Output W) (errors errors' : SinkState) (result : Result Verdict End) : Type 0 where
-  pub told : TakesFront errors errors' text
+  pub told : IsTold errors errors' text
   pub untouched : new ≡ old
   pub ends : result ≡ ended
 
@@ -62,10 +63,16 @@ pub record DrawsNothing {W : Type 0} (level : Level) (question : PictureQuestion
   pub none : HasNothing level question.drawn.frame
   pub tells : TellsAlone (named_line question.name.now (codes "nothing to draw\n")) (Err end.Refused) old new errors errors' result
 
+-- there was no memory: nothing was told, and of the picture nothing was written, or a front of it where a write failed
+pub record WantsMore {W : Type 0} (level : Level) (asked : Asked) (contents : W → Option (List ℕ)) (old new : Output W) (errors errors' : SinkState) (result : Result Verdict End) : Type 0 where
+  pub wrote : (new ≡ old) ⊎ TakesSome (IsPicture level asked) (output_state contents old) (output_state contents new)
+  pub silent : errors' ≡ errors
+  pub ended : result ≡ Err end.Memory
+
 -- one of the two; or there was no memory
 abbrev pub DrawsLevel : {W : Type 0} → Level → PictureQuestion → (W → Option (List ℕ)) → Output W → Output W → SinkState → SinkState → Result Verdict End → Type 0
 DrawsLevel level question contents old new errors errors' result =
-    (result ≡ Err end.Memory) ⊎ DrawsNothing level question old new errors errors' result
+    WantsMore level question.drawn contents old new errors errors' result ⊎ DrawsNothing level question old new errors errors' result
     ⊎ DrawsWhole level question.drawn contents old new errors errors' result
 
 -- the level at an entry is in a format that isn't read, or it isn't whole, which was told
@@ -120,7 +127,7 @@ pub record DrawsSet {W : Type 0} (bytes : List (List ℕ)) (question : PictureQu
 -- the files under the paths hold these bytes
 abbrev pub DrawsFiles : {W : Type 0} → List (List ℕ) → List (List ℕ) → PictureQuestion → (W → Option (List ℕ)) → Output W → Output W → SinkState → SinkState → Result Verdict End → Type 0
 DrawsFiles paths bytes question contents old new errors errors' result =
-    (result ≡ Err end.Memory) ⊎ RefusesDirectory paths bytes old new errors errors' result
+    WantsMemory old new errors errors' result ⊎ RefusesDirectory paths bytes old new errors errors' result
     ⊎ DrawsSet bytes question contents old new errors errors' result
 
 -- the first of the files that isn't read is told
@@ -141,5 +148,5 @@ pub record DrawsRead {W : Type 0} (held : List ℕ → Option (List ℕ)) (paths
 -- the run over files that hold what `held` says, where that is known
 abbrev pub DrawsPaths : {W : Type 0} → (List ℕ → Option (List ℕ)) → List (List ℕ) → PictureQuestion → (W → Option (List ℕ)) → Output W → Output W → SinkState → SinkState → Result Verdict End → Type 0
 DrawsPaths held paths question contents old new errors errors' result =
-    (result ≡ Err end.Memory) ⊎ RefusesUnread held paths old new errors errors' result
+    WantsMemory old new errors errors' result ⊎ RefusesUnread held paths old new errors errors' result
     ⊎ DrawsRead held paths question contents old new errors errors' result

@@ -2,8 +2,7 @@
 use Rattle.std.specs.Prelude.{◌≡◌, ℕ, List, ◌++◌, Some, codes}
 use Rattle.std.specs.List.{slice_get}
 use Rattle.le_rec.specs.Sink.{SinkState}
-use Rattle.lens_run.specs.Run.{refusal_line}
-use Rattle.line_io.specs.Writes.{TakesFront}
+use Rattle.lens_run.specs.Run.{IsTold, refusal_line}
 use Rattle.wad_lens.specs.declared.object.Refusal.{Refusal}
 
 -- `wadlens: NAME: `
@@ -14,8 +13,8 @@ name_head name = codes "wadlens: " ++ (name ++ codes ": ")
 abbrev pub named_line : List ℕ → List ℕ → List ℕ
 named_line name text = name_head name ++ text
 
--- it was told, at least a front of it, that the file of a place is refused
+-- it was told that the file of a place is refused
 pub record TellsRefused (paths : List (List ℕ)) (place : ℕ) (refusal : Refusal) (errors errors' : SinkState) : Type 0 where
   pub path : List ℕ
   pub there : slice_get paths place ≡ Some path
-  pub told : TakesFront errors errors' (refusal_line path refusal)
+  pub told : IsTold errors errors' (refusal_line path refusal)

@@ -25,10 +25,6 @@ pub front_written : (before after : SinkState) (text : List ℕ) (result : Resul
 front_written before after text (Ok x) writes = whole_front before after text writes.takes.whole
 front_written before after text (Err fault) writes = writes.takes.front
 
--- and it still is when what was taken is kept
-pub front_kept : (before between after : SinkState) (text : List ℕ) → Appends before.taken between.taken text → Keeps between.taken after.taken → TakesFront before after text
-front_kept before between after text whole kept = whole_front before after text (Appends-kept before.taken between.taken after.taken text whole kept)
-
 -- what is kept, with nothing more
 pub nothing_more : (before after : Option (List ℕ)) → Keeps before after → Appends before after []
 nothing_more before after kept = Appends-kept before before after [] (Appends-nil before) kept

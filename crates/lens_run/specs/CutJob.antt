@@ -2,7 +2,6 @@
 use Rattle.std.specs.Prelude.{◌≡◌, ◌⊎◌, ℕ, List, ◌++◌, codes, Option, Some, Result, Ok, Err}
 use Rattle.std.specs.Io.KnownBytes.{Keeps}
 use Rattle.le_rec.specs.Sink.{SinkState}
-use Rattle.line_io.specs.Writes.{TakesFront}
 use Rattle.wad_lens.specs.Cut.{IsCut, RefusesCut, cut_fault_text}
 use Rattle.wad_lens.specs.declared.cut.CutFault.{CutFault}
 use Rattle.wad_lens.specs.declared.cut.CutFault.TheVariants as fault
@@ -10,8 +9,8 @@ use Rattle.wad_lens.specs.declared.object.Refusal.{Refusal}
 use Rattle.wad_lens.specs.declared.verdict.Verdict.{Verdict}
 use Rattle.wad_lens.specs.declared.verdict.Verdict.TheVariants.{Clean, Faulty}
 use Rattle.lens_run.specs.Files.{RefusesRead}
-use Rattle.lens_run.specs.Job.{TellsRest}
-use Rattle.lens_run.specs.Run.{refusal_line}
+use Rattle.lens_run.specs.Job.{TellsRest, WantsMemory}
+use Rattle.lens_run.specs.Run.{IsTold, refusal_line}
 use Rattle.lens_run.specs.declared.end.End.{End}
 use Rattle.lens_run.specs.declared.end.End.TheVariants as end
 use Rattle.lens_run.specs.declared.files.ReadFault.TheVariants.{Refused}
@@ -32,29 +31,31 @@ cut_fault_end fault.Memory = Err end.Memory
 cut_fault_end fault.Write = Err end.Refused
 
 -- the level was cut out, and its file written
-pub record CutsOut {W : Type 0} (bytes : List ℕ) (entry : ℕ) (contents : W → Option (List ℕ)) (old new : Output W) (result : Result Verdict End) : Type 0 where
+pub record CutsOut {W : Type 0} (bytes : List ℕ) (entry : ℕ) (contents : W → Option (List ℕ)) (old new : Output W) (errors errors' : SinkState) (result : Result Verdict End) : Type 0 where
   pub text : List ℕ
   pub is : IsCut bytes entry text
+  pub silent : errors' ≡ errors
   pub rest : TellsRest contents text Clean old new result
 
 -- it wasn't, which was told
 pub record CutsNone {W : Type 0} (bytes : List ℕ) (entry : ℕ) (path : List ℕ) (old new : Output W) (errors errors' : SinkState) (result : Result Verdict End) : Type 0 where
   pub fault : CutFault
   pub why : RefusesCut bytes entry fault
-  pub told : TakesFront errors errors' (cut_fault_line path fault)
+  pub told : IsTold errors errors' (cut_fault_line path fault)
   pub untouched : new ≡ old
   pub ended : result ≡ cut_fault_end fault
 
 -- or there was no memory
 abbrev pub CutsBytes : {W : Type 0} → List ℕ → ℕ → List ℕ → (W → Option (List ℕ)) → Output W → Output W → SinkState → SinkState → Result Verdict End → Type 0
 CutsBytes bytes entry path contents old new errors errors' result =
-    (result ≡ Err end.Memory) ⊎ CutsNone bytes entry path old new errors errors' result ⊎ CutsOut bytes entry contents old new result
+    WantsMemory old new errors errors' result ⊎ CutsNone bytes entry path old new errors errors' result
+    ⊎ CutsOut bytes entry contents old new errors errors' result
 
 -- the file wasn't read, which was told
 pub record CutsNoFile {W : Type 0} (held : Option (List ℕ)) (path : List ℕ) (old new : Output W) (errors errors' : SinkState) (result : Result Verdict End) : Type 0 where
   pub refusal : Refusal
   pub why : RefusesRead held (Refused refusal)
-  pub told : TakesFront errors errors' (refusal_line path refusal)
+  pub told : IsTold errors errors' (refusal_line path refusal)
   pub untouched : new ≡ old
   pub ended : result ≡ Err end.Refused
 
@@ -66,5 +67,5 @@ pub record CutsFile {W : Type 0} (held : Option (List ℕ)) (entry : ℕ) (path 
 
 abbrev pub CutsPath : {W : Type 0} → Option (List ℕ) → ℕ → List ℕ → (W → Option (List ℕ)) → Output W → Output W → SinkState → SinkState → Result Verdict End → Type 0
 CutsPath held entry path contents old new errors errors' result =
-    (result ≡ Err end.Memory) ⊎ CutsNoFile held path old new errors errors' result
+    WantsMemory old new errors errors' result ⊎ CutsNoFile held path old new errors errors' result
     ⊎ CutsFile held entry path contents old new errors errors' result

@@ -72,7 +72,7 @@ StopsOthers path bytes before after fault.Memory = Unit {0}
 abbrev pub LeavesDemos : {W E : Type 0} → (W → SinkState) → (E → SinkState) → DemoForm → List ℕ → List ℕ → W → W → E → E → BytesFault → Type 0
 LeavesDemos state state' form path bytes out out' errors errors' (fault.NoWad why) = RefusesWad bytes why × (out' ≡ out) × (errors' ≡ errors)
 LeavesDemos state state' form path bytes out out' errors errors' (fault.Output found) =
-    StopsDemos form path bytes (state out) (state out') found × ((state out').failed ≡ true)
+    StopsDemos form path bytes (state out) (state out') found × ((state out').failed ≡ true) × (state' errors' ≡ state' errors)
 LeavesDemos state state' form path bytes out out' errors errors' fault.Errors =
     TellsDemos (answers_in form path) bytes (state out) (state out') (Ok false)
     × StopsOthers path bytes (state' errors) (state' errors') fault.Errors

@@ -12,7 +12,7 @@ use Rattle.wad_lens.specs.declared.verdict.Verdict.{Verdict}
 use Rattle.lens_run.specs.Files.{RefusesRead}
 use Rattle.lens_run.specs.Output.{held_back, is_closed, output_state}
 use Rattle.lens_run.specs.Paths.{listed_paths}
-use Rattle.lens_run.specs.Run.{StopsAt, ToldTo, refusal_line}
+use Rattle.lens_run.specs.Run.{IsTold, StopsAt, ToldTo, refusal_line}
 use Rattle.lens_run.specs.declared.end.End.{End}
 use Rattle.lens_run.specs.declared.end.End.TheVariants as end
 use Rattle.lens_run.specs.declared.files.ReadFault.TheVariants.{Refused}
@@ -112,7 +112,7 @@ pub record RunsPaths {W : Type 0} (held : List ℕ → Option (List ℕ)) (left 
 pub record RefusesList {W : Type 0} (held : List ℕ → Option (List ℕ)) (left : Option (List ℕ)) (job : Job) (old new : Output W) (errors errors' : SinkState) (result : Result Verdict End) : Type 0 where
   pub refusal : Refusal
   pub why : RefusesRead (list_held held left job) (Refused refusal)
-  pub told : TakesFront errors errors' (refusal_line (list_name job) refusal)
+  pub told : IsTold errors errors' (refusal_line (list_name job) refusal)
   pub untouched : new ≡ old
   pub ended : result ≡ Err end.Refused
 

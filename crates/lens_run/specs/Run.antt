@@ -1,12 +1,13 @@
 -- What a run tells of its files (ours): of each path in order the engine's text, or why its file is refused.
-use Rattle.std.specs.Prelude.{◌≡◌, ◌⊎◌, ℕ, ◌≤◌, false, true, List, [], ◌∷◌, ◌++◌, codes, length, Option, Some, Ok, Err}
+use Rattle.std.specs.Prelude.{◌≡◌, ◌⊎◌, ℕ, ◌≤◌, false, true, List, [], ◌∷◌, ◌++◌, codes, length, Option, Some, Result, Ok, Err}
 use Rattle.std.specs.Io.KnownBytes.{Appends, Keeps}
 use Rattle.le_rec.specs.Sink.{SinkState}
 use Rattle.wad_lens.specs.declared.judging.Judging.{Judging}
 use Rattle.wad_dir.specs.Refusal.{RefusesWad}
 use Rattle.wad_dir.specs.Wad.{IsRead, Wad}
 use Rattle.wad_dir.specs.declared.wad.WadFault.{WadFault}
-use Rattle.line_io.specs.Writes.{TakesFront}
+use Rattle.line_io.specs.Writes.{TakesFront, Writes}
+use Rattle.line_io.specs.declared.fault.IoFault.{IoFault}
 use Rattle.wad_lens.specs.Check.{ChecksAll, ChecksFile}
 use Rattle.wad_lens.specs.Objects.{refusal_text, refused_object}
 use Rattle.wad_lens.specs.Survey.{SurveysAll, SurveysFile, graver}
@@ -32,6 +33,10 @@ use Rattle.lens_run.specs.declared.tell.Word.TheVariants.{Check, Demos, Survey}
 -- a refused file's line on standard error: `wadlens: PATH: TEXT`
 abbrev pub refusal_line : List ℕ → Refusal → List ℕ
 refusal_line path refusal = codes "wadlens: " ++ (path ++ (codes ": " ++ (refusal_text refusal ++ codes "\n")))
+
+-- a text was told on an end: all of it, or a front of it where the end failed
+abbrev pub IsTold : SinkState → SinkState → List ℕ → Type 0
+IsTold before after text = (outcome : Result (Unit {0}) IoFault) × Writes before after text outcome
 
 -- what is answered of a refused file: a survey's object, and else nothing
 abbrev pub refusal_answer : Word → List ℕ → Refusal → List ℕ
@@ -103,7 +108,7 @@ fault_of engine.Memory = fault.Memory
 abbrev pub LeavesBytes : {W E : Type 0} → (W → SinkState) → (E → SinkState) → Word → List ℕ → List ℕ → Judging → W → W → E → E → BytesFault → Type 0
 LeavesBytes state state' word path bytes judging out out' errors errors' (fault.NoWad why) = RefusesWad bytes why × (out' ≡ out) × (errors' ≡ errors)
 LeavesBytes state state' word path bytes judging out out' errors errors' (fault.Output found) =
-    TellsSome word path bytes judging (state out) (state out') found × ((state out').failed ≡ true)
+    TellsSome word path bytes judging (state out) (state out') found × ((state out').failed ≡ true) × (state' errors' ≡ state' errors)
 LeavesBytes state state' word path bytes judging out out' errors errors' fault.Errors =
     StopsErrors word path bytes (state out) (state out') (state' errors) (state' errors')
 LeavesBytes state state' word path bytes judging out out' errors errors' fault.Memory = Unit {0}
@@ -168,15 +173,17 @@ abbrev pub StopsRefusal : Word → List ℕ → Refusal → SinkState → SinkSt
 StopsRefusal word path refusal out out' errors errors' stop.Memory = ⊥
 StopsRefusal word path refusal out out' errors errors' (stop.Output found) =
     TakesFront out out' (refusal_answer word path refusal) × (out'.failed ≡ true) × (found ≡ Unjudged)
+    × Appends errors.taken errors'.taken (refusal_line path refusal)
 StopsRefusal word path refusal out out' errors errors' stop.Errors =
     TakesFront errors errors' (refusal_line path refusal) × (errors'.failed ≡ true) × (out' ≡ out)
 
--- a run stopped while the file under a path was told
-pub record StopsTelling (held : Option (List ℕ)) (asked : Asked) (path : List ℕ) (out out' : SinkState) (found : Verdict) : Type 0 where
+-- a run stopped while the file under a path was told, and standard error was told nothing of it
+pub record StopsTelling (held : Option (List ℕ)) (asked : Asked) (path : List ℕ) (out out' errors errors' : SinkState) (found : Verdict) : Type 0 where
   pub bytes : List ℕ
   pub are : Keeps held (Some bytes)
   pub told : TellsSome asked.word path bytes asked.judging out out' found
   pub failed : out'.failed ≡ true
+  pub silent : errors' ≡ errors
 
 -- a run stopped while it told of demos that aren't read, in the file under a path
 pub record StopsOnErrors (held : Option (List ℕ)) (asked : Asked) (path : List ℕ) (out out' errors errors' : SinkState) : Type 0 where
@@ -194,7 +201,7 @@ pub record StopsRefusing (held : Option (List ℕ)) (word : Word) (path : List �
 abbrev pub StopsPath : Option (List ℕ) → Asked → List ℕ → SinkState → SinkState → SinkState → SinkState → Stop → Type 0
 StopsPath held asked path out out' errors errors' stop.Memory = Unit {0}
 StopsPath held asked path out out' errors errors' (stop.Output found) =
-    StopsTelling held asked path out out' found ⊎ StopsRefusing held asked.word path out out' errors errors' (stop.Output found)
+    StopsTelling held asked path out out' errors errors' found ⊎ StopsRefusing held asked.word path out out' errors errors' (stop.Output found)
 StopsPath held asked path out out' errors errors' stop.Errors =
     StopsOnErrors held asked path out out' errors errors' ⊎ StopsRefusing held asked.word path out out' errors errors' stop.Errors
 

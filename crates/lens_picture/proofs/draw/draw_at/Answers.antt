@@ -1,5 +1,4 @@
 use Rattle.std.proofs.Common.{Ok, ap, inl, refl, rules}
-use Rattle.lens_run.proofs.JobLemmas.{front_written}
 use Rattle.lens_picture.specs.Told.{named_line}
 use Rattle.wad_lens.specs.FormatLine.{format_text}
 use Rattle.lens_picture.proofs.draw.draw_at.Goals as goal
@@ -10,8 +9,7 @@ returns-in_default g c = inl (record {
   is = search rules;
   other = search rules;
   tells = record {
-    told = front_written (g.E.Sink.state c.args.errors.now) (g.E.Sink.state c.write_format.new.errors) (named_line c.args.question.now.name.now (format_text c.format_at.result))
-        c.write_format.result c.write_format.ensures;
+    told = (c.write_format.result, c.write_format.ensures);
     untouched = refl;
     ends = ap Ok c.verdict_of_format.ensures;
   };

@@ -1,5 +1,4 @@
 use Rattle.std.proofs.Common.{ℕ, List, Bor}
-use Rattle.lens_run.proofs.JobLemmas.{front_written}
 use Rattle.lens_run.specs.Run.{refusal_line}
 use Rattle.lens_picture.proofs.FileLemmas.{path_at}
 use Rattle.lens_picture.proofs.told.tell_refused.Goals as goal
@@ -8,6 +7,5 @@ pub returns : goal.returns
 returns g c = record {
   path = c.as_bytes.result.now;
   there = path_at (λ (path : Bor (List ℕ)). path.now) c.args.paths.now c.args.place _ c.as_bytes.result.now c.requires.there c.as_bytes.ensures.value;
-  told = front_written (g.E.Sink.state c.args.errors.now) (g.E.Sink.state c.write_refusal.new.errors) (refusal_line c.as_bytes.result.now c.args.refusal)
-      c.write_refusal.result c.write_refusal.ensures;
+  told = (c.write_refusal.result, c.write_refusal.ensures);
 }

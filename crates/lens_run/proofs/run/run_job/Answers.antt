@@ -4,7 +4,7 @@ use Rattle.lens_run.specs.Files.{RefusesRead}
 use Rattle.lens_run.specs.Job.{job_paths, list_held}
 use Rattle.lens_run.specs.Run.{StopsAt}
 use Rattle.lens_run.specs.Output.{output_state}
-use Rattle.lens_run.proofs.JobLemmas.{front_written, tells_all}
+use Rattle.lens_run.proofs.JobLemmas.{tells_all}
 use Rattle.lens_run.proofs.run.run_job.Goals as goal
 
 pub returns-in-Err-Refused : goal.returns-in-Err-Refused
@@ -12,9 +12,8 @@ returns-in-Err-Refused g c =
     let why = subst (RefusesRead (list_held (g.S.Storage.held c.args.storage.now) (g.I.Read.remaining c.args.reader) c.args.job.now))
     c.in-Err-Refused.field-0-is c.in-Err-Refused.ensures.refused in
     let wrote = rw c.in-Err-Refused.refusal-is at c.write_refusal.ensures in
-    let told = front_written (g.E.Sink.state c.args.errors.now) (g.E.Sink.state c.write_refusal.new.errors) _ c.write_refusal.result wrote in
-    let named = rw c.list_name.ensures at told in
-    inr (inl (record { refusal = c.in-Err-Refused.refusal; why = why; told = named; untouched = refl; ended = refl }))
+    let named = rw c.list_name.ensures at wrote in
+    inr (inl (record { refusal = c.in-Err-Refused.refusal; why = why; told = (c.write_refusal.result, named); untouched = refl; ended = refl }))
 
 pub returns-in-Ok-told : goal.returns-in-Ok-told
 returns-in-Ok-told g c =

@@ -47,7 +47,7 @@ def points(cells):
 J = [('lumps, a run a file', o.wadlook, [['lumps', f] for f in IWADS], '/dev/null')]
 for words in ('check', 'check --wide', 'check --map', 'survey', 'survey --map', 'demos'):
     J.append((words, o.wadlens, [words.split() + IWADS], '/dev/null'))
-J.append(('atlas', o.wadlens, [['atlas', '--out', p('atlas')] + IWADS], '/dev/null'))
+for words in ('atlas', 'atlas --map'): J.append((words, o.wadlens, [words.split() + ['--out', p('atlas')] + IWADS], '/dev/null'))
 for cells in (512, 1024):
     for where, wad in (('alone', M12), ('in its IWAD', F2)):
         J.append(('picture of MAP12 %s, %d cells' % (where, cells), o.wadlens, [['picture', '--cells', str(cells), 'MAP12', wad]], '/dev/null'))

@@ -8,6 +8,7 @@ ghost use Rattle.map_level.specs.Links.{named, sectors_of};
 ghost use Rattle.map_checks.specs.Bare.{BetweenSectors, IsBare, IsBarePart, IsNoTexture, IsSky};
 ghost use Rattle.map_checks.specs.Bare.{behind, sidedef_at_side, ShowsLower, ShowsUpper};
 ghost use Rattle.map_checks.specs.Warnings.{part_number, side_number, Tells, TellsBelow};
+ghost use Rattle.map_checks.specs.declared.warning.Part.TheVariants as part;
 ghost use Rattle.map_checks.specs.Holds.{HoldsOf};
 
 use crate::records::sidedef;
@@ -61,9 +62,10 @@ fn tell_side<A: Allocator>(
         (TellsBelow (HoldsOf level.now WarningCode.W2) (i * 6 + side_number side * 3 + 3) told.new) }
     ensures most { OnOk result (told.new.most ≡ told.old.most) }
 {
-    tell_part(told, level, i, side, Part::Middle)?;
-    tell_part(told, level, i, side, Part::Upper)?;
-    tell_part(told, level, i, side, Part::Lower)
+    let bare = bare_parts(level, i, side);
+    tell_part(told, level, i, side, Part::Middle, bare.middle)?;
+    tell_part(told, level, i, side, Part::Upper, bare.upper)?;
+    tell_part(told, level, i, side, Part::Lower, bare.lower)
 }
 
 // Tells that a part of a linedef's side is bare, where it is.
@@ -73,9 +75,11 @@ fn tell_part<A: Allocator>(
     i: u32,
     side: Side,
     part: Part,
+    is_bare: bool,
 ) -> Result<(), AllocError>
-    requires { TellsBelow (HoldsOf level.now WarningCode.W2)
+    requires below { TellsBelow (HoldsOf level.now WarningCode.W2)
         (i * 6 + side_number side * 3 + part_number part) told.old }
+    requires bare { IsTrue is_bare ↔ IsBare level.now i side part }
     ensures told { OnOk result (TellsBelow (HoldsOf level.now WarningCode.W2)
         (i * 6 + side_number side * 3 + part_number part + 1) told.new) }
     ensures most { OnOk result (told.new.most ≡ told.old.most) }
@@ -85,35 +89,56 @@ fn tell_part<A: Allocator>(
         side,
         part,
     };
-    tell_where(
-        told,
-        level,
-        WarningCode::W2,
-        warning,
-        is_bare(level, i, side, part),
-    )
+    tell_where(told, level, WarningCode::W2, warning, is_bare)
 }
 
-// Whether a part of a linedef's side is bare.
-fn is_bare(level: &Level<'_>, i: u32, side: Side, part: Part) -> bool
-    ensures { IsTrue result ↔ IsBare level.now i side part }
+// Which parts of a side are bare.
+#[derive(Clone, Copy)]
+struct BareParts {
+    middle: bool,
+    upper: bool,
+    lower: bool,
+}
+
+/// Those of a side that isn't there.
+const NO_PARTS: BareParts = BareParts {
+    middle: false,
+    upper: false,
+    lower: false,
+};
+
+// Which parts of a linedef's side are bare.
+fn bare_parts(level: &Level<'_>, i: u32, side: Side) -> BareParts
+    ensures middle { IsTrue result.middle ↔ IsBare level.now i side part.Middle }
+    ensures upper { IsTrue result.upper ↔ IsBare level.now i side part.Upper }
+    ensures lower { IsTrue result.lower ↔ IsBare level.now i side part.Lower }
 {
     match linedef_at(level, i as usize) {
-        Some(linedef) => is_bare_side(level, &linedef, side, part),
-        None => false,
+        Some(linedef) => parts_of_side(level, &linedef, side),
+        None => NO_PARTS,
     }
 }
 
-fn is_bare_side(level: &Level<'_>, linedef: &LineDef, side: Side, part: Part) -> bool
-    ensures { let under = linedef_under level.now.reading linedef.now in
-        IsTrue result ↔ IsSomeAnd (sidedef_at_side level.now under side)
-        (λ this. IsBarePart level.now side this (sidedef_at_side level.now under (behind side)) part) }
+fn parts_of_side(level: &Level<'_>, linedef: &LineDef, side: Side) -> BareParts
+    ensures middle { let under = linedef_under level.now.reading linedef.now in
+        IsTrue result.middle ↔ IsSomeAnd (sidedef_at_side level.now under side)
+        (λ this. IsBarePart level.now side this (sidedef_at_side level.now under (behind side)) part.Middle) }
+    ensures upper { let under = linedef_under level.now.reading linedef.now in
+        IsTrue result.upper ↔ IsSomeAnd (sidedef_at_side level.now under side)
+        (λ this. IsBarePart level.now side this (sidedef_at_side level.now under (behind side)) part.Upper) }
+    ensures lower { let under = linedef_under level.now.reading linedef.now in
+        IsTrue result.lower ↔ IsSomeAnd (sidedef_at_side level.now under side)
+        (λ this. IsBarePart level.now side this (sidedef_at_side level.now under (behind side)) part.Lower) }
 {
     let Some(this) = sidedef_at_side(level, linedef, side) else {
-        return false;
+        return NO_PARTS;
     };
     let other = sidedef_at_side(level, linedef, behind(side));
-    is_bare_part(level, side, &this, &other, part)
+    BareParts {
+        middle: is_bare_part(level, side, &this, &other, Part::Middle),
+        upper: is_bare_part(level, side, &this, &other, Part::Upper),
+        lower: is_bare_part(level, side, &this, &other, Part::Lower),
+    }
 }
 
 fn behind(side: Side) -> Side
@@ -217,11 +242,11 @@ fn shows_lower(here: &Sector, there: &Sector) -> bool
 fn is_no_texture(bytes: [u8; 8]) -> bool
     ensures { IsTrue result ↔ IsNoTexture bytes }
 {
-    Name8::stored(bytes) == Name8::query(b"-")
+    Name8::stored(bytes) == Name8::stored(*b"-\0\0\0\0\0\0\0")
 }
 
 fn is_sky(bytes: [u8; 8]) -> bool
     ensures { IsTrue result ↔ IsSky bytes }
 {
-    Name8::stored(bytes) == Name8::query(b"F_SKY1")
+    Name8::stored(bytes) == Name8::stored(*b"F_SKY1\0\0")
 }

@@ -1,8 +1,10 @@
 //! All warnings, by their codes.
 
-ghost use Rattle.std.specs.Prelude.{◌≡◌, IfOk};
+ghost use Rattle.std.specs.Prelude.{◌≡◌, ◌↔◌, IfOk, IsTrue};
+ghost use Rattle.map_tree.specs.Sound.{IsSound};
 ghost use Rattle.map_checks.specs.Warnings.{Tells};
 ghost use Rattle.map_checks.specs.Holds.{HoldsOf, IsLookedFor};
+ghost use Rattle.map_checks.specs.References.{HasReferences};
 
 use crate::bare::bare_walls;
 use crate::closing::unclosed;
@@ -54,7 +56,7 @@ impl<'l, 'a> Checks<'l, 'a> {
         let is_sound = is_sound(alloc, level)?;
         Ok(Checks {
             level,
-            has_references: has_references(level),
+            has_references: references_hold(level, is_sound),
             is_sound,
         })
     }
@@ -99,6 +101,17 @@ impl<'l, 'a> Checks<'l, 'a> {
         let told = warnings(alloc, self.level(), code, most)?;
         Ok(told)
     }
+}
+
+// Whether the references of a level hold, where it's known whether it is sound: a sound level has no fault.
+fn references_hold(level: &Level<'_>, is_sound: bool) -> bool
+    requires { IsTrue is_sound → IsSound level.now }
+    ensures { IsTrue result ↔ HasReferences level.now }
+{
+    if is_sound {
+        return true;
+    }
+    has_references(level)
 }
 
 // The warnings of a code that is looked for.

@@ -153,33 +153,34 @@ fn put_run_ends(level: &Level<'_>, ends: &mut [u32])
     requires few { length ends.old < 2 ^ 31 }
     ensures { AreRunEnds level.now ends.new }
 {
+    let mut after = None;
     'segs: for j in (0..ends.len()).rev() {
-        ends[j] = run_end(level, ends, j);
+        let here = sector_faced(level, j);
+        ends[j] = run_end(level, ends, j, is_same(here, after));
+        after = here;
     }
 }
 
-// Where the run of a seg ends, given where that of the next seg does.
-fn run_end(level: &Level<'_>, ends: &[u32], j: usize) -> u32
+// Where the run of a seg ends, given where that of the next seg does, and whether both face the same sector.
+fn run_end(level: &Level<'_>, ends: &[u32], j: usize, face_same: bool) -> u32
     requires long { length ends.now ≡ length level.now.segs.records }
     requires here { j < length ends.now }
     requires next { j + 1 < length ends.now → IsRunEnd level.now (j + 1) (slice_index_or ends.now (j + 1) 0) }
+    requires same { j + 1 < length ends.now
+        → (IsTrue face_same ↔ (sector_faced level.now (pos j) ≡ sector_faced level.now (pos (j + 1)))) }
     requires few { length ends.now < 2 ^ 31 }
     ensures { IsRunEnd level.now j result }
 {
+    // Only the clauses speak of the level.
+    let _level = level;
     let next = j + 1;
-    if next < ends.len() && face_same(level, j, next) {
+    if next < ends.len() && face_same {
         return ends[next];
     }
     next as u32
 }
 
-// Whether two segs face the same sector, or both none.
-fn face_same(level: &Level<'_>, i: usize, j: usize) -> bool
-    ensures { IsTrue result ↔ (sector_faced level.now (pos i) ≡ sector_faced level.now (pos j)) }
-{
-    is_same(sector_faced(level, i), sector_faced(level, j))
-}
-
+// Whether two sectors are the same, or both none.
 fn is_same(a: Option<u32>, b: Option<u32>) -> bool
     ensures { IsTrue result ↔ (a ≡ b) }
 {

@@ -80,11 +80,14 @@ fn first_of<A: Allocator + Copy>(
 {
     // Only the clauses speak of the level.
     let _level = level;
-    if let Some(first) = firsts.get(&key) {
-        return Ok(*first);
+    match firsts.insert(key, i)? {
+        Some(first) => {
+            // It stands again.
+            firsts.insert(key, first)?;
+            Ok(first)
+        }
+        None => Ok(i),
     }
-    firsts.insert(key, i)?;
-    Ok(i)
 }
 
 // The ends of the linedef of a number.

@@ -9,6 +9,7 @@ segs-preserved c =
     let inside : j < length c.segs.ends = omega arith in
     record {
       long = length-set c.segs.ends j c.run_end.result ∙ c.segs.invariant.long;
+      after = λ inside. c.sector_faced-here.ensures;
       each = runs_more c.args.level.now j c.segs.ends c.run_end.result inside c.run_end.ensures (λ i from within.
           c.segs.invariant.each i (omega (arith, from)) within);
     }

@@ -79,17 +79,26 @@ cases_of_refused_demos() {
     refused_demo 'no player in the game' "${header[@]:0:9}" 0 0 0 0 128
     refused_demo 'no end marker: the bytes from place 13 on make no whole command' "${header[@]}"
     refused_demo 'no end marker: the bytes from place 21 on make no whole command' "${header[@]}" "${two_commands[@]}" 1 2 128
+    refused_demo 'version 0 (1.2 and before): not read' 0
     refused_demo 'version 4 (1.2 and before): not read' 4
+    refused_demo 'version 5: not read' 5
     refused_demo 'version 77: not read' 77
+    refused_demo 'version 103: not read' 103
     refused_demo 'version 104 (1.4 to 1.8): not read' 104
     refused_demo 'version 108 (1.4 to 1.8): not read' 108
     refused_demo 'version 112: not read' 112
+    refused_demo 'version 201: not read' 201
     refused_demo 'version 202 (Boom): not read' 202
     refused_demo 'version 203 (MBF): not read' 203
+    refused_demo 'version 204: not read' 204
+    refused_demo 'version 209: not read' 209
     refused_demo 'version 210 (PrBoom): not read' 210
     refused_demo 'version 214 (PrBoom): not read' 214
     refused_demo 'version 215: not read' 215
+    refused_demo 'version 220: not read' 220
     refused_demo 'version 221 (MBF21): not read' 221
+    refused_demo 'version 222: not read' 222
+    refused_demo 'version 255: not read' 255
     : >one.lmp
     says 'demos: empty' 2 '' 'wadlens: one.lmp: empty\n' demos one.lmp
     says 'demos: no file' 2 '' "$(told no.lmp "$missing")" demos no.lmp

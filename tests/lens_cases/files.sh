@@ -70,7 +70,27 @@ cases_of_lists() {
     judge 'a list that cannot be read' 2 '' "$(told 'standard input' "$unread")"
     says_on 'a path of a list that is not UTF-8' '\0377.wad\n' 2 \
         '{"file":"\0357\0277\0275.wad","refused":"'"$missing"'"}\n' "wadlens: \\0377.wad: $missing\\n" survey --files-from -
+    cases_of_long_lists
     says_on 'an empty list of check' '' 0 '0 levels in 0 files: 0 faults, 0 notes, 0 not judged\n' '' check --files-from -
+}
+
+# on_zeros NAME COUNT STATUS OUTPUT ERROR WORD...: what is said where standard input has so many NULs.
+on_zeros() {
+    local within=()
+    [[ -z $memory ]] || within=(bash -c "$limited" "$memory")
+    head -c "$2" /dev/zero | timeout 60 "${within[@]}" "$program" "${@:6}" >output 2>error
+    printf '%s' "${PIPESTATUS[1]}" >status
+    judge "$1" "$3" "$4" "$5"
+}
+
+# The most bytes that a list may have, and more.
+cases_of_long_lists() {
+    local large='larger than 268435456 bytes' memory=''
+    says 'a list without end' 2 '' "$(told /dev/zero "$large")" survey --files-from /dev/zero base.wad
+    on_zeros 'a list of one byte more' 268435457 2 '' "$(told 'standard input' "$large")" survey --files-from - --null base.wad
+    on_zeros 'a list of as many bytes as there may be' 268435456 0 "$(sound base.wad E1M1 0)" '' survey --files-from - --null base.wad
+    memory=200000
+    on_zeros 'no memory for a list' 268435456 3 '' 'wadlens: no memory left\n' survey --files-from - --null base.wad
 }
 
 cases_of_refused() {
@@ -183,6 +203,24 @@ cases_of_progress() {
         check --progress base.wad none.wad base.wad
     says_on '--progress of no file' '' 0 '' '' survey --progress --files-from -
     says_on 'no progress unasked' 'base.wad' 0 "$(sound base.wad E1M1 0)" '' survey --files-from -
+    cases_of_terminals
+}
+
+# on_terminal NAME STATUS OUTPUT ERROR WORD...: what is said where standard error is a terminal, which ends a line by two bytes.
+on_terminal() {
+    timeout 60 script -qec "$(printf '%q ' "$program" "${@:5}") >output" /dev/null </dev/null >error
+    printf '%s' $? >status
+    judge "$1" "$2" "$3" "$4"
+}
+
+cases_of_terminals() {
+    if [[ $(script --version 2>/dev/null) != *util-linux* ]]; then
+        printf 'skipped, as there is no script of util-linux: progress on a terminal\n'
+        return
+    fi
+    on_terminal 'progress on a terminal' 0 "$(sound base.wad E1M1 0)" '\r1 files, 1 levels\r\n' survey base.wad
+    on_terminal 'progress on a terminal, and a refused file' 2 '1 levels in 2 files: 0 faults, 0 notes, 0 not judged\n' \
+        "\\r1 files, 1 levels${gone}wadlens: none.wad: $none\\r\\n\\r2 files, 1 levels\\r\\n" check base.wad none.wad
 }
 
 # many.wad: a level in UDMF, and one with 4000 linedefs without length, whose lines don't fit into the program's buffer.

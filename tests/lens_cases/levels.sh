@@ -270,6 +270,32 @@ cases_of_warned_levels() {
     says 'surveyed, of another format' 2 '{"file":"udmf.wad","level":"MAP03","entry":0,"format":"udmf"}\n' '' survey --map udmf.wad
 }
 
+# The warnings of Freedoom 0.12.1's 100 levels, where these are (FREEDOOM names their folder): of each code how many there are, and
+# in how many levels.
+cases_of_warned_games() {
+    local games=${FREEDOOM:-/usr/share/games/doom} file files=() code count counts sum
+    for file in freedoom1 freedoom2 freedm; do
+        files+=("$games/$file.wad")
+        if [[ ! -e ${files[-1]} ]]; then
+            printf 'skipped, as there is no %s: warnings of levels\n' "${files[-1]}"
+            return
+        fi
+    done
+    run_on '' survey --map "${files[@]}"
+    mv output surveyed
+    wc -l <surveyed >output
+    for code in W1 W2 W3 W4 W5 W6 W7 W8; do
+        mapfile -t counts < <(grep -o "\"$code\":[0-9]*" surveyed | cut -d : -f 2)
+        sum=0
+        for count in "${counts[@]}"; do sum=$((sum + count)); done
+        printf '%s\n' "$code $sum ${#counts[@]}" >>output
+    done
+    grep '"W6"' surveyed | grep -o '"level":"[^"]*"' >>output
+    judge 'warnings of 100 levels' 0 "$(
+        printf '%s\\n' 100 'W1 0 0' 'W2 1288 52' 'W3 0 0' 'W4 45 11' 'W5 33 10' 'W6 1 1' 'W7 0 0' 'W8 1 1' '"level":"E3M6"'
+    )" ''
+}
+
 # not_judged NAME STATUS TEXT MEMBERS: what both commands tell of the level MAP01 of format.wad.
 not_judged() {
     says "check: $1" "$2" "format.wad: MAP01: $3\\n1 levels in 1 files: 0 faults, 0 notes, 1 not judged\\n" '' check format.wad

@@ -360,7 +360,8 @@ cases_of_atlas() {
 
 # shows_not NAME FILE TEXT: a file of the folder doesn't have this text.
 shows_not() {
-    : >output >error
+    : >output
+    : >error
     [[ $(<"atlas/$2") != *"$3"* ]] || printf 'there is %s\n' "$3" >output
     printf 0 >status
     judge "$1" 0 '' ''

@@ -70,9 +70,19 @@ cases_of_demo() {
     refuses 'lump_places: no bytes, wherever they are' 'demo 1' demo A places.wad
     refuses 'lump_places: a byte behind the file' '6 outside file' demo B places.wad
     refuses 'lump_places: a negative size' '6 outside file' demo C places.wad
+    pack E1M1 "$(still_demo 0)" >first.wad
+    pack E1M1 "$(still_demo 1)" E1M1 "$(still_demo 2)" e1m1 "$(still_demo 3)" >second.wad
+    prints last_label_wins "$(still_listing 2)" demo e1m1 first.wad second.wad
     refuses 'demo is never wide' usage demo --wide DEMO1 base.wad
     pack DEMO1 "$(bytes 109 3 1 1 0 0 0 0 0 1 0 0 0 128)" >demo.wad
     cannot_write demo '' demo DEMO1 demo.wad
+}
+
+# still_demo SKILL: a demo without a tic; still_listing SKILL: its listing.
+still_demo() { bytes 109 "$1" 1 1 0 0 0 0 0 1 0 0 0 128; }
+still_listing() {
+    printf 'demo version 109 skill %s episode 1 map 1 deathmatch 0 respawn 0 fast 0 nomonsters 0 viewpoint 0 players 1 0 0 0\\n' "$1"
+    printf 'tics 0 odd 0 after 0\\n'
 }
 
 lists_a_file() {

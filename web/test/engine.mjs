@@ -4,6 +4,8 @@ import { spawnSync } from 'node:child_process';
 import { tmpdir } from 'node:os';
 import { join } from 'node:path';
 import { pathToFileURL } from 'node:url';
+import { wad } from './wads.mjs';
+import { LINES, workedDemos, workedFiles } from './worked_cases.mjs';
 
 const [folder, wadlook, wadlens, sample] = process.argv.slice(2);
 // What a page fetches lies in the folder here.
@@ -17,23 +19,6 @@ let passed = 0, failed = 0;
 /** The files that cases name. */
 const base = readFileSync(sample), names = new Map();
 const keep = (name, bytes) => { writeFileSync(join(room, name), bytes); names.set(name, bytes); };
-
-/** A WAD of these lumps, `[name, bytes]` each. */
-function wad(lumps) {
-  const parts = [], directory = Buffer.alloc(16 * lumps.length);
-  let at = 12;
-  lumps.forEach(([name, bytes], i) => {
-    directory.writeInt32LE(at, 16 * i);
-    directory.writeInt32LE(bytes.length, 16 * i + 4);
-    directory.write(name, 16 * i + 8, 'latin1');
-    parts.push(bytes);
-    at += bytes.length;
-  });
-  const header = Buffer.from('PWAD\0\0\0\0\0\0\0\0', 'latin1');
-  header.writeInt32LE(lumps.length, 4);
-  header.writeInt32LE(at, 8);
-  return Buffer.concat([header, ...parts, directory]);
-}
 
 /** The sample with a byte turned at each of some places. */
 function damaged(places) {
@@ -122,6 +107,27 @@ for (const words of [['check', '--max', '-1'], ['check', '--max', 'x'], ['check'
   ['cut', '--entry', '18446744073709551616'], ['cut', '--wide', '--entry', '0']]) await refuses(words, ['base.wad']);
 await refuses(['cut', '--entry', '0'], ['base.wad', 'base.wad']);
 await refuses(['check'], []);
+
+// The worked cases: each file under each command that takes one, and each demo.
+const readings = (command) => [[command, 'E1M1'], ...['points', 'census', 'blocks', 'show', 'audit'].includes(command) ? [[command, '--wide', 'e1m1']] : []];
+for (const [name, bytes] of workedFiles(base)) {
+  const path = `${name}.wad`;
+  keep(path, bytes);
+  await check(['lumps'], [path]);
+  await check(['levels'], [path, path]);
+  for (const command of ['show', 'audit', 'points', 'census', 'sight', 'blocks', 'extract', 'demo']) {
+    for (const words of readings(command)) await check(words, [path], LINES[command] ?? '');
+  }
+  for (const words of [['check', '--map', '--max', '0'], ['survey', '--map'], ['cut', '--entry', '0']]) await checkLens(words, [path]);
+}
+for (const [name, bytes] of workedDemos()) {
+  const path = `${name}.lmp`, packed = `${name}.wad`;
+  keep(path, bytes);
+  keep(packed, wad([['DEMO1', bytes]]));
+  await check(['lmp'], [path]);
+  await check(['demo', 'demo1'], [packed]);
+  await checkLens(['demos'], [path, packed]);
+}
 
 // The picture of a level alone.
 const options = [[], ['--cells', '64'], ['--wide'], ['--cells', '1024', '--frame', '-20,-30,100,90'], ['--wide', '--cells', '1', '--frame', '5,5,5,5']];

@@ -1,0 +1,106 @@
+// The worked cases of levels, files and demos, each under its name, and the lines of input that they are asked with.
+import { wad, words } from './wads.mjs';
+
+const USUAL = ['THINGS', 'LINEDEFS', 'SIDEDEFS', 'VERTEXES', 'SEGS', 'SSECTORS', 'NODES', 'SECTORS', 'REJECT', 'BLOCKMAP'];
+
+/** What is asked of each level, by its command: lines that are answered, that are out of range and that are of another form. */
+export const LINES = {
+  points: ['1 5', '0 5', '-1 5', '0 0', '1 -1', '-1 1', '16383 -16384', '1 10', '1 11', 'x', '16384 0', '0  5', '1 2 3', '', '007 -0\r', '+1 1',
+    `${'0'.repeat(62)} 5`, `${'0'.repeat(62)} 5\r`, `${'0'.repeat(63)} 5`, `${'9'.repeat(62)} 5`, '1 5'].join('\n'),
+  census: ['-1 0 1 1', '0 0 0 0', '0 0 1023 1023', '0 0 1024 1023', '1 0 0 0', '-1 -1 1 1', '-512 -512 511 511', '5 0 9 9', '-1 9 1 11', ''].join('\n'),
+  sight: '0 1\n1 0\n1 1\n2 0\n-1 0\n',
+  blocks: '0 5\n127 127\n128 0\n-1 0\n-16384 16383\n16384 0\n',
+};
+
+/** A node in the sample's boxes. @param {number[]} line x, y, dx, dy @param {number} front @param {number} back */
+const node = (line, front, back) => words(...line, 64, 0, 0, 0, 64, 0, 0, 0, front, back);
+const WALL = [0, 0, 0, 64];
+
+/** The ten lumps of the sample. @param {Buffer} sample @returns {Record<string, Buffer>} */
+function lumpsOf(sample) {
+  const at = sample.readInt32LE(8);
+  return Object.fromEntries(USUAL.map((name, k) => {
+    const entry = at + 16 * (k + 1), place = sample.readInt32LE(entry);
+    return [name, sample.subarray(place, place + sample.readInt32LE(entry + 4))];
+  }));
+}
+
+/** Levels that differ from the sample in some lumps. @param {Record<string, Buffer>} own @returns {[string, Record<string, Buffer>][]} */
+function lumpCases(own) {
+  const none = Buffer.alloc(0), [front, back] = [own.SEGS.subarray(0, 12), own.SEGS.subarray(12)];
+  const many = (/** @type {number} */ count, /** @type {Buffer} */ record) => Buffer.concat(Array.from({ length: count }, () => record));
+  const chain = Array.from({ length: 32767 }, (_, i) => node(WALL, i ? i - 1 : 32768, 32769 + i));
+  return [
+    ['diagonal_ties', { NODES: node([0, 0, -1, 1], 32768, 32769) }],
+    ['greatest_products', { NODES: node([-16384, 16383, 32767, -32768], 32768, 32769) }],
+    ['no_direction', { NODES: node([3, 3, 0, 0], 32768, 32769) }],
+    ['no_nodes', { NODES: none }],
+    ['no_nodes, accepted', { NODES: none, SSECTORS: own.SSECTORS.subarray(0, 4) }],
+    ['no_nodes, no ssector', { NODES: none, SSECTORS: none }],
+    ['two_nodes', { SSECTORS: words(1, 0, 1, 1, 1, 1), NODES: Buffer.concat([own.NODES, words(0, 10, 64, 0, ...Array(8).fill(0), 0, 32770)]) }],
+    ['second_start', { THINGS: many(2, own.THINGS) }],
+    ['nodes_not_reached', { SSECTORS: many(4, words(1, 0)), NODES: Buffer.concat([node(WALL, 1, 32770), node(WALL, 0, 32771), node(WALL, 32768, 32769)]) }],
+    ['side_missing', { LINEDEFS: words(0, 1, 4, 0, 0, 0, -1) }],
+    ['side_missing, of a seg', { SEGS: Buffer.concat([front, words(1, 0, -16384, 0, 2, 0)]) }],
+    ['bytes_left_over', { SECTORS: Buffer.concat([own.SECTORS, Buffer.alloc(1)]) }],
+    ['children, twice', { NODES: node(WALL, 32768, 32768) }],
+    ['children, the root', { NODES: node(WALL, 0, 32769) }],
+    ['children, none', { NODES: node(WALL, 32770, 32769) }],
+    ['children, out of range', { NODES: node([16384, 0, 0, 64], 32768, 32769) }],
+    ['too_many_nodes', { NODES: Buffer.alloc(917504) }],
+    ['sight_bits', { REJECT: none }],
+    ['sight_bits, blocked', { REJECT: Buffer.from([2]) }],
+    ['block_lists', { BLOCKMAP: words(0, 0, 1, 1, 5, 0, 7, -1) }],
+    ['block_lists, no end', { BLOCKMAP: words(0, 0, 1, 1, 5, 0, 7) }],
+    ['block_lists, no offset', { BLOCKMAP: words(0, 0, 1, 1) }],
+    ['block_lists, seven bytes', { BLOCKMAP: words(0, 0, 1, 1).subarray(0, 7) }],
+    ['block_list_empty', { BLOCKMAP: words(0, 0, 1, 1, 5, -1) }],
+    ['blockmap_negative', { BLOCKMAP: words(0, 0, -1, -1) }],
+    ['blockmap_past_end', { BLOCKMAP: words(0, 0, 32767, 32767) }],
+    ['chain', { SSECTORS: many(32768, words(1, 0)), NODES: Buffer.concat(chain) }],
+    ['wide_ssectors', { SEGS: Buffer.concat([many(32768, front), back]), SSECTORS: words(1, 0, 1, -32768) }],
+    ['wide_blockmap', { BLOCKMAP: Buffer.concat([words(0, 0, 1, 1, -32768), Buffer.alloc(2 * 32763), words(7, -1)]) }],
+    ...USUAL.map((name) => /** @type {[string, Record<string, Buffer>]} */ ([`lump_cut_by_one, ${name}`, { [name]: own[name].subarray(0, -1) }])),
+  ];
+}
+
+/** Files of levels. @param {Buffer} sample @returns {[string, Buffer][]} */
+export function workedFiles(sample) {
+  const own = lumpsOf(sample), at = sample.readInt32LE(8), label = Buffer.alloc(0);
+  const level = (/** @type {Record<string, Buffer>} */ other) => wad([['E1M1', label], ...USUAL.map((name) => /** @type {[string, Buffer]} */ ([name, other[name] ?? own[name]]))]);
+  const placed = (/** @type {number} */ lump, /** @type {number} */ place) => {
+    const file = Buffer.from(sample);
+    file.writeInt32LE(place, at + 16 * lump);
+    return file;
+  };
+  const renamed = /** @type {[string, Buffer][]} */ (USUAL.map((name) => [name === 'NODES' ? 'NODEZ' : name, name === 'THINGS' ? label : own[name]]));
+  return [
+    ['base', level({})],
+    ...lumpCases(own).map(([name, other]) => /** @type {[string, Buffer]} */ ([name, level(other)])),
+    ['lumps_missing', wad([['E1M1', label], .../** @type {[string, Buffer][]} */ (USUAL.slice(0, 9).map((name) => [name, own[name]]))])],
+    ['name_and_start_notes', wad([['E1M1', label], ...renamed])],
+    ['lump_places', placed(7, -1)],
+    ['lumps_overlap', placed(9, 217)],
+    ['empty_directory', Buffer.concat([Buffer.from('PWAD'), words(0, 0, 9999, 0)])],
+    ['refused_directories, magic', Buffer.concat([Buffer.from('XWAD'), words(-1, -1, 0, 0)])],
+    ['refused_directories, count', Buffer.concat([Buffer.from('PWAD'), words(-1, -1, 0, 0)])],
+    ['packed', Buffer.concat([Buffer.from('IWAD'), sample.subarray(4)])],
+    .../** @type {[string, Buffer][]} */ ([0, 11, 12, 233, 408].map((size) => [`wad_cut, ${size}`, sample.subarray(0, size)])),
+  ];
+}
+
+/** Demos. @returns {[string, Buffer][]} */
+export function workedDemos() {
+  const head = [109, 3, 1, 1, 0, 0, 0, 0, 0, 1, 0, 0, 0], two = [...head, 25, 0, 0, 0, 206, 128, 255, 128, 128, 7];
+  const pair = [...two.slice(0, 10), 1, ...two.slice(11)], long = [111, ...head.slice(1), 25, 0, 52, 18, 0, 206, 128, 255, 255, 128, 128];
+  /** @type {[string, number[]][]} */
+  const demos = [
+    ['demo_two_commands', two], ['demo_two_players', pair], ['demo_two_players, three', [...pair.slice(0, 21), 1, 2, 3, 4, 128, 7]],
+    ['demo_without_marker', [...two.slice(0, 21), 7]], ['demo_refusals, 108', [108]], ['demo_refusals, short', [109, 3]],
+    ['demo_refusals, no player', [109, ...Array(12).fill(0)]], ['demo_refusals, no command', [...head, 128]], ['demo_110', [110, ...two.slice(1)]],
+    ['demo_111', long], ['demo_111_cut, 22', long.slice(0, 22)], ['demo_111_cut, 23', long.slice(0, 23)], ['demo_109_as_111', [111, ...two.slice(1)]],
+    ['demo_112', [112]],
+    ...Array.from({ length: 23 }, (_, size) => /** @type {[string, number[]]} */ ([`demo_cut, ${size}`, two.slice(0, size)])),
+  ];
+  return demos.map(([name, bytes]) => [name, Buffer.from(Uint8Array.from(bytes))]);
+}

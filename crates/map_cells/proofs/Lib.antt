@@ -3,3 +3,5 @@ pub mod CellLemmas
 pub mod GroupLemmas
 pub mod FrameLemmas
 pub mod ShownLemmas
+pub mod SpanLemmas
+pub mod CoverLemmas

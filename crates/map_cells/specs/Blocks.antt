@@ -29,3 +29,10 @@ pub record HasCell (b : Block) (i j : ℕ) : Type 0 where
   pub right : i < b.column + b.width
   pub lowest : b.row ≤ j
   pub highest : j < b.row + b.height
+
+-- one block has the cell, among the blocks of all sectors: one of sector s
+pub record IsInOneBlock (cell : ℕ → ℕ → Option ℕ) (i j s : ℕ) : Type 0 where
+  pub block : Block
+  pub is : IsBlock cell s block
+  pub has : HasCell block i j
+  pub only : (r : ℕ) (other : Block) → IsBlock cell r other → HasCell other i j → (r ≡ s) × (other ≡ block)

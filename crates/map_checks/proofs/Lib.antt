@@ -3,5 +3,6 @@ pub mod RankLemmas
 pub mod ClosingLemmas
 pub mod TagLemmas
 pub mod TwinLemmas
+pub mod KeyLemmas
 pub mod FacingLemmas
 pub mod StartLemmas

@@ -44,6 +44,7 @@ impl<'l, 'a> Model for Checks<'l, 'a> {
 
 impl<'l, 'a> Checks<'l, 'a> {
     ghost use Rattle.std.specs.Prelude.{◌↔◌, IsTrue};
+    ghost use Rattle.map_tree.specs.Sound.{IsSound};
     ghost use Rattle.map_checks.specs.Holds.{IsWarning};
 
     /// A level, whose references and nodes are looked over.
@@ -59,6 +60,19 @@ impl<'l, 'a> Checks<'l, 'a> {
             has_references: references_hold(level, is_sound),
             is_sound,
         })
+    }
+
+    /// A sound level, as `is_sound` tells it: it is looked over no more.
+    pub fn of_sound(level: &'l Level<'a>) -> Checks<'l, 'a>
+        requires { IsSound level.now }
+        ensures { result ≡ level.now }
+    {
+        let is_sound = true;
+        Checks {
+            level,
+            has_references: references_hold(level, is_sound),
+            is_sound,
+        }
     }
 
     // The level.

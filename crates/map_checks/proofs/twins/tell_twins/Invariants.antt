@@ -3,7 +3,7 @@ use Rattle.map_checks.specs.Warnings.{TellsBelow}
 use Rattle.map_checks.specs.EndsKey.{AreFirsts}
 use Rattle.map_checks.specs.Holds.{HoldsOf}
 use Rattle.map_checks.specs.declared.warning.WarningCode.TheVariants.{W6}
-use Rattle.map_checks.proofs.twins.twins.Given as goal
+use Rattle.map_checks.proofs.twins.tell_twins.Given as goal
 
 abbrev pub invariant-loop-i : goal.invariant-loop-i
 invariant-loop-i g l = record {

@@ -17,7 +17,7 @@ use crate::lines::{Heading, write_format};
 use crate::survey::{label_of, level_at};
 use crate::totals::{Totals, format_totals, judged_totals};
 use crate::verdict::FileFault;
-use crate::warned::{Warned, asked_warnings, kept_count, warned_total};
+use crate::warned::{kept_count, known_warnings, warned_total};
 use le_rec::Sink;
 use level_list::{Format, format_of, next_start};
 use line_io::IoFault;
@@ -127,7 +127,7 @@ fn check_doom<A: Allocator + Copy, W: Sink>(
     let Ok(told) = judge(alloc, set, g, judging.reading, &level) else {
         return Err(FileFault::Memory);
     };
-    let Ok(warned) = asked_warnings(alloc, &level, most, judging.warnings) else {
+    let Ok(warned) = known_warnings(alloc, &level, &told.counts, most, judging.warnings) else {
         return Err(FileFault::Memory);
     };
     let wrote = write_judged(

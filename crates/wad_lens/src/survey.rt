@@ -19,7 +19,7 @@ use crate::counts::Counts;
 use crate::judging::{Judging, Warnings};
 use crate::object::{write_doom, write_level, write_other};
 use crate::verdict::{FileFault, Verdict};
-use crate::warned::{Warned, asked_warnings, warned_total};
+use crate::warned::{Warned, known_warnings, warned_total};
 use le_rec::{Name8, Sink};
 use level_list::{Format, format_of, next_start};
 use line_io::IoFault;
@@ -219,7 +219,7 @@ fn find<A: Allocator + Copy>(
     ensures asked { IfOk result (λ found. found.warnings ≡ warnings) }
 {
     let counts = Counts::of(alloc, level)?;
-    let warned = asked_warnings(alloc, level, 0, warnings)?;
+    let warned = known_warnings(alloc, level, &counts, 0, warnings)?;
     Ok(Found {
         counts,
         warnings,

@@ -1,13 +1,17 @@
 //! What is told of a level's warnings.
 
-ghost use Rattle.std.specs.Prelude.{◌≡◌, ◌-◌, ◌<◌, IfOk, OnOk, false, length, slice_index_or};
+ghost use Rattle.std.specs.Prelude.{◌≡◌, ◌↔◌, ◌-◌, ◌<◌, IfOk, IsTrue, OnOk, false, length, slice_index_or};
 ghost use Rattle.std.specs.List.{flat_map};
 ghost use Rattle.line_io.specs.Writes.{Writes};
+ghost use Rattle.map_audit.specs.Findings.{AuditHolds};
 ghost use Rattle.map_checks.specs.declared.warning.WarningCode.TheVariants.{W1};
+ghost use Rattle.map_tree.specs.Sound.{IsSound};
+ghost use Rattle.wad_lens.specs.Counts.{AreCounts};
 ghost use Rattle.wad_lens.specs.WarningLine.{warning_line};
 ghost use Rattle.wad_lens.specs.Warned.{AddsWarned, AreAskedFor, AreWarned, kept_count, more_warnings, warned_part};
 ghost use Rattle.wad_lens.specs.Warned.{warned_text, warned_total, warning_order};
 
+use crate::counts::Counts;
 use crate::judging::Warnings;
 use crate::lines::{Heading, write_line};
 use crate::warning_lines::{warning_name, write_warning};
@@ -82,6 +86,23 @@ pub fn asked_warnings<A: Allocator + Copy>(
     }
 }
 
+/// The same where it is known how often each code of a finding holds of the level.
+pub(crate) fn known_warnings<A: Allocator + Copy>(
+    alloc: A,
+    level: &Level<'_>,
+    counts: &Counts,
+    most: usize,
+    warnings: Warnings,
+) -> Result<Vec<Warned<A>, A>, AllocError>
+    requires { AreCounts (AuditHolds level.now) counts.now }
+    ensures { IfOk result (λ all. AreAskedFor warnings level.now most all.items) }
+{
+    match warnings {
+        Warnings::Unasked => Ok(Vec::new(alloc)),
+        Warnings::Told | Warnings::Strict => counted_warnings(alloc, level, counts, most),
+    }
+}
+
 /// How many of a code are shown at most, where 0 asks for all.
 pub fn kept_count(most: u64) -> usize
     ensures { result ≡ kept_count most }
@@ -109,9 +130,61 @@ pub fn warnings_of<A: Allocator + Copy>(
     ensures { IfOk result (λ all. AreWarned level.now most all.items) }
 {
     let checks = Checks::of(alloc, level)?;
+    let all = warned_by(alloc, &checks, most)?;
+    Ok(all)
+}
+
+// The same where it is known how often each code of a finding holds.
+fn counted_warnings<A: Allocator + Copy>(
+    alloc: A,
+    level: &Level<'_>,
+    counts: &Counts,
+    most: usize,
+) -> Result<Vec<Warned<A>, A>, AllocError>
+    requires { AreCounts (AuditHolds level.now) counts.now }
+    ensures { IfOk result (λ all. AreWarned level.now most all.items) }
+{
+    let checks = counted_checks(alloc, level, counts)?;
+    let all = warned_by(alloc, &checks, most)?;
+    Ok(all)
+}
+
+// A level for its warnings. A sound one isn't looked over again.
+fn counted_checks<'l, 'a, A: Allocator + Copy>(
+    alloc: A,
+    level: &'l Level<'a>,
+    counts: &Counts,
+) -> Result<Checks<'l, 'a>, AllocError>
+    requires { AreCounts (AuditHolds level.now) counts.now }
+    ensures { IfOk result (λ checks. checks ≡ level.now) }
+{
+    if is_faultless(level, counts) {
+        return Ok(Checks::of_sound(level));
+    }
+    Checks::of(alloc, level)
+}
+
+// Whether a level has no fault, where it is known how often each code holds.
+fn is_faultless(level: &Level<'_>, counts: &Counts) -> bool
+    requires { AreCounts (AuditHolds level.now) counts.now }
+    ensures { IsTrue result ↔ IsSound level.now }
+{
+    // Only the clauses speak of the level.
+    let _level = level;
+    counts.faults() == 0
+}
+
+// What is told of each code, so many of one code at most.
+fn warned_by<A: Allocator + Copy>(
+    alloc: A,
+    checks: &Checks<'_, '_>,
+    most: usize,
+) -> Result<Vec<Warned<A>, A>, AllocError>
+    ensures { IfOk result (λ all. AreWarned checks.now most all.items) }
+{
     let mut all = Vec::new(alloc);
     'codes: for i in 0..WARNING_COUNT {
-        push_code(alloc, &checks, code_at(i), most, &mut all)?;
+        push_code(alloc, checks, code_at(i), most, &mut all)?;
     }
     Ok(all)
 }

@@ -3,7 +3,7 @@ use Rattle.std.proofs.lemmas.List.{take_all, take_more}
 use Rattle.map_checks.specs.declared.warning.WarningCode.TheVariants.{W1}
 use Rattle.wad_lens.specs.Warned.{warning_order}
 use Rattle.wad_lens.proofs.WarnedLemmas.{warned_more}
-use Rattle.wad_lens.proofs.warned.warnings_of.Goals as goal
+use Rattle.wad_lens.proofs.warned.warned_by.Goals as goal
 
 pub codes-preserved : goal.codes-preserved
 codes-preserved g c =
@@ -12,7 +12,7 @@ codes-preserved g c =
     let below : i < 8 = omega (arith, c.codes-test.true) in
     let next : take (i + 1) warning_order ≡ take i warning_order ++ code ∷ [] =
     take_more warning_order i W1 below ∙ ap (λ x. take i warning_order ++ x ∷ []) (sym c.code_at.ensures) in
-    warned_more c.args.level.now c.args.most i code _ _ next c.codes.invariant (rw c.in_ok-checks.ensures at c.in_ok-push_code.ensures)
+    warned_more c.args.checks.now c.args.most i code _ _ next c.codes.invariant c.in_ok-push_code.ensures
 
 pub returns : goal.returns
 returns g c =

@@ -1,5 +1,5 @@
 use Rattle.wad_lens.proofs.WarnedLemmas.{AreWarnedTo}
-use Rattle.wad_lens.proofs.warned.warnings_of.Given as goal
+use Rattle.wad_lens.proofs.warned.warned_by.Given as goal
 
 abbrev pub invariant-codes : goal.invariant-codes
-invariant-codes g l = AreWarnedTo l.level l.most l.i l.all.items
+invariant-codes g l = AreWarnedTo l.checks l.most l.i l.all.items

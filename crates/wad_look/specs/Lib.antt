@@ -2,6 +2,7 @@ pub mod Command
 pub mod Contents
 pub mod Engines
 pub mod Fault
+pub mod FaultText
 pub mod Laws
 pub mod Listing
 pub mod Opening

@@ -1,6 +1,8 @@
 //! Why a run stopped.
-ghost use Rattle.std.specs.Prelude.{◌≡◌};
+ghost use Rattle.std.specs.Prelude.{◌≡◌, Some};
+ghost use Rattle.std.specs.Fmt.{DisplaysOnOk};
 ghost use Rattle.wad_look.specs.Fault.{run_end, run_fault, stream_fault};
+ghost use Rattle.wad_look.specs.FaultText.{demo_text, fault_text, file_text, level_text, lump_text, pack_text};
 
 use demo_lump::{DemoFault, StreamFault};
 use line_io::IoFault;
@@ -38,6 +40,8 @@ pub enum RunFault {
 
 // The numbers are those of the program's refusals; the libraries' own texts say the same in words.
 impl fmt::Display for RunFault {
+    ghost output = { λ fault. Some (fault_text fault) };
+
     fn fmt<W: fmt::Write>(&self, f: &mut fmt::Formatter<W>) -> fmt::Result {
         match *self {
             RunFault::Set(n, fault) => write!(f, "file {n}: {}", file_text(fault)),
@@ -55,7 +59,9 @@ impl fmt::Display for RunFault {
     }
 }
 
-fn file_text(fault: WadFault) -> &'static str {
+fn file_text(fault: WadFault) -> &'static str
+    ensures { result.now ≡ file_text fault }
+{
     match fault {
         WadFault::Short => "1 short",
         WadFault::Magic => "2 magic",
@@ -64,21 +70,27 @@ fn file_text(fault: WadFault) -> &'static str {
     }
 }
 
-fn lump_text(fault: LumpFault) -> &'static str {
+fn lump_text(fault: LumpFault) -> &'static str
+    ensures { result.now ≡ lump_text fault }
+{
     match fault {
         LumpFault::NoSuch => "5 no such lump",
         LumpFault::Outside => "6 outside file",
     }
 }
 
-fn pack_text(fault: PackFault) -> &'static str {
+fn pack_text(fault: PackFault) -> &'static str
+    ensures { result.now ≡ pack_text fault }
+{
     match fault {
         PackFault::TooLarge => "7 too large",
         PackFault::Memory => "memory",
     }
 }
 
-fn write_level<W: fmt::Write>(fault: LevelFault, f: &mut fmt::Formatter<W>) -> fmt::Result {
+fn write_level<W: fmt::Write>(fault: LevelFault, f: &mut fmt::Formatter<W>) -> fmt::Result
+    ensures { DisplaysOnOk W.write_str_gives f.old result (Some (level_text fault)) f.new }
+{
     match fault {
         LevelFault::NoLabel => f.write_str("8 no label"),
         LevelFault::Missing(k) => write!(f, "F1 {k}"),
@@ -86,7 +98,9 @@ fn write_level<W: fmt::Write>(fault: LevelFault, f: &mut fmt::Formatter<W>) -> f
     }
 }
 
-fn write_demo<W: fmt::Write>(fault: DemoFault, f: &mut fmt::Formatter<W>) -> fmt::Result {
+fn write_demo<W: fmt::Write>(fault: DemoFault, f: &mut fmt::Formatter<W>) -> fmt::Result
+    ensures { DisplaysOnOk W.write_str_gives f.old result (Some (demo_text fault)) f.new }
+{
     match fault {
         DemoFault::Empty => f.write_str("demo 1"),
         DemoFault::Version(version) => write!(f, "demo 2 version {version}"),

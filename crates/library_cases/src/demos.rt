@@ -4,6 +4,7 @@ ghost use Rattle.std.specs.Prelude.{◌≡◌, ◌<◌, ◌≤◌, All};
 ghost use Rattle.demo_lump.specs.Header.{players_in};
 ghost use Rattle.demo_lump.specs.Writable.{IsWritable};
 
+use crate::compare::check_bytes;
 use demo_lump::{Command, Header, write_demo};
 use std::process::Abort;
 use std::test::Fail;
@@ -76,7 +77,7 @@ fn check_written(
     requires commands { All (IsWritable version) commands.now }
 {
     let written = write_demo(rt.alloc(), &header_of(version), commands)?;
-    assert_eq!(rt; written.as_slice(), bytes);
+    check_bytes(rt, written.as_slice(), bytes);
     Ok(())
 }
 
@@ -88,15 +89,23 @@ fn demo_written(rt: HostRuntime) -> Result<(), Fail> {
     check_written(&rt, 109, &[], &none)
 }
 
+// Whether writing met growth `n` refused; else the demo is written.
+fn is_refused(rt: &(impl Abort + AllocGlobal), n: u64) -> bool {
+    let heap = Refusing::new(rt.alloc(), n);
+    match write_demo(&heap, &header_of(109), &two_commands()) {
+        Ok(bytes) => check_bytes(rt, bytes.as_slice(), &TWO[..22]),
+        Err(_) => {
+            assert!(rt; heap.has_refused());
+            return true;
+        }
+    }
+    assert!(rt; !heap.has_refused());
+    false
+}
+
+// It asks for one growth.
 #[test]
-fn growth_refused_in_write_demo(rt: HostRuntime) -> Result<(), Fail> {
-    let commands = two_commands();
-    let refusing = Refusing::new(rt.alloc(), 1);
-    assert!(rt; write_demo(&refusing, &header_of(109), &commands).is_err());
-    assert!(rt; refusing.has_refused());
-    let granting = Refusing::new(rt.alloc(), 2);
-    let bytes = write_demo(&granting, &header_of(109), &commands)?;
-    assert!(rt; !granting.has_refused(), "it asks for one growth");
-    assert_eq!(rt; bytes.as_slice(), &TWO[..22]);
-    Ok(())
+fn growth_refused_in_write_demo(rt: HostRuntime) {
+    assert!(rt; is_refused(&rt, 1));
+    assert!(rt; !is_refused(&rt, 2));
 }

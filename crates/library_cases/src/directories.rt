@@ -1,7 +1,9 @@
 //! Directories and lumps of files of a few bytes.
 
+use crate::compare::{check_bytes, check_same};
 use le_rec::Name8;
 use std::alloc::{Allocator, Global};
+use std::process::Abort;
 use std::test::Fail;
 use test_alloc::Refusing;
 use wad_dir::{MAX_FILES, PackFault, Packer, Set, SetFault};
@@ -28,19 +30,23 @@ fn packer_of<A: Allocator>(alloc: A, lumps: &[Lump]) -> Result<Packer<'static, A
 #[test]
 fn packed(rt: HostRuntime) -> Result<(), Fail> {
     let none = Packer::new(rt.alloc()).pack(rt.alloc())?;
-    assert_eq!(rt; none.as_slice(), b"PWAD\0\0\0\0\x0c\0\0\0".as_slice());
+    check_bytes(&rt, none.as_slice(), b"PWAD\0\0\0\0\x0c\0\0\0");
     Ok(())
 }
 
-#[test]
-fn many_lumps(rt: HostRuntime) -> Result<(), Fail> {
-    let heap = Refusing::new(rt.alloc(), 0);
-    let mut packer = Packer::new(&heap);
-    for _ in 0..1000 {
+// How long a file of so many lumps of three bytes is.
+fn length_of_many<A: Allocator + Copy>(alloc: A, count: u32) -> Result<usize, PackFault> {
+    let mut packer = Packer::new(alloc);
+    for _ in 0..count {
         packer.add(Name8::query(b"LUMP"), b"xyz")?;
     }
-    assert_eq!(rt; packer.pack(&heap)?.len(), 19_012);
-    Ok(())
+    Ok(packer.pack(alloc)?.len())
+}
+
+#[test]
+fn many_lumps(rt: HostRuntime) {
+    let heap = Refusing::new(rt.alloc(), 0);
+    check_same(&rt, length_of_many(&heap, 1000), Ok(19_012));
 }
 
 // How many entries a set of these files has.
@@ -55,8 +61,8 @@ fn total_of<A: Allocator>(alloc: A, files: &[Vec<u8>]) -> Result<usize, SetFault
 fn growth_refused_in_new(rt: HostRuntime) -> Result<(), Fail> {
     let files = vec![in rt.alloc(); TWO_PACKED.to_vec(rt.alloc())?]?;
     let refusing = Refusing::new(rt.alloc(), 1);
-    assert_eq!(rt; total_of(&refusing, &files), Err(SetFault::Memory));
-    assert_eq!(rt; total_of(&refusing, &files), Ok(2));
+    check_same(&rt, total_of(&refusing, &files), Err(SetFault::Memory));
+    check_same(&rt, total_of(&refusing, &files), Ok(2));
     Ok(())
 }
 
@@ -68,8 +74,8 @@ fn total_of_one<A: Allocator>(alloc: A) -> Result<usize, SetFault> {
 #[test]
 fn growth_refused_in_one(rt: HostRuntime) {
     let refusing = Refusing::new(rt.alloc(), 1);
-    assert_eq!(rt; total_of_one(&refusing), Err(SetFault::Memory));
-    assert_eq!(rt; total_of_one(&refusing), Ok(2));
+    check_same(&rt, total_of_one(&refusing), Err(SetFault::Memory));
+    check_same(&rt, total_of_one(&refusing), Ok(2));
 }
 
 // Why so many lumps can't be added.
@@ -78,18 +84,26 @@ fn fault_of_adding<A: Allocator>(alloc: A) -> Option<PackFault> {
     packer_of(alloc, &[lump; 12]).err()
 }
 
+// Whether adding met growth `n` refused; then it has so failed, and doesn't fail again.
+fn is_refused(rt: &(impl Abort + AllocGlobal), n: u64) -> bool {
+    let refusing = Refusing::new(rt.alloc(), n);
+    let fault = fault_of_adding(&refusing);
+    if !refusing.has_refused() {
+        return false;
+    }
+    check_same(rt, fault, Some(PackFault::Memory));
+    check_same(rt, fault_of_adding(&refusing), None);
+    true
+}
+
 #[test]
 fn growth_refused_in_add(rt: HostRuntime) {
     let mut growths = 0;
     for n in 1..12 {
-        let refusing = Refusing::new(rt.alloc(), n);
-        let fault = fault_of_adding(&refusing);
-        if !refusing.has_refused() {
+        if !is_refused(&rt, n) {
             break;
         }
         growths = n;
-        assert_eq!(rt; fault, Some(PackFault::Memory), "growth {n}");
-        assert_eq!(rt; fault_of_adding(&refusing), None);
     }
     assert!(rt; growths > 0 && growths < 11);
 }
@@ -104,7 +118,7 @@ fn growth_refused_in_pack(rt: HostRuntime) -> Result<(), Fail> {
     let packer = packer_of(rt.alloc(), &TWO)?;
     let refusing = Refusing::new(rt.alloc(), 1);
     let length = length_packed(&refusing, &packer);
-    assert_eq!(rt; length, Err(PackFault::Memory));
-    assert_eq!(rt; length_packed(&refusing, &packer), Ok(TWO_PACKED.len()));
+    check_same(&rt, length, Err(PackFault::Memory));
+    check_same(&rt, length_packed(&refusing, &packer), Ok(TWO_PACKED.len()));
     Ok(())
 }

@@ -1,5 +1,6 @@
 //! Sides of points and of rectangles.
 
+use crate::compare::check_same;
 use le_rec::Node;
 use map_geo::{Partition, Point, Rect, Side, side, whole_side};
 use std::process::Abort;
@@ -68,36 +69,45 @@ fn ties(rt: HostRuntime) {
     }
 }
 
+// Whether a number is taken as each coordinate of a point, and as both of a rectangle's in each direction.
+fn takes(z: i32) -> [bool; 4] {
+    [
+        Point::new(z, 0).is_some(),
+        Point::new(0, z).is_some(),
+        Rect::new(z, 0, z, 0).is_some(),
+        Rect::new(0, z, 0, z).is_some(),
+    ]
+}
+
 #[test]
 fn ranges(rt: HostRuntime) {
-    for (z, is_in) in [
-        (-16385, false),
-        (-16384, true),
-        (16383, true),
-        (16384, false),
-    ] {
-        assert_eq!(rt; Point::new(z, 0).is_some(), is_in, "point at {z}");
-        assert_eq!(rt; Point::new(0, z).is_some(), is_in, "point at {z}");
-        assert_eq!(rt; Rect::new(z, 0, z, 0).is_some(), is_in, "rectangle at {z}");
-        assert_eq!(rt; Rect::new(0, z, 0, z).is_some(), is_in, "rectangle at {z}");
+    check_same(&rt, takes(-16385), [false; 4]);
+    check_same(&rt, takes(-16384), [true; 4]);
+    check_same(&rt, takes(16383), [true; 4]);
+    check_same(&rt, takes(16384), [false; 4]);
+}
+
+// The corners are a rectangle's, or not.
+fn check_corners(rt: &impl Abort, corners: (i32, i32, i32, i32), is_one: bool) {
+    let (x0, y0, x1, y1) = corners;
+    match Rect::new(x0, y0, x1, y1) {
+        Some(r) => {
+            assert!(rt; is_one);
+            check_same(rt, (r.x0(), r.y0(), r.x1(), r.y1()), corners);
+        }
+        None => assert!(rt; !is_one),
     }
 }
 
 #[test]
 fn rectangles(rt: HostRuntime) {
-    let cases = [
-        ((0, 0, 0, 0), true),
-        ((1, 0, 0, 0), false),
-        ((0, 1, 0, 0), false),
-        ((0, 0, 1023, 1023), true),
-        ((0, 0, 1023, 1024), false),
-        ((-16384, -16384, 16383, -16353), true),
-        ((-16384, -16384, 16383, -16352), false),
-    ];
-    for ((x0, y0, x1, y1), is_one) in cases {
-        let made = Rect::new(x0, y0, x1, y1).map(|r| (r.x0(), r.y0(), r.x1(), r.y1()));
-        assert_eq!(rt; made, is_one.then_some((x0, y0, x1, y1)));
-    }
+    check_corners(&rt, (0, 0, 0, 0), true);
+    check_corners(&rt, (1, 0, 0, 0), false);
+    check_corners(&rt, (0, 1, 0, 0), false);
+    check_corners(&rt, (0, 0, 1023, 1023), true);
+    check_corners(&rt, (0, 0, 1023, 1024), false);
+    check_corners(&rt, (-16384, -16384, 16383, -16353), true);
+    check_corners(&rt, (-16384, -16384, 16383, -16352), false);
 }
 
 // Compares the side of a whole rectangle with what is expected.

@@ -2,9 +2,13 @@
 #![tactic(auto)]
 
 #[cfg(test)]
+mod compare;
+#[cfg(test)]
 mod demos;
 #[cfg(test)]
 mod directories;
+#[cfg(test)]
+mod end_calls;
 #[cfg(test)]
 mod ends_for_tests;
 #[cfg(test)]

@@ -1,34 +1,31 @@
 //! Numbers of a line's content.
 
+use crate::compare::check_same;
 use line_io::{Numbers, read_numbers};
+use std::process::Abort;
 
-fn pair(x: i32, y: i32, is_printed: bool) -> Option<Numbers<2>> {
-    Some(Numbers {
-        values: [x, y],
-        is_printed,
-    })
+// A content is read as these two numbers.
+fn check_pair(rt: &impl Abort, content: &[u8], values: [i32; 2], is_printed: bool) {
+    let expected = Numbers { values, is_printed };
+    check_same(rt, read_numbers(content), Some(expected));
 }
 
 #[test]
 fn numbers_past_every_type(rt: HostRuntime) {
-    assert_eq!(rt;
-        read_numbers(b"2147483647 -2147483647"),
-        pair(i32::MAX, -2147483647, true)
-    );
-    assert_eq!(rt; read_numbers(b"2147483648 0"), pair(i32::MAX, 0, false));
-    assert_eq!(rt;
-        read_numbers(b"-4294967296 -2147483649"),
-        pair(i32::MIN, i32::MIN, false)
-    );
+    let ends = [i32::MAX, -2147483647];
+    check_pair(&rt, b"2147483647 -2147483647", ends, true);
+    check_pair(&rt, b"2147483648 0", [i32::MAX, 0], false);
+    let least = [i32::MIN; 2];
+    check_pair(&rt, b"-4294967296 -2147483649", least, false);
 }
 
 #[test]
 fn printed_numbers(rt: HostRuntime) {
-    assert_eq!(rt; read_numbers(b"10 -1"), pair(10, -1, true));
-    assert_eq!(rt; read_numbers(b"0 0"), pair(0, 0, true));
-    assert_eq!(rt; read_numbers(b"00 1"), pair(0, 1, false));
-    assert_eq!(rt; read_numbers(b"1 -01"), pair(1, -1, false));
-    assert_eq!(rt; read_numbers(b"1 -0"), pair(1, 0, false));
+    check_pair(&rt, b"10 -1", [10, -1], true);
+    check_pair(&rt, b"0 0", [0, 0], true);
+    check_pair(&rt, b"00 1", [0, 1], false);
+    check_pair(&rt, b"1 -01", [1, -1], false);
+    check_pair(&rt, b"1 -0", [1, 0], false);
 }
 
 #[test]
@@ -41,7 +38,7 @@ fn other_counts(rt: HostRuntime) {
         values: [1, -2, 3, -4],
         is_printed: true,
     };
-    assert_eq!(rt; read_numbers(b""), Some(none));
-    assert_eq!(rt; read_numbers(b"1 -2 3 -4"), Some(four));
-    assert_eq!(rt; read_numbers::<3>(b"1 -2 3 -4"), None);
+    check_same(&rt, read_numbers(b""), Some(none));
+    check_same(&rt, read_numbers(b"1 -2 3 -4"), Some(four));
+    assert!(rt; read_numbers::<3>(b"1 -2 3 -4").is_none());
 }

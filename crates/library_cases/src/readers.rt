@@ -1,5 +1,7 @@
 //! A source over a reader that ends, or fails.
 
+use crate::compare::check_same;
+use crate::end_calls::check_pull;
 use le_rec::{EndFault, FromRead, Source};
 use std::io;
 use std::io::Read;
@@ -49,9 +51,16 @@ fn two_pulls<S: Source>(source: &mut S) -> Option<usize> {
 #[test]
 fn a_reader_is_pulled_to_its_end(rt: HostRuntime) {
     let mut source = FromRead::new(b"0 5\n".as_slice());
-    assert_eq!(rt; two_pulls(&mut source), Some(4));
-    assert_eq!(rt; source.pull(&mut [0; 3]), Ok(0));
+    check_same(&rt, two_pulls(&mut source), Some(4));
+    check_pull(&rt, &mut source, &mut [0; 3], Ok(0));
     assert!(rt; !source.failed());
+}
+
+// A source that has failed, or not, and tells so after two pulls of six bytes, too.
+fn check_six<S: Source>(rt: &impl Abort, source: &mut S, has_failed: bool) {
+    assert!(rt; source.failed() == has_failed);
+    check_same(rt, two_pulls(source), Some(6));
+    assert!(rt; source.failed() == has_failed);
 }
 
 // A reader whose first read fails is read once for the pull that fails.
@@ -61,10 +70,8 @@ fn check_failed_pull(rt: &impl Abort, kind: io::ErrorKind) {
         has_failed: false,
     });
     assert!(rt; !source.failed());
-    assert_eq!(rt; source.pull(&mut [0; 3]), Err(EndFault));
-    assert!(rt; source.failed());
-    assert_eq!(rt; two_pulls(&mut source), Some(6));
-    assert!(rt; source.failed());
+    check_pull(rt, &mut source, &mut [0; 3], Err(EndFault));
+    check_six(rt, &mut source, true);
 }
 
 #[test]
@@ -82,7 +89,6 @@ fn a_read_of_no_bytes_is_a_pull_of_none(rt: HostRuntime) {
     let mut source = FromRead::new(GivesNoneOnce {
         has_given_none: false,
     });
-    assert_eq!(rt; source.pull(&mut [0; 3]), Ok(0));
-    assert!(rt; !source.failed());
-    assert_eq!(rt; two_pulls(&mut source), Some(6));
+    check_pull(&rt, &mut source, &mut [0; 3], Ok(0));
+    check_six(&rt, &mut source, false);
 }

@@ -1,8 +1,11 @@
 //! Records, tables and names.
 
+use crate::compare::check_same;
 use le_rec::{
     Entry, LineDef, Name8, Node, Record, SSector, Sector, Seg, SideDef, Table, Thing, Vertex, Word,
 };
+use std::fmt::Debug;
+use std::process::Abort;
 
 // The record of the bytes, through the bound, and whether writing it gives the bytes back.
 fn read_and_write<R: Record>(bytes: &[u8]) -> Option<(R, bool)> {
@@ -14,6 +17,11 @@ fn read_and_write<R: Record>(bytes: &[u8]) -> Option<(R, bool)> {
     let written = &mut room[..R::SIZE];
     record.write(written);
     Some((record, &*written == bytes))
+}
+
+// These bytes are read as that record, which is written as these bytes.
+fn check_record<R: Record + PartialEq + Debug>(rt: &impl Abort, bytes: &[u8], record: R) {
+    check_same(rt, read_and_write(bytes), Some((record, true)));
 }
 
 // The bytes of seven numbers, each the least, and each the greatest.
@@ -37,17 +45,11 @@ fn entry_bytes(rt: HostRuntime) {
         name: *b"E1M1\0\0\0x",
     };
     let bytes = *b"\x01\x02\x03\x04\xfe\xff\xff\xffE1M1\0\0\0x";
-    assert_eq!(rt; read_and_write(&bytes), Some((entry, true)));
+    check_record(&rt, &bytes, entry);
     let bytes = *b"\x00\x00\x00\x80\x00\x00\x00\x80\x00\x00\x00\x00\x00\x00\x00\x00";
-    assert_eq!(rt;
-        read_and_write(&bytes),
-        Some((entry_of(i32::MIN, [0; 8]), true))
-    );
+    check_record(&rt, &bytes, entry_of(i32::MIN, [0; 8]));
     let bytes = *b"\xff\xff\xff\x7f\xff\xff\xff\x7f\xff\xff\xff\xff\xff\xff\xff\xff";
-    assert_eq!(rt;
-        read_and_write(&bytes),
-        Some((entry_of(i32::MAX, [255; 8]), true))
-    );
+    check_record(&rt, &bytes, entry_of(i32::MAX, [255; 8]));
 }
 
 fn thing_of(number: i16) -> Thing {
@@ -70,15 +72,9 @@ fn thing_bytes(rt: HostRuntime) {
         options: -1,
     };
     let bytes = [1, 0, 2, 0, 3, 0, 4, 0, 255, 255];
-    assert_eq!(rt; read_and_write(&bytes), Some((thing, true)));
-    assert_eq!(rt;
-        read_and_write(&LEAST[..10]),
-        Some((thing_of(i16::MIN), true))
-    );
-    assert_eq!(rt;
-        read_and_write(&GREATEST[..10]),
-        Some((thing_of(i16::MAX), true))
-    );
+    check_record(&rt, &bytes, thing);
+    check_record(&rt, &LEAST[..10], thing_of(i16::MIN));
+    check_record(&rt, &GREATEST[..10], thing_of(i16::MAX));
 }
 
 fn linedef_of(number: i16) -> LineDef {
@@ -105,12 +101,9 @@ fn linedef_bytes(rt: HostRuntime) {
         side1: -1,
     };
     let bytes = [1, 0, 2, 0, 3, 0, 4, 0, 5, 0, 6, 0, 255, 255];
-    assert_eq!(rt; read_and_write(&bytes), Some((linedef, true)));
-    assert_eq!(rt; read_and_write(&LEAST), Some((linedef_of(i16::MIN), true)));
-    assert_eq!(rt;
-        read_and_write(&GREATEST),
-        Some((linedef_of(i16::MAX), true))
-    );
+    check_record(&rt, &bytes, linedef);
+    check_record(&rt, &LEAST, linedef_of(i16::MIN));
+    check_record(&rt, &GREATEST, linedef_of(i16::MAX));
 }
 
 fn sidedef_of(number: i16, name: [u8; 8]) -> SideDef {
@@ -135,19 +128,13 @@ fn sidedef_bytes(rt: HostRuntime) {
         sector: 3,
     };
     let bytes = *b"\x01\0\xfe\xffSTARTAN3BROWN1\0\0-\0\0\0\0\0\0\0\x03\0";
-    assert_eq!(rt; read_and_write(&bytes), Some((sidedef, true)));
+    check_record(&rt, &bytes, sidedef);
     let bytes = *b"\x00\x80\x00\x80\x00\x00\x00\x00\x00\x00\x00\x00\x00\x00\x00\
           \x00\x00\x00\x00\x00\x00\x00\x00\x00\x00\x00\x00\x00\x00\x80";
-    assert_eq!(rt;
-        read_and_write(&bytes),
-        Some((sidedef_of(i16::MIN, [0; 8]), true))
-    );
+    check_record(&rt, &bytes, sidedef_of(i16::MIN, [0; 8]));
     let bytes = *b"\xff\x7f\xff\x7f\xff\xff\xff\xff\xff\xff\xff\xff\xff\xff\xff\
           \xff\xff\xff\xff\xff\xff\xff\xff\xff\xff\xff\xff\xff\xff\x7f";
-    assert_eq!(rt;
-        read_and_write(&bytes),
-        Some((sidedef_of(i16::MAX, [255; 8]), true))
-    );
+    check_record(&rt, &bytes, sidedef_of(i16::MAX, [255; 8]));
 }
 
 #[test]
@@ -156,17 +143,14 @@ fn vertex_bytes(rt: HostRuntime) {
         x: -16384,
         y: 16383,
     };
-    assert_eq!(rt;
-        read_and_write(&[0x00, 0xc0, 0xff, 0x3f]),
-        Some((vertex, true))
-    );
+    check_record(&rt, &[0x00, 0xc0, 0xff, 0x3f], vertex);
     let least = Vertex {
         x: -32768,
         y: -32768,
     };
-    assert_eq!(rt; read_and_write(&LEAST[..4]), Some((least, true)));
+    check_record(&rt, &LEAST[..4], least);
     let greatest = Vertex { x: 32767, y: 32767 };
-    assert_eq!(rt; read_and_write(&GREATEST[..4]), Some((greatest, true)));
+    check_record(&rt, &GREATEST[..4], greatest);
 }
 
 fn seg_of(number: i16) -> Seg {
@@ -191,15 +175,9 @@ fn seg_bytes(rt: HostRuntime) {
         offset: -1,
     };
     let bytes = [1, 0, 2, 0, 0, 192, 3, 0, 4, 0, 255, 255];
-    assert_eq!(rt; read_and_write(&bytes), Some((seg, true)));
-    assert_eq!(rt;
-        read_and_write(&LEAST[..12]),
-        Some((seg_of(i16::MIN), true))
-    );
-    assert_eq!(rt;
-        read_and_write(&GREATEST[..12]),
-        Some((seg_of(i16::MAX), true))
-    );
+    check_record(&rt, &bytes, seg);
+    check_record(&rt, &LEAST[..12], seg_of(i16::MIN));
+    check_record(&rt, &GREATEST[..12], seg_of(i16::MAX));
 }
 
 #[test]
@@ -208,17 +186,17 @@ fn ssector_bytes(rt: HostRuntime) {
         count: 1,
         first: -2,
     };
-    assert_eq!(rt; read_and_write(&[1, 0, 254, 255]), Some((ssector, true)));
+    check_record(&rt, &[1, 0, 254, 255], ssector);
     let least = SSector {
         count: -32768,
         first: -32768,
     };
-    assert_eq!(rt; read_and_write(&LEAST[..4]), Some((least, true)));
+    check_record(&rt, &LEAST[..4], least);
     let greatest = SSector {
         count: 32767,
         first: 32767,
     };
-    assert_eq!(rt; read_and_write(&GREATEST[..4]), Some((greatest, true)));
+    check_record(&rt, &GREATEST[..4], greatest);
 }
 
 fn node_of(number: i16, child: u16) -> Node {
@@ -250,16 +228,13 @@ fn node_bytes(rt: HostRuntime) {
         1, 0, 2, 0, 3, 0, 255, 255, 4, 0, 5, 0, 6, 0, 7, 0, 8, 0, 9, 0, 10, 0, 254, 255, 11, 0,
         255, 255,
     ];
-    assert_eq!(rt; read_and_write(&bytes), Some((node, true)));
+    check_record(&rt, &bytes, node);
     let bytes = *b"\x00\x80\x00\x80\x00\x80\x00\x80\x00\x80\x00\x80\x00\x80\
           \x00\x80\x00\x80\x00\x80\x00\x80\x00\x80\x00\x00\x00\x00";
-    assert_eq!(rt; read_and_write(&bytes), Some((node_of(i16::MIN, 0), true)));
+    check_record(&rt, &bytes, node_of(i16::MIN, 0));
     let bytes = *b"\xff\x7f\xff\x7f\xff\x7f\xff\x7f\xff\x7f\xff\x7f\xff\x7f\
           \xff\x7f\xff\x7f\xff\x7f\xff\x7f\xff\x7f\xff\xff\xff\xff";
-    assert_eq!(rt;
-        read_and_write(&bytes),
-        Some((node_of(i16::MAX, u16::MAX), true))
-    );
+    check_record(&rt, &bytes, node_of(i16::MAX, u16::MAX));
 }
 
 fn sector_of(number: i16, name: [u8; 8]) -> Sector {
@@ -286,53 +261,59 @@ fn sector_bytes(rt: HostRuntime) {
         tag: 4,
     };
     let bytes = *b"\xff\xff\x02\0FLOOR4_8CEIL3_5\0\xa0\0\x03\0\x04\0";
-    assert_eq!(rt; read_and_write(&bytes), Some((sector, true)));
+    check_record(&rt, &bytes, sector);
     let bytes = *b"\x00\x80\x00\x80\x00\x00\x00\x00\x00\x00\x00\x00\x00\
           \x00\x00\x00\x00\x00\x00\x00\x00\x80\x00\x80\x00\x80";
-    assert_eq!(rt;
-        read_and_write(&bytes),
-        Some((sector_of(i16::MIN, [0; 8]), true))
-    );
+    check_record(&rt, &bytes, sector_of(i16::MIN, [0; 8]));
     let bytes = *b"\xff\x7f\xff\x7f\xff\xff\xff\xff\xff\xff\xff\xff\xff\
           \xff\xff\xff\xff\xff\xff\xff\xff\x7f\xff\x7f\xff\x7f";
-    assert_eq!(rt;
-        read_and_write(&bytes),
-        Some((sector_of(i16::MAX, [255; 8]), true))
-    );
+    check_record(&rt, &bytes, sector_of(i16::MAX, [255; 8]));
 }
 
 #[test]
 fn word_bytes(rt: HostRuntime) {
     let word = Word { number: -2 };
-    assert_eq!(rt; read_and_write(&[254, 255]), Some((word, true)));
+    check_record(&rt, &[254, 255], word);
+}
+
+// A table of so many bytes has so many records and so many bytes left over, and no record behind its last.
+fn check_table<R: Record>(rt: &impl Abort, bytes: &[u8], len: usize, rest: usize) {
+    let table = Table::<R>::of(bytes);
+    assert!(rt; table.len() == len);
+    assert!(rt; table.rest() == rest);
+    assert!(rt; table.get(len).is_none());
 }
 
 #[test]
 fn table_with_rest(rt: HostRuntime) {
-    let table = Table::<Sector>::of(&[0; 53]);
-    assert_eq!(rt; table.len(), 2);
-    assert_eq!(rt; table.rest(), 1);
-    assert_eq!(rt; table.get(2), None);
+    check_table::<Sector>(&rt, &[0; 53], 2, 1);
 }
 
 #[test]
 fn table_of_rest_alone(rt: HostRuntime) {
-    let table = Table::<Vertex>::of(&[0; 3]);
-    assert_eq!(rt; table.len(), 0);
-    assert_eq!(rt; table.rest(), 3);
+    check_table::<Vertex>(&rt, &[0; 3], 0, 3);
+}
+
+// A name is printed so.
+fn check_shown(rt: &impl Abort, name: Name8, expected: &[u8]) {
+    let mut text = [0; 32];
+    let len = name.shown(&mut text);
+    check_same(rt, text.get(..len), Some(expected));
 }
 
 #[test]
 fn name_shown(rt: HostRuntime) {
     let name = Name8::stored([0x41, 0x5c, 0x20, 0, 0x42, 0, 0, 0]);
-    assert_eq!(rt; name.bytes(), [0x41, 0x5c, 0x20, 0, 0, 0, 0, 0]);
-    let mut text = [0; 32];
-    let len = name.shown(&mut text);
-    assert_eq!(rt; text.get(..len), Some(b"A\\x5c\\x20".as_slice()));
+    check_same(&rt, name.bytes(), [0x41, 0x5c, 0x20, 0, 0, 0, 0, 0]);
+    check_shown(&rt, name, b"A\\x5c\\x20");
 }
 
 #[test]
 fn queries(rt: HostRuntime) {
-    assert_eq!(rt; Name8::query(b"e1m1\0zz"), Name8::query(b"E1M1"));
-    assert_eq!(rt; Name8::query(b"blockmapper"), Name8::stored(*b"BLOCKMAP"));
+    check_same(&rt, Name8::query(b"e1m1\0zz"), Name8::query(b"E1M1"));
+    check_same(
+        &rt,
+        Name8::query(b"blockmapper"),
+        Name8::stored(*b"BLOCKMAP"),
+    );
 }

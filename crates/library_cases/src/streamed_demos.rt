@@ -3,8 +3,10 @@
 ghost use Rattle.std.specs.Prelude.{◌≡◌, ◌≤◌, false, None};
 ghost use Rattle.test_ends.specs.SliceSource.{pull_failed};
 
+use crate::compare::{check_bytes, check_same};
 use crate::demos::{LONG, TWO, command_of, header_of};
 use demo_lump::{Command, DemoFault, DemoReader, Header, MAX_READ, StreamFault};
+use std::process::Abort;
 use test_ends::SliceSource;
 
 // A reader with its source, of which a test is to know nothing before it asks.
@@ -26,86 +28,73 @@ impl<'a> Run<'a> {
         }
     }
 
-    fn header(&mut self) -> Result<Header, StreamFault> {
-        self.reader.header(&mut self.source)
+    // What the reader answers from the source, and what is left of that.
+    fn check_header(&mut self, rt: &impl Abort, expected: Result<Header, StreamFault>) {
+        check_same(rt, self.reader.header(&mut self.source), expected);
     }
 
-    fn next(&mut self) -> Result<Option<Command>, StreamFault> {
-        self.reader.next(&mut self.source)
+    fn check_next(&mut self, rt: &impl Abort, expected: Result<Option<Command>, StreamFault>) {
+        check_same(rt, self.reader.next(&mut self.source), expected);
     }
 
-    // The bytes after the marker, where that was read.
-    fn after(&mut self) -> Option<Result<u64, StreamFault>> {
-        if !self.reader.ended() {
-            return None;
-        }
-        Some(self.reader.after(&mut self.source))
+    fn check_after(&mut self, rt: &impl Abort, expected: Result<u64, StreamFault>) {
+        assert!(rt; self.reader.ended());
+        check_same(rt, self.reader.after(&mut self.source), expected);
     }
 
-    // Why the demo isn't read to its end.
-    fn fault(&mut self) -> Option<StreamFault> {
-        for _turn in 0..100 {
-            match self.next() {
-                Ok(Some(_)) => {}
-                Ok(None) => break,
-                Err(fault) => return Some(fault),
-            }
-        }
-        match self.after() {
-            Some(Err(fault)) => Some(fault),
-            _ => None,
-        }
+    fn check_left(&self, rt: &impl Abort, expected: &[u8]) {
+        check_bytes(rt, self.source.left(), expected);
     }
 }
 
 #[test]
 fn reader_byte_by_byte(rt: HostRuntime) {
     let mut run = Run::new(SliceSource::new(&TWO).at_most(1), 100);
-    assert_eq!(rt; run.header(), Ok(header_of(109)));
-    assert_eq!(rt; run.source.left().len(), 10);
-    assert_eq!(rt; run.header(), Ok(header_of(109)));
-    assert_eq!(rt; run.next(), Ok(Some(command_of(25, 0, 0, 0))));
-    assert_eq!(rt; run.next(), Ok(Some(command_of(-50, -128, 255, 128))));
-    assert_eq!(rt; run.after(), None);
-    assert_eq!(rt; run.next(), Ok(None));
-    assert_eq!(rt; run.next(), Ok(None));
-    assert_eq!(rt; run.source.left(), [7].as_slice());
-    assert_eq!(rt; run.after(), Some(Ok(1)));
-    assert_eq!(rt; run.after(), Some(Ok(1)));
-    assert_eq!(rt; run.header(), Ok(header_of(109)));
+    run.check_header(&rt, Ok(header_of(109)));
+    run.check_left(&rt, &TWO[13..]);
+    run.check_header(&rt, Ok(header_of(109)));
+    run.check_next(&rt, Ok(Some(command_of(25, 0, 0, 0))));
+    run.check_next(&rt, Ok(Some(command_of(-50, -128, 255, 128))));
+    assert!(rt; !run.reader.ended());
+    run.check_next(&rt, Ok(None));
+    run.check_next(&rt, Ok(None));
+    run.check_left(&rt, &[7]);
+    run.check_after(&rt, Ok(1));
+    run.check_after(&rt, Ok(1));
+    run.check_header(&rt, Ok(header_of(109)));
 }
 
 #[test]
 fn reader_of_15_bytes(rt: HostRuntime) {
     let mut run = Run::new(SliceSource::new(&TWO[..15]).at_most(1), 100);
     let cut = StreamFault::Demo(DemoFault::NoMarker(13));
-    assert_eq!(rt; run.header(), Ok(header_of(109)));
-    assert_eq!(rt; run.next(), Err(cut));
-    assert_eq!(rt; run.next(), Err(cut));
-    assert_eq!(rt; run.header(), Err(cut));
+    run.check_header(&rt, Ok(header_of(109)));
+    run.check_next(&rt, Err(cut));
+    run.check_next(&rt, Err(cut));
+    run.check_header(&rt, Err(cut));
 }
 
 #[test]
 fn reader_with_limit_13(rt: HostRuntime) {
     let mut run = Run::new(SliceSource::new(&TWO).at_most(1), 13);
-    assert_eq!(rt; run.header(), Ok(header_of(109)));
-    assert_eq!(rt; run.next(), Err(StreamFault::TooLong));
-    assert_eq!(rt; run.next(), Err(StreamFault::TooLong));
+    run.check_header(&rt, Ok(header_of(109)));
+    run.check_next(&rt, Err(StreamFault::TooLong));
+    run.check_next(&rt, Err(StreamFault::TooLong));
 }
 
 #[test]
 fn demo_111_byte_by_byte(rt: HostRuntime) {
     let mut run = Run::new(SliceSource::new(&LONG).at_most(1), 24);
-    assert_eq!(rt; run.next(), Ok(Some(command_of(25, 0, 4660, 0))));
-    assert_eq!(rt; run.next(), Ok(Some(command_of(-50, -128, 65535, 128))));
-    assert_eq!(rt; run.next(), Ok(None));
-    assert_eq!(rt; run.after(), Some(Ok(0)));
+    run.check_next(&rt, Ok(Some(command_of(25, 0, 4660, 0))));
+    run.check_next(&rt, Ok(Some(command_of(-50, -128, 65535, 128))));
+    run.check_next(&rt, Ok(None));
+    run.check_after(&rt, Ok(0));
 }
 
 #[test]
 fn refused_version_is_read_alone(rt: HostRuntime) {
     let mut run = Run::new(SliceSource::new(&[112, 3, 1, 1]), 100);
     let refused = StreamFault::Demo(DemoFault::Version(112));
-    assert_eq!(rt; run.next(), Err(refused));
-    assert_eq!(rt; run.source.left(), [3, 1, 1].as_slice());
+    run.check_next(&rt, Err(refused));
+    run.check_left(&rt, &[3, 1, 1]);
 }

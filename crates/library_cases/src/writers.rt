@@ -1,5 +1,7 @@
 //! A sink over a writer that is full, or fails.
 
+use crate::compare::check_same;
+use crate::end_calls::check_put;
 use le_rec::{EndFault, Sink, ToWrite};
 use std::io;
 use std::io::Write;
@@ -37,9 +39,9 @@ fn two_puts<W: Sink>(sink: &mut W, bytes: &[u8]) -> Option<usize> {
 fn a_writer_that_takes_none_has_failed(rt: HostRuntime) {
     let mut room = [0; 3];
     let mut sink = ToWrite::new(room.as_mut_slice());
-    assert_eq!(rt; two_puts(&mut sink, b"0 5"), None);
+    check_same(&rt, two_puts(&mut sink, b"0 5"), None);
     assert!(rt; sink.failed());
-    assert_eq!(rt; sink.put(b""), Ok(0));
+    check_put(&rt, &mut sink, b"", Ok(0));
     assert!(rt; sink.failed());
 }
 
@@ -50,9 +52,9 @@ fn check_failed_put(rt: &impl Abort, kind: io::ErrorKind) {
         has_failed: false,
     });
     assert!(rt; !sink.failed());
-    assert_eq!(rt; sink.put(b"0 5"), Err(EndFault));
+    check_put(rt, &mut sink, b"0 5", Err(EndFault));
     assert!(rt; sink.failed());
-    assert_eq!(rt; two_puts(&mut sink, b"0 5"), Some(6));
+    check_same(rt, two_puts(&mut sink, b"0 5"), Some(6));
     assert!(rt; sink.failed());
 }
 
@@ -70,6 +72,6 @@ fn an_interrupted_write_is_a_failed_put(rt: HostRuntime) {
 fn a_writer_takes_what_it_has_room_for(rt: HostRuntime) {
     let mut room = [0; 5];
     let mut sink = ToWrite::new(room.as_mut_slice());
-    assert_eq!(rt; two_puts(&mut sink, b"0 5"), Some(5));
+    check_same(&rt, two_puts(&mut sink, b"0 5"), Some(5));
     assert!(rt; !sink.failed());
 }

@@ -1,7 +1,6 @@
 -- What a text tells as a listing, as far as it was taken, and where it is wrong.
-use Rattle.std.proofs.Common.{◌≡◌, ◌≢◌, ◌⊎◌, inl, inr, ℕ, ◌+◌, ◌/◌, ◌%◌, ◌^◌, ◌<◌, List, [], ◌∷◌, ◌++◌, length, All, refl, sym, ap, ◌∙◌, subst, arith}
+use Rattle.std.proofs.Common.{◌≡◌, ◌≢◌, ◌⊎◌, inl, inr, ℕ, ◌+◌, ◌/◌, ◌%◌, ◌^◌, ◌<◌, List, [], ◌∷◌, ◌++◌, length, refl, sym, ap, ◌∙◌, subst, arith}
 use Rattle.std.proofs.lemmas.List.{append_assoc, append-nil}
-use Rattle.std.proofs.lemmas.List.Elements.{All-head}
 use Rattle.std.specs.Fmt.{decimal}
 use Rattle.std.specs.List.{AllByRecursion}
 use Rattle.demo_lump.specs.Demo.{Demo}
@@ -9,7 +8,6 @@ use Rattle.demo_lump.specs.Header.{players_in}
 use Rattle.demo_lump.specs.declared.command.Command.{Command}
 use Rattle.demo_lump.specs.declared.header.Header.{Header}
 use Rattle.le_rec.proofs.BytesLemmas.{AreBytes-cons, AreBytes-nil}
-use Rattle.line_io.specs.Numbers.{IsDigit}
 use Rattle.demo_lens.specs.Assembly.{AreLines, BeginsListing, IsLine, IsListingOf, IsWrongLine}
 use Rattle.demo_lens.specs.Assembly.AreLines.{more, none}
 use Rattle.demo_lens.specs.Parts.{FitsCommand, FitsHeader, Stops}
@@ -20,7 +18,7 @@ use Rattle.demo_lens.proofs.FitLemmas.{FitsDemo, fit_listed, listed_fits}
 use Rattle.demo_lens.proofs.HeaderLineLemmas.{same_header}
 use Rattle.demo_lens.proofs.LineLemmas.{header_is_line, lines_of, ticcmd_is_line, totals_is_line}
 use Rattle.demo_lens.proofs.ListingLemmas.{line_fields, same_line}
-use Rattle.demo_lens.proofs.RunLemmas.{decimal_is, same_run}
+use Rattle.demo_lens.proofs.RunLemmas.{BeginsWithDigit, decimal_begins, same_run}
 use Rattle.demo_lens.proofs.TurnLemmas.{turns_small}
 
 pub nothing : (text : List ℕ) → length text ≡ 0 → text ≡ []
@@ -39,17 +37,19 @@ same_first a b x y of_a of_b same =
     (of_a.is ∙ ap (λ t. t ++ 10 ∷ []) run.0 ∙ sym of_b.is, cc)
 
 -- a command's line begins with a digit, and the totals don't
-no_totals : (tic player : ℕ) (c : Command) (x y : List ℕ) → tic < 2 ^ 64 → ticcmd_line tic player c ++ x ≡ 116 ∷ y → ⊥
-no_totals tic player c x y small same = begins (decimal tic) _ (decimal_is tic small).some_digit (decimal_is tic small).all_digits (sym (line_fields tic player c x) ∙ same)
+pub no_totals : (tic player : ℕ) (c : Command) (x y : List ℕ) → ticcmd_line tic player c ++ x ≡ 116 ∷ y → ⊥
+no_totals tic player c x y same = begins (decimal tic) _ (decimal_begins tic) (sym (line_fields tic player c x) ∙ same)
   where
-    begins : (digits behind : List ℕ) → 0 < length digits → All IsDigit digits → digits ++ behind ≡ 116 ∷ y → ⊥
-    begins [] behind some all is = omega (arith, some)
-    begins (d ∷ digits) behind some all is =
-        let first : d ≡ 116 = cc in
-        let digit = All-head IsDigit d digits all in
-        omega (arith, digit.1, first)
+    begins : (text behind : List ℕ) → BeginsWithDigit text → text ++ behind ≡ 116 ∷ y → ⊥
+    begins text behind with_digit is =
+        let first : with_digit.digit ≡ 116 = head_is with_digit.digit (with_digit.more ++ behind) (sym (ap (λ t. t ++ behind) with_digit.is) ∙ is) in
+        let kind = with_digit.kind in
+        omega (arith, kind.1, first)
+      where
+        head_is : (d : ℕ) (text : List ℕ) → d ∷ text ≡ 116 ∷ y → d ≡ 116
+        head_is d text is = cc
 
-totals_begin : (tics odd after : ℕ) (x : List ℕ) → (y : List ℕ) × (totals_line tics odd after ++ x ≡ 116 ∷ y)
+pub totals_begin : (tics odd after : ℕ) (x : List ℕ) → (y : List ℕ) × (totals_line tics odd after ++ x ≡ 116 ∷ y)
 unfolding totals_line
 totals_begin tics odd after x = (_, refl)
 
@@ -60,25 +60,23 @@ pub record GoesOn (players : List ℕ) (i : ℕ) (commands others : List Command
   pub splits : others ≡ commands ++ later
   pub goes : rest ≡ ticcmds_text players (i + length commands) later ++ tail
 
-goes_on : (players : List ℕ) (i : ℕ) (commands others : List Command) (rest tail end : List ℕ) → length players ≡ 4 → i + length commands < 2 ^ 64
-    → AllByRecursion FitsCommand commands → AllByRecursion FitsCommand others → tail ≡ 116 ∷ end
-    → ticcmds_text players i commands ++ rest ≡ ticcmds_text players i others ++ tail → GoesOn players i commands others rest tail
-goes_on players i [] others rest tail end four few fit fit_others totals same = record {
+pub goes_on : (players : List ℕ) (i : ℕ) (commands others : List Command) (rest tail end : List ℕ) → AllByRecursion FitsCommand commands → AllByRecursion FitsCommand others
+    → tail ≡ 116 ∷ end → ticcmds_text players i commands ++ rest ≡ ticcmds_text players i others ++ tail → GoesOn players i commands others rest tail
+goes_on players i [] others rest tail end fit fit_others totals same = record {
   later = others;
   fit = fit_others;
   splits = refl;
   goes = same ∙ ap (λ k. ticcmds_text players k others ++ tail) (omega arith);
 }
-goes_on players i (c ∷ commands) [] rest tail end four few fit fit_others totals same =
-    let here = turns_small players four i (omega (arith, few)) in
-    absurd (no_totals (tic_of players i) (player_of players i) c (ticcmds_text players (i + 1) commands ++ rest) end here.0
+goes_on players i (c ∷ commands) [] rest tail end fit fit_others totals same =
+    absurd (no_totals (tic_of players i) (player_of players i) c (ticcmds_text players (i + 1) commands ++ rest) end
     (sym (append_assoc (ticcmd_line (tic_of players i) (player_of players i) c) (ticcmds_text players (i + 1) commands) rest) ∙ same ∙ totals))
-goes_on players i (c ∷ commands) (d ∷ others) rest tail end four few fit fit_others totals same =
+goes_on players i (c ∷ commands) (d ∷ others) rest tail end fit fit_others totals same =
     let line_c = ticcmd_line (tic_of players i) (player_of players i) c in
     let line_d = ticcmd_line (tic_of players i) (player_of players i) d in
     let both = same_line (tic_of players i) (player_of players i) c d (ticcmds_text players (i + 1) commands ++ rest) (ticcmds_text players (i + 1) others ++ tail) fit.0 fit_others.0
     (sym (append_assoc line_c (ticcmds_text players (i + 1) commands) rest) ∙ same ∙ append_assoc line_d (ticcmds_text players (i + 1) others) tail) in
-    let deep = goes_on players (i + 1) commands others rest tail end four (omega (arith, few)) fit.1 fit_others.1 totals both.1 in
+    let deep = goes_on players (i + 1) commands others rest tail end fit.1 fit_others.1 totals both.1 in
     record {
       later = deep.later;
       fit = deep.fit;
@@ -103,9 +101,8 @@ module _ (text : List ℕ) (header : Header) (commands : List Command) (rest : L
       let tail = totals_text demo.header.players (length demo.commands) demo.after in
       let begin = totals_begin (length demo.commands / players_in demo.header.players) (length demo.commands % players_in demo.header.players) demo.after [] in
       let totals : tail ≡ 116 ∷ begin.0 = sym (append-nil tail) ∙ begin.1 in
-      let few = taken.few in
       let on : GoesOn header.players 0 commands demo.commands x tail =
-      goes_on header.players 0 commands demo.commands x tail begin.0 taken.of_header.long (omega arith) taken.of_commands fits.commands totals
+      goes_on header.players 0 commands demo.commands x tail begin.0 taken.of_commands fits.commands totals
       (subst (λ (h : Header). ticcmds_text header.players 0 commands ++ x ≡ ticcmds_text h.players 0 demo.commands ++ tail) (sym heads.0) heads.1) in (
         on.later,
         on.fit,
@@ -266,10 +263,8 @@ module _ (text : List ℕ) (header : Header) (commands : List Command) (rest : L
           at : ((c : Command) × FitsCommand c × (own_totals after ≡ ticcmd_line (tic_of header.players (length commands)) (player_of header.players (length commands)) c))
               ⊎ ((a : ℕ) × (a < 2 ^ 64) × (own_totals after ≡ own_totals a) × (z ≡ [])) → z ≡ []
           at (inl found) =
-              let few_there = taken.few in
-              let here = turns_small header.players taken.of_header.long (length commands) (omega arith) in
               let begin = totals_begin (length commands / players_in header.players) (length commands % players_in header.players) after [] in
-              absurd (no_totals (tic_of header.players (length commands)) (player_of header.players (length commands)) found.0 [] begin.0 here.0
+              absurd (no_totals (tic_of header.players (length commands)) (player_of header.players (length commands)) found.0 [] begin.0
               (ap (λ l. l ++ []) (sym found.2) ∙ begin.1))
           at (inr found) = found.3
 

@@ -3,6 +3,7 @@ pub mod DemosLemmas
 mod DifferenceLemmas
 mod FitLemmas
 mod HeaderLineLemmas
+mod LawLemmas
 mod LineLemmas
 mod ListingLemmas
 mod NumberLemmas

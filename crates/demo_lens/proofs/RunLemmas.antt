@@ -1,8 +1,9 @@
 -- Numbers at the front of a text, which end where their digits do.
-use Rattle.std.proofs.Common.{◌≡◌, ℕ, ◌^◌, ◌<◌, ℤ, pos, negsuc, suc, List, [], ◌∷◌, ◌++◌, length, All, refl, sym, ap, ◌∙◌, subst, arith, w8}
+use Rattle.std.proofs.Common.{◌≡◌, ℕ, ◌/◌, ◌%◌, ◌^◌, ◌<◌, ◌==◌, true, false, if◌then◌else◌, ℤ, pos, negsuc, zero, suc, List, [], ◌∷◌, ◌++◌, length, All, refl, sym, ap, ◌∙◌, subst, arith, w8}
 use Rattle.std.proofs.lemmas.Fmt.{decimal_injective}
 use Rattle.std.proofs.lemmas.List.Elements.{All-head, All-tail}
-use Rattle.std.specs.Fmt.{decimal, signed_decimal}
+use Rattle.std.proofs.lemmas.Bool.Decides.{nat_tests}
+use Rattle.std.specs.Fmt.{decimal, digit_glyph, digits, digits_onto, signed_decimal}
 use Rattle.std.specs.Int.RustNames.{FitsSigned}
 use Rattle.demo_lens.specs.Parts.{Stops}
 use Rattle.demo_lens.specs.Parts.Stops.{other}
@@ -25,8 +26,39 @@ same_run P (c ∷ a) (d ∷ b) x y of_a of_b stop_x stop_y same =
 same_run P [] (d ∷ b) x y of_a of_b stop_x stop_y same = absurd (no_more P d (b ++ y) x stop_x same (All-head P d b of_b))
 same_run P (c ∷ a) [] x y of_a of_b stop_x stop_y same = absurd (no_more P c (a ++ x) y stop_y (sym same) (All-head P c a of_a))
 
+glyph_is : (d : ℕ) → d < 10 → IsDigit (digit_glyph false d)
+glyph_is d small = grind (arith, nat_tests)
+
 pub decimal_is : (n : ℕ) → n < 2 ^ 64 → IsDecimal (decimal n) n
 decimal_is n small = (one_text (decimal n) n small).1 refl
+
+-- each number's text begins with a digit
+pub record BeginsWithDigit (text : List ℕ) : Type 0 where
+  pub digit : ℕ
+  pub more : List ℕ
+  pub is : text ≡ digit ∷ more
+  pub kind : IsDigit digit
+
+onto_begins : (k n digit : ℕ) (more : List ℕ) → IsDigit digit → BeginsWithDigit (digits_onto k 10 false n (digit ∷ more))
+onto_begins zero n digit more kind = record { digit = digit; more = more; is = refl; kind = kind }
+onto_begins (suc k) n digit more kind =
+    let last : IsDigit (digit_glyph false (n % 10)) = glyph_is (n % 10) (omega arith) in
+    elim (n / 10 == 0) as (λ t. BeginsWithDigit (if t then digit_glyph false (n % 10) ∷ digit ∷ more else digits_onto k 10 false (n / 10) (digit_glyph false (n % 10) ∷ digit ∷ more))) [
+      | true ↦ record { digit = digit_glyph false (n % 10); more = digit ∷ more; is = refl; kind = last }
+      | false ↦ onto_begins k (n / 10) (digit_glyph false (n % 10)) (digit ∷ more) last
+    ]
+
+begins_onto : (k n : ℕ) → BeginsWithDigit (digits_onto (suc k) 10 false n [])
+begins_onto k n =
+    let last : IsDigit (digit_glyph false (n % 10)) = glyph_is (n % 10) (omega arith) in
+    elim (n / 10 == 0) as (λ t. BeginsWithDigit (if t then digit_glyph false (n % 10) ∷ [] else digits_onto k 10 false (n / 10) (digit_glyph false (n % 10) ∷ []))) [
+      | true ↦ record { digit = digit_glyph false (n % 10); more = []; is = refl; kind = last }
+      | false ↦ onto_begins k (n / 10) (digit_glyph false (n % 10)) [] last
+    ]
+
+pub decimal_begins : (n : ℕ) → BeginsWithDigit (decimal n)
+unfolding digits
+decimal_begins n = begins_onto 63 n
 
 -- numbers
 pub same_number : (n m : ℕ) (x y : List ℕ) → n < 2 ^ 64 → m < 2 ^ 64 → Stops IsDigit x → Stops IsDigit y → decimal n ++ x ≡ decimal m ++ y → (n ≡ m) × (x ≡ y)

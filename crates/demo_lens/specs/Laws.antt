@@ -1,8 +1,34 @@
 -- Laws over the definitions alone.
-use Rattle.std.specs.Prelude.{List, ℕ}
-use Rattle.demo_lump.specs.Demo.{Demo}
+use Rattle.std.specs.Prelude.{◌≡◌, ℕ, List, [], ◌++◌}
+use Rattle.demo_lens.specs.Assembly.{IsAssembled, IsListingOf}
 use Rattle.demo_lens.specs.Differences.{AreSame, Differs}
+use Rattle.demo_lump.specs.Demo.{Demo, IsDemo, IsRead}
+use Rattle.wad_look.specs.Listing.{totals_line}
 
 -- demos that are the same don't differ
 abbrev pub SameOrDiffer : Type 0
 SameOrDiffer = (a b : Demo) (text : List ℕ) → Differs a b text → ¬ AreSame a b
+
+-- a text is the listing of one demo at most: one header, the same commands, and so many bytes after the marker
+abbrev pub OneListing : Type 0
+OneListing = (text : List ℕ) (a b : Demo) → IsListingOf text a → IsListingOf text b → a ≡ b
+
+-- what is put together of a demo's listing is the header, the commands and the marker of this demo
+abbrev pub AssembledIsDemo : Type 0
+AssembledIsDemo =
+    (text bytes : List ℕ) (demo : Demo) → IsListingOf text demo → IsAssembled text bytes → IsDemo bytes demo.header demo.commands []
+
+-- bytes are read as a demo of which the listing is the text but for its last number: no bytes come after the marker
+pub record ListsAgain (text bytes : List ℕ) : Type 0 where
+  pub demo : Demo
+  pub read : IsRead bytes demo
+  pub front : List ℕ
+  pub tics : ℕ
+  pub odd : ℕ
+  pub after : ℕ
+  pub was : text ≡ front ++ totals_line tics odd after
+  pub lists : IsListingOf (front ++ totals_line tics odd 0) demo
+
+-- and so is what is put together of a listing
+abbrev pub AssembledListsAgain : Type 0
+AssembledListsAgain = (text bytes : List ℕ) → IsAssembled text bytes → ListsAgain text bytes

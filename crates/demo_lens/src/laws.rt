@@ -1,8 +1,20 @@
 //! Laws over the definitions alone, each the contract of a function that does nothing: a caller gets the law from a call.
 
-ghost use Rattle.demo_lens.specs.Laws.{SameOrDiffer};
+ghost use Rattle.demo_lens.specs.Laws.{AssembledIsDemo, AssembledListsAgain, OneListing, SameOrDiffer};
 
 /// A difference is told only of demos that differ in their headers or commands.
 pub fn differing_demos_are_told()
     ensures { SameOrDiffer }
+{}
+
+/// A text is the listing of one demo of version 109 at most.
+pub fn one_listing()
+    ensures { OneListing }
+{}
+
+/// What is put together of a demo's listing is this demo without the bytes after its marker, and its listing is the text again but for
+/// `after 0`.
+pub fn assembled_lists_again()
+    ensures demo { AssembledIsDemo }
+    ensures listing { AssembledListsAgain }
 {}

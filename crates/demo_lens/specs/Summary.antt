@@ -34,17 +34,14 @@ abbrev pub time_text : ℕ → List ℕ
 time_text tics =
     decimal (tics / 2100) ++ (codes ":" ++ (two_digits (tics / 35 % 60) ++ (codes "." ++ two_digits (tics % 35 * 100 / 35))))
 
--- a number that is told where it isn't 0
-abbrev pub odd_text : ℕ → List ℕ
-odd_text n = if n == 0 then [] else (codes ", odd " ++ decimal n)
-
-abbrev pub after_text : ℕ → List ℕ
-after_text n = if n == 0 then [] else (codes ", after " ++ decimal n)
+-- a number behind its label, told where it isn't 0
+abbrev pub some_text : List ℕ → ℕ → List ℕ
+some_text label n = if n == 0 then [] else (label ++ decimal n)
 
 -- `, 1531 tics, 0:43.74` and what is left over
 abbrev pub length_text : ℕ → ℕ → ℕ → List ℕ
 length_text tics odd after =
-    codes ", " ++ (decimal tics ++ (codes " tics, " ++ (time_text tics ++ (odd_text odd ++ (after_text after ++ 10 ∷ [])))))
+    codes ", " ++ (decimal tics ++ (codes " tics, " ++ (time_text tics ++ (some_text (codes ", odd ") odd ++ (some_text (codes ", after ") after ++ 10 ∷ [])))))
 
 -- the full tics of a demo, and the commands after the last of them
 abbrev pub full_tics : Demo → ℕ

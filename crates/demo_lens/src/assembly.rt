@@ -14,14 +14,17 @@ use crate::numbers::{behind_last_number, take_label};
 use demo_lump::{Command, write_demo};
 use line_io::TextLine;
 use std::alloc::{AllocError, Global};
+use thiserror::Error;
 use wad_look::Turn;
 
 /// Why no demo is put together from a listing.
-#[derive(Clone, Copy, Debug, PartialEq, Eq)]
+#[derive(Clone, Copy, Debug, PartialEq, Eq, Error)]
 pub enum AssembleFault {
     /// The number of the first line that is none of a listing, from 1 on; where the text stops short, that of the line behind its last.
+    #[error("line {0} is no line of a listing")]
     Line(u64),
     /// A growth was refused.
+    #[error("no memory left")]
     Memory,
 }
 

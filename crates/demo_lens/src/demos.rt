@@ -16,6 +16,7 @@ use demo_lump::{Demo, DemoFault};
 use le_rec::{Name8, Sink};
 use line_io::IoFault;
 use std::alloc::Allocator;
+use thiserror::Error;
 use wad_dir::{Set, SetFault, WadFault};
 
 /// What is told of demos.
@@ -38,13 +39,16 @@ pub struct DemoQuestion<'p> {
 }
 
 /// Why telling the demos of a file stopped.
-#[derive(Clone, Copy, Debug, PartialEq, Eq)]
+#[derive(Clone, Copy, Debug, PartialEq, Eq, Error)]
 pub enum DemosFault {
     /// The bytes begin as a WAD file's and have no directory. Nothing was written.
+    #[error("{0}")]
     NoWad(WadFault),
     /// The output failed. Whether all demos up to there were read, the one that was being told among them.
+    #[error("the output can't be written")]
     Write(bool),
     /// A growth was refused. Nothing was written.
+    #[error("no memory left")]
     Memory,
 }
 

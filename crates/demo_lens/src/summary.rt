@@ -4,7 +4,7 @@ ghost use Rattle.std.specs.Prelude.{◌≡◌, ◌+◌, ◌<◌, ◌≤◌, ◌^
 ghost use Rattle.std.specs.Option.{option_map};
 ghost use Rattle.line_io.specs.Writes.{Writes};
 ghost use Rattle.demo_lump.specs.Header.{players_in};
-ghost use Rattle.demo_lens.specs.Summary.{after_text, demo_line, full_tics, game_text, length_text, lump_text, odd_commands, odd_text, players_text, time_text, two_digits};
+ghost use Rattle.demo_lens.specs.Summary.{demo_line, full_tics, game_text, length_text, lump_text, odd_commands, players_text, some_text, time_text, two_digits};
 
 use demo_lump::{Demo, Header};
 use le_rec::{Name8, Sink};
@@ -94,36 +94,26 @@ fn prepend_length(line: &mut TextLine, demo: &Demo<'_>)
 {
     let tics = demo.full_tics() as u64;
     line.prepend_bytes(b"\n");
-    prepend_after(line, demo.after() as u64);
-    prepend_odd(line, demo.odd_commands() as u64);
+    prepend_some(line, b", after ", demo.after() as u64);
+    prepend_some(line, b", odd ", demo.odd_commands() as u64);
     prepend_time(line, tics);
     line.prepend_bytes(b" tics, ");
     line.prepend_natural(tics);
     line.prepend_bytes(b", ");
 }
 
-fn prepend_after(line: &mut TextLine, after: u64)
-    requires { length line.old ≤ 1 }
-    ensures text { line.new ≡ after_text after ++ line.old }
+// Puts a number behind its label before the line, where it isn't 0.
+fn prepend_some(line: &mut TextLine, label: &[u8], number: u64)
+    requires room { length line.old ≤ 100 }
+    requires short { length label.now ≤ 8 }
+    ensures text { line.new ≡ some_text label.now number ++ line.old }
     ensures length { length line.new ≤ length line.old + 28 }
 {
-    if after == 0 {
+    if number == 0 {
         return;
     }
-    line.prepend_natural(after);
-    line.prepend_bytes(b", after ");
-}
-
-fn prepend_odd(line: &mut TextLine, odd: u64)
-    requires { length line.old ≤ 100 }
-    ensures text { line.new ≡ odd_text odd ++ line.old }
-    ensures length { length line.new ≤ length line.old + 26 }
-{
-    if odd == 0 {
-        return;
-    }
-    line.prepend_natural(odd);
-    line.prepend_bytes(b", odd ");
+    line.prepend_natural(number);
+    line.prepend_bytes(label);
 }
 
 // `0:43.74`

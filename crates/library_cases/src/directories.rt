@@ -34,11 +34,15 @@ fn packed(rt: HostRuntime) -> Result<(), Fail> {
     Ok(())
 }
 
-// How long a file of so many lumps of three bytes is.
-fn length_of_many<A: Allocator + Copy>(alloc: A, count: u32) -> Result<usize, PackFault> {
+// How long a file of so many lumps of these bytes is.
+fn length_of_many<A: Allocator + Copy>(
+    alloc: A,
+    lump: &[u8],
+    count: u32,
+) -> Result<usize, PackFault> {
     let mut packer = Packer::new(alloc);
     for _ in 0..count {
-        packer.add(Name8::query(b"LUMP"), b"xyz")?;
+        packer.add(Name8::query(b"LUMP"), lump)?;
     }
     Ok(packer.pack(alloc)?.len())
 }
@@ -46,7 +50,18 @@ fn length_of_many<A: Allocator + Copy>(alloc: A, count: u32) -> Result<usize, Pa
 #[test]
 fn many_lumps(rt: HostRuntime) {
     let heap = Refusing::new(rt.alloc(), 0);
-    check_same(&rt, length_of_many(&heap, 1000), Ok(19_012));
+    check_same(&rt, length_of_many(&heap, b"xyz", 1000), Ok(19_012));
+}
+
+#[test]
+fn packed_too_large(rt: HostRuntime) -> Result<(), Fail> {
+    let lump = vec![in rt.alloc(); 0; 16_777_216]?;
+    check_same(
+        &rt,
+        length_of_many(rt.alloc(), &lump, 128),
+        Err(PackFault::TooLarge),
+    );
+    Ok(())
 }
 
 // How many entries a set of these files has.
@@ -55,6 +70,11 @@ fn total_of<A: Allocator>(alloc: A, files: &[Vec<u8>]) -> Result<usize, SetFault
         return Ok(0);
     }
     Ok(Set::new(alloc, files)?.total())
+}
+
+#[test]
+fn no_file(rt: HostRuntime) {
+    check_same(&rt, total_of(rt.alloc(), &[]), Ok(0));
 }
 
 #[test]

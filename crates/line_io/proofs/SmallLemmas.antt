@@ -1,8 +1,11 @@
 -- The digits of a number below 256, of which three are written and the leading zeros left out.
-use Rattle.std.proofs.Common.{◌≡◌, ℕ, ◌+◌, ◌-◌, ◌/◌, ◌%◌, ◌<◌, ◌≤◌, inl, inr, List, [], ◌∷◌, ◌++◌, decimal, length, drop, set, sym, ap, ◌∙◌, arith, length-set}
+use Rattle.std.proofs.Common.{◌≡◌, ℕ, ℤ, pos, negsuc, ◌+◌, ◌-◌, ◌/◌, ◌%◌, ◌<◌, ◌≤◌, inl, inr, List, [], ◌∷◌, ◌++◌, decimal, length, drop, set, sym, ap, ◌∙◌, refl, true, false, arith, length-set}
 use Rattle.std.proofs.lemmas.Bool.{cases_lt}
 use Rattle.std.proofs.lemmas.Fmt.{decimal_digit, decimal_step}
-use Rattle.std.proofs.lemmas.List.{drop-set, drop-drop}
+use Rattle.std.proofs.lemmas.Int.{ints}
+use Rattle.std.proofs.lemmas.List.{drop-set, drop-set-lt, drop-drop}
+use Rattle.std.specs.Fmt.{signed_decimal}
+use Rattle.std.specs.Prelude.{int_lt, unsigned_abs}
 
 -- the number of digits
 abbrev pub small_digits : ℕ → ℕ
@@ -67,3 +70,21 @@ small_written bytes end n small some fits = elim (cases_lt n 10) [
         (ap length is ∙ sym digits, rw (digits, is) (three_stand bytes end n some fits))
   ]
 ]
+
+-- the text of a number below zero, and of another
+pub signed_below : (z : ℤ) → int_lt z (pos 0) ≡ true → signed_decimal z ≡ 45 ∷ decimal (unsigned_abs z)
+signed_below (pos n) below = absurd (omega (arith, ints))
+signed_below (negsuc n) below = refl
+
+pub signed_from : (z : ℤ) → int_lt z (pos 0) ≡ false → signed_decimal z ≡ decimal (unsigned_abs z)
+signed_from (pos n) from = refl
+signed_from (negsuc n) from = absurd (omega (arith, ints))
+
+-- a sign that is written before a text, and is a part of it or isn't
+pub sign_kept : (bytes text : List ℕ) (at : ℕ) → 1 ≤ at → at ≤ length bytes → drop at bytes ≡ text → drop (at - 1) (set bytes (at - 1) 45) ≡ 45 ∷ text
+sign_kept bytes text at some fits is =
+    let e : at - 1 + 1 ≡ at = omega arith in
+    drop-set bytes (at - 1) 45 (omega arith) ∙ ap (λ k. 45 ∷ drop k bytes) e ∙ ap (λ t. 45 ∷ t) is
+
+pub sign_left_out : (bytes text : List ℕ) (at : ℕ) → 1 ≤ at → drop at bytes ≡ text → drop at (set bytes (at - 1) 45) ≡ text
+sign_left_out bytes text at some is = drop-set-lt at bytes (at - 1) 45 (omega arith) ∙ is

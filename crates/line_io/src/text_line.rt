@@ -97,10 +97,7 @@ impl TextLine {
         ensures text { self.new ≡ signed_decimal number ++ self.old }
         ensures length { length self.new ≤ length self.old + 4 }
     {
-        self.prepend_small(number.unsigned_abs());
-        if number < 0 {
-            self.prepend_bytes(b"-");
-        }
+        self.start = write_small_integer(number, &mut self.bytes, self.start);
     }
 
     /// Puts the decimal text of a number before the other bytes, with `-` where it is negative; it
@@ -133,4 +130,18 @@ fn write_small(number: u8, bytes: &mut [u8], end: usize) -> usize
     let wide = number as usize;
     // One more digit from 10 on, and one more from 100 on.
     end - 1 - (wide + 246) / 256 - (wide + 156) / 256
+}
+
+// Writes the digits of a number behind its sign, so that they end at `end`, and tells where the text starts. The sign is
+// written in any case and left out where there is none, so that no branch is taken on it.
+#[inline]
+fn write_small_integer(number: i8, bytes: &mut [u8], end: usize) -> usize
+    requires { (4 ≤ end) × (end ≤ length bytes.old) }
+    ensures start { result + length (signed_decimal number) ≡ end }
+    ensures written { drop result bytes.new ≡ signed_decimal number ++ drop end bytes.old }
+    ensures length { length bytes.new ≡ length bytes.old }
+{
+    let digits = write_small(number.unsigned_abs(), bytes, end);
+    bytes[digits - 1] = b'-';
+    if number < 0 { digits - 1 } else { digits }
 }

@@ -57,6 +57,7 @@ impl Intake {
     }
 
     /// Takes one byte, or none at the end.
+    #[inline]
     pub fn byte<S: Source>(&mut self, source: &mut S) -> Result<Option<u8>, StreamFault>
         requires sound { (S.state source.old).failed ≡ false }
         requires within { self.old.taken ≤ self.old.limit }
@@ -65,10 +66,16 @@ impl Intake {
             (S.state source.old) (S.state source.new) self.old.taken self.new.taken result }
     {
         let mut byte = [0; 1];
-        if self.fill(source, &mut byte)? {
-            Ok(Some(byte[0]))
-        } else {
-            Ok(None)
+        match source.pull(&mut byte) {
+            Ok(0) => Ok(None),
+            Ok(_) => {
+                self.taken += 1;
+                if self.taken > self.limit {
+                    return Err(StreamFault::TooLong);
+                }
+                Ok(Some(byte[0]))
+            }
+            Err(_) => Err(StreamFault::Read),
         }
     }
 

@@ -24,7 +24,7 @@ pub fn prepend_ticcmd(line: &mut TextLine, tic: u64, player: u8, ticcmd: &Comman
     line.prepend_bytes(b" ");
     line.prepend_small_integer(ticcmd.forward);
     line.prepend_bytes(b" ");
-    line.prepend_small(player);
+    prepend_player(line, player);
     line.prepend_bytes(b" ");
     line.prepend_natural(tic);
 }
@@ -74,6 +74,20 @@ fn prepend_field(line: &mut TextLine, label: &[u8], number: u8)
 {
     line.prepend_small(number);
     line.prepend_bytes(label);
+}
+
+// Prepends a player's number. It has one digit.
+#[inline]
+fn prepend_player(line: &mut TextLine, player: u8)
+    requires { length line.old + 3 ≤ ROOM }
+    ensures text { line.new ≡ decimal player ++ line.old }
+    ensures length { length line.new ≤ length line.old + 3 }
+{
+    if player < 10 {
+        line.prepend_bytes(&[b'0' + player]);
+    } else {
+        line.prepend_small(player);
+    }
 }
 
 // Prepends a turn. It is one byte but in the long form.

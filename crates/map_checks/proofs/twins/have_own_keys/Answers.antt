@@ -1,4 +1,4 @@
-use Rattle.std.proofs.Common.{◌≡◌, ◌↔◌, subst, ◌∙◌}
+use Rattle.std.proofs.Common.{◌↔◌, subst}
 use Rattle.std.specs.Prelude.{IsTrue}
 use Rattle.map_checks.specs.EndsKey.{AreApart}
 use Rattle.map_checks.proofs.KeyLemmas.{apart_in_order, in_order}

@@ -6,6 +6,7 @@ ghost use Rattle.lens_run.specs.Files.{RefusesRead, max_read};
 use le_rec::{EndFault, FromRead};
 use line_io::{IoFault, MAX_READ, read_again};
 use std::io::Read;
+use thiserror::Error;
 use wad_lens::Refusal;
 
 /// Where files are opened by their paths.
@@ -24,11 +25,13 @@ pub trait Storage {
 }
 
 /// Why a file isn't read.
-#[derive(Clone, Copy, Debug, PartialEq, Eq)]
+#[derive(Clone, Copy, Debug, PartialEq, Eq, Error)]
 pub enum ReadFault {
     /// The file is refused.
+    #[error("the file is refused")]
     Refused(Refusal),
     /// A growth was refused.
+    #[error("no memory left")]
     Memory,
 }
 

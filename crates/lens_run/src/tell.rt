@@ -15,6 +15,7 @@ use le_rec::Sink;
 use line_io::{IoFault, emit};
 use std::alloc::{Allocator, Global};
 use std::mem::replace;
+use thiserror::Error;
 use wad_dir::WadFault;
 use wad_lens::{
     FileFault, Judging, Question, Refusal, Totals, Verdict, check_file, refused_line, survey_file,
@@ -48,13 +49,16 @@ pub struct Tally {
 }
 
 /// Why a run stopped.
-#[derive(Clone, Copy, Debug, PartialEq, Eq)]
+#[derive(Clone, Copy, Debug, PartialEq, Eq, Error)]
 pub enum Stop {
     /// A growth was refused.
+    #[error("no memory left")]
     Memory,
     /// What is answered can't be written. The gravest of what was found up to there.
+    #[error("the output can't be written")]
     Output(Verdict),
     /// What is refused can't be told.
+    #[error("what is refused can't be told")]
     Errors,
 }
 
@@ -71,15 +75,19 @@ impl Stop {
 }
 
 /// Why the bytes of a file weren't told to their end.
-#[derive(Clone, Copy, Debug, PartialEq, Eq)]
+#[derive(Clone, Copy, Debug, PartialEq, Eq, Error)]
 pub enum BytesFault {
     /// They have no directory. Nothing was written.
+    #[error("{0}")]
     NoWad(WadFault),
     /// What is answered can't be written. The gravest of what was found up to there.
+    #[error("the output can't be written")]
     Output(Verdict),
     /// What is refused can't be told.
+    #[error("what is refused can't be told")]
     Errors,
     /// A growth was refused.
+    #[error("no memory left")]
     Memory,
 }
 

@@ -11,14 +11,17 @@ use crate::words::{Asked, Word, asked_by};
 use le_rec::Sink;
 use lens_run::{Asked as FileAsked, Tally, Word as FileWord, no_tally, write_last};
 use std::alloc::Allocator;
+use thiserror::Error;
 use wad_lens::Verdict;
 
 /// Why there is no answer.
-#[derive(Clone, Copy, Debug, PartialEq, Eq)]
+#[derive(Clone, Copy, Debug, PartialEq, Eq, Error)]
 pub enum LensFault {
     /// The words ask for nothing, or not of so many files. Nothing was written.
+    #[error("the words ask for nothing, or not of so many files")]
     Usage,
     /// A growth was refused, or an end failed.
+    #[error("no memory left, or an end failed")]
     Full,
 }
 
@@ -61,50 +64,20 @@ fn answer<A: Allocator + Copy, W: Sink, E: Sink>(
     requires sound { AreSound (W.state out.old) (E.state errors.old) }
     ensures { IfOk result (Answers asked (map string_bytes paths.now) (bytes_of files.now) (W.state out.old) (W.state out.new) (E.state errors.old) (E.state errors.new)) }
 {
-    let judging = asked.judging;
-    match asked.word {
-        Word::Cut(entry) => cut_file(
-            alloc,
-            entry,
-            paths[0].as_str().as_bytes(),
-            files[0].as_slice(),
-            out,
-            errors,
-        ),
-        Word::Check(most) => {
-            let word = FileWord::Check(most_of(most));
-            tell_all(
-                alloc,
-                FileAsked { word, judging },
-                paths,
-                files,
-                out,
-                errors,
-            )
+    let word = match asked.word {
+        Word::Check(most) => FileWord::Check(most_of(most)),
+        Word::Survey => FileWord::Survey,
+        Word::Demos(form) => FileWord::Demos(form),
+        Word::Cut(entry) => {
+            let path = paths[0].as_str().as_bytes();
+            return cut_file(alloc, entry, path, files[0].as_slice(), out, errors);
         }
-        Word::Survey => {
-            let word = FileWord::Survey;
-            tell_all(
-                alloc,
-                FileAsked { word, judging },
-                paths,
-                files,
-                out,
-                errors,
-            )
-        }
-        Word::Demos(form) => {
-            let word = FileWord::Demos(form);
-            tell_all(
-                alloc,
-                FileAsked { word, judging },
-                paths,
-                files,
-                out,
-                errors,
-            )
-        }
-    }
+    };
+    let of_each = FileAsked {
+        word,
+        judging: asked.judging,
+    };
+    tell_all(alloc, of_each, paths, files, out, errors)
 }
 
 // Tells what is asked of the files, and adds it up.

@@ -7,6 +7,7 @@ use Rattle.lens_page.specs.declared.run.LensFault.TheVariants.{Usage, Full}
 use Rattle.lens_run.specs.Status.{status_of}
 use Rattle.memory_ends.specs.ToVec.{ToVec, state_of as vec_state}
 use Rattle.wad_lens.specs.declared.verdict.Verdict.{Verdict}
+use Rattle.wad_page.specs.Ended.{LacksRoom}
 use Rattle.wad_page.specs.Look.{AreGiven}
 use Rattle.wad_page.specs.Parts.{AreWords, cut}
 use Rattle.wad_page.specs.declared.Ended.{Ended}
@@ -59,6 +60,7 @@ pub record Lensed (words word_sizes files file_sizes out why : List ℕ) (ended 
   pub messages' : ToVec
   pub silent : messages.taken ≡ []
   pub outcome : Result Verdict LensFault
+  pub room : ¬ (outcome ≡ Err Full)
   pub does : DoesLens vec_state vec_state asked given sink sink' messages messages' outcome
   pub status : ended.status ≡ lens_status outcome
   pub answered : ended.answered ≡ length sink'.taken
@@ -66,7 +68,7 @@ pub record Lensed (words word_sizes files file_sizes out why : List ℕ) (ended 
   pub told : ended.told ≡ length (lens_message outcome messages'.taken)
   pub message : take ended.told why ≡ lens_message outcome messages'.taken
 
--- or there was no room for it, with nothing answered
+-- or there was no room for it
 abbrev pub LensEnds : List ℕ → List ℕ → List ℕ → List ℕ → List ℕ → List ℕ → Ended → Type 0
 LensEnds words word_sizes files file_sizes out why ended =
-    ((ended.status ≡ 3) × (ended.answered ≡ 0)) ⊎ Lensed words word_sizes files file_sizes out why ended
+    LacksRoom ended ⊎ Lensed words word_sizes files file_sizes out why ended

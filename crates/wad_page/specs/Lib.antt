@@ -1,4 +1,5 @@
 pub mod Parts
 pub mod Refusal
+pub mod Ended
 pub mod Look
 pub mod Lens

@@ -1,5 +1,6 @@
--- How a run of `wadlook`'s words ends in a page, and the status for it (ours).
-use Rattle.std.specs.Prelude.{ℕ, Bool, Result, Ok, Err}
+-- How a run of `wadlook`'s words ends in a page, the status for it, and why there is no answer, in words (ours).
+use Rattle.std.specs.Prelude.{ℕ, Bool, List, [], codes, Result, Ok, Err}
+use Rattle.wad_look.specs.FaultText.{fault_text}
 use Rattle.wad_look.specs.Outcome.{status_of}
 use Rattle.wad_look.specs.declared.fault.RunFault.{RunFault}
 use Rattle.wad_page.specs.declared.refusal.Refusal.{Refusal}
@@ -15,3 +16,13 @@ abbrev pub exit_status_of : Result Bool Refusal → ℕ
 exit_status_of (Ok clean) = status_of (Ok clean)
 exit_status_of (Err (Run fault)) = status_of (Err fault)
 exit_status_of (Err Usage) = 2
+
+-- why there is no answer, in words: those of the program
+abbrev pub refusal_text : Refusal → List ℕ
+refusal_text Usage = codes "usage"
+refusal_text (Run fault) = fault_text fault
+
+-- that, and nothing where there is an answer
+abbrev pub reason_text : Result Bool Refusal → List ℕ
+reason_text (Ok clean) = []
+reason_text (Err refusal) = refusal_text refusal

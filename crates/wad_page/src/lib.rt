@@ -18,8 +18,7 @@ use look::do_words;
 use memory_ends::{ToVec, hand_out};
 use one_block::{Block, arena};
 use parts::Parts;
-use refusal::{Refusal, exit_status};
-use std::alloc::Allocator;
+use refusal::{exit_status, tell};
 
 /// How a run ended, as the host reads it.
 #[repr(C)]
@@ -29,7 +28,7 @@ pub struct Ended {
     pub status: u8,
     /// How many bytes of `out` the answer has.
     pub answered: usize,
-    /// How many bytes of `why` the reason has.
+    /// How many bytes of `why` were written.
     pub told: usize,
 }
 
@@ -57,7 +56,7 @@ pub extern "C" fn wad_run(
     why: &mut [u8],
     ended: &mut Ended,
 )
-    ensures { LookEnds words.now word_sizes.now files.now file_sizes.now input.now out.new ended.new }
+    ensures { LookEnds words.now word_sizes.now files.now file_sizes.now input.now out.new why.old why.new ended.new }
 {
     let words = Parts {
         bytes: words,
@@ -108,7 +107,8 @@ fn answer_look(
     out: &mut [u8],
     why: &mut [u8],
 ) -> Option<Ended>
-    ensures { IfSome result (Looked words.entry.bytes.now words.entry.sizes.now files.entry.bytes.now files.entry.sizes.now input.now out.new) }
+    ensures { IfSome result (Looked words.entry.bytes.now words.entry.sizes.now files.entry.bytes.now files.entry.sizes.now input.now
+        out.new why.old why.new) }
 {
     let arena = arena(heap)?;
     let mut sink = ToVec::with_capacity(&arena, out.len()).ok()?;
@@ -117,10 +117,7 @@ fn answer_look(
         return None;
     }
     let answered = hand_out(sink.taken(), out)?;
-    let told = match outcome {
-        Ok(_) => 0,
-        Err(refusal) => tell(&arena, refusal, why),
-    };
+    let told = tell(&arena, &outcome, why)?;
     Some(Ended {
         status: exit_status(&outcome),
         answered,
@@ -152,15 +149,4 @@ fn answer_lens(
         answered,
         told,
     })
-}
-
-// Writes why it was refused, as far as there is room.
-fn tell<A: Allocator>(alloc: A, refusal: Refusal, why: &mut [u8]) -> usize {
-    let Ok(text) = refusal.to_string(alloc) else {
-        return 0;
-    };
-    let text = text.as_str().as_bytes();
-    let count = text.len().min(why.len());
-    why[..count].copy_from_slice(&text[..count]);
-    count
 }

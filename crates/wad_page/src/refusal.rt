@@ -1,21 +1,35 @@
-//! Why there is no answer, and the status for how a run ended.
-ghost use Rattle.std.specs.Prelude.{◌≡◌};
-ghost use Rattle.wad_page.specs.Refusal.{exit_status_of, page_end};
+//! Why there is no answer, how it is told, and the status for how a run ended.
+ghost use Rattle.std.specs.Prelude.{◌≡◌, IfSome, Some};
+ghost use Rattle.wad_page.specs.Ended.{TellsFront};
+ghost use Rattle.wad_page.specs.Refusal.{exit_status_of, page_end, reason_text, refusal_text};
 
-use std::alloc::AllocError;
-use thiserror::Error;
+use memory_ends::hand_out;
+use std::alloc::{AllocError, Allocator};
+use std::error::Error;
+use std::fmt;
 use wad_look::{RunFault, status};
 
 /// Why there is no answer.
-#[derive(Clone, Copy, Debug, PartialEq, Eq, Error)]
+#[derive(Clone, Copy, Debug, PartialEq, Eq)]
 pub enum Refusal {
     /// The words are no form of a command, or there aren't as many files as they name.
-    #[error("usage")]
     Usage,
     /// The run stopped.
-    #[error("{0}")]
     Run(RunFault),
 }
+
+impl fmt::Display for Refusal {
+    ghost output = { λ refusal. Some (refusal_text refusal) };
+
+    fn fmt<W: fmt::Write>(&self, f: &mut fmt::Formatter<W>) -> fmt::Result {
+        match *self {
+            Refusal::Usage => f.write_str("usage"),
+            Refusal::Run(fault) => fault.fmt(f),
+        }
+    }
+}
+
+impl Error for Refusal {}
 
 impl From<AllocError> for Refusal {
     ghost use Rattle.wad_look.specs.declared.fault.RunFault.TheVariants.{Memory};
@@ -47,4 +61,28 @@ pub fn exit_status(outcome: &Result<bool, Refusal>) -> u8
         Err(Refusal::Run(fault)) => status(&Err(fault)),
         Err(Refusal::Usage) => 2,
     }
+}
+
+/// Writes why there is no answer, as far as there is room; None where there is no memory for the text.
+pub fn tell<A: Allocator>(
+    alloc: A,
+    outcome: &Result<bool, Refusal>,
+    why: &mut [u8],
+) -> Option<usize>
+    ensures { IfSome result (TellsFront (reason_text outcome.now) why.old why.new) }
+{
+    match *outcome {
+        Ok(_) => Some(0),
+        Err(refusal) => tell_refusal(alloc, refusal, why),
+    }
+}
+
+// Writes the text of a refusal, as far as there is room.
+fn tell_refusal<A: Allocator>(alloc: A, refusal: Refusal, why: &mut [u8]) -> Option<usize>
+    ensures { IfSome result (TellsFront (refusal_text refusal) why.old why.new) }
+{
+    let text = refusal.to_string(alloc).ok()?;
+    let text = text.as_str().as_bytes();
+    let count = text.len().min(why.len());
+    hand_out(&text[..count], why)
 }

@@ -6,13 +6,16 @@ pub mod CountLemmas
 pub mod IndexLemmas
 pub mod JsonLemmas
 pub mod LawLemmas
+pub mod MemberLemmas
 pub mod ObjectLemmas
+pub mod ObjectReadLemmas
 pub mod OwnersLemmas
 pub mod ReadBackLemmas
 pub mod ReportLemmas
 pub mod RestLemmas
 pub mod ShownLemmas
 pub mod SurveyLemmas
+pub mod ValueLemmas
 mod WorkedCases
 pub mod WarnedLemmas
 pub mod WritingLemmas

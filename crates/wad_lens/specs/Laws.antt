@@ -1,11 +1,12 @@
 -- The laws of this crate's definitions.
-use Rattle.std.specs.Prelude.{◌≡◌, ◌↔◌, ℕ, List, ◌∷◌, ◌++◌, ◌==◌, count_by, not, slice_index}
+use Rattle.std.specs.Prelude.{◌≡◌, ◌↔◌, ℕ, ◌<◌, ◌^◌, List, ◌∷◌, ◌++◌, ◌==◌, count_by, not, slice_index}
 use Rattle.std.specs.Str.Lossy.{utf8_lossy}
 use Rattle.json.specs.Lex.{between, lex, token}
 use Rattle.json.specs.Token.{string}
 use Rattle.le_rec.specs.Sink.{SinkState}
 use Rattle.level_list.specs.Format.{IsFormat}
 use Rattle.level_list.specs.Starts.{LevelStartsAt}
+use Rattle.level_list.specs.declared.format.Format.{Format}
 use Rattle.level_list.specs.declared.format.Format.TheVariants.{Doom}
 use Rattle.map_audit.specs.Findings.{AuditHolds}
 use Rattle.map_level.specs.Findings.{AreFindings, is_fault, place}
@@ -19,6 +20,11 @@ use Rattle.wad_dir.specs.Wad.{Wad}
 use Rattle.wad_lens.specs.Check.{Asked, ChecksAll}
 use Rattle.wad_lens.specs.Counts.{AreCounts, fault_total, note_total}
 use Rattle.wad_lens.specs.JsonString.{json_string}
+use Rattle.wad_lens.specs.ObjectValues.{HasSmallNumbers, IsLineOf, doom_value, other_value, refused_value}
+use Rattle.wad_lens.specs.Objects.{doom_members, level_members, other_members, refused_object}
+use Rattle.wad_lens.specs.Warned.{Warned}
+use Rattle.wad_lens.specs.declared.judging.Warnings.{Warnings}
+use Rattle.wad_lens.specs.declared.object.Refusal.{Refusal}
 use Rattle.wad_lens.specs.declared.totals.Totals.{Totals}
 
 -- a level's counts have no fault exactly where the level is sound
@@ -40,6 +46,28 @@ CountsAreOfTheReport =
 -- where a string is written, the kit's reader of JSON finds the bytes' text and goes on behind it
 abbrev pub StringsAreRead : Type 0
 StringsAreRead = (bytes rest : List ℕ) → lex between (json_string bytes ++ rest) ≡ token (string (utf8_lossy bytes)) ∷ lex between rest
+
+-- the object of a refused file is read as its members
+abbrev pub RefusedIsRead : Type 0
+RefusedIsRead = (path : List ℕ) (refusal : Refusal) → IsLineOf (refused_value path refusal) (refused_object path refusal)
+
+-- so is that of a level of another format
+abbrev pub OtherIsRead : Type 0
+OtherIsRead =
+    (path name : List ℕ) (g : ℕ) (format : Format) → g < 2 ^ 64
+    → IsLineOf (other_value path name g format) (level_members path name g format ++ other_members format)
+
+-- and that of a level of Doom's format
+abbrev pub DoomIsRead : Type 0
+DoomIsRead =
+    (path name : List ℕ) (g : ℕ) (level : Level) (counts : List ℕ) (warnings : Warnings) (warned : List Warned) → g < 2 ^ 64 → HasSmallNumbers level counts warned
+    → IsLineOf (doom_value path name g level counts warnings warned) (level_members path name g Doom ++ doom_members level counts warnings warned)
+
+-- what a survey writes of a file or a level is a line, which the kit's reader of JSON reads as one object of just these members in their order
+pub record ObjectsAreRead : Type 0 where
+  pub refused : RefusedIsRead
+  pub other : OtherIsRead
+  pub doom : DoomIsRead
 
 -- a check of levels that are all of Doom's format counts no fault exactly where each of them is sound under the reading asked
 abbrev pub CheckedIsSound : Type 0

@@ -9,6 +9,7 @@ pub mod WarningLine
 pub mod Warned
 pub mod LevelLines
 pub mod Message
+pub mod ObjectValues
 pub mod Objects
 pub mod Owners
 pub mod Place

@@ -17,6 +17,12 @@ pub fn strings_are_read()
     ensures { law.StringsAreRead }
 {}
 
+/// What a survey writes is read back by the kit's reader of JSON: each line is one object, of the file, the level and what is
+/// told of it, where the numbers have 64 bits at most.
+pub fn objects_are_read()
+    ensures { law.ObjectsAreRead }
+{}
+
 /// A check of levels that are all of Doom's format counts no fault exactly where each of them is sound under the reading
 /// asked.
 pub fn checked_is_sound()

@@ -7,6 +7,7 @@ mod LawLemmas
 mod LineLemmas
 mod ListingLemmas
 mod NumberLemmas
+mod ObjectReadLemmas
 mod RunLemmas
 mod TakingLemmas
 mod TurnLemmas

@@ -1,8 +1,11 @@
 -- Laws over the definitions alone.
-use Rattle.std.specs.Prelude.{◌≡◌, ℕ, List, [], ◌++◌}
+use Rattle.std.specs.Prelude.{◌≡◌, ◌<◌, ◌^◌, ℕ, All, List, [], ◌++◌, Option}
 use Rattle.demo_lens.specs.Assembly.{IsAssembled, IsListingOf}
 use Rattle.demo_lens.specs.Differences.{AreSame, Differs}
+use Rattle.demo_lens.specs.ObjectValues.{demo_value, numbers_of}
+use Rattle.demo_lens.specs.Objects.{demo_object}
 use Rattle.demo_lump.specs.Demo.{Demo, IsDemo, IsRead}
+use Rattle.wad_lens.specs.ObjectValues.{IsLineOf}
 use Rattle.wad_look.specs.Listing.{totals_line}
 
 -- demos that are the same don't differ
@@ -32,3 +35,9 @@ pub record ListsAgain (text bytes : List ℕ) : Type 0 where
 -- and so is what is put together of a listing
 abbrev pub AssembledListsAgain : Type 0
 AssembledListsAgain = (text bytes : List ℕ) → IsAssembled text bytes → ListsAgain text bytes
+
+-- a demo's object is a line, which the kit's reader of JSON reads as one object of just these members in their order
+abbrev pub ObjectIsRead : Type 0
+ObjectIsRead =
+    (path : List ℕ) (lump : Option (List ℕ)) (demo : Demo) → All (λ one. one.1 < 2 ^ 64) (numbers_of demo)
+    → IsLineOf (demo_value path lump demo) (demo_object path lump demo)

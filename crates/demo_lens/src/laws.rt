@@ -1,6 +1,6 @@
 //! Laws over the definitions alone, each the contract of a function that does nothing: a caller gets the law from a call.
 
-ghost use Rattle.demo_lens.specs.Laws.{AssembledIsDemo, AssembledListsAgain, OneListing, SameOrDiffer};
+ghost use Rattle.demo_lens.specs.Laws.{AssembledIsDemo, AssembledListsAgain, ObjectIsRead, OneListing, SameOrDiffer};
 
 /// A difference is told only of demos that differ in their headers or commands.
 pub fn differing_demos_are_told()
@@ -17,4 +17,10 @@ pub fn one_listing()
 pub fn assembled_lists_again()
     ensures demo { AssembledIsDemo }
     ensures listing { AssembledListsAgain }
+{}
+
+/// The object of a demo is read back by the kit's reader of JSON: one line, and one object of just its members, where its
+/// numbers have 64 bits at most.
+pub fn objects_are_read()
+    ensures { ObjectIsRead }
 {}

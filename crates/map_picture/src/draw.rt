@@ -19,6 +19,7 @@ use map_audit::{Report, audit};
 use map_cells::{Cells, Counts, Frame, Grid, Groups, Shown};
 use map_level::Level;
 use std::alloc::{AllocError, Allocator};
+use thiserror::Error;
 
 /// What of a level is drawn, and how finely.
 #[derive(Clone, Copy, Debug, PartialEq, Eq)]
@@ -30,13 +31,16 @@ pub struct Asked {
 }
 
 /// Why a level isn't drawn.
-#[derive(Clone, Copy, Debug, PartialEq, Eq)]
+#[derive(Clone, Copy, Debug, PartialEq, Eq, Error)]
 pub enum DrawFault {
     /// No linedef has both of its vertexes, and no frame is asked for.
+    #[error("nothing to draw")]
     NothingToDraw,
     /// A growth was refused.
+    #[error("no memory left")]
     Memory,
     /// The output failed.
+    #[error("the output can't be written")]
     Write,
 }
 

@@ -1,5 +1,6 @@
 //! Audits of levels, with each growth refused in turn.
 
+use crate::compare::check_same;
 use crate::findings::{NOT_REACHED, Pair, SIDE_MISSING, finding};
 use crate::sample::{LINE_WITHOUT_SIDE_1, base, base_not_reached, base_with};
 use le_rec::Name8;
@@ -8,7 +9,6 @@ use map_level::{Code, Level, Reading};
 use map_tree::Tree;
 use std::alloc::Allocator;
 use std::process::Abort;
-use std::test::Fail;
 use test_alloc::Refusing;
 use wad_dir::Set;
 
@@ -19,12 +19,12 @@ fn check_report<A: Allocator>(
     expected: &[Pair],
     faults: usize,
 ) {
-    assert_eq!(rt; report.len(), expected.len());
+    check_same(rt, report.len(), expected.len());
     for (i, (code, index)) in expected.iter().enumerate() {
-        assert_eq!(rt; report.get(i), Some(finding(*code, *index)), "finding {i}");
+        check_same(rt, (i, report.get(i)), (i, Some(finding(*code, *index))));
     }
-    assert_eq!(rt; report.faults(), faults);
-    assert_eq!(rt; report.faults() + report.notes(), expected.len());
+    check_same(rt, report.faults(), faults);
+    check_same(rt, Some(report.notes()), expected.len().checked_sub(faults));
 }
 
 // A level with these findings, so many of them faults, is accepted exactly where it has no fault.
@@ -36,7 +36,7 @@ fn wants_memory<A: Allocator>(
     faults: usize,
 ) -> bool {
     match accepted {
-        Ok(_) => assert_eq!(rt; faults, 0),
+        Ok(_) => assert!(rt; faults == 0),
         Err(Refused::Memory) => return true,
         Err(Refused::Faults(report)) => {
             assert!(rt; faults > 0);
@@ -56,7 +56,7 @@ fn is_audit_refused(
 ) -> bool {
     let heap = Refusing::new(rt.alloc(), n);
     let result = audit(&heap, level);
-    assert_eq!(rt; result.is_err(), heap.has_refused());
+    assert!(rt; result.is_err() == heap.has_refused());
     if let Ok(report) = result {
         check_report(rt, &report, expected, faults);
     }
@@ -73,44 +73,75 @@ fn is_accept_refused(
 ) -> bool {
     let heap = Refusing::new(rt.alloc(), n);
     let is_memory = wants_memory(rt, accept(&heap, level), expected, faults);
-    assert_eq!(rt; is_memory, heap.has_refused());
+    assert!(rt; is_memory == heap.has_refused());
     heap.has_refused()
 }
 
-// How many growths `audit` and `accept` ask for: numbers 1 to 98 are refused in turn, and after each one none.
+// The growths that `audit` and `accept` ask for.
+#[derive(Clone, Copy)]
+struct Met {
+    audits: u64,
+    accepts: u64,
+}
+
+// Which of the two met growth `n` refused, over those so far; after each refused growth none is.
+fn met_with(
+    rt: &(impl Abort + AllocGlobal),
+    level: &Level<'_>,
+    n: u64,
+    so_far: Met,
+    expected: &[Pair],
+    faults: usize,
+) -> Met {
+    let mut met = so_far;
+    if is_audit_refused(rt, level, n, expected, faults) {
+        met.audits = n;
+    }
+    assert!(rt; !is_audit_refused(rt, level, 0, expected, faults));
+    if is_accept_refused(rt, level, n, expected, faults) {
+        met.accepts = n;
+    }
+    assert!(rt; !is_accept_refused(rt, level, 0, expected, faults));
+    met
+}
+
+// How many growths they ask for at a level: numbers 1 to 98 are refused in turn.
+fn growths_at(
+    rt: &(impl Abort + AllocGlobal),
+    level: &Level<'_>,
+    expected: &[Pair],
+    faults: usize,
+) -> Met {
+    let mut met = Met {
+        audits: 0,
+        accepts: 0,
+    };
+    for n in 1..99 {
+        met = met_with(rt, level, n, met, expected, faults);
+    }
+    assert!(rt; 0 < met.audits && met.audits < 98);
+    assert!(rt; 0 < met.accepts && met.accepts < 98);
+    met
+}
+
+// How many they ask for at the level E1M1 of a file.
 fn growths(
     rt: &(impl Abort + AllocGlobal),
     file: Vec<u8>,
     expected: &[Pair],
     faults: usize,
-) -> Result<(u64, u64), Fail> {
-    let files = vec![in rt.alloc(); file]?;
-    let set = Set::new(rt.alloc(), &files)?;
-    let level = Level::open(&set, Name8::query(b"E1M1"), Reading::Signed)?;
-    let mut met = (0, 0);
-    for n in 1..99 {
-        if is_audit_refused(rt, &level, n, expected, faults) {
-            met.0 = n;
-        }
-        assert!(rt; !is_audit_refused(rt, &level, 0, expected, faults));
-        if is_accept_refused(rt, &level, n, expected, faults) {
-            met.1 = n;
-        }
-        assert!(rt; !is_accept_refused(rt, &level, 0, expected, faults));
-    }
-    let (audits, accepts) = met;
-    assert!(rt; 0 < audits && audits < 98 && 0 < accepts && accepts < 98);
-    Ok(met)
+) -> Met {
+    let set = Set::one(rt.alloc(), &file).expect(rt, "a set of the file");
+    let opened = Level::open(&set, Name8::query(b"E1M1"), Reading::Signed);
+    growths_at(rt, &opened.expect(rt, "a level"), expected, faults)
 }
 
 #[test]
-fn growth_refused(rt: HostRuntime) -> Result<(), Fail> {
-    let (audits, accepts) = growths(&rt, base(rt.alloc())?, &[], 0)?;
-    assert_eq!(rt; audits, accepts, "no memory for no findings");
-    growths(&rt, base_not_reached(rt.alloc())?, &NOT_REACHED, 4)?;
-    let side_missing = base_with(rt.alloc(), &[(2, &LINE_WITHOUT_SIDE_1)])?;
-    growths(&rt, side_missing, &SIDE_MISSING, 1)?;
-    let sight_bits = base_with(rt.alloc(), &[(9, &[])])?;
-    growths(&rt, sight_bits, &[(Code::N8, 0)], 0)?;
-    Ok(())
+fn growth_refused(rt: HostRuntime) {
+    let met = growths(&rt, base(&rt), &[], 0);
+    assert!(rt; met.audits == met.accepts, "no memory for no findings");
+    growths(&rt, base_not_reached(&rt), &NOT_REACHED, 4);
+    let side_missing = base_with(&rt, &[(2, &LINE_WITHOUT_SIDE_1)]);
+    growths(&rt, side_missing, &SIDE_MISSING, 1);
+    growths(&rt, base_with(&rt, &[(9, &[])]), &[(Code::N8, 0)], 0);
 }

@@ -1,5 +1,6 @@
 //! The callers of the libraries, each on its happy path and at one refusal.
 
+use crate::compare::{check_bytes, check_same};
 use crate::findings::{NOT_REACHED, finding};
 use crate::sample::{base, base_not_reached};
 use demo_lump::{DemoFault, StreamFault};
@@ -9,13 +10,14 @@ use map_geo::Rect;
 use map_level::{Finding, Level, Reading};
 use std::alloc::Allocator;
 use std::process::Abort;
-use std::test::Fail;
 use test_ends::SliceSource;
 use uses::{
     ExchangeFault, commands_firing, first_fault, full_tics, points_in_sector, sectors_of_things,
     with_lump,
 };
 use wad_dir::{LumpFault, Set, SetFault, WadFault};
+
+const NO_MEMORY: &str = "no memory for the callers";
 
 // One player's commands, the first and the third with the fire button, the last a request to the
 // game; the marker, and one byte behind it.
@@ -38,63 +40,61 @@ fn tics(bytes: &[u8]) -> Result<usize, DemoFault> {
 
 #[test]
 fn demos(rt: HostRuntime) {
-    assert_eq!(rt; tics(&DEMO), Ok(4));
-    assert_eq!(rt; tics(&DEMO[..29]), Err(DemoFault::NoMarker(29)));
-    assert_eq!(rt; firing(&DEMO), (Ok(2), 1));
+    check_same(&rt, tics(&DEMO), Ok(4));
+    check_same(&rt, tics(&DEMO[..29]), Err(DemoFault::NoMarker(29)));
+    check_same(&rt, firing(&DEMO), (Ok(2), 1));
     let cut = StreamFault::Demo(DemoFault::NoMarker(25));
-    assert_eq!(rt; firing(&DEMO[..28]), (Err(cut), 0));
+    check_same(&rt, firing(&DEMO[..28]), (Err(cut), 0));
 }
 
 // How many points from (-2, 0) to (1, 0) are in a sector of a sound level.
-fn points_of(rt: &impl AllocGlobal, level: &Level<'_>, sector: u16) -> Result<Option<u32>, Fail> {
-    let Some(tree) = sound_tree(rt.alloc(), level)? else {
-        return Ok(None);
-    };
-    let row = Rect::new(-2, 0, 1, 0).ok_or("no rectangle")?;
-    Ok(Some(points_in_sector(rt.alloc(), &tree, row, sector)?))
+fn points_of(rt: &(impl Abort + AllocGlobal), level: &Level<'_>, sector: u16) -> Option<u32> {
+    let row = Rect::new(-2, 0, 1, 0).expect(rt, "a rectangle");
+    let tree = sound_tree(rt.alloc(), level).expect(rt, NO_MEMORY)?;
+    Some(points_in_sector(rt.alloc(), &tree, row, sector).expect(rt, NO_MEMORY))
 }
 
 // The sector of the first thing of a level.
-fn first_thing(rt: &impl AllocGlobal, level: &Level<'_>) -> Result<Option<u16>, Fail> {
-    let sectors = sectors_of_things(rt.alloc(), level)?;
-    Ok(sectors.and_then(|list| list.first().copied()).flatten())
+fn first_thing(rt: &(impl Abort + AllocGlobal), level: &Level<'_>) -> Option<u16> {
+    let sectors = sectors_of_things(rt.alloc(), level).expect(rt, NO_MEMORY)?;
+    sectors.first().copied().flatten()
 }
 
-// The level E1M1 of a file: its first fault, the sector of its first thing, and how many points from
-// (-2, 0) to (1, 0) are in a sector.
-fn told_of(rt: &impl AllocGlobal, file: &[u8], sector: u16) -> Result<Told, Fail> {
-    let set = Set::one(rt.alloc(), file)?;
-    let level = Level::open(&set, Name8::query(b"E1M1"), Reading::Signed)?;
-    Ok(Told {
-        fault: first_fault(rt.alloc(), &level)?,
-        thing: first_thing(rt, &level)?,
-        points: points_of(rt, &level, sector)?,
-    })
-}
-
-#[derive(Clone, Copy, Debug, PartialEq, Eq)]
+// The first fault of a level, the sector of its first thing, and how many points from (-2, 0) to
+// (1, 0) are in its sector 1.
+#[derive(Clone, Copy)]
 struct Told {
     fault: Option<Finding>,
     thing: Option<u16>,
     points: Option<u32>,
 }
 
+// Compares what is told of the level E1M1 of a file.
+fn check_told(rt: &(impl Abort + AllocGlobal), file: &[u8], expected: Told) {
+    let set = Set::one(rt.alloc(), file).expect(rt, "a set of the file");
+    let opened = Level::open(&set, Name8::query(b"E1M1"), Reading::Signed);
+    let level = opened.expect(rt, "a level");
+    let fault = first_fault(rt.alloc(), &level).expect(rt, NO_MEMORY);
+    check_same(rt, fault, expected.fault);
+    check_same(rt, first_thing(rt, &level), expected.thing);
+    check_same(rt, points_of(rt, &level, 1), expected.points);
+}
+
 #[test]
-fn levels(rt: HostRuntime) -> Result<(), Fail> {
+fn levels(rt: HostRuntime) {
     let sound = Told {
         fault: None,
         thing: Some(0),
         points: Some(3),
     };
-    assert_eq!(rt; told_of(&rt, &base(rt.alloc())?, 1)?, sound);
+    check_told(&rt, &base(&rt), sound);
     let (code, index) = NOT_REACHED[0];
     let other = Told {
         fault: Some(finding(code, index)),
         thing: None,
         points: None,
     };
-    assert_eq!(rt; told_of(&rt, &base_not_reached(rt.alloc())?, 1)?, other);
-    Ok(())
+    check_told(&rt, &base_not_reached(&rt), other);
 }
 
 // The file with other bytes as lump g.
@@ -107,6 +107,19 @@ fn exchanged<A: Allocator + Copy>(
     with_lump(alloc, file, g, bytes)
 }
 
+// That a set's entry is the other's, with these bytes in its place where it is g.
+fn check_entry(rt: &impl Abort, sets: (&Set<'_>, &Set<'_>), i: usize, g: usize, bytes: &[u8]) {
+    let (old, new) = sets;
+    assert!(rt; i < old.total() && i < new.total());
+    check_same(rt, (i, new.name(i)), (i, old.name(i)));
+    let lump = new.lump(i).expect(rt, "a lump");
+    if i == g {
+        check_bytes(rt, lump, bytes);
+    } else {
+        check_bytes(rt, lump, old.lump(i).expect(rt, "a lump"));
+    }
+}
+
 // That a file's entries are those of another, with these bytes as lump g.
 fn check_exchanged(
     rt: &(impl Abort + AllocGlobal),
@@ -114,31 +127,30 @@ fn check_exchanged(
     new: &[u8],
     g: usize,
     bytes: &[u8],
-) -> Result<(), Fail> {
-    let (old, new) = (Set::one(rt.alloc(), old)?, Set::one(rt.alloc(), new)?);
-    assert_eq!(rt; new.total(), old.total());
+) {
+    let old = Set::one(rt.alloc(), old).expect(rt, "a set of the file");
+    let new = Set::one(rt.alloc(), new).expect(rt, "a set of the other file");
+    assert!(rt; new.total() == old.total());
     for i in 0..old.total() {
-        let lump = if i == g { bytes } else { old.lump(i)? };
-        assert_eq!(rt; new.name(i), old.name(i), "entry {i}");
-        assert_eq!(rt; new.lump(i)?, lump, "entry {i}");
+        check_entry(rt, (&old, &new), i, g, bytes);
     }
-    Ok(())
+}
+
+// Why a file's lump isn't exchanged.
+fn check_refused(rt: &(impl Abort + AllocGlobal), file: &[u8], g: usize, expected: ExchangeFault) {
+    check_same(
+        rt,
+        exchanged(rt.alloc(), file, g, b"xyz").err(),
+        Some(expected),
+    );
 }
 
 #[test]
-fn lump_exchanged(rt: HostRuntime) -> Result<(), Fail> {
-    let file = base(rt.alloc())?;
-    check_exchanged(
-        &rt,
-        &file,
-        &exchanged(rt.alloc(), &file, 9, b"xyz")?,
-        9,
-        b"xyz",
-    )?;
-    let none = exchanged(rt.alloc(), &file, 11, b"xyz").err();
-    assert_eq!(rt; none, Some(ExchangeFault::Lump(LumpFault::NoSuch)));
-    let short = exchanged(rt.alloc(), b"PWAD", 0, b"xyz").err();
+fn lump_exchanged(rt: HostRuntime) {
+    let file = base(&rt);
+    let other = exchanged(rt.alloc(), &file, 9, b"xyz").expect(&rt, "a file");
+    check_exchanged(&rt, &file, &other, 9, b"xyz");
+    check_refused(&rt, &file, 11, ExchangeFault::Lump(LumpFault::NoSuch));
     let fault = SetFault::File(1, WadFault::Short);
-    assert_eq!(rt; short, Some(ExchangeFault::Set(fault)));
-    Ok(())
+    check_refused(&rt, b"PWAD", 0, ExchangeFault::Set(fault));
 }

@@ -1,12 +1,12 @@
 //! Whole command lines over files in memory, where each growth and each write is refused in turn.
 
+use crate::compare::{check_bytes, check_same};
 use crate::demo_cases::{TEXT, TWO};
 use crate::sample::{LINE_WITHOUT_SIDE_1, base, base_not_reached, base_with, pack};
 use crate::texts::{LISTED, NOT_REACHED, SHOWN, SIDE_MISSING};
 use le_rec::{Sink, Source};
-use std::alloc::{Allocator, Global};
+use std::alloc::{AllocError, Allocator, Global};
 use std::process::Abort;
-use std::test::Fail;
 use test_alloc::Refusing;
 use test_ends::{SliceSink, SliceSource};
 use wad_look::{Job, RunFault, job, run, status};
@@ -67,10 +67,10 @@ const LINES: [Line<'static>; 8] = [
 ];
 
 // The words of a line.
-fn words_of(rt: &impl AllocGlobal, line: &str) -> Result<Vec<String>, Fail> {
-    let mut words = Vec::new(rt.alloc());
+fn words_of(alloc: Global, line: &str) -> Result<Vec<String>, AllocError> {
+    let mut words = Vec::new(alloc);
     for word in line.split(' ') {
-        words.push(String::from_str(rt.alloc(), word)?)?;
+        words.push(String::from_str(alloc, word)?)?;
     }
     Ok(words)
 }
@@ -98,111 +98,120 @@ fn run_line<A: Allocator + Copy>(
     files: &[Vec<u8>],
     input: &mut SliceSource<'_>,
     out: &mut SliceSink<'_>,
-) -> Result<Result<bool, RunFault>, Fail> {
-    let words = words_of(rt, line)?;
-    let job = job(&words).ok_or("no form of a command")?;
-    Ok(run_job(rt, alloc, &job, files, input, out))
+) -> Result<bool, RunFault> {
+    let words = words_of(rt.alloc(), line).expect(rt, "no memory for the words");
+    let job = job(&words).expect(rt, "no form of a command");
+    run_job(rt, alloc, &job, files, input, out)
 }
 
-// Whether a command line met growth `n` refused; then it has read and written nothing, but `census` a front of its text.
-fn is_refused(
-    rt: &(impl Abort + AllocGlobal),
+// A command that met a refused growth has read and written nothing, but `census` a front of its text.
+fn check_stopped(
+    rt: &impl Abort,
     line: Line<'_>,
-    files: &[Vec<u8>],
-    n: u64,
-) -> Result<bool, Fail> {
+    ended: Result<bool, RunFault>,
+    left: &[u8],
+    taken: &[u8],
+) {
+    check_same(rt, status(&ended), 3);
+    assert!(rt; line.text.starts_with(taken));
+    if !line.words.starts_with("census") {
+        assert!(rt; taken.is_empty());
+        check_bytes(rt, left, line.input);
+    }
+}
+
+// Whether a command line met growth `n` refused.
+fn is_refused(rt: &(impl Abort + AllocGlobal), line: Line<'_>, files: &[Vec<u8>], n: u64) -> bool {
     let heap = Refusing::new(rt.alloc(), n);
     let mut room = [0; 1024];
     let mut out = SliceSink::new(&mut room);
     let mut input = SliceSource::new(line.input);
-    let ended = run_line(rt, &heap, line.words, files, &mut input, &mut out)?;
-    if !heap.has_refused() {
-        assert!(rt; ended.is_ok());
-        assert_eq!(rt; out.taken(), line.text);
-        return Ok(false);
+    let ended = run_line(rt, &heap, line.words, files, &mut input, &mut out);
+    if heap.has_refused() {
+        check_stopped(rt, line, ended, input.left(), out.taken());
+        return true;
     }
-    assert_eq!(rt; status(&ended), 3);
-    assert!(rt; line.text.starts_with(out.taken()));
-    if !line.words.starts_with("census") {
-        assert!(rt; out.taken().is_empty());
-        assert_eq!(rt; input.left(), line.input);
-    }
-    Ok(true)
+    assert!(rt; ended.is_ok());
+    check_bytes(rt, out.taken(), line.text);
+    false
 }
 
 // Each growth that a command line asks for is refused in turn, and after each one none.
-fn check_growths(
-    rt: &(impl Abort + AllocGlobal),
-    line: Line<'_>,
-    files: &[Vec<u8>],
-) -> Result<(), Fail> {
+fn check_growths(rt: &(impl Abort + AllocGlobal), line: Line<'_>, files: &[Vec<u8>]) {
     let mut met = 0;
     for n in 1..99 {
-        if !is_refused(rt, line, files, n)? {
+        if !is_refused(rt, line, files, n) {
             break;
         }
-        assert!(rt; !is_refused(rt, line, files, 0)?);
+        assert!(rt; !is_refused(rt, line, files, 0));
         met = n;
     }
     assert!(rt; 0 < met && met < 98);
-    Ok(())
+}
+
+// The file, as the only one.
+fn only(rt: &(impl Abort + AllocGlobal), file: Vec<u8>) -> Vec<Vec<u8>> {
+    vec![in rt.alloc(); file].expect(rt, "no memory for the files")
 }
 
 // How `audit` of a file's level E1M1 meets refused growths.
-fn check_audit(rt: &(impl Abort + AllocGlobal), file: Vec<u8>, text: &[u8]) -> Result<(), Fail> {
-    let files = vec![in rt.alloc(); file]?;
+fn check_audit(rt: &(impl Abort + AllocGlobal), file: Vec<u8>, text: &[u8]) {
     let line = Line {
         words: "audit E1M1 level.wad",
         input: UNREAD,
         text,
     };
-    check_growths(rt, line, &files)
+    check_growths(rt, line, &only(rt, file));
 }
 
-#[test]
-fn growth_refused(rt: HostRuntime) -> Result<(), Fail> {
-    let files = vec![in rt.alloc(); base(rt.alloc())?]?;
-    for line in LINES {
-        check_growths(&rt, line, &files)?;
-    }
-    let packed = base(rt.alloc())?;
-    let extract = Line {
+// The line `extract` of the sample level, and what it writes.
+fn extract(text: &[u8]) -> Line<'_> {
+    Line {
         words: "extract E1M1 base.wad",
         input: UNREAD,
-        text: &packed,
-    };
-    check_growths(&rt, extract, &files)
+        text,
+    }
 }
 
 #[test]
-fn growth_refused_in_two_files(rt: HostRuntime) -> Result<(), Fail> {
-    let files = vec![in rt.alloc(); base(rt.alloc())?, base(rt.alloc())?]?;
+fn growth_refused(rt: HostRuntime) {
+    let files = only(&rt, base(&rt));
+    for line in LINES {
+        check_growths(&rt, line, &files);
+    }
+    check_growths(&rt, extract(&base(&rt)), &files);
+}
+
+#[test]
+fn growth_refused_in_two_files(rt: HostRuntime) {
+    let files = vec![in rt.alloc(); base(&rt), base(&rt)].expect(&rt, "two files");
     let line = Line {
         words: "levels base.wad base.wad",
         input: UNREAD,
         text: b"0 E1M1 hidden\n11 E1M1\n",
     };
-    check_growths(&rt, line, &files)
+    check_growths(&rt, line, &files);
 }
 
 #[test]
-fn growth_refused_with_findings(rt: HostRuntime) -> Result<(), Fail> {
-    check_audit(&rt, base_not_reached(rt.alloc())?, NOT_REACHED)?;
-    let side_missing = base_with(rt.alloc(), &[(2, &LINE_WITHOUT_SIDE_1)])?;
-    check_audit(&rt, side_missing, SIDE_MISSING)?;
-    let sight_bits = base_with(rt.alloc(), &[(9, &[])])?;
-    check_audit(&rt, sight_bits, b"N8 0 REJECT size\nfaults 0 notes 1\n")
+fn growth_refused_with_findings(rt: HostRuntime) {
+    check_audit(&rt, base_not_reached(&rt), NOT_REACHED);
+    let side_missing = base_with(&rt, &[(2, &LINE_WITHOUT_SIDE_1)]);
+    check_audit(&rt, side_missing, SIDE_MISSING);
+    let sight_bits = base_with(&rt, &[(9, &[])]);
+    check_audit(&rt, sight_bits, b"N8 0 REJECT size\nfaults 0 notes 1\n");
 }
 
+const DEMO: Line<'static> = Line {
+    words: "demo demo1 demo.wad",
+    input: UNREAD,
+    text: TEXT,
+};
+
 #[test]
-fn growth_refused_in_a_demo(rt: HostRuntime) -> Result<(), Fail> {
-    let files = vec![in rt.alloc(); pack(rt.alloc(), &[(b"DEMO1", &TWO)])?]?;
-    let line = Line {
-        words: "demo demo1 demo.wad",
-        input: UNREAD,
-        text: TEXT,
-    };
-    check_growths(&rt, line, &files)
+fn growth_refused_in_a_demo(rt: HostRuntime) {
+    let files = only(&rt, pack(&rt, &[(b"DEMO1", &TWO)]));
+    check_growths(&rt, DEMO, &files);
 }
 
 // How many bytes of an input, pulled one by one, are left by a command that stops behind that text.
@@ -224,57 +233,37 @@ fn left_behind(input: &[u8], text: &[u8]) -> usize {
     left
 }
 
-// A writer that takes a byte a call and fails at call `n`: written are the bytes before, and no more is pulled.
-fn fails_at(
-    rt: &(impl Abort + AllocGlobal),
-    line: Line<'_>,
-    files: &[Vec<u8>],
-    n: usize,
-) -> Result<(), Fail> {
-    assert!(rt; 0 < n && n <= line.text.len() && n <= 1024);
+// A writer that takes a byte a call and fails behind so many: written are they alone, and no more is pulled.
+fn fails_behind(rt: &(impl Abort + AllocGlobal), line: Line<'_>, files: &[Vec<u8>], count: u16) {
+    let failing = u32::from(count) + 1;
     let mut room = [0; 1024];
-    let mut out = SliceSink::new(&mut room).at_most(1).failing_at(n as u32);
+    let mut out = SliceSink::new(&mut room).at_most(1).failing_at(failing);
     let mut input = SliceSource::new(line.input).at_most(1);
-    let ended = run_line(rt, rt.alloc(), line.words, files, &mut input, &mut out)?;
-    assert_eq!(rt; ended, Err(RunFault::Write));
-    assert_eq!(rt; out.taken(), &line.text[..n - 1]);
-    assert_eq!(rt; input.left().len(), left_behind(line.input, out.taken()));
-    Ok(())
+    let ended = run_line(rt, rt.alloc(), line.words, files, &mut input, &mut out);
+    check_same(rt, ended, Err(RunFault::Write));
+    check_same(rt, Some(out.taken()), line.text.get(..usize::from(count)));
+    let left = left_behind(line.input, out.taken());
+    check_same(rt, input.left().len(), left);
 }
 
-fn check_writes(
-    rt: &(impl Abort + AllocGlobal),
-    line: Line<'_>,
-    files: &[Vec<u8>],
-) -> Result<(), Fail> {
-    for n in 1..=line.text.len() {
-        fails_at(rt, line, files, n)?;
+fn check_writes(rt: &(impl Abort + AllocGlobal), line: Line<'_>, files: &[Vec<u8>]) {
+    assert!(rt; line.text.len() <= 1024);
+    for count in 0..line.text.len() as u16 {
+        fails_behind(rt, line, files, count);
     }
-    Ok(())
 }
 
 #[test]
-fn writer_fails(rt: HostRuntime) -> Result<(), Fail> {
-    let files = vec![in rt.alloc(); base(rt.alloc())?]?;
+fn writer_fails(rt: HostRuntime) {
+    let files = only(&rt, base(&rt));
     for line in LINES {
-        check_writes(&rt, line, &files)?;
+        check_writes(&rt, line, &files);
     }
-    let packed = base(rt.alloc())?;
-    let extract = Line {
-        words: "extract E1M1 base.wad",
-        input: UNREAD,
-        text: &packed,
-    };
-    check_writes(&rt, extract, &files)
+    check_writes(&rt, extract(&base(&rt)), &files);
 }
 
 #[test]
-fn writer_fails_in_a_demo(rt: HostRuntime) -> Result<(), Fail> {
-    let files = vec![in rt.alloc(); pack(rt.alloc(), &[(b"DEMO1", &TWO)])?]?;
-    let line = Line {
-        words: "demo demo1 demo.wad",
-        input: UNREAD,
-        text: TEXT,
-    };
-    check_writes(&rt, line, &files)
+fn writer_fails_in_a_demo(rt: HostRuntime) {
+    let files = only(&rt, pack(&rt, &[(b"DEMO1", &TWO)]));
+    check_writes(&rt, DEMO, &files);
 }

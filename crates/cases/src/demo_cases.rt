@@ -1,5 +1,6 @@
 //! The command `lmp` over ends that fail.
 
+use crate::compare::{check_bytes, check_same};
 use demo_lump::DemoFault;
 use le_rec::{Sink, Source};
 use std::process::Abort;
@@ -37,8 +38,8 @@ fn lists(rt: &impl Abort, bytes: &[u8], limit: u64, text: &[u8], wanted: Result<
     let mut out = SliceSink::new(&mut room);
     let mut source = SliceSource::new(bytes).at_most(1);
     let result = list(rt, &mut source, limit, &mut out);
-    assert_eq!(rt; result, wanted);
-    assert_eq!(rt; out.taken(), text);
+    check_same(rt, result, wanted);
+    check_bytes(rt, out.taken(), text);
 }
 
 #[test]
@@ -50,22 +51,31 @@ fn lmp_cut(rt: HostRuntime) {
     lists(&rt, &TWO[..21], 100, lines, Err(cut));
 }
 
+// How many bytes of the listing are written where pull `n` fails.
+fn listed_before(n: u8) -> usize {
+    match n {
+        1..=13 => 0,
+        14..=17 => LINES[0],
+        18..=21 => LINES[1],
+        _ => LINES[2],
+    }
+}
+
+// A reader of one byte a pull that fails at pull `n`.
+fn check_failing_reader(rt: &impl Abort, n: u8) {
+    let mut room = [0; 200];
+    let mut out = SliceSink::new(&mut room);
+    let mut source = SliceSource::new(&TWO).at_most(1).failing_at(u32::from(n));
+    let result = list(rt, &mut source, 100, &mut out);
+    check_same(rt, result, Err(RunFault::Read));
+    check_same(rt, Some(out.taken()), TEXT.get(..listed_before(n)));
+    check_same(rt, source.left().len() + usize::from(n), TWO.len() + 1);
+}
+
 #[test]
 fn lmp_reader_fails(rt: HostRuntime) {
     for n in 1..25 {
-        let lines = match n {
-            1..=13 => 0,
-            14..=17 => LINES[0],
-            18..=21 => LINES[1],
-            _ => LINES[2],
-        };
-        let mut room = [0; 200];
-        let mut out = SliceSink::new(&mut room);
-        let mut source = SliceSource::new(&TWO).at_most(1).failing_at(n);
-        let result = list(&rt, &mut source, 100, &mut out);
-        assert_eq!(rt; result, Err(RunFault::Read));
-        assert_eq!(rt; out.taken(), &TEXT[..lines]);
-        assert_eq!(rt; source.left().len(), TWO.len() - (n as usize - 1));
+        check_failing_reader(&rt, n);
     }
 }
 
@@ -82,15 +92,21 @@ fn left_before(written: usize) -> usize {
     }
 }
 
+// A writer that has room for `n` bytes, and takes at most seven a put.
+fn check_failing_writer(rt: &impl Abort, n: u8) {
+    let count = usize::from(n);
+    let mut room = [0; 256];
+    let mut out = SliceSink::new(&mut room[..count]).at_most(7);
+    let mut source = SliceSource::new(&TWO);
+    let result = list(rt, &mut source, 100, &mut out);
+    check_same(rt, result, Err(RunFault::Write));
+    check_same(rt, Some(out.taken()), TEXT.get(..count));
+    check_same(rt, source.left().len(), left_before(count));
+}
+
 #[test]
 fn writer_fails(rt: HostRuntime) {
     for n in 0..167 {
-        let mut room = [0; 167];
-        let mut out = SliceSink::new(&mut room[..n]).at_most(7);
-        let mut source = SliceSource::new(&TWO);
-        let result = list(&rt, &mut source, 100, &mut out);
-        assert_eq!(rt; result, Err(RunFault::Write));
-        assert_eq!(rt; out.taken(), &TEXT[..n]);
-        assert_eq!(rt; source.left().len(), left_before(n));
+        check_failing_writer(&rt, n);
     }
 }

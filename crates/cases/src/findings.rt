@@ -1,5 +1,6 @@
 //! Findings that tests expect.
 
+use crate::compare::check_same;
 use map_level::{Code, Finding, Findings};
 use std::alloc::Allocator;
 use std::process::Abort;
@@ -25,9 +26,9 @@ pub fn finding(code: Code, index: u32) -> Finding {
 
 /// Checks that findings are these.
 pub fn check_list<A: Allocator>(rt: &impl Abort, found: &Findings<A>, want: &[Pair]) {
-    assert_eq!(rt; found.len(), want.len());
+    check_same(rt, found.len(), want.len());
     for (i, (code, index)) in want.iter().enumerate() {
-        assert_eq!(rt; found.get(i), Some(finding(*code, *index)), "finding {i}");
+        check_same(rt, (i, found.get(i)), (i, Some(finding(*code, *index))));
     }
-    assert_eq!(rt; found.get(want.len()), None);
+    check_same(rt, found.get(want.len()), None);
 }

@@ -1,11 +1,13 @@
 //! The check of a file: what `wad_lens` writes for its levels, and what it adds up to.
 
-use crate::sample::{LINE_WITHOUT_SIDE_1, Lump, base, base_many_segs, base_with, lumps, pack};
+use crate::compare::{check_bytes, check_same};
+use crate::sample::{
+    LINE_WITHOUT_SIDE_1, base, base_many_segs, base_with, levels_of_formats, pack,
+};
 use le_rec::Sink;
 use map_level::Reading;
 use std::alloc::Allocator;
 use std::process::Abort;
-use std::test::Fail;
 use test_alloc::Refusing;
 use test_ends::SliceSink;
 use wad_dir::WadFault;
@@ -72,17 +74,16 @@ fn tells_with(
         judging: signed(warnings),
     };
     let result = check(rt, rt.alloc(), &question, file, &mut out);
-    assert_eq!(rt; out.taken(), text);
-    assert_eq!(rt; result, answer);
+    check_bytes(rt, out.taken(), text);
+    check_same(rt, result, answer);
 }
 
 #[test]
-fn sample(rt: HostRuntime) -> Result<(), Fail> {
-    let file = base(rt.alloc())?;
+fn sample(rt: HostRuntime) {
+    let file = base(&rt);
     tells(&rt, 20, &file, b"", Ok(totals(1, 0, 0, 0, 0)));
-    let none = pack(rt.alloc(), &[])?;
+    let none = pack(&rt, &[]);
     tells(&rt, 20, &none, b"", Ok(totals(0, 0, 0, 0, 0)));
-    Ok(())
 }
 
 const SIDELESS: &[u8] =
@@ -90,10 +91,9 @@ const SIDELESS: &[u8] =
 a.wad: E1M1: N3 linedef 0: two-sided, without a back sidedef, from (0, 0) to (0, 64)\n";
 
 #[test]
-fn faults_and_notes(rt: HostRuntime) -> Result<(), Fail> {
-    let file = base_with(rt.alloc(), &[(2, &LINE_WITHOUT_SIDE_1)])?;
+fn faults_and_notes(rt: HostRuntime) {
+    let file = base_with(&rt, &[(2, &LINE_WITHOUT_SIDE_1)]);
     tells(&rt, 20, &file, SIDELESS, Ok(totals(1, 1, 1, 0, 0)));
-    Ok(())
 }
 
 // Three linedefs without length and without sides, of 14 bytes each.
@@ -116,15 +116,13 @@ a.wad: E1M1: N8 level: REJECT has 0 bytes, 1 are wanted\n";
 const ALL_OF_N5: &[u8] = b"a.wad: E1M1: N5 linedef 2: without length, from (0, 0) to (0, 0)\n";
 
 #[test]
-fn at_most_two_of_a_code(rt: HostRuntime) -> Result<(), Fail> {
-    let file = base_with(rt.alloc(), &[(2, &LINES), (9, &[])])?;
+fn at_most_two_of_a_code(rt: HostRuntime) {
+    let file = base_with(&rt, &[(2, &LINES), (9, &[])]);
     tells(&rt, 2, &file, TWO_OF_EACH, Ok(totals(1, 2, 7, 0, 0)));
-    Ok(())
 }
 
-#[test]
-fn all_of_a_code(rt: HostRuntime) -> Result<(), Fail> {
-    let file = base_with(rt.alloc(), &[(2, &LINES), (9, &[])])?;
+// What the check of a file answers in the wide reading, where all findings of a code are told.
+fn check_all(rt: &(impl Abort + AllocGlobal), file: &[u8], answer: Result<Totals, FileFault>) {
     let mut room = [0; 1024];
     let mut out = SliceSink::new(&mut room);
     let question = Question {
@@ -135,11 +133,16 @@ fn all_of_a_code(rt: HostRuntime) -> Result<(), Fail> {
             warnings: Warnings::Unasked,
         },
     };
-    let result = check(&rt, rt.alloc(), &question, &file, &mut out);
-    assert_eq!(rt; result, Ok(totals(1, 2, 7, 0, 0)));
+    let result = check(rt, rt.alloc(), &question, file, &mut out);
+    check_same(rt, result, answer);
     assert!(rt; contains(out.taken(), ALL_OF_N5));
     assert!(rt; !contains(out.taken(), b"more"));
-    Ok(())
+}
+
+#[test]
+fn all_of_a_code(rt: HostRuntime) {
+    let file = base_with(&rt, &[(2, &LINES), (9, &[])]);
+    check_all(&rt, &file, Ok(totals(1, 2, 7, 0, 0)));
 }
 
 // Whether bytes have a stretch.
@@ -154,10 +157,9 @@ const WIDE: &[u8] =
 a.wad: E1M1: sound with --wide\n";
 
 #[test]
-fn sound_with_wide(rt: HostRuntime) -> Result<(), Fail> {
-    let file = base_many_segs(rt.alloc())?;
+fn sound_with_wide(rt: HostRuntime) {
+    let file = base_many_segs(&rt);
     tells(&rt, 20, &file, WIDE, Ok(totals(1, 1, 0, 0, 0)));
-    Ok(())
 }
 
 const FORMATS: &[u8] = b"a.wad: MAP01: udmf: not read\n\
@@ -165,27 +167,20 @@ a.wad: E1M1: hexen: not read\n\
 a.wad: E1M2: incomplete: no LINEDEFS where it belongs\n";
 
 #[test]
-fn formats(rt: HostRuntime) -> Result<(), Fail> {
-    let text: [Lump<'static>; 3] = [(b"MAP01", &[]), (b"TEXTMAP", b"x"), (b"ENDMAP", &[])];
-    let mut entries = Vec::from_slice(rt.alloc(), &text)?;
-    entries.extend_from_slice(&lumps())?;
-    let behind: [Lump<'static>; 3] = [(b"BEHAVIOR", &[]), (b"E1M2", &[]), (b"THINGS", &[])];
-    entries.extend_from_slice(&behind)?;
-    let file = pack(rt.alloc(), &entries)?;
+fn formats(rt: HostRuntime) {
+    let file = levels_of_formats(&rt);
     tells(&rt, 20, &file, FORMATS, Ok(totals(3, 0, 0, 1, 2)));
-    Ok(())
 }
 
 #[test]
-fn extended_nodes(rt: HostRuntime) -> Result<(), Fail> {
-    let file = base_with(rt.alloc(), &[(7, b"XNOD")])?;
+fn extended_nodes(rt: HostRuntime) {
+    let file = base_with(&rt, &[(7, b"XNOD")]);
     let text = b"a.wad: E1M1: extended nodes XNOD: not read\n";
     tells(&rt, 20, &file, text, Ok(totals(1, 0, 0, 0, 1)));
-    Ok(())
 }
 
 #[test]
-fn refused(rt: HostRuntime) -> Result<(), Fail> {
+fn refused(rt: HostRuntime) {
     let fault = Err(FileFault::NoWad(WadFault::Magic));
     tells(&rt, 20, b"PWAX\0\0\0\0\0\0\0\0", b"", fault);
     tells(
@@ -195,13 +190,10 @@ fn refused(rt: HostRuntime) -> Result<(), Fail> {
         b"",
         Err(FileFault::NoWad(WadFault::Short)),
     );
-    Ok(())
 }
 
-// What is written of the level of a code before the output fails.
-#[test]
-fn output_fails(rt: HostRuntime) -> Result<(), Fail> {
-    let file = base_with(rt.alloc(), &[(2, &LINE_WITHOUT_SIDE_1)])?;
+// The check of a file whose output fails at its third put writes this text before.
+fn check_failing(rt: &(impl Abort + AllocGlobal), file: &[u8], fault: FileFault, text: &[u8]) {
     let mut room = [0; 1024];
     let mut out = SliceSink::new(&mut room).failing_at(3);
     let question = Question {
@@ -209,10 +201,17 @@ fn output_fails(rt: HostRuntime) -> Result<(), Fail> {
         most: 20,
         judging: signed(Warnings::Unasked),
     };
-    let result = check(&rt, rt.alloc(), &question, &file, &mut out);
-    assert_eq!(rt; result, Err(FileFault::Write(Verdict::Faulty)));
-    assert_eq!(rt; out.taken(), b"a.wad: E1M1: F9 seg 1: ".as_slice());
-    Ok(())
+    let result = check(rt, rt.alloc(), &question, file, &mut out);
+    check_same(rt, result, Err(fault));
+    check_bytes(rt, out.taken(), text);
+}
+
+// What is written of the level of a code before the output fails.
+#[test]
+fn output_fails(rt: HostRuntime) {
+    let file = base_with(&rt, &[(2, &LINE_WITHOUT_SIDE_1)]);
+    let fault = FileFault::Write(Verdict::Faulty);
+    check_failing(&rt, &file, fault, b"a.wad: E1M1: F9 seg 1: ");
 }
 
 // Whether the check met growth `n` refused; then it has written nothing.
@@ -227,18 +226,18 @@ fn is_refused(rt: &(impl Abort + AllocGlobal), file: &[u8], n: u64) -> bool {
     };
     let result = check(rt, &heap, &question, file, &mut out);
     if !heap.has_refused() {
-        assert_eq!(rt; result, Ok(totals(1, 1, 1, 0, 0)));
-        assert_eq!(rt; out.taken(), SIDELESS);
+        check_same(rt, result, Ok(totals(1, 1, 1, 0, 0)));
+        check_bytes(rt, out.taken(), SIDELESS);
         return false;
     }
-    assert_eq!(rt; result, Err(FileFault::Memory));
+    check_same(rt, result, Err(FileFault::Memory));
     assert!(rt; out.taken().is_empty());
     true
 }
 
 #[test]
-fn growth_refused(rt: HostRuntime) -> Result<(), Fail> {
-    let file = base_with(rt.alloc(), &[(2, &LINE_WITHOUT_SIDE_1)])?;
+fn growth_refused(rt: HostRuntime) {
+    let file = base_with(&rt, &[(2, &LINE_WITHOUT_SIDE_1)]);
     let mut met = 0;
     for n in 1..40 {
         if !is_refused(&rt, &file, n) {
@@ -247,20 +246,23 @@ fn growth_refused(rt: HostRuntime) -> Result<(), Fail> {
         met = n;
     }
     assert!(rt; 2 < met && met < 39);
-    Ok(())
+}
+
+// What is written of the totals of two files.
+fn check_totals(rt: &impl Abort, warnings: Warnings, all: &Totals, text: &[u8]) {
+    let mut room = [0; 256];
+    let mut out = SliceSink::new(&mut room);
+    let fresh = !out.failed();
+    assert!(rt; fresh);
+    assert!(rt; write_totals(2, warnings, all, &mut out).is_ok());
+    check_bytes(rt, out.taken(), text);
 }
 
 #[test]
-fn totals_of_a_run(rt: HostRuntime) -> Result<(), Fail> {
-    let mut room = [0; 256];
-    let mut out = SliceSink::new(&mut room);
+fn totals_of_a_run(rt: HostRuntime) {
     let all = totals(2, 1, 3, 1, 2).with(totals(1, 0, 1, 0, 1));
-    let fresh = !out.failed();
-    assert!(&rt; fresh);
-    assert_eq!(&rt; write_totals(2, Warnings::Unasked, &all, &mut out), Ok(()));
     let text = b"3 levels in 2 files: 1 faults, 4 notes, 4 not judged\n";
-    assert_eq!(&rt; out.taken(), text.as_slice());
-    Ok(())
+    check_totals(&rt, Warnings::Unasked, &all, text);
 }
 
 // The sample's two sectors are open at both ends of its linedef, and it has one start.
@@ -280,35 +282,27 @@ fn warned() -> Totals {
 }
 
 #[test]
-fn warnings(rt: HostRuntime) -> Result<(), Fail> {
-    let file = base(rt.alloc())?;
+fn warnings(rt: HostRuntime) {
+    let file = base(&rt);
     tells_with(&rt, Warnings::Told, 3, &file, WARNINGS, Ok(warned()));
     tells_with(&rt, Warnings::Strict, 3, &file, WARNINGS, Ok(warned()));
     let clean = warned().verdict_with(Warnings::Told);
-    assert_eq!(&rt; clean, Verdict::Clean);
+    check_same(&rt, clean, Verdict::Clean);
     let faulty = warned().verdict_with(Warnings::Strict);
-    assert_eq!(&rt; faulty, Verdict::Faulty);
-    Ok(())
+    check_same(&rt, faulty, Verdict::Faulty);
 }
 
 // A level whose references don't hold isn't warned of.
 #[test]
-fn no_warnings(rt: HostRuntime) -> Result<(), Fail> {
-    let file = base_with(rt.alloc(), &[(2, &LINE_WITHOUT_SIDE_1)])?;
+fn no_warnings(rt: HostRuntime) {
+    let file = base_with(&rt, &[(2, &LINE_WITHOUT_SIDE_1)]);
     let answer = Ok(totals(1, 1, 1, 0, 0));
     tells_with(&rt, Warnings::Strict, 20, &file, SIDELESS, answer);
-    Ok(())
 }
 
 #[test]
-fn totals_with_warnings(rt: HostRuntime) -> Result<(), Fail> {
-    let mut room = [0; 256];
-    let mut out = SliceSink::new(&mut room);
+fn totals_with_warnings(rt: HostRuntime) {
     let all = warned().with(warned()).with(totals(1, 2, 1, 0, 1));
-    let fresh = !out.failed();
-    assert!(&rt; fresh);
-    assert_eq!(&rt; write_totals(2, Warnings::Told, &all, &mut out), Ok(()));
     let text = b"3 levels in 2 files: 2 faults, 1 notes, 12 warnings, 1 not judged\n";
-    assert_eq!(&rt; out.taken(), text.as_slice());
-    Ok(())
+    check_totals(&rt, Warnings::Told, &all, text);
 }

@@ -10,6 +10,8 @@ mod census_cases;
 #[cfg(test)]
 mod commands;
 #[cfg(test)]
+mod compare;
+#[cfg(test)]
 mod demo_cases;
 #[cfg(test)]
 mod ends;

@@ -1,5 +1,6 @@
 //! Each growth of `read_all` refused in turn.
 
+use crate::compare::{check_bytes, check_same};
 use std::process::Abort;
 use test_alloc::Refusing;
 use test_ends::SliceSource;
@@ -10,10 +11,10 @@ fn is_refused(rt: &(impl Abort + AllocGlobal), n: u64) -> bool {
     let heap = Refusing::new(rt.alloc(), n);
     let result = read_all(&heap, &mut SliceSource::new(b"1 5\n").at_most(1), 4);
     match result {
-        Ok(bytes) => assert_eq!(rt; bytes.as_slice(), b"1 5\n".as_slice()),
+        Ok(bytes) => check_bytes(rt, bytes.as_slice(), b"1 5\n"),
         Err(fault) => {
             assert!(rt; heap.has_refused());
-            assert_eq!(rt; fault, RunFault::Memory);
+            check_same(rt, fault, RunFault::Memory);
             return true;
         }
     }

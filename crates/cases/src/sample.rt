@@ -1,10 +1,11 @@
-//! The sample level and files made of it.
+//! The sample level and files made of it. They end the process where no memory is left, so that a test is a row of calls.
 
 use le_rec::Name8;
 use std::alloc::{AllocError, Global};
 use std::process::Abort;
-use std::test::Fail;
-use wad_dir::Packer;
+use wad_dir::{PackFault, Packer};
+
+const NO_MEMORY: &str = "no memory for the sample";
 
 /// A lump under its name.
 pub type Lump<'a> = (&'a [u8], &'a [u8]);
@@ -48,12 +49,46 @@ pub fn lumps() -> [Lump<'static>; 11] {
 }
 
 /// The lumps, packed.
-pub fn pack(alloc: Global, lumps: &[Lump<'_>]) -> Result<Vec<u8>, Fail> {
+pub fn pack(rt: &(impl Abort + AllocGlobal), lumps: &[Lump<'_>]) -> Vec<u8> {
+    pack_three(rt, lumps, &[], &[])
+}
+
+/// The lumps and others behind them, packed.
+pub fn pack_both(
+    rt: &(impl Abort + AllocGlobal),
+    lumps: &[Lump<'_>],
+    others: &[Lump<'_>],
+) -> Vec<u8> {
+    pack_three(rt, lumps, others, &[])
+}
+
+fn pack_three(
+    rt: &(impl Abort + AllocGlobal),
+    first: &[Lump<'_>],
+    second: &[Lump<'_>],
+    third: &[Lump<'_>],
+) -> Vec<u8> {
+    packed(rt.alloc(), first, second, third).expect(rt, NO_MEMORY)
+}
+
+fn packed(
+    alloc: Global,
+    first: &[Lump<'_>],
+    second: &[Lump<'_>],
+    third: &[Lump<'_>],
+) -> Result<Vec<u8>, PackFault> {
     let mut packer = Packer::new(alloc);
+    add_all(&mut packer, first)?;
+    add_all(&mut packer, second)?;
+    add_all(&mut packer, third)?;
+    packer.pack(alloc)
+}
+
+fn add_all<'a>(packer: &mut Packer<'a, Global>, lumps: &[Lump<'a>]) -> Result<(), PackFault> {
     for (name, bytes) in lumps {
         packer.add(Name8::stored(name_field(name)), bytes)?;
     }
-    Ok(packer.pack(alloc)?)
+    Ok(())
 }
 
 // At most eight bytes as a name field.
@@ -66,17 +101,21 @@ fn name_field(name: &[u8]) -> [u8; 8] {
 }
 
 /// The sample level's file.
-pub fn base(alloc: Global) -> Result<Vec<u8>, Fail> {
-    pack(alloc, &lumps())
+pub fn base(rt: &(impl Abort + AllocGlobal)) -> Vec<u8> {
+    pack(rt, &lumps())
 }
 
 /// The sample level's file with other bytes in lumps, by their numbers from 1 to 10.
-pub fn base_with(alloc: Global, changes: &[(usize, &[u8])]) -> Result<Vec<u8>, Fail> {
+pub fn base_with(rt: &(impl Abort + AllocGlobal), changes: &[(usize, &[u8])]) -> Vec<u8> {
+    packed_with(rt.alloc(), changes).expect(rt, NO_MEMORY)
+}
+
+fn packed_with(alloc: Global, changes: &[(usize, &[u8])]) -> Result<Vec<u8>, PackFault> {
     let mut packer = Packer::new(alloc);
     for (k, (name, bytes)) in lumps().iter().enumerate() {
         packer.add(Name8::stored(name_field(name)), changed(changes, k, bytes))?;
     }
-    Ok(packer.pack(alloc)?)
+    packer.pack(alloc)
 }
 
 fn changed<'a>(changes: &[(usize, &'a [u8])], k: usize, bytes: &'a [u8]) -> &'a [u8] {
@@ -89,12 +128,12 @@ fn changed<'a>(changes: &[(usize, &'a [u8])], k: usize, bytes: &'a [u8]) -> &'a 
 }
 
 /// Nodes of the sample level's geometry with these children.
-pub fn nodes_with(alloc: Global, children: &[(u16, u16)]) -> Result<Vec<u8>, Fail> {
-    let mut nodes = Vec::new(alloc);
+pub fn nodes_with(rt: &(impl Abort + AllocGlobal), children: &[(u16, u16)]) -> Vec<u8> {
+    let mut nodes = Vec::new(rt.alloc());
     for (front, back) in children {
-        push_node(&mut nodes, *front, *back)?;
+        push_node(&mut nodes, *front, *back).expect(rt, NO_MEMORY);
     }
-    Ok(nodes)
+    nodes
 }
 
 fn push_node(nodes: &mut Vec<u8>, front: u16, back: u16) -> Result<(), AllocError> {
@@ -106,9 +145,9 @@ fn push_node(nodes: &mut Vec<u8>, front: u16, back: u16) -> Result<(), AllocErro
 const FOUR_SSECTORS: [u8; 16] = [1, 0, 0, 0, 1, 0, 0, 0, 1, 0, 0, 0, 1, 0, 0, 0];
 
 /// The sample level's file with two nodes and two ssectors that the root doesn't lead to.
-pub fn base_not_reached(alloc: Global) -> Result<Vec<u8>, Fail> {
-    let nodes = nodes_with(alloc, &[(1, 32770), (0, 32771), (32768, 32769)])?;
-    base_with(alloc, &[(6, &FOUR_SSECTORS), (7, &nodes)])
+pub fn base_not_reached(rt: &(impl Abort + AllocGlobal)) -> Vec<u8> {
+    let nodes = nodes_with(rt, &[(1, 32770), (0, 32771), (32768, 32769)]);
+    base_with(rt, &[(6, &FOUR_SSECTORS), (7, &nodes)])
 }
 
 // A node that goes through (0, 10) along (64, 0); its children are node 0 and ssector 2.
@@ -119,54 +158,97 @@ const ROOT_OF_TWO: [u8; 28] = [
 const THREE_SSECTORS: [u8; 12] = [1, 0, 0, 0, 1, 0, 1, 0, 1, 0, 1, 0];
 
 /// The sample level's file with a second node above its own, and a third ssector.
-pub fn base_two_nodes(alloc: Global) -> Result<Vec<u8>, Fail> {
-    let mut nodes = Vec::from_slice(alloc, &NODES)?;
-    nodes.extend_from_slice(&ROOT_OF_TWO)?;
-    base_with(alloc, &[(6, &THREE_SSECTORS), (7, &nodes)])
+pub fn base_two_nodes(rt: &(impl Abort + AllocGlobal)) -> Vec<u8> {
+    let nodes = joined(rt.alloc(), &NODES, &ROOT_OF_TWO).expect(rt, NO_MEMORY);
+    base_with(rt, &[(6, &THREE_SSECTORS), (7, &nodes)])
+}
+
+fn joined(alloc: Global, first: &[u8], second: &[u8]) -> Result<Vec<u8>, AllocError> {
+    let mut bytes = Vec::from_slice(alloc, first)?;
+    bytes.extend_from_slice(second)?;
+    Ok(bytes)
 }
 
 /// The sample level's file with so many nodes, at most 32767, each the front child of the next.
-pub fn base_chain(rt: &(impl Abort + AllocGlobal), count: u16) -> Result<Vec<u8>, Fail> {
+pub fn base_chain(rt: &(impl Abort + AllocGlobal), count: u16) -> Vec<u8> {
+    let nodes = chain(rt, count);
+    let ssectors = copies(rt.alloc(), &[1, 0, 0, 0], count).expect(rt, NO_MEMORY);
+    let all = joined(rt.alloc(), &[1, 0, 0, 0], &ssectors).expect(rt, NO_MEMORY);
+    base_with(rt, &[(6, &all), (7, &nodes)])
+}
+
+fn chain(rt: &(impl Abort + AllocGlobal), count: u16) -> Vec<u8> {
     assert!(rt; 0 < count && count <= 32767);
-    let mut nodes = nodes_with(rt.alloc(), &[(32768, 32769)])?;
-    let mut ssectors = Vec::from_slice(rt.alloc(), &[1, 0, 0, 0, 1, 0, 0, 0])?;
+    let mut nodes = nodes_with(rt, &[(32768, 32769)]);
     for i in 1..count {
-        push_node(&mut nodes, i - 1, 32769 + i)?;
-        ssectors.extend_from_slice(&[1, 0, 0, 0])?;
+        push_node(&mut nodes, i - 1, 32769 + i).expect(rt, NO_MEMORY);
     }
-    base_with(rt.alloc(), &[(6, &ssectors), (7, &nodes)])
+    nodes
+}
+
+fn copies(alloc: Global, bytes: &[u8], count: u16) -> Result<Vec<u8>, AllocError> {
+    let mut all = Vec::new(alloc);
+    for _ in 0..count {
+        all.extend_from_slice(bytes)?;
+    }
+    Ok(all)
 }
 
 /// The sample level's file with SEGS of 32768 copies of its seg 0 and then its seg 1, the first of the second ssector.
-pub fn base_many_segs(alloc: Global) -> Result<Vec<u8>, Fail> {
-    let mut segs = Vec::with_capacity(alloc, 393_228)?;
-    for _ in 0..32_768 {
-        segs.extend_from_slice(&SEGS[..12])?;
-    }
-    segs.extend_from_slice(&SEGS[12..])?;
-    base_with(alloc, &[(5, &segs), (6, &[1, 0, 0, 0, 1, 0, 0, 128])])
+pub fn base_many_segs(rt: &(impl Abort + AllocGlobal)) -> Vec<u8> {
+    let first = copies(rt.alloc(), &SEGS[..12], 32768).expect(rt, NO_MEMORY);
+    let segs = joined(rt.alloc(), &first, &SEGS[12..]).expect(rt, NO_MEMORY);
+    base_with(rt, &[(5, &segs), (6, &[1, 0, 0, 0, 1, 0, 0, 128])])
 }
 
 /// The sample level's linedef with two sides by its flags and one by its fields.
 pub const LINE_WITHOUT_SIDE_1: [u8; 14] = [0, 0, 1, 0, 4, 0, 0, 0, 0, 0, 0, 0, 255, 255];
 
 /// The sample level's file with a node of these first four fields.
-pub fn base_with_node(alloc: Global, x: i16, y: i16, dx: i16, dy: i16) -> Result<Vec<u8>, Fail> {
+pub fn base_with_node(
+    rt: &(impl Abort + AllocGlobal),
+    x: i16,
+    y: i16,
+    dx: i16,
+    dy: i16,
+) -> Vec<u8> {
+    base_with(rt, &[(7, &node_with([x, y, dx, dy]))])
+}
+
+fn node_with(line: [i16; 4]) -> [u8; 28] {
     let mut node = NODES;
-    for (i, number) in [x, y, dx, dy].iter().enumerate() {
+    for (i, number) in line.iter().enumerate() {
         let [low, high] = number.to_le_bytes();
         node[2 * i] = low;
         node[2 * i + 1] = high;
     }
-    base_with(alloc, &[(7, &node)])
+    node
 }
 
 /// The sample level's file with filepos -1 in the entry NODES.
-pub fn nodes_outside(rt: &(impl Abort + AllocGlobal)) -> Result<Vec<u8>, Fail> {
-    let mut file = base(rt.alloc())?;
-    assert_eq!(rt; file.len(), 409);
-    for at in 345..349 {
-        file[at] = 255;
+pub fn nodes_outside(rt: &(impl Abort + AllocGlobal)) -> Vec<u8> {
+    let file = base(rt);
+    assert!(rt; file.len() == 409);
+    outside_at(rt, file, 345)
+}
+
+/// The file with filepos -1 in the entry whose record begins there.
+pub fn outside_at(rt: &impl Abort, file: Vec<u8>, at: usize) -> Vec<u8> {
+    let mut file = file;
+    assert!(rt; at < 400 && file.len() >= 404);
+    for i in at..at + 4 {
+        file[i] = 255;
     }
-    Ok(file)
+    file
+}
+
+/// A level of the format UDMF.
+pub const UDMF: [Lump<'static>; 3] = [(b"MAP01", &[]), (b"TEXTMAP", b"x"), (b"ENDMAP", &[])];
+
+// What makes the level before it one of Hexen's, and a level that lacks its LINEDEFS.
+const BEHIND: [Lump<'static>; 3] = [(b"BEHAVIOR", &[]), (b"E1M2", &[]), (b"THINGS", &[])];
+
+/// A file of levels of three formats: UDMF, Hexen's, and one that lacks its LINEDEFS.
+pub fn levels_of_formats(rt: &(impl Abort + AllocGlobal)) -> Vec<u8> {
+    pack_three(rt, &UDMF, &lumps(), &BEHIND)
 }

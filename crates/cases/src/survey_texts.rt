@@ -1,11 +1,13 @@
 //! The survey of a file: what `wad_lens` writes for its levels, whatever their format, and what it answers.
 
-use crate::sample::{LINE_WITHOUT_SIDE_1, Lump, base, base_with, lumps, nodes_outside, pack};
+use crate::compare::{check_bytes, check_same};
+use crate::sample::{
+    LINE_WITHOUT_SIDE_1, base, base_with, levels_of_formats, lumps, nodes_outside, pack, pack_both,
+};
 use le_rec::Sink;
 use map_level::Reading;
-use std::alloc::{Allocator, Global};
+use std::alloc::Allocator;
 use std::process::Abort;
-use std::test::Fail;
 use test_alloc::Refusing;
 use test_ends::SliceSink;
 use wad_dir::WadFault;
@@ -55,42 +57,27 @@ fn check(
         signed(Warnings::Unasked),
         &mut out,
     );
-    assert_eq!(rt; out.taken(), text);
-    assert_eq!(rt; result, answer);
+    check_bytes(rt, out.taken(), text);
+    check_same(rt, result, answer);
 }
 
 #[test]
-fn sample(rt: HostRuntime) -> Result<(), Fail> {
-    check(
-        &rt,
-        b"a.wad",
-        &base(rt.alloc())?,
-        SAMPLE,
-        Ok(Verdict::Clean),
-    );
-    Ok(())
+fn sample(rt: HostRuntime) {
+    check(&rt, b"a.wad", &base(&rt), SAMPLE, Ok(Verdict::Clean));
 }
 
 #[test]
-fn no_levels(rt: HostRuntime) -> Result<(), Fail> {
-    check(
-        &rt,
-        b"a.wad",
-        &pack(rt.alloc(), &[])?,
-        b"",
-        Ok(Verdict::Clean),
-    );
-    Ok(())
+fn no_levels(rt: HostRuntime) {
+    check(&rt, b"a.wad", &pack(&rt, &[]), b"", Ok(Verdict::Clean));
 }
 
 #[test]
-fn faults_and_notes(rt: HostRuntime) -> Result<(), Fail> {
+fn faults_and_notes(rt: HostRuntime) {
     let text = b"{\"file\":\"a.wad\",\"level\":\"E1M1\",\"entry\":0,\"format\":\"doom\",\
 \"things\":1,\"linedefs\":1,\"sidedefs\":2,\"vertexes\":2,\"segs\":2,\"ssectors\":2,\"nodes\":1,\"sectors\":2,\
 \"reject\":1,\"blockmap\":16,\"sound\":false,\"faults\":1,\"notes\":1,\"findings\":{\"F9\":1,\"N3\":1}}\n";
-    let file = base_with(rt.alloc(), &[(2, &LINE_WITHOUT_SIDE_1)])?;
+    let file = base_with(&rt, &[(2, &LINE_WITHOUT_SIDE_1)]);
     check(&rt, b"a.wad", &file, text, Ok(Verdict::Faulty));
-    Ok(())
 }
 
 // Three linedefs without length and without sides, of 14 bytes each, and a REJECT of another size.
@@ -100,14 +87,13 @@ const LINES: [u8; 42] = [
 ];
 
 #[test]
-fn codes_more_than_once(rt: HostRuntime) -> Result<(), Fail> {
+fn codes_more_than_once(rt: HostRuntime) {
     let text = b"{\"file\":\"a.wad\",\"level\":\"E1M1\",\"entry\":0,\"format\":\"doom\",\
 \"things\":1,\"linedefs\":3,\"sidedefs\":2,\"vertexes\":2,\"segs\":2,\"ssectors\":2,\"nodes\":1,\"sectors\":2,\
 \"reject\":0,\"blockmap\":16,\"sound\":false,\"faults\":2,\"notes\":7,\
 \"findings\":{\"F9\":2,\"N4\":3,\"N5\":3,\"N8\":1}}\n";
-    let file = base_with(rt.alloc(), &[(2, &LINES), (9, &[])])?;
+    let file = base_with(&rt, &[(2, &LINES), (9, &[])]);
     check(&rt, b"a.wad", &file, text, Ok(Verdict::Faulty));
-    Ok(())
 }
 
 // Levels of three formats: UDMF, Hexen's, and one that lacks its LINEDEFS.
@@ -116,74 +102,54 @@ const FORMATS: &[u8] = b"{\"file\":\"a.wad\",\"level\":\"MAP01\",\"entry\":0,\"f
 {\"file\":\"a.wad\",\"level\":\"E1M2\",\"entry\":15,\"format\":\"incomplete\",\"lump\":\"LINEDEFS\"}\n";
 
 #[test]
-fn formats(rt: HostRuntime) -> Result<(), Fail> {
-    let text: [Lump<'static>; 3] = [(b"MAP01", &[]), (b"TEXTMAP", b"x"), (b"ENDMAP", &[])];
-    let mut entries = Vec::from_slice(rt.alloc(), &text)?;
-    entries.extend_from_slice(&lumps())?;
-    let behind: [Lump<'static>; 3] = [(b"BEHAVIOR", &[]), (b"E1M2", &[]), (b"THINGS", &[])];
-    entries.extend_from_slice(&behind)?;
+fn formats(rt: HostRuntime) {
     check(
         &rt,
         b"a.wad",
-        &pack(rt.alloc(), &entries)?,
+        &levels_of_formats(&rt),
         FORMATS,
         Ok(Verdict::Faulty),
     );
-    Ok(())
 }
 
 #[test]
-fn extended_nodes(rt: HostRuntime) -> Result<(), Fail> {
+fn extended_nodes(rt: HostRuntime) {
     let text =
         b"{\"file\":\"a.wad\",\"level\":\"E1M1\",\"entry\":0,\"format\":\"extended\",\"tag\":\"XNOD\"}\n";
-    let file = base_with(rt.alloc(), &[(7, b"XNOD")])?;
+    let file = base_with(&rt, &[(7, b"XNOD")]);
     check(&rt, b"a.wad", &file, text, Ok(Verdict::Unjudged));
-    Ok(())
 }
 
 #[test]
-fn lump_outside(rt: HostRuntime) -> Result<(), Fail> {
+fn lump_outside(rt: HostRuntime) {
     let text =
         b"{\"file\":\"a.wad\",\"level\":\"E1M1\",\"entry\":0,\"format\":\"outside\",\"lump\":\"NODES\"}\n";
     check(
         &rt,
         b"a.wad",
-        &nodes_outside(&rt)?,
+        &nodes_outside(&rt),
         text,
         Ok(Verdict::Faulty),
     );
-    Ok(())
 }
 
 // The object of the level `MAP01` in UDMF, under these bytes as a path and as its label's name.
-fn check_strings(
-    rt: &(impl Abort + AllocGlobal),
-    path: &[u8],
-    name: &[u8],
-    text: &[u8],
-) -> Result<(), Fail> {
-    let entries: [Lump<'_>; 2] = [(name, &[]), (b"TEXTMAP", &[])];
-    check(
-        rt,
-        path,
-        &pack(rt.alloc(), &entries)?,
-        text,
-        Ok(Verdict::Unjudged),
-    );
-    Ok(())
+fn check_strings(rt: &(impl Abort + AllocGlobal), path: &[u8], name: &[u8], text: &[u8]) {
+    let file = pack(rt, &[(name, &[]), (b"TEXTMAP", &[])]);
+    check(rt, path, &file, text, Ok(Verdict::Unjudged));
 }
 
 #[test]
-fn escapes(rt: HostRuntime) -> Result<(), Fail> {
+fn escapes(rt: HostRuntime) {
     let text =
         b"{\"file\":\"\\\"\\\\\\u0000\\u000a\\u001f \x7f/\",\"level\":\"A\\\"\\\\x5c\\\\x1f\",\"entry\":0,\"format\":\"udmf\"}\n";
-    check_strings(&rt, b"\"\\\x00\x0a\x1f \x7f/", b"A\"\\\x1f", text)
+    check_strings(&rt, b"\"\\\x00\x0a\x1f \x7f/", b"A\"\\\x1f", text);
 }
 
 // One U+FFFD for each sequence that begins no character: a lone byte, one that continues none, a character cut short, each
 // byte of a surrogate, and what the end cuts.
 #[test]
-fn paths_not_of_utf8(rt: HostRuntime) -> Result<(), Fail> {
+fn paths_not_of_utf8(rt: HostRuntime) {
     let text =
         b"{\"file\":\"\xef\xbf\xbda\xef\xbf\xbd\xef\xbf\xbdb\xef\xbf\xbd\xef\xbf\xbd\xef\xbf\xbd\xc3\xa9\xef\xbf\xbd\",\
 \"level\":\"MAP01\",\"entry\":0,\"format\":\"udmf\"}\n";
@@ -192,7 +158,7 @@ fn paths_not_of_utf8(rt: HostRuntime) -> Result<(), Fail> {
         b"\xffa\x80\xe2\x82b\xed\xa0\x80\xc3\xa9\xf0\x9f\x98",
         b"MAP01",
         text,
-    )
+    );
 }
 
 // What the object of a refused file is.
@@ -201,8 +167,8 @@ fn check_refusal(rt: &impl Abort, refusal: Refusal, text: &[u8]) {
     let mut out = SliceSink::new(&mut room);
     let fresh = !out.failed();
     assert!(rt; fresh);
-    assert_eq!(rt; refused_line(b"a\"b", refusal, &mut out), Ok(()));
-    assert_eq!(rt; out.taken(), text);
+    assert!(rt; refused_line(b"a\"b", refusal, &mut out).is_ok());
+    check_bytes(rt, out.taken(), text);
 }
 
 #[test]
@@ -222,7 +188,7 @@ fn refusals(rt: HostRuntime) {
 }
 
 #[test]
-fn refused_directories(rt: HostRuntime) -> Result<(), Fail> {
+fn refused_directories(rt: HostRuntime) {
     let fault = FileFault::NoWad(WadFault::Short);
     check(&rt, b"a.wad", b"PWAD", b"", Err(fault));
     let short = b"{\"file\":\"a\\\"b\",\"refused\":\"shorter than a WAD header\"}\n";
@@ -234,7 +200,6 @@ fn refused_directories(rt: HostRuntime) -> Result<(), Fail> {
     check_refusal(&rt, Refusal::NoWad(WadFault::Count), count);
     let directory = b"{\"file\":\"a\\\"b\",\"refused\":\"its directory isn't inside the file\"}\n";
     check_refusal(&rt, Refusal::NoWad(WadFault::Directory), directory);
-    Ok(())
 }
 
 // Whether the survey of a file met growth `n` refused; then it has written a front of the text that ends with a line.
@@ -251,21 +216,19 @@ fn is_refused(rt: &(impl Abort + AllocGlobal), file: &[u8], n: u64, text: &[u8])
         &mut out,
     );
     if !heap.has_refused() {
-        assert_eq!(rt; result, Ok(Verdict::Clean));
-        assert_eq!(rt; out.taken(), text);
+        check_same(rt, result, Ok(Verdict::Clean));
+        check_bytes(rt, out.taken(), text);
         return false;
     }
-    assert_eq!(rt; result, Err(FileFault::Memory));
+    check_same(rt, result, Err(FileFault::Memory));
     assert!(rt; text.starts_with(out.taken()));
     assert!(rt; out.taken().is_empty() || out.taken().ends_with(b"\n"));
     true
 }
 
 // Two levels, of which the first is hidden.
-fn two_levels(alloc: Global) -> Result<Vec<u8>, Fail> {
-    let mut entries = Vec::from_slice(alloc, &lumps())?;
-    entries.extend_from_slice(&lumps())?;
-    pack(alloc, &entries)
+fn two_levels(rt: &(impl Abort + AllocGlobal)) -> Vec<u8> {
+    pack_both(rt, &lumps(), &lumps())
 }
 
 const BOTH: &[u8] = b"{\"file\":\"a.wad\",\"level\":\"E1M1\",\"entry\":0,\"format\":\"doom\",\
@@ -276,8 +239,8 @@ const BOTH: &[u8] = b"{\"file\":\"a.wad\",\"level\":\"E1M1\",\"entry\":0,\"forma
 \"reject\":1,\"blockmap\":16,\"sound\":true,\"faults\":0,\"notes\":0,\"findings\":{}}\n";
 
 #[test]
-fn growth_refused(rt: HostRuntime) -> Result<(), Fail> {
-    let file = two_levels(rt.alloc())?;
+fn growth_refused(rt: HostRuntime) {
+    let file = two_levels(&rt);
     let mut met = 0;
     for n in 1..20 {
         if !is_refused(&rt, &file, n, BOTH) {
@@ -286,14 +249,13 @@ fn growth_refused(rt: HostRuntime) -> Result<(), Fail> {
         met = n;
     }
     assert!(rt; 2 < met && met < 19);
-    Ok(())
 }
 
-// A writer that takes a byte a call and fails at call `n`: the bytes before were written.
-fn fails_at(rt: &(impl Abort + AllocGlobal), file: &[u8], n: usize) {
-    assert!(rt; 0 < n && n <= BOTH.len() && n <= 1024);
+// A writer that takes a byte a call and fails behind so many: they were written.
+fn fails_behind(rt: &(impl Abort + AllocGlobal), file: &[u8], count: u16) {
+    let failing = u32::from(count) + 1;
     let mut room = [0; 1024];
-    let mut out = SliceSink::new(&mut room).at_most(1).failing_at(n as u32);
+    let mut out = SliceSink::new(&mut room).at_most(1).failing_at(failing);
     let result = survey(
         rt,
         rt.alloc(),
@@ -302,17 +264,16 @@ fn fails_at(rt: &(impl Abort + AllocGlobal), file: &[u8], n: usize) {
         signed(Warnings::Unasked),
         &mut out,
     );
-    assert_eq!(rt; result, Err(FileFault::Write(Verdict::Clean)));
-    assert_eq!(rt; out.taken(), &BOTH[..n - 1]);
+    check_same(rt, result, Err(FileFault::Write(Verdict::Clean)));
+    check_same(rt, Some(out.taken()), BOTH.get(..usize::from(count)));
 }
 
 #[test]
-fn failing_writes(rt: HostRuntime) -> Result<(), Fail> {
-    let file = two_levels(rt.alloc())?;
-    for n in 1..BOTH.len() {
-        fails_at(&rt, &file, n);
+fn failing_writes(rt: HostRuntime) {
+    let file = two_levels(&rt);
+    for count in 0..BOTH.len() as u16 {
+        fails_behind(&rt, &file, count);
     }
-    Ok(())
 }
 
 const WARNED: &[u8] = b"{\"file\":\"a.wad\",\"level\":\"E1M1\",\"entry\":0,\"format\":\"doom\",\
@@ -331,25 +292,23 @@ fn warns(
     let mut room = [0; 1024];
     let mut out = SliceSink::new(&mut room);
     let result = survey(rt, rt.alloc(), b"a.wad", file, signed(warnings), &mut out);
-    assert_eq!(rt; out.taken(), text);
-    assert_eq!(rt; result, Ok(answer));
+    check_bytes(rt, out.taken(), text);
+    check_same(rt, result, Ok(answer));
 }
 
 #[test]
-fn warnings(rt: HostRuntime) -> Result<(), Fail> {
-    let file = base(rt.alloc())?;
+fn warnings(rt: HostRuntime) {
+    let file = base(&rt);
     warns(&rt, Warnings::Told, &file, WARNED, Verdict::Clean);
     warns(&rt, Warnings::Strict, &file, WARNED, Verdict::Faulty);
-    Ok(())
 }
 
 // A level whose references don't hold isn't warned of.
 #[test]
-fn no_warnings(rt: HostRuntime) -> Result<(), Fail> {
+fn no_warnings(rt: HostRuntime) {
     let text = b"{\"file\":\"a.wad\",\"level\":\"E1M1\",\"entry\":0,\"format\":\"doom\",\
 \"things\":1,\"linedefs\":1,\"sidedefs\":2,\"vertexes\":2,\"segs\":2,\"ssectors\":2,\"nodes\":1,\"sectors\":2,\
 \"reject\":1,\"blockmap\":16,\"sound\":false,\"faults\":1,\"notes\":1,\"findings\":{\"F9\":1,\"N3\":1},\"warnings\":{}}\n";
-    let file = base_with(rt.alloc(), &[(2, &LINE_WITHOUT_SIDE_1)])?;
+    let file = base_with(&rt, &[(2, &LINE_WITHOUT_SIDE_1)]);
     warns(&rt, Warnings::Told, &file, text, Verdict::Faulty);
-    Ok(())
 }

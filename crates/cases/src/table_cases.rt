@@ -1,60 +1,58 @@
 //! Findings on REJECT and BLOCKMAP, with each growth refused in turn.
 
+use crate::compare::check_same;
 use crate::findings::finding;
 use crate::sample::{LINE_WITHOUT_SIDE_1, base, base_not_reached, base_with};
 use le_rec::Name8;
 use map_level::{Code, Finding, Level, Reading};
 use map_tables::table_findings;
 use std::process::Abort;
-use std::test::Fail;
 use test_alloc::Refusing;
 use wad_dir::Set;
 
 const REJECT: usize = 9;
 
-// Whether the findings of the level met growth `n` refused.
+// Whether the findings of the level met growth `n` refused; else they are these.
 fn is_refused(
     rt: &(impl Abort + AllocGlobal),
-    set: &Set<'_>,
+    level: &Level<'_>,
     n: u64,
     expected: &[Finding],
-) -> Result<bool, Fail> {
-    let level = Level::open(set, Name8::query(b"E1M1"), Reading::Signed)?;
+) -> bool {
     let heap = Refusing::new(rt.alloc(), n);
-    let result = table_findings(&heap, &level);
-    let refused = heap.has_refused();
-    assert_eq!(rt; result.is_err(), refused);
+    let result = table_findings(&heap, level);
+    assert!(rt; result.is_err() == heap.has_refused());
     if let Ok(found) = result {
-        assert_eq!(rt; found.as_slice(), expected);
+        check_same(rt, found.as_slice(), expected);
     }
-    Ok(refused)
+    heap.has_refused()
+}
+
+// The growths from 0 to 2 that the level E1M1 of a file meets refused: 0 counts and refuses none.
+fn check_growths(
+    rt: &(impl Abort + AllocGlobal),
+    file: Vec<u8>,
+    refused: [bool; 3],
+    expected: &[Finding],
+) {
+    let set = Set::one(rt.alloc(), &file).expect(rt, "a set of the file");
+    let opened = Level::open(&set, Name8::query(b"E1M1"), Reading::Signed);
+    let level = opened.expect(rt, "a level");
+    assert!(rt; is_refused(rt, &level, 0, expected) == refused[0]);
+    assert!(rt; is_refused(rt, &level, 1, expected) == refused[1]);
+    assert!(rt; is_refused(rt, &level, 2, expected) == refused[2]);
 }
 
 #[test]
-fn growth_refused(rt: HostRuntime) -> Result<(), Fail> {
-    let files = vec![in rt.alloc(); base_with(rt.alloc(), &[(REJECT, &[])])?]?;
-    let set = Set::new(rt.alloc(), &files)?;
-    let expected = [finding(Code::N8, 0)];
-    assert!(rt; is_refused(&rt, &set, 1, &expected)?);
-    assert!(rt; !is_refused(&rt, &set, 2, &expected)?);
-    assert!(rt;
-        !is_refused(&rt, &set, 0, &expected)?,
-        "it counts and refuses none"
-    );
-    Ok(())
+fn growth_refused(rt: HostRuntime) {
+    let file = base_with(&rt, &[(REJECT, &[])]);
+    check_growths(&rt, file, [false, true, false], &[finding(Code::N8, 0)]);
 }
 
 #[test]
-fn growth_refused_without_findings(rt: HostRuntime) -> Result<(), Fail> {
-    let side_missing = base_with(rt.alloc(), &[(2, &LINE_WITHOUT_SIDE_1)])?;
-    for file in [
-        base(rt.alloc())?,
-        base_not_reached(rt.alloc())?,
-        side_missing,
-    ] {
-        let files = vec![in rt.alloc(); file]?;
-        let set = Set::new(rt.alloc(), &files)?;
-        assert!(rt; !is_refused(&rt, &set, 1, &[])?, "it asks for none");
-    }
-    Ok(())
+fn growth_refused_without_findings(rt: HostRuntime) {
+    check_growths(&rt, base(&rt), [false; 3], &[]);
+    check_growths(&rt, base_not_reached(&rt), [false; 3], &[]);
+    let side_missing = base_with(&rt, &[(2, &LINE_WITHOUT_SIDE_1)]);
+    check_growths(&rt, side_missing, [false; 3], &[]);
 }

@@ -1,13 +1,13 @@
 //! One tally for many rectangles: each is told its own points, also after one that was refused a growth.
 
-use crate::sample::base_with;
+use crate::compare::check_same;
+use crate::sample::base;
 use le_rec::Name8;
 use map_geo::Rect;
 use map_level::{Level, Reading};
-use map_tree::{SectorTree, Tally, Tree, is_sound};
+use map_tree::{Counts, SectorTree, Tally, Tree, is_sound};
 use std::alloc::Allocator;
 use std::process::Abort;
-use std::test::Fail;
 use test_alloc::Refusing;
 use wad_dir::Set;
 
@@ -19,20 +19,37 @@ const CASES: [([i32; 4], &[(u16, u32)]); 4] = [
     ([-1, 0, 1, 1], &[(0, 2), (1, 4)]),
 ];
 
+fn check_counts<A: Allocator>(rt: &impl Abort, counts: &Counts<A>, pairs: &[(u16, u32)]) {
+    check_same(rt, counts.len(), pairs.len());
+    for (i, pair) in pairs.iter().enumerate() {
+        check_same(rt, (i, counts.get(i)), (i, Some(*pair)));
+    }
+}
+
+// Whether a rectangle is refused a growth; else it is told its pairs.
+fn is_census_refused<A: Allocator + Copy>(
+    rt: &impl Abort,
+    tally: &mut Tally<'_, '_, A>,
+    bounds: [i32; 4],
+    pairs: &[(u16, u32)],
+) -> bool {
+    let [x0, y0, x1, y1] = bounds;
+    let rect = Rect::new(x0, y0, x1, y1).expect(rt, "a rectangle");
+    match tally.census(rect) {
+        Ok(counts) => {
+            check_counts(rt, &counts, pairs);
+            false
+        }
+        Err(_) => true,
+    }
+}
+
 // How many of the rectangles are refused a growth; the others are told their pairs.
 fn count_refused<A: Allocator + Copy>(rt: &impl Abort, tally: &mut Tally<'_, '_, A>) -> usize {
     let mut refused: usize = 0;
     for (bounds, pairs) in CASES {
-        let [x0, y0, x1, y1] = bounds;
-        let rect = Rect::new(x0, y0, x1, y1).expect(rt, "a rectangle");
-        match tally.census(rect) {
-            Ok(counts) => {
-                assert_eq!(rt; counts.len(), pairs.len());
-                for (i, pair) in pairs.iter().enumerate() {
-                    assert_eq!(rt; counts.get(i), Some(*pair), "pair {i}");
-                }
-            }
-            Err(_) => refused = refused.wrapping_add(1),
+        if is_census_refused(rt, tally, bounds, pairs) {
+            refused = refused.wrapping_add(1);
         }
     }
     refused
@@ -48,27 +65,35 @@ fn is_refused<B: Allocator>(
         Ok(tally) => {
             let mut tally = tally;
             let refused = count_refused(rt, &mut tally);
-            assert_eq!(rt; refused, usize::from(heap.has_refused()));
+            assert!(rt; refused == usize::from(heap.has_refused()));
         }
         Err(_) => assert!(rt; heap.has_refused()),
     }
     heap.has_refused()
 }
 
-#[test]
-fn one_tally(rt: HostRuntime) -> Result<(), Fail> {
-    let files = vec![in rt.alloc(); base_with(rt.alloc(), &[])?]?;
-    let set = Set::new(rt.alloc(), &files)?;
-    let level = Level::open(&set, Name8::query(b"E1M1"), Reading::Signed)?;
-    assert!(rt; is_sound(rt.alloc(), &level)?);
-    let tree = SectorTree::of(rt.alloc(), Tree::of(&level))?;
+// Each growth is refused in turn until none is.
+fn check_growths<B: Allocator>(rt: &(impl Abort + AllocGlobal), tree: &SectorTree<'_, '_, B>) {
     let mut met = 0;
     for n in 1..30 {
-        if !is_refused(&rt, &Refusing::new(rt.alloc(), n), &tree) {
+        if !is_refused(rt, &Refusing::new(rt.alloc(), n), tree) {
             break;
         }
         met = n;
     }
     assert!(rt; 4 < met && met < 29);
-    Ok(())
+}
+
+fn check_level(rt: &(impl Abort + AllocGlobal), level: &Level<'_>) {
+    assert!(rt; is_sound(rt.alloc(), level).expect(rt, "no memory for the tree"));
+    let tree = SectorTree::of(rt.alloc(), Tree::of(level)).expect(rt, "no memory for the tree");
+    check_growths(rt, &tree);
+}
+
+#[test]
+fn one_tally(rt: HostRuntime) {
+    let file = base(&rt);
+    let set = Set::one(rt.alloc(), &file).expect(&rt, "a set of the file");
+    let opened = Level::open(&set, Name8::query(b"E1M1"), Reading::Signed);
+    check_level(&rt, &opened.expect(&rt, "a level"));
 }

@@ -1,14 +1,14 @@
 //! Trees of levels: how deep leaves lie, and findings on nodes with each growth refused in turn.
 
+use crate::compare::check_same;
 use crate::findings::{NOT_REACHED, Pair, check_list};
-use crate::sample::{LINE_WITHOUT_SIDE_1, base_chain, base_not_reached, base_with};
+use crate::sample::{LINE_WITHOUT_SIDE_1, base, base_chain, base_not_reached, base_with};
 use le_rec::{Name8, Node, Record};
 use map_geo::Point;
 use map_level::{Level, Reading};
 use map_tree::{Tree, is_sound, tree_findings};
-use std::alloc::Global;
+use std::alloc::{AllocError, Global};
 use std::process::Abort;
-use std::test::Fail;
 use test_alloc::Refusing;
 use wad_dir::Set;
 
@@ -29,7 +29,7 @@ fn node(line: [i16; 4], children: [u16; 2]) -> Node {
 }
 
 // The bytes of nodes.
-fn nodes(alloc: Global, all: &[Node]) -> Result<Vec<u8>, Fail> {
+fn nodes(alloc: Global, all: &[Node]) -> Result<Vec<u8>, AllocError> {
     let mut lump = Vec::new(alloc);
     for node in all {
         let mut bytes = [0; 28];
@@ -42,69 +42,74 @@ fn nodes(alloc: Global, all: &[Node]) -> Result<Vec<u8>, Fail> {
 // A point, its ssector and the number of side tests, and its sector.
 type Case = ([i32; 2], (u16, u32), u16);
 
-// Opens the level of a file and compares the leaves and sectors of points.
-fn check_leaves(
-    rt: &(impl Abort + AllocGlobal),
-    file: Vec<u8>,
-    expected: &[Case],
-) -> Result<(), Fail> {
-    let files = vec![in rt.alloc(); file]?;
-    let set = Set::new(rt.alloc(), &files)?;
-    let level = Level::open(&set, Name8::query(b"E1M1"), Reading::Signed)?;
-    assert!(rt; is_sound(rt.alloc(), &level)?);
-    let tree = Tree::of(&level);
-    for ([x, y], leaf, sector) in expected {
-        let point = Point::new(*x, *y).expect(rt, "a point in range");
-        assert_eq!(rt; tree.leaf(point), *leaf, "leaf of {x} {y}");
-        assert_eq!(rt; tree.sector(point), *sector, "sector of {x} {y}");
+// Compares the leaf and the sector of a point.
+fn check_leaf(rt: &impl Abort, tree: &Tree<'_, '_>, expected: Case) {
+    let ([x, y], leaf, sector) = expected;
+    let point = Point::new(x, y).expect(rt, "a point in range");
+    check_same(rt, (x, y, tree.leaf(point)), (x, y, leaf));
+    check_same(rt, (x, y, tree.sector(point)), (x, y, sector));
+}
+
+fn check_level(rt: &(impl Abort + AllocGlobal), level: &Level<'_>, expected: &[Case]) {
+    assert!(rt; is_sound(rt.alloc(), level).expect(rt, "no memory for the tree"));
+    let tree = Tree::of(level);
+    for case in expected {
+        check_leaf(rt, &tree, *case);
     }
-    Ok(())
+}
+
+// Opens the level of a file and compares the leaves and sectors of points.
+fn check_leaves(rt: &(impl Abort + AllocGlobal), file: Vec<u8>, expected: &[Case]) {
+    let set = Set::one(rt.alloc(), &file).expect(rt, "a set of the file");
+    let opened = Level::open(&set, Name8::query(b"E1M1"), Reading::Signed);
+    check_level(rt, &opened.expect(rt, "a level"), expected);
 }
 
 #[test]
-fn chain(rt: HostRuntime) -> Result<(), Fail> {
+fn chain(rt: HostRuntime) {
+    let file = base_chain(&rt, 32767);
     check_leaves(
         &rt,
-        base_chain(&rt, 32767)?,
+        file,
         &[([1, 5], (0, 32767), 0), ([0, 5], (32767, 1), 0)],
-    )
+    );
 }
+
+// The file of seven nodes over eight ssectors.
+fn base_of_seven(rt: &(impl Abort + AllocGlobal)) -> Vec<u8> {
+    let all = [
+        node([60, 0, 0, 64], [32774, 32775]),
+        node([0, 300, -64, 0], [32773, 0]),
+        node([0, 0, 64, 64], [32772, 1]),
+        node([50, 0, 0, -64], [32771, 2]),
+        node([0, 100, 64, 0], [32770, 3]),
+        node([0, 0, 64, 0], [32768, 32769]),
+        node([0, 0, 0, 64], [4, 5]),
+    ];
+    let nodes = nodes(rt.alloc(), &all).expect(rt, "no memory for the nodes");
+    base_with(rt, &[(6, &EIGHT_SSECTORS), (7, &nodes)])
+}
+
+const EIGHT_SSECTORS: [u8; 32] = [
+    1, 0, 0, 0, 1, 0, 1, 0, 1, 0, 0, 0, 1, 0, 1, 0, 1, 0, 0, 0, 1, 0, 1, 0, 1, 0, 0, 0, 1, 0, 1, 0,
+];
+
+const DEPTHS: [Case; 9] = [
+    ([0, 0], (0, 2), 0),
+    ([-5, 1], (1, 2), 1),
+    ([1, 100], (2, 2), 0),
+    ([50, 101], (3, 3), 1),
+    ([200, 101], (4, 4), 0),
+    ([51, 301], (5, 5), 1),
+    ([61, 300], (6, 6), 0),
+    ([101, 101], (6, 6), 0),
+    ([60, 200], (7, 6), 1),
+];
 
 // Each ssector is met, at depths 2 to 6, by points of both sides and of the lines.
 #[test]
-fn depths(rt: HostRuntime) -> Result<(), Fail> {
-    let all = nodes(
-        rt.alloc(),
-        &[
-            node([60, 0, 0, 64], [32774, 32775]),
-            node([0, 300, -64, 0], [32773, 0]),
-            node([0, 0, 64, 64], [32772, 1]),
-            node([50, 0, 0, -64], [32771, 2]),
-            node([0, 100, 64, 0], [32770, 3]),
-            node([0, 0, 64, 0], [32768, 32769]),
-            node([0, 0, 0, 64], [4, 5]),
-        ],
-    )?;
-    let pair = [1, 0, 0, 0, 1, 0, 1, 0];
-    let mut eight = Vec::new(rt.alloc());
-    for _ in 0..4 {
-        eight.extend_from_slice(&pair)?;
-    }
-    check_leaves(
-        &rt,
-        base_with(rt.alloc(), &[(6, &eight), (7, &all)])?,
-        &[
-            ([0, 0], (0, 2), 0),
-            ([-5, 1], (1, 2), 1),
-            ([1, 100], (2, 2), 0),
-            ([50, 101], (3, 3), 1),
-            ([200, 101], (4, 4), 0),
-            ([51, 301], (5, 5), 1),
-            ([61, 300], (6, 6), 0),
-            ([101, 101], (6, 6), 0),
-            ([60, 200], (7, 6), 1),
-        ],
-    )
+fn depths(rt: HostRuntime) {
+    check_leaves(&rt, base_of_seven(&rt), &DEPTHS);
 }
 
 // Whether `tree_findings` met growth `n` refused.
@@ -116,7 +121,7 @@ fn is_refused(
 ) -> bool {
     let heap = Refusing::new(rt.alloc(), n);
     let result = tree_findings(&heap, level);
-    assert_eq!(rt; result.is_err(), heap.has_refused());
+    assert!(rt; result.is_err() == heap.has_refused());
     if let Ok(found) = result {
         check_list(rt, &found, expected);
     }
@@ -124,32 +129,31 @@ fn is_refused(
 }
 
 // Refuses growth 1, 2, .. in turn, and then answers as if nothing had been.
-fn check_growths(
+fn check_growths_at(
     rt: &(impl Abort + AllocGlobal),
-    file: Vec<u8>,
+    level: &Level<'_>,
     growths: u8,
     expected: &[Pair],
-) -> Result<(), Fail> {
-    let files = vec![in rt.alloc(); file]?;
-    let set = Set::new(rt.alloc(), &files)?;
-    let level = Level::open(&set, Name8::query(b"E1M1"), Reading::Signed)?;
-    let last = u64::from(growths);
-    for n in 1..last + 1 {
-        assert!(rt; is_refused(rt, &level, n, expected), "growth {n}");
-        check_list(rt, &tree_findings(rt.alloc(), &level)?, expected);
+) {
+    for n in 0..growths {
+        assert!(rt; is_refused(rt, level, u64::from(n) + 1, expected));
+        assert!(rt; !is_refused(rt, level, 0, expected));
     }
-    assert!(rt; !is_refused(rt, &level, last + 1, expected));
-    assert!(rt; !is_refused(rt, &level, 0, expected));
-    Ok(())
+    assert!(rt; !is_refused(rt, level, u64::from(growths) + 1, expected));
+    assert!(rt; !is_refused(rt, level, 0, expected));
+}
+
+fn check_growths(rt: &(impl Abort + AllocGlobal), file: Vec<u8>, growths: u8, expected: &[Pair]) {
+    let set = Set::one(rt.alloc(), &file).expect(rt, "a set of the file");
+    let opened = Level::open(&set, Name8::query(b"E1M1"), Reading::Signed);
+    check_growths_at(rt, &opened.expect(rt, "a level"), growths, expected);
 }
 
 #[test]
-fn growth_refused(rt: HostRuntime) -> Result<(), Fail> {
-    let base = base_with(rt.alloc(), &[])?;
-    check_growths(&rt, base, 3, &[])?;
-    check_growths(&rt, base_not_reached(rt.alloc())?, 4, &NOT_REACHED)?;
-    let side_missing = base_with(rt.alloc(), &[(2, &LINE_WITHOUT_SIDE_1)])?;
-    check_growths(&rt, side_missing, 3, &[])?;
-    let sight_bits = base_with(rt.alloc(), &[(9, &[])])?;
-    check_growths(&rt, sight_bits, 3, &[])
+fn growth_refused(rt: HostRuntime) {
+    check_growths(&rt, base(&rt), 3, &[]);
+    check_growths(&rt, base_not_reached(&rt), 4, &NOT_REACHED);
+    let side_missing = base_with(&rt, &[(2, &LINE_WITHOUT_SIDE_1)]);
+    check_growths(&rt, side_missing, 3, &[]);
+    check_growths(&rt, base_with(&rt, &[(9, &[])]), 3, &[]);
 }

@@ -11,25 +11,33 @@ use level_list::Format;
 use line_io::{IoFault, emit};
 use map_level::{Level, LevelFault, Reading};
 use std::alloc::Allocator;
-use wad_dir::{PackFault, Set, SetFault, WadFault};
+use thiserror::Error;
+use wad_dir::{MAX_BYTES, PackFault, Set, SetFault, WadFault};
 use wad_look::pack_level;
 
 /// Why a level isn't cut out.
-#[derive(Clone, Copy, Debug, PartialEq, Eq)]
+#[derive(Clone, Copy, Debug, PartialEq, Eq, Error)]
 pub enum CutFault {
     /// The file's bytes have no directory.
+    #[error("{0}")]
     NoWad(WadFault),
     /// The file has no entry of this number.
+    #[error("no entry of this number")]
     NoEntry,
     /// The list of entries ends before the lump of this number, from 1 to 10.
+    #[error("the list of entries ends before lump {0} of the level")]
     Incomplete(u32),
     /// The lump of this number, from 1 to 10, isn't inside the file.
+    #[error("lump {0} of the level is outside its file")]
     Outside(u32),
     /// The file of the level would be larger than 2,147,483,647 bytes.
+    #[error("the level is larger than {max} bytes", max = MAX_BYTES)]
     TooLarge,
     /// A growth was refused.
+    #[error("no memory left")]
     Memory,
     /// The output failed.
+    #[error("the output can't be written")]
     Write,
 }
 

@@ -16,17 +16,7 @@ pub enum Warnings {
 
 impl Warnings {
     ghost use Rattle.std.specs.Prelude.{◌≡◌};
-    ghost use Rattle.wad_lens.specs.Warned.{are_asked, warned_verdict};
-
-    /// Whether they are looked for.
-    pub fn are_asked(self) -> bool
-        ensures { result ≡ are_asked self }
-    {
-        match self {
-            Warnings::Unasked => false,
-            Warnings::Told | Warnings::Strict => true,
-        }
-    }
+    ghost use Rattle.wad_lens.specs.Warned.{warned_verdict};
 
     /// What so many of them say.
     pub fn verdict(self, count: u64) -> Verdict

@@ -1,5 +1,6 @@
 //! What is said of a file, and why nothing is.
 
+use thiserror::Error;
 use wad_dir::WadFault;
 
 /// What was found in a file, or at one of its levels.
@@ -30,13 +31,16 @@ impl Verdict {
 }
 
 /// Why going over a file stopped.
-#[derive(Clone, Copy, Debug, PartialEq, Eq)]
+#[derive(Clone, Copy, Debug, PartialEq, Eq, Error)]
 pub enum FileFault {
     /// The file's bytes have no directory. Nothing was written.
+    #[error("{0}")]
     NoWad(WadFault),
     /// The output failed. The gravest of what was found up to there, also of the level whose text was being written.
+    #[error("the output can't be written")]
     Write(Verdict),
     /// A growth was refused.
+    #[error("no memory left")]
     Memory,
 }
 

@@ -2,7 +2,6 @@
 use Rattle.std.specs.Prelude.{◌≡◌, ◌⊎◌, ℕ, List, [], ◌∷◌, ◌++◌, codes, length, Option, Some, Result, Ok, Err}
 use Rattle.std.specs.Io.KnownBytes.{Keeps}
 use Rattle.le_rec.specs.Sink.{SinkState}
-use Rattle.line_io.specs.Writes.{TakesFront}
 use Rattle.wad_atlas.specs.Page.{page_text}
 use Rattle.wad_atlas.specs.declared.refused.Refused.{Refused}
 use Rattle.wad_atlas.specs.declared.row.Row.{Row}
@@ -10,7 +9,7 @@ use Rattle.wad_lens.specs.declared.object.Refusal.{Refusal}
 use Rattle.wad_lens.specs.declared.verdict.Verdict.{Verdict}
 use Rattle.lens_run.specs.Files.{RefusesRead}
 use Rattle.lens_run.specs.Job.{HoldsList, job_paths, list_held, list_name}
-use Rattle.lens_run.specs.Run.{ToldTo, refusal_line}
+use Rattle.lens_run.specs.Run.{IsTold, ToldTo, refusal_line}
 use Rattle.lens_run.specs.declared.end.End.{End}
 use Rattle.lens_run.specs.declared.end.End.TheVariants as end
 use Rattle.lens_run.specs.declared.files.ReadFault.TheVariants as read
@@ -22,6 +21,7 @@ use Rattle.wad_lens.specs.declared.judging.Warnings.{Warnings}
 use Rattle.atlas_run.specs.Folder.{IsBegun, Kept, with_files}
 use Rattle.atlas_run.specs.Gathered.{Gathers, GathersSome}
 use Rattle.atlas_run.specs.Tell.{fault_end, folder_line, refusal_text, write_text}
+use Rattle.atlas_run.specs.Until.{TellsUntil}
 use Rattle.atlas_run.specs.declared.fault.AtlasFault.{AtlasFault}
 use Rattle.atlas_run.specs.declared.fault.AtlasFault.TheVariants as fault
 use Rattle.atlas_run.specs.declared.folder.FolderRefusal.{FolderRefusal}
@@ -83,7 +83,7 @@ asked_of job = record { judging = job.job.asked.judging; cells = job.cells }
 -- standard error was told of the folder, where a file in it can't be written
 abbrev pub TellsFault : List ℕ → AtlasFault → SinkState → SinkState → Type 0
 TellsFault folder fault.Memory errors errors' = errors' ≡ errors
-TellsFault folder fault.Write errors errors' = TakesFront errors errors' (folder_line folder write_text)
+TellsFault folder fault.Write errors errors' = IsTold errors errors' (folder_line folder write_text)
 TellsFault folder fault.Errors errors errors' = errors' ≡ errors
 
 -- the run ended before all was written
@@ -91,13 +91,14 @@ pub record StopsRun (held : List ℕ → Option (List ℕ)) (job : AtlasJob) (pa
   pub between : SinkState
   pub stops : StopsAtlas held (asked_of job) paths old new errors between
   pub fault : AtlasFault
+  pub files : TellsUntil held (survey_of job.job.asked.judging) paths old errors between fault
   pub told : TellsFault job.folder.now fault between errors'
   pub ended : result ≡ Err (fault_end fault)
 
 -- the folder wasn't taken, and nothing in it was touched
 pub record RefusesFolder (job : AtlasJob) (old new : Option (List Kept)) (errors errors' : SinkState) (result : Result Verdict End) : Type 0 where
   pub refusal : FolderRefusal
-  pub told : TakesFront errors errors' (folder_line job.folder.now (refusal_text refusal))
+  pub told : IsTold errors errors' (folder_line job.folder.now (refusal_text refusal))
   pub untouched : new ≡ old
   pub ended : result ≡ Err end.Refused
 
@@ -119,7 +120,7 @@ pub record RunsPaths (held : List ℕ → Option (List ℕ)) (left : Option (Lis
 pub record RefusesList (held : List ℕ → Option (List ℕ)) (left : Option (List ℕ)) (job : AtlasJob) (old new : Option (List Kept)) (errors errors' : SinkState) (result : Result Verdict End) : Type 0 where
   pub refusal : Refusal
   pub why : RefusesRead (list_held held left job.job) (read.Refused refusal)
-  pub told : TakesFront errors errors' (refusal_line (list_name job.job) refusal)
+  pub told : IsTold errors errors' (refusal_line (list_name job.job) refusal)
   pub untouched : new ≡ old
   pub ended : result ≡ Err end.Refused
 

@@ -2,4 +2,5 @@ pub mod Folder
 pub mod Pictures
 pub mod Gathered
 pub mod Tell
+pub mod Until
 pub mod Atlas

@@ -1,8 +1,9 @@
 //! What of each file goes onto the page and into the folder.
 
-ghost use Rattle.std.specs.Prelude.{◌≡◌, ◌≤◌, ◌++◌, [], ◌∷◌, IfOk, OnOk, OnErr, map};
+ghost use Rattle.std.specs.Prelude.{◌≡◌, ◌≤◌, ◌++◌, [], ◌∷◌, IfErr, IfOk, OnOk, OnErr, map};
 ghost use Rattle.atlas_run.specs.Atlas.{survey_of};
 ghost use Rattle.atlas_run.specs.Gathered.{AddsFront, AddsLevels, AddsPath, AddsSome, GathersAll, GathersSome};
+ghost use Rattle.atlas_run.specs.Until.{LeavesPath, LeavesRefused, StopsAtFile, stop_fault};
 ghost use Rattle.lens_run.specs.Run.{AreSound, TellsPath, ToldTo, WritesRefusal};
 ghost use Rattle.lens_run.specs.declared.tell.Word.TheVariants.{Survey};
 
@@ -52,6 +53,8 @@ pub fn gather<'p, S: Storage, F: Folder, E: Sink, P: Watch>(
         gathered.rows.items gathered.refused.items (F.kept folder.old) (F.kept folder.new)) }
     ensures some { OnErr result (GathersSome (S.held storage.now) asked (map (λ path. path.now) paths.now)
         (F.kept folder.old) (F.kept folder.new)) }
+    ensures stopped { IfErr result (StopsAtFile (S.held storage.now) (survey_of asked.judging) (map (λ path. path.now) paths.now)
+        (F.File.state survey.old) (E.state errors.old) (F.File.state survey.new) (E.state errors.new)) }
 {
     let mut gathered = Gathered {
         rows: Vec::new(alloc),
@@ -101,6 +104,8 @@ fn add_path<'p, S: Storage, F: Folder, E: Sink, P: Watch>(
     ensures adds { OnOk result (AddsPath (S.held storage.now origin.now.path.now) cells origin.now gathered.old gathered.new
         (F.kept folder.old) (F.kept folder.new)) }
     ensures front { OnErr result (AddsFront (S.held storage.now origin.now.path.now) cells origin.now (F.kept folder.old) (F.kept folder.new)) }
+    ensures stopped { IfErr result (LeavesPath (S.held storage.now origin.now.path.now) (survey_of origin.now.judging) origin.now.path.now
+        (F.File.state survey.old) (F.File.state survey.new) (E.state errors.old) (E.state errors.new)) }
 {
     match read_file(Vec::new(alloc), storage, origin.path) {
         Ok(bytes) => {
@@ -187,6 +192,8 @@ fn add_refused<'p, W: Sink, E: Sink, P: Watch>(
         (W.state survey.old) (W.state survey.new) (E.state errors.old) (E.state errors.new)) }
     ensures sound { OnOk result (AreSound (W.state survey.new) (E.state errors.new)) }
     ensures adds { OnOk result (refused.new.items ≡ refused.old.items ++ one.entry ∷ []) }
+    ensures stopped { IfErr result (LeavesRefused one.entry.path.now one.entry.why
+        (W.state survey.old) (W.state survey.new) (E.state errors.old) (E.state errors.new)) }
 {
     let told = tell_refusal(Word::Survey, one.path, one.why, survey, errors, watch);
     match told {
@@ -196,8 +203,17 @@ fn add_refused<'p, W: Sink, E: Sink, P: Watch>(
             }
             Ok(tally)
         }
-        Err(Stop::Output(_)) => Err(AtlasFault::Write),
-        Err(Stop::Errors) => Err(AtlasFault::Errors),
-        Err(Stop::Memory) => Err(AtlasFault::Memory),
+        Err(stop) => Err(stop_fault(stop)),
+    }
+}
+
+// Why an atlas isn't whole where telling its files stopped.
+fn stop_fault(stop: Stop) -> AtlasFault
+    ensures { result ≡ stop_fault stop }
+{
+    match stop {
+        Stop::Output(_) => AtlasFault::Write,
+        Stop::Errors => AtlasFault::Errors,
+        Stop::Memory => AtlasFault::Memory,
     }
 }

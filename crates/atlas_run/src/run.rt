@@ -1,10 +1,11 @@
 //! The run of `atlas`.
 
 ghost use Rattle.std.specs.Prelude.{◌≡◌, ◌≤◌, ◌∷◌, [], false, IfOk, IfErr, OnOk, OnErr, length, map};
-ghost use Rattle.atlas_run.specs.Atlas.{RunsAtlas, StopsAtlas, TellsFault, WritesAtlas, index_file};
+ghost use Rattle.atlas_run.specs.Atlas.{RunsAtlas, StopsAtlas, TellsFault, WritesAtlas, index_file, survey_of};
 ghost use Rattle.atlas_run.specs.Folder.{with_files};
-ghost use Rattle.atlas_run.specs.Tell.{fault_end};
-ghost use Rattle.lens_run.specs.Run.{AreSound};
+ghost use Rattle.atlas_run.specs.Tell.{fault_end, folder_line, write_text};
+ghost use Rattle.atlas_run.specs.Until.{TellsUntil};
+ghost use Rattle.lens_run.specs.Run.{IsTold};
 
 use crate::fault::AtlasFault;
 use crate::folder::Folder;
@@ -85,6 +86,8 @@ pub fn write_atlas<S: Storage, F: Folder, E: Sink, P: Watch>(
         (F.kept folder.old) (F.kept folder.new) (E.state errors.old) (E.state errors.new)) }
     ensures some { OnErr result (StopsAtlas (S.held storage.now) asked (map (λ path. path.now) paths.now)
         (F.kept folder.old) (F.kept folder.new) (E.state errors.old) (E.state errors.new)) }
+    ensures told { IfErr result (TellsUntil (S.held storage.now) (survey_of asked.judging) (map (λ path. path.now) paths.now)
+        (F.kept folder.old) (E.state errors.old) (E.state errors.new)) }
 {
     let mut survey = folder.begin(SURVEY)?;
     let gathered = gather(
@@ -148,9 +151,18 @@ fn tell_fault<E: Sink>(folder: &[u8], fault: AtlasFault, errors: &mut E) -> End
     ensures end { result ≡ fault_end fault }
     ensures told { TellsFault folder.now fault (E.state errors.old) (E.state errors.new) }
 {
-    if fault == AtlasFault::Write && !errors.failed() {
-        // Where standard error fails too, nobody is left to be told.
-        let _ = write_folder_line(folder, b"a file in it can't be written", errors);
+    if fault == AtlasFault::Write {
+        tell_unwritten(folder, errors);
     }
     fault_end(fault)
+}
+
+// Tells that a file of the folder can't be written.
+fn tell_unwritten<E: Sink>(folder: &[u8], errors: &mut E)
+    ensures { IsTold (E.state errors.old) (E.state errors.new) (folder_line folder.now write_text) }
+{
+    // Where standard error fails too, nobody is left to be told.
+    if !errors.failed() {
+        let _ = write_folder_line(folder, b"a file in it can't be written", errors);
+    }
 }

@@ -1,11 +1,13 @@
-use Rattle.std.proofs.Common.{refl, rules, subst}
+use Rattle.std.proofs.Common.{inl, refl, rules, subst}
 use Rattle.std.proofs.lemmas.Result.{err_from_is_err_and}
-use Rattle.std.specs.Prelude.{IfOk}
+use Rattle.std.specs.Prelude.{IfErr, IfOk}
 use Rattle.wad_lens.specs.declared.object.Refusal.TheVariants.{NoWad}
 use Rattle.lens_run.specs.Files.{RefusesRead}
 use Rattle.lens_run.specs.Run.{LeavesBytes, WritesRefusal}
 use Rattle.lens_run.specs.declared.tell.Word.TheVariants.{Survey}
 use Rattle.atlas_run.specs.Atlas.{survey_of}
+use Rattle.atlas_run.specs.Until.{LeavesRefused}
+use Rattle.atlas_run.proofs.UntilLemmas.{left_behind, left_unwritten, refused_left}
 use Rattle.atlas_run.proofs.GatherLemmas.{file_refused, front_some, on_ok, path_levels, path_refused, path_told}
 use Rattle.atlas_run.proofs.gather.add_path.Goals as goal
 
@@ -55,3 +57,44 @@ returns-in-Err-Refused-clause-adds g c =
     c.args.gathered.now (record c.args.gathered.now { refused = c.add_refused-in-Err-Refused.new.refused }) (record { path = c.args.origin.now.path; why = c.in-Err-Refused.why }) refl
     why refl added refl refl)
     (rw c.in-Err-Refused.why-is at c.add_refused-in-Err-Refused.ensures.adds)
+
+pub returns-in_err-add_levels-in-Ok-tell_bytes-clause-stopped : goal.returns-in_err-add_levels-in-Ok-tell_bytes-clause-stopped
+returns-in_err-add_levels-in-Ok-tell_bytes-clause-stopped g c =
+    let p = err_from_is_err_and c.from_residual.result c.from_residual.ensures.1 in
+    let told = rw c.survey_of.ensures at c.in-Ok-tell_bytes.ensures.told in
+    let behind = left_behind (g.S.Storage.held c.args.storage.now c.args.origin.now.path.now) c.args.origin.now.judging c.args.origin.now.path.now
+    (g.F.File.Sink.state c.args.survey.now) (g.F.File.Sink.state c.tell_bytes.new.out) (g.E.Sink.state c.args.errors.now) (g.E.Sink.state c.tell_bytes.new.errors)
+    c.in-Ok-tell_bytes.tally _
+    (inl (record { bytes = c.deref.result.now; are = search rules; few = search rules; told = told })) in
+    rw p.1 behind
+
+pub returns-in-Err-NoWad-clause-stopped : goal.returns-in-Err-NoWad-clause-stopped
+returns-in-Err-NoWad-clause-stopped g c =
+    let left = subst (LeavesBytes g.F.File.Sink.state g.E.Sink.state Survey c.args.origin.now.path.now c.deref.result.now (survey_of c.args.origin.now.judging).judging c.args.survey.now c.tell_bytes.new.out
+    c.args.errors.now c.tell_bytes.new.errors)
+    c.in-Err-NoWad.field-0-is (rw c.survey_of.ensures at c.in-Err-NoWad.ensures.left) in
+    let stopped = rw c.in-Err-NoWad.why-is at c.add_refused.ensures.stopped in
+    let at_out = subst (λ o. IfErr c.add_refused.result (LeavesRefused c.args.origin.now.path.now (NoWad c.in-Err-NoWad.why)
+    (g.F.File.Sink.state o) (g.F.File.Sink.state c.add_refused.new.survey) (g.E.Sink.state c.tell_bytes.new.errors) (g.E.Sink.state c.add_refused.new.errors))) left.1 stopped in
+    let stops = subst (λ e. IfErr c.add_refused.result (LeavesRefused c.args.origin.now.path.now (NoWad c.in-Err-NoWad.why)
+    (g.F.File.Sink.state c.args.survey.now) (g.F.File.Sink.state c.add_refused.new.survey) (g.E.Sink.state e) (g.E.Sink.state c.add_refused.new.errors))) left.2 at_out in
+    refused_left (g.S.Storage.held c.args.storage.now c.args.origin.now.path.now) c.args.origin.now.judging c.args.origin.now.path.now
+    (g.F.File.Sink.state c.args.survey.now) (g.F.File.Sink.state c.add_refused.new.survey) (g.E.Sink.state c.args.errors.now) (g.E.Sink.state c.add_refused.new.errors)
+    (NoWad c.in-Err-NoWad.why) c.add_refused.result (record { bytes = c.deref.result.now; are = search rules; refuses = left.0 }) stops
+
+pub returns-in-Err-Refused-clause-stopped : goal.returns-in-Err-Refused-clause-stopped
+returns-in-Err-Refused-clause-stopped g c =
+    let why = file_refused (g.S.Storage.held c.args.storage.now c.args.origin.now.path.now) c.in-Err-Refused.why
+    (subst (RefusesRead (g.S.Storage.held c.args.storage.now c.args.origin.now.path.now)) c.in-Err-Refused.field-0-is c.in-Err-Refused.ensures.refused) in
+    refused_left (g.S.Storage.held c.args.storage.now c.args.origin.now.path.now) c.args.origin.now.judging c.args.origin.now.path.now
+    (g.F.File.Sink.state c.args.survey.now) (g.F.File.Sink.state c.add_refused-in-Err-Refused.new.survey) (g.E.Sink.state c.args.errors.now) (g.E.Sink.state c.add_refused-in-Err-Refused.new.errors)
+    c.in-Err-Refused.why c.add_refused-in-Err-Refused.result why (rw c.in-Err-Refused.why-is at c.add_refused-in-Err-Refused.ensures.stopped)
+
+pub returns-in-Err-Output-clause-stopped : goal.returns-in-Err-Output-clause-stopped
+returns-in-Err-Output-clause-stopped g c =
+    let left = subst (LeavesBytes g.F.File.Sink.state g.E.Sink.state Survey c.args.origin.now.path.now c.deref.result.now (survey_of c.args.origin.now.judging).judging c.args.survey.now c.tell_bytes.new.out
+    c.args.errors.now c.tell_bytes.new.errors)
+    c.in-Err-Output.field-0-is (rw c.survey_of.ensures at c.in-Err-Output.ensures.left) in
+    left_unwritten (g.S.Storage.held c.args.storage.now c.args.origin.now.path.now) c.args.origin.now.judging c.args.origin.now.path.now
+    (g.F.File.Sink.state c.args.survey.now) (g.F.File.Sink.state c.tell_bytes.new.out) (g.E.Sink.state c.args.errors.now) (g.E.Sink.state c.tell_bytes.new.errors)
+    c.deref.result.now c.in-Err-Output.field-0-0 (search rules) left.0 left.1 left.2

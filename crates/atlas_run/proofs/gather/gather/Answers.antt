@@ -4,6 +4,7 @@ use Rattle.lens_run.specs.Run.{at_start}
 use Rattle.lens_run.proofs.TellLemmas.{told_more}
 use Rattle.atlas_run.specs.Atlas.{survey_of}
 use Rattle.atlas_run.proofs.GatherLemmas.{all_more, all_none, some_stopped}
+use Rattle.atlas_run.proofs.UntilLemmas.{stopped_at}
 use Rattle.atlas_run.proofs.gather.gather.Goals as goal
 
 pub loop-i-init : goal.loop-i-init
@@ -21,6 +22,15 @@ returns-in_err-tally-clause-some g c =
     c.loop-i.gathered.rows.items c.loop-i.gathered.refused.items (record { numbered = refl; of_path = refl; judged = refl })
     c.loop-i.invariant.all c.in_err-tally.ensures.front in
     rw p.1 some
+
+pub returns-in_err-tally-clause-stopped : goal.returns-in_err-tally-clause-stopped
+returns-in_err-tally-clause-stopped g c =
+    let p = err_from_is_err_and c.from_residual.result c.from_residual.ensures.1 in
+    let at = stopped_at (λ (path : Bor (List ℕ)). path.now) c.args.paths.now c.loop-i.i _ (omega (arith, c.loop-i-test.true))
+    (g.S.Storage.held c.args.storage.now) (survey_of c.args.asked.judging) (g.F.File.Sink.state c.args.survey.now) (g.E.Sink.state c.args.errors.now)
+    (g.F.File.Sink.state c.loop-i.survey) (g.E.Sink.state c.loop-i.errors) (g.F.File.Sink.state c.add_path.new.survey) (g.E.Sink.state c.add_path.new.errors)
+    c.loop-i.gathered.tally _ c.loop-i.invariant.told c.in_err-tally.ensures.stopped in
+    rw (p.1, p.2) at
 
 pub loop-i-preserved : goal.loop-i-preserved
 loop-i-preserved g c =

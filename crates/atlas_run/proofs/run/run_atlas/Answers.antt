@@ -1,8 +1,8 @@
 use Rattle.std.proofs.Common.{◌≡◌, Err, inl, inr, map, ap, ◌∙◌, refl, rules, subst}
 use Rattle.lens_run.specs.Files.{RefusesRead}
 use Rattle.lens_run.specs.Job.{job_paths, list_held}
-use Rattle.lens_run.proofs.JobLemmas.{front_written}
-use Rattle.atlas_run.specs.Atlas.{StopsAtlas, asked_of}
+use Rattle.atlas_run.specs.Atlas.{StopsAtlas, asked_of, survey_of}
+use Rattle.atlas_run.specs.Until.{TellsUntil}
 use Rattle.atlas_run.proofs.run.run_atlas.Goals as goal
 
 pub returns-in-Err-Refused : goal.returns-in-Err-Refused
@@ -10,18 +10,16 @@ returns-in-Err-Refused g c =
     let why = subst (RefusesRead (list_held (g.S.Storage.held c.args.storage.now) (g.I.Read.remaining c.args.reader) c.args.job.now.job))
     c.in-Err-Refused.field-0-is c.in-Err-Refused.ensures.refused in
     let wrote = rw c.in-Err-Refused.refusal-is at c.write_refusal.ensures in
-    let told = front_written (g.E.Sink.state c.args.errors.now) (g.E.Sink.state c.write_refusal.new.errors) _ c.write_refusal.result wrote in
-    let named = rw c.list_name.ensures at told in
-    inr (inl (record { refusal = c.in-Err-Refused.refusal; why = why; told = named; untouched = refl; ended = refl }))
+    let named = rw c.list_name.ensures at wrote in
+    inr (inl (record { refusal = c.in-Err-Refused.refusal; why = why; told = (c.write_refusal.result, named); untouched = refl; ended = refl }))
 
 pub returns-in-Err : goal.returns-in-Err
 returns-in-Err g c =
-    let told = front_written (g.E.Sink.state c.args.errors.now) (g.E.Sink.state c.write_folder_line.new.errors) _ c.write_folder_line.result c.write_folder_line.ensures in
-    let named = rw c.text.ensures at told in
+    let named = rw c.text.ensures at c.write_folder_line.ensures in
     inr (inr (record {
       list = c.in-Ok.list.items;
       holds = c.in-Ok.ensures.held;
-      runs = inr (inr (record { refusal = c.in-Err.refusal; told = named; untouched = c.make.ensures; ended = refl }));
+      runs = inr (inr (record { refusal = c.in-Err.refusal; told = (c.write_folder_line.result, named); untouched = c.make.ensures; ended = refl }));
     }))
 
 pub returns : goal.returns
@@ -32,6 +30,10 @@ returns g c =
     (g.E.Sink.state c.args.errors.now) (g.E.Sink.state c.write_atlas.new.errors)) same c.in-Err-write_atlas.ensures.some in
     let stops = subst (λ files. StopsAtlas (g.S.Storage.held c.args.storage.now) (asked_of c.args.job.now) (job_paths c.args.job.now.job c.in-Ok.list.items) files (g.F.Folder.kept c.write_atlas.new.folder)
     (g.E.Sink.state c.args.errors.now) (g.E.Sink.state c.write_atlas.new.errors)) c.make.ensures told in
+    let until = subst (λ paths. TellsUntil (g.S.Storage.held c.args.storage.now) (survey_of c.args.job.now.job.asked.judging) paths (g.F.Folder.kept c.make.new.self)
+    (g.E.Sink.state c.args.errors.now) (g.E.Sink.state c.write_atlas.new.errors) c.in-Err-write_atlas.fault) same c.in-Err-write_atlas.ensures.told in
+    let files = subst (λ files. TellsUntil (g.S.Storage.held c.args.storage.now) (survey_of c.args.job.now.job.asked.judging) (job_paths c.args.job.now.job c.in-Ok.list.items) files
+    (g.E.Sink.state c.args.errors.now) (g.E.Sink.state c.write_atlas.new.errors) c.in-Err-write_atlas.fault) c.make.ensures until in
     inr (inr (record {
       list = c.in-Ok.list.items;
       holds = c.in-Ok.ensures.held;
@@ -39,6 +41,7 @@ returns g c =
         between = g.E.Sink.state c.write_atlas.new.errors;
         stops = stops;
         fault = c.in-Err-write_atlas.fault;
+        files = files;
         told = c.tell_fault.ensures.told;
         ended = ap Err c.tell_fault.ensures.end;
       }));

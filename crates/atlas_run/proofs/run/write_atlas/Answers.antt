@@ -1,4 +1,4 @@
-use Rattle.std.proofs.Common.{inl, map, sym}
+use Rattle.std.proofs.Common.{inl, inr, map, refl, sym}
 use Rattle.std.proofs.lemmas.List.{length-map}
 use Rattle.std.proofs.lemmas.Result.{err_from_is_err_and}
 use Rattle.atlas_run.proofs.AtlasLemmas.{atlas_written, none_gathered, pictures_alone}
@@ -27,3 +27,27 @@ returns-in_ok-write_index-in-Ok-clause-all g c =
     (g.F.File.Sink.state c.in_ok-survey.survey) (g.F.File.Sink.state c.gather-gathered.new.survey) (g.E.Sink.state c.args.errors.now) (g.E.Sink.state c.gather-gathered.new.errors)
     c.in-Ok.gathered.tally c.in_ok-survey.ensures.begun c.in-Ok.ensures.told (g.F.Folder.kept c.keep.new.self) c.in_ok-keep-in-Ok.field-0 c.in_ok-keep-in-Ok.ensures
     _ (g.F.Folder.kept c.write_index.new.folder) (sym (length-map c.args.paths.now (λ path. path.now))) c.in_ok-write_index-in-Ok.ensures.written
+
+pub returns-in_err-survey-clause-told : goal.returns-in_err-survey-clause-told
+returns-in_err-survey-clause-told g c =
+    let p = err_from_is_err_and c.from_residual.result c.from_residual.ensures.1 in
+    rw p.1 (inl refl)
+
+pub returns-in_err-keep-in-Ok-clause-told : goal.returns-in_err-keep-in-Ok-clause-told
+returns-in_err-keep-in-Ok-clause-told g c =
+    let p = err_from_is_err_and c.from_residual-in_err-keep-in-Ok.result c.from_residual-in_err-keep-in-Ok.ensures.1 in
+    rw p.1 (inr (inr (record {
+      before = g.F.File.Sink.state c.in_ok-survey.survey;
+      begun = c.in_ok-survey.ensures.begun;
+      after = g.F.File.Sink.state c.gather-gathered.new.survey;
+      tally = c.in-Ok.gathered.tally;
+      told = c.in-Ok.ensures.told;
+    })))
+
+pub returns-in-Err-clause-told : goal.returns-in-Err-clause-told
+returns-in-Err-clause-told g c = inr (inl (record {
+  before = g.F.File.Sink.state c.in_ok-survey.survey;
+  begun = c.in_ok-survey.ensures.begun;
+  after = g.F.File.Sink.state c.gather-gathered.new.survey;
+  stops = c.in-Err.ensures.stopped;
+}))

@@ -1,0 +1,77 @@
+-- How far files were told where an atlas isn't whole (ours).
+use Rattle.std.specs.Prelude.{◌≡◌, ◌⊎◌, ℕ, List, ◌∷◌, ◌++◌, Option}
+use Rattle.le_rec.specs.Sink.{SinkState}
+use Rattle.wad_lens.specs.declared.object.Refusal.{Refusal}
+use Rattle.lens_run.specs.Run.{StopsPath, StopsRefusal, TellsPath, ToldTo}
+use Rattle.lens_run.specs.declared.tell.Asked.{Asked as LensAsked}
+use Rattle.lens_run.specs.declared.tell.Stop.{Stop}
+use Rattle.lens_run.specs.declared.tell.Stop.TheVariants as stop
+use Rattle.lens_run.specs.declared.tell.Tally.{Tally}
+use Rattle.lens_run.specs.declared.tell.Word.TheVariants.{Survey}
+use Rattle.atlas_run.specs.Folder.{IsBegun, Kept}
+use Rattle.atlas_run.specs.declared.fault.AtlasFault.{AtlasFault}
+use Rattle.atlas_run.specs.declared.fault.AtlasFault.TheVariants as fault
+
+-- why an atlas isn't whole where telling its files stopped
+abbrev pub stop_fault : Stop → AtlasFault
+stop_fault stop.Memory = fault.Memory
+stop_fault (stop.Output found) = fault.Write
+stop_fault stop.Errors = fault.Errors
+
+-- telling the file under a path stopped
+pub record StopsWithin (held : Option (List ℕ)) (asked : LensAsked) (path : List ℕ) (out out' errors errors' : SinkState) (why : AtlasFault) : Type 0 where
+  pub stop : Stop
+  pub stops : StopsPath held asked path out out' errors errors' stop
+  pub is : why ≡ stop_fault stop
+
+-- all of it was told, and what came then failed
+pub record StopsBehind (held : Option (List ℕ)) (asked : LensAsked) (path : List ℕ) (out out' errors errors' : SinkState) : Type 0 where
+  pub tally : Tally
+  pub told : TellsPath held asked path out out' errors errors' tally
+
+-- one of the two
+abbrev pub LeavesPath : Option (List ℕ) → LensAsked → List ℕ → SinkState → SinkState → SinkState → SinkState → AtlasFault → Type 0
+LeavesPath held asked path out out' errors errors' why =
+    StopsBehind held asked path out out' errors errors' ⊎ StopsWithin held asked path out out' errors errors' why
+
+-- telling that a file is refused stopped
+pub record StopsRefused (path : List ℕ) (refusal : Refusal) (out out' errors errors' : SinkState) (why : AtlasFault) : Type 0 where
+  pub stop : Stop
+  pub stops : StopsRefusal Survey path refusal out out' errors errors' stop
+  pub is : why ≡ stop_fault stop
+
+-- or there was no memory
+abbrev pub LeavesRefused : List ℕ → Refusal → SinkState → SinkState → SinkState → SinkState → AtlasFault → Type 0
+LeavesRefused path refusal out out' errors errors' why = (why ≡ fault.Memory) ⊎ StopsRefused path refusal out out' errors errors' why
+
+-- the files before one were told, and that one as far as the run came
+pub record StopsAtFile (held : List ℕ → Option (List ℕ)) (asked : LensAsked) (paths : List (List ℕ)) (out errors out' errors' : SinkState) (why : AtlasFault) : Type 0 where
+  pub before : List (List ℕ)
+  pub path : List ℕ
+  pub after : List (List ℕ)
+  pub stands : paths ≡ before ++ path ∷ after
+  pub out_before : SinkState
+  pub errors_before : SinkState
+  pub tally : Tally
+  pub told : ToldTo held asked out errors before out_before errors_before tally
+  pub left : LeavesPath (held path) asked path out_before out' errors_before errors' why
+
+-- so far were files told into a survey that was begun
+pub record SurveysSome (held : List ℕ → Option (List ℕ)) (asked : LensAsked) (paths : List (List ℕ)) (files : Option (List Kept)) (errors errors' : SinkState) (why : AtlasFault) : Type 0 where
+  pub before : SinkState
+  pub begun : IsBegun files before
+  pub after : SinkState
+  pub stops : StopsAtFile held asked paths before errors after errors' why
+
+-- and so were all of them
+pub record SurveysAll (held : List ℕ → Option (List ℕ)) (asked : LensAsked) (paths : List (List ℕ)) (files : Option (List Kept)) (errors errors' : SinkState) : Type 0 where
+  pub before : SinkState
+  pub begun : IsBegun files before
+  pub after : SinkState
+  pub tally : Tally
+  pub told : ToldTo held asked before errors paths after errors' tally
+
+-- what standard error was told of the files: nothing where no survey was begun
+abbrev pub TellsUntil : (List ℕ → Option (List ℕ)) → LensAsked → List (List ℕ) → Option (List Kept) → SinkState → SinkState → AtlasFault → Type 0
+TellsUntil held asked paths files errors errors' why =
+    (errors' ≡ errors) ⊎ SurveysSome held asked paths files errors errors' why ⊎ SurveysAll held asked paths files errors errors'

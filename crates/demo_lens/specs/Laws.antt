@@ -1,4 +1,4 @@
--- Laws over the definitions alone.
+-- Laws over the definitions alone (ours).
 use Rattle.std.specs.Prelude.{◌≡◌, ◌<◌, ◌^◌, ℕ, All, List, [], ◌++◌, Option}
 use Rattle.demo_lens.specs.Assembly.{IsAssembled, IsListingOf}
 use Rattle.demo_lens.specs.Differences.{AreSame, Differs}

@@ -1,5 +1,4 @@
--- The commands of a demo (ticcmd_t of d_ticcmd.h; G_ReadDemoTiccmd and
--- G_WriteDemoTiccmd of g_game.c).
+-- The commands of a demo (ticcmd_t of d_ticcmd.h; G_ReadDemoTiccmd and G_WriteDemoTiccmd of g_game.c).
 use Rattle.std.specs.Prelude.{◌≡◌, ◌≢◌, ℕ, ℤ, pos, ◌-ℤ◌, ◌==◌, if◌then◌else◌, nat_lt, List, length, slice_index}
 use Rattle.le_rec.specs.Number.{unsigned16_at}
 use Rattle.demo_lump.specs.declared.command.Command.{Command}

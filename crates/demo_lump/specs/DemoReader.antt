@@ -1,4 +1,4 @@
--- What contracts see of a `DemoReader`, and what its calls do.
+-- What contracts see of a `DemoReader`, and what its calls do (ours).
 use Rattle.std.specs.Prelude.{◌≡◌, ℕ, Bool, true, Option, Some, None, Result, Ok, Err, MatchResult}
 use Rattle.le_rec.specs.Source.{SourceState}
 use Rattle.demo_lump.specs.NextPiece.{header_piece, next_piece}

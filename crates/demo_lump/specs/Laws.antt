@@ -1,4 +1,4 @@
--- Laws over the definitions alone.
+-- Laws over the definitions alone (ours).
 use Rattle.std.specs.Prelude.{◌≡◌, ◌≢◌, ◌↔◌, ◌⊎◌, ℕ, ◌+◌, ◌<◌, ◌≤◌, List, [], ◌∷◌, ◌++◌, length, slice_index}
 use Rattle.demo_lump.specs.Pieces.{AreJoined}
 use Rattle.demo_lump.specs.Header.{IsHeader, RefusesHeader, header_of, players_in}

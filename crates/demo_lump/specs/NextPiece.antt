@@ -1,4 +1,4 @@
--- The pieces of a demo, one after another: the header, the commands and the marker.
+-- The pieces of a demo, one after another: the header, the commands and the marker (ours).
 use Rattle.std.specs.Prelude.{◌≡◌, ◌≢◌, ℕ, ◌+◌, ◌<◌, ◌≤◌, Option, Some, None, List, [], ◌∷◌, ◌++◌, length, slice_index}
 use Rattle.demo_lump.specs.Pieces.{NoneBegins}
 use Rattle.demo_lump.specs.Header.{IsHeader, IsVersion, RefusesHeader}

@@ -1,4 +1,4 @@
--- What bytes begin with, and what they are joined from.
+-- What bytes begin with, and what they are joined from (ours).
 use Rattle.std.specs.Prelude.{◌≡◌, ℕ, List, [], ◌∷◌, ◌++◌}
 
 -- no front of the bytes is such a piece

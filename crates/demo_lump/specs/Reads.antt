@@ -1,4 +1,4 @@
--- What reading a piece of a demo from a source does.
+-- What reading a piece of a demo from a source does (ours).
 use Rattle.std.specs.Prelude.{◌≡◌, ℕ, ◌+◌, ◌-◌, ◌≤◌, Bool, true, false, List, length, take, Result, OnOk, OnErr, IfOk, IfErr, IfSome}
 use Rattle.std.specs.Io.KnownBytes.{Consumes}
 use Rattle.le_rec.specs.Source.{SourceState}

@@ -1,4 +1,4 @@
--- Commands at the front of bytes, by their number.
+-- Commands at the front of bytes, by their number (ours).
 use Rattle.std.specs.Prelude.{◌≡◌, ℕ, zero, suc, List, [], ◌∷◌, ◌++◌, length, take, drop}
 use Rattle.demo_lump.specs.Pieces.{NoneBegins}
 use Rattle.demo_lump.specs.Command.{IsCommand, command_of, command_size}

@@ -1,5 +1,4 @@
--- What taking bytes from a source does, up to a limit: `taken` were taken
--- before, and `taken'` are now.
+-- What taking bytes from a source does, up to a limit (ours): `taken` were taken before, and `taken'` are now.
 use Rattle.std.specs.Prelude.{◌≡◌, ℕ, ◌+◌, ◌<◌, ◌≤◌, Bool, true, false, Option, Some, None, List, [], ◌∷◌, length, Result, OnOk, IfOk, IfErr}
 use Rattle.std.specs.Io.KnownBytes.{Consumes, IsAtEnd}
 use Rattle.le_rec.specs.Source.{SourceState}

@@ -1,4 +1,4 @@
--- What a demo can hold.
+-- What a demo can hold (ours).
 use Rattle.std.specs.Prelude.{◌≢◌, ℕ, ◌<◌, negsuc}
 use Rattle.demo_lump.specs.declared.command.Command.{Command}
 

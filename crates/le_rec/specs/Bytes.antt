@@ -1,4 +1,4 @@
--- Lists of bytes.
+-- Lists of bytes (ours).
 use Rattle.std.specs.Prelude.{ℕ, ◌<◌, List, slice_index}
 
 -- each is below 256

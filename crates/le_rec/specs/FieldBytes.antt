@@ -1,4 +1,4 @@
--- Magics, names and boxes in a record's bytes.
+-- Magics, names and boxes in a record's bytes (ours).
 use Rattle.std.specs.Prelude.{ℕ, ◌+◌, ℤ, pos, List, [], ◌∷◌, ◌++◌, slice_index, slice_index_or}
 use Rattle.le_rec.specs.Number.{signed16_at, signed_bytes16}
 

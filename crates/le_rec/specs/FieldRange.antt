@@ -1,4 +1,4 @@
--- The values that fields can hold.
+-- The values that fields can hold (ours).
 use Rattle.std.specs.Prelude.{◌≡◌, ℕ, ℤ, List, length, FitsSigned}
 use Rattle.std.specs.Int.{w16, w32}
 use Rattle.std.specs.List.{All}

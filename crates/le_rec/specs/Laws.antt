@@ -1,4 +1,4 @@
--- Laws of records, of a layout and its number of bytes.
+-- Laws of records, of a layout and its number of bytes (ours).
 use Rattle.std.specs.Prelude.{◌≡◌, ℕ, ◌*◌, ◌/◌, List, length, take}
 use Rattle.std.specs.List.{flat_map}
 use Rattle.le_rec.specs.Bytes.{AreBytes}

@@ -1,5 +1,4 @@
--- A record of a fixed number of bytes, as a list of fields: each stands
--- where the one before it ends.
+-- A record of a fixed number of bytes, as a list of fields (ours): each stands where the one before it ends.
 use Rattle.std.specs.Prelude.{◌≡◌, ℕ, ◌+◌, ◌<◌, ℤ, List, [], ◌∷◌, ◌++◌}
 use Rattle.le_rec.specs.Number.{unsigned16_at, signed16_at, signed32_at, magic_at, name_at, bytes16, signed_bytes16, signed_bytes32}
 use Rattle.le_rec.specs.FieldBytes.{box_at, box_bytes, magic_bytes, name_bytes}

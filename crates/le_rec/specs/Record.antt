@@ -1,5 +1,4 @@
--- The records of a WAD file and of a level's lumps: each field is the number or the name at its
--- offset (Unofficial Doom Specs 1.666; filelump_t of w_wad.h, doomdata.h).
+-- The records of WAD files and levels, each field at its offset (Unofficial Doom Specs 1.666; filelump_t of w_wad.h, doomdata.h).
 use Rattle.std.specs.Prelude.{ℕ, List, [], ◌∷◌}
 use Rattle.std.proofs.Common.{refl}
 use Rattle.le_rec.specs.Number.{unsigned16_at, signed16_at, signed32_at, name_at}

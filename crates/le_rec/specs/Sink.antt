@@ -1,4 +1,4 @@
--- What clauses see of a sink, and what a put does to it.
+-- What clauses see of a sink, and what a put does to it (ours).
 use Rattle.std.specs.Prelude.{◌≡◌, Bool, ◌||◌, ℕ, ◌<◌, List, length, Option, Result, IfOk, is_err}
 use Rattle.std.specs.Io.KnownBytes.{WriteAppends}
 use Rattle.le_rec.specs.declared.to_write.ToWrite.{ToWrite}

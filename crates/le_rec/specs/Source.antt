@@ -1,4 +1,4 @@
--- What clauses see of a source, and what a pull does to it.
+-- What clauses see of a source, and what a pull does to it (ours).
 use Rattle.std.specs.Prelude.{◌≡◌, Bool, ◌||◌, ℕ, List, Option, Result, is_err}
 use Rattle.std.specs.Io.KnownBytes.{ReadConsumes}
 use Rattle.le_rec.specs.declared.from_read.FromRead.{FromRead}

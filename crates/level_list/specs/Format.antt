@@ -1,4 +1,4 @@
--- The format of a level that starts at an entry: the first that holds of six.
+-- The format of a level that starts at an entry: the first that holds of six (their order: ours).
 use Rattle.std.specs.Prelude.{◌≡◌, ℕ, ◌+◌, ◌-◌, ◌<◌, ◌≤◌, List, [], ◌∷◌, ◌++◌, Option, Some, None, take, codes, nat_eq, if◌then◌else◌}
 use Rattle.std.specs.List.{slice_get, starts_with}
 use Rattle.std.specs.Option.{option_or}
@@ -15,7 +15,7 @@ use Rattle.level_list.specs.declared.format.Format.TheVariants.{Udmf, Incomplete
 abbrev pub IsUdmf : List Wad → ℕ → Type 0
 IsUdmf files g = IsNamed (names files) (g + 1) (codes "TEXTMAP")
 
--- the entry of place k, from 1 to 10, is there and has the place's usual name
+-- the entry of place k, from 1 to 10, is there and has the place's usual name (doomdata.h)
 abbrev pub IsUsual : List Wad → ℕ → ℕ → Type 0
 IsUsual files g k = slice_get (names files) (g + k) ≡ slice_get usual_names (k - 1)
 

@@ -1,4 +1,4 @@
--- Laws of starts and formats.
+-- Laws of starts and formats (ours).
 use Rattle.std.specs.Prelude.{◌≡◌, ℕ, List}
 use Rattle.wad_dir.specs.Wad.{Wad}
 use Rattle.map_level.specs.Opening.{RefusesLevelAt}

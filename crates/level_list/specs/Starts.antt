@@ -1,5 +1,4 @@
--- Where levels start in a list of entries, by their names (Unofficial Doom Specs 1.666, chapter 4:
--- THINGS follows a level's label; TEXTMAP of the UDMF specification).
+-- Where levels start, by names (Unofficial Doom Specs 1.666, chapter 4: THINGS follows a label; TEXTMAP of the UDMF specification).
 use Rattle.std.specs.Prelude.{◌≡◌, ℕ, ◌+◌, ◌<◌, ◌≤◌, ◌⊎◌, List, Some, codes}
 use Rattle.std.specs.List.{slice_get}
 

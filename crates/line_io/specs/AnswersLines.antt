@@ -1,4 +1,4 @@
--- What an engine of lines does between the input that it reads and the output that it writes.
+-- What an engine of lines does between the input that it reads and the output that it writes (ours).
 use Rattle.std.specs.Prelude.{◌≡◌, ℕ, ◌+◌, ◌<◌, ◌≤◌, Bool, true, false, List, [], ◌++◌, length, take, Result, IfSome, OnOk, OnErr, IfErr}
 use Rattle.std.specs.Io.KnownBytes.{Appends, Consumes, IsAtEnd}
 use Rattle.le_rec.specs.Sink.{SinkState}

@@ -1,5 +1,4 @@
--- Decimal text, as numbers are printed: `decimal n` of a natural number,
--- `signed_decimal z` of a whole number.
+-- Decimal text, as numbers are printed (ours): `decimal n` of a natural number, `signed_decimal z` of a whole number.
 use Rattle.std.specs.Prelude.{◌≡◌, ℕ, ◌<◌, List, length, All, slice_index}
 use Rattle.line_io.specs.Numbers.{IsDigit, value_of}
 

@@ -1,4 +1,4 @@
--- The laws of this crate's definitions.
+-- The laws of this crate's definitions (ours).
 use Rattle.std.specs.Prelude.{◌≡◌, Some, ◌^◌, ◌<◌, ◌↔◌, ℕ, ℤ, List, take}
 use Rattle.std.specs.Fmt.{decimal, signed_decimal}
 use Rattle.std.specs.Int.{w64}

@@ -1,5 +1,4 @@
--- The numbers of an input line (a form of this project's own): which bytes are a number, what it
--- stands for, and which are a list of numbers.
+-- The numbers of an input line (ours): which bytes are a number, what it stands for, and which are a list of numbers.
 use Rattle.std.specs.Prelude.{◌≡◌, ℕ, ◌+◌, ◌-◌, ◌*◌, ◌^◌, ◌<◌, ◌≤◌, ℤ, pos, negsuc, neg_ℤ, min, Bool, true, false, List, [], ◌∷◌, ◌++◌, length, All, map, Option, Some, None, option_map, if◌then◌else◌, ◌==◌, ◌&&◌, nat_lt, nat_le}
 use Rattle.std.specs.Fmt.{signed_decimal}
 use Rattle.std.specs.List.{AllZip, join_with_byte, list_all, slice_split}

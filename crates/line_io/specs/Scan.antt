@@ -1,4 +1,4 @@
--- What the steps of reading a line find: a number that bytes begin with.
+-- What the steps of reading a line find (ours): a number that bytes begin with.
 use Rattle.std.specs.Prelude.{◌≡◌, ℕ, ℤ, Bool, true, false, List, [], ◌∷◌, ◌++◌, IsTrue}
 use Rattle.std.specs.Fmt.{signed_decimal}
 use Rattle.line_io.specs.Numbers.{IsDigit, IsNumber, nearest}

@@ -1,4 +1,4 @@
--- All findings of a level.
+-- All findings of a level (ours).
 use Rattle.std.specs.Prelude.{ℕ, ◌⊎◌}
 use Rattle.map_level.specs.Level.{Level}
 use Rattle.map_level.specs.LinkFaults.{LinkHolds}

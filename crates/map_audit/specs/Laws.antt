@@ -1,3 +1,4 @@
+-- Laws of audits (ours).
 use Rattle.std.specs.Prelude.{◌≡◌, ◌≢◌, ◌↔◌, ℕ, List, Some, IsTrue}
 use Rattle.std.specs.List.{slice_get}
 use Rattle.wad_dir.specs.Wad.{Wad}

@@ -1,4 +1,4 @@
--- What a level that is sound under one reading has under the other.
+-- What a level that is sound under one reading has under the other (ours).
 use Rattle.std.specs.Prelude.{◌≡◌, ℕ, List, All}
 use Rattle.le_rec.specs.Bytes.{AreBytes}
 use Rattle.wad_dir.specs.Wad.{Wad}

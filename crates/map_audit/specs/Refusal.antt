@@ -1,4 +1,4 @@
--- Why a level isn't accepted.
+-- Why a level isn't accepted (ours).
 use Rattle.map_level.specs.Level.{Level}
 use Rattle.map_level.specs.Findings.{AreFindings}
 use Rattle.map_tree.specs.Sound.{IsSound}

@@ -1,4 +1,4 @@
--- Blocks of cells that show one sector, by what the cell in each column and row shows.
+-- Blocks of cells that show one sector, by what the cell in each column and row shows (ours).
 use Rattle.std.specs.Prelude.{◌≡◌, ◌≢◌, ℕ, ◌+◌, ◌-◌, ◌<◌, ◌≤◌, Option, Some}
 use Rattle.map_cells.specs.declared.block.Block.{Block}
 

@@ -1,4 +1,4 @@
--- Which sector each cell of a picture shows.
+-- Which sector each cell of a picture shows (ours).
 use Rattle.std.specs.Prelude.{◌≡◌, ◌↔◌, ℕ, ◌+◌, ◌*◌, ◌<◌, ◌≤◌, ◌++◌, List, length, Option, Some, None, option_and_then, nat_lt, if◌then◌else◌}
 use Rattle.std.specs.List.{slice_get}
 use Rattle.map_level.specs.Level.{Level}

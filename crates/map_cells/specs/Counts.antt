@@ -1,4 +1,4 @@
--- How many cells show each sector.
+-- How many cells show each sector (ours).
 use Rattle.std.specs.Prelude.{◌≡◌, ◌==◌, ℕ, Bool, false, List, Option, Some, None, count_by, slice_index_or}
 use Rattle.map_cells.specs.Cells.{Cells}
 

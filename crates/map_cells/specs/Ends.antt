@@ -1,4 +1,4 @@
--- Where the linedefs and segs of a level start and end.
+-- Where the linedefs and segs of a level start and end (maplinedef_t and mapseg_t of doomdata.h).
 use Rattle.std.specs.Prelude.{◌≡◌, ℕ, ℤ, ◌⊎◌, Option, Some, IsSomeAnd}
 use Rattle.std.specs.List.{slice_get}
 use Rattle.le_rec.specs.declared.records.Vertex.{Vertex}

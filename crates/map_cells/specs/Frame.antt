@@ -1,4 +1,4 @@
--- The part of a map that is drawn.
+-- The part of a map that is drawn (ours).
 use Rattle.std.specs.Prelude.{◌≡◌, ℤ, ◌≤ℤ◌, Option, Some, None}
 use Rattle.std.specs.Int.{int_min, int_max}
 use Rattle.le_rec.specs.declared.records.Vertex.{Vertex}

@@ -1,4 +1,4 @@
--- The cells of a picture.
+-- The cells of a picture (ours).
 use Rattle.std.specs.Prelude.{ℕ, ◌+◌, ◌*◌, ◌/◌, ◌≤◌, ℤ, pos, ◌+ℤ◌, ◌-ℤ◌, max, unsigned_abs}
 use Rattle.map_cells.specs.Frame.{Frame}
 

@@ -1,4 +1,4 @@
--- The blocks of each sector.
+-- The blocks of each sector (ours).
 use Rattle.std.specs.Prelude.{◌≡◌, ◌↔◌, ◌⊎◌, ℕ, ◌<◌, ◌++◌, List, [], ◌∷◌, length, set, slice_index_or, Option, Some}
 use Rattle.std.specs.List.{AllPairs, Contains}
 use Rattle.map_cells.specs.declared.block.Block.{Block}

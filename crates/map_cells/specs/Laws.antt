@@ -1,4 +1,4 @@
--- Laws of what a picture shows.
+-- Laws of what a picture shows (ours).
 use Rattle.std.specs.Prelude.{◌≡◌, ℕ, ℤ, Some}
 use Rattle.map_level.specs.Level.{Level}
 use Rattle.map_tree.specs.Sound.{IsSound}

@@ -1,5 +1,4 @@
--- Which sector is shown at a point: that of its leaf, but not behind the leaf's segs. The region that the nodes leave to an
--- ssector goes on behind its one-sided walls, and its segs cut that away.
+-- Which sector is shown at a point (ours): that of its leaf, but not behind the leaf's segs, which cut the void away.
 use Rattle.std.specs.Prelude.{◌≡◌, ℕ, ℤ, pos, ◌+ℤ◌, ◌-ℤ◌, ◌*ℤ◌, ◌≤ℤ◌, ◌<ℤ◌, Some, IsSomeAnd}
 use Rattle.std.specs.List.{slice_get}
 use Rattle.map_geo.specs.Point.{Point, IsInRange, point_at}

@@ -1,4 +1,4 @@
--- W2: parts of walls that can be seen and have no texture.
+-- W2: parts of walls that can be seen and have no texture (R_StoreWallRange of r_segs.c).
 use Rattle.std.specs.Prelude.{◌≡◌, ℕ, ◌<ℤ◌, List, codes, Option, IsNone, IsSomeAnd}
 use Rattle.std.specs.List.{slice_get}
 use Rattle.le_rec.specs.Name.{name_of}
@@ -13,11 +13,11 @@ use Rattle.map_checks.specs.declared.warning.Side.TheVariants.{Front, Back}
 use Rattle.map_checks.specs.declared.warning.Part.{Part}
 use Rattle.map_checks.specs.declared.warning.Part.TheVariants.{Middle, Upper, Lower}
 
--- a texture's eight bytes say that there is none: up to the first NUL they are the one byte `-`
+-- a texture's eight bytes say that there is none: up to the first NUL they are `-` (R_CheckTextureNumForName of r_data.c)
 abbrev pub IsNoTexture : List ℕ → Type 0
 IsNoTexture bytes = name_of bytes ≡ codes "-"
 
--- a flat's eight bytes are the sky's, which is drawn without walls
+-- a flat's eight bytes are the sky's, which is drawn without walls (SKYFLATNAME of r_sky.h)
 abbrev pub IsSky : List ℕ → Type 0
 IsSky bytes = name_of bytes ≡ codes "F_SKY1"
 

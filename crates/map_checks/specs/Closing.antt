@@ -1,4 +1,4 @@
--- W1: sectors whose sides don't close.
+-- W1: sectors whose sides don't close (ours).
 use Rattle.std.specs.Prelude.{◌≢◌, ℕ, ℤ, ◌==◌, ◌&&◌, List, ◌++◌, length, count_by, Option, Some, option_to_list}
 use Rattle.std.specs.List.{flat_map}
 use Rattle.le_rec.specs.declared.records.LineDef.{LineDef}

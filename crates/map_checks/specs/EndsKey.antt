@@ -1,4 +1,4 @@
--- A number for the ends of a linedef, by which those at the same places are found.
+-- A number for the ends of a linedef, by which those at the same places are found (ours).
 use Rattle.std.specs.Prelude.{◌≡◌, ◌≢◌, ℕ, ◌+◌, ◌*◌, ◌^◌, ◌<◌, min, max, List, AllPairs, FitsSigned, Option, Some, MatchOption, IsSomeAnd, option_to_list}
 use Rattle.std.specs.List.{flat_map}
 use Rattle.std.specs.Option.{option_map}

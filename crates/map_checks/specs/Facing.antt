@@ -1,4 +1,4 @@
--- W5: ssectors whose segs face several sectors.
+-- W5: ssectors whose segs face several sectors (P_GroupLines of p_setup.c goes by the first seg alone).
 use Rattle.std.specs.Prelude.{◌≡◌, ◌≢◌, ℕ, ◌<◌, ◌≤◌, ℤ, pos, ◌+ℤ◌, int_lt, List, length, Option, Some, None, IsSomeAnd, slice_index_or, if◌then◌else◌}
 use Rattle.std.specs.List.{slice_get}
 use Rattle.map_level.specs.Level.{Level}

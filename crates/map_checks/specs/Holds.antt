@@ -1,4 +1,4 @@
--- Where each warning holds.
+-- Where each warning holds (ours).
 use Rattle.std.specs.Prelude.{◌≡◌}
 use Rattle.map_level.specs.Level.{Level}
 use Rattle.map_checks.specs.Warnings.{code_of}

@@ -1,4 +1,4 @@
--- Laws of warnings.
+-- Laws of warnings (ours).
 use Rattle.std.specs.Prelude.{◌≡◌, ℕ}
 use Rattle.map_level.specs.Level.{Level}
 use Rattle.map_checks.specs.Closing.{leaving, reaching}

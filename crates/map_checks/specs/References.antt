@@ -1,4 +1,4 @@
--- Levels all of whose references hold, which is what most warnings want.
+-- Levels all of whose references hold, which is what most warnings want (ours).
 use Rattle.std.specs.Prelude.{ℕ}
 use Rattle.map_level.specs.Level.{Level}
 use Rattle.map_level.specs.LinkFaults.{LinkHolds}

@@ -1,4 +1,4 @@
--- W7 and W8: where players start.
+-- W7 and W8: where players start (P_SpawnMapThing of p_mobj.c).
 use Rattle.std.specs.Prelude.{◌≡◌, ℕ, ◌<◌, ◌≤◌, ℤ, pos, count_by, IsSomeAnd}
 use Rattle.std.specs.Ordering.{int_eq}
 use Rattle.std.specs.List.{slice_get}
@@ -24,6 +24,6 @@ pub record IsWithoutStart (level : Level) (player : ℕ) : Type 0 where
 abbrev pub deathmatch_starts : Level → ℕ
 deathmatch_starts level = count_by (λ thing. int_eq thing.kind (pos 11)) (things_of level)
 
--- so many things are deathmatch starts, fewer than 4
+-- so many things are deathmatch starts, fewer than 4 (G_DeathMatchSpawnPlayer of g_game.c)
 abbrev pub AreFewStarts : Level → ℕ → Type 0
 AreFewStarts level starts = (starts ≡ deathmatch_starts level) × (starts < 4)

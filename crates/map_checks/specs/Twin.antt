@@ -1,4 +1,4 @@
--- W6: linedefs that lie on earlier ones.
+-- W6: linedefs that lie on earlier ones (ours).
 use Rattle.std.specs.Prelude.{◌≡◌, ℕ, ◌<◌, ◌⊎◌, Option, Some, IsSomeAnd}
 use Rattle.std.specs.List.{slice_get}
 use Rattle.le_rec.specs.declared.records.LineDef.{LineDef}

@@ -1,4 +1,4 @@
--- W3: things in the void.
+-- W3: things in the void (ours).
 use Rattle.std.specs.Prelude.{ℕ, ℤ, IsSomeAnd}
 use Rattle.std.specs.List.{slice_get}
 use Rattle.map_cells.specs.Shown.{IsShown}

@@ -1,4 +1,4 @@
--- Warnings, and the order in which they are told.
+-- Warnings, and the order in which they are told (ours).
 use Rattle.std.specs.Prelude.{◌≡◌, ℕ, ◌+◌, ◌-◌, ◌*◌, ◌^◌, ◌<◌, ◌↔◌, List, [], ◌∷◌, ◌++◌, length, take, min, nat_lt, if◌then◌else◌, AllPairs, Contains}
 use Rattle.map_checks.specs.declared.warning.Side.{Side}
 use Rattle.map_checks.specs.declared.warning.Side.TheVariants.{Front, Back}

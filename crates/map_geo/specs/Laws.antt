@@ -1,4 +1,4 @@
--- Laws of sides along a row, along a column and in a rectangle.
+-- Laws of sides along a row, along a column and in a rectangle (ours).
 use Rattle.std.specs.Prelude.{ℤ, ◌≤ℤ◌, ◌≡◌}
 use Rattle.map_geo.specs.declared.sides.Side.{Side}
 use Rattle.map_geo.specs.Point.{point_at}

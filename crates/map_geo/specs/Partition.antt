@@ -1,4 +1,4 @@
--- Partitions.
+-- Partitions (node_t of r_defs.h).
 use Rattle.std.specs.Prelude.{ℤ, ◌≤◌, unsigned_abs}
 use Rattle.le_rec.specs.declared.records.Node.{Node}
 

@@ -1,4 +1,4 @@
--- Points and their range.
+-- Points and their range (R_PointOnSide of r_main.c).
 use Rattle.std.specs.Prelude.{ℤ, pos, neg_ℤ, ◌≤ℤ◌}
 
 -- a point of the map, in whole map units

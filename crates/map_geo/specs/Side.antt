@@ -1,4 +1,4 @@
--- The side of a partition on which a point lies.
+-- The side of a partition on which a point lies (R_PointOnSide of r_main.c).
 use Rattle.std.specs.Prelude.{ℤ, pos, ◌-ℤ◌, ◌*ℤ◌, Bool, true, ◌&&◌}
 use Rattle.std.specs.Ordering.{int_cmp, int_eq}
 use Rattle.std.specs.declared.cmp.Ordering.{Ordering}

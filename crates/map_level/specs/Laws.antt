@@ -1,4 +1,4 @@
--- Laws of levels and of findings.
+-- Laws of levels and of findings (ours).
 use Rattle.std.specs.Prelude.{◌≡◌, ℕ, List}
 use Rattle.wad_dir.specs.Wad.{Wad}
 use Rattle.map_level.specs.Level.{Level}

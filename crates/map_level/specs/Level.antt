@@ -1,4 +1,4 @@
--- A level as contracts see it.
+-- A level as contracts see it (P_SetupLevel of p_setup.c).
 use Rattle.std.specs.Prelude.{ℕ, ◌-◌, ◌<◌, ◌^◌, List, [], length, slice_index_or, All}
 use Rattle.le_rec.specs.Record.{thing, linedef, sidedef, vertex, seg, ssector, node, sector}
 use Rattle.le_rec.specs.Table.{Rows, rows_of}

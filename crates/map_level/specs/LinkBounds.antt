@@ -1,4 +1,4 @@
--- Records at which some code of their table holds, for the tables that have several codes.
+-- Records at which some code of their table holds, for the tables that have several codes (ours).
 use Rattle.std.specs.Prelude.{ℕ, ◌<◌, ◌⊎◌}
 use Rattle.map_level.specs.Level.{Level}
 use Rattle.map_level.specs.LinkFaults.{LinedefVertexNamesNone, LinedefSideNamesNone, SegVertexNamesNone, SegLinedefNamesNone, SegSideOther, SegWithoutSide, SsectorOutOfRange, TwoSidedWithoutSide, NoSide0, LinedefOfNoLength, SsectorWithoutSegs}

@@ -1,5 +1,4 @@
--- Faults and notes on the links of a level, each at an index (P_SetupLevel of p_setup.c
--- follows links without a test).
+-- Faults and notes on the links of a level, each at an index (P_SetupLevel of p_setup.c follows links without a test).
 use Rattle.std.specs.Prelude.{◌≡◌, ◌≢◌, ℕ, ◌<◌, ◌≤◌, ◌-◌, ◌+ℤ◌, ◌<ℤ◌, ◌⊎◌, ℤ, pos, negsuc, List, [], ◌∷◌, length, codes, Option, Some, IsSomeAnd}
 use Rattle.std.specs.Int.{w16, int_bit_and}
 use Rattle.std.specs.List.{slice_get}

@@ -1,4 +1,4 @@
--- The records of a level under its reading, and what their indexes name.
+-- The records of a level under its reading, and what their indexes name (P_LoadLineDefs and P_LoadSegs of p_setup.c).
 use Rattle.std.specs.Prelude.{ℕ, ◌<◌, ℤ, pos, negsuc, List, length, map, Option, Some, None, option_and_then, if◌then◌else◌}
 use Rattle.std.specs.Ordering.{int_eq}
 use Rattle.std.specs.List.{slice_get}

@@ -1,4 +1,4 @@
--- How a level's indexes are read.
+-- How a level's indexes are read (signed: P_SetupLevel's loads of p_setup.c; wide: the extended limits of later ports).
 use Rattle.std.specs.Prelude.{ℤ, pos, ◌+ℤ◌, int_lt, if◌then◌else◌}
 use Rattle.le_rec.specs.declared.records.LineDef.{LineDef}
 use Rattle.le_rec.specs.declared.records.SideDef.{SideDef}

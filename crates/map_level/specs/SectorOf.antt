@@ -1,5 +1,4 @@
--- The sector of an ssector (P_GroupLines of p_setup.c). Follow its first seg to the linedef, take
--- the sidedef on the seg's side of it, and that sidedef's sector.
+-- The sector of an ssector (P_GroupLines of p_setup.c): that of the sidedef at its first seg's side of the seg's linedef.
 use Rattle.std.specs.Prelude.{ℕ, ◌≤◌, ℤ, pos, negsuc, length, Option, Some, None, nat_lt, if◌then◌else◌}
 use Rattle.std.specs.Ordering.{int_eq}
 use Rattle.std.specs.List.{slice_get}

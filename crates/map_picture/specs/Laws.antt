@@ -1,4 +1,4 @@
--- The laws of this crate's definitions.
+-- The laws of this crate's definitions (ours).
 use Rattle.std.specs.Prelude.{ℕ, List}
 use Rattle.map_picture.specs.Escape.{StandsFor, escaped}
 

@@ -1,4 +1,4 @@
--- The linedefs of a picture: those with two sides in one path, the others in another.
+-- The linedefs of a picture (ours): those with two sides in one path, the others in another.
 use Rattle.std.specs.Prelude.{ℕ, negsuc, Bool, true, false, not, List, [], ◌∷◌, codes, if◌then◌else◌}
 use Rattle.std.specs.Option.{option_map_or}
 use Rattle.std.specs.Ordering.{int_eq}

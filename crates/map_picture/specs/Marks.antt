@@ -1,4 +1,4 @@
--- The findings of a picture: where a linedef or a seg is at fault, with what the audit says of it.
+-- The findings of a picture (ours): where a linedef or a seg is at fault, with what the audit says of it.
 use Rattle.std.specs.Prelude.{ℕ, List, [], ◌∷◌, ◌++◌, Option, None, codes, map}
 use Rattle.std.specs.Option.{option_map_or}
 use Rattle.map_level.specs.Level.{Level}

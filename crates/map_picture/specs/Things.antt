@@ -1,4 +1,4 @@
--- The things of a picture.
+-- The things of a picture (ours).
 use Rattle.std.specs.Prelude.{ℕ, List, ◌++◌, codes}
 use Rattle.std.specs.Fmt.{decimal, signed_decimal}
 use Rattle.le_rec.specs.declared.records.Thing.{Thing}

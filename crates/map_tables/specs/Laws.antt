@@ -1,3 +1,4 @@
+-- Laws of BLOCKMAP (ours).
 use Rattle.std.specs.Prelude.{◌≡◌, ℕ, ℤ, List}
 use Rattle.map_tables.specs.Words.{Words, IsBlockList}
 

@@ -1,5 +1,4 @@
--- Notes on a level's REJECT and BLOCKMAP (P_LoadBlockMap and P_SetupLevel of
--- p_setup.c load them without a test).
+-- Notes on a level's REJECT and BLOCKMAP (P_LoadBlockMap and P_SetupLevel of p_setup.c load them without a test).
 use Rattle.std.specs.Prelude.{◌≡◌, ◌≢◌, ℕ, ◌+◌, ◌*◌, ◌/◌, ◌<◌, ◌⊎◌, length}
 use Rattle.map_level.specs.Level.{Level}
 use Rattle.map_level.specs.declared.finding.Code.{Code}

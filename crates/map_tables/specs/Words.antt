@@ -1,5 +1,4 @@
--- The words of a level's BLOCKMAP, and the lists that they hold
--- (P_BlockLinesIterator of p_maputl.c).
+-- The words of a level's BLOCKMAP, and the lists that they hold (P_BlockLinesIterator of p_maputl.c).
 use Rattle.std.specs.Prelude.{◌≡◌, ◌↔◌, ℕ, ◌+◌, ◌<◌, ◌≤◌, ℤ, pos, negsuc, List, ◌∷◌, ◌++◌, length, drop, map, Some, Contains}
 use Rattle.std.specs.List.{slice_get}
 use Rattle.le_rec.specs.Record.{word}

@@ -1,5 +1,4 @@
--- What the child words of a level's nodes name, and where a descent begins
--- (R_PointInSubsector of r_main.c).
+-- What the child words of a level's nodes name, and where a descent begins (R_PointInSubsector of r_main.c).
 use Rattle.std.specs.Prelude.{ℕ, zero, suc, ◌-◌, Bool, nat_lt, if◌then◌else◌, length, Option, Some, None, option_and_then}
 use Rattle.std.specs.Option.{option_map}
 use Rattle.std.specs.List.{slice_get}

@@ -1,4 +1,4 @@
--- What a census tells.
+-- What a census tells (ours).
 use Rattle.std.specs.Prelude.{◌≡◌, ℕ, ◌+◌, ◌*◌, ◌<◌, ◌≤◌, List}
 use Rattle.std.specs.List.{All, AllPairs, Contains, sum_by}
 use Rattle.map_geo.specs.Point.{Point}

@@ -1,4 +1,4 @@
--- How a census cuts a rectangle whose points lie on both sides of a partition.
+-- How a census cuts a rectangle whose points lie on both sides of a partition (ours).
 use Rattle.std.specs.Prelude.{◌≡◌, ◌≢◌, ℕ, suc, ℤ, pos, ◌+ℤ◌, ◌-ℤ◌, ◌≤ℤ◌, ◌<ℤ◌}
 use Rattle.map_geo.specs.declared.sides.Side.{Side}
 use Rattle.map_geo.specs.Point.{point_at}

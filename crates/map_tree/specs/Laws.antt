@@ -1,4 +1,4 @@
--- Laws of sound levels.
+-- Laws of sound levels (ours).
 use Rattle.std.specs.Prelude.{◌≡◌, ◌≢◌, ◌↔◌, ℕ, ◌+◌, ◌*◌, ◌<◌, ◌≤◌, List, length, Some}
 use Rattle.std.specs.List.{slice_get, sum_by}
 use Rattle.map_geo.specs.Point.{Point}

@@ -1,4 +1,4 @@
--- Marks on the places that are reached.
+-- Marks on the places that are reached (ours).
 use Rattle.std.specs.Prelude.{◌≡◌, ℕ, ◌+◌, ◌<◌, ◌↔◌, Bool, false, true, not, count_by, IsTrue, List, length, Option, Some, slice_index_or, Contains, ◌⊎◌}
 use Rattle.map_level.specs.Level.{Level}
 use Rattle.map_tree.specs.Paths.{Place}

@@ -1,4 +1,4 @@
--- Places of a tree of nodes, and which of them lead to which.
+-- Places of a tree of nodes, and which of them lead to which (R_PointInSubsector of r_main.c).
 use Rattle.std.specs.Prelude.{◌≡◌, ℕ, zero, suc, Option, Some}
 use Rattle.map_geo.specs.declared.sides.Side.{Side}
 

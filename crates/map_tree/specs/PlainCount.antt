@@ -1,4 +1,4 @@
--- How many points of a rectangle each sector has, point by point.
+-- How many points of a rectangle each sector has, point by point (ours).
 use Rattle.std.specs.Prelude.{◌≡◌, ℕ, zero, suc, ◌+◌, ℤ, pos, ◌+ℤ◌, ◌==◌, if◌then◌else◌, Some}
 use Rattle.map_geo.specs.Point.{Point, point_at}
 use Rattle.map_geo.specs.Rect.{Rect, columns_of, rows_of}

@@ -1,4 +1,4 @@
--- The places of a level in one row: the nodes, and then the ssectors.
+-- The places of a level in one row: the nodes, and then the ssectors (ours).
 use Rattle.std.specs.Prelude.{ℕ, ◌+◌, Option}
 use Rattle.std.specs.Option.{option_map}
 use Rattle.map_geo.specs.declared.sides.Side.{Side}

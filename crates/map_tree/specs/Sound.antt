@@ -1,4 +1,4 @@
--- Sound levels: no link fault holds, and the nodes are a tree over all nodes and ssectors.
+-- Sound levels (ours): no link fault holds, and the nodes are a tree over all nodes and ssectors.
 use Rattle.std.specs.Prelude.{◌≡◌, ◌≢◌, ℕ, ◌<◌, IsTrue, Some, IsSome, IsSomeAnd, ◌⊎◌}
 use Rattle.std.specs.List.{slice_get}
 use Rattle.map_geo.specs.declared.sides.Side.{Side}

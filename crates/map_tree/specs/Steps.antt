@@ -1,4 +1,4 @@
--- One step of a census: what becomes of the piece in hand.
+-- One step of a census: what becomes of the piece in hand (ours).
 use Rattle.std.specs.Prelude.{◌≡◌, ◌⊎◌, ℕ, ◌+◌, ◌-◌, ◌<◌, ◌≤◌, ℤ, IsSomeAnd, List, slice_index}
 use Rattle.std.specs.List.{slice_get, sum}
 use Rattle.le_rec.specs.declared.records.Node.{Node}

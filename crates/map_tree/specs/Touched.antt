@@ -1,4 +1,4 @@
--- The numbers of a census, one a sector.
+-- The numbers of a census, one a sector (ours).
 use Rattle.std.specs.Prelude.{◌≡◌, ◌≢◌, ℕ, ◌<◌, List, Some, length, slice_index}
 use Rattle.std.specs.List.{All, AllPairs, Contains}
 use Rattle.map_level.specs.Level.{Level}

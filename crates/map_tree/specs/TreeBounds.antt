@@ -1,4 +1,4 @@
--- Nodes and ssectors at which some code holds.
+-- Nodes and ssectors at which some code holds (ours).
 use Rattle.std.specs.Prelude.{ℕ, ◌<◌, ◌⊎◌}
 use Rattle.map_level.specs.Level.{Level}
 use Rattle.map_tree.specs.TreeFaults.{ChildNamesNothing, OriginOutside, NodeNamedTwice, NodeNotReached, SsectorNamedTwice, SsectorNotReached, NoDirection}

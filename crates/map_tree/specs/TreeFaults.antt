@@ -1,5 +1,4 @@
--- Faults and notes on the nodes of a level, each at an index (R_PointInSubsector of r_main.c
--- follows children without a test).
+-- Faults and notes on the nodes of a level, each at an index (R_PointInSubsector of r_main.c follows children without a test).
 use Rattle.std.specs.Prelude.{◌≡◌, ℕ, ◌<◌, pos, ◌⊎◌, Some, None, IsSomeAnd}
 use Rattle.std.specs.List.{slice_get}
 use Rattle.map_geo.specs.declared.sides.Side.{Side}

@@ -1,4 +1,4 @@
--- How often child words name each place: 0, 1, or 2 for more than once.
+-- How often child words name each place: 0, 1, or 2 for more than once (ours).
 use Rattle.std.specs.Prelude.{◌≡◌, ◌≢◌, ℕ, ◌+◌, ◌<◌, ◌↔◌, nat_lt, if◌then◌else◌, IsTrue, List, length, Option, Some, slice_index}
 use Rattle.map_level.specs.Level.{Level}
 use Rattle.map_tree.specs.Paths.{Place}

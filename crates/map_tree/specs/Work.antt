@@ -1,4 +1,4 @@
--- The tests that a census makes, and the most pieces that it has pending at once.
+-- The tests that a census makes, and the most pieces that it has pending at once (ours).
 use Rattle.std.specs.Prelude.{◌≡◌, ℕ, suc, ◌+◌, max, ℤ, Option, Some}
 use Rattle.std.specs.Option.{option_map}
 use Rattle.std.specs.List.{slice_get}

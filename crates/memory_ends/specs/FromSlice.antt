@@ -1,4 +1,4 @@
--- What a clause reads of a `FromSlice`.
+-- What a clause reads of a `FromSlice` (ours).
 use Rattle.std.specs.Prelude.{ℕ, false, Some, List}
 use Rattle.le_rec.specs.Source.{SourceState}
 use Rattle.memory_ends.specs.declared.from_slice.FromSlice.{FromSlice}

@@ -1,4 +1,4 @@
--- What a clause sees of a `ToVec`.
+-- What a clause sees of a `ToVec` (ours).
 use Rattle.std.specs.Prelude.{ℕ, Bool, Some, List}
 use Rattle.le_rec.specs.Sink.{SinkState}
 

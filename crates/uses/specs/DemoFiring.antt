@@ -1,4 +1,4 @@
--- How often the fire button is held in a demo.
+-- How often the fire button is held in a demo (ours).
 use Rattle.std.specs.Prelude.{◌≡◌, ℕ, ◌+◌, ◌%◌, ◌==◌, ◌&&◌, nat_lt, Bool, true, List, [], length, Result, IfOk, IfErr, IfSome, count_by}
 use Rattle.std.specs.Io.KnownBytes.{Consumes}
 use Rattle.le_rec.specs.Source.{SourceState}

@@ -1,4 +1,4 @@
--- How long a demo is.
+-- How long a demo is (ours).
 use Rattle.std.specs.Prelude.{◌≡◌, ℕ, ◌/◌, List, length}
 use Rattle.demo_lump.specs.Demo.{Demo, IsRead}
 use Rattle.demo_lump.specs.Header.{players_in}

@@ -1,4 +1,4 @@
--- The first fault of a level.
+-- The first fault of a level (ours).
 use Rattle.std.specs.Prelude.{◌≢◌, IsTrue}
 use Rattle.map_level.specs.Level.{Level}
 use Rattle.map_level.specs.Findings.{StandsBefore, is_fault}

@@ -1,4 +1,4 @@
--- A WAD file with one lump exchanged.
+-- A WAD file with one lump exchanged (ours).
 use Rattle.std.specs.Prelude.{◌≡◌, ◌≢◌, ℕ, ◌<◌, ◌≤◌, ◌^◌, ⊤, List, [], ◌∷◌, length, map, Some}
 use Rattle.std.specs.List.{slice_get}
 use Rattle.wad_dir.specs.Entries.{joined, names}

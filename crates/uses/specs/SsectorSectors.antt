@@ -1,4 +1,4 @@
--- The sector of each ssector.
+-- The sector of each ssector (P_GroupLines of p_setup.c).
 use Rattle.std.specs.Prelude.{◌≡◌, ℕ, List, length, Some}
 use Rattle.std.specs.List.{slice_get}
 use Rattle.map_level.specs.Level.{Level}

@@ -1,4 +1,4 @@
--- The sector in which each thing of a level stands.
+-- The sector in which each thing of a level stands (R_PointInSubsector of r_main.c).
 use Rattle.std.specs.Prelude.{◌≡◌, ℕ, List, length, Option, Some, None}
 use Rattle.std.specs.List.{slice_get}
 use Rattle.le_rec.specs.declared.records.Thing.{Thing}

@@ -1,4 +1,4 @@
--- How many records the eight tables of a level have.
+-- How many records the eight tables of a level have (ours).
 use Rattle.std.specs.Prelude.{length}
 use Rattle.map_level.specs.Level.{Level}
 use Rattle.wad_atlas.specs.declared.tables.Tables.{Tables}

@@ -1,6 +1,4 @@
--- What the bytes of a WAD file hold: a kind and a directory of entries
--- (W_AddFile of w_wad.c; Unofficial
--- Doom Specs 1.666, chapter 2).
+-- What a WAD file's bytes hold: a kind and entries (W_AddFile of w_wad.c; Unofficial Doom Specs 1.666, chapter 2).
 use Rattle.std.specs.Prelude.{◌≡◌, ℕ, ◌<◌, ◌≤◌, pos, List, [], ◌∷◌, ◌++◌, length}
 use Rattle.le_rec.specs.Record.{entry, entry_size}
 use Rattle.le_rec.specs.declared.records.Entry.{Entry}

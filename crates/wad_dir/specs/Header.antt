@@ -1,5 +1,4 @@
--- The header of a WAD file: what kind it is, how many entries its directory has, and where that
--- stands (wadinfo_t of w_wad.h; Unofficial Doom Specs 1.666, chapter 2).
+-- The header of a WAD file: kind, count and place of its directory (wadinfo_t of w_wad.h; Unofficial Doom Specs 1.666, chapter 2).
 use Rattle.std.specs.Prelude.{ℕ, List, [], ◌∷◌, take, codes}
 use Rattle.std.proofs.Common.{refl}
 use Rattle.le_rec.specs.Number.{signed32_at, magic_at}

@@ -1,4 +1,4 @@
--- Laws of directories, lookup and lumps.
+-- Laws of directories, lookup and lumps (ours).
 use Rattle.std.specs.Prelude.{◌≡◌, ℕ, List, [], ◌∷◌, map, Some}
 use Rattle.std.specs.List.{AllZip, slice_get}
 use Rattle.le_rec.specs.Name.{name_of}

@@ -1,4 +1,4 @@
--- Where an entry says that its lump lies.
+-- Where an entry says that its lump lies (filelump_t of w_wad.h).
 use Rattle.wad_dir.specs.Entries.{Listed}
 use Rattle.wad_dir.specs.declared.set.Place.{Place}
 

@@ -1,4 +1,4 @@
--- Which of the conditions of a directory fails first.
+-- Which of the conditions of a directory fails first (ours; the kind: W_AddFile of w_wad.c).
 use Rattle.std.specs.Prelude.{◌≡◌, ◌≢◌, ℕ, ◌+◌, ◌<◌, ◌≤◌, pos, ◌<ℤ◌, List, ◌∷◌, ◌++◌, length}
 use Rattle.std.specs.List.{All}
 use Rattle.le_rec.specs.declared.records.Entry.{Entry}

@@ -1,4 +1,4 @@
--- Where a stretch of bytes stands.
+-- Where a stretch of bytes stands (ours).
 use Rattle.std.specs.Prelude.{◌≡◌, ℕ, ℤ, pos, List, ◌++◌, length}
 
 -- the bytes are some bytes, as many as the place says, then the stretch, then others

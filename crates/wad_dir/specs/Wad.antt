@@ -1,4 +1,4 @@
--- A WAD file as it was read.
+-- A WAD file as it was read (W_AddFile of w_wad.c).
 use Rattle.std.specs.Prelude.{ℕ, List}
 use Rattle.le_rec.specs.declared.records.Entry.{Entry}
 use Rattle.wad_dir.specs.Directory.{IsDirectory}

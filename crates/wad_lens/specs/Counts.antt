@@ -1,4 +1,4 @@
--- How often each code holds of what findings are looked for at.
+-- How often each code holds of what findings are looked for at (ours).
 use Rattle.std.specs.Prelude.{◌≡◌, ◌↔◌, ℕ, ◌<◌, List, [], ◌∷◌, length, take, drop, sum, AllPairs, Contains, slice_index}
 use Rattle.map_level.specs.Findings.{place, code_count}
 use Rattle.map_level.specs.declared.finding.Code.{Code}

@@ -1,4 +1,4 @@
--- The laws of this crate's definitions.
+-- The laws of this crate's definitions (ours).
 use Rattle.std.specs.Prelude.{◌≡◌, ◌↔◌, ℕ, ◌<◌, ◌^◌, List, ◌∷◌, ◌++◌, ◌==◌, count_by, not, slice_index}
 use Rattle.std.specs.Str.Lossy.{utf8_lossy}
 use Rattle.json.specs.Lex.{between, lex, token}

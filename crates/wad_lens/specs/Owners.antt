@@ -1,4 +1,4 @@
--- Which linedef each sidedef belongs to, as a list.
+-- Which linedef each sidedef belongs to, as a list (ours).
 use Rattle.std.specs.Prelude.{◌≡◌, ℕ, ℤ, ◌&&◌, List, length, Option, Some, None, nat_lt, slice_index_or, if◌then◌else◌}
 use Rattle.map_level.specs.Level.{Level}
 use Rattle.wad_lens.specs.Place.{names_sidedef, owner_of}

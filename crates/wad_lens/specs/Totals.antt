@@ -1,4 +1,4 @@
--- What is counted over levels, files and a run.
+-- What is counted over levels, files and a run (ours).
 use Rattle.std.specs.Prelude.{ℕ, ◌+◌, ◌-◌, ◌^◌, ◌==◌, List, [], ◌∷◌, ◌++◌, codes, min, if◌then◌else◌}
 use Rattle.std.specs.Fmt.{decimal}
 use Rattle.level_list.specs.declared.format.Format.{Format}

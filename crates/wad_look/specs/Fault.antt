@@ -1,4 +1,4 @@
--- The faults of a run.
+-- The faults of a run (ours).
 use Rattle.std.specs.Prelude.{Result, Ok, Err}
 use Rattle.demo_lump.specs.declared.fault.StreamFault.{StreamFault}
 use Rattle.demo_lump.specs.declared.fault.StreamFault.TheVariants as stream

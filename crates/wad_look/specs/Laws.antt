@@ -1,4 +1,4 @@
--- The laws of this crate's definitions.
+-- The laws of this crate's definitions (ours).
 use Rattle.std.specs.Prelude.{◌≡◌, ◌≢◌, ◌↔◌, ℕ, ◌≤◌, ℤ, List, [], ◌∷◌, ◌++◌, IsTrue, Some}
 use Rattle.std.specs.List.{slice_get}
 use Rattle.le_rec.specs.Name.{query_of}

@@ -1,5 +1,4 @@
--- What a command finds before it reads its input and writes, and why it doesn't. The reasons are a chain: each stage has
--- those of the one before it and its own.
+-- What a command finds before it reads and writes, and why it doesn't (ours): a chain, each stage with the reasons before it.
 use Rattle.std.specs.Prelude.{◌≡◌, ℕ, List, All, map}
 use Rattle.std.specs.declared.vec.Vec.{Vec}
 use Rattle.le_rec.specs.Name.{query_of}

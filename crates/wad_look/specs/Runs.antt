@@ -1,4 +1,4 @@
--- What a run of a command does.
+-- What a run of a command does (ours).
 use Rattle.std.specs.Prelude.{◌≡◌, ◌⊎◌, ℕ, Bool, true, Result, Ok, Err}
 use Rattle.std.specs.declared.vec.Vec.{Vec}
 use Rattle.le_rec.specs.Source.{SourceState}

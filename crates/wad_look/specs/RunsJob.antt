@@ -1,4 +1,4 @@
--- What each command does.
+-- What each command does (ours).
 use Rattle.std.specs.Prelude.{◌≡◌, ℕ, Bool, List, Result}
 use Rattle.le_rec.specs.Sink.{SinkState}
 use Rattle.le_rec.specs.Source.{SourceState}

@@ -1,5 +1,4 @@
--- What clauses see of ends that are tied to one another: the input has the bytes of the reader inside, and of the output
--- no bytes are known.
+-- What clauses see of ends tied to one another (ours): the input has the reader's bytes, and of the output none are known.
 use Rattle.std.specs.Prelude.{ℕ, List, Option, None}
 use Rattle.std.specs.Borrow.{Bor}
 use Rattle.std.specs.Io.Buffered.{reader_remaining}

@@ -1,4 +1,4 @@
--- What is told of a block.
+-- What is told of a block (ours).
 use Rattle.std.specs.Prelude.{◌≡◌, ℕ, ◌+◌, ◌<◌, ◌≤◌, List, length, take, drop}
 use Rattle.map_geo.specs.Point.{IsInRange, Point, point_at}
 use Rattle.map_level.specs.declared.reading.Reading.{Reading}

@@ -1,4 +1,4 @@
--- What is told of demos.
+-- What is told of demos (ours).
 use Rattle.std.specs.Prelude.{◌≡◌, ℕ, ◌<◌, List, length, slice_index, Some, IsSomeAnd}
 use Rattle.std.specs.List.{slice_get}
 use Rattle.demo_lump.specs.Demo.{Demo}

@@ -1,4 +1,4 @@
--- What is told of an entry's lump.
+-- What is told of an entry's lump (ours).
 use Rattle.std.specs.Prelude.{◌≡◌, ℕ, ◌+◌, ◌<◌, ◌≤◌, pos, List, [], ◌∷◌, length, take, drop, Some}
 use Rattle.std.specs.List.{slice_get}
 use Rattle.le_rec.specs.Name.{query_of}

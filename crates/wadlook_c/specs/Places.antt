@@ -1,4 +1,4 @@
--- What is told of points.
+-- What is told of points (ours).
 use Rattle.std.specs.Prelude.{◌≡◌, ◌⊎◌, ℕ, ◌<◌, List, length, Some, IsSomeAnd}
 use Rattle.std.specs.List.{slice_get}
 use Rattle.map_geo.specs.Point.{IsInRange, Point, point_at}

@@ -1,4 +1,4 @@
--- What is told of a sight.
+-- What is told of a sight (ours).
 use Rattle.std.specs.Prelude.{◌≡◌, ℕ, Bool, true, false, List, Option, Some}
 use Rattle.map_tables.specs.Reject.{Reject, bits_of}
 

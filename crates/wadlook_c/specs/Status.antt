@@ -1,4 +1,4 @@
--- The numbers with which calls end.
+-- The numbers with which calls end (ours).
 use Rattle.std.specs.Prelude.{ℕ}
 use Rattle.demo_lump.specs.declared.fault.DemoFault.{DemoFault}
 use Rattle.demo_lump.specs.declared.fault.DemoFault.TheVariants as demo

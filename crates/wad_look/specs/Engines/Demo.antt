@@ -1,4 +1,4 @@
--- The command `demo`: what its run does.
+-- The command `demo`: what its run does (ours).
 use Rattle.std.specs.Prelude.{◌≡◌, ◌≢◌, ℕ, List, Some, Result}
 use Rattle.std.specs.List.{slice_get}
 use Rattle.demo_lump.specs.Demo.{Demo, IsRead, RefusesDemo}

@@ -1,11 +1,11 @@
 -- How a run that draws ends, as the host reads it (ours).
-use Rattle.std.specs.Prelude.{◌≡◌, ◌⊎◌, ◌==◌, ℕ, Bool, true, false, List, [], length, take, Option, Some, None, Result, Ok, Err, IfErr, IfOk, if◌then◌else◌}
+use Rattle.std.specs.Prelude.{◌≡◌, ◌⊎◌, ◌==◌, ◌<◌, ℕ, Bool, true, false, List, [], length, take, Option, Some, None, Result, Ok, Err, IfErr, IfOk, if◌then◌else◌}
 use Rattle.draw_page.specs.Draw.{DrawsFirst, RefusesFirst}
 use Rattle.draw_page.specs.declared.Ended.{Ended}
 use Rattle.draw_page.specs.declared.Question.{Question}
 use Rattle.draw_page.specs.declared.draw.PictureFault.{PictureFault}
 use Rattle.draw_page.specs.declared.draw.PictureFault.TheVariants.{NoWad, NoEntry, NoLevel, NothingToDraw, Full}
-use Rattle.map_cells.specs.Frame.{Frame, frame_at}
+use Rattle.map_cells.specs.Frame.{Frame, IsFrame, frame_at}
 use Rattle.map_level.specs.declared.reading.Reading.{Reading}
 use Rattle.map_level.specs.declared.reading.Reading.TheVariants.{Signed, Wide}
 use Rattle.map_picture.specs.declared.draw.Asked.{Asked}
@@ -47,6 +47,20 @@ pub record Drew (file : List ℕ) (question : Question) (out : List ℕ) (ended 
   pub answered : ended.answered ≡ length sink'.taken
   pub picture : take ended.answered out ≡ sink'.taken
 
--- or there was no room, or the question is out of its bounds, with nothing drawn
+-- a frame is asked for whose lower bounds are past its upper ones
+pub record IsNoFrame (question : Question) : Type 0 where
+  pub asked : ¬ (question.framed ≡ 0)
+  pub none : ¬ IsFrame (frame_at question.x0 question.y0 question.x1 question.y1)
+
+-- the question is out of its bounds
+abbrev pub IsOutOfBounds : Question → Type 0
+IsOutOfBounds question = (question.cells < 1) ⊎ (1024 < question.cells) ⊎ IsNoFrame question
+
+-- nothing is answered, as there was no room, or the question is out of its bounds
+pub record AnswersNothing (question : Question) (ended : Ended) : Type 0 where
+  pub status : (ended.status ≡ 3) ⊎ ((ended.status ≡ 2) × IsOutOfBounds question)
+  pub answered : ended.answered ≡ 0
+
+-- how a run ends
 abbrev pub DrawEnds : List ℕ → Question → List ℕ → Ended → Type 0
-DrawEnds file question out ended = (((ended.status ≡ 3) ⊎ (ended.status ≡ 2)) × (ended.answered ≡ 0)) ⊎ Drew file question out ended
+DrawEnds file question out ended = AnswersNothing question ended ⊎ Drew file question out ended

@@ -1,8 +1,8 @@
 //! The picture of a level for a page in a browser: an export over memory that a host hands in.
 #![tactic(auto)]
 
-ghost use Rattle.std.specs.Prelude.{◌≡◌, ◌≤◌, IfSome};
-ghost use Rattle.draw_page.specs.Ended.{DrawEnds, IsQuestion, draw_status, reading_of};
+ghost use Rattle.std.specs.Prelude.{◌≡◌, ◌≤◌, IfNone, IfSome};
+ghost use Rattle.draw_page.specs.Ended.{DrawEnds, IsOutOfBounds, IsQuestion, draw_status, reading_of};
 
 mod draw;
 
@@ -91,6 +91,7 @@ fn reading_of(wide: u8) -> Reading
 fn asked_of(question: &Question) -> Option<Asked>
     ensures some { IfSome result (IsQuestion question.now) }
     ensures cells { IfSome result (λ asked. (1 ≤ asked.cells) × (asked.cells ≤ 1024)) }
+    ensures none { IfNone result (IsOutOfBounds question.now) }
 {
     if question.cells < 1 || question.cells > 1024 {
         return None;

@@ -23,6 +23,13 @@ cases_of_words() {
     tells '--version' 'wadlens 0.1.0' --version
     tells '--help of survey' 'Usage: wadlens survey' survey --help
     tells '--help of check' '--max <N>' check --help
+    tells '--help of cut' '--entry <G>' cut --help
+    tells '--help of atlas' '--out <FOLDER>' atlas --help
+    tells '--help of demos' '--json' demos --help
+    # The file is there, so it's the word that is refused.
+    cp base.wad $'\xff.wad'
+    says 'a word that is not UTF-8' 2 '' "wadlens: a word isn't UTF-8\\n" survey $'\xff.wad'
+    says 'a word that is not UTF-8, behind others' 2 '' "wadlens: a word isn't UTF-8\\n" check base.wad --max 3 $'a\xc0\xaf'
 }
 
 cases_of_paths() {
@@ -68,10 +75,33 @@ cases_of_lists() {
     timeout 60 "$program" survey --files-from - <folder >output 2>error
     printf '%s' $? >status
     judge 'a list that cannot be read' 2 '' "$(told 'standard input' "$unread")"
+    # The file is there, and isn't taken.
+    cp base.wad $'\xff.wad'
     says_on 'a path of a list that is not UTF-8' '\0377.wad\n' 2 \
         '{"file":"\0357\0277\0275.wad","refused":"'"$missing"'"}\n' "wadlens: \\0377.wad: $missing\\n" survey --files-from -
     cases_of_long_lists
+    cases_of_many_paths
     says_on 'an empty list of check' '' 0 '0 levels in 0 files: 0 faults, 0 notes, 0 not judged\n' '' check --files-from -
+    says_on 'a list of check' 'faulty.wad\n\nno.wad\nbase.wad\n' 1 "$faults_of_faulty"'3 levels in 4 files: 1 faults, 1 notes, 0 not judged\n' \
+        "$(told no.wad "$missing")" check base.wad --files-from -
+}
+
+# repeated TEXT: a hundred times this, which is more than the files that a set may have.
+repeated() {
+    local i
+    for ((i = 0; i < 100; i++)); do printf '%s' "$1"; done
+}
+
+# Files that are no set may be as many as one likes.
+cases_of_many_paths() {
+    local totals='100 levels in 100 files: 0 faults, 0 notes, 0 not judged\n' many
+    says_on 'a list of 100 paths, survey' "$(repeated 'base.wad\n')" 0 "$(repeated "$(sound base.wad E1M1 0)")" '' survey --files-from -
+    says_on 'a list of 100 paths, check' "$(repeated 'base.wad\0')" 0 "$totals" '' check --files-from - --null
+    demo 128 >still.lmp
+    says_on 'a list of 100 paths, demos' "$(repeated 'still.lmp\n')" 0 \
+        "$(repeated 'still.lmp: version 109, skill 3, episode 1, map 1, 1 player, 0 tics, 0:00.00\n')" '' demos --files-from -
+    read -r -a many < <(repeated 'base.wad ')
+    says '100 words, check' 0 "$totals" '' check "${many[@]}"
 }
 
 # on_zeros NAME COUNT STATUS OUTPUT ERROR WORD...: what is said where standard input has so many NULs.
@@ -106,11 +136,7 @@ magic.wad not a WAD file: it begins with neither IWAD nor PWAD
 count.wad a negative count of lumps
 cut.wad its directory isn't inside the file
 END
-    if ((EUID)); then
-        cp base.wad closed.wad
-        chmod 0 closed.wad
-        says 'a file that may not be read' 2 "$(refused closed.wad "$missing")" "$(told closed.wad "$missing")" survey closed.wad
-    fi
+    cases_of_unread_files
     says 'a refused file does not stop the run' 2 \
         "$(refused none.wad 'shorter than a WAD header')$(sound base.wad E1M1 0)" \
         "$(told none.wad 'shorter than a WAD header')" survey none.wad base.wad
@@ -122,6 +148,32 @@ END
     says 'a file of one byte more' 2 "$(refused most.wad 'larger than 268435456 bytes')" \
         "$(told most.wad 'larger than 268435456 bytes')" survey most.wad
     rm most.wad
+}
+
+# Files that are there, and can't be opened or read.
+cases_of_unread_files() {
+    ln -s loop loop
+    says 'a link to itself' 2 "$(refused loop "$missing")" "$(told loop "$missing")" survey loop
+    # The program's own memory, of which nothing is at place 0.
+    if [[ -r /proc/self/mem ]]; then
+        says 'a file whose read fails' 2 "$(refused /proc/self/mem "$unread")" "$(told /proc/self/mem "$unread")" survey /proc/self/mem
+    else
+        printf 'skipped, as there is no /proc/self/mem: a file whose read fails\n'
+    fi
+    local as=()
+    # Root reads every file, so it asks as nobody.
+    ((EUID)) || as=(setpriv --reuid 65534 --clear-groups)
+    chmod 711 .
+    chmod 644 base.wad
+    if ! "${as[@]}" "$program" survey base.wad >output 2>&1; then
+        printf 'skipped, as root cannot run the program as nobody: a file that may not be read\n'
+        return
+    fi
+    cp base.wad closed.wad
+    chmod 0 closed.wad
+    timeout 60 "${as[@]}" "$program" survey closed.wad >output 2>error
+    printf '%s' $? >status
+    judge 'a file that may not be read' 2 "$(refused closed.wad "$missing")" "$(told closed.wad "$missing")"
 }
 
 cases_of_survey() {
@@ -177,7 +229,7 @@ cases_of_cut() {
     says 'cut: no file' 2 '' "$(told no.wad "$missing")" cut --entry 0 no.wad
     says 'cut: a folder' 2 '' "$(told folder "$unread")" cut --entry 0 folder
     says 'cut: no WAD file' 2 '' "$(told magic.wad 'not a WAD file: it begins with neither IWAD nor PWAD')" cut --entry 0 magic.wad
-    ends 'cut: a full disk' 2 "wadlens: standard output can't be written\\n" cut --entry 0 base.wad >/dev/full
+    cases_of_cut_ends
     mistaken 'cut without an entry' '--entry <G>' cut base.wad
     mistaken 'cut without a file' 'FILE' cut --entry 0
     mistaken 'cut of two files' "unexpected argument 'base.wad'" cut --entry 0 base.wad base.wad
@@ -185,6 +237,32 @@ cases_of_cut() {
     mistaken 'an entry that is no number' 'E1M1' cut --entry E1M1 base.wad
     mistaken 'an entry of more than 64 bits' '18446744073709551616' cut --entry 18446744073709551616 base.wad
     mistaken '--wide of cut' "unexpected argument '--wide'" cut --wide --entry 0 base.wad
+}
+
+cases_of_cut_ends() {
+    local pipe name size=214748346 directory
+    ends 'cut: a full disk' 2 "wadlens: standard output can't be written\\n" cut --entry 0 base.wad >/dev/full
+    exec {pipe}> >(:)
+    wait $!
+    ends 'cut: a closed pipe' 0 '' cut --entry 0 base.wad >&"$pipe"
+    exec {pipe}>&-
+    timeout 60 "$program" cut --entry 0 none.wad >output 2>/dev/full
+    printf '%s' $? >status
+    : >error
+    judge 'cut: a full standard error' 2 '' ''
+    timeout 60 "$program" cut --entry 0 hole.wad >output 2>/dev/full
+    printf '%s' $? >status
+    judge 'cut: a full standard error, and a lump that is not there' 1 '' ''
+
+    # Ten lumps over the same bytes, a hole, which come to one byte more than a file may have. That is told before room is
+    # made for them.
+    directory=$(words 0 0 0 0)$(name8 E1M1)
+    for name in "${usual[@]}"; do directory+=$(words 0 0 "$size" $((size >> 16)))$(name8 "$name"); done
+    printf 'PWAD%b' "$(words 11 0 12 0)$directory" >large.wad
+    truncate -s "$size" large.wad
+    memory=1048576 says 'cut: a level that is too large' 2 '' \
+        'wadlens: large.wad: the level is larger than 2147483647 bytes\n' cut --entry 0 large.wad
+    rm large.wad
 }
 
 cases_of_progress() {
@@ -258,6 +336,9 @@ cases_of_ends() {
     printf '%s' $? >status
     : >error
     judge 'a full standard error' 2 '' ''
+    timeout 60 "$program" check faulty.wad none.wad base.wad >output 2>/dev/full
+    printf '%s' $? >status
+    judge 'a full standard error, check: the run ends there' 2 "$faults_of_faulty" ''
 }
 
 cases_of_memory() {
@@ -265,10 +346,11 @@ cases_of_memory() {
     cp empty.wad most.wad
     truncate -s 268435456 most.wad
     says 'no memory for a file' 3 '' 'wadlens: no memory left\n' survey most.wad
-    says 'no memory for a file, after a fault' 3 "$(printf '%s' \
-        'faulty.wad: E1M1: F9 seg 1: linedef 0 has no sidedef on side 1, from (0, 64) to (0, 0)\n' \
-        'faulty.wad: E1M1: N3 linedef 0: two-sided, without a back sidedef, from (0, 0) to (0, 64)\n')" \
-        'wadlens: no memory left\n' check faulty.wad most.wad
+    says 'no memory for a file, after a fault' 3 "$faults_of_faulty" 'wadlens: no memory left\n' check faulty.wad most.wad
+    says 'no memory for a file, cut' 3 '' 'wadlens: no memory left\n' cut --entry 0 most.wad
+    demo 128 >still.lmp
+    says 'no memory for a file, demos' 3 'still.lmp: version 109, skill 3, episode 1, map 1, 1 player, 0 tics, 0:00.00\n' \
+        'wadlens: no memory left\n' demos still.lmp most.wad
     memory=400000
     says 'memory of one file at a time' 0 '0 levels in 3 files: 0 faults, 0 notes, 0 not judged\n' '' check most.wad most.wad most.wad
     rm most.wad

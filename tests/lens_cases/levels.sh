@@ -11,11 +11,7 @@ many_segs() {
 
 cases_of_check() {
     says 'nothing found' 0 '1 levels in 1 files: 0 faults, 0 notes, 0 not judged\n' '' check base.wad
-    says 'a fault and a note' 1 "$(
-        printf '%s' 'faulty.wad: E1M1: F9 seg 1: linedef 0 has no sidedef on side 1, from (0, 64) to (0, 0)\n' \
-            'faulty.wad: E1M1: N3 linedef 0: two-sided, without a back sidedef, from (0, 0) to (0, 64)\n' \
-            '1 levels in 1 files: 1 faults, 1 notes, 0 not judged\n'
-    )" '' check faulty.wad
+    says 'a fault and a note' 1 "${faults_of_faulty}1 levels in 1 files: 1 faults, 1 notes, 0 not judged\\n" '' check faulty.wad
     says 'what is not judged' 1 "$(
         printf '%s' 'hole.wad: MAP01: incomplete: no BLOCKMAP where it belongs\n' 'hexen.wad: MAP01: hexen: not read\n' \
             'udmf.wad: MAP03: udmf: not read\n' 'extended.wad: E1M1: extended nodes XNOD: not read\n' \
@@ -33,6 +29,7 @@ cases_of_check() {
     lines="many.wad: E1M1: F3 linedef 1: start vertex 9 isn't there (2 vertexes)\\nmany.wad: E1M1: F3: 2 more\\n"
     says '--max of fewer' 1 "$lines$end" '' check --max 1 many.wad
     says '--max after the file, with =' 1 "$lines$end" '' check many.wad --max=1
+    cases_of_most
     many_segs
     says 'sound with --wide' 1 "$(
         printf '%s' "wide.wad: E1M1: F10 ssector 1: segs from -32768, 1 of them, aren't all there (32769 segs)\\n" \
@@ -41,6 +38,19 @@ cases_of_check() {
     says 'wide' 0 '1 levels in 1 files: 0 faults, 0 notes, 0 not judged\n' '' check --wide wide.wad
     says 'not judged alone' 2 'udmf.wad: MAP03: udmf: not read\n1 levels in 1 files: 0 faults, 0 notes, 1 not judged\n' '' \
         check udmf.wad
+}
+
+# How many findings of a code are told where nothing is said: 20.
+cases_of_most() {
+    local i lines="${own[LINEDEFS]}" told='' end='1 levels in 1 files: 0 faults, 22 notes, 0 not judged\n'
+    for i in {1..22}; do
+        lines+=$(words 1 1 1 0 0 0 -1)
+        ((i > 20)) || told+="many.wad: E1M1: N5 linedef $i: without length, from (0, 64) to (0, 64)\\n"
+    done
+    told+='many.wad: E1M1: N5: 2 more\n'
+    level LINEDEFS "$lines" >many.wad
+    says 'as many findings of a code as are usual' 0 "$told$end" '' check many.wad
+    says '--max of as many as are usual' 0 "$told$end" '' check --max 20 many.wad
 }
 
 # finds NAME LINES FAULTS NOTES [LUMP BYTES]...: what `check` tells of the sample level with these lumps, each line without
@@ -166,6 +176,20 @@ closed=(THINGS "$starts" LINEDEFS "$walls$(words 3 0 1 0 0 3 -1)" SIDEDEFS "$roo
     VERTEXES "$(words 0 0 0 64 64 64 64 0)" SEGS "$(words 0 1 16384 0 0 0 1 2 0 1 0 0 2 3 -16384 2 0 0 3 0 -32768 3 0 0)"
     SSECTORS "$(words 4 0)" NODES '' SECTORS "$(sector)")
 
+# wall_side UPPER LOWER SECTOR: a side of the wall between two rooms.
+wall_side() { printf '%s' "$(words 0 0)$(name8 "$1")$(name8 "$2")$(name8 -)$(words "$3")"; }
+
+# Two of them side by side, sector 0 and sector 1, each an ssector; linedef 2 is the wall between them, and has textures.
+rooms_sides=$(
+    for sector in 0 0 0 1 1 1; do printf '%s' "$(words 0 0)$(name8 -)$(name8 -)$(name8 WALL)$(words "$sector")"; done
+)
+rooms=(THINGS "$starts" VERTEXES "$(words 0 0 0 64 64 64 64 0 128 64 128 0)" SECTORS "$(sector)$(sector)"
+    LINEDEFS "$(words 0 1 1 0 0 0 -1 1 2 1 0 0 1 -1 2 3 4 0 0 6 7 3 0 1 0 0 2 -1 2 4 1 0 0 3 -1 4 5 1 0 0 4 -1 5 3 1 0 0 5 -1)"
+    SIDEDEFS "$rooms_sides$(wall_side WALL WALL 0)$(wall_side WALL WALL 1)"
+    SEGS "$(words 0 1 16384 0 0 0 1 2 0 1 0 0 2 3 -16384 2 0 0 3 0 -32768 3 0 0)$(
+        words 2 4 0 4 0 0 4 5 -16384 5 0 0 5 3 -32768 6 0 0 3 2 16384 2 1 0)"
+    SSECTORS "$(words 4 0 4 4)" NODES "$(node 64 64 0 -64 32768 32769)")
+
 # warns NAME LINES COUNT [LUMP BYTES]...: what `check --map` tells of the sample level with these lumps, each line without its
 # path and level; then of that file `--strict` and a survey. `notes` are told first.
 notes=()
@@ -203,6 +227,7 @@ cases_of_warnings() {
         LINEDEFS "$walls$(words 3 0 1 0 0 3 -1)$(words 2 2 4 0 0 0 0)"
     notes=()
     cases_of_bare_walls
+    cases_of_bare_rooms
     warns W3 'W3 thing 8: stands in the void, at (65, 32)' 1 "${closed[@]}" THINGS "$starts$(words 65 32 0 3001 7)"
     warns 'W3, on the wall: none' '' 0 "${closed[@]}" THINGS "$starts$(words 64 32 0 3001 7)"
     warns 'W3, past the range: none' '' 0 "${closed[@]}" THINGS "$starts$(words 16384 32 0 3001 7)"
@@ -212,6 +237,10 @@ cases_of_warnings() {
         LINEDEFS "$(words 0 1 1 0 7 0 -1 1 2 1 0 0 1 -1 2 3 1 0 0 2 -1 3 0 1 0 0 3 -1)"
     warns W5 "$(two "$w1" 'W5 ssector 0: its segs face sectors 0 and 1, at (0, 0)')" 5 SSECTORS "$(words 2 0)" NODES '' \
         THINGS "$(for kind in 1 2 3 4 11 11 11 11; do words 0 8 0 $kind 7; done)"
+    # The right room's seg on the wall says that it is of the wall's front.
+    warns 'W5, alone' 'W5 ssector 1: its segs face sectors 1 and 0, at (64, 64)' 1 "${rooms[@]}" \
+        SEGS "$(words 0 1 16384 0 0 0 1 2 0 1 0 0 2 3 -16384 2 0 0 3 0 -32768 3 0 0)$(
+            words 2 4 0 4 0 0 4 5 -16384 5 0 0 5 3 -32768 6 0 0 3 2 16384 2 0 0)"
     warns W6 "W6 linedef 4: lies on linedef 0, $back" 1 "${closed[@]}" LINEDEFS "$walls$(words 3 0 1 0 0 3 -1)$(words 1 0 4 0 0 0 0)"
     warns 'W6, of other vertexes there' "W6 linedef 4: lies on linedef 0, $front" 1 "${closed[@]}" \
         VERTEXES "$(words 0 0 0 64 64 64 64 0 0 0 0 64)" LINEDEFS "$walls$(words 3 0 1 0 0 3 -1)$(words 4 5 4 0 0 0 0)"
@@ -240,20 +269,38 @@ cases_of_bare_walls() {
         SECTORS "$(sector_of 0 128 F_SKY1)$(sector_of 0 120 FLAT1)"
 }
 
+# bare NAME TEXT 'FLOOR CEILING' 'FLOOR CEILING' UPPER LOWER UPPER LOWER: two rooms of these heights, and the textures of the wall
+# between them, in front and at the back.
+bare() {
+    local lines=''
+    [[ -z $2 ]] || lines="W2 linedef 2: $2, from (64, 64) to (64, 0)"
+    # shellcheck disable=SC2086  # heights are two words
+    warns "$1" "$lines" $((${#lines} > 0)) "${rooms[@]}" SECTORS "$(sector_of $3 FLAT1)$(sector_of $4 FLAT1)" \
+        SIDEDEFS "$rooms_sides$(wall_side "$5" "$6" 0)$(wall_side "$7" "$8" 1)"
+}
+
+# A wall between two closed rooms, without a texture: each is the level's one warning.
+cases_of_bare_rooms() {
+    warns 'two closed rooms' '' 0 "${rooms[@]}"
+    bare 'W2, all textures are there: none' '' '0 120' '8 128' WALL WALL WALL WALL
+    bare 'W2, heights are the same: none' '' '0 128' '0 128' - - - -
+    bare 'W2, upper in front' 'no upper texture in front' '0 128' '0 120' - WALL WALL WALL
+    bare 'W2, upper at the back' 'no upper texture at the back' '0 120' '0 128' WALL WALL - WALL
+    bare 'W2, lower in front' 'no lower texture in front' '0 128' '8 128' WALL - WALL WALL
+    bare 'W2, lower at the back' 'no lower texture at the back' '8 128' '0 128' WALL WALL WALL -
+    bare 'W2, the textures that are not seen: none' '' '0 128' '8 120' WALL WALL - -
+}
+
 # How many are shown, what stands behind them, and levels in which they aren't looked for.
 cases_of_warned_levels() {
-    local i few faulty two_levels
+    local i few two_levels
     few=$(
         for i in 0 64; do printf '%s' "base.wad: E1M1: W1 sector 0: isn't closed, at (0, $i)\\n"; done
         printf '%s' 'base.wad: E1M1: W1: 2 more\n' 'base.wad: E1M1: W7 level: no player 2 start\n' \
             'base.wad: E1M1: W8 level: 0 deathmatch starts\n'
     )
     says '--max of warnings' 0 "${few}1 levels in 1 files: 0 faults, 0 notes, 6 warnings, 0 not judged\\n" '' check --map --max 2 base.wad
-    faulty=$(
-        printf '%s' 'faulty.wad: E1M1: F9 seg 1: linedef 0 has no sidedef on side 1, from (0, 64) to (0, 0)\n' \
-            'faulty.wad: E1M1: N3 linedef 0: two-sided, without a back sidedef, from (0, 0) to (0, 64)\n'
-    )
-    says 'not looked for' 1 "${faulty}1 levels in 1 files: 1 faults, 1 notes, 0 warnings, 0 not judged\\n" '' check --map faulty.wad
+    says 'not looked for' 1 "${faults_of_faulty}1 levels in 1 files: 1 faults, 1 notes, 0 warnings, 0 not judged\\n" '' check --map faulty.wad
     two_levels="${few//base.wad/.\/base.wad}udmf.wad: MAP03: udmf: not read\\n"
     two_levels+='2 levels in 2 files: 0 faults, 0 notes, 6 warnings, 1 not judged\n'
     says 'a level that is not judged, too' 2 "$two_levels" '' check --map --max 2 ./base.wad udmf.wad

@@ -147,15 +147,15 @@ large_lines() {
 }
 
 cases_of_picture_words() {
-    local word
+    local word frame='error: --frame wants four numbers from -32768 to 32767, the lesser first: X0,Y0,X1,Y1'
     mistaken 'picture alone' 'NAME' picture
     mistaken 'picture: no file' 'FILE' picture E1M1
     for word in 0 1025 -1 x ''; do mistaken "picture: --cells=$word" '--cells' picture "--cells=$word" E1M1 base.wad; done
     mistaken 'picture: --cells apart' '0' picture --cells 0 E1M1 base.wad
     for word in 1,2,3 1,2,3,4,5 1,2,3,x 5,0,4,0 0,5,0,4 0,0,32768,0 -32769,0,0,0 '' 1; do
-        mistaken "picture: --frame $word" '--frame' picture --frame "$word" E1M1 base.wad
+        mistaken "picture: --frame $word" "$frame" picture --frame "$word" E1M1 base.wad
     done
-    mistaken 'picture: --frame twice' '--frame' picture --frame 0,0,1,1 --frame 0,0,1,1 E1M1 base.wad
+    mistaken 'picture: --frame twice' 'cannot be used multiple times' picture --frame 0,0,1,1 --frame 0,0,1,1 E1M1 base.wad
     mistaken 'picture: --max' "unexpected argument '--max'" picture --max 3 E1M1 base.wad
     tells '--help of picture' '--frame <X0,Y0,X1,Y1>' picture --help
 }

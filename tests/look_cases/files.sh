@@ -35,6 +35,9 @@ cases_of_words() {
     refuses 'lumps is never wide' usage lumps --wide base.wad
     refuses 'words that are no form, before a file that is not there' usage lumps no.wad -x
     refuses 'a word that is not UTF-8' usage points $'\xff' base.wad
+    # The file is there, so it's the word that is refused.
+    cp base.wad $'\xff.wad'
+    refuses 'a path that is not UTF-8' usage lumps $'\xff.wad'
 }
 
 cases_of_files() {
@@ -42,6 +45,7 @@ cases_of_files() {
     refuses 'no such file' 'file 1: read' lumps no.wad
     refuses 'an empty path' 'file 1: read' lumps ''
     refuses 'a folder' 'file 1: read' lumps folder
+    cases_of_unread_files
     refuses 'a second file that is not there' 'file 2: read' lumps base.wad no.wad
     refuses 'an unreadable file before a faulty first one' 'file 3: read' points E1M1 none.wad base.wad folder
     refuses 'a file that is not there, before a NAME that is not there' 'file 1: read' points E2M9 no.wad
@@ -87,6 +91,37 @@ cases_of_files() {
     truncate -s $((most / 3 + 1)) half.wad
     refuses 'a file three times, counted three times' 'file 3: too long' lumps half.wad half.wad half.wad
     rm most.wad half.wad
+}
+
+# Files that are there, and can't be opened or read.
+cases_of_unread_files() {
+    ln -s loop loop
+    refuses 'a link to itself' 'file 1: read' lumps loop
+    refuses 'a link to itself, of a demo' 'file 1: read' lmp loop
+    # The program's own memory, of which nothing is at place 0.
+    if [[ -r /proc/self/mem ]]; then
+        refuses 'a file whose read fails' 'file 1: read' lumps /proc/self/mem
+        refuses 'a demo whose read fails' read lmp /proc/self/mem
+    else
+        printf 'skipped, as there is no /proc/self/mem: files whose read fails\n'
+    fi
+    local as=() command
+    # Root reads every file, so it asks as nobody.
+    ((EUID)) || as=(setpriv --reuid 65534 --clear-groups)
+    chmod 711 .
+    chmod 644 base.wad
+    if ! "${as[@]}" "$program" lumps base.wad >output 2>&1; then
+        printf 'skipped, as root cannot run the program as nobody: a file that may not be read\n'
+        return
+    fi
+    cp base.wad closed.wad
+    chmod 0 closed.wad
+    for command in lumps lmp; do
+        timeout 60 "${as[@]}" "$program" "$command" closed.wad >output 2>error <none.wad
+        printf '%s' $? >status
+        : >left
+        judge "a file that may not be read, $command" 2 '' 'refused: file 1: read\n' ''
+    done
 }
 
 # The input and the output of a run: how much is read, what a run that stops has written, and when.

@@ -1,5 +1,6 @@
 """Cases made up from a seed: files by their paths, and runs of the programs on them."""
 
+from collections.abc import Callable
 from random import Random
 from typing import NamedTuple
 
@@ -14,10 +15,11 @@ from plain.runs import (
     given,
     lens_run,
     look_runs,
+    no_text,
     picture_run,
     point_lines,
 )
-from plain.wads import USUAL, Files
+from plain.wads import USUAL, Files, is_text
 
 LABELS = (
     b"E1M1",
@@ -86,6 +88,8 @@ def wanted(run: Run, files: Files) -> look.Answer:
     """What a run has to give, by the plain reading."""
     if run.program == "wadlook":
         return look.run(run.words, files, run.given)
+    if not all(is_text(word) for word in run.words):
+        return wadlens.NO_TEXT
     if run.asked is None:
         return wadlens.MISTAKEN
     return wadlens.run(run.asked, files, run.given)
@@ -263,7 +267,14 @@ def of_words(random: Random) -> Case:
         words += ["a.wad"] * random.choice((0, 0, 1, 63, 64))
         runs.append(Run("wadlook", words, b"0 0\n"))
     mistaken = random.sample(MISTAKEN, 6)
-    return Case(files, runs + [Run("wadlens", words.split()) for words in mistaken])
+    runs += [Run("wadlens", words.split()) for words in mistaken]
+    odd = no_text(random)
+    files[odd] = files["a.wad"]
+    for words in (["lumps", "a.wad", odd], ["show", odd, "a.wad"], ["lmp", odd]):
+        runs.append(Run("wadlook", words))
+    for words in (["survey", odd, "a.wad"], ["picture", odd, "a.wad"], [odd]):
+        runs.append(Run("wadlens", words))
+    return Case(files, runs)
 
 
 def of_large(random: Random) -> Case:
@@ -338,13 +349,25 @@ KINDS = (
 )
 
 
-def case(seed: int, number: int) -> Case:
-    """The case of a number: of each kind so many, and now and then a large one."""
-    random = Random(f"{seed} {number}")
+def kind_of(number: int) -> Callable[[Random], Case]:
+    """Of each kind so many, and now and then a large one."""
     if number % 200 == 124:
-        return of_cells(random)
+        return of_cells
     if number % 50 == 49:
-        return of_large(random)
+        return of_large
     if number % 25 == 24:
-        return of_words(random)
-    return KINDS[number % len(KINDS)](random)
+        return of_words
+    return KINDS[number % len(KINDS)]
+
+
+def odd_files(found: Case) -> Files:
+    """Files under the paths of a list that aren't UTF-8: they are there, and not taken."""
+    paths = [path for run in found.runs if run.asked for path in run.asked.paths]
+    data = next((data for data in found.files.values() if data), b"")
+    return {path: data for path in paths if not is_text(path)}
+
+
+def case(seed: int, number: int) -> Case:
+    """The case of a number."""
+    found = kind_of(number)(Random(f"{seed} {number}"))
+    return found._replace(files=found.files | odd_files(found))

@@ -123,6 +123,8 @@ def judge(seed: int, number: int) -> bool:
 
 
 def main(words: list[str]) -> int:
+    # Words may have bytes that aren't UTF-8, and are told as they are.
+    sys.stdout.reconfigure(errors="surrogateescape")
     numbers = [int(word) for word in words] + [CASES, SEED, 0][len(words) :]
     count, seed, first = numbers
     for program in PROGRAMS.values():

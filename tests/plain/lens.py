@@ -8,7 +8,17 @@ from plain.levels import Level, LineDef, Seg, opening_fault
 from plain.look import Answer
 from plain.picture import CELLS, Frame
 from plain.warnings import Warned, warnings
-from plain.wads import USUAL, Entry, Files, entries, lump, packed, refusal, shown
+from plain.wads import (
+    USUAL,
+    Entry,
+    Files,
+    entries,
+    is_text,
+    lump,
+    packed,
+    refusal,
+    shown,
+)
 
 FILE_REFUSALS = {
     1: "shorter than a WAD header",
@@ -539,8 +549,9 @@ def refuse_file(run: Run, asked: Asked, path: str, why: str) -> None:
 
 
 def unread(path: str, held: Files) -> str:
-    """Why what is held under a path has no bytes; nothing where it has some."""
-    if path not in held:
+    """Why what is held under a path has no bytes; nothing where it has some. What isn't
+    UTF-8 isn't opened."""
+    if path not in held or not is_text(path):
         return "can't be opened"
     return "can't be read" if held[path] is None else ""
 

@@ -10,6 +10,7 @@ from plain.wads import (
     Files,
     USUAL,
     Entry,
+    is_text,
     joined,
     lump,
     packed,
@@ -100,7 +101,8 @@ def asked_by(words: list[str]) -> Asked:
     known = takes_name or command in ("lumps", "levels", "lmp")
     most = 1 if command == "lmp" else MOST_FILES
     dashed = any(word.startswith("-") for word in rest)
-    if not known or dashed or not 1 <= len(paths) <= most:
+    texts = all(is_text(word) for word in words)
+    if not known or dashed or not texts or not 1 <= len(paths) <= most:
         raise Refused("usage")
     return Asked(command, wide, rest[0].encode() if takes_name else b"", paths)
 

@@ -27,7 +27,7 @@ NO_TEXT = (
     b"\xc0\xaf",
     b"\xf4\x90\x80\x80",
 )
-"""Paths that no words can be, and under which a list finds nothing."""
+"""Paths that no words can be, and that no list names: their files are there."""
 
 
 class Run(NamedTuple):
@@ -149,6 +149,10 @@ def flags(
     return options, asked
 
 
+def no_text(random: Random) -> str:
+    return random.choice(NO_TEXT).decode(errors="surrogateescape")
+
+
 def list_of(random: Random, paths: list[str]) -> tuple[list[str], bytes]:
     """Options that take a list from standard input, and one of these paths."""
     broken = any("\n" in path for path in paths)
@@ -175,8 +179,7 @@ def lens_run(
         count = random.randrange(len(paths) + 1)
         own, listed = paths[:count], paths[count:]
         if random.random() < 0.4:
-            odd = random.choice(NO_TEXT).decode(errors="surrogateescape")
-            listed = [*listed, odd]
+            listed = [*listed, no_text(random)]
         words, data = list_of(random, listed)
         options += words
     elif chance < 0.17:

@@ -13,6 +13,8 @@ from plain.warnings import warnings
 
 MISTAKEN = Answer(2, b"", b"the usage\n")
 """What words that are mistaken give, whatever the message before the usage says."""
+NO_TEXT = Answer(2, b"", b"wadlens: a word isn't UTF-8\n")
+"""What words give of which one isn't UTF-8."""
 
 
 # ---- picture -------------------------------------------------------------------------

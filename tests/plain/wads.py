@@ -22,6 +22,11 @@ Files = dict[str, bytes | None]
 """What is held under paths; nothing is a folder."""
 
 
+def is_text(word: str) -> bool:
+    """Whether a word or a path is UTF-8: a byte that isn't stands as a surrogate."""
+    return not any("\ud800" <= one <= "\udfff" for one in word)
+
+
 class Entry(NamedTuple):
     """An entry of a directory, and the bytes of the file whose entry it is."""
 

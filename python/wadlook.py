@@ -296,7 +296,11 @@ def _fit(*numbers: int) -> None:
 
 
 class Wad:
-    """A WAD file: its path, or its bytes, which are lent where they are `bytes`, a `bytearray` or a writable buffer."""
+    """A WAD file: its path, or its bytes, which are lent where they are `bytes`, a `bytearray` or a writable buffer.
+
+    Calls let other threads run, so lent bytes owe to stay as they are while one runs; and as a level keeps what was found of
+    it, who writes to them between calls asks for the level anew.
+    """
 
     def __init__(self, source: Union[str, "os.PathLike[str]", bytes, bytearray, memoryview]) -> None:
         if isinstance(source, (str, os.PathLike)):
@@ -342,7 +346,11 @@ class Level:
         self._asked = name.encode()
         self._audited: list[Finding] | None = None
         self._prepared: tuple[Lump, ctypes.Array[ctypes.c_uint16], int] | None = None
-        wad.find(name)
+        try:
+            wad.find(name)
+        except WadlookError as why:
+            if why.status != Status.LUMP_OUTSIDE:  # of the label, of which no byte is read
+                raise
 
     def __repr__(self) -> str:
         return f"<Level {self.name!r} of {self.wad.name!r}>"
@@ -392,7 +400,8 @@ class Level:
 
         Of pairs `(x, y)`: a list, with None where a point is out of range. Of a buffer of 32-bit integers x, y, x, y, .. (an
         `array('i')`, or numpy's int32 of two columns), which isn't copied unless it is read-only: a memoryview of unsigned
-        16-bit integers, which numpy takes as it is, with NOWHERE where a point is out of range.
+        16-bit integers, which numpy takes as it is, with NOWHERE where a point is out of range. The call lets other threads
+        run: until it returns, none may write to the buffer.
         """
         told, count = self._places(points)
         if _is_buffer(points):

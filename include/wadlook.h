@@ -76,7 +76,8 @@ uint32_t wadlook_points(const uint8_t *wad, size_t wad_len, const uint8_t *name,
                         const wadlook_point_at *points, size_t points_len, wadlook_place *places, size_t places_len);
 
 /* Audits a level once for many calls of wadlook_point: writes the sector of each ssector to the front of sectors, and how
- * many there are to *count, also at NO_ROOM. Else DONE, UNSOUND, MEMORY, SHORT to LUMP_OUTSIDE. */
+ * many there are to *count, also at NO_ROOM. That is told before the audit, so the level may be UNSOUND where there is room; no
+ * sound level has more than 32,768. Else DONE, UNSOUND, MEMORY, SHORT to LUMP_OUTSIDE. */
 uint32_t wadlook_prepare(const uint8_t *wad, size_t wad_len, const uint8_t *name, size_t name_len, bool wide,
                          uint16_t *sectors, size_t sectors_len, size_t *count);
 

@@ -18,9 +18,11 @@
 extern crate alloc;
 
 use alloc::{vec, vec::Vec};
+use core::fmt;
 
 mod raw;
 mod refused;
+mod texts;
 
 pub use refused::Refused;
 
@@ -81,7 +83,7 @@ pub struct Lump {
     pub size: usize,
 }
 
-/// What can be found at a level.
+/// What can be found at a level. As text it is `F1` or `N1`.
 #[derive(Clone, Copy, Debug, PartialEq, Eq)]
 pub enum Code {
     /// F1 to F18: the level isn't sound.
@@ -90,12 +92,32 @@ pub enum Code {
     Note(u32),
 }
 
+impl fmt::Display for Code {
+    fn fmt(&self, f: &mut fmt::Formatter<'_>) -> fmt::Result {
+        match self {
+            Code::Fault(number) => write!(f, "F{number}"),
+            Code::Note(number) => write!(f, "N{number}"),
+        }
+    }
+}
+
 /// A fault or a note, and the record or lump at which it holds.
 #[derive(Clone, Copy, Debug, PartialEq, Eq)]
 #[allow(missing_docs)]
 pub struct Finding {
     pub code: Code,
     pub index: u32,
+}
+
+impl Finding {
+    /// What it says, in words.
+    pub fn text(&self) -> &'static str {
+        let (texts, number) = match self.code {
+            Code::Fault(number) => (&texts::FAULTS[..], number),
+            Code::Note(number) => (&texts::NOTES[..], number),
+        };
+        texts.get((number as usize).wrapping_sub(1)).copied().unwrap_or_default()
+    }
 }
 
 /// A block of BLOCKMAP, and its list's words as they stand, two bytes each, which [`Block::lines`] reads.

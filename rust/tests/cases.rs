@@ -2,6 +2,8 @@
 
 use wadlook::{read_demo, Code, Command, Count, Finding, Lump, Place, Point, Rect, Refused, Wad};
 
+const TWO_COMMANDS: [u8; 23] = [109, 3, 1, 1, 0, 0, 0, 0, 0, 1, 0, 0, 0, 25, 0, 0, 0, 206, 128, 255, 128, 128, 7];
+
 fn base() -> Vec<u8> {
     std::fs::read(concat!(env!("CARGO_MANIFEST_DIR"), "/../sample/base.wad")).unwrap()
 }
@@ -87,6 +89,24 @@ fn lumps_sight_and_blocks() {
 }
 
 #[test]
+fn cuts() {
+    let wad = base();
+    for len in 0..wad.len() {
+        let why = if len < 12 { Refused::Short } else { Refused::Directory };
+        assert_eq!(Wad::new(&wad[..len]).level("E1M1").findings(), Err(why), "wad_cut {len}");
+    }
+    for len in 0..22 {
+        let why = match len {
+            0 => Refused::DemoEmpty,
+            1..=12 => Refused::DemoShort,
+            _ => Refused::DemoNoMarker,
+        };
+        assert_eq!(read_demo(&TWO_COMMANDS[..len]).err(), Some(why), "demo_cut {len}");
+    }
+    assert_eq!(read_demo(&TWO_COMMANDS[..22]).map(|(info, commands)| (commands.len(), info.after)), Ok((2, 0)));
+}
+
+#[test]
 fn a_level_alone() {
     let mut wad = base();
     wad[0] = b'I';
@@ -96,22 +116,39 @@ fn a_level_alone() {
 
 #[test]
 fn demos() {
-    let bytes = [109, 3, 1, 1, 0, 0, 0, 0, 0, 1, 0, 0, 0, 25, 0, 0, 0, 206, 128, 255, 128, 128, 7];
-    let (info, commands) = read_demo(&bytes).unwrap();
+    let (info, commands) = read_demo(&TWO_COMMANDS).unwrap();
     assert_eq!((info.version, info.map, info.players, info.player, info.after), (109, 1, 1, [1, 0, 0, 0], 1));
     assert_eq!(commands.len(), 2);
     assert_eq!(commands[1], Command { turn: 255, forward: -50, side: -128, buttons: 128 });
     assert_eq!(read_demo(&[]).err(), Some(Refused::DemoEmpty));
     assert_eq!(Refused::DemoEmpty.to_string(), "a demo of no bytes");
-    let mut many = bytes[..13].to_vec();
+    let mut many = TWO_COMMANDS[..13].to_vec();
     many.resize(13 + 40000, 0);
     many.push(128);
     assert_eq!(read_demo(&many).unwrap().1.len(), 10000);
 }
 
+/// A text of the repository.
+fn text(path: &str) -> String {
+    std::fs::read_to_string(format!("{}/../{path}", env!("CARGO_MANIFEST_DIR"))).unwrap()
+}
+
+#[test]
+fn texts_are_the_reports() {
+    let report = text("crates/wad_look/specs/Engines/Audit.antt");
+    let told: Vec<&str> = report.lines().filter_map(|line| line.strip_prefix("meaning ")).collect();
+    let faults = (1..=18).map(Code::Fault);
+    let own: Vec<String> = faults
+        .chain((1..=12).map(Code::Note))
+        .map(|code| format!("{code} = codes \"{}\"", Finding { code, index: 0 }.text()))
+        .collect();
+    assert_eq!(own, told.into_iter().filter(|line| line.contains("= codes")).collect::<Vec<_>>());
+    assert_eq!(Finding { code: Code::Fault(19), index: 0 }.text(), "");
+}
+
 #[test]
 fn statuses_are_the_headers() {
-    let header = std::fs::read_to_string(concat!(env!("CARGO_MANIFEST_DIR"), "/../include/wadlook.h")).unwrap();
+    let header = text("include/wadlook.h");
     let numbers = header.lines().filter_map(|line| line.strip_prefix("    WADLOOK_")?.split_once(" = "));
     let told: Vec<(String, u32)> = numbers
         .map(|(name, rest)| {

@@ -1,6 +1,8 @@
-/* cases BASE: the calls on worked cases, each over the sample level or a copy of it with other bytes. What is wanted comes
- * from the formats (sample/README.md), never from the library. The last line is `N passed, M failed`. */
+/* cases BASE: the calls on worked cases, each over the sample level or a copy of it with other bytes: their statuses, what they
+ * leave as it was, and calls from several threads. What is wanted comes from the formats (sample/README.md), never from the
+ * library. Compiled as C and as C++. The last line is `N passed, M failed`. */
 #include "wadlook.h"
+#include <pthread.h>
 #include <stdio.h>
 #include <stdlib.h>
 #include <string.h>
@@ -14,7 +16,10 @@ static unsigned passed, failed;
 static uint8_t base[BASE], wad[BASE + 64];
 
 static void check(bool holds, const char *what, int line) {
-    if (holds) { passed++; return; }
+    if (holds) {
+        passed++;
+        return;
+    }
     failed++;
     printf("FAILED line %d: %s\n", line, what);
 }
@@ -24,12 +29,24 @@ static void fresh(void) { memcpy(wad, base, BASE); }
 
 /* Words at a place of the copy. */
 static void put(size_t place, int count, const int *words) {
-    for (int i = 0; i < count; i++) { wad[place + 2 * i] = words[i] & 255; wad[place + 2 * i + 1] = words[i] >> 8 & 255; }
+    for (int i = 0; i < count; i++) {
+        wad[place + 2 * i] = words[i] & 255;
+        wad[place + 2 * i + 1] = words[i] >> 8 & 255;
+    }
 }
-#define PUT(place, ...) put(place, sizeof (int[]){__VA_ARGS__} / sizeof(int), (int[]){__VA_ARGS__})
+#define PUT(place, ...) \
+    do { \
+        const int these[] = {__VA_ARGS__}; \
+        put(place, sizeof these / sizeof *these, these); \
+    } while (0)
 
 /* Where the directory says of lump k, 0 for the label, that it lies; its size stands 4 bytes on, its name 8. */
 static size_t entry(int k) { return DIRECTORY + 16 * (size_t)k; }
+
+static wadlook_point_at point_at(int x, int y) {
+    wadlook_point_at at = {x, y};
+    return at;
+}
 
 static uint32_t point(int x, int y, bool wide, wadlook_place *place) {
     wadlook_point_at at = {x, y};
@@ -96,25 +113,26 @@ static void single_points(void) {
     fresh();
     CHECK(wadlook_prepare(wad, BASE, NAME("E1M1"), false, sectors, 3, &count) == WADLOOK_DONE);
     CHECK(count == 2 && sectors[0] == 0 && sectors[1] == 1 && sectors[2] == 7);
-    wadlook_place place = wadlook_point(wad + NODES, 28, sectors, count, (wadlook_point_at){0, 5});
+    wadlook_place place = wadlook_point(wad + NODES, 28, sectors, count, point_at(0, 5));
     CHECK(place.ssector == 1 && place.sector == 1);
-    place = wadlook_point(wad + NODES, 28, sectors, count, (wadlook_point_at){1, 5});
+    place = wadlook_point(wad + NODES, 28, sectors, count, point_at(1, 5));
     CHECK(place.ssector == 0 && place.sector == 0);
-    place = wadlook_point(wad + NODES, 28, sectors, count, (wadlook_point_at){16384, 5});
+    place = wadlook_point(wad + NODES, 28, sectors, count, point_at(16384, 5));
     CHECK(place.ssector == WADLOOK_NOWHERE);
-    place = wadlook_point(wad + NODES, 28, sectors, 1, (wadlook_point_at){0, 5});
+    place = wadlook_point(wad + NODES, 28, sectors, 1, point_at(0, 5));
     CHECK(place.ssector == WADLOOK_NOWHERE); /* a list that lacks the ssector */
-    place = wadlook_point(wad, 0, sectors, count, (wadlook_point_at){0, 5});
+    place = wadlook_point(wad, 0, sectors, count, point_at(0, 5));
     CHECK(place.ssector == 0); /* no nodes: ssector 0 is the whole level */
     count = 9;
     sectors[0] = 7;
     CHECK(wadlook_prepare(wad, BASE, NAME("E1M1"), false, sectors, 1, &count) == WADLOOK_NO_ROOM);
     CHECK(count == 2 && sectors[0] == 7);
     PUT(NODES + 24, 0, 0); /* the root under itself: nodes that are no tree */
-    place = wadlook_point(wad + NODES, 28, sectors, 3, (wadlook_point_at){0, 5});
+    place = wadlook_point(wad + NODES, 28, sectors, 3, point_at(0, 5));
     CHECK(place.ssector == WADLOOK_NOWHERE);
     count = 9;
     CHECK(wadlook_prepare(wad, BASE, NAME("E1M1"), false, sectors, 3, &count) == WADLOOK_UNSOUND && count == 9);
+    CHECK(wadlook_prepare(wad, BASE, NAME("E1M1"), false, sectors, 1, &count) == WADLOOK_NO_ROOM && count == 2);
 }
 
 static void census(void) {
@@ -189,7 +207,7 @@ static void sight(void) {
 
 /* The block of a point of the copy's BLOCKMAP lump, of so many bytes. */
 static uint32_t block(size_t size, bool wide, int x, int y, wadlook_block_at *found) {
-    return wadlook_block(wad + BLOCKMAP, size, wide, (wadlook_point_at){x, y}, found);
+    return wadlook_block(wad + BLOCKMAP, size, wide, point_at(x, y), found);
 }
 
 static void blocks(void) {
@@ -241,7 +259,7 @@ static void extract(void) {
 static void demo(void) {
     const uint8_t bytes[] = {109, 3, 1, 1, 0, 0, 0, 0, 0, 1, 0, 0, 0, 25, 0, 0, 0, 206, 128, 255, 128, 128, 7};
     wadlook_command commands[3] = {{7, 7, 7, 7}, {7, 7, 7, 7}, {7, 7, 7, 7}};
-    wadlook_demo_info info = {0};
+    wadlook_demo_info info;
     CHECK(wadlook_demo(bytes, sizeof bytes, commands, 1, &info) == WADLOOK_DONE);
     CHECK(info.commands == 2 && info.after == 1 && info.players == 1 && commands[0].forward == 25 && commands[1].turn == 7);
     CHECK(info.version == 109 && info.skill == 3 && info.episode == 1 && info.map == 1 && info.player[0] == 1 && info.player[3] == 0);
@@ -259,9 +277,63 @@ static void demo(void) {
     CHECK(wadlook_demo(longer, sizeof longer, commands, 3, &info) == WADLOOK_DONE && info.commands == 1 && commands[0].turn == 258);
 }
 
+static uint32_t audit_of(size_t len, wadlook_totals *totals) {
+    wadlook_finding found;
+    return wadlook_audit(wad, len, NAME("E1M1"), false, &found, 1, totals);
+}
+
+/* The sample level and a demo, cut to each shorter length. */
+static void cuts(void) {
+    const uint8_t bytes[] = {109, 3, 1, 1, 0, 0, 0, 0, 0, 1, 0, 0, 0, 25, 0, 0, 0, 206, 128, 255, 128, 128};
+    wadlook_totals totals = {9, 9};
+    wadlook_demo_info info;
+    wadlook_command commands[2];
+    size_t len = 0;
+    fresh();
+    while (len < 12 && audit_of(len, &totals) == WADLOOK_SHORT) len++;
+    CHECK(len == 12);
+    while (len < BASE && audit_of(len, &totals) == WADLOOK_DIRECTORY) len++;
+    CHECK(len == BASE && totals.faults == 9);
+    CHECK(wadlook_demo(bytes, 0, commands, 2, &info) == WADLOOK_DEMO_EMPTY);
+    len = 1;
+    while (len < 13 && wadlook_demo(bytes, len, commands, 2, &info) == WADLOOK_DEMO_SHORT) len++;
+    CHECK(len == 13);
+    while (len < 22 && wadlook_demo(bytes, len, commands, 2, &info) == WADLOOK_DEMO_NO_MARKER) len++;
+    CHECK(len == 22);
+    CHECK(wadlook_demo(bytes, len, commands, 2, &info) == WADLOOK_DONE && info.commands == 2 && info.after == 0);
+}
+
+/* What one of several threads asks, over the same bytes: whether each answer is the one of a single thread. */
+static void *ask(void *told) {
+    wadlook_rect rect = {-1, 0, 1, 1};
+    wadlook_count counts[2];
+    wadlook_totals totals;
+    bool same = true;
+    size_t count;
+    for (int k = 0; k < 2000; k++) {
+        same = same && at(0, 5, 1, 1) && at(1, 5, 0, 0);
+        same = same && audit_of(BASE, &totals) == WADLOOK_DONE && totals.faults == 0;
+        same = same && wadlook_census(wad, BASE, NAME("E1M1"), false, &rect, counts, 2, &count) == WADLOOK_DONE;
+        same = same && count == 2 && counts[0].points == 2 && counts[1].points == 4;
+    }
+    *(bool *)told = same;
+    return NULL;
+}
+
+static void threads(void) {
+    pthread_t asking[4];
+    bool same[4];
+    fresh();
+    for (int k = 0; k < 4; k++) CHECK(pthread_create(&asking[k], NULL, ask, &same[k]) == 0);
+    for (int k = 0; k < 4; k++) CHECK(pthread_join(asking[k], NULL) == 0 && same[k]);
+}
+
 int main(int argc, char **argv) {
     FILE *file = argc == 2 ? fopen(argv[1], "rb") : NULL;
-    if (!file || fread(base, 1, BASE, file) != BASE) { printf("cases: no sample level\n0 passed, 1 failed\n"); return 1; }
+    if (!file || fread(base, 1, BASE, file) != BASE) {
+        printf("cases: no sample level\n0 passed, 1 failed\n");
+        return 1;
+    }
     fclose(file);
     points();
     refusals();
@@ -273,6 +345,8 @@ int main(int argc, char **argv) {
     blocks();
     extract();
     demo();
+    cuts();
+    threads();
     printf("%u passed, %u failed\n", passed, failed);
     return failed != 0;
 }

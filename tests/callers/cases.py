@@ -1,5 +1,4 @@
-"""cases.py BASE: the module `wadlook` on worked cases over the sample level; the last line is `N passed, M failed`.
-cases.py points NAME WAD: the points of standard input, `x y` a line, answered as `wadlook points` answers them."""
+"""cases.py BASE: the module `wadlook` on worked cases over the sample level; the last line is `N passed, M failed`."""
 
 import ctypes
 import re
@@ -49,6 +48,7 @@ def cases(path):
     check("sectors of a view of two columns", level.sectors(memoryview(flat).cast("B").cast("i", (4, 2))).tolist() == [0, 1, 1, NOWHERE])
     check("sectors of a view that can't be written", level.sectors(memoryview(flat).toreadonly()).tolist() == [0, 1, 1, NOWHERE])
     check("sectors of an empty array", level.sectors(array("i")).tolist() == [])
+    check("an array is lent", lends(flat))
     lent = (ctypes.c_int32 * 2)(0, 5)
     check("sectors of another module's buffer", level.sectors(lent).tolist() == [1])
     for bad in (array("d", [0.0, 5.0]), array("i", [1, 2, 3]), memoryview(flat)[::2]):
@@ -91,13 +91,22 @@ def cases(path):
         check("a level with faults", refused(Status.UNSOUND, call, *words))
     for status, bytes_ in ((Status.SHORT, base[:11]), (Status.MAGIC, b"X" + base[1:]), (Status.DIRECTORY, base[:-1]), (Status.SHORT, b"")):
         check(f"no file: {status.name}", refused(status, Wad(bytes_).level, "E1M1"))
+    for size in range(len(base)):
+        check(f"wad_cut {size}", refused(Status.SHORT if size < 12 else Status.DIRECTORY, Wad(base[:size]).level, "E1M1"))
     check("no name", refused(Status.NO_NAME, Wad(base).level, "E2M9"))
     check("a missing lump", refused(Status.LUMP_MISSING, Wad(base).level("THINGS").sectors, [(0, 5)]))
+    label = with_words(base, DIRECTORY, -1, -1, 1, 0)
+    check("a label outside the file, of which no byte is asked", Wad(label).level("E1M1").sectors([(0, 5)]) == [1])
     check("a missing lump, audited", [it[:2] for it in Wad(base).level("THINGS").findings] == [("F1", 10)])
 
-    demo = wadlook.read_demo(bytes([109, 3, 1, 1, 0, 0, 0, 0, 0, 1, 0, 0, 0, 25, 0, 0, 0, 206, 128, 255, 128, 128, 7]))
+    two = bytes([109, 3, 1, 1, 0, 0, 0, 0, 0, 1, 0, 0, 0, 25, 0, 0, 0, 206, 128, 255, 128, 128, 7])
+    demo = wadlook.read_demo(two)
     check("a demo", demo.commands == [Command(25, 0, 0, 0), Command(-50, -128, 255, 128)] and demo.after == 1)
     check("a demo's header", (demo.version, demo.skill, demo.players) == (109, 3, (1, 0, 0, 0)))
+    for size in range(22):
+        why = Status.DEMO_EMPTY if size == 0 else Status.DEMO_SHORT if size < 13 else Status.DEMO_NO_MARKER
+        check(f"demo_cut {size}", refused(why, wadlook.read_demo, two[:size]))
+    check("demo_cut 22", wadlook.read_demo(two[:22]) == demo._replace(after=0))
     check("no demo", refused(Status.DEMO_EMPTY, level.wad.demo, "E1M1"))
     check("many commands", len(wadlook.read_demo(bytes([109, 3, 1, 1, 0, 0, 0, 0, 0, 1, 0, 0, 0]) + bytes(40000) + b"\x80").commands) == 10000)
 
@@ -112,22 +121,32 @@ def cases(path):
     check("docstrings", all(it.__doc__ for it in public + members))
 
 
-def points(name, path):
-    asked = array("i", map(int, sys.stdin.read().split()))
-    level = Wad(path).level(name)
-    sectors = level.sectors(asked)
-    said = []
-    for k, place in enumerate(level.places(zip(asked[::2], asked[1::2]))):
-        if (NOWHERE if place is None else place.sector) != sectors[k]:
-            said.append(f"the sectors differ at point {k}")
-        x, y = asked[2 * k], asked[2 * k + 1]
-        said.append("refused: range" if place is None else f"{x} {y} sector {place.sector} ssector {place.ssector}")
-    print("\n".join(said))
+def lends(points):
+    """Whether the library reads a buffer's points where they are."""
+    return ctypes.addressof(wadlook._points_of(points)[0]) == ctypes.addressof(ctypes.c_char.from_buffer(points))
 
 
-if sys.argv[1] == "points":
-    points(*sys.argv[2:])
-else:
-    cases(sys.argv[1])
-    print(f"{passed} passed, {failed} failed")
-    sys.exit(failed != 0)
+def numpy_cases(path):
+    try:
+        import numpy
+    except ImportError:
+        return
+    level = Wad(path).level("E1M1")
+    points = numpy.array([[1, 5], [0, 5], [16384, 0]], dtype=numpy.int32)
+    check("numpy's points are lent", lends(points))
+    check("sectors of numpy's points", numpy.asarray(level.sectors(points)).tolist() == [0, 1, NOWHERE])
+    points.setflags(write=False)
+    check("read-only points are copied", ctypes.addressof(wadlook._points_of(points)[0]) != points.ctypes.data)
+    check("sectors of read-only points", level.sectors(points).tolist() == [0, 1, NOWHERE])
+    for wrong in (points.astype(numpy.int64), points.astype(numpy.float32), points.T):
+        try:
+            level.sectors(wrong)
+            check("numpy's other numbers", False)
+        except TypeError:
+            check("numpy's other numbers", True)
+
+
+cases(sys.argv[1])
+numpy_cases(sys.argv[1])
+print(f"{passed} passed, {failed} failed")
+sys.exit(failed != 0)

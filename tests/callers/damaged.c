@@ -1,11 +1,18 @@
-/* damaged BASE ROUNDS: hands each call that many damaged copies of the sample level, each in a block of its own size, so that
- * the address sanitizer sees a read or write outside it, and checks that what the calls say fits together. */
+/* damaged BASE ROUNDS: hands each call that many damaged copies of the sample level, and checks that what the calls say fits
+ * together. What is handed in and what is written to each end where a page begins that can't be touched, or begin behind one:
+ * the archive isn't instrumented, so the sanitizers see this file alone, and a read or write outside faults. Compiled as C and
+ * as C++. */
+#define _DEFAULT_SOURCE /* MAP_ANONYMOUS */
 #include "wadlook.h"
 #include <stdio.h>
 #include <stdlib.h>
 #include <string.h>
+#include <sys/mman.h>
+
+enum { PAGES = 65536 }; /* whole pages, of whichever size */
 
 static uint64_t state = 88172645463325252u;
+static size_t used;
 
 /* A number below a bound, by xorshift: the same in each run. */
 static uint32_t below(uint32_t bound) {
@@ -23,55 +30,92 @@ static void must(bool holds, const char *what) {
 
 static int32_t number(void) { return (int32_t)below(40000) - 20000; }
 
+static wadlook_point_at some_point(void) {
+    wadlook_point_at point = {number(), number()};
+    return point;
+}
+
+/* Pages between two that can't be touched. */
+static uint8_t *fenced(void) {
+    uint8_t *pages = (uint8_t *)mmap(NULL, 3 * PAGES, PROT_NONE, MAP_PRIVATE | MAP_ANONYMOUS, -1, 0);
+    must(pages != MAP_FAILED && !mprotect(pages + PAGES, PAGES, PROT_READ | PROT_WRITE), "there are no pages");
+    return pages + PAGES;
+}
+
+/* A block of so many bytes, at one of the two ends of pages that no other block of the round has. */
+static void *room(size_t size) {
+    static uint8_t *pages[12];
+    must(used < sizeof pages / sizeof *pages && size <= PAGES, "there are blocks enough");
+    uint8_t **front = &pages[used++];
+    if (!*front) *front = fenced();
+    return below(4) ? *front + PAGES - size : *front;
+}
+#define ROOM(type, count) (type *)room((count) * sizeof(type))
+
 static void round_of(const uint8_t *base, uint32_t size) {
+    used = 0;
     uint32_t len = below(8) ? size : below(size);
-    uint8_t *wad = malloc(len ? len : 1);
-    if (!wad) exit(3);
+    uint8_t *wad = ROOM(uint8_t, len), *name = ROOM(uint8_t, 4);
     memcpy(wad, base, len);
+    memcpy(name, "E1M1", 4);
     for (uint32_t k = below(6); len && k-- > 0;) wad[below(len)] = (uint8_t)below(256);
 
-    const uint8_t name[] = {'E', '1', 'M', '1'};
     bool wide = below(2);
-    wadlook_point_at point = {number(), number()};
-    wadlook_place place, again;
+    wadlook_point_at *point = ROOM(wadlook_point_at, 1);
+    wadlook_place *place = ROOM(wadlook_place, 1), again;
     wadlook_totals totals;
-    wadlook_finding findings[2];
+    wadlook_finding *findings = ROOM(wadlook_finding, 2);
     wadlook_lump lump;
-    uint16_t sectors[4] = {0};
+    uint16_t *sectors = ROOM(uint16_t, 4);
     size_t count;
-    uint32_t points = wadlook_points(wad, len, name, 4, wide, &point, 1, &place, 1);
+    *point = some_point();
+    memset(sectors, 0, 4 * sizeof *sectors);
+    uint32_t points = wadlook_points(wad, len, name, 4, wide, point, 1, place, 1);
     uint32_t audit = wadlook_audit(wad, len, name, 4, wide, findings, 2, &totals);
     must((points == WADLOOK_DONE) == (audit == WADLOOK_DONE && totals.faults == 0), "a level is sound where points answers");
     uint32_t prepared = wadlook_prepare(wad, len, name, 4, wide, sectors, 4, &count);
     must(prepared == points || prepared == WADLOOK_NO_ROOM, "prepare and points refuse the same");
     if (wadlook_find(wad, len, name, 4, 7, &lump) == WADLOOK_DONE) {
         must(lump.place + lump.size <= len, "a lump lies in the file");
-        again = wadlook_point(wad + lump.place, lump.size, sectors, prepared == WADLOOK_DONE ? count : below(5), point);
+        again = wadlook_point(wad + lump.place, lump.size, sectors, prepared == WADLOOK_DONE ? count : below(5), *point);
         if (prepared == WADLOOK_DONE)
-            must(again.ssector == place.ssector && again.sector == place.sector, "point and points answer the same");
+            must(again.ssector == place->ssector && again.sector == place->sector, "point and points answer the same");
     }
     if (wadlook_find(wad, len, name, 4, 10, &lump) == WADLOOK_DONE) {
         wadlook_block_at block;
-        if (wadlook_block(wad + lump.place, lump.size, wide, point, &block) == WADLOOK_DONE)
+        uint8_t *blockmap = ROOM(uint8_t, lump.size);
+        memcpy(blockmap, wad + lump.place, lump.size);
+        if (wadlook_block(blockmap, lump.size, wide, *point, &block) == WADLOOK_DONE)
             must(2 * (block.first + block.count) < lump.size, "a list and its end lie in the lump");
     }
     if (wadlook_find(wad, len, name, 4, 9, &lump) == WADLOOK_DONE) {
         uint32_t blocked, n = below(5);
-        if (wadlook_sight(wad + lump.place, lump.size, n, below(5), below(5), &blocked) == WADLOOK_DONE) must(blocked < 2, "a bit");
+        uint8_t *reject = ROOM(uint8_t, lump.size);
+        memcpy(reject, wad + lump.place, lump.size);
+        if (wadlook_sight(reject, lump.size, n, below(5), below(5), &blocked) == WADLOOK_DONE) must(blocked < 2, "a bit");
     }
-    wadlook_rect rect = {point.x, point.y, point.x + (int32_t)below(40) - 2, point.y + (int32_t)below(40) - 2};
-    wadlook_count counts[2];
-    if (wadlook_census(wad, len, name, 4, wide, &rect, counts, 2, &count) == WADLOOK_DONE)
+    wadlook_rect rect = {point->x, point->y, point->x + (int32_t)below(40) - 2, point->y + (int32_t)below(40) - 2};
+    if (wadlook_census(wad, len, name, 4, wide, &rect, ROOM(wadlook_count, 2), 2, &count) == WADLOOK_DONE)
         must(points == WADLOOK_DONE, "census answers for sound levels");
-    uint8_t *out = malloc(600);
-    size_t written = 0;
-    if (wadlook_extract(wad, len, name, 4, out, 600, &written) == WADLOOK_DONE) must(!memcmp(out, "PWAD", 4), "a file");
-    free(out);
-    wadlook_command commands[3];
+    size_t out_len = below(600);
+    uint8_t *out = ROOM(uint8_t, out_len);
+    if (wadlook_extract(wad, len, name, 4, out, out_len, &count) == WADLOOK_DONE) must(!memcmp(out, "PWAD", 4), "a file");
     wadlook_demo_info info;
     if (len) wad[0] = (uint8_t)(109 + below(3));
-    wadlook_demo(wad, len, commands, 3, &info);
-    free(wad);
+    wadlook_demo(wad, len, ROOM(wadlook_command, 3), 3, &info);
+}
+
+/* Nodes and sectors of any kind, each child's word an ssector or a node. */
+static void round_of_nodes(void) {
+    used = 0;
+    uint32_t nodes_len = below(28 * 8 + 1), listed = below(9);
+    uint8_t *nodes = ROOM(uint8_t, nodes_len);
+    uint16_t *sectors = ROOM(uint16_t, listed);
+    for (uint32_t k = 0; k < nodes_len; k++)
+        nodes[k] = (uint8_t)(k % 28 < 24 ? below(3) ? 0 : below(256) : k % 2 ? below(2) * 128 : below(9));
+    for (uint32_t k = 0; k < listed; k++) sectors[k] = (uint16_t)below(65536);
+    wadlook_place place = wadlook_point(nodes, nodes_len, sectors, listed, some_point());
+    must(place.ssector < listed || place.ssector == WADLOOK_NOWHERE, "an ssector of the list, or nowhere");
 }
 
 int main(int argc, char **argv) {
@@ -80,23 +124,9 @@ int main(int argc, char **argv) {
     if (!file) return 2;
     uint32_t size = (uint32_t)fread(base, 1, sizeof base, file);
     fclose(file);
-    for (long k = atol(argv[2]); k-- > 0;) round_of(base, size);
-
-    /* Nodes and sectors of any kind, a word of each child an ssector or a node. */
     for (long k = atol(argv[2]); k-- > 0;) {
-        uint8_t nodes[28 * 8];
-        uint16_t sectors[8];
-        for (size_t i = 0; i < sizeof nodes; i++) nodes[i] = below(3) ? 0 : (uint8_t)below(256);
-        for (int i = 0; i < 8; i++) {
-            nodes[28 * i + 24] = (uint8_t)below(9);
-            nodes[28 * i + 25] = (uint8_t)(below(2) * 128);
-            nodes[28 * i + 26] = (uint8_t)below(9);
-            nodes[28 * i + 27] = (uint8_t)(below(2) * 128);
-            sectors[i] = (uint16_t)below(65536);
-        }
-        uint32_t listed = below(9);
-        wadlook_place place = wadlook_point(nodes, below(sizeof nodes + 1), sectors, listed, (wadlook_point_at){number(), number()});
-        must(place.ssector < listed || place.ssector == WADLOOK_NOWHERE, "an ssector of the list, or nowhere");
+        round_of(base, size);
+        round_of_nodes();
     }
     return 0;
 }

@@ -6,6 +6,7 @@ pub mod CountLemmas
 pub mod IndexLemmas
 pub mod JsonLemmas
 pub mod LawLemmas
+pub mod LineLemmas
 pub mod MemberLemmas
 pub mod ObjectLemmas
 pub mod ObjectReadLemmas

@@ -1,5 +1,5 @@
 -- The counts of a level's codes are those of its report.
-use Rattle.std.proofs.Common.{◌≡◌, ℕ, zero, suc, ◌+◌, ◌<◌, ◌≤◌, ◌⊎◌, inl, inr, Bool, true, false, List, [], ◌∷◌, length, take, get_or, refl, sym, ap, ◌∙◌, subst, arith, add-one}
+use Rattle.std.proofs.Common.{◌≡◌, ◌↔◌, ℕ, zero, suc, ◌+◌, ◌<◌, ◌≤◌, ◌⊎◌, inl, inr, Bool, true, false, List, [], ◌∷◌, length, take, get_or, refl, sym, ap, ◌∙◌, subst, arith, add-one}
 use Rattle.std.specs.Prelude.{AllPairs, Contains, cond, count_by, if◌then◌else◌, nat_lt, not, slice_index, sum, ◌==◌}
 use Rattle.std.proofs.lemmas.Bool.{cases_eq, cases_order, eq-eqb, le-ltb, lt-ltb, ne_eqb}
 use Rattle.std.proofs.lemmas.List.{take_all}
@@ -15,7 +15,7 @@ use Rattle.wad_lens.specs.Counts.{IsCount, report_order}
 use Rattle.wad_lens.specs.Laws.{CountsAreOfTheReport}
 
 -- the indexes of a code's findings
-abbrev pick : Code → List Finding → List ℕ
+abbrev pub pick : Code → List Finding → List ℕ
 pick code [] = []
 pick code (f ∷ found) = if place f.code == place code then f.index ∷ pick code found else pick code found
 
@@ -74,10 +74,10 @@ pairs-cons R x xs head tail zero (suc j) d before below = head (get_or xs j d) (
 pairs-cons R x xs head tail (suc i) zero d before below = absurd (omega (arith, before))
 pairs-cons R x xs head tail (suc i) (suc j) d before below = tail i j d (omega (arith, before)) (omega (arith, below))
 
-pairs-tail : {X : Type 0} (R : X → X → Type 0) (x : X) (xs : List X) → AllPairs R (x ∷ xs) → AllPairs R xs
+pub pairs-tail : {X : Type 0} (R : X → X → Type 0) (x : X) (xs : List X) → AllPairs R (x ∷ xs) → AllPairs R xs
 pairs-tail R x xs pairs = λ i j d before below. pairs (suc i) (suc j) d (omega (arith, before)) (omega (arith, below))
 
-pairs-head : {X : Type 0} (R : X → X → Type 0) (x : X) (xs : List X) (z : X) → AllPairs R (x ∷ xs) → Contains xs z → R x z
+pub pairs-head : {X : Type 0} (R : X → X → Type 0) (x : X) (xs : List X) (z : X) → AllPairs R (x ∷ xs) → Contains xs z → R x z
 pairs-head R x xs z pairs there = subst (λ y. R x y) there.2 (pairs 0 (suc there.0) z (omega arith) (omega (arith, there.1)))
 
 pick_ascending : (code : Code) (found : List Finding) → AllPairs StandsBefore found → AllPairs (λ a b. a < b) (pick code found)
@@ -109,18 +109,22 @@ length-pick code (f ∷ found) =
           ap length (pick-no code f found differs) ∙ omega (arith, rest, cut, none)
     ]
 
+-- all indexes at which a code holds are those of its findings in a report
+pub indexes_of_report : (holds : Code → ℕ → Type 0) (found : List Finding) (code : Code) (indexes : List ℕ) → AreFindings holds found
+    → AllPairs (λ a b. a < b) indexes → ((i : ℕ) → Contains indexes i ↔ holds code i) → indexes ≡ pick code found
+indexes_of_report holds found code indexes are ascending exact =
+    one_list (λ (a b : ℕ). a < b) (λ a b below above. omega (arith, below, above)) indexes (pick code found) ascending (pick_ascending code found are.ascending)
+    (λ i there. is_picked code found (record { code = code; index = i }) ((are.exact (record { code = code; index = i })).1 ((exact i).0 there)) refl)
+    (λ i there.
+    let p = picked code found i there in
+    let here : holds code i = subst (λ (c : Code). holds c i) p.coded (subst (λ (k : ℕ). holds p.f.code k) p.indexed ((are.exact p.f).0 p.there)) in
+    (exact i).1 here)
+
 -- how often a code holds is how many findings of a report have it
 count_of_report : (holds : Code → ℕ → Type 0) (found : List Finding) (code : Code) (count : ℕ) → AreFindings holds found → IsCount (holds code) count
     → count ≡ count_by (λ f. place f.code == place code) found
 count_of_report holds found code count are is =
-    let same : is.indexes ≡ pick code found =
-    one_list (λ (a b : ℕ). a < b) (λ a b below above. omega (arith, below, above)) is.indexes (pick code found) is.ascending (pick_ascending code found are.ascending)
-    (λ i there. is_picked code found (record { code = code; index = i }) ((are.exact (record { code = code; index = i })).1 ((is.exact i).0 there)) refl)
-    (λ i there.
-    let p = picked code found i there in
-    let here : holds code i = subst (λ (c : Code). holds c i) p.coded (subst (λ (k : ℕ). holds p.f.code k) p.indexed ((are.exact p.f).0 p.there)) in
-    (is.exact i).1 here) in
-    is.counted ∙ ap length same ∙ length-pick code found
+    is.counted ∙ ap length (indexes_of_report holds found code is.indexes are is.ascending is.exact) ∙ length-pick code found
 
 -- one place more
 test_more : (p n : ℕ) → cond (nat_lt p (n + 1)) 1 0 ≡ cond (nat_lt p n) 1 0 + cond (p == n) 1 0

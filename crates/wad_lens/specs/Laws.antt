@@ -1,5 +1,6 @@
 -- The laws of this crate's definitions (ours).
 use Rattle.std.specs.Prelude.{◌≡◌, ◌↔◌, ℕ, ◌<◌, ◌^◌, List, ◌∷◌, ◌++◌, ◌==◌, count_by, not, slice_index}
+use Rattle.std.specs.List.{flat_map}
 use Rattle.std.specs.Str.Lossy.{utf8_lossy}
 use Rattle.json.specs.Lex.{between, lex, token}
 use Rattle.json.specs.Token.{string}
@@ -19,7 +20,9 @@ use Rattle.wad_dir.specs.Entries.{names}
 use Rattle.wad_dir.specs.Wad.{Wad}
 use Rattle.wad_lens.specs.Check.{Asked, ChecksAll}
 use Rattle.wad_lens.specs.Counts.{AreCounts, fault_total, note_total}
+use Rattle.wad_lens.specs.FindingLine.{finding_line}
 use Rattle.wad_lens.specs.JsonString.{json_string}
+use Rattle.wad_lens.specs.LevelLines.{AreTold, findings_part}
 use Rattle.wad_lens.specs.ObjectValues.{HasSmallNumbers, IsLineOf, doom_value, other_value, refused_value}
 use Rattle.wad_lens.specs.Objects.{doom_members, level_members, other_members, refused_object}
 use Rattle.wad_lens.specs.Warned.{Warned}
@@ -42,6 +45,12 @@ abbrev pub CountsAreOfTheReport : Type 0
 CountsAreOfTheReport =
     (level : Level) (found : List Finding) (counts : List ℕ) → AreFindings (AuditHolds level) found → AreCounts (AuditHolds level) counts
     → CountFindings counts found
+
+-- where all findings are shown, what a check tells of them is the line of each finding of the level's report, in its order
+abbrev pub LinesAreOfTheReport : Type 0
+LinesAreOfTheReport =
+    (path name : List ℕ) (level : Level) (found : List Finding) (told : Code → List ℕ) → AreFindings (AuditHolds level) found
+    → AreTold (AuditHolds level) told → findings_part path name 0 level told ≡ flat_map (finding_line path name level) found
 
 -- where a string is written, the kit's reader of JSON finds the bytes' text and goes on behind it
 abbrev pub StringsAreRead : Type 0

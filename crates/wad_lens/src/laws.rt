@@ -12,6 +12,11 @@ pub fn counts_are_of_the_report()
     ensures { law.CountsAreOfTheReport }
 {}
 
+/// Where all findings are shown, what a check tells of them is the line of each finding of the level's report, in its order.
+pub fn lines_are_of_the_report()
+    ensures { law.LinesAreOfTheReport }
+{}
+
 /// What is written as a string is read back as the bytes' text, by the kit's reader of JSON and wherever it stands.
 pub fn strings_are_read()
     ensures { law.StringsAreRead }

@@ -1,0 +1,124 @@
+-- The lines of a level's findings, code by code, are those of its report in their order.
+use Rattle.std.proofs.Common.{◌≡◌, ℕ, zero, suc, ◌+◌, ◌-◌, ◌≤◌, inl, inr, Bool, List, [], ◌∷◌, ◌++◌, length, take, get_or, refl, sym, ap, ◌∙◌, subst, arith, add-one, append_assoc, append-nil}
+use Rattle.std.specs.Prelude.{AllPairs, Contains, if◌then◌else◌, nat_lt, ◌==◌}
+use Rattle.std.specs.List.{flat_map}
+use Rattle.std.proofs.lemmas.Bool.{cases_eq, cases_order, eq-eqb, le-ltb, lt-ltb, ne_eqb}
+use Rattle.std.proofs.lemmas.List.{take_all, take_more}
+use Rattle.std.proofs.lemmas.List.Concat.{flat_map-append}
+use Rattle.map_audit.specs.Findings.{AuditHolds}
+use Rattle.map_level.proofs.FindingLemmas.{place_at, place-below, same_from_place}
+use Rattle.map_level.specs.Findings.{StandsBefore, place}
+use Rattle.map_level.specs.Level.{Level}
+use Rattle.map_level.specs.declared.finding.Code.{Code}
+use Rattle.map_level.specs.declared.finding.Code.TheVariants.{F1}
+use Rattle.map_level.specs.declared.finding.Finding.{Finding}
+use Rattle.wad_lens.specs.Counts.{report_order}
+use Rattle.wad_lens.specs.FindingLine.{finding_line}
+use Rattle.wad_lens.specs.Laws.{LinesAreOfTheReport}
+use Rattle.wad_lens.specs.LevelLines.{code_lines, code_part, findings_part}
+use Rattle.wad_lens.proofs.ReportLemmas.{indexes_of_report, pairs-head, pairs-tail, pick}
+
+module _ (line : Finding → List ℕ) where
+  -- the lines of the findings whose code's place passes a test
+  abbrev lines_where : (ℕ → Bool) → List Finding → List ℕ
+  lines_where test [] = []
+  lines_where test (f ∷ found) = if test (place f.code) then line f ++ lines_where test found else lines_where test found
+
+  abbrev lines_below : ℕ → List Finding → List ℕ
+  lines_below n found = lines_where (λ p. nat_lt p n) found
+
+  abbrev lines_at : ℕ → List Finding → List ℕ
+  lines_at n found = lines_where (λ p. p == n) found
+
+  none_below : (n : ℕ) (found : List Finding) → ((f : Finding) → Contains found f → n ≤ place f.code) → lines_below n found ≡ []
+  none_below n [] above = refl
+  none_below n (f ∷ found) above =
+      let here : n ≤ place f.code = above f (0, omega arith, refl) in
+      rw (le-ltb (place f.code) n here) (none_below n found (λ g there. above g (suc there.0, omega (arith, there.1), there.2)))
+
+  -- the findings of one place more
+  lines_more : (n : ℕ) (found : List Finding) → AllPairs StandsBefore found → lines_below (n + 1) found ≡ lines_below n found ++ lines_at n found
+  lines_more n [] pairs = refl
+  lines_more n (f ∷ found) pairs =
+      let rest = lines_more n found (pairs-tail StandsBefore f found pairs) in
+      elim (cases_order (place f.code) n) [
+        | inl same ↦
+            let none = none_below n found (λ g there. elim (pairs-head StandsBefore f found g pairs there) [
+              | inl less ↦ omega (arith, less, same)
+              | inr stands ↦ omega (arith, ap place stands.0, same)
+            ]) in
+            rw (lt-ltb (place f.code) (n + 1) (omega arith), le-ltb (place f.code) n (omega arith), eq-eqb (place f.code) n same) (rw (rest, none) refl)
+        | inr other ↦ elim other [
+          | inl less ↦
+              rw (lt-ltb (place f.code) (n + 1) (omega arith), lt-ltb (place f.code) n less, ne_eqb (place f.code) n (λ e. omega arith))
+              (rw rest (sym (append_assoc (line f) (lines_below n found) (lines_at n found))))
+          | inr more ↦
+              rw (le-ltb (place f.code) (n + 1) (omega arith), le-ltb (place f.code) n (omega arith), ne_eqb (place f.code) n (λ e. omega arith)) rest
+        ]
+      ]
+
+  -- a code's lines, by the indexes of its findings
+  abbrev pub lines_by : Code → List ℕ → List ℕ
+  lines_by code indexes = flat_map (λ i. line (record { code = code; index = i })) indexes
+
+  lines_at-picked : (code : Code) (found : List Finding) → lines_at (place code) found ≡ lines_by code (pick code found)
+  lines_at-picked code [] = refl
+  lines_at-picked code (f ∷ found) =
+      let rest = lines_at-picked code found in
+      elim (cases_eq (place f.code) (place code)) [
+        | inl same ↦
+            let one : line f ≡ line (record { code = code; index = f.index }) =
+            ap (λ c. line (record { code = c; index = f.index })) (same_from_place f.code code same) in
+            rw (eq-eqb (place f.code) (place code) same) (rw (one, rest) refl)
+        | inr differs ↦ rw (ne_eqb (place f.code) (place code) differs) rest
+      ]
+
+  -- those of the first codes are those of the findings below a place
+  lines_of_first : (found : List Finding) → AllPairs StandsBefore found → (n : ℕ) → n ≤ 30
+      → flat_map (λ code. lines_by code (pick code found)) (take n report_order) ≡ lines_below n found
+  lines_of_first found pairs zero within = sym (none_below 0 found (λ f there. omega arith))
+  lines_of_first found pairs (suc n) within =
+      let code = get_or report_order n F1 in
+      let at : place code ≡ n = place_at n F1 (omega arith) in
+      let here : lines_at n found ≡ lines_by code (pick code found) = subst (λ p. lines_at p found ≡ lines_by code (pick code found)) at (lines_at-picked code found) in
+      let before = lines_of_first found pairs n (omega arith) in
+      let cut : take (n + 1) report_order ≡ take n report_order ++ code ∷ [] = take_more report_order n F1 (omega arith) in
+      subst (λ k. flat_map (λ code. lines_by code (pick code found)) (take k report_order) ≡ lines_below k found) (add-one n) (
+      ap (flat_map (λ code. lines_by code (pick code found))) cut
+      ∙ flat_map-append (λ code. lines_by code (pick code found)) (take n report_order) (code ∷ [])
+      ∙ ap (λ text. text ++ (lines_by code (pick code found) ++ [])) before
+      ∙ ap (λ text. lines_below n found ++ text) (append-nil (lines_by code (pick code found)) ∙ sym here)
+      ∙ sym (lines_more n found pairs))
+
+  lines_of_all : (found : List Finding) → lines_below 30 found ≡ flat_map line found
+  lines_of_all [] = refl
+  lines_of_all (f ∷ found) = rw (lt-ltb (place f.code) 30 (place-below f.code)) (ap (λ text. line f ++ text) (lines_of_all found))
+
+  -- and those of all codes those of the report
+  pub lines_of_report : (found : List Finding) → AllPairs StandsBefore found
+      → flat_map (λ code. lines_by code (pick code found)) report_order ≡ flat_map line found
+  lines_of_report found pairs = lines_of_first found pairs 30 (omega arith) ∙ lines_of_all found
+
+-- where all of a code's findings are shown, none is left out
+whole_part : (path name : List ℕ) (level : Level) (code : Code) (indexes : List ℕ)
+    → code_part path name 0 level code indexes ≡ code_lines path name level code indexes
+whole_part path name level code indexes =
+    let all : take (length indexes) indexes ≡ indexes = take_all (length indexes) indexes (omega arith) in
+    let none : length indexes - length indexes ≡ 0 = omega arith in
+    rw (all, none) (append-nil (code_lines path name level code indexes))
+
+whole_parts : (path name : List ℕ) (level : Level) (told other : Code → List ℕ) → ((code : Code) → told code ≡ other code) → (codes : List Code)
+    → flat_map (λ code. code_part path name 0 level code (told code)) codes ≡ flat_map (λ code. code_lines path name level code (other code)) codes
+whole_parts path name level told other same [] = refl
+whole_parts path name level told other same (code ∷ codes) =
+    let part : code_part path name 0 level code (told code) ≡ code_lines path name level code (other code) =
+    whole_part path name level code (told code) ∙ ap (code_lines path name level code) (same code) in
+    ap (λ text. text ++ flat_map (λ code. code_part path name 0 level code (told code)) codes) part
+    ∙ ap (λ text. code_lines path name level code (other code) ++ text) (whole_parts path name level told other same codes)
+
+pub law_lines_are_of_the_report : LinesAreOfTheReport
+unfolding findings_part
+law_lines_are_of_the_report path name level found told are told_are =
+    let same : (code : Code) → told code ≡ pick code found =
+    λ code. indexes_of_report (AuditHolds level) found code (told code) are (told_are code).ascending (told_are code).exact in
+    whole_parts path name level told (λ code. pick code found) same report_order ∙ lines_of_report (finding_line path name level) found are.ascending

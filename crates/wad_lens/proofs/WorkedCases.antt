@@ -1,26 +1,40 @@
--- The texts of findings and warnings, computed on a small level: each is what stands here.
-use Rattle.std.proofs.Common.{◌≡◌, ℕ, ℤ, pos, negsuc, List, [], ◌∷◌, ◌++◌, refl}
+-- The texts of findings, warnings, formats and totals, and the objects of a survey, computed on small levels: each is what
+-- stands here.
+use Rattle.std.proofs.Common.{◌≡◌, ℕ, ℤ, pos, negsuc, true, false, List, [], ◌∷◌, ◌++◌, replicate, refl}
+use lib.Utf8.{encode}
 use Rattle.std.specs.Fmt.{digits}
 use Rattle.std.specs.Prelude.{codes}
+use Rattle.std.specs.Str.{chars, is_utf8}
+use Rattle.std.specs.Str.Lossy.{utf8_error_len, utf8_lossy, utf8_valid_len}
+use Rattle.level_list.specs.declared.format.Format.TheVariants.{Udmf, Incomplete, Hexen, Outside, Extended, Doom}
 use Rattle.le_rec.specs.Number.{signed16, unsigned16}
 use Rattle.le_rec.specs.Table.{Rows}
 use Rattle.le_rec.specs.declared.records.LineDef.{LineDef}
+use Rattle.le_rec.specs.declared.records.Sector.{Sector}
 use Rattle.map_checks.specs.declared.warning.Part.TheVariants.{Middle, Upper, Lower}
 use Rattle.map_checks.specs.declared.warning.Side.TheVariants.{Front, Back}
 use Rattle.map_checks.specs.declared.warning.Warning.{Warning}
 use Rattle.map_checks.specs.declared.warning.Warning.TheVariants as warning
-use Rattle.map_checks.specs.declared.warning.WarningCode.TheVariants.{W2}
+use Rattle.map_checks.specs.declared.warning.WarningCode.TheVariants.{W2, W4, W6}
 use Rattle.map_level.specs.Level.{Level}
 use Rattle.map_level.specs.declared.finding.Code.{Code}
 use Rattle.map_level.specs.declared.finding.Code.TheVariants.{F3, F4, F5, F6, F7, F8, F9, F10, F11, F12, F13, F14, F15, F16, F17, F18, N2, N3, N4, N5, N6, N7, N8, N9, N10, N11, N12}
 use Rattle.map_level.specs.declared.reading.Reading.{Reading}
 use Rattle.map_level.specs.declared.reading.Reading.TheVariants.{Signed, Wide}
+use Rattle.wad_dir.specs.declared.wad.WadFault.TheVariants as wad
 use Rattle.wad_lens.specs.FindingLine.{finding_line, lead_text}
-use Rattle.wad_lens.specs.LevelLines.{code_part}
+use Rattle.wad_lens.specs.FormatLine.{format_text}
+use Rattle.wad_lens.specs.JsonString.{json_string}
+use Rattle.wad_lens.specs.LevelLines.{code_part, wide_part}
 use Rattle.wad_lens.specs.Message.{message}
+use Rattle.wad_lens.specs.Objects.{doom_members, level_members, other_members, refused_object}
 use Rattle.wad_lens.specs.Place.{place_of, place_text}
+use Rattle.wad_lens.specs.Totals.{totals_line}
 use Rattle.wad_lens.specs.Warned.{more_warnings}
 use Rattle.wad_lens.specs.WarningLine.{warning_lead, warning_message, warning_place}
+use Rattle.wad_lens.specs.declared.judging.Warnings.TheVariants.{Unasked, Told, Strict}
+use Rattle.wad_lens.specs.declared.object.Refusal.TheVariants.{TooLarge, NoWad}
+use Rattle.wad_lens.specs.declared.totals.Totals.{Totals}
 
 abbrev rows : {R : Type 0} → List R → Rows R
 rows records = record { records = records; rest = 3 }
@@ -30,6 +44,9 @@ line v1 v2 side0 side1 = record { v1 = v1; v2 = v2; flags = pos 4; special = pos
 
 abbrev name : List ℕ
 name = codes "FLAT"
+
+abbrev sector : Sector
+sector = record { floor = pos 0; ceiling = pos 128; floor_name = name; ceiling_name = name; light = pos 160; special = pos 0; tag = pos 0 }
 
 -- two vertexes, one sector, two sidedefs; linedef 1 names sidedef 1, and so does linedef 2
 abbrev level : Reading → Level
@@ -269,3 +286,115 @@ few_starts_told = refl
 warnings_left_told : more_warnings (codes "a.wad") name W2 5 ≡ codes "a.wad: FLAT: W2: 5 more" ++ 10 ∷ []
 unfolding digits
 warnings_left_told = refl
+
+-- what tells a level that isn't judged
+udmf_told : format_text Udmf ≡ codes "udmf: not read\n"
+udmf_told = refl
+
+incomplete_told : format_text (Incomplete 10) ≡ codes "incomplete: no BLOCKMAP where it belongs\n"
+incomplete_told = refl
+
+hexen_told : format_text Hexen ≡ codes "hexen: not read\n"
+hexen_told = refl
+
+outside_told : format_text (Outside 7) ≡ codes "outside: NODES\n"
+outside_told = refl
+
+extended_told : format_text (Extended (codes "XNOD")) ≡ codes "extended nodes XNOD: not read\n"
+extended_told = refl
+
+sound_wide_told : wide_part (codes "a.wad") (codes "E1M1") true ≡ codes "a.wad: E1M1: sound with --wide\n"
+sound_wide_told = refl
+
+not_sound_wide_told : wide_part (codes "a.wad") (codes "E1M1") false ≡ []
+not_sound_wide_told = refl
+
+-- the line at the end of a run, whose words stand as they are also behind 1
+abbrev totals : Totals
+totals = record { levels = 12; faults = 3; notes = 45; warnings = 1; broken = 1; unread = 2 }
+
+totals_told : totals_line 2 Unasked totals ≡ codes "12 levels in 2 files: 3 faults, 45 notes, 3 not judged\n"
+unfolding digits
+totals_told = refl
+
+totals_with_warnings_told : totals_line 1 Told totals ≡ codes "12 levels in 1 files: 3 faults, 45 notes, 1 warnings, 3 not judged\n"
+unfolding digits
+totals_with_warnings_told = refl
+
+totals_of_none_told : totals_line 0 Strict (record { levels = 0; faults = 0; notes = 0; warnings = 0; broken = 0; unread = 0 })
+    ≡ codes "0 levels in 0 files: 0 faults, 0 notes, 0 warnings, 0 not judged\n"
+unfolding digits
+totals_of_none_told = refl
+
+-- one name to unfold for strings and numbers
+unfoldable strings : Unit {0}
+unfolding digits utf8_lossy utf8_valid_len utf8_error_len is_utf8 chars encode
+strings = tt
+
+-- strings: what has to be escaped, and what is no UTF-8
+escaped_string : json_string (34 ∷ 92 ∷ 10 ∷ 31 ∷ 47 ∷ 127 ∷ []) ≡ codes "\"\\\"\\\\\\u000a\\u001f/" ++ 127 ∷ 34 ∷ []
+unfolding strings
+escaped_string = refl
+
+replaced_string : json_string (195 ∷ 169 ∷ 255 ∷ 65 ∷ []) ≡ 34 ∷ 195 ∷ 169 ∷ 239 ∷ 191 ∷ 189 ∷ 65 ∷ 34 ∷ []
+unfolding strings
+replaced_string = refl
+
+-- the objects of refused files
+short_object : refused_object (codes "a.wad") (NoWad wad.Short) ≡ codes "{\"file\":\"a.wad\",\"refused\":\"shorter than a WAD header\"}\n"
+unfolding strings
+short_object = refl
+
+large_object : refused_object (codes "b") TooLarge ≡ codes "{\"file\":\"b\",\"refused\":\"larger than 268435456 bytes\"}\n"
+unfolding strings
+large_object = refl
+
+-- those of levels that aren't judged
+udmf_object : level_members (codes "a.wad") (codes "MAP01") 3 Udmf ++ other_members Udmf
+    ≡ codes "{\"file\":\"a.wad\",\"level\":\"MAP01\",\"entry\":3,\"format\":\"udmf\"}\n"
+unfolding strings
+udmf_object = refl
+
+incomplete_object : level_members (codes "a.wad") (codes "MAP01") 12 (Incomplete 10) ++ other_members (Incomplete 10)
+    ≡ codes "{\"file\":\"a.wad\",\"level\":\"MAP01\",\"entry\":12,\"format\":\"incomplete\",\"lump\":\"BLOCKMAP\"}\n"
+unfolding strings
+incomplete_object = refl
+
+extended_object : level_members (codes "a.wad") (codes "MAP01") 0 (Extended (codes "XNOD")) ++ other_members (Extended (codes "XNOD"))
+    ≡ codes "{\"file\":\"a.wad\",\"level\":\"MAP01\",\"entry\":0,\"format\":\"extended\",\"tag\":\"XNOD\"}\n"
+unfolding strings
+extended_object = refl
+
+-- that of the sample, and of a level of as many records with a fault, notes and warnings
+abbrev sample : Level
+sample = record {
+  label = 0;
+  reading = Signed;
+  names = [];
+  things = rows (record { x = pos 8; y = pos 8; angle = pos 0; kind = pos 1; options = pos 7 } ∷ []);
+  linedefs = rows (line (pos 0) (pos 1) (pos 0) (pos 1) ∷ []);
+  sidedefs = rows (record { xoff = pos 0; yoff = pos 0; top = name; bottom = name; middle = name; sector = pos 0 }
+      ∷ record { xoff = pos 0; yoff = pos 0; top = name; bottom = name; middle = name; sector = pos 1 } ∷ []);
+  vertexes = rows (record { x = pos 0; y = pos 0 } ∷ record { x = pos 0; y = pos 64 } ∷ []);
+  segs = rows (record { v1 = pos 0; v2 = pos 1; angle = pos 16384; linedef = pos 0; side = pos 0; offset = pos 0 }
+      ∷ record { v1 = pos 1; v2 = pos 0; angle = negsuc 16383; linedef = pos 0; side = pos 1; offset = pos 0 } ∷ []);
+  ssectors = rows (record { count = pos 1; first = pos 0 } ∷ record { count = pos 1; first = pos 1 } ∷ []);
+  nodes = rows (record { x = pos 0; y = pos 0; dx = pos 0; dy = pos 64; box0 = []; box1 = []; child0 = 32768; child1 = 32769 } ∷ []);
+  sectors = rows (sector ∷ sector ∷ []);
+  reject = 0 ∷ [];
+  blockmap = replicate 16 0;
+}
+
+sample_object : level_members (codes "a.wad") (codes "E1M1") 0 Doom ++ doom_members sample (replicate 30 0) Unasked []
+    ≡ codes "{\"file\":\"a.wad\",\"level\":\"E1M1\",\"entry\":0,\"format\":\"doom\",\"things\":1,\"linedefs\":1,\"sidedefs\":2,\"vertexes\":2,\"segs\":2,\"ssectors\":2,\"nodes\":1,\"sectors\":2,"
+    ++ codes "\"reject\":1,\"blockmap\":16,\"sound\":true,\"faults\":0,\"notes\":0,\"findings\":{}}\n"
+unfolding strings
+sample_object = refl
+
+-- F9 twice, N3 once and N12 eleven times, and of two codes of warnings 7 and none
+found_object : doom_members sample (replicate 8 0 ++ (2 ∷ replicate 11 0 ++ (1 ∷ replicate 8 0 ++ (11 ∷ [])))) Told
+    (record { code = W4; cut = record { most = 0; first = []; count = 7 } } ∷ record { code = W6; cut = record { most = 0; first = []; count = 0 } } ∷ [])
+    ≡ codes ",\"things\":1,\"linedefs\":1,\"sidedefs\":2,\"vertexes\":2,\"segs\":2,\"ssectors\":2,\"nodes\":1,\"sectors\":2,"
+    ++ codes "\"reject\":1,\"blockmap\":16,\"sound\":false,\"faults\":2,\"notes\":12,\"findings\":{\"F9\":2,\"N3\":1,\"N12\":11},\"warnings\":{\"W4\":7}}\n"
+unfolding digits
+found_object = refl

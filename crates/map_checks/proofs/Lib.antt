@@ -6,3 +6,4 @@ pub mod TwinLemmas
 pub mod KeyLemmas
 pub mod FacingLemmas
 pub mod StartLemmas
+pub mod VoidLemmas

@@ -7,3 +7,4 @@ pub mod KeyLemmas
 pub mod FacingLemmas
 pub mod StartLemmas
 pub mod VoidLemmas
+mod WorkedCases

@@ -26,6 +26,16 @@ none-more items [] v none is (suc s) = refl
 none-more items (x ∷ xs) v none is zero = none 0
 none-more items (x ∷ xs) v none is (suc s) = none-more items xs v (λ k. none (suc k)) is s
 
+-- a list more, with room for as many as are wanted at its place
+pub room-more : {V : Type 0} (room : V → ℕ) (wanted : ℕ → ℕ) (lists : List V) (v : V) → room v ≡ wanted (length lists)
+    → ((s : ℕ) → s < length lists → get_or (map room lists) s 0 ≡ wanted s)
+    → (s : ℕ) → s < length lists + 1 → get_or (map room (lists ++ v ∷ [])) s 0 ≡ wanted s
+room-more room wanted [] v is before zero h = is
+room-more room wanted [] v is before (suc s) h = absurd (omega (arith, h))
+room-more room wanted (x ∷ xs) v is before zero h = before 0 (omega arith)
+room-more room wanted (x ∷ xs) v is before (suc s) h =
+    room-more room (λ k. wanted (suc k)) xs v is (λ k low. before (suc k) (omega (arith, low))) s (omega (arith, h))
+
 only : (b y : Block) → Contains (b ∷ []) y → y ≡ b
 only b y (zero, h, e) = sym e
 only b y (suc k, h, e) = absurd (omega (arith, h))

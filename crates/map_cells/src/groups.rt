@@ -1,16 +1,19 @@
 //! The blocks of each sector.
 
 ghost use Rattle.std.specs.Prelude.{◌≡◌, ◌+◌, ◌<◌, ◌≤◌, ℕ, [], Some, IfOk, OnOk, length, map, slice_index_or};
+ghost use Rattle.std.specs.Vec.{vec_capacity};
 ghost use Rattle.map_cells.specs.Cells.{cell};
 ghost use Rattle.map_cells.specs.Grid.{rows_of};
 ghost use Rattle.map_cells.specs.Groups.{AddsBlock, AreBlocksBefore, PushesBlock};
 
 use crate::block::Block;
 use crate::cells::Cells;
+use crate::counts::Counts;
 use std::alloc::{AllocError, Allocator, Global};
 use std::marker::Model;
 
-/// The blocks of a picture's cells by the sectors that they show: eight bytes a block, and up to twice that, since lists grow.
+/// The blocks of a picture's cells by the sectors that they show: eight bytes for each cell that shows one, since no sector has more blocks
+/// than cells, and 24 for each number up to the greatest shown sector's, 28 while `of` runs.
 #[derive(Drop)]
 pub struct Groups<A: Allocator = Global> {
     lists: Vec<Vec<Block, A>, A>,
@@ -34,7 +37,8 @@ impl<A: Allocator + Copy> Groups<A> {
     pub fn of<B: Allocator>(alloc: A, cells: &Cells<B>) -> Result<Groups<A>, AllocError>
         ensures { IfOk result (AreGroups (cell cells.now)) }
     {
-        let mut lists = empty_lists(alloc, cells.sector_bound())?;
+        let counts = Counts::of(alloc, cells)?;
+        let mut lists = empty_lists(alloc, &counts, cells.sector_bound())?;
         for j in 0..cells.rows() {
             add_row(cells, j, &mut lists)?;
         }
@@ -60,18 +64,22 @@ impl<A: Allocator> Groups<A> {
     }
 }
 
-// So many lists of no block.
+// So many lists of no block, each with room for as many as cells show its sector: it has no more blocks, so none of them grows.
 fn empty_lists<A: Allocator + Copy>(
     alloc: A,
+    counts: &Counts<A>,
     count: usize,
 ) -> Result<Vec<Vec<Block, A>, A>, AllocError>
     ensures long { IfOk result (λ lists. length lists.items ≡ count) }
     ensures none { IfOk result (λ lists.
         (s : ℕ) → slice_index_or (map (λ list. list.items) lists.items) s [] ≡ []) }
+    ensures room { IfOk result (λ lists.
+        (s : ℕ) → s < count → slice_index_or (map vec_capacity lists.items) s 0 ≡ slice_index_or counts.now s 0) }
 {
     let mut lists = Vec::with_capacity(alloc, count)?;
-    'lists: for _ in 0..count {
-        lists.push(Vec::new(alloc))?;
+    for sector in 0..count {
+        let cells = counts.get(sector);
+        lists.push(Vec::with_capacity(alloc, cells as usize)?)?;
     }
     Ok(lists)
 }

@@ -204,15 +204,22 @@ def things(lumps, count): return lambda out, part: level(out, {**lumps, b'THINGS
 ROW = {b'VERTEXES': w(0, 0, 1023, 0)}   # a frame of 1024 points
 def leaf_row(out, part): level(out, {**ROW, b'SEGS': SEG*int(32767*part), b'SSECTORS': w(int(32767*part), 0)*2})
 def slanted(out, part):
-    """1024 columns and as many rows whose cells show two sectors by turns, in stripes from corner to corner"""
-    rows, lines = int(1024*part), []
-    def half(a, b):                      # of the stripes from a to b - 1
-        if b - a == 1: return 32768 + a
-        m = (a + b)//2; back, front = half(a, m), half(m, b)
-        lines.append(w(m - rows, 0, 64, 64, 64, 0, 0, 0, 64, 0, 0, 0, front, back)); return len(lines) - 1
-    half(0, 1023 + rows)
-    level(out, {b'NODES': b''.join(lines), b'SSECTORS': b''.join(w(1, i % 2) for i in range(1023 + rows)),
-                b'SEGS': w(0, 0, 0, 0, 0, 0, 0, 0, 0, 0, 1, 0), b'VERTEXES': w(0, 0, 1023, rows - 1)})
+    """1024 columns and up to 1023 rows, in bands of 33 rows, each of them in stripes from corner to corner. Each stripe of a band is a sector: 33 cells,
+    of which no two are beside one another, so each is a block. Sectors of even numbers show nowhere"""
+    bands, lines = int(31*part), []
+    def node(x, y, dx, dy, front, back): lines.append(w(x, y, dx, dy, 64, 0, 0, 0, 64, 0, 0, 0, front, back)); return len(lines) - 1
+    def stripes(band, a, b):             # of a band those from a to b - 1
+        if b - a == 1: return 32768 + 1056*band + a
+        m = (a + b)//2; back, front = stripes(band, a, m), stripes(band, m, b)
+        return node(m - 33*band - 33, 0, 64, 64, front, back)
+    def between(a, b):                   # the bands from a to b - 1
+        if b - a == 1: return stripes(a, 0, 1056)
+        m = (a + b)//2; back, front = between(m, b), between(a, m)
+        return node(0, 33*m - 1, 64, 0, front, back)
+    between(0, bands); n = 1056*bands    # ssector i has a seg along sidedef i, of sector 2*i + 1
+    level(out, {b'NODES': b''.join(lines), b'SSECTORS': b''.join(w(1, i) for i in range(n)), b'SEGS': b''.join(w(0, 0, 0, i//2, i%2, 0) for i in range(n)),
+                b'LINEDEFS': b''.join(w(0, 1, 4, 0, 0, i, i + 1) for i in range(0, n, 2)), b'SIDEDEFS': b''.join(SIDE[:28] + w(2*i + 1) for i in range(n)),
+                b'SECTORS': OWN[b'SECTORS'][:26]*(2*n), b'VERTEXES': w(0, 0, 1023, 33*bands - 1)})
 def many_demos(body):
     """as many demos as fit, all over the same few bytes"""
     def make(out, part):
@@ -255,7 +262,7 @@ for word in ('check', 'survey') if o.wadlens else ():
 if o.wadlens:
     job('check --map --max 0: 19 million linedefs at one place', 'check --map --max 0 F', linedefs(STEP, [(0, 1, 0, 1)]))
     p1024 = 'picture --cells 1024 '
-    job('picture: 1,048,576 cells, no two beside one another alike', p1024 + 'E1M1 F', slanted)
+    job('picture: 1,047,552 cells, each a block, of 32,736 sectors', p1024 + '--wide E1M1 F', slanted)
     job('picture: 1024 cells down a chain of 32,767 nodes', p1024 + 'E1M1 F', chain(ROW))
     job('picture: 1024 cells before 32,767 segs', p1024 + 'E1M1 F', leaf_row)
     job('picture: 19 million linedefs without length', p1024 + 'E1M1 F', of_bytes(b'\0', [b'LINEDEFS']))

@@ -154,11 +154,11 @@ END
 cases_of_unread_files() {
     ln -s loop loop
     says 'a link to itself' 2 "$(refused loop "$missing")" "$(told loop "$missing")" survey loop
-    # The program's own memory, of which nothing is at place 0.
-    if [[ -r /proc/self/mem ]]; then
+    # The program's own memory, which has nothing at place 0.
+    if (exec </proc/self/mem && ! head -c 1) >output 2>&1; then
         says 'a file whose read fails' 2 "$(refused /proc/self/mem "$unread")" "$(told /proc/self/mem "$unread")" survey /proc/self/mem
     else
-        printf 'skipped, as there is no /proc/self/mem: a file whose read fails\n'
+        printf 'skipped, as /proc/self/mem is not one: a file whose read fails\n'
     fi
     local as=()
     # Root reads every file, so it asks as nobody.

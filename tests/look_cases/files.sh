@@ -98,12 +98,12 @@ cases_of_unread_files() {
     ln -s loop loop
     refuses 'a link to itself' 'file 1: read' lumps loop
     refuses 'a link to itself, of a demo' 'file 1: read' lmp loop
-    # The program's own memory, of which nothing is at place 0.
-    if [[ -r /proc/self/mem ]]; then
+    # The program's own memory, which has nothing at place 0.
+    if (exec </proc/self/mem && ! head -c 1) >output 2>&1; then
         refuses 'a file whose read fails' 'file 1: read' lumps /proc/self/mem
         refuses 'a demo whose read fails' read lmp /proc/self/mem
     else
-        printf 'skipped, as there is no /proc/self/mem: files whose read fails\n'
+        printf 'skipped, as /proc/self/mem is not one: files whose read fails\n'
     fi
     local as=() command
     # Root reads every file, so it asks as nobody.

@@ -155,7 +155,22 @@ def by_chromium(program: str, picture: Path, width: int, height: int, shown: Pat
     subprocess.run([program, *options, window, profile, f"--screenshot={shown}", page.as_uri()], check=True, timeout=120, capture_output=True)
 
 
-VIEWERS: dict[str, Callable[[str, Path, int, int, Path], None]] = {"chromium": by_chromium, "rsvg-convert": by_rsvg}
+class Viewer(NamedTuple):
+    names: list[str]
+    """Those of its program, of which the first that is there is taken."""
+    shows: Callable[[str, Path, int, int, Path], None]
+
+
+VIEWERS = {
+    "chromium": Viewer(["chromium", "chromium-browser", "google-chrome", "google-chrome-stable"], by_chromium),
+    "rsvg-convert": Viewer(["rsvg-convert"], by_rsvg),
+}
+
+
+def programs() -> dict[str, str]:
+    """The program of each viewer that is there."""
+    paths = {viewer: [path for name in VIEWERS[viewer].names if (path := shutil.which(name))] for viewer in VIEWERS}
+    return {viewer: found[0] for viewer, found in paths.items() if found}
 
 
 # ---- Cases ---------------------------------------------------------------------------
@@ -193,7 +208,7 @@ def main() -> int:
     if not levels:
         print(f"the sample in place of Freedoom's levels, as these aren't in {games}")
         levels = [("E1M1", root / "sample" / "base.wad", FREE, 16, ["--frame", "-200,-200,200,200"])]
-    found = {name: path for name in VIEWERS if (path := shutil.which(name))}
+    found = programs()
     for name in VIEWERS.keys() - found.keys():
         print(f"skipped, as there is no {name}: the pictures in it")
     passed = failed = 0
@@ -206,7 +221,7 @@ def main() -> int:
         chosen = spread(list(places(look, name, wad, clear, step)))
         for viewer, program in found.items():
             shown = folder / f"{name}-{viewer}.png"
-            VIEWERS[viewer](program, picture, WIDTH, height, shown)
+            VIEWERS[viewer].shows(program, picture, WIDTH, height, shown)
             image = decoded(shown)
             right = sum(judged(image, view, place, f"{name} in {viewer}") for place in chosen)
             passed, failed = passed + right, failed + len(chosen) - right

@@ -37,7 +37,7 @@ pictures() {
 }
 
 cases_of_picture() {
-    local parts tag usual_view usual_matrix line whole half many=() framed
+    local parts usual_view usual_matrix line whole half many=()
     pictures
     says 'picture' 0 "$whole" '' picture E1M1 base.wad
     says 'picture: small letters' 0 "$whole" '' picture e1m1 base.wad
@@ -51,6 +51,27 @@ cases_of_picture() {
         "$(shaded 0 'M0 0h1v8h-1z' 8)" "$line" '' '')" '' picture --cells=8 E1M1 base.wad
     says 'picture: a cell' 0 "$(drawn 'E1M1: faults 0 notes 0' "$usual_view" '65 0 0 -65 0 0' \
         "$(shaded 0 'M0 0h1v1h-1z' 1)" "$line" '' '')" '' picture --cells 1 E1M1 base.wad
+    says 'picture: a level with a fault' 1 "$half" '' picture E1M1 faulty.wad
+    says 'picture: a later file hides an earlier one' 1 "$half" '' picture E1M1 base.wad faulty.wad
+    says 'picture: and the other way round' 0 "$whole" '' picture E1M1 faulty.wad base.wad
+    says 'picture: a linedef with one end' 1 "$(drawn 'E1M1: faults 1 notes 0' "$usual_view" "$usual_matrix" '' "$line" '' '')" '' \
+        picture E1M1 torn.wad
+    level SECTORS "$(sector)$(words 0 128)$(name8 '<&>"')$(name8 FLAT1)$(words 300 -1 7)" >marked.wad
+    says 'picture: no name makes markup' 0 "$(drawn 'E1M1: faults 0 notes 0' "$usual_view" "$usual_matrix" '<path fill="#b4b4c8" d="M0 0h1v65h-1z"><title>sector 1: floor 0 &lt;&amp;&gt;&quot;, ceiling 128 FLAT1, light 300, special -1, tag 7, 65 cells</title></path>\n' \
+        "$line" '' '')" '' picture E1M1 marked.wad
+    lumps 10
+    pack $'<A&"\\' '' "${parts[@]}" >label.wad
+    # shellcheck disable=SC1003  # a backslash at the end of a word
+    says 'picture: no label makes markup' 0 "$(drawn '&lt;A&amp;&quot;\\x5c: faults 0 notes 0' "$usual_view" "$usual_matrix" \
+        "$(shaded 1 'M0 0h1v65h-1z' 65)" "$line" '' '')" '' picture '<a&"\' label.wad
+    cases_of_frames
+    cases_of_undrawn
+    cases_of_picture_files
+    cases_of_picture_words
+}
+
+cases_of_frames() {
+    local framed
     framed=$(drawn 'E1M1: faults 0 notes 0' '-52 -122 184 184' '1 0 0 -1 -20 30' \
         "$(shaded 0 'M21 0h100v121h-100z' 12100)$(shaded 1 'M0 0h21v121h-21z' 2541)" "$line" '' '')
     says 'picture: a frame' 0 "$framed" '' picture --frame -20,-30,100,90 E1M1 base.wad
@@ -61,22 +82,14 @@ cases_of_picture() {
     says 'picture: the greatest frame' 0 "$(drawn 'E1M1: faults 0 notes 0' '-32800 -32799 65599 65599' '64 0 0 -64 -32768 32768' \
         "$(shaded 0 'M512 256h256v512h-256z' 131072)$(shaded 1 'M256 256h256v512h-256z' 131072)" "$line" '' '')" '' \
         picture --frame -32768,-32768,32767,32767 --cells 1024 E1M1 base.wad
-    says 'picture: a level with a fault' 1 "$half" '' picture E1M1 faulty.wad
-    says 'picture: a later file hides an earlier one' 1 "$half" '' picture E1M1 base.wad faulty.wad
-    says 'picture: and the other way round' 0 "$whole" '' picture E1M1 faulty.wad base.wad
-    says 'picture: a linedef with one end' 1 "$(drawn 'E1M1: faults 1 notes 0' "$usual_view" "$usual_matrix" '' "$line" '' '')" '' \
-        picture E1M1 torn.wad
-    says 'picture: nothing to draw' 2 '' 'wadlens: E1M1: nothing to draw\n' picture E1M1 nothing.wad
     says 'picture: nothing to draw, in a frame' 1 "$(drawn 'E1M1: faults 1 notes 0' "$usual_view" "$usual_matrix" '' '' '' '')" '' \
         picture --frame 0,0,0,64 E1M1 nothing.wad
-    level SECTORS "$(sector)$(words 0 128)$(name8 '<&>"')$(name8 FLAT1)$(words 300 -1 7)" >marked.wad
-    says 'picture: no name makes markup' 0 "$(drawn 'E1M1: faults 0 notes 0' "$usual_view" "$usual_matrix" '<path fill="#b4b4c8" d="M0 0h1v65h-1z"><title>sector 1: floor 0 &lt;&amp;&gt;&quot;, ceiling 128 FLAT1, light 300, special -1, tag 7, 65 cells</title></path>\n' \
-        "$line" '' '')" '' picture E1M1 marked.wad
-    lumps 10
-    pack $'<A&"\\' '' "${parts[@]}" >label.wad
-    # shellcheck disable=SC1003  # a backslash at the end of a word
-    says 'picture: no label makes markup' 0 "$(drawn '&lt;A&amp;&quot;\\x5c: faults 0 notes 0' "$usual_view" "$usual_matrix" \
-        "$(shaded 1 'M0 0h1v65h-1z' 65)" "$line" '' '')" '' picture '<a&"\' label.wad
+}
+
+# What is told in place of a picture.
+cases_of_undrawn() {
+    local tag
+    says 'picture: nothing to draw' 2 '' 'wadlens: E1M1: nothing to draw\n' picture E1M1 nothing.wad
     says 'picture: no such level' 2 '' 'wadlens: e1m9: no level of this name\n' picture e1m9 base.wad
     says 'picture: an empty name' 2 '' 'wadlens: : no level of this name\n' picture '' base.wad
     says 'picture: no level in no entries' 2 '' 'wadlens: E1M1: no level of this name\n' picture E1M1 empty.wad
@@ -92,23 +105,23 @@ cases_of_picture() {
         outside "$tag"
         says "picture: outside, $tag" 1 '' "wadlens: MAP01: outside: $tag\\n" picture MAP01 format.wad
     done
-    cases_of_picture_files
-    cases_of_picture_words
 }
 
-cases_of_picture_files() {
-    local kind text full="wadlens: standard output can't be written\\n" pipe
-    while read -r kind text; do
-        says "picture: $kind" 2 '' "$(told "$kind" "$text")" picture E1M1 "$kind"
-        says "picture: $kind behind others" 2 '' "$(told "$kind" "$text")" picture E1M1 base.wad "$kind" base.wad
-    done <<END
-no.wad can't be opened
+# Files that are refused, each with what is told of it.
+refusals="no.wad can't be opened
 folder can't be read
+/dev/zero larger than 268435456 bytes
 none.wad shorter than a WAD header
 magic.wad not a WAD file: it begins with neither IWAD nor PWAD
 count.wad a negative count of lumps
-cut.wad its directory isn't inside the file
-END
+cut.wad its directory isn't inside the file"
+
+cases_of_picture_files() {
+    local kind text i
+    while read -r kind text; do
+        says "picture: $kind" 2 '' "$(told "$kind" "$text")" picture E1M1 "$kind"
+        says "picture: $kind behind others" 2 '' "$(told "$kind" "$text")" picture E1M1 base.wad "$kind" base.wad
+    done <<<"$refusals"
     says 'picture: the first refused file alone is told' 2 '' "$(told none.wad 'shorter than a WAD header')" \
         picture E1M1 none.wad magic.wad
     says 'picture: all files are read before their directories' 2 '' "$(told no.wad "$missing")" picture E1M1 none.wad no.wad
@@ -116,7 +129,32 @@ END
     for ((i = 0; i < 64; i++)); do many+=(base.wad); done
     says 'picture: 64 files' 0 "$whole" '' picture E1M1 "${many[@]}"
     mistaken 'picture: 65 files' '64 files' picture E1M1 "${many[@]}" base.wad
+    cp empty.wad most.wad
+    truncate -s 268435456 most.wad
+    says 'picture: a file of as many bytes as there may be' 0 "$whole" '' picture E1M1 base.wad most.wad
+    memory=200000 says 'picture: no memory for a file' 3 '' 'wadlens: no memory left\n' picture E1M1 base.wad most.wad
+    printf x >>most.wad
+    says 'picture: a file of one byte more' 2 '' "$(told most.wad 'larger than 268435456 bytes')" picture E1M1 base.wad most.wad
+    rm most.wad
+    cases_of_picture_ends
+}
+
+# unheard NAME STATUS OUTPUT WORD...: what comes of a run where standard error takes nothing.
+unheard() {
+    timeout 60 "$program" "${@:4}" >output 2>/dev/full
+    printf '%s' $? >status
+    : >error
+    judge "$1" "$2" "$3" ''
+}
+
+cases_of_picture_ends() {
+    local full="wadlens: standard output can't be written\\n" pipe
     ends 'picture: a full disk' 2 "$full" picture E1M1 base.wad >/dev/full
+    ends 'picture: no standard output' 2 "$full" picture E1M1 base.wad >&-
+    ends 'picture: no standard output, and nothing to write' 2 "$(told no.wad "$missing")" picture E1M1 no.wad >&-
+    unheard 'picture: a full standard error, and a refused file' 2 '' picture E1M1 none.wad
+    unheard 'picture: a full standard error, and no level' 2 '' picture E1M9 base.wad
+    unheard 'picture: a full standard error, and nothing to tell' 0 "$whole" picture E1M1 base.wad
     exec {pipe}> >(:)
     wait $!
     ends 'picture: a closed pipe' 0 '' picture E1M1 base.wad >&"$pipe"
@@ -127,12 +165,6 @@ END
     ends 'picture: a closed pipe within the text, and a fault' 1 '' picture MAP05 large.wad >&"$pipe"
     exec {pipe}>&-
     ends 'picture: a full disk within the text' 2 "$full" picture MAP04 large.wad >/dev/full
-    memory=200000
-    cp empty.wad most.wad
-    truncate -s 268435456 most.wad
-    says 'picture: no memory for a file' 3 '' 'wadlens: no memory left\n' picture E1M1 base.wad most.wad
-    memory=''
-    rm most.wad
 }
 
 # large.wad: levels whose pictures don't fit into the program's buffer, MAP05 with a fault.

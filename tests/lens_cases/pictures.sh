@@ -251,7 +251,7 @@ shows() {
     judge "$1" 0 '' ''
 }
 
-# map VIEW SIZE SHOWN [LEVEL]: the picture of the sample level, with what its cells show.
+# map SIZE SHOWN CELLS [LEVEL]: the picture of the sample level, whose cells of this size show so many in one block.
 map() {
     cat <<END
 <svg xmlns="http://www.w3.org/2000/svg" viewBox="-32 -96 64 128">
@@ -284,15 +284,10 @@ cases_of_folders() {
     ln -s none atlas
     says 'atlas: a link to nothing' 2 '' "$(told atlas "it can't be made")" atlas --out atlas no.wad
     rm atlas
-    if ((EUID)); then
-        mkdir -m 555 shut
-        says 'atlas: a folder that takes no folder' 2 '' "$(told shut/atlas "it can't be made")" atlas --out shut/atlas base.wad
-        says 'atlas: a folder that takes no file' 2 '' "$(told shut "a file in it can't be written")" atlas --out shut base.wad
-        chmod 311 shut
-        says 'atlas: a folder that may not be read' 2 '' "$(told shut "it can't be read")" atlas --out shut base.wad
-        chmod 755 shut
-        rmdir shut
-    fi
+    ln -s atlas atlas
+    says 'atlas: a link to itself' 2 '' "$(told atlas "it can't be read")" atlas --out atlas no.wad
+    rm atlas
+    cases_of_shut_folders
     mkdir atlas
     atlas_of 'atlas: an empty folder' 0 '' '1-0.svg index.html survey.jsonl' base.wad
     rm -r atlas
@@ -300,29 +295,196 @@ cases_of_folders() {
     ln -s inner atlas
     atlas_of 'atlas: a link to an empty folder' 0 '' '1-0.svg index.html survey.jsonl' base.wad
     rm -r inner atlas
-    says 'atlas: a list that is refused' 2 '' "$(told no.list "$missing")" atlas --out atlas --files-from no.list base.wad
-    says 'atlas: .. before the folder is made' 0 '' '' survey empty.wad
+    cases_of_refused_lists
+}
+
+# Folders that are shut to whoever runs the program, which none is to root.
+cases_of_shut_folders() {
+    local program=$program
+    if ((EUID == 0)); then
+        if ! setpriv --reuid 65534 --regid 65534 --clear-groups true 2>/dev/null; then
+            printf 'skipped, as nothing is shut to root and there is no setpriv that works: folders that are shut\n'
+            return
+        fi
+        # Whoever it runs as has to reach it.
+        chmod 711 .
+        install -m 755 "$program" lens
+        printf '#!/bin/sh\nexec setpriv --reuid 65534 --regid 65534 --clear-groups ./lens "$@"\n' >other
+        chmod 755 other
+        program=./other
+    fi
+    mkdir -m 555 shut
+    says 'atlas: a folder that takes no folder' 2 '' "$(told shut/atlas "it can't be made")" atlas --out shut/atlas base.wad
+    says 'atlas: a folder that takes no file' 2 '' "$(told shut "a file in it can't be written")" atlas --out shut base.wad
+    chmod 311 shut
+    says 'atlas: a folder that may not be read' 2 '' "$(told shut "it can't be read")" atlas --out shut base.wad
+    chmod 755 shut
+    # It is empty, or it wouldn't go.
+    rmdir shut
+    chmod 700 .
+}
+
+# no_folder NAME: nothing stands under the name of the folder.
+no_folder() {
+    : >output
+    : >error
     [[ ! -e atlas ]] || printf 'there is a folder\n' >output
-    judge 'atlas: .. and there is none' 0 '' ''
+    printf 0 >status
+    judge "$1" 0 '' ''
+}
+
+cases_of_refused_lists() {
+    local large='larger than 268435456 bytes'
+    says 'atlas: a list that is not there' 2 '' "$(told no.list "$missing")" atlas --out atlas --files-from no.list base.wad
+    says 'atlas: a list that is a folder' 2 '' "$(told folder "$unread")" atlas --out atlas --files-from folder base.wad
+    says 'atlas: a list without end' 2 '' "$(told /dev/zero "$large")" atlas --out atlas --files-from /dev/zero base.wad
+    timeout 60 "$program" atlas --out atlas --files-from - <folder >output 2>error
+    printf '%s' $? >status
+    judge 'atlas: a list that cannot be read' 2 '' "$(told 'standard input' "$unread")"
+    no_folder 'atlas: lists are refused before the folder is made'
 }
 
 # A file that can't be written, a run that is killed, want of memory: no page, and no other file that isn't whole.
 cases_of_no_page() {
-    local text pid kib _
+    local memory=''
+    cases_of_full_disks
+    cases_of_kills
+    memory=200000
+    cp empty.wad most.wad
+    truncate -s 268435456 most.wad
+    into_new 'atlas: no memory for a file' 3 'wadlens: no memory left\n' 1-0.svg base.wad most.wad
+    has 'atlas: .. and the picture before it' 1-0.svg "$(map 1 'M0 0h1v65h-1z"><title>sector 1:' 65)\n"
+    memory=400000
+    into_new 'atlas: memory of one file at a time' 0 '' 'index.html survey.jsonl' most.wad most.wad most.wad
+    rm most.wad
+}
+
+# full_at KIB FILE...: makes an atlas where no file has room for more than so many KiB, and keeps how it ended and what stands.
+full_at() {
+    rm -rf atlas
+    # A pipe takes what is told, as no file has room for it.
+    (
+        trap '' XFSZ
+        ulimit -f "$1"
+        exec timeout 60 "$program" atlas --out atlas "${@:2}"
+    ) 2>&1 >output | cat >error
+    printf '%s' "${PIPESTATUS[0]}" >status
+    ls -A atlas >>output
+}
+
+# draws NAME LEVEL FILE SVG...: each of these files of the folder is what `picture` writes of that level.
+draws() {
+    local name
+    timeout 60 "$program" picture "$2" "$3" >drawn 2>error
+    printf '%s' $? >status
+    for name in "${@:4}"; do cmp drawn "atlas/$name"; done >output 2>&1
+    judge "$1" 0 '' ''
+}
+
+# repeated FILE COUNT: FILE with each of its entries so many times, a power of two. They share its bytes.
+repeated() {
+    local at count i
+    count=$(($(od -An -tu4 -j4 -N4 "$1") * $2)) at=$(($(od -An -tu4 -j8 -N4 "$1")))
+    tail -c +$((at + 1)) "$1" >directory
+    for ((i = 1; i < $2; i *= 2)); do
+        cat directory directory >twice
+        mv twice directory
+    done
+    printf 'PWAD%b' "$(words $count $((count >> 16)) $at $((at >> 16)))"
+    head -c "$at" "$1" | tail -c +13
+    cat directory
+}
+
+cases_of_full_disks() {
+    local text kib parts small i names=()
     text=$(told atlas "a file in it can't be written")
     for kib in 0 1; do
-        rm -rf atlas
-        # A pipe takes what is told, as no file has room for it.
-        (
-            trap '' XFSZ
-            ulimit -f "$kib"
-            exec timeout 60 "$program" atlas --out atlas faulty.wad base.wad
-        ) 2>&1 >output | cat >error
-        printf '%s' "${PIPESTATUS[0]}" >status
-        ls -A atlas >>output
+        full_at "$kib" faulty.wad base.wad
         # In 1024 bytes there is room for a picture and the survey of two levels, and none for the page.
         judge "atlas: a disk with room for $kib KiB" 2 "$( ((kib == 0)) || printf '%s' '1-0.svg\n2-0.svg\nsurvey.jsonl\n')" "$text"
     done
+    lumps 10
+    small=("${parts[@]}")
+    # The lines on MAP03's 4096 linedefs without length don't fit into the program's buffer.
+    large_lines
+    pack MAP01 '' "${small[@]}" MAP02 '' "${small[@]}" MAP03 '' "${parts[@]}" MAP04 '' "${small[@]}" >filling.wad
+    full_at 32 filling.wad
+    judge 'atlas: a disk that is full within a picture' 2 '1-0.svg\n1-11.svg\n' "$text"
+    draws 'atlas: .. and the first before it' MAP01 filling.wad 1-0.svg
+    draws 'atlas: .. and the second' MAP02 filling.wad 1-11.svg
+    # An object has 128 to 256 bytes: those of 256 levels have no room, and are held back until all pictures stand.
+    level >one.wad
+    repeated one.wad 256 >many.wad
+    for ((i = 0; i < 256; i++)); do names+=("1-$((11 * i)).svg"); done
+    full_at 32 many.wad
+    judge 'atlas: a disk that is full within the survey' 2 "$(printf '%s\n' "${names[@]}" | sort)\n" "$text"
+    draws 'atlas: .. and all pictures' E1M1 many.wad "${names[@]}"
+}
+
+# A run that is killed leaves what is whole, and else files whose names say that they aren't.
+cases_of_kills() {
+    local levels=${FREEDOOM:-/usr/share/games/doom}/freedoom1.wad parts k start took killed=0
+    cases_of_a_kill
+    if [[ ! -f $levels ]]; then
+        # Large pictures, so that most of the time goes by within one.
+        lumps 10
+        large_lines
+        repeated large.wad 32 >many.wad
+        levels=many.wad
+    fi
+    timeout 60 "$program" survey "$levels" >survey.told
+    sed -n 's/.*"entry":\([0-9]*\),"format":"doom".*/1-\1.svg/p' survey.told | sort >pictures.told
+    start=$(date +%s%N)
+    killed_after 60000
+    took=$((($(date +%s%N) - start) / 1000000))
+    # All kills together take no half minute.
+    ((took < 6000)) || took=6000
+    [[ -e atlas/index.html ]] || printf 'no page\n' >>output
+    judge 'atlas: a run that is not killed' 0 '' ''
+    for k in {1..8}; do
+        killed_after $((took * k / 8))
+        judge "atlas: killed after $k of 8 parts of its time" 0 '' ''
+    done
+    ((killed > 0)) || printf 'none\n' >>output
+    judge 'atlas: some of them were killed' 0 '' ''
+}
+
+# killed_after MILLISECONDS: kills a run over `levels` after so long, where it didn't end before, and keeps what it left that isn't
+# whole.
+killed_after() {
+    rm -rf atlas
+    # The shell tells of the kill, too.
+    { timeout -s KILL "$(printf '%d.%03d' $(($1 / 1000)) $(($1 % 1000)))" "$program" atlas --out atlas "$levels"; } >output 2>told
+    (($? != 137)) || killed=$((killed + 1))
+    not_whole >>output 2>&1
+    printf 0 >status
+    : >error
+}
+
+# not_whole: what of the folder isn't whole, or stands there before its time: pictures come first, then the survey, then the page.
+not_whole() {
+    local name names=() pictures=()
+    for name in atlas/*; do
+        name=${name#atlas/}
+        case $name in
+            *.svg) pictures+=("atlas/$name") names+=("$name") ;;
+            *.part | survey.jsonl | index.html | '*') ;;
+            *) printf 'there is %s\n' "$name" ;;
+        esac
+    done
+    ((${#names[@]} == 0)) || {
+        cmp -s <(tail -q -c 11 "${pictures[@]}") <(printf '</g></svg>\n%.0s' "${pictures[@]}") || printf 'a picture has no end\n'
+        printf '%s\n' "${names[@]}" | comm -23 - pictures.told
+    }
+    [[ ! -e atlas/survey.jsonl ]] || cmp survey.told atlas/survey.jsonl
+    [[ ! -e atlas/survey.jsonl ]] || printf '%s\n' "${names[@]}" | cmp -s - pictures.told || printf 'a survey, and not all pictures\n'
+    [[ ! -e atlas/index.html ]] || cmp -s <(tail -c 8 atlas/index.html) <(printf '</html>\n') || printf 'a page without an end\n'
+    [[ ! -e atlas/index.html || -e atlas/survey.jsonl ]] || printf 'a page, and no survey\n'
+}
+
+# A file from a pipe holds a run up, so that it is killed behind its first picture.
+cases_of_a_kill() {
+    local pid _
     rm -rf atlas
     mkfifo waits
     "$program" atlas --out atlas base.wad waits &
@@ -337,14 +499,8 @@ cases_of_no_page() {
     printf 0 >status
     : >error
     judge 'atlas: a run that is killed' 0 '1-0.svg\nsurvey.jsonl.part\n' ''
+    has 'atlas: .. and the picture before that' 1-0.svg "$(map 1 'M0 0h1v65h-1z"><title>sector 1:' 65)\n"
     rm waits
-    local memory=200000
-    cp empty.wad most.wad
-    truncate -s 268435456 most.wad
-    into_new 'atlas: no memory for a file' 3 'wadlens: no memory left\n' 1-0.svg base.wad most.wad
-    memory=400000
-    into_new 'atlas: memory of one file at a time' 0 '' 'index.html survey.jsonl' most.wad most.wad most.wad
-    rm most.wad
 }
 
 cases_of_atlas() {
@@ -365,6 +521,7 @@ cases_of_atlas() {
     has 'atlas: the survey of refused files, too' survey.jsonl "$(<survey.told)\n"
     shows 'atlas: faults first' index.html '5 levels in 6 files' none.wad "$none" no.wad "$missing" hole.wad \
         'incomplete: no BLOCKMAP where it belongs' faulty.wad '1-0.svg' '1-11.svg' '6-0.svg'
+    cases_of_refused_in_atlas
     level LINEDEFS '' >bare.wad
     into_new 'atlas: a level with nothing to draw' 1 '' 'index.html survey.jsonl' bare.wad
     shows 'atlas: its row' index.html '<p class="map">no picture</p>' '<h2>E1M1</h2>' '<b>0</b> linedefs'
@@ -381,13 +538,48 @@ cases_of_atlas() {
     into_new 'atlas: the wide reading' 1 '' '1-0.svg index.html survey.jsonl' --wide faulty.wad
     cases_of_lists_of_atlas
     cases_of_no_page
+    cases_of_words_of_atlas
+    cases_of_terminals_of_atlas
+}
+
+cases_of_words_of_atlas() {
+    rm -rf atlas
     mistaken 'atlas alone' '--out <FOLDER>' atlas
     mistaken 'atlas without a folder' '--out <FOLDER>' atlas base.wad
     mistaken 'atlas without files' 'FILE' atlas --out atlas
+    mistaken 'atlas: --out without a value' '--out' atlas base.wad --out
+    mistaken 'atlas: --out twice' '--out' atlas --out atlas --out other base.wad
     mistaken 'atlas: no cells' '--cells' atlas --out atlas --cells 0 base.wad
     mistaken 'atlas: too many cells' '--cells' atlas --out atlas --cells 1025 base.wad
+    mistaken 'atlas: a negative number of cells' '--cells' atlas --out atlas --cells=-1 base.wad
+    mistaken 'atlas: a negative number of cells, apart' '-1' atlas --out atlas --cells -1 base.wad
     mistaken 'atlas: a number of cells that is none' 'many' atlas --out atlas --cells many base.wad
+    mistaken 'atlas: --null without --files-from' '--files-from' atlas --out atlas --null base.wad
     mistaken '--max of atlas' "unexpected argument '--max'" atlas --out atlas --max 3 base.wad
+    tells '--help of atlas' '--out <FOLDER>' atlas --help
+    no_folder 'atlas: mistaken words make no folder'
+}
+
+cases_of_terminals_of_atlas() {
+    if [[ $(script --version 2>/dev/null) != *util-linux* ]]; then
+        printf 'skipped, as there is no script of util-linux: progress of atlas on a terminal\n'
+        return
+    fi
+    rm -rf atlas
+    on_terminal 'atlas: progress on a terminal' 0 '' '\r1 files, 1 levels\r\n' atlas --out atlas base.wad
+    rm -rf atlas
+    on_terminal 'atlas: progress on a terminal, and a refused file' 2 '' \
+        "\\r1 files, 1 levels\\r\\x1b[Kwadlens: none.wad: $none\\r\\n\\r2 files, 1 levels\\r\\n" atlas --out atlas base.wad none.wad
+}
+
+# Each is told, and stands in the survey and on the page.
+cases_of_refused_in_atlas() {
+    local kind text
+    while read -r kind text; do
+        into_new "atlas: $kind" 2 "$(told "$kind" "$text")" '1-0.svg index.html survey.jsonl' base.wad "$kind"
+        has "atlas: .. in its survey, $kind" survey.jsonl "$(sound base.wad E1M1 0)$(refused "$kind" "$text")"
+        shows "atlas: .. on its page, $kind" index.html '1 levels in 2 files' "$kind" "$text" '<h2>E1M1</h2>'
+    done <<<"$refusals"
 }
 
 # shows_not NAME FILE TEXT: a file of the folder doesn't have this text.
@@ -408,16 +600,16 @@ cases_of_warned_atlases() {
         printf '</ul>'
     )
     into_new 'atlas: --map' 0 '' '1-0.svg index.html survey.jsonl' --map base.wad
-    timeout 60 "$program" survey --map base.wad >survey
-    has 'atlas: its survey with warnings' survey.jsonl "$(<survey)\n"
+    timeout 60 "$program" survey --map base.wad >survey.told
+    has 'atlas: its survey with warnings' survey.jsonl "$(<survey.told)\n"
     shows 'atlas: its warnings' index.html '<b>0</b> faults' '<b>0</b> notes' '<b>6</b> warnings' '<b>0</b> not judged' \
         '<li class="sound">' "$warned" '<ul class="counts">'
     into_new 'atlas: --map --strict' 1 '' '1-0.svg index.html survey.jsonl' --strict --map base.wad
-    has 'atlas: its survey, strictly' survey.jsonl "$(<survey)\n"
+    has 'atlas: its survey, strictly' survey.jsonl "$(<survey.told)\n"
     shows 'atlas: its warnings, strictly' index.html '<b>0</b> faults' '<b>6</b> warnings' '<li class="sound">' "$warned"
     into_new 'atlas: warnings of some levels' 2 '' '1-0.svg 3-0.svg index.html survey.jsonl' --map base.wad udmf.wad base.wad
-    timeout 60 "$program" survey --map base.wad udmf.wad base.wad >survey
-    has 'atlas: their survey' survey.jsonl "$(<survey)\n"
+    timeout 60 "$program" survey --map base.wad udmf.wad base.wad >survey.told
+    has 'atlas: their survey' survey.jsonl "$(<survey.told)\n"
     shows 'atlas: their warnings' index.html '<b>12</b> warnings' '<b>1</b> not judged' "$warned" 'udmf: not read' "$warned"
     into_new 'atlas: warnings are not looked for' 1 '' '1-0.svg index.html survey.jsonl' --map faulty.wad
     shows 'atlas: no warnings' index.html '<b>1</b> faults' '<b>1</b> notes' '<b>0</b> warnings' \

@@ -30,7 +30,7 @@ demo_files() {
 }
 
 cases_of_demos() {
-    local game='version 109, skill 3, episode 1, map 1' mark
+    local game='version 109, skill 3, episode 1, map 1' mark large='larger than 268435456 bytes'
     demo_files
     says 'a demo' 0 "two.lmp: $game, 1 player, 2 tics, 0:00.05, after 1\n" '' demos two.lmp
     says 'a demo without a tic' 0 "still.lmp: $game, 1 player, 0 tics, 0:00.00\n" '' demos still.lmp
@@ -52,19 +52,61 @@ cases_of_demos() {
     )$(listed odd.lmp '"players":2,"tics":1,"odd":1,"after":1')" \
         "wadlens: demos.wad: DEMONS: version 203 (MBF): not read\nwadlens: demos.wad: DEMO: $mark\n" demos --json two.lmp demos.wad odd.lmp
     cases_of_refused_demos
+    cases_of_lists_of_demos
+    cases_of_large_demos
+    cases_of_ends_of_demos
+    mistaken 'demos alone' 'FILE' demos
+    mistaken '--wide of demos' "unexpected argument '--wide'" demos --wide two.lmp
+    mistaken '--json of a survey' "unexpected argument '--json'" survey --json base.wad
+}
+
+cases_of_lists_of_demos() {
     says_on 'demos: a list' 'two.lmp\0' 0 "$(listed two.lmp '"players":1,"tics":2,"odd":0,"after":1')" '' demos --json --null --files-from -
     says_on 'demos: an empty list' '' 0 '' '' demos --files-from -
+    says 'demos: a list that is not there' 2 '' "$(told no.list "$missing")" demos --files-from no.list two.lmp
+    says 'demos: a list that is a folder' 2 '' "$(told folder "$unread")" demos --json --files-from folder two.lmp
+    says 'demos: a list without end' 2 '' "$(told /dev/zero "$large")" demos --files-from /dev/zero two.lmp
+}
+
+# The most bytes that a file may have, and more; and more than there is memory for.
+cases_of_large_demos() {
+    local still="still.lmp: $game, 1 player, 0 tics, 0:00.00\\n" most
+    # What comes after 22 bytes: a header, two commands, a marker.
+    most="most.lmp: $game, 1 player, 2 tics, 0:00.05, after 268435434\\n"
+    cp two.lmp most.lmp
+    truncate -s 268435456 most.lmp
+    says 'demos: as many bytes as there may be' 0 "$most" '' demos most.lmp
+    memory=200000 says 'demos: no memory for a file' 3 "$still" 'wadlens: no memory left\n' demos still.lmp most.lmp
+    memory=400000 says 'demos: memory of one file at a time' 0 "$most$most" '' demos most.lmp most.lmp
+    printf x >>most.lmp
+    says 'demos: one byte more' 2 "$still" "$(told most.lmp "$large")" demos most.lmp still.lmp
+    says 'demos: a device without end' 2 '' "$(told /dev/zero "$large")" demos --json /dev/zero
+    rm most.lmp
+}
+
+cases_of_ends_of_demos() {
+    local pipe full="wadlens: standard output can't be written\\n"
     : >one.lmp
     says 'demos: --progress' 2 "still.lmp: $game, 1 player, 0 tics, 0:00.00\n" \
         "\r1 files, 0 levels\r\x1b[Kwadlens: one.lmp: empty\n\r2 files, 0 levels\n" demos --progress still.lmp one.lmp
-    ends 'demos: a full disk' 2 "wadlens: standard output can't be written\\n" demos still.lmp >/dev/full
+    # A line of its 1024 demos has more than 64 bytes, so that they don't fit into the program's buffer.
+    pack DEMO1 "$(bytes "${header[@]}" "${two_commands[@]}" 128)" >one.wad
+    repeated one.wad 1024 >many.wad
+    ends 'demos: a full disk' 2 "$full" demos still.lmp >/dev/full
+    ends 'demos: a full disk within a file' 2 "$full" demos many.wad one.lmp >/dev/full
+    ends 'demos: no standard output' 2 "$full" demos still.lmp >&-
+    exec {pipe}> >(:)
+    wait $!
+    ends 'demos: a closed pipe' 0 '' demos still.lmp >&"$pipe"
+    ends 'demos: a closed pipe, the objects' 0 '' demos --json still.lmp >&"$pipe"
+    ends 'demos: a closed pipe, and a refused demo' 2 "$(told one.lmp empty)" demos one.lmp still.lmp >&"$pipe"
+    ends 'demos: a closed pipe within a file ends the run' 0 '' demos many.wad one.lmp >&"$pipe"
+    ends 'demos: .. with what was found before' 2 "$(told one.lmp empty)" demos one.lmp many.wad no.lmp >&"$pipe"
+    exec {pipe}>&-
     timeout 60 "$program" demos one.lmp two.lmp >output 2>/dev/full
     printf '%s' $? >status
     : >error
     judge 'demos: a full standard error' 2 '' ''
-    mistaken 'demos alone' 'FILE' demos
-    mistaken '--wide of demos' "unexpected argument '--wide'" demos --wide two.lmp
-    mistaken '--json of a survey' "unexpected argument '--json'" survey --json base.wad
 }
 
 # refused_demo TEXT BYTE...: why a demo of these bytes is refused.
@@ -202,6 +244,14 @@ cases_of_refused_compares() {
     demo_of cut.lmp 1 2 3
     says 'compare: no end marker' 2 '' "$(told cut.lmp 'no end marker: the bytes from place 13 on make no whole command')" \
         compare cut.lmp two.lmp
+    head -c 7 two.lmp >part.lmp
+    says 'compare: a part of a header' 2 '' "$(told part.lmp "7 bytes of a header's 13")" compare part.lmp two.lmp
+    header[9]=0
+    demo_of void.lmp 128
+    header[9]=1
+    says 'compare: no player' 2 '' "$(told void.lmp 'no player in the game')" compare two.lmp void.lmp
+    says 'compare: both are refused' 2 '' "$(told void.lmp 'no player in the game')$(told part.lmp "7 bytes of a header's 13")" \
+        compare void.lmp part.lmp
     says 'compare: a path as its bytes' 2 '' "wadlens: no\\n\\x1f: $missing\\n" compare $'no\n\x1f' two.lmp
     says 'compare: a device without end' 2 '' "$(told /dev/zero "$large")" compare /dev/zero two.lmp
     { cat plain.lmp; head -c $((268435456 - 22)) /dev/zero; } >most.lmp
@@ -318,26 +368,27 @@ cases_of_wrong_lines() {
     wrong 'a part of a line behind the totals' 4 "${top}tics 1 odd 0 after 0\n1"
 }
 
-# The demos of Freedoom, where it is there: each is told by its length, is listed, put together again, and compared.
+# The demos of Freedoom 0.12.1, where it is there, four in each file: each is told by its length, is listed, put together again, and compared.
 cases_of_games() {
-    local games=${FREEDOOM:-/usr/share/games/doom} look=$root/crates/wadlook/out/wadlook file at size name count=0
+    local games=${FREEDOOM:-/usr/share/games/doom} look=$root/crates/wadlook/out/wadlook file at size name count=0 wanted=0
     if [[ ! -f $games/freedoom1.wad || ! -x $look ]]; then
         printf 'skipped, as there is no Freedoom or no wadlook: its demos\n'
         return
     fi
-    for file in "$games"/freed*.wad; do
+    for file in freedoom1.wad freedoom2.wad freedm.wad; do
+        [[ -f $games/$file ]] || continue
+        wanted=$((wanted + 4))
         while read -r _ at size name; do
             [[ $name == DEMO? && $size != 0 ]] || continue
-            tail -c +$((at + 1)) "$file" | head -c "$size" >game.lmp
-            game_of "${file##*/} $name"
+            tail -c +$((at + 1)) "$games/$file" | head -c "$size" >game.lmp
+            game_of "$file $name"
             count=$((count + 1))
-        done < <("$look" lumps "$file")
+        done < <("$look" lumps "$games/$file")
     done
     printf '%s' "$count" >output
     printf 0 >status
     : >error
-    judge 'games: some demos' 0 "$count" ''
-    ((count > 0)) || failed=$((failed + 1))
+    judge 'games: how many demos' 0 "$wanted" ''
 }
 
 # game_of NAME: the demo in `game.lmp`.

@@ -7,7 +7,7 @@ export class Questions {
   /** @param {() => void} changed called where what is under way may have changed */
   constructor(changed) {
     this.changed = changed;
-    /** @type {Map<number, { resolve: (value: any) => void, reject: (why: Error) => void, part?: (part: any) => void, label?: string }>} */
+    /** @type {Map<number, { resolve: (value: any) => void, reject: (why: Error) => void, label?: string }>} */
     this.open = new Map();
     this.next = 1;
     /** @type {Worker | null} */
@@ -16,9 +16,9 @@ export class Questions {
 
   /**
    * Asks the worker. While it lasts `label` tells what is under way; what is quick has none.
-   * @param {string} job @param {object} body @param {string} [label] @param {(part: any) => void} [part] @returns {Promise<any>}
+   * @param {string} job @param {object} body @param {string} [label] @returns {Promise<any>}
    */
-  ask(job, body, label, part) {
+  ask(job, body, label) {
     if (!this.worker) {
       this.worker = new Worker(new URL('worker.mjs', import.meta.url), { type: 'module' });
       this.worker.onmessage = ({ data }) => this.#answered(data);
@@ -26,7 +26,7 @@ export class Questions {
     }
     const id = this.next++;
     return new Promise((resolve, reject) => {
-      this.open.set(id, { resolve, reject, part, label });
+      this.open.set(id, { resolve, reject, label });
       this.worker?.postMessage({ id, job, ...body });
       this.changed();
     });
@@ -50,14 +50,10 @@ export class Questions {
     this.changed();
   }
 
-  /** @param {{ id: number, result?: any, part?: any, fault?: string }} data */
-  #answered({ id, result, part, fault }) {
+  /** @param {{ id: number, result?: any, fault?: string }} data */
+  #answered({ id, result, fault }) {
     const asked = this.open.get(id);
     if (!asked) return;
-    if (part !== undefined) {
-      asked.part?.(part);
-      return;
-    }
     this.open.delete(id);
     if (fault !== undefined) asked.reject(new Error(fault)); else asked.resolve(result);
     this.changed();

@@ -117,7 +117,8 @@ function runOnce(module, words, files, input, room, heap) {
 const valueOf = (words, option) => words.includes(option) ? words[words.indexOf(option) + 1] : '';
 
 /**
- * Draws the level that a file alone holds: `picture [--wide] [--cells N] [--frame X0,Y0,X1,Y1] NAME FILE`.
+ * Draws the level that a file alone holds: `picture [--wide] [--cells N] [--frame X0,Y0,X1,Y1] NAME FILE`. The module doesn't tell why it
+ * drew nothing: with status 2 there is nothing to draw, the file's first entry is no level's label, or a number is out of its bounds.
  * @param {WebAssembly.Module} module @param {string[]} words @param {Uint8Array} file @param {number} room @param {number} heap @returns {Ended}
  */
 function drawOnce(module, words, file, room, heap) {
@@ -133,8 +134,7 @@ function drawOnce(module, words, file, room, heap) {
   memory.view?.setUint8(question + 5, Number(frame.length === 4));
   frame.forEach((bound, k) => memory.view?.setInt16(question + 6 + 2 * k, bound, true));
   memory.exports.draw_run(...[block, bytes, file.length, question, answer, room, ended].map(BigInt));
-  const status = memory.view?.getUint8(ended) ?? 3;
-  return { status, answer: memory.take(answer, memory.count(ended + 8)), refused: status === 2 ? `wadlens: ${words[words.length - 2]}: nothing to draw\n` : '' };
+  return { status: memory.view?.getUint8(ended) ?? 3, answer: memory.take(answer, memory.count(ended + 8)), refused: '' };
 }
 
 /**

@@ -1,6 +1,7 @@
 // The worker: holds the files that it was handed, asks the engine, and answers one message for each. What it tells are the engine's
 // answers; it only cuts them into lines and picks the places out of them.
 import { run } from './wad_page.mjs';
+import { contents, isName } from './entries.mjs';
 import { linesOf } from './lines.mjs';
 import { read } from './picture.mjs';
 
@@ -59,46 +60,6 @@ async function hold({ key, file }) {
   let sum = 0;
   for (const [other, { bytes }] of [...held].reverse()) if ((sum += bytes.length) > MOST_BYTES && other !== key) held.delete(other);
   return found;
-}
-
-/**
- * Whether the bytes from `at` to `end` are the name.
- * @param {Uint8Array} bytes @param {number} at @param {number} end @param {string} name
- */
-function isName(bytes, at, end, name) {
-  let same = end - at === name.length ? 0 : -1;
-  while (same >= 0 && same < name.length && bytes[at + same] === name.charCodeAt(same)) same++;
-  return same === name.length;
-}
-
-/**
- * The lines of `lumps` that are labels of levels, and those of demos.
- * @param {Uint8Array} lumps
- */
-function contents(lumps) {
-  const { ends } = linesOf(lumps), levels = [], demos = [];
-  for (let k = 1; k < ends.length; k++) {
-    let at = ends[k - 1] + 1;
-    for (let field = 0; field < 3; field++) at = lumps.indexOf(32, at) + 1;
-    if (k > 1 && (isName(lumps, at, ends[k], 'THINGS') || isName(lumps, at, ends[k], 'TEXTMAP'))) levels.push(k - 1);
-    if (isName(lumps, at, at + 4, 'DEMO') && !isName(lumps, at - 3, at, ' 0 ')) demos.push(k);
-  }
-  return { levels: these(lumps, ends, levels), demos: these(lumps, ends, demos) };
-}
-
-/**
- * Only these of the lines.
- * @param {Uint8Array} bytes @param {Uint32Array} ends @param {number[]} which @returns {LinesData}
- */
-function these(bytes, ends, which) {
-  const from = (/** @type {number} */ k) => k ? ends[k - 1] + 1 : 0;
-  const kept = new Uint8Array(which.reduce((sum, k) => sum + ends[k] + 1 - from(k), 0));
-  let at = 0;
-  for (const k of which) {
-    kept.set(bytes.subarray(from(k), ends[k] + 1), at);
-    at += ends[k] + 1 - from(k);
-  }
-  return linesOf(kept);
 }
 
 /**
@@ -224,7 +185,8 @@ const jobs = {
     const { named, name } = await alone(asked), frame = asked.frame ? ['--frame', asked.frame.join(',')] : [];
     const words = ['picture', ...reading(asked), '--cells', String(asked.cells), ...frame, name, 'f'];
     const ended = await ask(words, [named], undefined, 1 << 22);
-    if (!ended.answer.length) return { why: reason(ended) };
+    // Only levels that `survey` tells as Doom's are asked for, and only frames and cells in their bounds.
+    if (ended.status === 2) return { why: 'nothing to draw: no linedef has both of its vertexes' };
     const picture = read(ended.answer);
     return picture ? { picture, svg: ended.answer } : { why: 'the picture is too large to be shown here; it can be saved', svg: ended.answer };
   },
@@ -247,6 +209,7 @@ const jobs = {
     const { named, name } = await alone(asked), pairs = [];
     for (let sector = 0; sector < asked.sectors; sector++) pairs.push(`${asked.sector} ${sector}\n`);
     const ended = await ask(['sight', name, 'f'], [named], utf8(pairs.join('')));
+    if (ended.status !== 0) throw new Error(ended.refused);
     return text(ended.answer).split('\n').slice(0, -1).map((line) => line.slice(line.lastIndexOf(' ') + 1));
   },
 

@@ -1,10 +1,12 @@
 // The picture on two canvases: the ground of cells, and over it lines, things and marks; with zoom, pan, keys and a pin.
+import { cellColour, css, pixel, themeNow } from './inks.mjs';
 
 /** @typedef {import('./picture.mjs').Picture} Picture */
+/** @typedef {import('./inks.mjs').Colour} Colour @typedef {import('./inks.mjs').Sight} Sight */
 /** @typedef {{ x: number, y: number, zoom: number }} View  the map's place in the middle, and pixels to a unit */
-/** @typedef {[number, number, number]} Colour */
 /** @typedef {{ at: number[], title: string }} Place  of a finding: x y, or x y x y */
 /** @typedef {{ sector: string, thing: string, found: string }} Under  titles of what lies under the pointer */
+/** @typedef {(colour: Colour, ...lines: [Path2D, number][]) => void} Cased  strokes paths of some widths over their cases */
 /**
  * @typedef {{ hover: (x: number, y: number, under: Under) => void, leave: () => void, pin: (x: number, y: number) => void,
  *   unpin: () => void, moved: (view: View) => void }} Tell
@@ -12,18 +14,8 @@
 
 export const NOWHERE = 0x7fffffff; // in ends: a linedef without both vertexes
 const CLOSEST = 16; // pixels to a unit
-const CLEAR = 0.3; // of the accent, in sectors that REJECT lets the pinned one see; page.css has the same
 const SLOW = 30; // ms: a picture that takes longer is moved as it is, and drawn anew when it rests
-
-/** Of ink, in this order: what page.css says for the theme. */
-const INKS = ['void', 'cell-dark', 'cell-light', 'wall', 'step', 'thing', 'accent', 'fault', 'ink'];
-
-/** @param {Colour} a @param {Colour} b @param {number} part of b @returns {Colour} */
-const mix = (a, b, part) => /** @type {Colour} */ (a.map((from, k) => from + (b[k] - from) * part));
-/** @param {Colour} colour as a pixel of an image */
-const pixel = ([r, g, b]) => (255 << 24 | Math.round(b) << 16 | Math.round(g) << 8 | Math.round(r)) >>> 0;
-/** @param {Colour} colour @param {number} [alpha] */
-const css = ([r, g, b], alpha = 1) => `rgb(${r} ${g} ${b} / ${alpha})`;
+const CASE = 1.2; // pixels of the ground's colour about a mark, so that it stands out on each sector, whatever its light and tint
 
 /** Lines of x y x y as a path. @param {ArrayLike<number>} at */
 function pathOf(at) {
@@ -271,26 +263,19 @@ export class MapView {
   // Colours ----------------------------------------------------------------------------------------------------------------------
 
   #theme() {
-    const style = getComputedStyle(document.documentElement);
-    this.inks = Object.fromEntries(INKS.map((name) => {
-      const digits = style.getPropertyValue(`--${name}`).trim().slice(1);
-      return [name, /** @type {Colour} */ ([0, 2, 4].map((k) => parseInt(digits.slice(k, k + 2), 16)))];
-    }));
-    this.here = parseFloat(style.getPropertyValue('--here')); // how much of the accent the pinned sector has
+    this.theme = themeNow();
     this.#ink();
   }
 
-  /** The colour of a sector's cells, by its light and what REJECT says of it. @param {import('./picture.mjs').Shown} shown @returns {Colour} */
-  #colour({ sector, light }) {
-    const { inks, seen } = this, cell = mix(inks['cell-dark'], inks['cell-light'], light);
-    const lit = sector === this.hovered ? 0.14 : 0;
-    if (seen.sector < 0) return mix(cell, inks.accent, lit);
-    if (sector === seen.sector) return mix(cell, inks.accent, this.here + lit);
-    return seen.answers[sector] === 'clear' ? mix(cell, inks.accent, CLEAR + lit) : mix(mix(cell, inks.void, 0.55), inks.accent, lit);
+  /** What is known of a sector from the pinned one. @param {number} sector @returns {Sight} */
+  #sightOf(sector) {
+    const { seen } = this;
+    if (seen.sector < 0) return 'unknown';
+    return sector === seen.sector ? 'here' : /** @type {Sight | undefined} */ (seen.answers[sector]) ?? 'unknown';
   }
 
   #ink() {
-    for (const ground of [this.ground, this.fine]) ground?.paint((shown) => this.#colour(shown));
+    for (const ground of [this.ground, this.fine]) ground?.paint(({ sector, light }) => cellColour(this.theme, light, this.#sightOf(sector), sector === this.hovered));
     this.#redraw();
   }
 
@@ -319,7 +304,7 @@ export class MapView {
   #drawGround() {
     const pen = /** @type {CanvasRenderingContext2D} */ (this.base.getContext('2d', { alpha: false })), { base, ground, fine } = this;
     pen.setTransform(1, 0, 0, 1, 0, 0);
-    pen.fillStyle = css(this.inks.void);
+    pen.fillStyle = css(this.theme.inks.void);
     pen.fillRect(0, 0, base.width, base.height);
     pen.imageSmoothingEnabled = false;
     if (ground) this.#drawCells(pen, ground);
@@ -345,7 +330,7 @@ export class MapView {
   }
 
   #drawLines() {
-    const pen = /** @type {CanvasRenderingContext2D} */ (this.over.getContext('2d')), { inks, picture, ratio } = this, { x, y, zoom } = this.view;
+    const pen = /** @type {CanvasRenderingContext2D} */ (this.over.getContext('2d')), { picture, ratio } = this, { inks } = this.theme, { x, y, zoom } = this.view;
     pen.setTransform(1, 0, 0, 1, 0, 0);
     pen.clearRect(0, 0, this.over.width, this.over.height);
     if (!picture) return;
@@ -356,15 +341,18 @@ export class MapView {
       pen.lineWidth = width / zoom;
       if (path) pen.stroke(path);
     };
-    const thin = Math.min(1, 0.55 + zoom); // far away, lines that crowd are drawn lighter
-    stroke(this.twoSided, css(inks.step, 0.6 * thin), 0.8);
-    stroke(this.oneSided, css(inks.wall, thin), 1.3);
-    stroke(this.mistaken, css(inks.fault), 3.5);
+    /** @type {Cased} */
+    const cased = (colour, ...lines) => {
+      for (const [path, width] of lines) stroke(path, css(inks.void), width + 2 * CASE);
+      for (const [path, width] of lines) stroke(path, css(colour), width);
+    };
+    stroke(this.twoSided, css(inks.step, 0.6 * Math.min(1, 0.55 + zoom)), 0.8); // texture, which may be faint: what can't be passed is a wall
+    stroke(this.oneSided, css(inks.wall), 1.3);
+    if (this.mistaken) cased(inks.fault, [this.mistaken, 3.5]);
     this.#drawThings(pen, picture.things);
-    this.#drawPlaces(stroke);
-    stroke(this.block, css(inks.void), 6);
-    stroke(this.block, css(inks.accent), 2.6);
-    this.#drawFound(pen, stroke);
+    this.#drawPlaces(cased);
+    cased(inks.accent, [this.block, 2.6]);
+    this.#drawFound(pen, cased);
     this.#drawPin(pen);
   }
 
@@ -375,32 +363,33 @@ export class MapView {
 
   /** @param {CanvasRenderingContext2D} pen @param {Int32Array} things */
   #drawThings(pen, things) {
-    const radius = this.#thing();
-    pen.fillStyle = css(this.inks.thing, 0.9);
-    pen.beginPath();
-    for (let k = 0; k < things.length; k += 2) {
-      if (this.#outOfView(things[k], things[k + 1])) continue;
-      pen.moveTo(things[k] + radius, things[k + 1]);
-      pen.arc(things[k], things[k + 1], radius, 0, 2 * Math.PI);
+    const { inks } = this.theme, { zoom } = this.view;
+    for (const [colour, radius] of /** @type {[Colour, number][]} */ ([[inks.void, this.#thing() + CASE / zoom], [inks.thing, this.#thing()]])) {
+      pen.fillStyle = css(colour);
+      pen.beginPath();
+      for (let k = 0; k < things.length; k += 2) {
+        if (this.#outOfView(things[k], things[k + 1])) continue;
+        pen.moveTo(things[k] + radius, things[k + 1]);
+        pen.arc(things[k], things[k + 1], radius, 0, 2 * Math.PI);
+      }
+      pen.fill();
     }
-    pen.fill();
   }
 
-  /** A line stands out, and a point has a ring. @param {(path: Path2D, colour: string, width: number) => void} stroke */
-  #drawPlaces(stroke) {
+  /** A line stands out, and a point has a ring. @param {Cased} cased */
+  #drawPlaces(cased) {
     const rings = new Path2D(), radius = 5 / this.view.zoom;
     for (const { at: [x, y] } of this.places.filter(({ at }) => at.length === 2)) {
       rings.moveTo(x + radius, y);
       rings.arc(x, y, radius, 0, 2 * Math.PI);
     }
-    stroke(this.placeLines, css(this.inks.fault), 2.4);
-    stroke(rings, css(this.inks.void), 5);
-    stroke(rings, css(this.inks.fault), 2);
+    cased(this.theme.inks.fault, [this.placeLines, 2.4]);
+    cased(this.theme.inks.fault, [rings, 2]);
   }
 
-  /** @param {CanvasRenderingContext2D} pen @param {(path: Path2D, colour: string, width: number) => void} stroke */
-  #drawFound(pen, stroke) {
-    const { found, inks } = this, unit = 1 / this.view.zoom;
+  /** @param {CanvasRenderingContext2D} pen @param {Cased} cased */
+  #drawFound(pen, cased) {
+    const { found } = this, { inks } = this.theme, unit = 1 / this.view.zoom;
     if (!found) return;
     const line = pathOf(found.length === 4 ? found : []), target = new Path2D();
     const x = found.length === 4 ? (found[0] + found[2]) / 2 : found[0], y = found.length === 4 ? (found[1] + found[3]) / 2 : found[1];
@@ -409,11 +398,7 @@ export class MapView {
       target.moveTo(x + 19 * dx * unit, y + 19 * dy * unit);
       target.lineTo(x + 29 * dx * unit, y + 29 * dy * unit);
     }
-    // Each mark has a case in the ground's colour, so that it stands out on bright sectors too.
-    stroke(target, css(inks.void), 6);
-    stroke(line, css(inks.void), 9);
-    stroke(target, css(inks.fault), 2.2);
-    stroke(line, css(inks.fault), 4.5);
+    cased(inks.fault, [target, 2.2], [line, 4.5]);
     pen.beginPath();
     pen.arc(x, y, 2.5 * unit, 0, 2 * Math.PI);
     pen.fillStyle = css(inks.fault);
@@ -422,7 +407,7 @@ export class MapView {
 
   /** @param {CanvasRenderingContext2D} pen */
   #drawPin(pen) {
-    const { pinned, inks } = this, unit = 1 / this.view.zoom;
+    const { pinned } = this, { inks } = this.theme, unit = 1 / this.view.zoom;
     if (!pinned) return;
     for (const [radius, colour] of /** @type {[number, string][]} */ ([[10, css(inks.void)], [8, css(inks.ink)], [5.6, css(inks.void)], [2.6, css(inks.ink)]])) {
       pen.fillStyle = colour;

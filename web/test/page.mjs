@@ -66,12 +66,18 @@ const placeOf = async (x, y) => {
   return [mx + (x - vx) * zoom, my - (y - vy) * zoom];
 };
 
-/** Whether the ink at a place of the map, or so many pixels to its right, is that of findings. @param {number} x @param {number} y @param {number} [right] */
-const isFault = async (x, y, right = 0) => {
+/**
+ * Whether an ink of page.css is on the map at a place, or in one of the pixels that stand so far to its right.
+ * @param {string} ink @param {number} x @param {number} y @param {number} [from] @param {number} [to]
+ */
+const hasInk = async (ink, x, y, from = 0, to = from) => {
   const [vx, vy, zoom] = await viewOf();
-  return browser.run(`(() => { const e = document.querySelectorAll('#map canvas')[1], style = getComputedStyle(document.documentElement);
-    const at = [e.width / 2 + (${x} - ${vx}) * ${zoom} + ${right}, e.height / 2 - (${y} - ${vy}) * ${zoom}].map(Math.floor), d = style.getPropertyValue('--fault').trim().slice(1);
-    return [0, 2, 4].every((k) => Math.abs(e.getContext('2d').getImageData(...at, 1, 1).data[k / 2] - parseInt(d.slice(k, k + 2), 16)) < 40); })()`);
+  return browser.run(`(() => { const e = document.querySelectorAll('#map canvas')[1], d = getComputedStyle(document.documentElement).getPropertyValue('--${ink}').trim().slice(1);
+    const wanted = [0, 2, 4].map((k) => parseInt(d.slice(k, k + 2), 16)), left = e.width / 2 + (${x} - ${vx}) * ${zoom}, top = e.height / 2 - (${y} - ${vy}) * ${zoom};
+    const isIt = (right) => { const at = e.getContext('2d').getImageData(Math.floor(left + right), Math.floor(top), 1, 1).data;
+      return at[3] > 120 && wanted.every((v, k) => Math.abs(at[k] - v) < 40); };
+    for (let right = ${from}; right <= ${to}; right++) if (isIt(right)) return true;
+    return false; })()`);
 };
 /** Pins a point by its numbers. @param {string} numbers */
 const pinBy = async (numbers) => {
@@ -230,7 +236,7 @@ async function findings() {
   await browser.until("document.querySelector('#map').dataset.view.startsWith('384.000 256.000')", 'the view at the finding');
   check('a finding moves the view to its place', before.slice(0, 2).join(' ') !== (await viewOf()).slice(0, 2).join(' '), true);
   await drawnAnew();
-  check('and is marked there', await isFault(384, 256, 19), true);
+  check('and is marked there', await hasInk('fault', 384, 256, 19), true);
 }
 
 /** What no fault is, and no mapper wants. */
@@ -247,7 +253,7 @@ async function warnings() {
     'W3', 'thing 1', 'Stands in the void, at (536, 128)']);
   await drawnAnew();
   check('the legend tells of them', await legend(), ['findings']);
-  check('where they are on the map', [await isFault(512, 128), await isFault(536, 128, 5), await isFault(0, 128)], [true, true, false]);
+  check('where they are on the map', [await hasInk('fault', 512, 128), await hasInk('fault', 536, 128, 5), await hasInk('fault', 0, 128)], [true, true, false]);
   await browser.mouse('mouseMoved', ...await placeOf(511, 40));
   check('a warning under the pointer', (await textOf('#under')).split('  –  '), ['W2 linedef 5 · No middle texture in front', 'sector 1 · floor 24 FLOOR0_1 · ceiling 128 CEIL1_1 · light 224 · special 0 · tag 0']);
   await browser.press('#findings .row');
@@ -440,21 +446,34 @@ async function wide() {
   check('are none under the wide one', await textOf('#levels .row-state'), 'sound · W1 W6');
 }
 
-/** WCAG's contrast of colours of page.css. */
+/** WCAG's contrast: of the colours of page.css, of walls on each colour of the map's cells, and of its marks, which lie on their cases. */
 async function contrast() {
-  const script = `(() => { const style = getComputedStyle(document.documentElement);
-    const light = (name) => { const d = style.getPropertyValue('--' + name).trim().slice(1);
-      const [r, g, b] = [0, 2, 4].map((k) => parseInt(d.slice(k, k + 2), 16) / 255).map((c) => c <= 0.04045 ? c / 12.92 : ((c + 0.055) / 1.055) ** 2.4);
+  const script = `(async () => { const { cellColour, themeNow } = await import(new URL('inks.mjs', document.baseURI)), theme = themeNow(), { inks } = theme;
+    const style = getComputedStyle(document.documentElement);
+    const named = (name) => { const d = style.getPropertyValue('--' + name).trim().slice(1); return [0, 2, 4].map((k) => parseInt(d.slice(k, k + 2), 16)); };
+    const light = (colour) => { const [r, g, b] = colour.map((v) => v / 255).map((c) => c <= 0.04045 ? c / 12.92 : ((c + 0.055) / 1.055) ** 2.4);
       return 0.2126 * r + 0.7152 * g + 0.0722 * b; };
     const ratio = (a, b) => { const [x, y] = [light(a), light(b)].sort((p, q) => q - p); return (x + 0.05) / (y + 0.05); };
     const texts = ['ink', 'soft'].flatMap((a) => ['ground', 'panel', 'raised'].map((b) => [a, b, 4.5]));
     const more = [['ink', 'wash', 4.5], ['fault', 'panel', 4.5], ['fault', 'wash', 4.5], ['fault', 'fault-wash', 4.5], ['on-accent', 'accent', 4.5], ['soft', 'void', 4.5],
-      ['edge', 'panel', 3], ['edge', 'ground', 3], ['accent', 'panel', 3], ['accent', 'void', 3], ['fault', 'void', 3], ['wall', 'void', 3], ['wall', 'cell-dark', 3],
-      ['thing', 'cell-light', 3 * (matchMedia('(prefers-color-scheme: light)').matches)]];
-    return [...texts, ...more].filter(([a, b, least]) => ratio(a, b) < least).map(([a, b]) => a + ' on ' + b + ' ' + ratio(a, b).toFixed(2)); })()`;
+      ['edge', 'panel', 3], ['edge', 'ground', 3], ['accent', 'panel', 3], ['wall', 'void', 3], ...['accent', 'fault', 'thing', 'ink'].map((mark) => [mark, 'void', 3])];
+    const low = [...texts, ...more].filter(([a, b, least]) => ratio(named(a), named(b)) < least).map(([a, b]) => a + ' on ' + b + ' ' + ratio(named(a), named(b)).toFixed(2));
+    for (const sight of ['here', 'clear', 'blocked', 'unknown']) for (const isUnder of [false, true]) for (let k = 0; k <= 20; k++) {
+      const found = ratio(inks.wall, cellColour(theme, k / 20, sight, isUnder));
+      if (found < 3) low.push('wall on ' + sight + (isUnder ? ' under the pointer ' : ' ') + k / 20 + ' ' + found.toFixed(2));
+    }
+    return low; })()`;
+  await fresh();
+  await browser.drop(written('marked.wad', wad(rooms('MAP01', { damage: twoOverlooked }))));
+  await drawn('MAP01');
   for (const scheme of /** @type {const} */ (['dark', 'light'])) {
     await browser.screen(1440, 900, scheme);
+    await browser.until("document.querySelector('#findings .row')", 'the findings');
     check(`contrast, ${scheme}`, await browser.run(script), []);
+    await drawnAnew();
+    const zoom = (await viewOf())[2];
+    check(`a finding's line and its case, ${scheme}`, [await hasInk('fault', 512, 100), await hasInk('void', 512, 100, 1, 4), await hasInk('void', 512, 100, -4, -1)], [true, true, true]);
+    check(`a thing and its case, ${scheme}`, [await hasInk('thing', 64, 64), await hasInk('void', 64, 64, 10 * zoom, 10 * zoom + 3)], [true, true]);
   }
 }
 

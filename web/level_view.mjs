@@ -4,7 +4,7 @@ import { Lines } from './lines.mjs';
 import { MapView, NOWHERE } from './map_view.mjs';
 import { Stopped } from './questions.mjs';
 import { make } from './rows.mjs';
-import { findingOf, get, field, inShort, isNarrow, notJudged, pane, plural, say, verdict, wordsOf } from './words.mjs';
+import { findingOf, get, field, inShort, isNarrow, notJudged, pane, say, verdict, wordsOf } from './words.mjs';
 
 /** @typedef {import('./words.mjs').Level} Level @typedef {import('./words.mjs').Finding} Finding */
 /** @typedef {import('./questions.mjs').Questions} Questions */
@@ -16,7 +16,19 @@ const COARSE = 2.5; // pixels to a cell from which on a part is asked for in sma
 const MARKED = 1000; // findings whose places are marked while none is chosen
 const COUNTS = /** @type {const} */ (['things', 'linedefs', 'sidedefs', 'vertexes', 'segs', 'ssectors', 'nodes', 'sectors']);
 
+/** Where each of REJECT's answers is listed. */
+const SIGHTS = [['point-clear', 'clear'], ['point-blocked', 'blocked'], ['point-unknown', 'unknown']];
+
 const whyNot = (/** @type {unknown} */ error) => error instanceof Stopped ? 'Stopped. Choose the level again to draw it.' : wordsOf(error);
+
+/** Numbers in a part that scrolls; it fades below while there are more. @param {string} list */
+function numbers(list) {
+  const part = make('span', 'numbers', list);
+  const tell = () => part.classList.toggle('more', part.scrollTop + part.clientHeight < part.scrollHeight - 1);
+  part.addEventListener('scroll', tell, { passive: true });
+  new ResizeObserver(tell).observe(part);
+  return part;
+}
 
 export class LevelView {
   /** @param {Questions} desk @param {Questions} finer @param {() => void} readWide called where the wide reading is chosen */
@@ -187,7 +199,7 @@ export class LevelView {
     this.#legend('found', places.length > 0);
   }
 
-  /** Whether the legend tells of something. @param {'pinned' | 'found'} what @param {boolean} isThere */
+  /** Whether the legend tells of something. @param {'pinned' | 'sight' | 'found'} what @param {boolean} isThere */
   #legend(what, isThere) {
     get('legend').classList.toggle(what, isThere && !!this.map.picture);
   }
@@ -199,10 +211,14 @@ export class LevelView {
     return ends[at] === undefined || ends[at] === NOWHERE ? null : [...ends.subarray(at, at + 4)];
   }
 
-  /** The ends of the linedefs, asked for once. */
+  /** The ends of the linedefs, asked for once, and again where that was stopped. */
   #linedefs() {
-    this.ends ??= this.desk.ask('ends', this.asked ?? {}).catch(() => new Int32Array());
-    return this.ends;
+    if (this.ends) return this.ends;
+    const ends = this.desk.ask('ends', this.asked ?? {}).catch((error) => {
+      if (error instanceof Stopped && this.ends === ends) this.ends = undefined;
+      return new Int32Array();
+    });
+    return this.ends = ends;
   }
 
   // Point ------------------------------------------------------------------------------------------------------------------------
@@ -220,9 +236,11 @@ export class LevelView {
     get('point-none').hidden = true;
     get('point-line').textContent = this.#inWords(line, x, y);
     this.#rest();
+    const title = inShort(this.map.titleOf(Number(sector)));
+    get('point-sector').textContent = title.replace(/^sector /, '');
+    get('sector-row').hidden = !title;
     this.#legend('pinned', sector !== undefined && !!this.map.picture);
-    get('point-clear').textContent = get('point-blocked').textContent = sector === undefined ? 'not told' : '';
-    if (sector === undefined) this.map.sight(-1, []); else this.#sight(Number(sector), mine);
+    if (sector === undefined) this.#tellSight(-1, []); else this.#sight(Number(sector), mine);
     const told = await block, ends = await this.#linedefs();
     if (mine === this.pins) this.map.showBlock(this.#tellBlock(told), ends);
   }
@@ -236,23 +254,29 @@ export class LevelView {
   /** Tells the line of `blocks`; answers its linedefs. @param {string} line @returns {number[]} */
   #tellBlock(line) {
     const found = /^-?\d+ -?\d+ block (\d+) (\d+) lines ?(.*)$/.exec(line);
-    const words = found ? [`${found[1]} ${found[2]}, its list `, make('span', 'numbers', found[3])] : [line.replace(/^-?\d+ -?\d+ /, '')];
+    const words = found ? [`${found[1]} ${found[2]}, its list `, numbers(found[3])] : [line.replace(/^-?\d+ -?\d+ /, '')];
     get('point-block').replaceChildren(...words);
     const list = found?.[3].split(' ').map(Number) ?? [];
     return list[0] === 0 ? list.slice(1) : list; // the word 0 that lists begin with names no linedef of the block
   }
 
-  /** @param {number} sector @param {number} mine */
+  /** Asks what REJECT says of each sector from one. @param {number} sector @param {number} mine */
   async #sight(sector, mine) {
-    const asked = { ...this.asked, sector, sectors: this.level?.sectors };
+    for (const [id] of SIGHTS) get(id).textContent = '';
     /** @type {string[]} */
-    const answers = await this.desk.ask('sight', asked).catch(() => []);
-    if (mine !== this.pins) return;
+    const answers = await this.desk.ask('sight', { ...this.asked, sector, sectors: this.level?.sectors }).catch(() => []);
+    if (mine === this.pins) this.#tellSight(sector, answers);
+  }
+
+  /** @param {number} sector @param {string[]} answers of each sector; none where nothing is told */
+  #tellSight(sector, answers) {
     this.map.sight(sector, answers);
-    for (const [id, answer] of [['point-clear', 'clear'], ['point-blocked', 'blocked']]) {
+    for (const [id, answer] of SIGHTS) {
       const list = answers.flatMap((told, other) => told === answer ? [other] : []);
-      get(id).replaceChildren(list.length ? `${plural(list.length, 'sector')} ` : 'none', make('span', 'numbers', list.join(' ')));
+      get(id).replaceChildren(list.length ? numbers(list.join(' ')) : answers.length ? 'none' : 'not told');
     }
+    get('unknown-row').hidden = !answers.includes('unknown');
+    this.#legend('sight', answers.includes('clear'));
   }
 
   unpin() {

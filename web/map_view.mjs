@@ -135,6 +135,11 @@ export class MapView {
     this.fit();
   }
 
+  /** What the picture tells of a sector; nothing where it has no cell of it. @param {number} sector */
+  titleOf(sector) {
+    return this.picture?.shown.find((one) => one.sector === sector)?.title ?? '';
+  }
+
   /** Puts the smaller cells of a part in place of those that are shown. @param {Picture} picture */
   sharpen(picture) {
     this.fine = new Ground(picture);

@@ -170,14 +170,16 @@ async function point() {
   check('the line of a pinned point is the program\'s', `${line}\n`, printed(['points', 'MAP01', 'f'], twoRooms, at).toString());
   check('its sector', line.split(' ').slice(2, 4), ['sector', '0']);
   check('the linedefs of its block', `${await textOf('#point-block .numbers')}\n`, printed(['blocks', 'MAP01', 'f'], twoRooms, at).toString().split(' lines ')[1]);
-  check('what REJECT lets it see', await textOf('#point-clear'), '1 sector 0');
-  check('and what not', await textOf('#point-blocked'), '1 sector 1');
+  check('what the picture tells of that', await textOf('#point-sector'), '0 · floor 0 FLOOR0_1 · ceiling 128 CEIL1_1 · light 160 · special 0 · tag 0');
+  check('what REJECT lets it see', await textOf('#point-clear'), '0');
+  check('and what not', await textOf('#point-blocked'), '1');
+  check('there is nothing that it does not tell', await isHidden('#unknown-row'), true);
   check('what it cannot see is dark on the map', (await groundOfRooms())[1][0] < east[0], true);
   check('and told by a legend', await legend(), ['pinned sector', 'REJECT lets it see', 'linedefs of its block']);
   await pinBy('300 100');
   await pointTold('300 100');
   check('a point by its numbers', await textOf('#point-line'), '300 100 sector 1 ssector 1');
-  check('what it sees', await textOf('#point-clear'), '2 sectors 0 1');
+  check('what it sees', await textOf('#point-clear'), '0 1');
   await pinBy('20000 0');
   await pointTold('20000');
   check('a point out of range', await textOf('#point-line'), "20000 0 isn't told: places reach from -16384 to 16383");
@@ -185,6 +187,42 @@ async function point() {
   check('let go', await isHidden('#point'), true);
   await browser.press('#fit');
   check('and the map is as before', (await groundOfRooms())[1], east);
+}
+
+/** What REJECT doesn't tell stays as it is, and is no answer of another kind. */
+async function unknown() {
+  const damage = (/** @type {Record<string, Buffer>} */ lumps) => {
+    lumps.SECTORS = Buffer.concat(Array.from({ length: 200 }, () => lumps.SECTORS));
+    lumps.REJECT = Buffer.alloc(0);
+  };
+  const file = wad(rooms('MAP01', { damage })), all = Array.from({ length: 400 }, (_, k) => k);
+  const told = () => Promise.all(['#point-clear', '#point-blocked', '#point-unknown'].map(textOf));
+  await fresh();
+  await browser.drop(written('untold.wad', file));
+  await drawn('MAP01');
+  const ground = await groundOfRooms();
+  await pinBy('100 100');
+  await pointTold('100 100');
+  check('the program tells it as unknown', printed(['sight', 'MAP01', 'f'], file, '0 0\n0 399\n').toString(), '0 0 unknown\n0 399 unknown\n');
+  check('and the page', await told(), ['none', 'none', all.join(' ')]);
+  check('what is unknown is not dark on the map', (await groundOfRooms())[1], ground[1]);
+  check('and the legend tells of no sight', await legend(), ['pinned sector', 'linedefs of its block']);
+  const isMore = () => browser.run("document.querySelector('#point-unknown .numbers').classList.contains('more')");
+  check('a list that goes on fades', await isMore(), true);
+  await browser.run("{ const e = document.querySelector('#point-unknown .numbers'); e.scrollTop = e.scrollHeight; }");
+  await drawnAnew();
+  check('and not at its end', await isMore(), false);
+
+  await withhold('sight');
+  await pinBy('300 100');
+  await browser.until("document.querySelector('#point-line').textContent.startsWith('300 100')", 'a point without its sight');
+  await browser.run("document.querySelector('#stop').click()");
+  await pointTold('300 100');
+  check('a sight that was stopped is not told', [...(await told()).slice(0, 2), await isHidden('#unknown-row')], ['not told', 'not told', true]);
+  await browser.run('free()');
+  await pinBy('100 100');
+  await pointTold('100 100');
+  check('and told anew', (await told())[2], all.join(' '));
 }
 
 async function moves() {
@@ -288,6 +326,18 @@ async function faults() {
   await pick('levels', 'MAP02');
   await browser.until("document.querySelector('#title').textContent === 'MAP02' && document.querySelector('#map-none').textContent !== ''", 'MAP02');
   check('no picture of it', await browser.run("document.querySelector('#map').dataset.drawn ?? ''"), '');
+}
+
+/** A level without a place has findings and no picture. */
+async function undrawn() {
+  const file = wad(rooms('MAP01', { damage: (lumps) => { lumps.VERTEXES = Buffer.alloc(0); } }));
+  await fresh();
+  await browser.drop(written('nowhere.wad', file));
+  await drawn('MAP01');
+  check('the program draws nothing', runProgram(programs, room, ['picture', 'MAP01', 'f'], [file], Buffer.alloc(0)).refused, 'wadlens: MAP01: nothing to draw');
+  check('and the page tells why', await textOf('#map-none'), 'nothing to draw: no linedef has both of its vertexes');
+  check('its findings are there', (await textsOf('#findings .row-name')).length > 0, true);
+  check('no picture is saved', await browser.run("document.querySelector('#save-svg').disabled"), true);
 }
 
 async function demos() {
@@ -423,6 +473,17 @@ async function stop() {
   await pick('levels', 'MAP02');
   await drawn('MAP02');
   check('and it is drawn', await isHidden('#map-none'), true);
+
+  await withhold('ends');
+  await pick('levels', 'MAP01');
+  await drawn('MAP01');
+  await browser.run("document.querySelector('#stop').click()");
+  await browser.run('free()');
+  await pinBy('100 100');
+  await pointTold('100 100');
+  await browser.until("document.querySelector('#point-block .numbers')", 'the block');
+  await drawnAnew();
+  check('where linedefs lie is asked anew', await hasInk('accent', 0, 128), true);
 }
 
 async function wide() {
@@ -605,7 +666,7 @@ const isThere = await Promise.race([browser.attach().then(() => true, () => fals
 if (!isThere) console.log("skipped, as Chromium doesn't start here: the page");
 let at = 'the start';
 try {
-  const all = [files, levels, picture, point, moves, finer, findings, warnings, faults, demos, saves, markup, hostile, manyFindings, large, stop, wide, contrast, labels, keys, phone, unable, engineless, anyHost, alone, policy];
+  const all = [files, levels, picture, point, moves, finer, findings, unknown, warnings, faults, undrawn, demos, saves, markup, hostile, manyFindings, large, stop, wide, contrast, labels, keys, phone, unable, engineless, anyHost, alone, policy];
   const only = valueOf('--only').split(',');
   for (const one of all.filter(({ name }) => isThere && (!only[0] || only.includes(name)))) {
     at = one.name;

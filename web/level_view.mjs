@@ -306,7 +306,7 @@ export class LevelView {
   /** @param {import('./map_view.mjs').View} view */
   #moved({ x, y, zoom }) {
     get('map').dataset.view = `${x.toFixed(3)} ${y.toFixed(3)} ${zoom.toFixed(4)}`;
-    const units = 2 ** Math.max(0, Math.floor(Math.log2(110 / zoom)));
+    const units = 2 ** Math.max(0, Math.floor(Math.log2((isNarrow() ? 60 : 110) / zoom)));
     get('scale-bar').style.width = `${units * zoom}px`;
     get('scale-text').textContent = `${units} units`;
     clearTimeout(this.resting);

@@ -29,7 +29,7 @@ export class ListBox {
   }
 
   /**
-   * Shows `count` items, of which row `chosen` is marked; the list stays where it was scrolled to if it is `kept`.
+   * Shows `count` items, of which row `chosen` is marked and in view; the list stays where it was scrolled to if it is `kept`.
    * @param {number} count @param {(k: number) => T} item @param {number} [chosen] @param {boolean} [kept]
    */
   show(count, item, chosen = -1, kept = false) {
@@ -38,6 +38,7 @@ export class ListBox {
     this.at = chosen;
     this.element.hidden = !count;
     if (kept) this.rows.redraw(count); else this.rows.show(count);
+    if (!kept && chosen >= 0) this.rows.reveal(chosen);
     this.#mark();
   }
 

@@ -161,6 +161,7 @@ let filtering = 0; // counts filters, so that an earlier one ends where a later 
 async function showLevels(kept = false) {
   const f = state.file, mine = ++filtering, words = field('filter').value.toLowerCase().split(/\s+/).filter(Boolean), only = field('only').checked;
   if (!f) return;
+  showSaves();
   const count = f.survey?.count ?? f.heads.count;
   /** @type {number[] | null} */
   let wanted = null;
@@ -290,16 +291,22 @@ function save(part, name, type) {
   say(`${link.download} saved`);
 }
 
-/** @type {Record<string, (f: OpenFile) => unknown>} */
+/** What can be saved of the chosen file: its report where it has levels, and their survey once they are judged. */
+function showSaves() {
+  get('save-report').toggleAttribute('disabled', !state.file?.heads.count);
+  get('save-json').toggleAttribute('disabled', !state.file?.survey);
+}
+
+/** @type {Record<string, (f: OpenFile) => unknown>} what is saved of the level, or of the chosen file */
 const saves = {
   'save-pwad': async () => view.asked && save(await desk.ask('cut', view.asked), `${view.asked.name}.wad`, 'application/octet-stream'),
   'save-svg': () => view.svg && save(view.svg, `${view.asked?.name}.svg`, 'image/svg+xml'),
   'save-report': async (f) => save(await judge.ask('report', { ...asking(f), path: pathOf(f) }, `Checking ${f.file.name}`), `${f.file.name}.txt`, 'text/plain'),
-  'save-json': (f) => f.survey ? save(f.survey.bytes, `${f.file.name}.jsonl`, 'application/jsonl') : say('the levels are not judged yet'),
+  'save-json': (f) => f.survey && save(f.survey.bytes, `${f.file.name}.jsonl`, 'application/jsonl'),
 };
 for (const [id, act] of Object.entries(saves)) {
   get(id).addEventListener('click', async () => {
-    try { if (state.of) await act(state.of); } catch (error) { say(wordsOf(error)); }
+    try { if (state.file) await act(state.file); } catch (error) { say(wordsOf(error)); }
   });
 }
 

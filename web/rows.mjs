@@ -52,12 +52,12 @@ export class Rows {
   }
 
   /**
-   * Scrolls no further than is needed to see row `k`, or until it is the first that is seen.
+   * Scrolls no further than is needed to see row `k`, or until it is the first that is seen: so, too, while there is no room for it.
    * @param {number} k @param {boolean} [first]
    */
   reveal(k, first = false) {
     const top = k * this.height, view = this.#view();
-    if (first || top < this.offset) this.offset = top;
+    if (first || top < this.offset || view < this.height) this.offset = top;
     else if (top + this.height > this.offset + view) this.offset = top + this.height - view;
     this.#place();
   }

@@ -355,8 +355,8 @@ export class MapView {
     stroke(this.oneSided, css(inks.wall), 1.3);
     if (this.mistaken) cased(inks.fault, [this.mistaken, 3.5]);
     this.#drawThings(pen, picture.things);
-    this.#drawPlaces(cased);
     cased(inks.accent, [this.block, 2.6]);
+    this.#drawPlaces(cased);
     this.#drawFound(pen, cased);
     this.#drawPin(pen);
   }

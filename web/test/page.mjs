@@ -292,6 +292,10 @@ async function warnings() {
   await drawnAnew();
   check('the legend tells of them', await legend(), ['findings']);
   check('where they are on the map', [await hasInk('fault', 512, 128), await hasInk('fault', 536, 128, 5), await hasInk('fault', 0, 128)], [true, true, false]);
+  await pinBy('300 100');
+  await browser.until("document.querySelector('#point-block .numbers')", 'a block whose list names them');
+  await drawnAnew();
+  check('and over the lines of a block', await hasInk('fault', 512, 128), true);
   await browser.mouse('mouseMoved', ...await placeOf(511, 40));
   check('a warning under the pointer', (await textOf('#under')).split('  –  '), ['W2 linedef 5 · No middle texture in front', 'sector 1 · floor 24 FLOOR0_1 · ceiling 128 CEIL1_1 · light 224 · special 0 · tag 0']);
   await browser.press('#findings .row');

@@ -41,7 +41,6 @@ cases_of_words() {
 }
 
 cases_of_files() {
-    local most=268435456
     refuses 'no such file' 'file 1: read' lumps no.wad
     refuses 'an empty path' 'file 1: read' lumps ''
     refuses 'a folder' 'file 1: read' lumps folder
@@ -71,8 +70,12 @@ cases_of_files() {
     refuses 'the last of 64 files' 'file 64: 4 directory' lumps $(times 63 'empty.wad ') cut.wad
     refuses 'the first refused file of two' 'file 2: 3 count' points E1M1 base.wad count.wad magic.wad
     refuses 'a refused file before a NAME that is not there' 'file 2: 2 magic' points E2M9 base.wad magic.wad
+    cases_of_large_files
+}
 
-    # Files of many bytes: a directory of no entries, and then a hole.
+# Files of many bytes: a directory of no entries, and then a hole.
+cases_of_large_files() {
+    local most=268435456
     cp empty.wad most.wad
     truncate -s "$most" most.wad
     prints 'a file of as many bytes as there may be' 'file 1 PWAD 0\n' lumps most.wad

@@ -86,8 +86,8 @@ cases_of_lists() {
         "$(told no.wad "$missing")" check base.wad --files-from -
 }
 
-# repeated TEXT: a hundred times this, which is more than the files that a set may have.
-repeated() {
+# hundred TEXT: a hundred times this, which is more than the files that a set may have.
+hundred() {
     local i
     for ((i = 0; i < 100; i++)); do printf '%s' "$1"; done
 }
@@ -95,12 +95,12 @@ repeated() {
 # Files that are no set may be as many as one likes.
 cases_of_many_paths() {
     local totals='100 levels in 100 files: 0 faults, 0 notes, 0 not judged\n' many
-    says_on 'a list of 100 paths, survey' "$(repeated 'base.wad\n')" 0 "$(repeated "$(sound base.wad E1M1 0)")" '' survey --files-from -
-    says_on 'a list of 100 paths, check' "$(repeated 'base.wad\0')" 0 "$totals" '' check --files-from - --null
+    says_on 'a list of 100 paths, survey' "$(hundred 'base.wad\n')" 0 "$(hundred "$(sound base.wad E1M1 0)")" '' survey --files-from -
+    says_on 'a list of 100 paths, check' "$(hundred 'base.wad\0')" 0 "$totals" '' check --files-from - --null
     demo 128 >still.lmp
-    says_on 'a list of 100 paths, demos' "$(repeated 'still.lmp\n')" 0 \
-        "$(repeated 'still.lmp: version 109, skill 3, episode 1, map 1, 1 player, 0 tics, 0:00.00\n')" '' demos --files-from -
-    read -r -a many < <(repeated 'base.wad ')
+    says_on 'a list of 100 paths, demos' "$(hundred 'still.lmp\n')" 0 \
+        "$(hundred 'still.lmp: version 109, skill 3, episode 1, map 1, 1 player, 0 tics, 0:00.00\n')" '' demos --files-from -
+    read -r -a many < <(hundred 'base.wad ')
     says '100 words, check' 0 "$totals" '' check "${many[@]}"
 }
 

@@ -1,8 +1,9 @@
 // Looks at an atlas' page in headless Chromium, beside what `wadlens survey` says of the same files, with warnings.
 import { spawnSync } from 'node:child_process';
-import { mkdirSync, mkdtempSync, readFileSync, readdirSync, rmSync, writeFileSync } from 'node:fs';
+import { existsSync, mkdirSync, mkdtempSync, readFileSync, readdirSync, rmSync, writeFileSync } from 'node:fs';
 import { tmpdir } from 'node:os';
 import { join } from 'node:path';
+import { inflateSync } from 'node:zlib';
 import { Browser, chromium } from '../web/test/browser.mjs';
 import { oneMistaken, rooms, twoOverlooked, wad } from '../web/test/wads.mjs';
 
@@ -13,19 +14,20 @@ const pictures = option('--pictures'), games = option('--games');
 const program = rest[0] ?? join(root, 'crates/wadlens/out/wadlens');
 const room = mkdtempSync(join(tmpdir(), 'atlas-'));
 
+/** Of which atlas the cases are. */
+let atlasName = '';
 let passed = 0, failed = 0;
 /** @param {string} name @param {unknown} came @param {unknown} [wanted] */
 function is(name, came, wanted = true) {
   if (JSON.stringify(came) === JSON.stringify(wanted)) passed += 1;
   else {
     failed += 1;
-    console.log(`FAILED ${name}\n  wanted ${JSON.stringify(wanted)}\n  came   ${JSON.stringify(came)}`);
+    console.log(`FAILED ${atlasName}: ${name}\n  wanted ${JSON.stringify(wanted)}\n  came   ${JSON.stringify(came)}`);
   }
 }
 
-/** The files that the atlas is made of: a name that is markup, faults, warnings, levels that aren't judged, one without a picture, none at all. */
-function files() {
-  if (games) return ['freedoom1.wad', 'freedoom2.wad', 'freedm.wad'].map((name) => join(games, name));
+/** Small files, which are made: a name that is markup, faults, warnings, levels that aren't judged, one without a picture, none at all. */
+function smallFiles() {
   const nothing = Buffer.alloc(0);
   /** @type {[string, Buffer][]} */
   const made = [
@@ -41,6 +43,20 @@ function files() {
     writeFileSync(join(room, name), bytes);
     return name;
   });
+}
+
+/** The files of Freedoom 0.12.1 in a folder. @param {string} folder */
+const gamesIn = (folder) => ['freedoom1.wad', 'freedoom2.wad', 'freedm.wad'].map((name) => join(folder, name));
+/** What the page says of them. Of the warnings 1288 are W2, 45 W4, 33 W5, 1 W6, and 1 W8. */
+const GAMES = '100 levels 3 files 0 faults 1 notes 1368 warnings 0 not judged';
+
+/** The atlases that are looked at: their names, and the files that they are made of. @returns {[string, string[]][]} */
+function atlases() {
+  if (games) return [['games', gamesIn(games)]];
+  const folder = process.env.FREEDOOM || '/usr/share/games/doom', given = gamesIn(folder);
+  if (given.every((path) => existsSync(path))) return [['small', smallFiles()], ['games', given]];
+  console.log(`skipped, as there are no freedoom1.wad, freedoom2.wad and freedm.wad in ${folder}: the page of many levels`);
+  return [['small', smallFiles()]];
 }
 
 const COUNTS = ['things', 'linedefs', 'sidedefs', 'vertexes', 'segs', 'ssectors', 'nodes', 'sectors'];
@@ -87,6 +103,7 @@ async function look(browser, objects, folder) {
   const warnings = levels.flatMap((one) => Object.values(one.warnings ?? {})).reduce((sum, count) => sum + count, 0);
   const totals = await browser.run(`document.querySelector('.totals').innerText.replace(/\\s+/g, ' ')`);
   is('there are warnings, and how many', warnings > 0 && totals.includes(`${warnings} warnings`));
+  if (atlasName === 'games') is('the totals', totals, GAMES);
   const refused = objects.filter((one) => 'refused' in one);
   const told = await browser.run(`[...document.querySelectorAll('.refused li')].map((item) => item.innerText)`);
   is('a line for each refused file', told, refused.map((one) => `${one.file} ${one.refused}`));
@@ -128,18 +145,33 @@ async function fits(browser, width, scheme) {
   const ground = await browser.run(`getComputedStyle(document.body).backgroundColor.match(/\\d+/g).slice(0, 3).map(Number)`);
   is(`${name}: the ground`, ground.every((/** @type {number} */ part) => (scheme === 'dark' ? part < 64 : part > 192)));
   await reads(browser, name);
-  if (pictures) writeFileSync(join(pictures, `atlas-${width}-${scheme}.png`), await browser.picture());
+  const picture = await browser.picture();
+  is(`${name}: a picture of it`, sizeOf(picture), [width, 900]);
+  is(`${name}: .. isn't blank`, valuesOf(picture) > 64);
+  if (pictures) writeFileSync(join(pictures, `${atlasName}-${width}-${scheme}.png`), picture);
 }
 
-async function main() {
-  const given = files(), folder = join(room, 'atlas');
+/** How wide and how high a PNG is (RFC 2083, 4.1.1). @param {Buffer} png */
+const sizeOf = (png) => [png.readUInt32BE(16), png.readUInt32BE(20)];
+
+/** How many values the bytes of a PNG's rows have: that of a plain ground has few, one of letters and pictures nearly all. @param {Buffer} png */
+function valuesOf(png) {
+  const packed = [];
+  for (let at = 8; at < png.length; at += 12 + png.readUInt32BE(at)) {
+    if (png.toString('latin1', at + 4, at + 8) === 'IDAT') packed.push(png.subarray(at + 8, at + 8 + png.readUInt32BE(at)));
+  }
+  return new Set(inflateSync(Buffer.concat(packed))).size;
+}
+
+/** Makes an atlas of files beside their survey, and looks at its page. @param {string[]} given */
+async function atlas(given) {
+  const folder = join(room, atlasName);
   const run = (/** @type {string[]} */ ...words) => spawnSync(program, words, { cwd: room, encoding: 'utf8', maxBuffer: 1 << 28 });
-  const survey = run('survey', '--map', ...given), atlas = run('atlas', '--map', '--out', folder, ...given);
-  is('the status of both', atlas.status, survey.status);
+  const survey = run('survey', '--map', ...given), made = run('atlas', '--map', '--out', folder, ...given);
+  is('the status of both', made.status, survey.status);
   is('the survey', readFileSync(join(folder, 'survey.jsonl'), 'utf8'), survey.stdout);
   const objects = survey.stdout.trimEnd().split('\n').map((line) => JSON.parse(line));
-  if (pictures) mkdirSync(pictures, { recursive: true });
-  const browser = new Browser(chromium(), join(room, 'profile'));
+  const browser = new Browser(chromium(), join(room, `${atlasName}-profile`));
   try {
     await browser.attach();
     await browser.screen(1200, 900, 'light');
@@ -149,18 +181,27 @@ async function main() {
     for (const width of [1200, 390]) for (const scheme of /** @type {('dark' | 'light')[]} */ (['dark', 'light'])) await fits(browser, width, scheme);
     is('nothing is fetched from elsewhere', browser.requests.filter((url) => !url.startsWith(`file://${folder}/`)), []);
     is('no complaint', browser.complaints, []);
-    const first = await browser.run(`document.querySelector('a.map').getAttribute('href')`);
-    await browser.screen(1200, 900, 'light');
-    await browser.press('a.map');
-    await browser.until(`location.pathname.endsWith('/${first}') && document.documentElement.localName === 'svg'`, 'a click shows the picture');
-    passed += 1;
+    await follow(browser);
   } finally {
     await browser.close();
   }
 }
 
+/** A click on a picture shows it alone. @param {Browser} browser */
+async function follow(browser) {
+  const first = await browser.run(`document.querySelector('a.map').getAttribute('href')`);
+  await browser.screen(1200, 900, 'light');
+  await browser.press('a.map');
+  await browser.until(`location.pathname.endsWith('/${first}') && document.documentElement.localName === 'svg'`, 'a click shows the picture');
+  passed += 1;
+}
+
 try {
-  await main();
+  if (pictures) mkdirSync(pictures, { recursive: true });
+  for (const [name, given] of atlases()) {
+    atlasName = name;
+    await atlas(given);
+  }
 } catch (error) {
   is(String(error), false);
 } finally {

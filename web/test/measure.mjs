@@ -21,6 +21,13 @@ function timeOf(act) {
   return performance.now() - began;
 }
 
+/** Pictures of MAP12, of which docs/ has the first two, and what is chosen and pinned in them. */
+const VIEWS = /** @type {[string, number, number, boolean, 'dark' | 'light'][]} */ ([['page-map12', 1200, 800, false, 'dark'], ['page-phone', 390, 844, true, 'dark'],
+  ['page-map12-light', 1200, 800, false, 'light'], ['page-phone-light', 390, 844, true, 'light']]);
+const FINDING = 'linedef 7036';
+const PINNED = '-1500 -1300';
+const ASIDE = /** @type {[number, number]} */ ([-80, 150]); // how far the map is then dragged, as the finding is at its edge
+
 const tell = (/** @type {string} */ what, /** @type {number} */ page, /** @type {number} */ native) =>
   console.log(`${what}: ${page.toFixed(0)} ms, the program ${native.toFixed(0)} ms, ratio ${(page / native).toFixed(2)}`);
 
@@ -38,7 +45,7 @@ async function keep({ browser, pictures }, name) {
 
 /** @param {Given} given */
 async function levels(given) {
-  const { browser, games, check, programs: { wadlook, wadlens } } = given, file = join(games, 'freedoom2.wad');
+  const { browser, games, programs: { wadlens } } = given, file = join(games, 'freedoom2.wad');
   const native = timeOf(() => execFileSync(wadlens, ['survey', '--map', file]));
   tell('a file of 28 MB to the list of its levels', await timed(given, () => browser.drop(file), "document.querySelector('#levels-count').textContent === '32'"), native);
   tell('until all are judged', await timed(given, async () => {}, "document.querySelector('#levels .row-state').textContent !== '…'"), native);
@@ -46,17 +53,25 @@ async function levels(given) {
   await level(given, 'MAP12');
   tell('MAP12, from the click to its picture', await timed(given, () => browser.press('#levels .row'), "document.querySelector('#map').dataset.drawn === 'MAP12'"),
     timeOf(() => execFileSync(wadlens, ['picture', 'MAP12', file], { maxBuffer: 1 << 28 })));
-  const [x, y] = await browser.middle('#map'), times = [], lines = [];
-  for (const [dx, dy] of [[-60, 40], [30, -80], [90, 90], [-140, -30], [10, 10]]) {
+  await points(given, file);
+}
+
+/** Points about the middle of the map, pinned by clicks. @param {Given} given @param {string} file */
+async function points({ browser, check, programs: { wadlook } }, file) {
+  const [x, y] = await browser.middle('#map'), times = [], lines = [], runs = [];
+  for (const [dx, dy] of [-140, -60, 10, 30, 90].flatMap((across) => [-80, 10, 90].map((down) => [across, down]))) {
     await browser.run("delete document.querySelector('#point').dataset.ms");
     await browser.click(x + dx, y + dy);
     await browser.until("document.querySelector('#point').dataset.ms && document.querySelector('#point-clear').textContent !== ''");
     times.push(Number(await browser.run("document.querySelector('#point').dataset.ms")));
     lines.push(`${await browser.run("document.querySelector('#point-line').textContent")}\n`);
+    runs.push(timeOf(() => execFileSync(wadlook, ['points', 'MAP12', file], { input: '0 0\n' })));
   }
   const input = lines.map((line) => `${line.split(' ').slice(0, 2).join(' ')}\n`).join('');
   check("points of MAP12 are the program's", lines.join(''), execFileSync(wadlook, ['points', 'MAP12', file], { input }).toString());
-  tell('a pinned point', times.sort((a, b) => a - b)[2], timeOf(() => execFileSync(wadlook, ['points', 'MAP12', file], { input: '0 0\n' })));
+  [times, runs].forEach((all) => all.sort((a, b) => a - b));
+  tell(`a pinned point, the median of ${times.length}`, times[times.length >> 1], runs[runs.length >> 1]);
+  tell('the slowest of them', times[times.length - 1], runs[runs.length - 1]);
 }
 
 /** @param {Given} given */
@@ -92,31 +107,45 @@ async function looks(given) {
   await keep(given, 'phone-demo-dark');
 }
 
+/** Drags the map. @param {Given} given @param {number} dx @param {number} dy */
+async function dragged({ browser }, dx, dy) {
+  const [x, y] = await browser.middle('#map');
+  await browser.mouse('mousePressed', x, y);
+  for (const part of [0.5, 1]) await browser.mouse('mouseMoved', x + part * dx, y + part * dy, { button: 'left', buttons: 1 });
+  await browser.mouse('mouseReleased', x + dx, y + dy);
+}
+
 /**
- * MAP12 with a mistake put in: a linedef of its middle tells two sides, where it has one. Its finding is chosen and a point pinned.
+ * MAP12 as Freedoom 2 has it, with one of its findings chosen and a point pinned.
  * @param {Given} given
  */
 async function shown(given) {
-  const { browser, games, pictures } = given, file = execFileSync(given.programs.wadlook, ['extract', 'MAP12', join(games, 'freedoom2.wad')], { maxBuffer: 1 << 28 });
-  const directory = file.readInt32LE(8), linedefs = file.readInt32LE(directory + 32);
-  let line = 441;
-  while (file.readInt16LE(linedefs + 14 * line + 12) !== -1) line++;
-  file.writeInt16LE(file.readInt16LE(linedefs + 14 * line + 4) | 4, linedefs + 14 * line + 4);
-  const path = join(pictures, 'map12.wad');
-  writeFileSync(path, file);
-  for (const [name, width, height, mobile] of /** @type {[string, number, number, boolean][]} */ ([['page-map12', 1200, 800, false], ['page-phone', 390, 844, true]])) {
-    await browser.screen(width, height, 'dark', mobile);
+  const { browser, games } = given;
+  for (const [name, width, height, mobile, scheme] of VIEWS) {
+    await browser.screen(width, height, scheme, mobile);
     await browser.send('Page.navigate', { url: given.address });
     await browser.until("document.body?.dataset.ready === 'yes'");
-    await browser.drop(path);
+    await browser.drop(join(games, 'freedoom2.wad'));
+    await browser.until("document.querySelector('#levels-count').textContent === '32' && document.querySelector('#levels .row-state')?.textContent !== '…'");
+    await browser.run("document.querySelector('.tabs [data-to=levels]').click()");
+    await level(given, 'MAP12');
+    await browser.press('#levels .row');
     await browser.until("document.querySelector('#map').dataset.drawn === 'MAP12'");
+    await browser.run("{ const e = document.querySelector('#filter'); e.value = ''; e.dispatchEvent(new Event('input')); }");
     await browser.run("document.querySelector('.tabs [data-to=notes]').click()");
-    await browser.press('#findings .row');
+    await browser.run(`[...document.querySelectorAll('#findings .row')].find((row) => row.textContent.includes('${FINDING}')).click()`);
     await wait(1500);
-    await browser.run("document.querySelector('#at').value = '-196 439'; document.querySelector('#point-form').requestSubmit()");
+    await browser.run(`document.querySelector('#at').value = '${PINNED}'; document.querySelector('#point-form').requestSubmit()`);
     await browser.until("document.querySelector('#point-clear').textContent !== ''");
+    for (let k = mobile ? 1 : 0; k < 2; k++) await browser.press('#out');
+    await dragged(given, ...ASIDE);
     await browser.mouse('mouseMoved', 5, 5);
     await keep(given, name);
+    if (!mobile) continue;
+    for (const pane of ['files', 'levels', 'notes']) {
+      await browser.run(`document.querySelector('.tabs [data-to=${pane}]').click()`);
+      await keep(given, `${name}-${pane}`);
+    }
   }
 }
 

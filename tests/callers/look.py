@@ -5,10 +5,12 @@ lists the entry of a name and those behind it: number, place and size.
 """
 
 import itertools
+import os
 import re
 import struct
 import sys
 from array import array
+from contextlib import redirect_stderr, redirect_stdout
 
 import wadlook
 from wadlook import NOWHERE, Status, Wad, WadlookError
@@ -26,6 +28,8 @@ WORDS = {
     Status.DEMO_NO_PLAYER: "demo 4",
     Status.NO_BLOCKMAP: "no blockmap",
 }
+LUMP_WORDS = {Status.NO_NAME: "5 no such lump", Status.LUMP_OUTSIDE: "6 outside file"}
+"""Where the entry is no part of a level."""
 NUMBERS = {"points": 2, "point": 2, "census": 4, "sight": 2, "blocks": 2}
 
 
@@ -166,7 +170,6 @@ def look(command, *words):
     call = globals()[command]
     wad = Wad(path)
     if command in ("demo", "find"):
-        WORDS.update({Status.NO_NAME: "5 no such lump", Status.LUMP_OUTSIDE: "6 outside file"})
         return call(wad, name)
     level = wad.level(name, wide)
     if command == "audit":
@@ -176,11 +179,35 @@ def look(command, *words):
     return call(level, read_lines(NUMBERS[command])) if command in NUMBERS else call(level)
 
 
-try:
-    sys.exit(look(*sys.argv[1:]))
-except WadlookError as refusal:
-    why = WORDS.get(refusal.status, refusal)
-except Refused as refusal:
-    why = refusal
-print(f"refused: {why}", file=sys.stderr)
-sys.exit(2)
+def answer(words):
+    """The status of a run; a refusal goes to standard error."""
+    try:
+        return look(*words) or 0
+    except WadlookError as why:
+        said = {**WORDS, **LUMP_WORDS} if words[0] in ("demo", "find") else WORDS
+        print("refused:", said.get(why.status, why), file=sys.stderr)
+    except Refused as why:
+        print("refused:", why, file=sys.stderr)
+    return 2
+
+
+def each(*cases):
+    """Runs what tests/callers/worked asks in its folders, in one process, as Python takes long to start."""
+    room = os.getcwd()
+    for case in cases:
+        told = os.path.join(room, "Python", case)
+        os.mkdir(told)
+        os.chdir(os.path.join(room, "asked", case))
+        with open("words", encoding="utf-8") as file:
+            words = file.read().split("\n")[:-1]
+        with open("input") as sys.stdin, open(f"{told}/output", "w") as output, open(f"{told}/refusal", "w") as refusal:
+            with redirect_stdout(output), redirect_stderr(refusal):
+                status = answer(words)
+        with open(f"{told}/status", "w") as file:
+            print(status, file=file)
+
+
+if sys.argv[1] == "each":
+    each(*sys.argv[2:])
+else:
+    sys.exit(answer(sys.argv[1:]))

@@ -9,7 +9,6 @@ use Rattle.le_rec.specs.Sink.{SinkState}
 use Rattle.line_io.proofs.WriteLemmas.{TakesFront-after, TakesText-nothing}
 use Rattle.line_io.specs.Writes.{Writes}
 use Rattle.line_io.specs.declared.fault.IoFault.{IoFault}
-use Rattle.line_io.specs.declared.fault.IoFault.TheVariants as io
 use Rattle.wad_dir.specs.Entries.{joined, names}
 use Rattle.wad_dir.specs.Slice.{IsLump}
 use Rattle.wad_dir.specs.Wad.{IsRead, Wad}
@@ -18,6 +17,7 @@ use Rattle.wad_dir.specs.declared.lump.LumpFault.TheVariants.{NoSuch, Outside}
 use Rattle.demo_lens.specs.Demos.{Asked, IsDemoTold, IsEntryTold, LeavesWad, RunsDemos, Tells, TellsAll, TellsSome, TellsWad, ToldTo, WritesTold, at_start, fault_after, inside, is_demo_name, is_wad_file, told_end, with_entry}
 use Rattle.demo_lens.specs.declared.demos.DemosFault.{DemosFault}
 use Rattle.demo_lens.specs.declared.demos.DemosFault.TheVariants as fault
+use Rattle.wad_lens.proofs.SurveyLemmas.{line_stopped}
 
 -- where nothing is told, nothing is written
 pub told_nothing : (Is : List ℕ → Bool → Type 0) (before : SinkState) → before.failed ≡ false → Is [] true → WritesTold Is before before (Ok true)
@@ -94,13 +94,6 @@ SoFar-entry asked files before between after g all one so_far wrote = go wrote.o
         )
     go (Err e) writes ended = absurd (cc)
 
--- a text that stopped, stopped as its write failed
-text_stopped : (between after : SinkState) (text : List ℕ) (e : IoFault) → Writes {T = Unit {0}} between after text (Err e) → after.failed ≡ true
-text_stopped between after text io.Write writes = writes.ends.fault
-text_stopped between after text io.Read writes = absurd writes.ends.fault
-text_stopped between after text io.TooLong writes = absurd writes.ends.fault
-text_stopped between after text io.Memory writes = absurd writes.ends.fault
-
 -- telling stopped within the text of an entry
 pub entry_stopped : (asked : Asked) (files : List Wad) (before between after : SinkState) (g : ℕ) (all : Bool) (why : DemosFault)
     → SoFar asked files before between g all → WritesTold (IsEntryTold asked files g) between after (Err why)
@@ -118,7 +111,7 @@ entry_stopped asked files before between after g all why so_far wrote = go wrote
           text = so_far.text ++ wrote.text;
           told = with_entry g so_far.text wrote.text all wrote.all_read so_far.told wrote.is;
           took = TakesFront-after before between after so_far.text so_far.took writes.takes.front;
-          failed = text_stopped between after wrote.text e writes;
+          failed = line_stopped between after wrote.text e writes;
         })
 
 -- all entries were told

@@ -1,11 +1,13 @@
 -- Where demos first differ, from what is found in their headers and commands.
-use Rattle.std.proofs.Common.{◌≡◌, ◌≢◌, ℕ, ◌+◌, ◌<◌, ◌≤◌, Bool, true, false, zero, suc, List, [], ◌∷◌, ◌++◌, length, take, drop, get_or, codes, Option, None, Some, is_some, refl, ap, sym, subst, ◌∙◌, arith}
+use Rattle.std.proofs.Common.{◌≡◌, ◌≢◌, ℕ, ◌+◌, ◌<◌, ◌≤◌, Bool, true, false, List, [], ◌++◌, length, take, drop, get_or, codes, Option, None, Some, is_some, ap, sym, subst, ◌∙◌, arith}
 use Rattle.std.proofs.lemmas.List.{append-nil, length-append, length-drop, take-append-drop, take_more_same}
+use Rattle.std.proofs.lemmas.Option.{slice_get-get_or, slice_get_within}
 use Rattle.std.specs.List.{slice_get}
 use Rattle.std.specs.Prelude.{IfSome}
 use Rattle.demo_lump.specs.Demo.{Demo}
 use Rattle.demo_lump.specs.declared.command.Command.{Command}
 use Rattle.demo_lump.specs.declared.header.Header.{Header}
+use Rattle.wad_look.proofs.RestLemmas.{drop_past}
 use Rattle.wad_look.specs.Turn.{Turn, player_of, tic_of}
 use Rattle.demo_lens.specs.Differences.{AreSame, Differs, HeadersDiffer, IsCompared, a_ends, b_ends, command_line, end_line, header_numbers, in_command, in_header, in_number, in_players, number_line, other, players_line, same}
 
@@ -49,27 +51,10 @@ players_told a b xs ys (Some i) text of_a of_b equal some differ is =
 pub header_told : (a b : Demo) (x y : Header) (text : List ℕ) → x ≡ a.header → y ≡ b.header → HeadersDiffer x y text → IsCompared a b text false
 header_told a b x y text of_a of_b differ = other text (in_header text (subst (λ h. HeadersDiffer a.header h text) of_b (subst (λ h. HeadersDiffer h y text) of_a differ)))
 
--- an item that is there has a number below the length
-pub within : {X : Type 0} (xs : List X) (i : ℕ) (x : X) → slice_get xs i ≡ Some x → i < length xs
-within [] i x at = absurd (let f : ⊥ = cc in f)
-within (y ∷ xs) zero x at = omega arith
-within (y ∷ xs) (suc i) x at = omega (arith, within xs i x at)
-
-drop_past : {X : Type 0} (xs : List X) (i : ℕ) → slice_get xs i ≡ None → drop i xs ≡ []
-drop_past [] zero at = refl
-drop_past [] (suc i) at = refl
-drop_past (x ∷ xs) zero at = cc
-drop_past (x ∷ xs) (suc i) at = drop_past xs i at
-
-item : {X : Type 0} (xs : List X) (i : ℕ) (d : X) → i < length xs → slice_get xs i ≡ Some (get_or xs i d)
-item [] i d below = absurd (omega (arith, below))
-item (y ∷ xs) zero d below = refl
-item (y ∷ xs) (suc i) d below = item xs i d (omega (arith, below))
-
 -- one more that is the same
 pub same_more : (xs ys : List Command) (i : ℕ) (d : Command) → i < length xs → i < length ys → take i xs ≡ take i ys → slice_get xs i ≡ slice_get ys i → take (i + 1) xs ≡ take (i + 1) ys
 same_more xs ys i d of_a of_b before at =
-    let both : ◌≡◌ {A = Option Command} (Some (get_or xs i d)) (Some (get_or ys i d)) = sym (item xs i d of_a) ∙ at ∙ item ys i d of_b in
+    let both : ◌≡◌ {A = Option Command} (Some (get_or xs i d)) (Some (get_or ys i d)) = sym (slice_get-get_or xs i d of_a) ∙ at ∙ slice_get-get_or ys i d of_b in
     let equal : get_or xs i d ≡ get_or ys i d = cc in
     take_more_same xs ys i d of_a of_b before equal
 
@@ -83,7 +68,7 @@ module _ (a b : Demo) (i : ℕ) (turn : Turn) (text : List ℕ) (header : a.head
   whole xs none = sym (append-nil (take i xs)) ∙ ap (λ ys. take i xs ++ ys) (sym (drop_past xs i none)) ∙ take-append-drop i xs
 
   some_left : (xs : List Command) (x : Command) → slice_get xs i ≡ Some x → 0 < length (drop i xs)
-  some_left xs x one = omega (arith, within xs i x one, length-drop i xs)
+  some_left xs x one = omega (arith, slice_get_within xs i x one, length-drop i xs)
 
   counted : (xs : List Command) → slice_get xs i ≡ None → i ≤ length xs → i ≡ length xs
   counted xs none most =

@@ -1,5 +1,6 @@
 -- The header's line of a listing, from its labels and numbers.
 use Rattle.std.proofs.Common.{◌≡◌, ℕ, zero, suc, get_or, take, drop, replicate, drop-cons, set, add-one, length-set, ◌+◌, ◌<◌, ◌≤◌, Bool, true, false, not, ◌&&◌, List, [], ◌∷◌, ◌++◌, length, All, refl, sym, ap, ◌∙◌, arith, codes, nat_le}
+use Rattle.std.proofs.lemmas.Bool.{and_parts}
 use Rattle.std.proofs.lemmas.Bool.Decides.{nat_tests}
 use Rattle.std.proofs.Common.{get_or-set_same}
 use Rattle.std.proofs.lemmas.List.{append_assoc, append_cancel_left, take-set, take_more}
@@ -30,10 +31,6 @@ abbrev pub are_labels : List (List ℕ) → Bool
 are_labels [] = true
 are_labels (label ∷ labels) = is_label label && are_labels labels
 
-both_true : (a b : Bool) → (a && b) ≡ true → (a ≡ true) × (b ≡ true)
-both_true true b is = (refl, is)
-both_true false b is = absurd (let f : ⊥ = cc in f)
-
 no_digit : (b : ℕ) → not (nat_le 48 b && nat_le b 57) ≡ true → ¬ IsDigit b
 no_digit b is digit =
     let low = digit.0 in
@@ -43,19 +40,19 @@ no_digit b is digit =
 pub without_digits : (label : List ℕ) → has_no_digit label ≡ true → All (λ b. ¬ IsDigit b) label
 without_digits [] is = All-nil _
 without_digits (b ∷ label) is =
-    let parts = both_true (not (nat_le 48 b && nat_le b 57)) (has_no_digit label) is in
+    let parts = and_parts (not (nat_le 48 b && nat_le b 57)) (has_no_digit label) is in
     All-cons (λ b. ¬ IsDigit b) b label (no_digit b parts.0) (without_digits label parts.1)
 
 label_stops : (label text : List ℕ) → is_label label ≡ true → Stops IsDigit (label ++ text)
 label_stops [] text is = absurd (let f : ⊥ = cc in f)
 label_stops (b ∷ label) text is =
-    let parts = both_true (not (nat_le 48 b && nat_le b 57)) (has_no_digit label) is in
+    let parts = and_parts (not (nat_le 48 b && nat_le b 57)) (has_no_digit label) is in
     other b (label ++ text) (no_digit b parts.0)
 
 pub fields_stop : (labels : List (List ℕ)) (numbers end : List ℕ) → are_labels labels ≡ true → Stops IsDigit end → Stops IsDigit (fields labels numbers end)
 fields_stop [] numbers end are stops = stops
 fields_stop (label ∷ labels) [] end are stops = stops
-fields_stop (label ∷ labels) (n ∷ numbers) end are stops = label_stops label (decimal n ++ fields labels numbers end) (both_true (is_label label) (are_labels labels) are).0
+fields_stop (label ∷ labels) (n ∷ numbers) end are stops = label_stops label (decimal n ++ fields labels numbers end) (and_parts (is_label label) (are_labels labels) are).0
 
 pub same_numbers : (labels : List (List ℕ)) (ns ms x y : List ℕ) → are_labels labels ≡ true → length ns ≡ length labels → length ms ≡ length labels → AreBytes ns → AreBytes ms → Stops IsDigit x → Stops IsDigit y
     → fields labels ns x ≡ fields labels ms y → (ns ≡ ms) × (x ≡ y)
@@ -65,7 +62,7 @@ same_numbers [] [] (m ∷ ms) x y are long_n long_m bytes_n bytes_m stop_x stop_
 same_numbers (label ∷ labels) [] ms x y are long_n long_m bytes_n bytes_m stop_x stop_y same = absurd (omega (arith, long_n))
 same_numbers (label ∷ labels) (n ∷ ns) [] x y are long_n long_m bytes_n bytes_m stop_x stop_y same = absurd (omega (arith, long_m))
 same_numbers (label ∷ labels) (n ∷ ns) (m ∷ ms) x y are long_n long_m bytes_n bytes_m stop_x stop_y same =
-    let parts = both_true (is_label label) (are_labels labels) are in
+    let parts = and_parts (is_label label) (are_labels labels) are in
     let small_n : n < 256 = bytes_n.each 0 in
     let small_m : m < 256 = bytes_m.each 0 in
     let behind = append_cancel_left label _ _ same in
@@ -96,13 +93,13 @@ same_header g h x y of_g of_h same =
 labels_drop : (i : ℕ) (ls : List (List ℕ)) → are_labels ls ≡ true → are_labels (drop i ls) ≡ true
 labels_drop zero ls are = are
 labels_drop (suc i) [] are = refl
-labels_drop (suc i) (l ∷ ls) are = labels_drop i ls (both_true (is_label l) (are_labels ls) are).1
+labels_drop (suc i) (l ∷ ls) are = labels_drop i ls (and_parts (is_label l) (are_labels ls) are).1
 
 label_at : (i : ℕ) (ls : List (List ℕ)) → i < length ls → are_labels ls ≡ true → has_no_digit (get_or ls i []) ≡ true
 label_at i [] there are = absurd (omega (arith, there))
 label_at zero ([] ∷ ls) there are = absurd (let f : ⊥ = cc in f)
-label_at zero ((b ∷ l) ∷ ls) there are = (both_true (has_no_digit (b ∷ l)) (are_labels ls) are).0
-label_at (suc i) (l ∷ ls) there are = label_at i ls (omega (arith, there)) (both_true (is_label l) (are_labels ls) are).1
+label_at zero ((b ∷ l) ∷ ls) there are = (and_parts (has_no_digit (b ∷ l)) (are_labels ls) are).0
+label_at (suc i) (l ∷ ls) there are = label_at i ls (omega (arith, there)) (and_parts (is_label l) (are_labels ls) are).1
 
 fields_at : (i : ℕ) (ls : List (List ℕ)) (ns end : List ℕ) → i < length ls → i < length ns
     → fields (drop i ls) (drop i ns) end ≡ get_or ls i [] ++ (decimal (get_or ns i 0) ++ fields (drop (i + 1) ls) (drop (i + 1) ns) end)

@@ -3,6 +3,7 @@ use Rattle.std.proofs.Common.{◌≡◌, ℕ, ◌+◌, ◌/◌, ◌%◌, ◌^◌
 use Rattle.std.proofs.lemmas.List.{append_assoc, append-nil, append_cancel_left}
 use Rattle.std.specs.Fmt.{decimal}
 use Rattle.std.specs.List.{AllByRecursion}
+use Rattle.demo_lump.proofs.DemoLemmas.{same_demos}
 use Rattle.demo_lump.specs.Demo.{Demo, IsDemo}
 use Rattle.demo_lump.specs.Header.{players_in}
 use Rattle.demo_lump.specs.declared.command.Command.{Command}
@@ -50,12 +51,6 @@ same_rest players commands others m n fit fit_others small_m small_n same = at_l
         absurd (no_totals (tic_of players i) (player_of players i) c (behind ++ totals_text players (length others) n) (begin (length commands) m).0
         (sym (append_assoc line behind (totals_text players (length others) n)) ∙ sym goes ∙ sym (append-nil (totals_text players (length commands) m)) ∙ (begin (length commands) m).1))
 
-same_demo : (a b : Demo) → a.header ≡ b.header → a.commands ≡ b.commands → a.after ≡ b.after → a ≡ b
-same_demo a b headers commands afters =
-    ap (λ (h : Header). record a { header = h }) headers
-    ∙ ap (λ (cs : List Command). record a { header = b.header; commands = cs }) commands
-    ∙ ap (λ (n : ℕ). record b { after = n }) afters
-
 pub one_listing : (text : List ℕ) (a b : Demo) → IsListingOf text a → IsListingOf text b → a ≡ b
 one_listing text a b of_a of_b =
     let fits_a = listed_fits text a of_a in
@@ -64,7 +59,7 @@ one_listing text a b of_a of_b =
     let players_a : List ℕ = a.header.players in
     let rest = same_rest players_a a.commands b.commands a.after b.after fits_a.commands fits_b.commands fits_a.few fits_b.few
     (heads.1 ∙ ap (λ (h : Header). ticcmds_text h.players 0 b.commands ++ totals_text h.players (length b.commands) b.after) (sym heads.0)) in
-    same_demo a b heads.0 rest.0 rest.1
+    same_demos a b heads.0 rest.0 rest.1
 
 pub assembled_is_demo : (text bytes : List ℕ) (demo : Demo) → IsListingOf text demo → IsAssembled text bytes → IsDemo bytes demo.header demo.commands []
 assembled_is_demo text bytes demo is of = subst (λ (d : Demo). IsDemo bytes d.header d.commands []) (one_listing text of.demo demo of.is is) of.written

@@ -1,5 +1,6 @@
 -- That the lines of a listing are lines.
-use Rattle.std.proofs.Common.{◌≡◌, ◌≢◌, ℕ, ◌+◌, ◌/◌, ◌%◌, ◌^◌, ◌<◌, ℤ, pos, negsuc, suc, Bool, true, false, not, ◌==◌, ◌&&◌, List, [], ◌∷◌, ◌++◌, length, All, refl, sym, ap, ◌∙◌, subst, arith, codes, w8}
+use Rattle.std.proofs.Common.{◌≡◌, ◌≢◌, ℕ, ◌+◌, ◌/◌, ◌%◌, ◌^◌, ◌<◌, ℤ, pos, negsuc, suc, Bool, true, not, ◌==◌, ◌&&◌, List, [], ◌∷◌, ◌++◌, length, All, refl, sym, ap, ◌∙◌, subst, arith, codes, w8}
+use Rattle.std.proofs.lemmas.Bool.{and_parts}
 use Rattle.std.proofs.lemmas.Bool.Decides.{nat_tests}
 use Rattle.std.proofs.lemmas.List.{append_assoc, append-nil}
 use Rattle.std.proofs.lemmas.List.Elements.{All-append, All-cons, All-nil, All-weaker}
@@ -29,17 +30,13 @@ abbrev is_unbroken : List ℕ → Bool
 is_unbroken [] = true
 is_unbroken (b ∷ text) = not (b == 10) && is_unbroken text
 
-both_true : (a b : Bool) → (a && b) ≡ true → (a ≡ true) × (b ≡ true)
-both_true true b is = (refl, is)
-both_true false b is = absurd (let f : ⊥ = cc in f)
-
 no_end : (b : ℕ) → not (b == 10) ≡ true → IsNoEnd b
 no_end b is same = grind (arith, nat_tests)
 
 by_test : (text : List ℕ) → is_unbroken text ≡ true → All IsNoEnd text
 by_test [] is = All-nil IsNoEnd
 by_test (b ∷ text) is =
-    let parts = both_true (not (b == 10)) (is_unbroken text) is in
+    let parts = and_parts (not (b == 10)) (is_unbroken text) is in
     All-cons IsNoEnd b text (no_end b parts.0) (by_test text parts.1)
 
 in_number : (n : ℕ) → n < 2 ^ 64 → All IsNoEnd (decimal n)

@@ -1,8 +1,9 @@
 -- What a listing's lines tell, and that they tell it of one demo alone.
-use Rattle.std.proofs.Common.{◌≡◌, ℕ, ◌/◌, ◌%◌, ◌<◌, ◌≤◌, ℤ, List, [], ◌∷◌, ◌++◌, length, sym, ap, ◌∙◌, arith, codes, length-append}
+use Rattle.std.proofs.Common.{◌≡◌, ℕ, ◌/◌, ◌%◌, ◌<◌, ◌≤◌, List, [], ◌∷◌, ◌++◌, length, sym, ap, ◌∙◌, arith, codes, length-append}
 use Rattle.std.proofs.lemmas.Bool.Decides.{nat_tests}
 use Rattle.std.proofs.lemmas.List.{append_assoc, append_cancel_left}
 use Rattle.std.specs.Fmt.{decimal, signed_decimal}
+use Rattle.demo_lump.proofs.WritingLemmas.{same_command}
 use Rattle.demo_lump.specs.declared.command.Command.{Command}
 use Rattle.le_rec.specs.Name.{hex_digit}
 use Rattle.line_io.specs.Numbers.{IsDigit}
@@ -30,13 +31,6 @@ same_hex a b x y small_a small_b same =
     let high = hex_digit_back (a / 16) (b / 16) (omega arith) (omega arith) first in
     let low = hex_digit_back (a % 16) (b % 16) (omega arith) (omega arith) second in
     (omega (arith, high, low), later)
-
-pub same_command : (c d : Command) → c.forward ≡ d.forward → c.side ≡ d.side → c.turn ≡ d.turn → c.buttons ≡ d.buttons → c ≡ d
-same_command c d f s t b =
-    ap (λ (x : ℤ). record c { forward = x }) f
-    ∙ ap (λ (x : ℤ). record c { forward = d.forward; side = x }) s
-    ∙ ap (λ (x : ℕ). record c { forward = d.forward; side = d.side; turn = x }) t
-    ∙ ap (λ (x : ℕ). record d { buttons = x }) b
 
 behind_space : (x y : List ℕ) → 32 ∷ x ≡ 32 ∷ y → x ≡ y
 behind_space x y same = cc

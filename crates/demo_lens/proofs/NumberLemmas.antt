@@ -12,7 +12,7 @@ use Rattle.std.specs.List.{starts_with}
 use Rattle.std.specs.Prelude.{nat_eq}
 use Rattle.demo_lens.specs.Parts.{Stops}
 use Rattle.demo_lens.specs.Parts.Stops.{ended, other}
-use Rattle.demo_lens.proofs.RunLemmas.{decimal_is, same_run}
+use Rattle.demo_lens.proofs.RunLemmas.{decimal_is, no_dash, same_run}
 use Rattle.line_io.proofs.TextLemmas.{one_text}
 use Rattle.line_io.specs.Decimal.{IsDecimal}
 use Rattle.line_io.specs.Numbers.{IsDigit, value_of}
@@ -71,17 +71,10 @@ too_great digits n small great is =
     omega (arith, d.stands_for, great, small)
 
 -- a number with its sign, where its magnitude is guessed behind the sign
-no_dash_there : (digits rest more : List ℕ) → 0 < length digits → All IsDigit digits → digits ++ rest ≡ 45 ∷ more → ⊥
-no_dash_there [] rest more some all e = omega (arith, some)
-no_dash_there (d ∷ digits) rest more some all e =
-    let first : d ≡ 45 = cc in
-    let is = All-head IsDigit d digits all in
-    omega (arith, is.0, first)
-
 no_sign : (text rest : List ℕ) (n : ℕ) (s : Bool) → n < 2 ^ 64 → text ≡ decimal n ++ rest → starts_with nat_eq text (45 ∷ []) ≡ s → s ≡ false
 no_sign text rest n false small same e = refl
 no_sign text rest n true small same e =
-    absurd (no_dash_there (decimal n) rest (drop 1 text) (decimal_is n small).some_digit (decimal_is n small).all_digits (sym same ∙ label_some text (45 ∷ []) e))
+    absurd (no_dash (decimal n) rest (drop 1 text) (decimal_is n small).some_digit (decimal_is n small).all_digits (sym same ∙ label_some text (45 ∷ []) e))
 
 a_sign : (text rest : List ℕ) (s : Bool) → text ≡ 45 ∷ rest → starts_with nat_eq text (45 ∷ []) ≡ s → s ≡ true
 a_sign text rest true same e = refl

@@ -67,7 +67,7 @@ same_number n m x y small_n small_m stop_x stop_y same =
     (decimal_injective n m small_n small_m run.0, run.1)
 
 -- no digits begin with a dash
-no_dash : (digits x y : List ℕ) → 0 < length digits → All IsDigit digits → digits ++ x ≡ 45 ∷ y → ⊥
+pub no_dash : (digits x y : List ℕ) → 0 < length digits → All IsDigit digits → digits ++ x ≡ 45 ∷ y → ⊥
 no_dash [] x y some of same = omega (arith, some)
 no_dash (d ∷ digits) x y some of same =
     let first : d ≡ 45 = cc in

@@ -1,11 +1,12 @@
 -- Lines of commands that are taken one after another.
 use Rattle.std.proofs.Common.{◌≡◌, ◌≢◌, ℕ, ◌+◌, ◌*◌, ◌^◌, ◌<◌, ◌≤◌, List, [], ◌∷◌, ◌++◌, length, refl, sym, ap, ◌∙◌, subst, arith, length-append}
-use Rattle.std.proofs.lemmas.List.{append_assoc, append-nil}
+use Rattle.std.proofs.lemmas.List.{append_assoc}
 use Rattle.std.specs.List.{AllByRecursion}
 use Rattle.demo_lens.proofs.ListingLemmas.{line_long}
 use Rattle.demo_lens.specs.Assembly.{IsTakenFrom}
 use Rattle.demo_lens.specs.Parts.{FitsCommand}
 use Rattle.demo_lump.specs.declared.command.Command.{Command}
+use Rattle.wad_look.proofs.ListingLemmas.{ticcmds_text-last}
 use Rattle.wad_look.specs.Listing.{ticcmd_line, ticcmds_text}
 use Rattle.wad_look.specs.Turn.{Turn, player_of, tic_of}
 
@@ -18,17 +19,6 @@ pub record Taking (players text : List ℕ) (commands : List Command) (turn : Tu
 
 pub takes_none : (players text : List ℕ) → Taking players text [] (record { players = players; index = 0 }) text
 takes_none players text = record { splits = refl; turns = refl; fit = tt; few = omega arith }
-
-text_push : (players : List ℕ) (i : ℕ) (commands : List Command) (c : Command)
-    → ticcmds_text players i (commands ++ c ∷ []) ≡ ticcmds_text players i commands ++ ticcmd_line (tic_of players (i + length commands)) (player_of players (i + length commands)) c
-text_push players i [] c =
-    let e : i + 0 ≡ i = omega arith in
-    append-nil (ticcmd_line (tic_of players i) (player_of players i) c) ∙ ap (λ k. ticcmd_line (tic_of players k) (player_of players k) c) (sym e)
-text_push players i (d ∷ commands) c =
-    let e : i + 1 + length commands ≡ i + length (d ∷ commands) = omega arith in
-    let line = ticcmd_line (tic_of players i) (player_of players i) d in
-    ap (λ t. line ++ t) (text_push players (i + 1) commands c ∙ ap (λ k. ticcmds_text players (i + 1) commands ++ ticcmd_line (tic_of players k) (player_of players k) c) e)
-    ∙ sym (append_assoc line (ticcmds_text players (i + 1) commands) (ticcmd_line (tic_of players (i + length (d ∷ commands))) (player_of players (i + length (d ∷ commands))) c))
 
 fit_push : (commands : List Command) (c : Command) → AllByRecursion FitsCommand commands → FitsCommand c → AllByRecursion FitsCommand (commands ++ c ∷ [])
 fit_push [] c fits fit = (fit, tt)
@@ -47,7 +37,7 @@ takes_more players text commands turn rest behind c taking goes fit =
     let before = taking.few in
     record {
       splits = taking.splits ∙ ap (λ t. ticcmds_text players 0 commands ++ t) here ∙ sym (append_assoc (ticcmds_text players 0 commands) own behind)
-          ∙ ap (λ t. t ++ behind) (sym (text_push players 0 commands c ∙ ap (λ k. ticcmds_text players 0 commands ++ ticcmd_line (tic_of players k) (player_of players k) c) zero_more));
+          ∙ ap (λ t. t ++ behind) (sym (ticcmds_text-last players 0 commands c ∙ ap (λ k. ticcmds_text players 0 commands ++ ticcmd_line (tic_of players k) (player_of players k) c) zero_more));
       turns = ap (λ (t : Turn). record t { index = t.index + 1 }) taking.turns ∙ ap (λ k. record { players = players; index = k }) (sym one_more);
       fit = fit_push commands c taking.fit fit;
       few = omega (arith, before, one_more, long, least);

@@ -20,7 +20,8 @@ RefusesDemo-header bytes ShortHeader r = r
 RefusesDemo-header bytes NoPlayers r = r
 RefusesDemo-header bytes (NoMarker place) r = absurd r
 
-same_demos : (demo other : Demo) → demo.header ≡ other.header → demo.commands ≡ other.commands
+-- demos of the same parts are the same
+pub same_demos : (demo other : Demo) → demo.header ≡ other.header → demo.commands ≡ other.commands
     → demo.after ≡ other.after → demo ≡ other
 same_demos demo other headers commands after =
     ap (λ (h : Header). record demo { header = h }) headers

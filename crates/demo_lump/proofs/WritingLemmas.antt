@@ -52,7 +52,8 @@ two_bytes : (n : ℕ) → n < 2 ^ 16 → unsigned16 (n % 256) (n / 256) ≡ n
 unfolding unsigned16
 two_bytes n h = omega arith
 
-same_command : (c d : Command) → c.forward ≡ d.forward → c.side ≡ d.side → c.turn ≡ d.turn
+-- commands of the same fields are the same
+pub same_command : (c d : Command) → c.forward ≡ d.forward → c.side ≡ d.side → c.turn ≡ d.turn
     → c.buttons ≡ d.buttons → c ≡ d
 same_command c d f s t b =
     ap (λ (x : ℤ). record c { forward = x }) f

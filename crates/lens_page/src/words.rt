@@ -6,12 +6,12 @@ ghost use Rattle.lens_page.specs.declared.words.Verb.TheVariants as verb;
 ghost use Rattle.wad_lens.specs.Warned.{are_asked};
 ghost use Rattle.wad_lens.specs.declared.judging.Warnings.{Warnings};
 ghost use Rattle.wad_lens.specs.declared.judging.Warnings.TheVariants as warnings;
-ghost use Rattle.wad_look.specs.Words.{wide_words};
 
 use lens_run::DemoForm;
 use map_level::Reading;
 use std::alloc::Allocator;
 use wad_lens::{Judging, Warnings};
+use wad_look::after_wide;
 
 /// What is asked of files.
 #[derive(Clone, Copy, Debug, PartialEq, Eq)]
@@ -165,18 +165,6 @@ fn number(word: &str) -> Option<u64>
     match word.parse::<u64>() {
         Ok(number) => Some(number),
         Err(_) => None,
-    }
-}
-
-// How the levels are read, by whether `--wide` stands first, and the words behind that.
-fn after_wide<F: Allocator>(allowed: bool, words: &[String<F>]) -> (bool, &[String<F>])
-    ensures spelled { map string_bytes words.now ≡ wide_words result.0 ++ map string_bytes result.1.now }
-    ensures allowed { IsTrue result.0 → IsTrue allowed }
-    ensures absent { result.0 ≡ false → allowed ≡ true → slice_index_or (map string_bytes words.now) 0 [] ≢ codes "--wide" }
-{
-    match words.split_first() {
-        Some((word, rest)) if allowed && word.as_str() == "--wide" => (true, rest),
-        _ => (false, words),
     }
 }
 

@@ -1,16 +1,16 @@
 -- How the marks of the sectors' tags come to be.
 use Rattle.std.proofs.Common.{◌≡◌, ◌↔◌, ℕ, ◌+◌, ◌<◌, ◌≤◌, ℤ, Bool, true, false, inl, inr, List, length, get_or, set, Some, refl, sym, ap, subst, ◌∙◌, arith, rules}
 use Rattle.std.specs.Prelude.{FitsSigned, IsSomeAnd}
-use Rattle.std.specs.Int.{cast_signed, cast_unsigned, w16}
+use Rattle.std.specs.Int.{cast_unsigned, w16}
 use Rattle.std.specs.List.{slice_get}
 use Rattle.std.proofs.lemmas.Bool.{cases_eq}
-use Rattle.std.proofs.lemmas.Int.{to_z-of_z}
 use Rattle.std.proofs.lemmas.List.{get_or-set_other, get_or-set_same, length-set}
 use Rattle.le_rec.specs.declared.records.Sector.{Sector}
 use Rattle.map_level.specs.Level.{Level}
 use Rattle.map_level.specs.Links.{sectors_of}
 use Rattle.map_level.proofs.BoundLemmas.{some_within}
 use Rattle.map_checks.specs.Tag.{AreTags}
+use Rattle.map_checks.proofs.TwinLemmas.{same_word}
 
 -- some sector below a number has a tag
 abbrev pub IsTagBelow : Level → ℕ → ℤ → Type 0
@@ -20,10 +20,6 @@ IsTagBelow level n tag = (s : ℕ) × (s < n) × IsSomeAnd (slice_get (sectors_o
 pub record AreTagsBelow (level : Level) (n : ℕ) (tags : List Bool) : Type 0 where
   pub long : length tags ≡ 65536
   pub told : (tag : ℤ) → FitsSigned w16 tag → (get_or tags (cast_unsigned w16 tag) false ≡ true) ↔ IsTagBelow level n tag
-
--- two tags of 16 bits are the same where their words without the sign are
-same_tag : (a b : ℤ) → FitsSigned w16 a → FitsSigned w16 b → cast_unsigned w16 a ≡ cast_unsigned w16 b → a ≡ b
-same_tag a b f g e = sym (to_z-of_z w16 a f) ∙ ap (cast_signed w16) e ∙ to_z-of_z w16 b g
 
 pub no_tags : (level : Level) (tags : List Bool) → length tags ≡ 65536 → ((n : ℕ) → get_or tags n false ≡ false) → AreTagsBelow level 0 tags
 no_tags level tags long none = record {
@@ -44,7 +40,7 @@ tags_more level n tags sector at fits below before =
       long = length-set tags key true ∙ before.long;
       told = λ tag f. elim (cases_eq (cast_unsigned w16 tag) key) [
         | inl same ↦
-            let is : tag ≡ sector.tag = same_tag tag sector.tag f fits same in (
+            let is : tag ≡ sector.tag = same_word tag sector.tag f fits same in (
               λ t. (n, omega arith, subst (λ z. IsSomeAnd (slice_get (sectors_of level) n) (λ s. s.tag ≡ z)) (sym is) here),
               λ there. let inside : key < length tags = omega (arith, before.long) in rw (same, get_or-set_same) refl,
             )

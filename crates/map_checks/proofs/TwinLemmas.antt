@@ -26,7 +26,8 @@ word-below z f = omega (arith, ints)
 place-below : (v : Vertex) → IsShort v → place_number v < 2 ^ 32
 place-below v f = omega (arith, word-below v.x f.0, word-below v.y f.1)
 
-same_word : (a b : ℤ) → FitsSigned w16 a → FitsSigned w16 b → cast_unsigned w16 a ≡ cast_unsigned w16 b → a ≡ b
+-- two numbers of 16 bits are the same where their words without the sign are
+pub same_word : (a b : ℤ) → FitsSigned w16 a → FitsSigned w16 b → cast_unsigned w16 a ≡ cast_unsigned w16 b → a ≡ b
 same_word a b f g e = sym (to_z-of_z w16 a f) ∙ ap (cast_signed w16) e ∙ to_z-of_z w16 b g
 
 one_place : (a b : Vertex) → IsShort a → IsShort b → place_number a ≡ place_number b → IsOnePlace a b

@@ -7,7 +7,8 @@ use Rattle.std.proofs.lemmas.Bool.{cases_eq, cases_lt}
 use Rattle.map_level.specs.declared.finding.Code.{Code}
 use Rattle.map_level.specs.declared.finding.Code.TheVariants.{F1, F2, F3, F4, F5, F6, F7, F8, F9, F10, F11, F12, F13, F14, F15, F16, F17, F18, N1, N2, N3, N4, N5, N6, N7, N8, N9, N10, N11, N12}
 use Rattle.map_level.specs.declared.finding.Finding.{Finding}
-use Rattle.map_level.specs.Findings.{place, code_count, StandsBefore, AreFindings, AreFindingsBelow}
+use Rattle.map_level.specs.declared.search.TheConstants.{CODE_COUNT}
+use Rattle.map_level.specs.Findings.{place, StandsBefore, AreFindings, AreFindingsBelow}
 
 -- all codes in their order
 abbrev pub all_codes : List Code
@@ -27,11 +28,11 @@ all_stand : StandFrom 0 all_codes
 all_stand = (refl, (refl, (refl, (refl, (refl, (refl, (refl, (refl, (refl, (refl, (refl, (refl, (refl, (refl, (refl, (refl, (refl, (refl, (refl, (refl, (refl, (refl, (refl, (refl, (refl, (refl, (refl, (refl, (refl, (refl, tt))))))))))))))))))))))))))))))
 
 -- the code at a place of the order
-pub place_at : (k : ℕ) (d : Code) → k < code_count → place (get_or all_codes k d) ≡ k
+pub place_at : (k : ℕ) (d : Code) → k < CODE_COUNT → place (get_or all_codes k d) ≡ k
 place_at k d h = omega (arith, StandFrom-at 0 all_codes all_stand k d h)
 
 -- a code is known by its place
-pub place-below : (c : Code) → place c < code_count
+pub place-below : (c : Code) → place c < CODE_COUNT
 place-below F1 = omega arith
 place-below F2 = omega arith
 place-below F3 = omega arith
@@ -180,7 +181,7 @@ found_none holds = record {
 }
 
 -- after the last code
-pub found_all : (holds : Code → ℕ → Type 0) (found : List Finding) → AreFindingsBelow holds code_count 0 found → AreFindings holds found
+pub found_all : (holds : Code → ℕ → Type 0) (found : List Finding) → AreFindingsBelow holds CODE_COUNT 0 found → AreFindings holds found
 found_all holds found before = record {
   ascending = before.ascending;
   exact = λ h. ((λ there. ((before.exact h).0 there).0), (λ told. (before.exact h).1 (told, inl (place-below h.code))));

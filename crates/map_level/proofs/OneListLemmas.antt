@@ -6,26 +6,29 @@ use Rattle.map_level.specs.declared.finding.Finding.{Finding}
 use Rattle.map_level.specs.Findings.{place, StandsBefore, AreFindings}
 use Rattle.map_level.specs.declared.finding.Code.{Code}
 
-head_before : {X : Type 0} (R : X → X → Type 0) (x : X) (xs : List X) (z : X) → AllPairs R (x ∷ xs)
+-- the first item of a list in order stands before each later one
+pub pairs-head : {X : Type 0} (R : X → X → Type 0) (x : X) (xs : List X) (z : X) → AllPairs R (x ∷ xs)
     → Contains xs z → R x z
-head_before R x xs z p c =
+pairs-head R x xs z p c =
     subst (λ y. R x y) c.2 (p 0 (suc c.0) z (omega arith) (omega (arith, c.1)))
 
-tail_pairs : {X : Type 0} (R : X → X → Type 0) (x : X) (xs : List X) → AllPairs R (x ∷ xs)
+-- and the rest is in order
+pub pairs-tail : {X : Type 0} (R : X → X → Type 0) (x : X) (xs : List X) → AllPairs R (x ∷ xs)
     → AllPairs R xs
-tail_pairs R x xs p =
+pairs-tail R x xs p =
     λ i j d below within. p (suc i) (suc j) d (omega (arith, below)) (omega (arith, within))
 
-here : {X : Type 0} (x : X) (xs : List X) → Contains (x ∷ xs) x
-here x xs = (0, omega arith, refl)
+-- what a list contains: its first item, what its rest contains, and nothing else
+pub first_in : {X : Type 0} (x : X) (xs : List X) → Contains (x ∷ xs) x
+first_in x xs = (0, omega arith, refl)
 
-later : {X : Type 0} (x : X) (xs : List X) (z : X) → Contains xs z → Contains (x ∷ xs) z
-later x xs z c = Contains-append_right (x ∷ []) xs z c
+pub later_in : {X : Type 0} (x : X) (xs : List X) (z : X) → Contains xs z → Contains (x ∷ xs) z
+later_in x xs z c = Contains-append_right (x ∷ []) xs z c
 
-cases_cons : {X : Type 0} (x : X) (xs : List X) (z : X) → Contains (x ∷ xs) z
+pub cases_in : {X : Type 0} (x : X) (xs : List X) (z : X) → Contains (x ∷ xs) z
     → (z ≡ x) ⊎ Contains xs z
-cases_cons x xs z (zero, l, e) = inl (sym e)
-cases_cons x xs z (suc k, l, e) = inr (k, omega (arith, l), e)
+cases_in x xs z (zero, l, e) = inl (sym e)
+cases_in x xs z (suc k, l, e) = inr (k, omega (arith, l), e)
 
 not_none : {X A : Type 0} (z : X) → Contains [] z → A
 not_none z c = absurd (omega (arith, c.1))
@@ -34,12 +37,12 @@ same_heads : {X : Type 0} (R : X → X → Type 0) → ((a b : X) → R a b → 
     → (x : X) (xs : List X) (y : X) (ys : List X)
     → AllPairs R (x ∷ xs) → AllPairs R (y ∷ ys) → Contains (y ∷ ys) x → Contains (x ∷ xs) y → x ≡ y
 same_heads R asym x xs y ys p q xin yin =
-    elim (cases_cons y ys x xin) [
+    elim (cases_in y ys x xin) [
       | inl is ↦ is
-      | inr later_x ↦ elim (cases_cons x xs y yin) [
+      | inr later_x ↦ elim (cases_in x xs y yin) [
         | inl is ↦ sym is
         | inr later_y ↦
-            absurd (asym x y (head_before R x xs y p later_y) (head_before R y ys x q later_x))
+            absurd (asym x y (pairs-head R x xs y p later_y) (pairs-head R y ys x q later_x))
       ]
     ]
 
@@ -47,10 +50,10 @@ in_tail : {X : Type 0} (R : X → X → Type 0) → ((a b : X) → R a b → R b
     → (x : X) (xs ys : List X) (z : X)
     → AllPairs R (x ∷ xs) → Contains xs z → Contains (x ∷ ys) z → Contains ys z
 in_tail R asym x xs ys z p c there =
-    elim (cases_cons x ys z there) [
+    elim (cases_in x ys z there) [
       | inl is ↦
           let before : R x x =
-          subst (λ y. R x y) is (head_before R x xs z p c) in absurd (asym x x before before)
+          subst (λ y. R x y) is (pairs-head R x xs z p c) in absurd (asym x x before before)
       | inr rest ↦ rest
     ]
 
@@ -60,15 +63,15 @@ pub one_list : {X : Type 0} (R : X → X → Type 0) → ((a b : X) → R a b �
     → ((z : X) → Contains xs z → Contains ys z) → ((z : X) → Contains ys z → Contains xs z)
     → xs ≡ ys
 one_list R asym [] [] p q to from = refl
-one_list R asym [] (y ∷ ys) p q to from = not_none y (from y (here y ys))
-one_list R asym (x ∷ xs) [] p q to from = not_none x (to x (here x xs))
+one_list R asym [] (y ∷ ys) p q to from = not_none y (from y (first_in y ys))
+one_list R asym (x ∷ xs) [] p q to from = not_none x (to x (first_in x xs))
 one_list R asym (x ∷ xs) (y ∷ ys) p q to from =
-    let is = same_heads R asym x xs y ys p q (to x (here x xs)) (from y (here y ys)) in
+    let is = same_heads R asym x xs y ys p q (to x (first_in x xs)) (from y (first_in y ys)) in
     let there : AllPairs R (x ∷ ys) = subst (λ w. AllPairs R (w ∷ ys)) (sym is) q in
-    let rest = one_list R asym xs ys (tail_pairs R x xs p) (tail_pairs R y ys q)
+    let rest = one_list R asym xs ys (pairs-tail R x xs p) (pairs-tail R y ys q)
     (λ z c. in_tail R asym x xs ys z p c (subst (λ w. Contains (w ∷ ys) z) (sym is)
-    (to z (later x xs z c))))
-    (λ z c. in_tail R asym x ys xs z there c (from z (later y ys z c))) in
+    (to z (later_in x xs z c))))
+    (λ z c. in_tail R asym x ys xs z there c (from z (later_in y ys z c))) in
     ap (λ w. w ∷ xs) is ∙ ap (λ zs. y ∷ zs) rest
 
 -- no finding stands before another and behind it

@@ -37,10 +37,6 @@ place N10 = 27
 place N11 = 28
 place N12 = 29
 
--- how many codes there are
-abbrev pub code_count : ℕ
-code_count = 30
-
 -- the F codes
 abbrev pub is_fault : Code → Bool
 is_fault code = nat_lt (place code) (place N1)

@@ -2,9 +2,10 @@
 use Rattle.std.proofs.Common.{◌≡◌, ℕ, zero, suc, ◌<◌, ◌≤◌, Bool, true, false, List, [], ◌∷◌, ◌++◌, length, map, get_or, refl, sym, ap, ◌∙◌, arith}
 use Rattle.std.specs.Prelude.{filter, nat_lt, slice_index, if◌then◌else◌}
 use Rattle.std.proofs.lemmas.Bool.{lt-ltb, le-ltb}
-use Rattle.map_level.proofs.FindingLemmas.{place_at}
 use Rattle.map_level.specs.declared.finding.Code.TheVariants.{F1}
+use Rattle.map_level.specs.declared.search.TheConstants.{CODE_COUNT}
 use Rattle.map_picture.specs.Parts.{joined}
+use Rattle.wad_lens.proofs.ObjectLemmas.{count-at}
 use Rattle.wad_lens.specs.Counts.{report_order}
 use Rattle.wad_lens.specs.Objects.{count_of}
 use Rattle.wad_atlas.specs.Items.{code_item, code_part}
@@ -22,11 +23,8 @@ pub chosen : {X : Type 0} (p : X → Bool) (text : X → List ℕ) (xs : List X)
 chosen p text [] = refl
 chosen p text (x ∷ xs) = chosen-more p text x xs (p x) refl (chosen p text xs)
 
-count-at : (counts : List ℕ) (i : ℕ) → i < 30 → count_of counts (get_or report_order i F1) ≡ slice_index counts i
-count-at counts i below = ap (λ at. slice_index counts at) (place_at i F1 below)
-
 -- the item of the code of a place, where it holds
-pub code_part-some : (counts : List ℕ) (i count : ℕ) → i < 30 → count ≡ slice_index counts i → 0 < count
+pub code_part-some : (counts : List ℕ) (i count : ℕ) → i < CODE_COUNT → count ≡ slice_index counts i → 0 < count
     → code_part counts (get_or report_order i F1) ≡ code_item (get_or report_order i F1) count
 code_part-some counts i count below is some =
     let same : count_of counts (get_or report_order i F1) ≡ count = count-at counts i below ∙ sym is in
@@ -34,7 +32,7 @@ code_part-some counts i count below is some =
     rw (same, holds) refl
 
 -- and where it doesn't
-pub code_part-none : (counts : List ℕ) (i count : ℕ) → i < 30 → count ≡ slice_index counts i → count ≤ 0
+pub code_part-none : (counts : List ℕ) (i count : ℕ) → i < CODE_COUNT → count ≡ slice_index counts i → count ≤ 0
     → code_part counts (get_or report_order i F1) ≡ []
 code_part-none counts i count below is none =
     let same : count_of counts (get_or report_order i F1) ≡ count = count-at counts i below ∙ sym is in

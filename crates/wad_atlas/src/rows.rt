@@ -3,7 +3,6 @@
 ghost use Rattle.std.specs.Prelude.{◌≡◌, [], false};
 ghost use Rattle.line_io.specs.Writes.{Writes};
 ghost use Rattle.wad_atlas.specs.Rows.{faulty_rows, found_part, mark, other_rows, picture_name, picture_part, row_part, sound_item};
-ghost use Rattle.wad_lens.specs.Objects.{format_name};
 
 use crate::items::{write_codes, write_tables};
 use crate::row::{Found, Judged, Row};
@@ -11,11 +10,10 @@ use crate::text::{write_name, write_number};
 use crate::unjudged::Unjudged;
 use crate::warned::write_warnings;
 use le_rec::Sink;
-use level_list::Format;
 use line_io::{IoFault, TextLine, emit};
 use map_picture::escape::write_escaped;
 use map_picture::parts::{Parts, write_parts};
-use wad_lens::{Counts, Verdict, write_format_alone};
+use wad_lens::{Counts, Verdict, format_name, write_format_alone};
 
 /// Puts the name of a level's picture before the line: the number of its file, from 1, and that of its entry.
 pub fn prepend_picture_name(line: &mut TextLine, file: u64, entry: u64)
@@ -103,20 +101,6 @@ impl Parts for WhereLine<'_, '_> {
             5 => emit(out, format_name(self.row.found.format())),
             _ => emit(out, b"</span></p>\n"),
         }
-    }
-}
-
-// A format as it is named.
-fn format_name(format: Format) -> &'static [u8]
-    ensures { result.now ≡ format_name format }
-{
-    match format {
-        Format::Udmf => b"udmf",
-        Format::Incomplete(_) => b"incomplete",
-        Format::Hexen => b"hexen",
-        Format::Outside(_) => b"outside",
-        Format::Extended(_) => b"extended",
-        Format::Doom => b"doom",
     }
 }
 

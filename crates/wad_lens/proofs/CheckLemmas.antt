@@ -41,18 +41,12 @@ use Rattle.wad_lens.specs.Warned.{AreAskedFor, Warned, kept_count, warned_total}
 use Rattle.wad_lens.specs.declared.totals.Totals.{Totals}
 use Rattle.wad_lens.specs.declared.verdict.FileFault.{FileFault}
 use Rattle.wad_lens.specs.declared.verdict.FileFault.TheVariants as fault
+use Rattle.wad_lens.proofs.LawLemmas.{nothing_holds}
 use Rattle.wad_lens.proofs.SurveyLemmas.{line_stopped}
 
 -- an index is counted
 some_counted : (holds : ℕ → Type 0) (count i : ℕ) → IsCount holds count → holds i → 0 < count
 some_counted holds count i is here = omega (arith, is.counted, ((is.exact i).1 here).1)
-
-none_counted : (holds : ℕ → Type 0) (count : ℕ) → IsCount holds count → ((i : ℕ) → ¬ holds i) → count ≡ 0
-none_counted holds count is none = go is.indexes refl
-  where
-    go : (indexes : List ℕ) → is.indexes ≡ indexes → count ≡ 0
-    go [] same = is.counted ∙ ap length same
-    go (i ∷ others) same = absurd (none i ((is.exact i).0 (0, omega (arith, ap length same), ap (λ xs. get_or xs 0 i) same)))
 
 -- a level is sound exactly where no fault is counted
 pub faultless : (level : Level) (counts : List ℕ) → AreCounts (AuditHolds level) counts → fault_total counts ≡ 0 → IsSound level
@@ -71,7 +65,7 @@ sound_faultless level counts are sound = sum_zeros (take 18 counts) (λ k. elim 
       let at : place code ≡ k = place_at k F1 (omega (arith, below)) in
       let fault : IsTrue (is_fault code) = lt-ltb (place code) 18 (omega (arith, at, below)) in
       get_or-take 18 counts k 0 below ∙ ap (λ p. get_or counts p 0) (sym at)
-      ∙ none_counted (AuditHolds level code) (get_or counts (place code) 0) (are.each code) (λ i. (law_sound_is_no_fault level).0 sound code i fault)
+      ∙ nothing_holds (AuditHolds level code) (get_or counts (place code) 0) (are.each code) (λ i. (law_sound_is_no_fault level).0 sound code i fault)
   | inr past ↦ beyond (take 18 counts) k (omega (arith, past, length-take 18 counts))
 ])
   where

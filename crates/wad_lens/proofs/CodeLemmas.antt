@@ -1,5 +1,6 @@
 -- The codes of a report, one after another.
-use Rattle.std.proofs.Common.{◌≡◌, ℕ, ◌+◌, ◌<◌, List, ◌∷◌, ◌++◌, Some, Ok, [], zero, suc, ◌≤◌, false, drop, length, get_or, refl, sym, ap, ◌∙◌, arith}
+use Rattle.std.proofs.Common.{◌≡◌, ℕ, ◌+◌, ◌<◌, List, ◌++◌, Some, Ok, ◌≤◌, false, drop, length, get_or, refl, sym, ap, ◌∙◌}
+use Rattle.std.proofs.lemmas.List.{drop_all}
 use Rattle.std.proofs.lemmas.Option.{slice_get-get_or}
 use Rattle.std.specs.List.{flat_map}
 use Rattle.std.specs.Prelude.{slice_index}
@@ -7,29 +8,24 @@ use Rattle.map_level.proofs.FindingLemmas.{place_at}
 use Rattle.map_level.specs.Findings.{place}
 use Rattle.map_level.specs.declared.finding.Code.{Code}
 use Rattle.map_level.specs.declared.finding.Code.TheVariants.{F1}
+use Rattle.map_level.specs.declared.search.TheConstants.{CODE_COUNT}
 use Rattle.wad_lens.specs.Counts.{report_order}
 use Rattle.le_rec.specs.Sink.{SinkState}
 use Rattle.line_io.proofs.WriteProgressLemmas.{SoFar, SoFar-none, SoFar-end}
 use Rattle.line_io.specs.Writes.{Writes}
 use Rattle.map_level.specs.Level.{Level}
 use Rattle.wad_lens.specs.LevelLines.{AreCounted, code_part, findings_part}
-use Rattle.wad_lens.proofs.RestLemmas.{drop-at}
+use Rattle.wad_look.proofs.RestLemmas.{drop-at}
 
 -- what is told of the codes from a place on begins with the code there
-pub codes-drop : (part : Code → List ℕ) (i : ℕ) (code : Code) → i < 30 → code ≡ get_or report_order i F1
+pub codes-drop : (part : Code → List ℕ) (i : ℕ) (code : Code) → i < CODE_COUNT → code ≡ get_or report_order i F1
     → flat_map part (drop i report_order) ≡ part code ++ flat_map part (drop (i + 1) report_order)
 codes-drop part i code below is =
     let at = drop-at report_order i code (slice_get-get_or report_order i F1 below ∙ ap (λ c. Some c) (sym is)) in
     rw at refl
 
-drop_beyond : {X : Type 0} (xs : List X) (i : ℕ) → length xs ≤ i → drop i xs ≡ []
-drop_beyond [] zero past = refl
-drop_beyond [] (suc i) past = refl
-drop_beyond (x ∷ xs) zero past = absurd (omega (arith, past))
-drop_beyond (x ∷ xs) (suc i) past = drop_beyond xs i (omega (arith, past))
-
 -- how often the code of a place holds
-pub counted_at : (counts : List ℕ) (told : Code → List ℕ) (i : ℕ) (code : Code) → AreCounted counts told → i < 30 → code ≡ get_or report_order i F1
+pub counted_at : (counts : List ℕ) (told : Code → List ℕ) (i : ℕ) (code : Code) → AreCounted counts told → i < CODE_COUNT → code ≡ get_or report_order i F1
     → length (told code) ≡ slice_index counts i
 counted_at counts told i code counted below is = counted code ∙ ap (slice_index counts) (ap place is ∙ place_at i F1 below)
 
@@ -40,6 +36,6 @@ unfolding findings_part
 codes-none path name most level told before = SoFar-none (flat_map (λ code. code_part path name most level code (told code)) report_order) before
 
 -- all of it was written
-pub codes-end : {T : Type 0} {whole : List ℕ} {before after : SinkState} (part : Code → List ℕ) (i : ℕ) (x : T) → SoFar whole before after (flat_map part (drop i report_order)) → 30 ≤ i → after.failed ≡ false
+pub codes-end : {T : Type 0} {whole : List ℕ} {before after : SinkState} (part : Code → List ℕ) (i : ℕ) (x : T) → SoFar whole before after (flat_map part (drop i report_order)) → CODE_COUNT ≤ i → after.failed ≡ false
     → Writes before after whole (Ok x)
-codes-end part i x s past sound = SoFar-end x s (ap (flat_map part) (drop_beyond report_order i past)) sound
+codes-end part i x s past sound = SoFar-end x s (ap (flat_map part) (drop_all i report_order past)) sound

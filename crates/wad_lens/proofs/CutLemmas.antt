@@ -11,6 +11,7 @@ use Rattle.wad_dir.specs.Packing.{packed}
 use Rattle.wad_dir.specs.Wad.{Wad}
 use Rattle.wad_dir.specs.declared.packer.PackFault.{PackFault}
 use Rattle.wad_dir.specs.declared.packer.PackFault.TheVariants as pack
+use Rattle.wad_dir.specs.declared.packer.TheConstants.{MAX_BYTES}
 use Rattle.wad_lens.specs.Cut.{CutsLevel, HasLump, HasLumpsAt, RefusesEntry, cut_fault_of, pack_end}
 use Rattle.wad_look.specs.Engines.Extract.{HoldsLumps, extracted}
 
@@ -33,9 +34,9 @@ module _ (files : List Wad) (g : ℕ) (level : Level) (there : IsLevelAt files g
   -- it was packed, or why it wasn't
   pub cut_ends : {A : Type 0} (result : Result (Vec ℕ A) PackFault)
       → ((lumps : List (List ℕ)) → AreLumps files level.label lumps → IfOk result (λ file. file.items ≡ packed (extracted level.names lumps)))
-      → IfOk result (λ file. length file.items ≤ 2147483647)
+      → IfOk result (λ file. length file.items ≤ MAX_BYTES)
       → ((lumps : List (List ℕ)) → AreLumps files level.label lumps → IfOk result (λ file. HoldsLumps file.items (extracted level.names lumps)))
-      → ((lumps : List (List ℕ)) → AreLumps files level.label lumps → result ≡ Err pack.TooLarge → 2147483647 < length (packed (extracted level.names lumps)))
+      → ((lumps : List (List ℕ)) → AreLumps files level.label lumps → result ≡ Err pack.TooLarge → MAX_BYTES < length (packed (extracted level.names lumps)))
       → IfOk (pack_end result) (λ file. CutsLevel files g file.items) × IfErr (pack_end result) (RefusesEntry files g)
   cut_ends (Ok file) ok fits holds large = (
     record {

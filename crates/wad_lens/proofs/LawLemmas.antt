@@ -17,7 +17,8 @@ use Rattle.wad_lens.specs.Laws.{FaultlessIsSound}
 none_counted : (holds : ℕ → Type 0) (count : ℕ) → IsCount holds count → count ≡ 0 → (i : ℕ) → ¬ holds i
 none_counted holds count is none i here = let there = (is.exact i).1 here in omega (arith, there.1, is.counted, none)
 
-nothing_holds : (holds : ℕ → Type 0) (count : ℕ) → IsCount holds count → ((i : ℕ) → ¬ holds i) → count ≡ 0
+-- and of what holds nowhere
+pub nothing_holds : (holds : ℕ → Type 0) (count : ℕ) → IsCount holds count → ((i : ℕ) → ¬ holds i) → count ≡ 0
 nothing_holds holds count is none = go is.indexes is.exact is.counted
   where
     go : (indexes : List ℕ) → ((i : ℕ) → Contains indexes i ↔ holds i) → count ≡ length indexes → count ≡ 0

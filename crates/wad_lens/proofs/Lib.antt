@@ -13,7 +13,6 @@ pub mod ObjectReadLemmas
 pub mod OwnersLemmas
 pub mod ReadBackLemmas
 pub mod ReportLemmas
-pub mod RestLemmas
 pub mod ShownLemmas
 pub mod SurveyLemmas
 pub mod ValueLemmas

@@ -7,16 +7,18 @@ use Rattle.std.proofs.lemmas.List.{take_all, take_more}
 use Rattle.std.proofs.lemmas.List.Concat.{flat_map-append}
 use Rattle.map_audit.specs.Findings.{AuditHolds}
 use Rattle.map_level.proofs.FindingLemmas.{place_at, place-below, same_from_place}
+use Rattle.map_level.proofs.OneListLemmas.{pairs-head, pairs-tail}
 use Rattle.map_level.specs.Findings.{StandsBefore, place}
 use Rattle.map_level.specs.Level.{Level}
 use Rattle.map_level.specs.declared.finding.Code.{Code}
 use Rattle.map_level.specs.declared.finding.Code.TheVariants.{F1}
 use Rattle.map_level.specs.declared.finding.Finding.{Finding}
+use Rattle.map_level.specs.declared.search.TheConstants.{CODE_COUNT}
 use Rattle.wad_lens.specs.Counts.{report_order}
 use Rattle.wad_lens.specs.FindingLine.{finding_line}
 use Rattle.wad_lens.specs.Laws.{LinesAreOfTheReport}
 use Rattle.wad_lens.specs.LevelLines.{code_lines, code_part, findings_part}
-use Rattle.wad_lens.proofs.ReportLemmas.{indexes_of_report, pairs-head, pairs-tail, pick}
+use Rattle.wad_lens.proofs.ReportLemmas.{indexes_of_report, pick}
 
 module _ (line : Finding → List ℕ) where
   -- the lines of the findings whose code's place passes a test
@@ -74,7 +76,7 @@ module _ (line : Finding → List ℕ) where
       ]
 
   -- those of the first codes are those of the findings below a place
-  lines_of_first : (found : List Finding) → AllPairs StandsBefore found → (n : ℕ) → n ≤ 30
+  lines_of_first : (found : List Finding) → AllPairs StandsBefore found → (n : ℕ) → n ≤ CODE_COUNT
       → flat_map (λ code. lines_by code (pick code found)) (take n report_order) ≡ lines_below n found
   lines_of_first found pairs zero within = sym (none_below 0 found (λ f there. omega arith))
   lines_of_first found pairs (suc n) within =
@@ -90,14 +92,14 @@ module _ (line : Finding → List ℕ) where
       ∙ ap (λ text. lines_below n found ++ text) (append-nil (lines_by code (pick code found)) ∙ sym here)
       ∙ sym (lines_more n found pairs))
 
-  lines_of_all : (found : List Finding) → lines_below 30 found ≡ flat_map line found
+  lines_of_all : (found : List Finding) → lines_below CODE_COUNT found ≡ flat_map line found
   lines_of_all [] = refl
-  lines_of_all (f ∷ found) = rw (lt-ltb (place f.code) 30 (place-below f.code)) (ap (λ text. line f ++ text) (lines_of_all found))
+  lines_of_all (f ∷ found) = rw (lt-ltb (place f.code) CODE_COUNT (place-below f.code)) (ap (λ text. line f ++ text) (lines_of_all found))
 
   -- and those of all codes those of the report
   pub lines_of_report : (found : List Finding) → AllPairs StandsBefore found
       → flat_map (λ code. lines_by code (pick code found)) report_order ≡ flat_map line found
-  lines_of_report found pairs = lines_of_first found pairs 30 (omega arith) ∙ lines_of_all found
+  lines_of_report found pairs = lines_of_first found pairs CODE_COUNT (omega arith) ∙ lines_of_all found
 
 -- where all of a code's findings are shown, none is left out
 whole_part : (path name : List ℕ) (level : Level) (code : Code) (indexes : List ℕ)

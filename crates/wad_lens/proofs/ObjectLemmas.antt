@@ -1,22 +1,16 @@
 -- How the parts of an object's text follow one another.
-use Rattle.std.proofs.Common.{◌≡◌, ℕ, zero, suc, ◌+◌, ◌<◌, ◌≤◌, Bool, true, false, List, [], ◌∷◌, ◌++◌, length, drop, map, get_or, refl, sym, ap, ◌∙◌, arith, add-one, drop-cons, subst}
-use Rattle.std.specs.Prelude.{filter, nat_lt, slice_index, slice_index_or}
-use Rattle.std.specs.List.{flat_map, join_with_byte}
+use Rattle.std.proofs.Common.{◌≡◌, ℕ, ◌+◌, ◌<◌, ◌≤◌, Bool, true, false, List, [], ◌∷◌, ◌++◌, length, drop, map, get_or, refl, sym, ap, ◌∙◌, arith, add-one, drop-cons, subst}
+use Rattle.std.specs.Prelude.{filter, nat_lt, slice_index}
+use Rattle.std.specs.List.{join_with_byte}
 use Rattle.std.proofs.lemmas.Bool.{lt-ltb, le-ltb}
 use Rattle.std.proofs.lemmas.List.{append-nil, drop_all}
 use Rattle.le_rec.specs.Sink.{SinkState}
 use Rattle.line_io.proofs.WriteProgressLemmas.{SoFar, SoFar-none}
 use Rattle.map_level.proofs.FindingLemmas.{place_at}
 use Rattle.map_level.specs.declared.finding.Code.TheVariants.{F1}
+use Rattle.map_level.specs.declared.search.TheConstants.{CODE_COUNT}
 use Rattle.wad_lens.specs.Counts.{report_order}
 use Rattle.wad_lens.specs.Objects.{count_member, count_members, count_of}
-
--- the texts from a place on
-pub texts-drop : (texts : List (List ℕ)) (i : ℕ) → i < length texts
-    → flat_map (λ text. text) (drop i texts) ≡ slice_index_or texts i [] ++ flat_map (λ text. text) (drop (i + 1) texts)
-texts-drop [] i below = absurd (omega arith)
-texts-drop (text ∷ texts) zero below = refl
-texts-drop (text ∷ texts) (suc i) below = let next : suc i + 1 ≡ suc (i + 1) = omega arith in rw next (texts-drop texts i (omega arith))
 
 -- texts behind separators: the first behind one of its own, the others behind commas
 abbrev pub separated : List ℕ → List (List ℕ) → List ℕ
@@ -35,14 +29,15 @@ filter-no : {X : Type 0} (p : X → Bool) (x : X) (xs : List X) → p x ≡ fals
 filter-no p x xs fails = rw fails refl
 
 -- the codes from a place on
-order-drop : (i : ℕ) → i < 30 → drop i report_order ≡ get_or report_order i F1 ∷ drop (i + 1) report_order
+order-drop : (i : ℕ) → i < CODE_COUNT → drop i report_order ≡ get_or report_order i F1 ∷ drop (i + 1) report_order
 order-drop i below = let within : i < length report_order = omega arith in rw (add-one, drop-cons report_order i F1) refl
 
-count-at : (counts : List ℕ) (i : ℕ) → i < 30 → count_of counts (get_or report_order i F1) ≡ slice_index counts i
+-- the count of the code of a place
+pub count-at : (counts : List ℕ) (i : ℕ) → i < CODE_COUNT → count_of counts (get_or report_order i F1) ≡ slice_index counts i
 count-at counts i below = ap (λ at. slice_index counts at) (place_at i F1 below)
 
 -- the members of the codes from a place on, where the first of them holds
-pub members-some : (counts : List ℕ) (i count : ℕ) → i < 30 → count ≡ slice_index counts i → 0 < count
+pub members-some : (counts : List ℕ) (i count : ℕ) → i < CODE_COUNT → count ≡ slice_index counts i → 0 < count
     → count_members counts (drop i report_order) ≡ count_member (get_or report_order i F1) count ∷ count_members counts (drop (i + 1) report_order)
 members-some counts i count below is some =
     let code = get_or report_order i F1 in
@@ -53,7 +48,7 @@ members-some counts i count below is some =
     ∙ ap (λ n. count_member code n ∷ count_members counts (drop (i + 1) report_order)) same
 
 -- and where it doesn't
-pub members-none : (counts : List ℕ) (i count : ℕ) → i < 30 → count ≡ slice_index counts i → count ≤ 0
+pub members-none : (counts : List ℕ) (i count : ℕ) → i < CODE_COUNT → count ≡ slice_index counts i → count ≤ 0
     → count_members counts (drop i report_order) ≡ count_members counts (drop (i + 1) report_order)
 members-none counts i count below is none =
     let code = get_or report_order i F1 in
@@ -67,5 +62,5 @@ pub SoFar-joined : (texts : List (List ℕ)) (before : SinkState) → SoFar (joi
 SoFar-joined texts before = subst (λ (rest : List ℕ). SoFar (join_with_byte 44 texts) before before rest) (joined-separated texts) (SoFar-none _ before)
 
 -- there are no codes past the last
-pub members-past : (counts : List ℕ) (i : ℕ) → 30 ≤ i → count_members counts (drop i report_order) ≡ []
+pub members-past : (counts : List ℕ) (i : ℕ) → CODE_COUNT ≤ i → count_members counts (drop i report_order) ≡ []
 members-past counts i past = ap (count_members counts) (drop_all i report_order past)

@@ -1,16 +1,17 @@
 -- The counts of a level's codes are those of its report.
-use Rattle.std.proofs.Common.{◌≡◌, ◌↔◌, ℕ, zero, suc, ◌+◌, ◌<◌, ◌≤◌, ◌⊎◌, inl, inr, Bool, true, false, List, [], ◌∷◌, length, take, get_or, refl, sym, ap, ◌∙◌, subst, arith, add-one}
+use Rattle.std.proofs.Common.{◌≡◌, ◌↔◌, ℕ, zero, suc, ◌+◌, ◌<◌, ◌≤◌, inl, inr, Bool, true, false, List, [], ◌∷◌, length, take, get_or, refl, sym, ap, ◌∙◌, subst, arith, add-one}
 use Rattle.std.specs.Prelude.{AllPairs, Contains, cond, count_by, if◌then◌else◌, nat_lt, not, slice_index, sum, ◌==◌}
 use Rattle.std.proofs.lemmas.Bool.{cases_eq, cases_order, eq-eqb, le-ltb, lt-ltb, ne_eqb}
 use Rattle.std.proofs.lemmas.List.{take_all}
-use Rattle.std.proofs.lemmas.List.Elements.{Contains-append_right, Contains-get_or}
+use Rattle.std.proofs.lemmas.List.Elements.{Contains-get_or}
 use Rattle.std.proofs.lemmas.List.Sums.{sum_by-cons, sum_by-take-drop, sum_by_more}
 use Rattle.map_level.proofs.FindingLemmas.{place_at, place-below, same_from_place}
-use Rattle.map_level.proofs.OneListLemmas.{one_list}
+use Rattle.map_level.proofs.OneListLemmas.{cases_in, first_in, later_in, one_list, pairs-head, pairs-tail}
 use Rattle.map_level.specs.Findings.{AreFindings, StandsBefore, is_fault, place}
 use Rattle.map_level.specs.declared.finding.Code.{Code}
 use Rattle.map_level.specs.declared.finding.Code.TheVariants.{F1}
 use Rattle.map_level.specs.declared.finding.Finding.{Finding}
+use Rattle.map_level.specs.declared.search.TheConstants.{CODE_COUNT}
 use Rattle.wad_lens.specs.Counts.{IsCount, report_order}
 use Rattle.wad_lens.specs.Laws.{CountsAreOfTheReport}
 
@@ -24,16 +25,6 @@ pick-yes code f found same = rw (eq-eqb (place f.code) (place code) same) refl
 
 pick-no : (code : Code) (f : Finding) (found : List Finding) → (place f.code ≡ place code → ⊥) → pick code (f ∷ found) ≡ pick code found
 pick-no code f found differs = rw (ne_eqb (place f.code) (place code) differs) refl
-
-first_in : {X : Type 0} (x : X) (xs : List X) → Contains (x ∷ xs) x
-first_in x xs = (0, omega arith, refl)
-
-later_in : {X : Type 0} (x : X) (xs : List X) (z : X) → Contains xs z → Contains (x ∷ xs) z
-later_in x xs z there = Contains-append_right (x ∷ []) xs z there
-
-cases_in : {X : Type 0} (x : X) (xs : List X) (z : X) → Contains (x ∷ xs) z → (z ≡ x) ⊎ Contains xs z
-cases_in x xs z (zero, within, is) = inl (sym is)
-cases_in x xs z (suc k, within, is) = inr (k, omega (arith, within), is)
 
 record Picked (code : Code) (found : List Finding) (i : ℕ) : Type 0 where
   f : Finding
@@ -73,12 +64,6 @@ pairs-cons R x xs head tail zero zero d before below = absurd (omega (arith, bef
 pairs-cons R x xs head tail zero (suc j) d before below = head (get_or xs j d) (Contains-get_or xs j d (omega (arith, below)))
 pairs-cons R x xs head tail (suc i) zero d before below = absurd (omega (arith, before))
 pairs-cons R x xs head tail (suc i) (suc j) d before below = tail i j d (omega (arith, before)) (omega (arith, below))
-
-pub pairs-tail : {X : Type 0} (R : X → X → Type 0) (x : X) (xs : List X) → AllPairs R (x ∷ xs) → AllPairs R xs
-pairs-tail R x xs pairs = λ i j d before below. pairs (suc i) (suc j) d (omega (arith, before)) (omega (arith, below))
-
-pub pairs-head : {X : Type 0} (R : X → X → Type 0) (x : X) (xs : List X) (z : X) → AllPairs R (x ∷ xs) → Contains xs z → R x z
-pairs-head R x xs z pairs there = subst (λ y. R x y) there.2 (pairs 0 (suc there.0) z (omega arith) (omega (arith, there.1)))
 
 pick_ascending : (code : Code) (found : List Finding) → AllPairs StandsBefore found → AllPairs (λ a b. a < b) (pick code found)
 pick_ascending code [] pairs = λ i j d before below. absurd (omega (arith, below))
@@ -160,24 +145,24 @@ test_both true = refl
 test_both false = refl
 
 count_both : (found : List Finding)
-    → count_by (λ f. nat_lt (place f.code) 30) found ≡ count_by (λ f. is_fault f.code) found + count_by (λ f. not (is_fault f.code)) found
+    → count_by (λ f. nat_lt (place f.code) CODE_COUNT) found ≡ count_by (λ f. is_fault f.code) found + count_by (λ f. not (is_fault f.code)) found
 count_both [] = refl
 count_both (f ∷ found) =
-    let one : ◌≡◌ {A = ℕ} (cond (nat_lt (place f.code) 30) 1 0) 1 = rw (lt-ltb (place f.code) 30 (place-below f.code)) refl in
+    let one : ◌≡◌ {A = ℕ} (cond (nat_lt (place f.code) CODE_COUNT) 1 0) 1 = rw (lt-ltb (place f.code) CODE_COUNT (place-below f.code)) refl in
     omega (
       arith,
       count_both found,
       one,
       test_both (is_fault f.code),
-      sum_by-cons (λ (g : Finding). cond (nat_lt (place g.code) 30) 1 0) f found,
+      sum_by-cons (λ (g : Finding). cond (nat_lt (place g.code) CODE_COUNT) 1 0) f found,
       sum_by-cons (λ (g : Finding). cond (is_fault g.code) 1 0) f found,
       sum_by-cons (λ (g : Finding). cond (not (is_fault g.code)) 1 0) f found,
     )
 
 -- the first counts add up to the findings of the first places
-first_counts : (found : List Finding) (counts : List ℕ) → length counts ≡ 30
+first_counts : (found : List Finding) (counts : List ℕ) → length counts ≡ CODE_COUNT
     → ((code : Code) → slice_index counts (place code) ≡ count_by (λ f. place f.code == place code) found)
-    → (n : ℕ) → n ≤ 30 → sum (take n counts) ≡ count_by (λ f. nat_lt (place f.code) n) found
+    → (n : ℕ) → n ≤ CODE_COUNT → sum (take n counts) ≡ count_by (λ f. nat_lt (place f.code) n) found
 first_counts found counts long each zero within = sym (count_none found)
 first_counts found counts long each (suc n) within =
     let code = get_or report_order n F1 in
@@ -192,8 +177,8 @@ law_counts_are_of_the_report level found counts are is =
     let each : (code : Code) → slice_index counts (place code) ≡ count_by (λ f. place f.code == place code) found =
     λ code. count_of_report _ found code (slice_index counts (place code)) are (is.each code) in
     let faults = first_counts found counts is.all each 18 (omega arith) in
-    let all = first_counts found counts is.all each 30 (omega arith) in
-    let whole : take 30 counts ≡ counts = take_all 30 counts (omega (arith, is.all)) in
+    let all = first_counts found counts is.all each CODE_COUNT (omega arith) in
+    let whole : take CODE_COUNT counts ≡ counts = take_all CODE_COUNT counts (omega (arith, is.all)) in
     record {
       each = each;
       faults = faults;

@@ -16,6 +16,7 @@ use Rattle.wad_dir.specs.Refusal.{RefusesWad}
 use Rattle.wad_dir.specs.Wad.{IsRead, Wad}
 use Rattle.wad_dir.specs.declared.packer.PackFault.{PackFault}
 use Rattle.wad_dir.specs.declared.packer.PackFault.TheVariants as pack
+use Rattle.wad_dir.specs.declared.packer.TheConstants.{MAX_BYTES}
 use Rattle.wad_lens.specs.FormatLine.{format_text}
 use Rattle.wad_lens.specs.Objects.{refusal_text}
 use Rattle.wad_lens.specs.declared.cut.CutFault.{CutFault}
@@ -36,14 +37,14 @@ pub record CutsLevel (files : List Wad) (g : ℕ) (text : List ℕ) : Type 0 whe
   pub found : List NamedLump
   pub has : HasLumpsAt files g found
   pub is : text ≡ packed found
-  pub fits : length text ≤ 2147483647
+  pub fits : length text ≤ MAX_BYTES
   pub holds : HoldsLumps text found
 
 -- the file of the level would be too large
 pub record IsTooLarge (files : List Wad) (g : ℕ) : Type 0 where
   pub found : List NamedLump
   pub has : HasLumpsAt files g found
-  pub large : 2147483647 < length (packed found)
+  pub large : MAX_BYTES < length (packed found)
 
 -- why a level isn't cut out of files
 abbrev pub RefusesEntry : List Wad → ℕ → CutFault → Type 0

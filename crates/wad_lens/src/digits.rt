@@ -2,6 +2,7 @@
 
 ghost use Rattle.std.specs.Prelude.{◌≡◌, ◌+◌, ◌<◌, ◌≤◌, ◌^◌, ◌++◌, length};
 ghost use Rattle.std.specs.Fmt.{decimal, signed_decimal};
+ghost use Rattle.line_io.specs.declared.text_line.TheConstants.{ROOM};
 ghost use Rattle.map_level.specs.Reading.{number_of};
 
 use line_io::TextLine;
@@ -9,7 +10,7 @@ use map_level::{Reading, number};
 
 /// Puts a word before the line.
 pub fn prepend_word(line: &mut TextLine, word: &i16)
-    requires { length line.old + 21 ≤ 144 }
+    requires { length line.old + 21 ≤ ROOM }
     ensures text { line.new ≡ signed_decimal word.now ++ line.old }
     ensures length { length line.new ≤ length line.old + 6 }
 {
@@ -18,7 +19,7 @@ pub fn prepend_word(line: &mut TextLine, word: &i16)
 
 /// Puts a word as an index under a reading before the line.
 pub fn prepend_index(line: &mut TextLine, reading: Reading, word: &i16)
-    requires { length line.old + 21 ≤ 144 }
+    requires { length line.old + 21 ≤ ROOM }
     ensures text { line.new ≡ signed_decimal (number_of reading word.now) ++ line.old }
     ensures length { length line.new ≤ length line.old + 6 }
 {
@@ -28,7 +29,7 @@ pub fn prepend_index(line: &mut TextLine, reading: Reading, word: &i16)
 /// Puts a number of records or bytes, which is below 2^32, before the line.
 pub fn prepend_count(line: &mut TextLine, count: usize)
     requires few { count < 2 ^ 32 }
-    requires room { length line.old + 20 ≤ 144 }
+    requires room { length line.old + 20 ≤ ROOM }
     ensures text { line.new ≡ decimal count ++ line.old }
     ensures length { length line.new ≤ length line.old + 10 }
 {
@@ -37,7 +38,7 @@ pub fn prepend_count(line: &mut TextLine, count: usize)
 
 /// Puts a number of 16 bits before the line.
 pub fn prepend_short(line: &mut TextLine, number: u16)
-    requires { length line.old + 20 ≤ 144 }
+    requires { length line.old + 20 ≤ ROOM }
     ensures text { line.new ≡ decimal number ++ line.old }
     ensures length { length line.new ≤ length line.old + 5 }
 {

@@ -1,6 +1,7 @@
 //! What the codes of findings are found at.
 
 ghost use Rattle.std.specs.Prelude.{◌≡◌, ◌+◌, ◌≤◌, length};
+ghost use Rattle.line_io.specs.declared.text_line.TheConstants.{ROOM};
 ghost use Rattle.wad_lens.specs.Kind.{code_text, kind_name, kind_of};
 
 use line_io::TextLine;
@@ -60,7 +61,7 @@ pub fn kind_name(kind: Kind) -> &'static [u8]
 
 /// Puts a code as it is printed before the line.
 pub fn prepend_code(line: &mut TextLine, code: Code)
-    requires { length line.old + 4 ≤ 144 }
+    requires { length line.old + 4 ≤ ROOM }
     ensures text { line.new ≡ code_text code line.old }
     ensures length { length line.new ≤ length line.old + 4 }
 {

@@ -33,7 +33,7 @@ pub use judging::{Judging, Warnings};
 pub use kind::{Kind, prepend_code};
 pub use lines::{Heading, write_format_alone};
 pub use map_level::search::CODE_COUNT;
-pub use object::{Refusal, prepend_number, refused_line, write_file, write_name};
+pub use object::{Refusal, format_name, prepend_number, refused_line, write_file, write_name};
 pub use place::{Place, Spot};
 pub use survey::{label_of, level_at, survey_file};
 pub use totals::{Totals, format_totals, judged_totals, write_totals};

@@ -2,6 +2,7 @@
 
 ghost use Rattle.std.specs.Prelude.{◌≡◌, ◌+◌, ◌<◌, ◌≤◌, ◌++◌, [], codes, false, length};
 ghost use Rattle.line_io.specs.Writes.{Writes};
+ghost use Rattle.line_io.specs.declared.text_line.TheConstants.{ROOM};
 ghost use Rattle.wad_lens.specs.FindingLine.{block_text, body_text, finding_line, index_text, label_text, lead_text, level_line};
 ghost use Rattle.le_rec.specs.Name.{shown_name};
 ghost use Rattle.level_list.specs.declared.format.Format.TheVariants as format;
@@ -84,7 +85,7 @@ pub fn prepend_label(line: &mut TextLine, name: Name8)
 
 // Puts a name as it is shown before the line.
 fn prepend_name(line: &mut TextLine, name: Name8)
-    requires { length line.old + 32 ≤ 144 }
+    requires { length line.old + 32 ≤ ROOM }
     ensures text { line.new ≡ shown_name name ++ line.old }
     ensures length { length line.new ≤ length line.old + 32 }
 {

@@ -3,6 +3,7 @@
 ghost use Rattle.std.specs.Prelude.{◌≡◌, ◌+◌, ◌<◌, ◌≤◌, ◌++◌, [], codes, decimal, false, length, slice_index_or};
 ghost use Rattle.std.specs.List.{flat_map};
 ghost use Rattle.line_io.specs.Writes.{Writes};
+ghost use Rattle.line_io.specs.declared.text_line.TheConstants.{ROOM};
 ghost use Rattle.map_level.specs.declared.finding.Code.TheVariants.{F1};
 ghost use Rattle.wad_lens.specs.Counts.{fault_total, note_total, report_order};
 ghost use Rattle.wad_lens.specs.JsonString.{bool_text, json_string};
@@ -138,7 +139,7 @@ fn write_number<W: Sink>(name: &[u8], number: u64, out: &mut W) -> Result<(), Io
 
 /// Puts `,"<name>":<number>` before the line.
 pub fn prepend_number(line: &mut TextLine, name: &[u8], number: u64)
-    requires { length line.old + length name.now + 24 ≤ 144 }
+    requires { length line.old + length name.now + 24 ≤ ROOM }
     ensures text { line.new ≡ number_member name.now number ++ line.old }
     ensures length { length line.new ≤ length line.old + length name.now + 24 }
 {
@@ -160,8 +161,8 @@ fn write_format<W: Sink>(format: Format, out: &mut W) -> Result<(), IoFault>
     emit(out, line.as_bytes())
 }
 
-// A format as it is named.
-fn format_name(format: Format) -> &'static [u8]
+/// A format as it is named.
+pub fn format_name(format: Format) -> &'static [u8]
     ensures name { result.now ≡ format_name format }
     ensures short { length result.now ≤ 10 }
 {

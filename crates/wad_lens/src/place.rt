@@ -1,6 +1,7 @@
 //! Where on the map a finding lies.
 
 ghost use Rattle.std.specs.Prelude.{◌≡◌, ◌+◌, ◌≤◌, length};
+ghost use Rattle.line_io.specs.declared.text_line.TheConstants.{ROOM};
 ghost use Rattle.wad_lens.specs.Owners.{AreOwners};
 ghost use Rattle.wad_lens.specs.declared.kind.Kind.TheVariants as kind;
 ghost use Rattle.wad_lens.specs.Place.{between, owner_of, place_at, place_of, place_text, spot_text};
@@ -134,7 +135,7 @@ pub fn prepend_place(line: &mut TextLine, place: Place)
 
 /// Puts `(X, Y)` before the line.
 pub fn prepend_spot(line: &mut TextLine, x: &i16, y: &i16)
-    requires { length line.old + 36 ≤ 144 }
+    requires { length line.old + 36 ≤ ROOM }
     ensures text { line.new ≡ spot_text x.now y.now line.old }
     ensures length { length line.new ≤ length line.old + 16 }
 {

@@ -7,6 +7,7 @@ use Rattle.map_level.specs.declared.reading.Reading.TheVariants.{Signed}
 use Rattle.wad_dir.specs.Packing.{packed}
 use Rattle.wad_dir.specs.Wad.{Wad}
 use Rattle.wad_dir.specs.declared.packer.PackFault.{PackFault}
+use Rattle.wad_dir.specs.declared.packer.TheConstants.{MAX_BYTES}
 use Rattle.wad_dir.specs.declared.packer.PackFault.TheVariants.{TooLarge, Memory}
 use Rattle.wad_look.specs.Engines.Extract.{HasLumps, HoldsLumps, IsPacked, RefusesExtract, extracted}
 use Rattle.wad_look.specs.Opening.{AreRead}
@@ -17,7 +18,7 @@ module _ (bytes : List (List ℕ)) (asked : List ℕ) (files : List Wad) (level 
   has_lumps = record { files = files; level = level; lumps = opened.there.lumps; read = read; opened = opened; stand = opened.there.stand; are = refl }
 
   pub level_packed : (file : List ℕ) → ((lumps : List (List ℕ)) → AreLumps files level.label lumps → file ≡ packed (extracted level.names lumps))
-      → length file ≤ 2147483647 → ((lumps : List (List ℕ)) → AreLumps files level.label lumps → HoldsLumps file (extracted level.names lumps)) → IsPacked bytes asked file
+      → length file ≤ MAX_BYTES → ((lumps : List (List ℕ)) → AreLumps files level.label lumps → HoldsLumps file (extracted level.names lumps)) → IsPacked bytes asked file
   level_packed file is fits holds = record {
     named = extracted level.names opened.there.lumps;
     has = has_lumps;
@@ -26,7 +27,7 @@ module _ (bytes : List (List ℕ)) (asked : List ℕ) (files : List Wad) (level 
     holds = holds opened.there.lumps opened.there.stand;
   }
 
-  pub level_refused : (why : PackFault) → ((lumps : List (List ℕ)) → AreLumps files level.label lumps → why ≡ TooLarge → 2147483647 < length (packed (extracted level.names lumps)))
+  pub level_refused : (why : PackFault) → ((lumps : List (List ℕ)) → AreLumps files level.label lumps → why ≡ TooLarge → MAX_BYTES < length (packed (extracted level.names lumps)))
       → RefusesExtract bytes asked (fault.Pack why)
   level_refused TooLarge large = (extracted level.names opened.there.lumps, has_lumps, large opened.there.lumps opened.there.stand refl)
   level_refused Memory large = tt

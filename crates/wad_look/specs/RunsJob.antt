@@ -15,17 +15,11 @@ use Rattle.wad_look.specs.Engines.Show.{RunsShow}
 use Rattle.wad_look.specs.Engines.Sight.{RunsSight}
 use Rattle.wad_look.specs.Command.{Job, reading_of}
 use Rattle.wad_look.specs.Runs.{EndsAs}
+use Rattle.line_io.specs.declared.input.TheConstants.{MAX_READ}
+use Rattle.wad_look.specs.declared.engines.TheConstants.{MAX_INPUT}
 use Rattle.wad_look.specs.declared.command.Cmd.{Cmd}
 use Rattle.wad_look.specs.declared.command.Cmd.TheVariants.{Lumps, Levels, Show, Audit, Points, Census, Sight, Blocks, Extract, Demo, Lmp}
 use Rattle.wad_look.specs.declared.fault.RunFault.{RunFault}
-
--- the most bytes of line input
-abbrev pub max_input : ℕ
-max_input = 16777216
-
--- the most bytes of a demo's file
-abbrev pub max_read : ℕ
-max_read = 268435456
 
 -- over files of these bytes, a source and a sink, of which clauses see their states: a command of files leaves the input alone
 abbrev pub RunsCommand : {S W : Type 0} → (S → SourceState) → (W → SinkState) → Cmd → Job → List (List ℕ) → S → S → W → W → Result Bool RunFault → Type 0
@@ -38,20 +32,20 @@ RunsCommand source sink Show job bytes input input' out out' result =
 RunsCommand source sink Audit job bytes input input' out out' result =
     (input' ≡ input) × RunsAudit sink bytes job.name (reading_of job) out out' result
 RunsCommand source sink Points job bytes input input' out out' result =
-    EndsAs (RunsPoints source sink bytes job.name (reading_of job) max_input input input' out out') result
+    EndsAs (RunsPoints source sink bytes job.name (reading_of job) MAX_INPUT input input' out out') result
 RunsCommand source sink Census job bytes input input' out out' result =
-    EndsAs (RunsCensus source sink bytes job.name (reading_of job) max_input input input' out out') result
+    EndsAs (RunsCensus source sink bytes job.name (reading_of job) MAX_INPUT input input' out out') result
 RunsCommand source sink Sight job bytes input input' out out' result =
-    EndsAs (RunsSight source sink bytes job.name max_input input input' out out') result
+    EndsAs (RunsSight source sink bytes job.name MAX_INPUT input input' out out') result
 RunsCommand source sink Blocks job bytes input input' out out' result =
-    EndsAs (RunsBlocks source sink bytes job.name (reading_of job) max_input input input' out out') result
+    EndsAs (RunsBlocks source sink bytes job.name (reading_of job) MAX_INPUT input input' out out') result
 RunsCommand source sink Extract job bytes input input' out out' result =
     (input' ≡ input) × EndsAs (RunsExtract sink bytes job.name out out') result
 RunsCommand source sink Demo job bytes input input' out out' result =
     (input' ≡ input) × EndsAs (RunsDemo sink bytes job.name out out') result
 -- the demo's file is the input
 RunsCommand source sink Lmp job bytes input input' out out' result =
-    EndsAs (RunsLmp source sink max_read input input' out out') result
+    EndsAs (RunsLmp source sink MAX_READ input input' out out') result
 
 -- the command of the job
 abbrev pub RunsJob : {S W : Type 0} → (S → SourceState) → (W → SinkState) → Job → List (List ℕ) → S → S → W → W → Result Bool RunFault → Type 0

@@ -35,4 +35,4 @@ pub use listing::prepend_header;
 pub use opening::sector_tree;
 pub use outcome::status;
 pub use turn::Turn;
-pub use words::job;
+pub use words::{after_wide, job};

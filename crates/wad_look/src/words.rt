@@ -107,8 +107,8 @@ fn is_plain(word: &str) -> bool
     word.as_bytes().first() != Some(&b'-')
 }
 
-// Whether `--wide` stands first, and the words after it.
-fn after_wide<F: Allocator>(allowed: bool, words: &[String<F>]) -> (bool, &[String<F>])
+/// Whether `--wide` stands first, where it is allowed, and the words behind it.
+pub fn after_wide<F: Allocator>(allowed: bool, words: &[String<F>]) -> (bool, &[String<F>])
     ensures spelled { map string_bytes words.now ≡ wide_words result.0 ++ map string_bytes result.1.now }
     ensures allowed { IsTrue result.0 → IsTrue allowed }
     ensures absent { result.0 ≡ false → allowed ≡ true → slice_index_or (map string_bytes words.now) 0 [] ≢ codes "--wide" }

@@ -1,14 +1,13 @@
 -- Every content is told an answer of `blocks`: each point has one block or none, and each block a list or why it has none.
-use Rattle.std.proofs.Common.{◌≡◌, ◌≢◌, ◌⊎◌, inl, inr, ℕ, suc, zero, ◌+◌, ◌/◌, ℤ, pos, negsuc, ◌-ℤ◌, Bool, true, false, List, [], ◌∷◌, ◌++◌, length, drop, Option, Some, None, refl, sym, ap, ◌∙◌, subst, arith}
+use Rattle.std.proofs.Common.{◌≡◌, ◌≢◌, ◌⊎◌, inl, inr, ℕ, suc, zero, ◌+◌, ◌/◌, ℤ, pos, negsuc, ◌-ℤ◌, List, [], ◌∷◌, ◌++◌, length, drop, Option, Some, None, refl, sym, ap, ◌∙◌, subst, arith}
 use Rattle.std.specs.Prelude.{Contains}
-use Rattle.std.specs.Ordering.{int_eq}
 use Rattle.std.specs.List.{slice_get}
-use Rattle.std.proofs.lemmas.Bool.{cases_lt, false≢true}
-use Rattle.std.proofs.lemmas.Bool.Decides.{Decides-int_eq}
+use Rattle.std.proofs.lemmas.Bool.{cases_lt}
 use Rattle.std.proofs.lemmas.Int.{ints}
 use Rattle.std.proofs.lemmas.List.{length-append, length-drop}
 use Rattle.line_io.proofs.NumberAnswersLemmas.{decide_two, some_answers, two_texts}
 use Rattle.map_geo.specs.Point.{Point, point_at}
+use Rattle.map_level.proofs.LinkedLemmas.{is_same}
 use Rattle.map_tables.specs.BlockMap.{BlockMap, IsBlockAlong, IsBlockOf, block_number, count_of}
 use Rattle.map_tables.specs.Words.{HasNoEnd, HasOffset, IsBlockList, IsListAt, IsOffsetOutside, Words}
 use Rattle.map_tables.proofs.ListLemmas.{one_block_list}
@@ -43,13 +42,6 @@ block_at map point = elim (along map.x point.x) [
   ]
 ]
 
-int_cases : (x y : ℤ) → (x ≡ y) ⊎ (x ≢ y)
-int_cases x y = go (int_eq x y) refl
-  where
-    go : (r : Bool) → int_eq x y ≡ r → (x ≡ y) ⊎ (x ≢ y)
-    go true is = inl ((Decides-int_eq x y).0 is)
-    go false is = inr (λ same. false≢true (sym is ∙ (Decides-int_eq x y).1 same))
-
 -- the words before the first end word, if there is one
 abbrev HasEnd : ℤ → List ℤ → Type 0
 HasEnd end words = (list : List ℤ) × (after : List ℤ) × (words ≡ list ++ end ∷ after) × (¬ Contains list end)
@@ -71,7 +63,7 @@ end_behind end x words other (inr none) = inr no_end
 
 first_end : (end : ℤ) (words : List ℤ) → HasEnd end words ⊎ NoEnd end words
 first_end end [] = inr (λ list after is. let long = ap length is ∙ length-append list (end ∷ after) in omega (arith, long))
-first_end end (x ∷ words) = elim (int_cases x end) [
+first_end end (x ∷ words) = elim (is_same x end) [
   | inl here ↦ inl ([], words, rw here refl, λ there. omega (arith, there.1))
   | inr other ↦ end_behind end x words other (first_end end words)
 ]

@@ -22,7 +22,7 @@ use Rattle.line_io.proofs.WriteLemmas.{TakesFront-after}
 use Rattle.line_io.specs.Writes.{TakesFront, Writes}
 use Rattle.line_io.specs.declared.fault.IoFault.{IoFault}
 use Rattle.line_io.specs.declared.fault.IoFault.TheVariants as io
-use Rattle.wad_look.proofs.engines.DemoLemmas.{ticcmds_text-last}
+use Rattle.wad_look.proofs.ListingLemmas.{ticcmds_text-last}
 use Rattle.wad_look.specs.Listing.{ticcmd_line, ticcmds_text}
 use Rattle.wad_look.specs.Turn.{Turn, player_of, tic_of}
 use Rattle.wad_look.specs.Engines.Lmp.{TiccmdsFault, ListsCommands}

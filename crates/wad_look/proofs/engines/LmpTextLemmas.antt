@@ -9,7 +9,7 @@ use Rattle.demo_lump.specs.declared.fault.DemoFault.TheVariants.{NoMarker}
 use Rattle.demo_lump.proofs.ReadingLemmas.{IsDemo-not_refused}
 use Rattle.le_rec.specs.Sink.{SinkState}
 use Rattle.line_io.specs.Writes.{TakesFront}
-use Rattle.wad_look.proofs.engines.DemoLemmas.{ticcmds_text-append}
+use Rattle.wad_look.proofs.ListingLemmas.{ticcmds_text-append}
 use Rattle.wad_look.specs.Listing.{ticcmds_text, header_line, listing, totals_text}
 use Rattle.wad_look.specs.Engines.Lmp.{HasLines, IsText}
 use Rattle.wad_look.proofs.engines.MostCommandsLemmas.{most_commands, AreCommands-append, marker_or_not}

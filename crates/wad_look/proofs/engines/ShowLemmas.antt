@@ -1,8 +1,7 @@
 -- The text of a record before other bytes.
-use Rattle.std.proofs.Common.{◌≡◌, ℕ, zero, suc, ◌+◌, List, [], ◌∷◌, ◌++◌, ◌<◌, length, drop, Some, refl, ap, sym, ◌∙◌, arith}
+use Rattle.std.proofs.Common.{◌≡◌, ℕ, ◌+◌, List, [], ◌∷◌, ◌++◌, drop, Some, refl, ap, sym, ◌∙◌}
 use Rattle.std.proofs.lemmas.List.{append_assoc}
-use Rattle.std.specs.List.{slice_get, flat_map}
-use Rattle.std.specs.Prelude.{slice_index_or}
+use Rattle.std.specs.List.{slice_get}
 use Rattle.le_rec.specs.Layout.{Field, Values, Layout}
 use Rattle.wad_look.specs.Engines.Show.{field_text, fields_text, record_text, record_line, record_lines}
 use Rattle.wad_look.proofs.RestLemmas.{drop-at}
@@ -24,9 +23,3 @@ record_text-before layout r rest = fields_text-before layout.fields (layout.valu
 pub record_lines-drop : {R : Type 0} (layout : Layout R) (records : List R) (i : ℕ) (r : R) → slice_get records i ≡ Some r
     → record_lines layout i (drop i records) ≡ record_line layout i r ++ record_lines layout (i + 1) (drop (i + 1) records)
 record_lines-drop layout records i r at = rw (drop-at records i r at) refl
-
--- the texts from a place on
-pub texts-drop : (texts : List (List ℕ)) (i : ℕ) → i < length texts → flat_map (λ text. text) (drop i texts) ≡ slice_index_or texts i [] ++ flat_map (λ text. text) (drop (i + 1) texts)
-texts-drop [] i below = absurd (omega arith)
-texts-drop (text ∷ texts) zero below = refl
-texts-drop (text ∷ texts) (suc i) below = let next : suc i + 1 ≡ suc (i + 1) = omega arith in rw next (texts-drop texts i (omega arith))

@@ -13,6 +13,7 @@ use Rattle.wad_dir.specs.Packing.{NamedLump, packed}
 use Rattle.wad_dir.specs.Slice.{IsSlice}
 use Rattle.wad_dir.specs.Wad.{Wad}
 use Rattle.wad_dir.specs.declared.header.Kind.TheVariants.{Pwad}
+use Rattle.wad_dir.specs.declared.packer.TheConstants.{MAX_BYTES}
 use Rattle.wad_dir.specs.declared.packer.PackFault.TheVariants as pack
 use Rattle.wad_look.specs.Opening.{AreRead, RefusesName}
 use Rattle.wad_look.specs.Runs.{Runs}
@@ -50,12 +51,12 @@ pub record IsPacked (bytes : List (List ℕ)) (asked file : List ℕ) : Type 0 w
   pub named : List NamedLump
   pub has : HasLumps bytes asked named
   pub is : file ≡ packed named
-  pub fits : length file ≤ 2147483647
+  pub fits : length file ≤ MAX_BYTES
   pub holds : HoldsLumps file named
 
 -- why there is none: it would be too large, or a growth was refused
 abbrev pub RefusesExtract : List (List ℕ) → List ℕ → RunFault → Type 0
-RefusesExtract bytes asked (fault.Pack pack.TooLarge) = (lumps : List NamedLump) × HasLumps bytes asked lumps × (2147483647 < length (packed lumps))
+RefusesExtract bytes asked (fault.Pack pack.TooLarge) = (lumps : List NamedLump) × HasLumps bytes asked lumps × (MAX_BYTES < length (packed lumps))
 RefusesExtract bytes asked (fault.Pack pack.Memory) = Unit {0}
 RefusesExtract bytes asked fault = RefusesName bytes asked fault
 

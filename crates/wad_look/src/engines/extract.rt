@@ -3,6 +3,7 @@
 ghost use Rattle.std.specs.Prelude.{◌≡◌, ◌<◌, ◌≤◌, ℕ, List, IfErr, IfOk, IsOkUnless, Err, false, length};
 ghost use Rattle.map_level.specs.Opening.{AreLumps, AreNames};
 ghost use Rattle.wad_dir.specs.Packing.{packed};
+ghost use Rattle.wad_dir.specs.declared.packer.TheConstants.{MAX_BYTES};
 ghost use Rattle.wad_dir.specs.declared.set.TheConstants.{MAX_FILES};
 ghost use Rattle.wad_look.specs.Engines.Extract.{HoldsLumps, IsPacked, RefusesExtract, RunsExtract, extracted};
 ghost use Rattle.wad_look.specs.Opening.{bytes_of};
@@ -63,11 +64,11 @@ pub fn pack_level<'a, A: Allocator + Copy>(
     requires named { AreNames set.now level.now.label level.now.names }
     ensures ok { (lumps : List (List ℕ)) → AreLumps set.now level.now.label lumps
         → IfOk result (λ file. file.items ≡ packed (extracted level.now.names lumps)) }
-    ensures fits { IfOk result (λ file. length file.items ≤ 2147483647) }
+    ensures fits { IfOk result (λ file. length file.items ≤ MAX_BYTES) }
     ensures holds { (lumps : List (List ℕ)) → AreLumps set.now level.now.label lumps
         → IfOk result (λ file. HoldsLumps file.items (extracted level.now.names lumps)) }
     ensures too_large { (lumps : List (List ℕ)) → AreLumps set.now level.now.label lumps
-        → result ≡ Err PackFault.TooLarge → 2147483647 < length (packed (extracted level.now.names lumps)) }
+        → result ≡ Err PackFault.TooLarge → MAX_BYTES < length (packed (extracted level.now.names lumps)) }
 {
     packer_of(alloc, set, level)?.pack(alloc)
 }

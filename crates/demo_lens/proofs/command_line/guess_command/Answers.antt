@@ -1,7 +1,8 @@
 use Rattle.std.proofs.Common.{[], ap, ◌∙◌, w8, to_z, of_z}
 use Rattle.std.proofs.lemmas.Int.{to_z-of_z}
 use Rattle.std.proofs.lemmas.List.Elements.{All-nil}
-use Rattle.demo_lens.proofs.ListingLemmas.{same_command, space_stops}
+use Rattle.demo_lump.proofs.WritingLemmas.{same_command}
+use Rattle.demo_lens.proofs.ListingLemmas.{space_stops}
 use Rattle.demo_lens.proofs.command_line.guess_command.Goals as goal
 
 pub returns-clause-is : goal.returns-clause-is

@@ -1,7 +1,8 @@
 use Rattle.std.proofs.Common.{◌≡◌, ◌+◌, pos, ap, ◌∙◌, arith, rules}
+use Rattle.std.proofs.lemmas.Option.{slice_get_within}
 use Rattle.std.specs.List.{slice_get}
 use Rattle.wad_look.specs.Turn.{Turn}
-use Rattle.demo_lens.proofs.DifferenceLemmas.{same_more, within}
+use Rattle.demo_lens.proofs.DifferenceLemmas.{same_more}
 use Rattle.demo_lens.proofs.compare.same_turns.Goals as goal
 
 pub loop-i-preserved : goal.loop-i-preserved
@@ -18,8 +19,8 @@ pub returns-clause-most : goal.returns-clause-most
 returns-clause-most c x y of_a of_b same =
     omega (
       arith,
-      within c.args.a.now.commands c.min-both.result x of_a,
-      within c.args.b.now.commands c.min-both.result y of_b,
+      slice_get_within c.args.a.now.commands c.min-both.result x of_a,
+      slice_get_within c.args.b.now.commands c.min-both.result y of_b,
       c.min-both.ensures,
       c.commands.ensures.commands,
       c.commands-2.ensures.commands,

@@ -3,6 +3,7 @@ use Rattle.std.proofs.lemmas.Result.{err_from_is_err_and}
 use Rattle.std.specs.List.{flat_map}
 use Rattle.line_io.proofs.WriteProgressLemmas.{SoFar-more, SoFar-stop}
 use Rattle.map_level.specs.declared.finding.Code.{Code}
+use Rattle.map_level.specs.declared.search.TheConstants.{CODE_COUNT}
 use Rattle.wad_lens.specs.Counts.{report_order}
 use Rattle.wad_lens.specs.LevelLines.{code_part}
 use Rattle.wad_lens.proofs.CodeLemmas.{codes-drop, codes-end, codes-none, counted_at}
@@ -16,7 +17,7 @@ returns-in_err-write_code-clause-text g c =
     let p = err_from_is_err_and c.from_residual.result c.from_residual.ensures.1 in
     let i = c.codes.i in
     let code = c.code_at.result in
-    let below : i < 30 = omega (arith, c.codes-test.true) in
+    let below : i < CODE_COUNT = omega (arith, c.codes-test.true) in
     rw (p.1, p.2) (λ told are counted.
     let part = λ (code : Code). code_part c.args.heading.now.path.now c.args.heading.now.name c.args.most c.args.judged.now code (told code) in
     SoFar-stop (part code) (flat_map part (drop (i + 1) report_order)) (c.codes.invariant.so_far told are counted) (codes-drop part i code below c.code_at.ensures)
@@ -26,7 +27,7 @@ pub codes-preserved : goal.codes-preserved
 codes-preserved g c =
     let i = c.codes.i in
     let code = c.code_at.result in
-    let below : i < 30 = omega (arith, c.codes-test.true) in
+    let below : i < CODE_COUNT = omega (arith, c.codes-test.true) in
     record {
       sound = c.in_ok-write_code.ensures.ends.sound;
       so_far = λ told are counted.

@@ -162,7 +162,7 @@ differ() {
 }
 
 cases_of_compare() {
-    local i names=(version skill episode map deathmatch respawn fast nomonsters viewpoint) numbers=(109 3 1 1 0 0 0 0 0) one
+    local i names=(version skill episode map deathmatch respawn fast nomonsters viewpoint) numbers=(109 3 1 1 0 0 0 0 0)
     demo_files
     demo_of plain.lmp "${two_commands[@]}" 128
     says 'compare: a demo and itself' 0 '' '' compare two.lmp two.lmp
@@ -182,6 +182,21 @@ cases_of_compare() {
     demo_of other.lmp 128
     differ 'the first field that differs' 'header: skill 3, 255' still.lmp other.lmp
     header[11]=0 header[1]=3
+    cases_of_compared_commands
+    says 'compare: FIFOs' 0 '' '' compare <(cat two.lmp) <(cat plain.lmp)
+    cases_of_refused_compares
+    cases_of_ends_of_compares
+    mistaken 'compare alone' '<A>' compare
+    mistaken 'compare of one' '<B>' compare two.lmp
+    mistaken 'compare of three' "unexpected argument 'two.lmp'" compare two.lmp two.lmp two.lmp
+    mistaken '--json of compare' "unexpected argument '--json'" compare --json two.lmp two.lmp
+    mistaken '--files-from of compare' "unexpected argument '--files-from'" compare --files-from - two.lmp two.lmp
+    cp two.lmp -- -y.lmp
+    says 'compare: a path that begins with -' 0 '' '' compare -- -y.lmp two.lmp
+    tells '--help of compare' 'Usage: wadlens compare <A> <B>' compare --help
+}
+
+cases_of_compared_commands() {
     demo_of other.lmp 26 0 0 0 206 128 255 128 128
     differ 'forward' 'tic 0 player 1: 25 0 0 00, 26 0 0 00' plain.lmp other.lmp
     demo_of other.lmp 25 0 0 0 206 127 255 128 128
@@ -207,8 +222,10 @@ cases_of_compare() {
     demo_of other.lmp 25 0 52 18 0 206 128 255 255 129 128
     differ 'the long form' 'tic 1 player 1: -50 -128 65535 80, -50 -128 65535 81' long.lmp other.lmp
     header[0]=109 header[2]=1 header[3]=1
-    says 'compare: FIFOs' 0 '' '' compare <(cat two.lmp) <(cat plain.lmp)
-    cases_of_refused_compares
+}
+
+cases_of_ends_of_compares() {
+    local one
     ends 'compare: a full disk' 2 "wadlens: standard output can't be written\\n" compare still.lmp plain.lmp >/dev/full
     ends 'compare: a full disk, nothing to write' 0 '' compare two.lmp plain.lmp >/dev/full
     ends 'compare: no standard output' 2 "wadlens: standard output can't be written\\n" compare still.lmp plain.lmp >&-
@@ -221,14 +238,6 @@ cases_of_compare() {
     printf '%s' $? >status
     : >error
     judge 'compare: a full standard error' 2 '' ''
-    mistaken 'compare alone' '<A>' compare
-    mistaken 'compare of one' '<B>' compare two.lmp
-    mistaken 'compare of three' "unexpected argument 'two.lmp'" compare two.lmp two.lmp two.lmp
-    mistaken '--json of compare' "unexpected argument '--json'" compare --json two.lmp two.lmp
-    mistaken '--files-from of compare' "unexpected argument '--files-from'" compare --files-from - two.lmp two.lmp
-    cp two.lmp -- -y.lmp
-    says 'compare: a path that begins with -' 0 '' '' compare -- -y.lmp two.lmp
-    tells '--help of compare' 'Usage: wadlens compare <A> <B>' compare --help
 }
 
 # Each file that holds no demo is told, and nothing is compared.
@@ -279,7 +288,7 @@ wrong() {
 }
 
 cases_of_assemble() {
-    local top one commands='0 1 25 0 0 00\n1 1 -50 -128 255 80\n' last='tics 2 odd 0 after 0\n'
+    local top commands='0 1 25 0 0 00\n1 1 -50 -128 255 80\n' last='tics 2 odd 0 after 0\n'
     top=$(head_line "${header[@]}")'\n'
     assembled 'a demo' "$top$commands$last" "${two_commands[@]}" 128
     assembled 'a demo without a tic' "${top}tics 0 odd 0 after 0\n" 128
@@ -294,6 +303,15 @@ cases_of_assemble() {
     cases_of_wrong_headers
     cases_of_wrong_lines
     printf '%b' "$top$commands$last" >listing
+    cases_of_ends_of_assemble
+    mistaken 'assemble of a file' "unexpected argument 'listing'" assemble listing
+    mistaken '--json of assemble' "unexpected argument '--json'" assemble --json
+    tells '--help of assemble' 'Usage: wadlens assemble' assemble --help
+}
+
+# What is read, and where that or what is written fails.
+cases_of_ends_of_assemble() {
+    local one
     timeout 60 "$program" assemble <folder >output 2>error
     printf '%s' $? >status
     judge 'assemble: an input that cannot be read' 2 '' "$(told 'standard input' "$unread")"
@@ -316,9 +334,6 @@ cases_of_assemble() {
     printf '%s' $? >status
     : >error
     judge 'assemble: a full standard error' 2 '' ''
-    mistaken 'assemble of a file' "unexpected argument 'listing'" assemble listing
-    mistaken '--json of assemble' "unexpected argument '--json'" assemble --json
-    tells '--help of assemble' 'Usage: wadlens assemble' assemble --help
 }
 
 cases_of_wrong_headers() {

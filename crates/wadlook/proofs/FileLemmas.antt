@@ -3,7 +3,8 @@ use Rattle.std.proofs.Common.{◌≡◌, ℕ, ◌+◌, ◌-◌, ◌<◌, ◌≤�
 use Rattle.std.specs.Io.KnownBytes.{Keeps}
 use Rattle.std.proofs.lemmas.List.Sums.{sum_by_push}
 use Rattle.std.proofs.lemmas.List.{take_more, drop_more, take-append-drop, map_push, map-append, length-map, length-take-le}
-use Rattle.wadlook.specs.Files.{AreHeld, IsReached, IsTooLong, RefusesFile, max_read, total_length}
+use Rattle.line_io.specs.declared.input.TheConstants.{MAX_READ}
+use Rattle.wadlook.specs.Files.{AreHeld, IsReached, IsTooLong, RefusesFile, total_length}
 use Rattle.wad_look.specs.declared.fault.RunFault.TheVariants.{TooLong}
 
 -- one more file
@@ -23,7 +24,7 @@ module _ {P : Type 0} (held : List ℕ → Option (List ℕ)) (path_of : P → L
       ∙ sym (map_push path_of (take i paths) (get_or paths i path)) ∙ ap (map path_of) (sym (take_more paths i path within)) in
       subst (λ ps. AreHeld held ps (files ++ file ∷ [])) e (AreHeld-push held (map path_of (take i paths)) files (path_of path) file so_far one)
 
-  abbrev pub reached : (files : List (List ℕ)) → AreHeld held (map path_of (take i paths)) files → total_length files ≤ max_read → IsReached held (map path_of paths) (i + 1)
+  abbrev pub reached : (files : List (List ℕ)) → AreHeld held (map path_of (take i paths)) files → total_length files ≤ MAX_READ → IsReached held (map path_of paths) (i + 1)
   reached files so_far fits = record {
     before = map path_of (take i paths);
     path = path_of path;
@@ -38,12 +39,12 @@ module _ {P : Type 0} (held : List ℕ → Option (List ℕ)) (path_of : P → L
     fits = fits;
   }
 
-  pub too_long : (files : List (List ℕ)) → AreHeld held (map path_of (take i paths)) files → total_length files ≤ max_read
-      → IfSome (held (path_of path)) (λ file. max_read < total_length files + length file) → IsTooLong held (map path_of paths) (i + 1)
+  pub too_long : (files : List (List ℕ)) → AreHeld held (map path_of (take i paths)) files → total_length files ≤ MAX_READ
+      → IfSome (held (path_of path)) (λ file. MAX_READ < total_length files + length file) → IsTooLong held (map path_of paths) (i + 1)
   too_long files so_far fits over = record { reached = reached files so_far fits; over = over }
 
-pub is_over : (held : Option (List ℕ)) (limit read : ℕ) → read + limit ≡ max_read → RefusesFile held limit TooLong
-    → IfSome held (λ file. max_read < read + length file)
+pub is_over : (held : Option (List ℕ)) (limit read : ℕ) → read + limit ≡ MAX_READ → RefusesFile held limit TooLong
+    → IfSome held (λ file. MAX_READ < read + length file)
 is_over None limit read all over = over
 is_over (Some file) limit read all over = omega arith
 

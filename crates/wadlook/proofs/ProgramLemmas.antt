@@ -1,8 +1,5 @@
--- Why no command runs, and what the buffer of a file has.
+-- Why no command runs.
 use Rattle.std.proofs.Common.{◌≡◌, ◌≢◌, ◌<◌, ℕ, List, [], ◌∷◌, length, Option, refl, subst, arith}
-use Rattle.std.proofs.KnownBytes.{prepend_known-nil}
-use Rattle.std.specs.Io.Buffered.{reader_buffer, reader_capacity, reader_inner, reader_remaining}
-use Rattle.std.specs.declared.io.buffered.BufReader.{BufReader}
 use Rattle.wad_look.specs.Command.{Job}
 use Rattle.wad_look.specs.Words.{IsJob}
 use Rattle.wad_look.specs.declared.command.Cmd.TheVariants.{Lmp}
@@ -30,8 +27,3 @@ job_refuses held words job (Run fault) asked refuses = (job, asked, refuses)
 pub first_reached : (held : List ℕ → Option (List ℕ)) (paths : List (List ℕ)) → 0 < length paths → IsReached held paths 1
 first_reached held [] some = absurd (omega arith)
 first_reached held (path ∷ paths) some = record { before = []; path = path; after = paths; stands = refl; number = refl; files = []; read = tt; fits = omega arith }
-
--- a buffer that nothing was read into has the bytes of its file
-pub buffered_whole : {R A : Type 0} (remaining : R → Option (List ℕ)) (r : BufReader R A) (file : R) → reader_capacity r ≡ 65536 → reader_buffer r ≡ [] → reader_inner r ≡ file
-    → reader_remaining remaining r ≡ remaining file
-buffered_whole remaining r file some empty inner = rw (some, empty, inner) (prepend_known-nil (remaining file))

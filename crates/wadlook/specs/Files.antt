@@ -1,14 +1,11 @@
 -- The files of a run (ours): what they hold, and how much of it is read.
 use Rattle.std.specs.Prelude.{◌≡◌, ℕ, ◌+◌, ◌<◌, ◌≤◌, List, [], ◌∷◌, ◌++◌, length, sum_by, Option, Some, IfSome, ⊤}
 use Rattle.std.specs.Io.KnownBytes.{Keeps}
+use Rattle.line_io.specs.declared.input.TheConstants.{MAX_READ}
 use Rattle.wad_look.specs.declared.fault.RunFault.{RunFault}
 use Rattle.wad_look.specs.declared.fault.RunFault.TheVariants as fault
 use Rattle.wadlook.specs.declared.refusal.Refusal.{Refusal}
 use Rattle.wadlook.specs.declared.refusal.Refusal.TheVariants.{Unreadable, TooLong, Run}
-
--- the most bytes of all files together
-abbrev pub max_read : ℕ
-max_read = 268435456
 
 -- how many bytes files have together
 abbrev pub total_length : List (List ℕ) → ℕ
@@ -29,12 +26,12 @@ pub record IsReached (held : List ℕ → Option (List ℕ)) (paths : List (List
   pub number : n ≡ length before + 1
   pub files : List (List ℕ)
   pub read : AreHeld held before files
-  pub fits : total_length files ≤ max_read
+  pub fits : total_length files ≤ MAX_READ
 
 -- file n is the first that has more bytes than those before it leave
 pub record IsTooLong (held : List ℕ → Option (List ℕ)) (paths : List (List ℕ)) (n : ℕ) : Type 0 where
   pub reached : IsReached held paths n
-  pub over : IfSome (held reached.path) (λ file. max_read < total_length reached.files + length file)
+  pub over : IfSome (held reached.path) (λ file. MAX_READ < total_length reached.files + length file)
 
 -- why the files aren't read: one of them can't be, they are too long, or a growth was refused; no file is told behind one
 -- that is too long

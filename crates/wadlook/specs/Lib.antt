@@ -1,3 +1,4 @@
+pub mod BlockSource
 pub mod ExitStatus
 pub mod Files
 pub mod Program

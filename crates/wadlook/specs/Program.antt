@@ -3,13 +3,14 @@ use Rattle.std.specs.Prelude.{◌≡◌, ◌≢◌, ◌≤◌, ◌⊎◌, ℕ, B
 use Rattle.std.specs.Io.KnownBytes.{Keeps}
 use Rattle.le_rec.specs.Sink.{SinkState}
 use Rattle.le_rec.specs.Source.{SourceState}
+use Rattle.line_io.specs.declared.input.TheConstants.{MAX_READ}
 use Rattle.wad_look.specs.Command.{Job}
 use Rattle.wad_look.specs.RunsJob.{RunsJob}
 use Rattle.wad_look.specs.Words.{IsJob}
 use Rattle.wad_look.specs.declared.command.Cmd.TheVariants.{Lmp}
 use Rattle.wad_look.specs.declared.fault.RunFault.{RunFault}
 use Rattle.wad_look.specs.declared.fault.RunFault.TheVariants.{Write}
-use Rattle.wadlook.specs.Files.{AreHeld, IsTooLong, RefusesPaths, max_read, total_length}
+use Rattle.wadlook.specs.Files.{AreHeld, IsTooLong, RefusesPaths, total_length}
 use Rattle.wadlook.specs.declared.refusal.Refusal.{Refusal}
 use Rattle.wadlook.specs.declared.refusal.Refusal.TheVariants.{Usage, TooLong, Run}
 
@@ -47,7 +48,7 @@ pub record RunsWords {S W : Type 0} (source : S → SourceState) (sink : W → S
   pub over_files : job.command ≢ Lmp
   pub files : List (List ℕ)
   pub read : AreHeld held job.paths files
-  pub within : total_length files ≤ max_read
+  pub within : total_length files ≤ MAX_READ
   pub runs : RunsFiles source sink left job files result
 
 -- the input of a command is its first file

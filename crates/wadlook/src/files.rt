@@ -2,7 +2,7 @@
 ghost use Rattle.std.specs.Prelude.{◌≡◌, ◌≤◌, length, vec_len, map, string_bytes, Some, IfOk, IfErr};
 ghost use Rattle.std.specs.Io.KnownBytes.{Keeps};
 ghost use Rattle.wad_look.specs.Opening.{bytes_of};
-ghost use Rattle.wadlook.specs.Files.{AreHeld, RefusesFile, RefusesPaths, max_read, total_length};
+ghost use Rattle.wadlook.specs.Files.{AreHeld, RefusesFile, RefusesPaths, total_length};
 
 use crate::refusal::Refusal;
 use le_rec::{EndFault, FromRead};
@@ -56,7 +56,7 @@ pub fn read_files<S: Storage>(
     ensures held { IfOk result (λ files. AreHeld (S.held storage.now)
         (map string_bytes paths.now) (bytes_of files.items)) }
     ensures count { IfOk result (λ files. vec_len files ≡ length paths.now) }
-    ensures few { IfOk result (λ files. total_length (bytes_of files.items) ≤ max_read) }
+    ensures few { IfOk result (λ files. total_length (bytes_of files.items) ≤ MAX_READ) }
     ensures refused { IfErr result (RefusesPaths (S.held storage.now) (map string_bytes paths.now)) }
 {
     let mut files = Vec::new(alloc);
@@ -83,7 +83,7 @@ fn read_file<S: Storage>(
     path: &str,
     limit: u64,
 ) -> Result<Vec<u8>, RunFault>
-    requires { limit ≤ max_read }
+    requires { limit ≤ MAX_READ }
     ensures held { IfOk result (λ file. Keeps (S.held storage.now path.now) (Some file.items)) }
     ensures few { IfOk result (λ file. vec_len file ≤ limit) }
     ensures refused { IfErr result (RefusesFile (S.held storage.now path.now) limit) }

@@ -1,6 +1,7 @@
 //! The program `wadlook`: it reads its words and its files, runs the command over them, and tells how that ended.
 #![tactic(auto)]
 
+mod block_source;
 mod files;
 mod program;
 mod refusal;

@@ -6,12 +6,13 @@ ghost use Rattle.wad_look.specs.declared.fault.RunFault.TheVariants.{Memory, Wri
 ghost use Rattle.wadlook.specs.Program.{DoesWords, IsStopped, ListsPath, RunsFiles, program_end};
 ghost use Rattle.wadlook.specs.Tied.{file_source, tied_sink, tied_source};
 
+use crate::block_source::BlockSource;
 use crate::files::{Storage, read_files};
 use crate::refusal::Refusal;
 use le_rec::{FromRead, ToWrite};
-use line_io::{BUFFER, TiedReader, TiedWriter};
+use line_io::{TiedReader, TiedWriter};
 use std::alloc::Global;
-use std::io::{BufReader, Read, Write};
+use std::io::{Read, Write};
 use wad_look::{Cmd, Job, RunFault, job, run};
 
 /// Does what the words ask for: whether it was done without a fault found.
@@ -22,7 +23,7 @@ pub fn do_words<D: Storage, I: Read + Drop, O: Write + Drop>(
     reader: I,
     writer: O,
 ) -> Result<bool, Refusal>
-    ensures { DoesWords (tied_source I O I.remaining) (file_source D.File Global D.File.remaining) (tied_sink O)
+    ensures { DoesWords (tied_source I O I.remaining) (file_source D.File D.File.remaining) (tied_sink O)
         (D.held storage.now) (I.remaining reader) (map string_bytes words.now) result }
 {
     let Some(job) = job(words) else {
@@ -64,19 +65,18 @@ fn list_file<D: Storage, O: Write + Drop>(
     writer: O,
 ) -> Result<bool, Refusal>
     ensures { IsStopped (D.held storage.now) job.now result
-        ⊎ ListsPath (file_source D.File Global D.File.remaining) (tied_sink O) (D.held storage.now) job.now result }
+        ⊎ ListsPath (file_source D.File D.File.remaining) (tied_sink O) (D.held storage.now) job.now result }
 {
     let paths = job.paths();
     let Ok(file) = storage.open(paths[0].as_str()) else {
         return Err(Refusal::Unreadable(1));
     };
-    let Ok(buffer) = BufReader::with_capacity(alloc, BUFFER, file) else {
+    let Ok(mut demo) = BlockSource::new(alloc, file) else {
         return Err(Refusal::Run(RunFault::Memory));
     };
     let Ok(output) = TiedWriter::new(alloc, writer) else {
         return Err(Refusal::Run(RunFault::Memory));
     };
-    let mut demo = FromRead::new(buffer);
     let mut listing = ToWrite::new(&output);
     let ended = run(alloc, job, &[], &mut demo, &mut listing);
     program_end(closed(&output, ended))

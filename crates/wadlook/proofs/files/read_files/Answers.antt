@@ -1,7 +1,8 @@
 use Rattle.std.proofs.Common.{rules, ◌≡◌, ◌<◌, ℕ, ◌+◌, [], ◌∷◌, ◌++◌, length, vec_len, map, string_bytes, Some, IfSome, arith, subst, ap, ◌∙◌, Vec, Global}
 use Rattle.std.specs.Io.KnownBytes.{Keeps}
 use Rattle.std.proofs.lemmas.List.{map_push}
-use Rattle.wadlook.specs.Files.{RefusesFile, max_read, total_length}
+use Rattle.line_io.specs.declared.input.TheConstants.{MAX_READ}
+use Rattle.wadlook.specs.Files.{RefusesFile, total_length}
 use Rattle.wadlook.proofs.FileLemmas.{held_more, reached, too_long, is_over, total_length-push}
 use Rattle.wadlook.proofs.files.read_files.Goals as goal
 
@@ -12,7 +13,7 @@ returns-in-Err-TooLong-clause-refused g c =
     let fault = subst (RefusesFile (held c.as_str.result.now) c.loop-i.left) c.in-Err-TooLong.field-0-is c.in-Err-TooLong.ensures.refused in
     too_long held string_bytes c.args.paths.now c.index-paths-i.result c.loop-i.i (omega arith) c.index-paths-i.is
     (map (λ (f : Vec ℕ Global). f.items) c.loop-i.files.items) inv.0 (omega (arith, inv.1))
-    (subst (λ p. IfSome (held p) (λ file. max_read < total_length (map (λ (f : Vec ℕ Global). f.items) c.loop-i.files.items) + length file)) c.as_str.ensures.value
+    (subst (λ p. IfSome (held p) (λ file. MAX_READ < total_length (map (λ (f : Vec ℕ Global). f.items) c.loop-i.files.items) + length file)) c.as_str.ensures.value
     (is_over (held c.as_str.result.now) c.loop-i.left _ inv.1 fault))
 
 pub returns-in-Err-clause-refused : goal.returns-in-Err-clause-refused
@@ -34,6 +35,6 @@ loop-i-preserved g c =
     let long : length file ≡ vec_len c.in-Ok.file = search rules in
     rw pushed (
       held_more held string_bytes c.args.paths.now c.index-paths-i.result c.loop-i.i (omega arith) c.index-paths-i.is files file inv.0 one,
-      rw (c.len.ensures, ← long) (total_length-push files file c.loop-i.left max_read inv.1 (rw long c.in-Ok.ensures.few)),
+      rw (c.len.ensures, ← long) (total_length-push files file c.loop-i.left MAX_READ inv.1 (rw long c.in-Ok.ensures.few)),
       search rules,
     )

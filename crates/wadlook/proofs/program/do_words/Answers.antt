@@ -1,4 +1,4 @@
-use Rattle.std.proofs.Common.{rules, ◌≢◌, ◌∙◌, Err, map, string_bytes, inl, inr, refl, sym, subst, ap}
+use Rattle.std.proofs.Common.{rules, ◌≢◌, ◌∙◌, Err, map, string_bytes, inl, refl, subst, ap}
 use Rattle.std.proofs.lemmas.Result.{err_from_is_err_and}
 use Rattle.wad_look.specs.Opening.{bytes_of}
 use Rattle.wad_look.specs.declared.command.Cmd.TheVariants.{Lmp}

@@ -1,8 +1,7 @@
 use Rattle.std.proofs.Common.{◌≡◌, ◌∙◌, ap, arith, inl, inr, length, refl, rules, slice_index_or, string_bytes, subst, sym, Global, List, [], ℕ}
 use Rattle.std.proofs.lemmas.List.{get_or-map, length-map}
 use Rattle.std.specs.Io.KnownBytes.{Keeps}
-use Rattle.std.specs.Io.Buffered.{reader_remaining}
-use Rattle.wadlook.proofs.ProgramLemmas.{buffered_whole, first_reached}
+use Rattle.wadlook.proofs.ProgramLemmas.{first_reached}
 use Rattle.wadlook.specs.Tied.{file_source}
 use Rattle.wadlook.specs.declared.refusal.Refusal.TheVariants.{Unreadable}
 use Rattle.wadlook.proofs.program.list_file.Goals as goal
@@ -19,11 +18,8 @@ returns-in_default g c =
 pub returns : goal.returns
 returns g c =
     let held = g.D.Storage.held c.args.storage.now in
-    let made = c.in-Ok-with_capacity.ensures in
     let remaining = g.D.File.Read.remaining in
-    let whole : reader_remaining remaining c.in-Ok-with_capacity.buffer ≡ remaining c.in-Ok.file =
-    buffered_whole remaining c.in-Ok-with_capacity.buffer c.in-Ok.file made.capacity made.empty made.inner in
-    let left : (file_source _ _ remaining c.new-demo.result).left ≡ remaining c.in-Ok.file = ap (reader_remaining remaining) c.new-demo.ensures.reader ∙ whole in
+    let left : (file_source _ remaining c.in-Ok-new.demo).left ≡ remaining c.in-Ok.file = c.in-Ok-new.ensures.left in
     let opened : Keeps (held (string_bytes {Z = Global} c.index-paths-0.result)) (remaining c.in-Ok.file) =
     subst (λ (p : List ℕ). Keeps (held p) (remaining c.in-Ok.file)) c.as_str.ensures.value c.in-Ok.ensures in
     let named : slice_index_or c.args.job.now.paths 0 [] ≡ string_bytes {Z = Global} c.index-paths-0.result =
@@ -31,10 +27,10 @@ returns g c =
     ∙ get_or-map (string_bytes {Z = Global}) c.paths-paths.result.now 0 c.index-paths-0.result [] c.paths-paths.ensures.some
     ∙ ap (string_bytes {Z = Global}) (sym c.index-paths-0.is) in
     inr (record {
-      left = (file_source _ _ remaining c.new-demo.result).left;
+      left = (file_source _ remaining c.in-Ok-new.demo).left;
       opened = rw (named, left) opened;
       runs = record {
-        input = c.new-demo.result;
+        input = c.in-Ok-new.demo;
         input' = c.run-ended.new.input;
         out = c.new-listing.result;
         out' = c.run-ended.new.out;

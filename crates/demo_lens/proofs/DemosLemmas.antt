@@ -6,7 +6,7 @@ use Rattle.std.specs.Io.KnownBytes.{Appends}
 use Rattle.std.specs.List.{slice_get}
 use Rattle.std.proofs.KnownBytes.{Appends-nil, Appends-trans}
 use Rattle.le_rec.specs.Sink.{SinkState}
-use Rattle.line_io.proofs.WriteLemmas.{TakesFront-after, TakesText-nothing}
+use Rattle.line_io.proofs.WriteLemmas.{TakesText-nothing}
 use Rattle.line_io.specs.Writes.{Writes}
 use Rattle.line_io.specs.declared.fault.IoFault.{IoFault}
 use Rattle.wad_dir.specs.Entries.{joined, names}
@@ -107,11 +107,18 @@ entry_stopped asked files before between after g all why so_far wrote = go wrote
     go (Err e) writes ended =
         let same : fault.Write wrote.all_read ≡ why = cc in
         subst (λ (w : DemosFault). TellsSome asked files before after (fault_after all w)) same (record {
-          g = g + 1;
-          text = so_far.text ++ wrote.text;
-          told = with_entry g so_far.text wrote.text all wrote.all_read so_far.told wrote.is;
-          took = TakesFront-after before between after so_far.text so_far.took writes.takes.front;
+          g = g;
+          text = so_far.text;
+          all = all;
+          told = so_far.told;
+          between = between;
+          took = so_far.took;
+          line = wrote.text;
+          one = wrote.all_read;
+          is = wrote.is;
+          front = writes.takes.front;
           failed = line_stopped between after wrote.text e writes;
+          says = refl;
         })
 
 -- all entries were told

@@ -75,13 +75,20 @@ pub record TellsAll (asked : Asked) (files : List Wad) (before after : SinkState
   pub took : Appends before.taken after.taken text
   pub sound : after.failed ≡ false
 
--- a write failed within the text of an entry; up to there and with it, were all demos read?
+-- all entries below one were told, and a write failed within its text; up to there and with it, were all demos read?
 pub record StopsTelling (asked : Asked) (files : List Wad) (before after : SinkState) (all_read : Bool) : Type 0 where
   pub g : ℕ
   pub text : List ℕ
-  pub told : ToldTo asked files g text all_read
-  pub took : TakesFront before after text
+  pub all : Bool
+  pub told : ToldTo asked files g text all
+  pub between : SinkState
+  pub took : Appends before.taken between.taken text
+  pub line : List ℕ
+  pub one : Bool
+  pub is : IsEntryTold asked files g line one
+  pub front : TakesFront between after line
   pub failed : after.failed ≡ true
+  pub says : all_read ≡ all && one
 
 -- why not all entries were told
 abbrev pub TellsSome : Asked → List Wad → SinkState → SinkState → DemosFault → Type 0

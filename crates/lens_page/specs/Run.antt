@@ -9,7 +9,7 @@ use Rattle.lens_page.specs.declared.run.LensFault.TheVariants.{Usage, Full}
 use Rattle.lens_page.specs.declared.words.Asked.{Asked}
 use Rattle.lens_page.specs.declared.words.Word.{Word}
 use Rattle.lens_page.specs.declared.words.Word.TheVariants.{Check, Survey, Demos, Cut}
-use Rattle.lens_run.specs.CutJob.{cut_fault_line}
+use Rattle.lens_run.specs.CutJob.{IsOfFile, cut_fault_line}
 use Rattle.lens_run.specs.Job.{closing_line}
 use Rattle.lens_run.specs.Run.{no_tally, tally_with}
 use Rattle.lens_run.specs.declared.tell.Asked.{Asked as FileAsked}
@@ -39,6 +39,7 @@ pub record CutsOut (entry : ℕ) (bytes : List ℕ) (out out' errors errors' : S
 -- it wasn't, which was told
 pub record CutsNone (entry : ℕ) (path bytes : List ℕ) (out out' errors errors' : SinkState) (verdict : Verdict) : Type 0 where
   pub why : CutFault
+  pub of_file : IsOfFile why
   pub holds : RefusesCut bytes entry why
   pub untouched : out' ≡ out
   pub message : Appends errors.taken errors'.taken (cut_fault_line path why)

@@ -9,7 +9,7 @@ use Rattle.wad_lens.specs.declared.cut.CutFault.{CutFault}
 use Rattle.wad_lens.specs.declared.cut.CutFault.TheVariants as fault
 use Rattle.wad_lens.specs.declared.verdict.Verdict.{Verdict}
 use Rattle.wad_lens.specs.declared.verdict.Verdict.TheVariants.{Clean}
-use Rattle.lens_run.specs.CutJob.{CutsOut}
+use Rattle.lens_run.specs.CutJob.{CutsOut, IsOfFile}
 use Rattle.lens_run.specs.Job.{TellsRest, output_end}
 use Rattle.lens_run.specs.Output.{is_closed, output_state}
 use Rattle.lens_run.specs.declared.end.End.{End}
@@ -72,3 +72,13 @@ module _ {W : Type 0} (contents : W → Option (List ℕ)) (bytes : List ℕ) (e
     where
       other : fault.Memory ≡ fault.Write → ⊥
       other same = cc
+
+-- what is told is of the file
+pub of_file : (why : CutFault) → (why ≡ fault.Memory → ⊥) → IsOfFile why
+of_file (fault.NoWad w) other = tt
+of_file fault.NoEntry other = tt
+of_file (fault.Incomplete k) other = tt
+of_file (fault.Outside k) other = tt
+of_file fault.TooLarge other = tt
+of_file fault.Memory other = absurd (other refl)
+of_file fault.Write other = tt

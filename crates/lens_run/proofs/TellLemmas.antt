@@ -13,7 +13,7 @@ use Rattle.wad_lens.specs.declared.verdict.Verdict.{Verdict}
 use Rattle.std.specs.Prelude.{IfErr, IfOk}
 use Rattle.wad_lens.specs.declared.object.Refusal.{Refusal}
 use Rattle.lens_run.specs.Run.{LeavesLevels, RefusesFile, StopsRefusal, WritesRefusal, fault_of}
-use Rattle.lens_run.specs.Run.{ChecksBytes, StopsAt, StopsPath, SurveysBytes, TellsPath, ToldTo, stop_after, tally_with, with_path}
+use Rattle.lens_run.specs.Run.{ChecksBytes, StopsAt, StopsPath, SurveysBytes, TellsPath, ToldTo, WantsAt, stop_after, tally_with, with_path}
 use Rattle.lens_run.specs.declared.tell.Asked.{Asked}
 use Rattle.lens_run.specs.declared.tell.Stop.{Stop}
 use Rattle.lens_run.specs.declared.tell.Stop.TheVariants as stop
@@ -50,13 +50,13 @@ survey_left state path bytes judging out out' why (inl left) = go why (subst (Re
     go : (f : FileFault) → RefusesSurvey bytes f → LeavesLevels state Survey path bytes judging out out' (fault_of f)
     go (engine.NoWad w) refuses = (refuses, left.untouched)
     go (engine.Write found) refuses = absurd refuses
-    go engine.Memory refuses = tt
+    go engine.Memory refuses = inl (ap state left.untouched)
 survey_left state path bytes judging out out' why (inr ran) = go why ran
   where
     go : (f : FileFault) → SurveysFile path bytes judging (state out) (state out') (Err f) → LeavesLevels state Survey path bytes judging out out' (fault_of f)
     go (engine.NoWad w) stopped = absurd stopped.does.some.stops
     go (engine.Write found) stopped = (stopped, stopped.does.some.stops.1)
-    go engine.Memory stopped = tt
+    go engine.Memory stopped = inr stopped
 
 -- a check that came to its end
 pub checked : {W : Type 0} (state : W → SinkState) (asked : CheckAsked) (bytes : List ℕ) (out out' : W) (totals : Totals) (tally : Tally)
@@ -88,13 +88,13 @@ check_left state asked bytes out out' why (inl left) = go why (subst (RefusesChe
     go : (f : FileFault) → RefusesCheck bytes f → LeavesLevels state (Check asked.most) asked.path bytes asked.judging out out' (fault_of f)
     go (engine.NoWad w) refuses = (refuses, left.untouched)
     go (engine.Write found) refuses = absurd refuses
-    go engine.Memory refuses = tt
+    go engine.Memory refuses = inl (ap state left.untouched)
 check_left state asked bytes out out' why (inr ran) = go why ran
   where
     go : (f : FileFault) → ChecksFile asked bytes (state out) (state out') (Err f) → LeavesLevels state (Check asked.most) asked.path bytes asked.judging out out' (fault_of f)
     go (engine.NoWad w) stopped = absurd stopped.does.some
     go (engine.Write found) stopped = (stopped, stopped.does.some.failed)
-    go engine.Memory stopped = tt
+    go engine.Memory stopped = inr stopped
 
 -- a refused file was told
 pub refused_told : (held : Option (List ℕ)) (asked : Asked) (path : List ℕ) (refusal : Refusal) (out out' errors errors' : SinkState) (result : Result Tally Stop)
@@ -111,6 +111,14 @@ refused_stopped held asked path refusal out out' errors errors' (Err stop.Memory
 refused_stopped held asked path refusal out out' errors errors' (Err (stop.Output found)) why stops = inr (record { refusal = refusal; why = why; stops = stops })
 refused_stopped held asked path refusal out out' errors errors' (Err stop.Errors) why stops = inr (record { refusal = refusal; why = why; stops = stops })
 
+-- telling it takes no memory
+pub refused_wants : (held : Option (List ℕ)) (asked : Asked) (path : List ℕ) (refusal : Refusal) (out errors between out' between_errors errors' : SinkState) (result : Result Tally Stop)
+    → IfErr result (StopsRefusal asked.word path refusal between out' between_errors errors') → IfErr result (WantsAt held asked path out out' errors errors')
+refused_wants held asked path refusal out errors between out' between_errors errors' (Ok tally) stops = tt
+refused_wants held asked path refusal out errors between out' between_errors errors' (Err stop.Memory) stops = absurd stops
+refused_wants held asked path refusal out errors between out' between_errors errors' (Err (stop.Output found)) stops = tt
+refused_wants held asked path refusal out errors between out' between_errors errors' (Err stop.Errors) stops = tt
+
 module _ {P : Type 0} (path_of : P → List ℕ) (paths : List P) (i : ℕ) (d : P) (within : i < length paths) (held : List ℕ → Option (List ℕ)) (asked : Asked) (out errors between between_errors after after_errors : SinkState) where
   -- one path more
   pub told_more : (sum tally : Tally) → ToldTo held asked out errors (map path_of (take i paths)) between between_errors sum
@@ -125,8 +133,9 @@ module _ {P : Type 0} (path_of : P → List ℕ) (paths : List P) (i : ℕ) (d :
   -- it stopped at a path
   pub stopped_at : (sum : Tally) (at_path : Stop) → ToldTo held asked out errors (map path_of (take i paths)) between between_errors sum
       → StopsPath (held (path_of (get_or paths i d))) asked (path_of (get_or paths i d)) between after between_errors after_errors at_path
+      → WantsAt (held (path_of (get_or paths i d))) asked (path_of (get_or paths i d)) between after between_errors after_errors at_path
       → StopsAt held asked (map path_of paths) out errors after after_errors (stop_after sum.verdict at_path)
-  stopped_at sum at_path so_far stops = record {
+  stopped_at sum at_path so_far stops wants = record {
     before = map path_of (take i paths);
     path = path_of (get_or paths i d);
     after = map path_of (drop (i + 1) paths);
@@ -139,5 +148,6 @@ module _ {P : Type 0} (path_of : P → List ℕ) (paths : List P) (i : ℕ) (d :
     told = so_far;
     at_path = at_path;
     stops = stops;
+    wants = wants;
     is = refl;
   }

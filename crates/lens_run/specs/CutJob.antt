@@ -30,6 +30,11 @@ cut_fault_end fault.TooLarge = Err end.Refused
 cut_fault_end fault.Memory = Err end.Memory
 cut_fault_end fault.Write = Err end.Refused
 
+-- a fault of the file or of its level: no want of memory, of which nothing is told
+abbrev pub IsOfFile : CutFault → Type 0
+IsOfFile fault.Memory = ⊥
+IsOfFile _ = Unit {0}
+
 -- the level was cut out, and its file written
 pub record CutsOut {W : Type 0} (bytes : List ℕ) (entry : ℕ) (contents : W → Option (List ℕ)) (old new : Output W) (errors errors' : SinkState) (result : Result Verdict End) : Type 0 where
   pub text : List ℕ
@@ -40,6 +45,7 @@ pub record CutsOut {W : Type 0} (bytes : List ℕ) (entry : ℕ) (contents : W �
 -- it wasn't, which was told
 pub record CutsNone {W : Type 0} (bytes : List ℕ) (entry : ℕ) (path : List ℕ) (old new : Output W) (errors errors' : SinkState) (result : Result Verdict End) : Type 0 where
   pub fault : CutFault
+  pub of_file : IsOfFile fault
   pub why : RefusesCut bytes entry fault
   pub told : IsTold errors errors' (cut_fault_line path fault)
   pub untouched : new ≡ old

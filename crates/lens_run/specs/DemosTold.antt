@@ -1,5 +1,5 @@
 -- What is told of a file's demos (ours): those that are read are answered, and why others aren't stands on standard error.
-use Rattle.std.specs.Prelude.{◌≡◌, ℕ, Bool, true, false, List, None, Result, Ok, Err, MatchBool}
+use Rattle.std.specs.Prelude.{◌≡◌, ◌⊎◌, ℕ, Bool, true, false, List, None, Result, Ok, Err, MatchBool}
 use Rattle.demo_lens.specs.Demos.{Asked, IsDemoTold, TellsWad, WritesTold, is_wad_file}
 use Rattle.demo_lens.specs.declared.demos.DemosFault.{DemosFault}
 use Rattle.demo_lens.specs.declared.demos.DemosFault.TheVariants.{Write}
@@ -60,15 +60,15 @@ pub record StopsDemos (form : DemoForm) (path bytes : List ℕ) (out out' : Sink
   pub told : TellsDemos (answers_in form path) bytes out out' (Err (Write all_read))
   pub counts : found ≡ demos_verdict all_read
 
--- standard error failed, or a growth was refused
+-- standard error failed, or a growth was refused, and then it was told nothing
 abbrev pub StopsOthers : List ℕ → List ℕ → SinkState → SinkState → BytesFault → Type 0
 StopsOthers path bytes before after (fault.NoWad why) = ⊥
 StopsOthers path bytes before after (fault.Output found) = ⊥
 StopsOthers path bytes before after fault.Errors =
     (all_read : Bool) × TellsDemos (refusals_of path) bytes before after (Err (Write all_read)) × (after.failed ≡ true)
-StopsOthers path bytes before after fault.Memory = Unit {0}
+StopsOthers path bytes before after fault.Memory = after ≡ before
 
--- why the demos of these bytes weren't all told
+-- why the demos of these bytes weren't all told; where there was no memory the demos that are read were answered, or nothing
 abbrev pub LeavesDemos : {W E : Type 0} → (W → SinkState) → (E → SinkState) → DemoForm → List ℕ → List ℕ → W → W → E → E → BytesFault → Type 0
 LeavesDemos state state' form path bytes out out' errors errors' (fault.NoWad why) = RefusesWad bytes why × (out' ≡ out) × (errors' ≡ errors)
 LeavesDemos state state' form path bytes out out' errors errors' (fault.Output found) =
@@ -76,4 +76,5 @@ LeavesDemos state state' form path bytes out out' errors errors' (fault.Output f
 LeavesDemos state state' form path bytes out out' errors errors' fault.Errors =
     TellsDemos (answers_in form path) bytes (state out) (state out') (Ok false)
     × StopsOthers path bytes (state' errors) (state' errors') fault.Errors
-LeavesDemos state state' form path bytes out out' errors errors' fault.Memory = Unit {0}
+LeavesDemos state state' form path bytes out out' errors errors' fault.Memory =
+    ((state out' ≡ state out) ⊎ TellsDemos (answers_in form path) bytes (state out) (state out') (Ok false)) × (state' errors' ≡ state' errors)

@@ -26,6 +26,7 @@ pub record IsFresh {W : Type 0} (writer : W) (output : Output W) : Type 0 where
   pub over : writer_inner output.buffer ≡ writer
   pub empty : held_back output ≡ []
   pub sound : output.failed ≡ false
+  pub unclosed : is_closed output ≡ false
 
 abbrev pub is_broken_pipe : ErrorKind → Bool
 is_broken_pipe BrokenPipe = true

@@ -8,6 +8,7 @@ use Rattle.wad_dir.specs.Wad.{IsRead, Wad}
 use Rattle.wad_dir.specs.declared.wad.WadFault.{WadFault}
 use Rattle.line_io.specs.Writes.{TakesFront, Writes}
 use Rattle.line_io.specs.declared.fault.IoFault.{IoFault}
+use Rattle.line_io.specs.declared.input.TheConstants.{MAX_READ}
 use Rattle.wad_lens.specs.Check.{ChecksAll, ChecksFile}
 use Rattle.wad_lens.specs.Objects.{refusal_text, refused_object}
 use Rattle.wad_lens.specs.Survey.{SurveysAll, SurveysFile, graver}
@@ -19,7 +20,7 @@ use Rattle.wad_lens.specs.declared.verdict.FileFault.TheVariants as engine
 use Rattle.wad_lens.specs.declared.verdict.Verdict.{Verdict}
 use Rattle.wad_lens.specs.declared.verdict.Verdict.TheVariants.{Clean, Unjudged}
 use Rattle.lens_run.specs.DemosTold.{StopsDemos, StopsOthers, TellsDemos, TellsDemosOf, answers_in}
-use Rattle.lens_run.specs.Files.{RefusesRead, max_read}
+use Rattle.lens_run.specs.Files.{RefusesRead}
 use Rattle.lens_run.specs.declared.files.ReadFault.TheVariants.{Refused}
 use Rattle.lens_run.specs.declared.tell.Asked.{Asked}
 use Rattle.lens_run.specs.declared.tell.BytesFault.{BytesFault}
@@ -98,20 +99,29 @@ StopsErrors (Check most) path bytes out out' errors errors' = ⊥
 StopsErrors (Demos form) path bytes out out' errors errors' =
     TellsDemos (answers_in form path) bytes out out' (Ok false) × StopsOthers path bytes errors errors' fault.Errors
 
+-- there was no memory to tell all of these bytes: nothing was answered, or what is told of the levels in front, or of the demos that are read
+abbrev pub TellsFirst : Word → List ℕ → List ℕ → Judging → SinkState → SinkState → Type 0
+TellsFirst Survey path bytes judging before after = (after ≡ before) ⊎ SurveysFile path bytes judging before after (Err engine.Memory)
+TellsFirst (Check most) path bytes judging before after =
+    (after ≡ before) ⊎ ChecksFile (record { path = path; most = most; judging = judging }) bytes before after (Err engine.Memory)
+TellsFirst (Demos form) path bytes judging before after = (after ≡ before) ⊎ TellsDemos (answers_in form path) bytes before after (Ok false)
+
 -- how an engine's fault is told
 abbrev pub fault_of : FileFault → BytesFault
 fault_of (engine.NoWad why) = fault.NoWad why
 fault_of (engine.Write found) = fault.Output found
 fault_of engine.Memory = fault.Memory
 
--- why bytes aren't gone over to their end: they have no directory, and nothing was written; or an end failed
+-- why bytes aren't gone over to their end: they have no directory, and nothing was written; or an end failed; or there was no memory, and
+-- standard error was told nothing
 abbrev pub LeavesBytes : {W E : Type 0} → (W → SinkState) → (E → SinkState) → Word → List ℕ → List ℕ → Judging → W → W → E → E → BytesFault → Type 0
 LeavesBytes state state' word path bytes judging out out' errors errors' (fault.NoWad why) = RefusesWad bytes why × (out' ≡ out) × (errors' ≡ errors)
 LeavesBytes state state' word path bytes judging out out' errors errors' (fault.Output found) =
     TellsSome word path bytes judging (state out) (state out') found × ((state out').failed ≡ true) × (state' errors' ≡ state' errors)
 LeavesBytes state state' word path bytes judging out out' errors errors' fault.Errors =
     StopsErrors word path bytes (state out) (state out') (state' errors) (state' errors')
-LeavesBytes state state' word path bytes judging out out' errors errors' fault.Memory = Unit {0}
+LeavesBytes state state' word path bytes judging out out' errors errors' fault.Memory =
+    TellsFirst word path bytes judging (state out) (state out') × (state' errors' ≡ state' errors)
 
 -- of levels, which are told on standard output alone
 abbrev pub LeavesLevels : {W : Type 0} → (W → SinkState) → Word → List ℕ → List ℕ → Judging → W → W → BytesFault → Type 0
@@ -119,13 +129,13 @@ LeavesLevels state word path bytes judging out out' (fault.NoWad why) = RefusesW
 LeavesLevels state word path bytes judging out out' (fault.Output found) =
     TellsSome word path bytes judging (state out) (state out') found × ((state out').failed ≡ true)
 LeavesLevels state word path bytes judging out out' fault.Errors = ⊥
-LeavesLevels state word path bytes judging out out' fault.Memory = Unit {0}
+LeavesLevels state word path bytes judging out out' fault.Memory = TellsFirst word path bytes judging (state out) (state out')
 
 -- the file under a path was told
 pub record TellsHeld (held : Option (List ℕ)) (asked : Asked) (path : List ℕ) (out out' errors errors' : SinkState) (tally : Tally) : Type 0 where
   pub bytes : List ℕ
   pub are : Keeps held (Some bytes)
-  pub few : length bytes ≤ max_read
+  pub few : length bytes ≤ MAX_READ
   pub told : TellsWord asked.word path bytes asked.judging out out' errors errors' tally
 
 -- the bytes under a path, where they are known, have no directory
@@ -205,6 +215,22 @@ StopsPath held asked path out out' errors errors' (stop.Output found) =
 StopsPath held asked path out out' errors errors' stop.Errors =
     StopsOnErrors held asked path out out' errors errors' ⊎ StopsRefusing held asked.word path out out' errors errors' stop.Errors
 
+-- the file under a path was read, and there was no memory to tell all of it
+pub record TellsHeldFirst (held : Option (List ℕ)) (asked : Asked) (path : List ℕ) (out out' : SinkState) : Type 0 where
+  pub bytes : List ℕ
+  pub are : Keeps held (Some bytes)
+  pub told : TellsFirst asked.word path bytes asked.judging out out'
+
+-- what was told of the file under a path where there was no memory: nothing, or the first of what its bytes are told by
+pub record WantsMore (held : Option (List ℕ)) (asked : Asked) (path : List ℕ) (out out' errors errors' : SinkState) : Type 0 where
+  pub answered : (out' ≡ out) ⊎ TellsHeldFirst held asked path out out'
+  pub silent : errors' ≡ errors
+
+abbrev pub WantsAt : Option (List ℕ) → Asked → List ℕ → SinkState → SinkState → SinkState → SinkState → Stop → Type 0
+WantsAt held asked path out out' errors errors' stop.Memory = WantsMore held asked path out out' errors errors'
+WantsAt held asked path out out' errors errors' (stop.Output found) = Unit {0}
+WantsAt held asked path out out' errors errors' stop.Errors = Unit {0}
+
 -- a run stopped at a path, and all before it were told
 pub record StopsAt (held : List ℕ → Option (List ℕ)) (asked : Asked) (paths : List (List ℕ)) (out errors out' errors' : SinkState) (stop : Stop) : Type 0 where
   pub before : List (List ℕ)
@@ -217,4 +243,5 @@ pub record StopsAt (held : List ℕ → Option (List ℕ)) (asked : Asked) (path
   pub told : ToldTo held asked out errors before out_before errors_before found
   pub at_path : Stop
   pub stops : StopsPath (held path) asked path out_before out' errors_before errors' at_path
+  pub wants : WantsAt (held path) asked path out_before out' errors_before errors' at_path
   pub is : stop ≡ stop_after found.verdict at_path

@@ -1,9 +1,18 @@
 -- The status with which the program ends (ours).
-use Rattle.std.specs.Prelude.{ℕ, Result, Ok, Err}
+use Rattle.std.specs.Prelude.{ℕ, List, codes, Option, Some, None, Result, Ok, Err}
 use Rattle.wad_lens.specs.declared.verdict.Verdict.{Verdict}
 use Rattle.wad_lens.specs.declared.verdict.Verdict.TheVariants.{Clean, Unjudged, Faulty}
 use Rattle.lens_run.specs.declared.end.End.{End}
 use Rattle.lens_run.specs.declared.end.End.TheVariants as end
+
+-- what standard error is told of an end: nothing where it was told before, can't be told, or has no reader
+abbrev pub end_message : End → Option (List ℕ)
+end_message end.Memory = Some (codes "no memory left")
+end_message end.Output = Some (codes "standard output can't be written")
+end_message (end.Closed found) = None
+end_message end.Errors = None
+end_message end.Refused = None
+end_message end.Told = None
 
 -- by what was found: a fault goes before what isn't judged
 abbrev pub status_of : Verdict → ℕ

@@ -33,8 +33,14 @@ impl From<AllocError> for End {
 }
 
 impl End {
+    ghost use Rattle.std.specs.Prelude.{◌≡◌};
+    ghost use Rattle.std.specs.Option.{option_map};
+    ghost use Rattle.lens_run.specs.Status.{end_message};
+
     /// What standard error is told of it, where it wasn't told before.
-    pub fn message(self) -> Option<&'static str> {
+    pub fn message(self) -> Option<&'static str>
+        ensures { option_map (λ text. text.now) result ≡ end_message self }
+    {
         match self {
             End::Memory => Some("no memory left"),
             End::Output => Some("standard output can't be written"),

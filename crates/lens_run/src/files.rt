@@ -1,7 +1,7 @@
 //! The files of a run, one after another.
 ghost use Rattle.std.specs.Prelude.{◌≤◌, vec_len, Some, IfOk, IfErr};
 ghost use Rattle.std.specs.Io.KnownBytes.{Keeps};
-ghost use Rattle.lens_run.specs.Files.{RefusesRead, max_read};
+ghost use Rattle.lens_run.specs.Files.{RefusesRead};
 
 use le_rec::{EndFault, FromRead};
 use line_io::{IoFault, MAX_READ, read_again};
@@ -38,7 +38,7 @@ pub enum ReadFault {
 /// Reads the file under a path to its end, in the memory of `room`, whose own bytes go.
 pub fn read_file<S: Storage>(room: Vec<u8>, storage: &S, path: &[u8]) -> Result<Vec<u8>, ReadFault>
     ensures held { IfOk result (λ file. Keeps (S.held storage.now path.now) (Some file.items)) }
-    ensures few { IfOk result (λ file. vec_len file ≤ max_read) }
+    ensures few { IfOk result (λ file. vec_len file ≤ MAX_READ) }
     ensures refused { IfErr result (RefusesRead (S.held storage.now path.now)) }
 {
     match storage.open(path) {
@@ -50,7 +50,7 @@ pub fn read_file<S: Storage>(room: Vec<u8>, storage: &S, path: &[u8]) -> Result<
 /// Reads an input to its end, in the memory of `room`, whose own bytes go.
 pub fn read_whole<R: Read + Drop>(room: Vec<u8>, input: R) -> Result<Vec<u8>, ReadFault>
     ensures held { IfOk result (λ file. Keeps (R.remaining input) (Some file.items)) }
-    ensures few { IfOk result (λ file. vec_len file ≤ max_read) }
+    ensures few { IfOk result (λ file. vec_len file ≤ MAX_READ) }
     ensures refused { IfErr result (RefusesRead (R.remaining input)) }
 {
     match read_again(room, &mut FromRead::new(input), MAX_READ) {

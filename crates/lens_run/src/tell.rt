@@ -2,9 +2,8 @@
 ghost use Rattle.std.specs.Prelude.{◌≡◌, ◌++◌, codes, false, map, IfOk, IfErr, OnOk};
 ghost use Rattle.line_io.specs.Writes.{Writes};
 ghost use Rattle.wad_lens.specs.Objects.{refusal_text};
-ghost use Rattle.lens_run.specs.Files.{max_read};
 ghost use Rattle.lens_run.specs.Run.{AreSound, ChecksBytes, LeavesBytes, LeavesLevels, StopsAt, StopsPath, StopsRefusal, SurveysBytes};
-ghost use Rattle.lens_run.specs.Run.{TellsPath, TellsWord, ToldTo, WritesRefusal, no_tally, refusal_answer, refusal_line};
+ghost use Rattle.lens_run.specs.Run.{TellsPath, TellsWord, ToldTo, WantsAt, WritesRefusal, no_tally, refusal_answer, refusal_line};
 ghost use Rattle.lens_run.specs.Run.{stop_after, tally_with};
 ghost use Rattle.lens_run.specs.declared.tell.Word.TheVariants as word;
 
@@ -174,6 +173,8 @@ fn tell_path<S: Storage, W: Sink, E: Sink, P: Watch>(
         (W.state out.old) (W.state out.new) (E.state errors.old) (E.state errors.new)) }
     ensures sound { OnOk result (AreSound (W.state out.new) (E.state errors.new)) }
     ensures stopped { IfErr result (StopsPath (S.held storage.now path.now) asked path.now
+        (W.state out.old) (W.state out.new) (E.state errors.old) (E.state errors.new)) }
+    ensures wanting { IfErr result (WantsAt (S.held storage.now path.now) asked path.now
         (W.state out.old) (W.state out.new) (E.state errors.old) (E.state errors.new)) }
 {
     match read_file(replace(room, Vec::new(alloc)), storage, path) {

@@ -1,5 +1,5 @@
 use Rattle.std.proofs.Common.{inl, inr, refl, rules}
-use Rattle.lens_run.proofs.CutLemmas.{cut_refused, cut_stopped, cut_wanting, cut_written}
+use Rattle.lens_run.proofs.CutLemmas.{cut_refused, cut_stopped, cut_wanting, cut_written, of_file}
 use Rattle.lens_run.proofs.cut.cut_bytes.Goals as goal
 
 pub returns-in-Ok : goal.returns-in-Ok
@@ -26,6 +26,7 @@ returns-in-Err g c =
     let left = cut_refused g.O.Write.contents c.args.bytes.now c.args.entry c.args.out.now c.cut_level.new.out (g.E.Sink.state c.args.errors.now) c.in-Err.fault c.in-Err.ensures.runs (search rules) in
     inr (inl (record {
       fault = c.in-Err.fault;
+      of_file = of_file c.in-Err.fault (search rules);
       why = left.0;
       told = (c.write_cut_line.result, c.write_cut_line.ensures);
       untouched = left.1;

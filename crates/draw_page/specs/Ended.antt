@@ -1,5 +1,5 @@
 -- How a run that draws ends, as the host reads it (ours).
-use Rattle.std.specs.Prelude.{◌≡◌, ◌⊎◌, ◌==◌, ◌<◌, ℕ, Bool, true, false, List, [], length, take, Option, Some, None, Result, Ok, Err, IfErr, IfOk, if◌then◌else◌}
+use Rattle.std.specs.Prelude.{◌≡◌, ◌⊎◌, ◌==◌, ◌<◌, ℕ, Bool, true, false, List, [], length, take, drop, Option, Some, None, Result, Ok, Err, IfErr, IfOk, if◌then◌else◌}
 use Rattle.draw_page.specs.Draw.{DrawsFirst, RefusesFirst}
 use Rattle.draw_page.specs.declared.Ended.{Ended}
 use Rattle.draw_page.specs.declared.Question.{Question}
@@ -33,19 +33,22 @@ draw_status (Err (NoLevel why)) = 2
 draw_status (Err NothingToDraw) = 2
 draw_status (Err Full) = 3
 
--- what was asked was drawn or refused: the status tells which, and the picture stands at the front of `out`
-pub record Drew (file : List ℕ) (question : Question) (out : List ℕ) (ended : Ended) : Type 0 where
+-- what was asked was drawn or refused: the status tells which, and the picture stands at the front of `out`, and
+-- what lies behind it stayed
+pub record Drew (file : List ℕ) (question : Question) (out out' : List ℕ) (ended : Ended) : Type 0 where
   pub asked : Asked
   pub is : IsQuestion question asked
   pub sink : ToVec
   pub sink' : ToVec
   pub empty : sink.taken ≡ []
   pub outcome : Result Bool PictureFault
+  pub room : ¬ (outcome ≡ Err Full)
   pub drawn : IfOk outcome (DrawsFirst file (reading_of question.wide) asked (state_of sink) (state_of sink'))
   pub refused : IfErr outcome (RefusesFirst file (reading_of question.wide) asked sink sink')
   pub status : ended.status ≡ draw_status outcome
   pub answered : ended.answered ≡ length sink'.taken
-  pub picture : take ended.answered out ≡ sink'.taken
+  pub picture : take ended.answered out' ≡ sink'.taken
+  pub behind : drop ended.answered out' ≡ drop ended.answered out
 
 -- a frame is asked for whose lower bounds are past its upper ones
 pub record IsNoFrame (question : Question) : Type 0 where
@@ -62,5 +65,5 @@ pub record AnswersNothing (question : Question) (ended : Ended) : Type 0 where
   pub answered : ended.answered ≡ 0
 
 -- how a run ends
-abbrev pub DrawEnds : List ℕ → Question → List ℕ → Ended → Type 0
-DrawEnds file question out ended = AnswersNothing question ended ⊎ Drew file question out ended
+abbrev pub DrawEnds : List ℕ → Question → List ℕ → List ℕ → Ended → Type 0
+DrawEnds file question out out' ended = AnswersNothing question ended ⊎ Drew file question out out' ended

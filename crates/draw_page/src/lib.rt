@@ -52,7 +52,7 @@ pub extern "C" fn draw_run(
     out: &mut [u8],
     ended: &mut Ended,
 )
-    ensures { DrawEnds file.now question.now out.new ended.new }
+    ensures { DrawEnds file.now question.now out.old out.new ended.new }
 {
     ended.status = 3;
     ended.answered = 0;

@@ -8,6 +8,12 @@ pub record LacksRoom (ended : Ended) : Type 0 where
   pub answered : ended.answered ≡ 0
   pub told : ended.told ≡ 0
 
+-- a text was copied to the front, and what lies behind it stayed
+pub record HandsOut (text old new : List ℕ) (count : ℕ) : Type 0 where
+  pub whole : count ≡ length text
+  pub front : take count new ≡ text
+  pub rest : drop count new ≡ drop count old
+
 -- as much of a text as there is room for was copied to the front, and what lies behind it stayed
 pub record TellsFront (text old new : List ℕ) (told : ℕ) : Type 0 where
   pub count : told ≡ min (length text) (length old)

@@ -1,5 +1,5 @@
 -- What words of `wadlens` do over files in memory (ours).
-use Rattle.std.specs.Prelude.{◌≡◌, ◌⊎◌, ℕ, List, [], length, take, codes, Some, Result, Ok, Err}
+use Rattle.std.specs.Prelude.{◌≡◌, ◌⊎◌, ℕ, List, [], codes, Some, Result, Ok, Err}
 use Rattle.le_rec.specs.Sink.{SinkState}
 use Rattle.lens_page.specs.Run.{RunsWords}
 use Rattle.lens_page.specs.declared.run.LensFault.{LensFault}
@@ -7,7 +7,7 @@ use Rattle.lens_page.specs.declared.run.LensFault.TheVariants.{Usage, Full}
 use Rattle.lens_run.specs.Status.{status_of}
 use Rattle.memory_ends.specs.ToVec.{ToVec, state_of as vec_state}
 use Rattle.wad_lens.specs.declared.verdict.Verdict.{Verdict}
-use Rattle.wad_page.specs.Ended.{LacksRoom}
+use Rattle.wad_page.specs.Ended.{HandsOut, LacksRoom}
 use Rattle.wad_page.specs.Look.{AreGiven}
 use Rattle.wad_page.specs.Parts.{AreWords, cut}
 use Rattle.wad_page.specs.declared.Ended.{Ended}
@@ -48,7 +48,7 @@ lens_message (Err Full) told = told
 
 -- it did what the words ask for: the status tells how that ended, the answer stands at the front of `out`, and what was told
 -- besides at the front of `why`
-pub record Lensed (words word_sizes files file_sizes out why : List ℕ) (ended : Ended) : Type 0 where
+pub record Lensed (words word_sizes files file_sizes out out' why why' : List ℕ) (ended : Ended) : Type 0 where
   pub asked : Parts
   pub words_are : AreGiven asked words word_sizes
   pub given : Parts
@@ -63,12 +63,10 @@ pub record Lensed (words word_sizes files file_sizes out why : List ℕ) (ended 
   pub room : ¬ (outcome ≡ Err Full)
   pub does : DoesLens vec_state vec_state asked given sink sink' messages messages' outcome
   pub status : ended.status ≡ lens_status outcome
-  pub answered : ended.answered ≡ length sink'.taken
-  pub answer : take ended.answered out ≡ sink'.taken
-  pub told : ended.told ≡ length (lens_message outcome messages'.taken)
-  pub message : take ended.told why ≡ lens_message outcome messages'.taken
+  pub answer : HandsOut sink'.taken out out' ended.answered
+  pub message : HandsOut (lens_message outcome messages'.taken) why why' ended.told
 
 -- or there was no room for it
-abbrev pub LensEnds : List ℕ → List ℕ → List ℕ → List ℕ → List ℕ → List ℕ → Ended → Type 0
-LensEnds words word_sizes files file_sizes out why ended =
-    LacksRoom ended ⊎ Lensed words word_sizes files file_sizes out why ended
+abbrev pub LensEnds : List ℕ → List ℕ → List ℕ → List ℕ → List ℕ → List ℕ → List ℕ → List ℕ → Ended → Type 0
+LensEnds words word_sizes files file_sizes out out' why why' ended =
+    LacksRoom ended ⊎ Lensed words word_sizes files file_sizes out out' why why' ended

@@ -1,5 +1,5 @@
 -- What words of `wadlook` do over files and an input in memory (ours).
-use Rattle.std.specs.Prelude.{◌≡◌, ◌⊎◌, ℕ, Bool, false, List, [], length, take, slice_index_or, Some, Result, Err}
+use Rattle.std.specs.Prelude.{◌≡◌, ◌⊎◌, ℕ, Bool, false, List, [], length, slice_index_or, Some, Result, Err}
 use Rattle.le_rec.specs.Sink.{SinkState}
 use Rattle.memory_ends.specs.FromSlice.{bytes_left, state_of as slice_state}
 use Rattle.memory_ends.specs.ToVec.{ToVec, state_of as vec_state}
@@ -11,7 +11,7 @@ use Rattle.wad_look.specs.declared.command.Cmd.{Cmd}
 use Rattle.wad_look.specs.declared.command.Cmd.TheVariants.{Lmp}
 use Rattle.wad_look.specs.declared.fault.RunFault.{RunFault}
 use Rattle.wad_look.specs.declared.fault.RunFault.TheVariants.{Memory}
-use Rattle.wad_page.specs.Ended.{LacksRoom, TellsFront}
+use Rattle.wad_page.specs.Ended.{HandsOut, LacksRoom, TellsFront}
 use Rattle.wad_page.specs.Parts.{AreWords, cut}
 use Rattle.wad_page.specs.Refusal.{exit_status_of, page_end, reason_text}
 use Rattle.wad_page.specs.declared.Ended.{Ended}
@@ -69,9 +69,9 @@ pub record AreGiven (parts : Parts) (bytes sizes : List ℕ) : Type 0 where
   pub bytes_are : parts.bytes.now ≡ bytes
   pub sizes_are : parts.sizes.now ≡ sizes
 
--- it did what the words ask for: the status tells how that ended, the answer stands whole at the front of `out`, and why there
+-- it did what the words ask for: the status tells how that ended, and not that there was no room, the answer stands whole at the front of `out`, and why there
 -- is none at the front of `why`
-pub record Looked (words word_sizes files file_sizes input out why why' : List ℕ) (ended : Ended) : Type 0 where
+pub record Looked (words word_sizes files file_sizes input out out' why why' : List ℕ) (ended : Ended) : Type 0 where
   pub asked : Parts
   pub words_are : AreGiven asked words word_sizes
   pub given : Parts
@@ -83,11 +83,11 @@ pub record Looked (words word_sizes files file_sizes input out why why' : List �
   pub does : DoesLook vec_state asked given input sink sink' outcome
   pub sound : sink'.failed ≡ false
   pub status : ended.status ≡ exit_status_of outcome
-  pub answered : ended.answered ≡ length sink'.taken
-  pub answer : take ended.answered out ≡ sink'.taken
+  pub room : ¬ (ended.status ≡ 3)
+  pub answer : HandsOut sink'.taken out out' ended.answered
   pub told : TellsFront (reason_text outcome) why why' ended.told
 
 -- or there was no room for it
-abbrev pub LookEnds : List ℕ → List ℕ → List ℕ → List ℕ → List ℕ → List ℕ → List ℕ → List ℕ → Ended → Type 0
-LookEnds words word_sizes files file_sizes input out why why' ended =
-    LacksRoom ended ⊎ Looked words word_sizes files file_sizes input out why why' ended
+abbrev pub LookEnds : List ℕ → List ℕ → List ℕ → List ℕ → List ℕ → List ℕ → List ℕ → List ℕ → List ℕ → Ended → Type 0
+LookEnds words word_sizes files file_sizes input out out' why why' ended =
+    LacksRoom ended ⊎ Looked words word_sizes files file_sizes input out out' why why' ended

@@ -32,9 +32,12 @@ pub struct Ended {
     pub told: usize,
 }
 
+// The status where there is no room.
+const FULL: u8 = 3;
+
 // How a run ends for which there is no room.
 const NO_ROOM: Ended = Ended {
-    status: 3,
+    status: FULL,
     answered: 0,
     told: 0,
 };
@@ -56,7 +59,7 @@ pub extern "C" fn wad_run(
     why: &mut [u8],
     ended: &mut Ended,
 )
-    ensures { LookEnds words.now word_sizes.now files.now file_sizes.now input.now out.new why.old why.new ended.new }
+    ensures { LookEnds words.now word_sizes.now files.now file_sizes.now input.now out.old out.new why.old why.new ended.new }
 {
     let words = Parts {
         bytes: words,
@@ -85,7 +88,7 @@ pub extern "C" fn lens_run(
     why: &mut [u8],
     ended: &mut Ended,
 )
-    ensures { LensEnds words.now word_sizes.now files.now file_sizes.now out.new why.new ended.new }
+    ensures { LensEnds words.now word_sizes.now files.now file_sizes.now out.old out.new why.old why.new ended.new }
 {
     let words = Parts {
         bytes: words,
@@ -108,18 +111,19 @@ fn answer_look(
     why: &mut [u8],
 ) -> Option<Ended>
     ensures { IfSome result (Looked words.entry.bytes.now words.entry.sizes.now files.entry.bytes.now files.entry.sizes.now input.now
-        out.new why.old why.new) }
+        out.old out.new why.old why.new) }
 {
     let arena = arena(heap)?;
     let mut sink = ToVec::with_capacity(&arena, out.len()).ok()?;
     let outcome = do_words(&arena, words, files, input, &mut sink);
-    if sink.failed() {
+    let status = exit_status(&outcome);
+    if sink.failed() || status == FULL {
         return None;
     }
     let answered = hand_out(sink.taken(), out)?;
     let told = tell(&arena, &outcome, why)?;
     Some(Ended {
-        status: exit_status(&outcome),
+        status,
         answered,
         told,
     })
@@ -133,7 +137,7 @@ fn answer_lens(
     out: &mut [u8],
     why: &mut [u8],
 ) -> Option<Ended>
-    ensures { IfSome result (Lensed words.entry.bytes.now words.entry.sizes.now files.entry.bytes.now files.entry.sizes.now out.new why.new) }
+    ensures { IfSome result (Lensed words.entry.bytes.now words.entry.sizes.now files.entry.bytes.now files.entry.sizes.now out.old out.new why.old why.new) }
 {
     let arena = arena(heap)?;
     let mut sink = ToVec::with_capacity(&arena, out.len()).ok()?;

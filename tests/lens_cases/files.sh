@@ -29,6 +29,9 @@ cases_of_words() {
     # The file is there, so it's the word that is refused.
     cp base.wad $'\xff.wad'
     says 'a word that is not UTF-8' 2 '' "wadlens: a word isn't UTF-8\\n" survey $'\xff.wad'
+    timeout 60 "$program" survey /dev/stdin <$'\xff.wad' >output 2>error
+    printf '%s' $? >status
+    judge 'a path that is not UTF-8, on standard input' 0 "$(sound /dev/stdin E1M1 0)" ''
     says 'a word that is not UTF-8, behind others' 2 '' "wadlens: a word isn't UTF-8\\n" check base.wad --max 3 $'a\xc0\xaf'
 }
 

@@ -2,8 +2,9 @@
 use Rattle.std.specs.Prelude.{◌≡◌, ℕ, ◌<◌, ◌≤◌, List, [], ◌∷◌, length, take, Option, Some, ⊤}
 use Rattle.std.specs.Io.KnownBytes.{Keeps}
 use Rattle.std.specs.List.{slice_get}
-use Rattle.lens_run.specs.Files.{RefusesRead, max_read}
+use Rattle.lens_run.specs.Files.{RefusesRead}
 use Rattle.lens_run.specs.declared.files.ReadFault.TheVariants as unread
+use Rattle.line_io.specs.declared.input.TheConstants.{MAX_READ}
 use Rattle.wad_lens.specs.declared.object.Refusal.{Refusal}
 use Rattle.lens_picture.specs.declared.files.FilesFault.{FilesFault}
 use Rattle.lens_picture.specs.declared.files.FilesFault.TheVariants.{Refused, Memory}
@@ -11,7 +12,7 @@ use Rattle.lens_picture.specs.declared.files.FilesFault.TheVariants.{Refused, Me
 -- these are the bytes of a file, where they are known, and not too many
 pub record IsHeld (held : Option (List ℕ)) (file : List ℕ) : Type 0 where
   pub keeps : Keeps held (Some file)
-  pub few : length file ≤ max_read
+  pub few : length file ≤ MAX_READ
 
 -- the files are what is held under the paths, in order
 abbrev pub AreHeld : (List ℕ → Option (List ℕ)) → List (List ℕ) → List (List ℕ) → Type 0

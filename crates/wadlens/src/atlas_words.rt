@@ -2,13 +2,11 @@
 
 ghost use Rattle.std.specs.Prelude.{◌≤◌};
 
+use crate::picture_words::CELLS;
 use crate::words::Telling;
 use atlas_run::AtlasJob;
 use clap::{Arg, ArgMatches, Command, value_parser};
 use std::alloc::{AllocError, Global};
-
-/// How many cells the longer side of a picture has where nothing is said.
-const CELLS: u32 = 512;
 
 /// What an atlas is made of, and where.
 #[derive(Drop)]

@@ -12,8 +12,8 @@ use map_picture::Asked;
 use std::alloc::{AllocError, Global};
 use wad_dir::MAX_FILES;
 
-/// How many cells the longer side has where nothing is said.
-const CELLS: u32 = 512;
+/// How many cells the longer side of a picture has where nothing is said.
+pub const CELLS: u32 = 512;
 
 const BAD_FRAME: &str =
     "--frame wants four numbers from -32768 to 32767, the lesser first: X0,Y0,X1,Y1";

@@ -122,6 +122,10 @@ def chain(lumps, ssector=w(1, 0)):
         lump = b''.join(node + (w(i - 1, 32769 + i) if i else w(32768, 32769)) for i in range(n))
         level(out, {b'NODES': lump, b'SSECTORS': ssector*(n + 1), **lumps})
     return make
+def ring(out, part):
+    """a level whose nodes, as many as a point is looked for in, lead to one another and to no ssector"""
+    n = int(32767*part)
+    level(out, {b'NODES': b''.join(w(0, 0, 0, 64, 64, 0, 0, 0, 64, 0, 0, 0, (i + 1) % n, (i + 1) % n) for i in range(n))})
 def hole(out, part):
     """a demo, or an empty directory, and one byte more than may be read"""
     out.write(head(0, 0)); out.truncate(int(FILES*part) + (part == 1))
@@ -282,16 +286,25 @@ if o.wadlens:
     job('assemble: the same, with a last line that is wrong', 'assemble', None, listing(1), ends=2)
     job('assemble: 268 MB of one line', 'assemble', None, lambda out, part: again(out, b'1', int(FILES*part)), ends=2)
 
-# A call ends with its status: 1 where the level isn't sound.
+# A call ends with its status: 1 where the level isn't sound, 8 where no entry has the name.
 for word, name, make, ends in (
     ('audit', '9.5 million nodes in a chain', big_level(MANY_SSECTORS, [b'NODES'], whole(28), CHAIN), 0),
     ('audit', 'all lumps over the same bytes 255', one_byte, 0),
     ('points', '9.5 million nodes that all name one, refused', big_level(MANY_SSECTORS, [b'NODES'], whole(28), ONE), 1),
     ('points', '1024 points down a chain of 32,767 nodes', chain({}), 0),
+    ('prepare', '22 million segs', big_level({}, [b'SEGS'], whole(12), lambda out, n: again(out, SEG, n)), 0),
+    ('prepare', 'a chain of 32,767 nodes', chain({}), 0),
+    ('point', '1024 calls down such a chain', chain({}), 0),
+    ('point', '1024 calls round a ring of 32,767 nodes', ring, 0),
+    ('census', 'a square of 1024 on a chain of 32,767 nodes', chain({}), 0),
+    ('census_wide', '1,047,552 points in 32,736 sectors', slanted, 0),
+    ('find', '16,777,215 entries of another name', one_name, 8),
+    ('find', '1,525,201 levels of one label', directory(None, [b'E1M1'] + NAMES), 0),
+    ('sight', '1,048,576 bits of a REJECT of 268 MB', of_bytes(b'\x55', [b'REJECT']), 0),
     ('extract', 'a level of 268 MB', of_bytes(b'\0', b), 0),
     ('demo', '67 million commands', demo(109, [1, 0, 0, 0]), 0),
     ('block', 'one list of 134 million words', big_level({}, b, whole(2), one_list), 0),
-) if o.library else (): job('wadlook_%s: %s' % (word, name), 'wadlook_%s F' % word, make, ends=ends)
+) if o.library else (): job('wadlook_%s: %s' % (word.split('_')[0], name), 'wadlook_%s F' % word, make, ends=ends)
 
 # ----------------------------------------------------------------------- runs
 CALLS = p('calls')

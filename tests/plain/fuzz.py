@@ -1,6 +1,7 @@
 """What tests/fuzz runs: the built programs on cases that are made up from a seed, whose
 status, standard output, standard error and folders are compared with what a plain reading
-of the definitions gives. The last line is `N passed, M failed`."""
+of the definitions gives. The last line is `N passed, M failed`. With --json first the cases
+are written down for the page's modules."""
 
 import os
 import shlex
@@ -10,6 +11,7 @@ import sys
 import tempfile
 from pathlib import Path
 
+from plain import memory
 from plain.cases import Case, case, wanted
 from plain.look import Answer
 from plain.page import events_of
@@ -125,8 +127,11 @@ def judge(seed: int, number: int) -> bool:
 def main(words: list[str]) -> int:
     # Words may have bytes that aren't UTF-8, and are told as they are.
     sys.stdout.reconfigure(errors="surrogateescape")
-    numbers = [int(word) for word in words] + [CASES, SEED, 0][len(words) :]
-    count, seed, first = numbers
+    told = [int(word) for word in words if word != "--json"]
+    count, seed, first = told + [CASES, SEED, 0][len(told) :]
+    if "--json" in words:
+        memory.write(count, seed, first)
+        return 0
     for program in PROGRAMS.values():
         if shutil.which(program) is None:
             print(f"tests/fuzz: there is no program {program}\n0 passed, 1 failed")

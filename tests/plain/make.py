@@ -252,8 +252,12 @@ def enlarge(random: Random, draft: Draft) -> None:
         for record in {id(each): each for each in draft.tables[user]}.values():
             for field in fields:
                 record[field] += before if record[field] != -1 else 0
+    head = 4 + draft.words[2] * draft.words[3]
+    if table == LINEDEFS:
+        draft.words[head:] = [
+            value if value == -1 else value + before for value in draft.words[head:]
+        ]
     if random.random() < 0.5:
-        head = 4 + draft.words[2] * draft.words[3]
         offsets = [value + before for value in draft.words[4:head]]
         draft.words[4:] = [*offsets, *[0] * before, *draft.words[head:]]
 

@@ -1,9 +1,11 @@
-// engine.mjs FOLDER WADLOOK WADLENS SAMPLE: runs each command in the module of FOLDER and in the native programs, and compares them.
+// engine.mjs FOLDER WADLOOK WADLENS SAMPLE: runs each command in the module of FOLDER and in the native programs, and compares them; then
+// the seeded cases on standard input, beside what they tell is wanted.
 import { readFileSync, mkdtempSync, rmSync, writeFileSync } from 'node:fs';
 import { spawnSync } from 'node:child_process';
 import { tmpdir } from 'node:os';
 import { join } from 'node:path';
 import { pathToFileURL } from 'node:url';
+import { seeded } from './engine_fuzz.mjs';
 import { wad } from './wads.mjs';
 import { LINES, workedDemos, workedFiles } from './worked_cases.mjs';
 
@@ -173,5 +175,8 @@ for (const [name, bytes] of workedDemos()) {
 
 for (const path of ['base.wad', ...Array.from({ length: 40 }, (_, i) => `damaged${i}.wad`)]) await draws(path);
 for (const path of [...names.keys()].filter((name) => name.endsWith('.wad'))) await lists(path);
+const fuzzed = await seeded(process.stdin, run);
+passed += fuzzed.passed;
+failed += fuzzed.failed;
 console.log(`${passed} passed, ${failed} failed`);
 process.exitCode = failed ? 1 : 0;

@@ -37,7 +37,6 @@ const textOf = (/** @type {string} */ selector) => browser.run(`document.querySe
 const textsOf = (/** @type {string} */ selector) => browser.run(`[...document.querySelectorAll(${JSON.stringify(selector)})].map((e) => e.textContent)`);
 const isHidden = (/** @type {string} */ selector) => browser.run(`document.querySelector(${JSON.stringify(selector)}).hidden`);
 const viewOf = async () => (await browser.run("document.querySelector('#map').dataset.view")).split(' ').map(Number);
-const drawn = (/** @type {string} */ name) => browser.until(`document.querySelector('#map').dataset.drawn === ${JSON.stringify(name)}`, `the level ${name}`);
 const judged = () => browser.until("!!document.querySelector('#levels .row-state') && ![...document.querySelectorAll('#levels .row-state')].some((e) => e.textContent === '…')", 'all judged');
 const pointTold = (/** @type {string} */ begin) => browser.until(`document.querySelector('#point-line').textContent.startsWith(${JSON.stringify(begin)}) && !document.querySelector('#point').hidden && document.querySelector('#point-clear').textContent !== ''`, `the point ${begin}`);
 /** Clicks the row of a list whose name is this. @param {string} list @param {string} name */
@@ -48,6 +47,11 @@ const pick = async (list, name) => {
 };
 /** Waits until what was done is drawn. */
 const drawnAnew = () => browser.run('new Promise((go) => requestAnimationFrame(() => requestAnimationFrame(() => go(1))))');
+/** Waits until a level's map is there, and in the frame that says where it stands. @param {string} name */
+const drawn = async (name) => {
+  await browser.until(`document.querySelector('#map').dataset.drawn === ${JSON.stringify(name)}`, `the level ${name}`);
+  await drawnAnew();
+};
 const filterBy = (/** @type {string} */ words) => browser.run(`{ const e = document.querySelector('#filter'); e.value = ${JSON.stringify(words)}; e.dispatchEvent(new Event('input')); }`);
 const fresh = async (address = server.address) => {
   await browser.send('Page.navigate', { url: address });

@@ -2,7 +2,7 @@
 use Rattle.std.proofs.Common.{◌≡◌, ◌+◌, inl, inr, refl, sym, subst, arith}
 use Rattle.std.proofs.lemmas.Bool.{ltb-true}
 use Rattle.map_level.specs.Level.{Level, level_of, lump_of}
-use Rattle.map_level.specs.Findings.{place}
+use Rattle.map_level.specs.Findings.{rank}
 use Rattle.map_level.specs.Opening.{IsLevel}
 use Rattle.map_level.specs.declared.reading.Reading.TheVariants.{Signed, Wide}
 use Rattle.map_level.proofs.LevelLemmas.{IsLevel-one}
@@ -23,7 +23,7 @@ law_sound_is_no_fault level = (
       | inr table ↦
           let at =
           table_place level code i table in let below =
-          ltb-true (place code) 18 fault in omega (arith, at.from, below)
+          ltb-true (rank code) 18 fault in omega (arith, at.from, below)
     ]
   ]),
   (λ none. (law_faultless level).1 (λ code i fault holds. none code i fault (elim holds [

@@ -2,7 +2,7 @@
 use Rattle.std.proofs.Common.{◌≡◌, ◌↔◌, ℕ, ◌<◌, ◌≤◌, ◌⊎◌, inl, inr, subst, sym, arith}
 use Rattle.std.specs.Prelude.{IfSome, IfNone, Option, Some, None}
 use Rattle.map_level.specs.Level.{Level}
-use Rattle.map_level.specs.Findings.{place, IsFirst}
+use Rattle.map_level.specs.Findings.{rank, IsFirst}
 use Rattle.map_level.specs.declared.finding.Code.{Code}
 use Rattle.map_level.specs.declared.finding.Code.TheVariants.{F11, F12, F13, F14, F15, F16, N7, N8, N9, N10}
 use Rattle.map_tables.specs.TableFaults.{TableHolds}
@@ -53,12 +53,12 @@ module _ (level : Level) (code : Code) (part : Part) (is : part ≡ part_of code
   none_by_part from (Some at) h = h
 
 -- a code of REJECT or BLOCKMAP stands from N8 to N10
-pub record IsTablePlace (p : ℕ) : Type 0 where
+pub record IsTableRank (p : ℕ) : Type 0 where
   pub from : 25 ≤ p
   pub to : p < 28
 
 pub table_place : (level : Level) (code : Code) (i : ℕ) → TableHolds level code i
-    → IsTablePlace (place code)
+    → IsTableRank (rank code)
 table_place level N8 i h = record { from = omega arith; to = omega arith }
 table_place level N9 i h = record { from = omega arith; to = omega arith }
 table_place level N10 i h = record { from = omega arith; to = omega arith }

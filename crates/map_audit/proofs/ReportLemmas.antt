@@ -6,7 +6,7 @@ use Rattle.std.proofs.lemmas.Bool.{cases_lt, false_from_ne_true}
 use Rattle.std.proofs.lemmas.Option.{get_or_from_slice_get, slice_get-get_or, slice_get_within}
 use Rattle.std.proofs.lemmas.List.Elements.{Contains-append_right}
 use Rattle.std.proofs.lemmas.List.Recursion.{is_count_by}
-use Rattle.map_level.specs.Findings.{place, is_fault, AreFindings, NoFaultHolds, StandsBefore}
+use Rattle.map_level.specs.Findings.{rank, is_fault, AreFindings, NoFaultHolds, StandsBefore}
 use Rattle.map_level.specs.Level.{Level}
 use Rattle.map_level.specs.declared.finding.Code.{Code}
 use Rattle.map_level.specs.declared.finding.Finding.{Finding}
@@ -65,7 +65,7 @@ below_fault m n h e = lt-ltb m 18 (omega (arith, h, ltb-true n 18 e))
 
 -- what stands before a fault is one
 before_fault : (a b : Finding) → StandsBefore a b → IsTrue (is_fault b.code) → IsTrue (is_fault a.code)
-before_fault a b (inl below) fault = below_fault (place a.code) (place b.code) (omega (arith, below)) fault
+before_fault a b (inl below) fault = below_fault (rank a.code) (rank b.code) (omega (arith, below)) fault
 before_fault a b (inr same) fault = subst (λ code. IsTrue (is_fault code)) (sym same.0) fault
 
 module _ (level : Level) (found : List Finding) (are : AreFindings (AuditHolds level) found) where

@@ -1,5 +1,6 @@
 -- Warnings, and the order in which they are told (ours).
 use Rattle.std.specs.Prelude.{◌≡◌, ℕ, ◌+◌, ◌-◌, ◌*◌, ◌^◌, ◌<◌, ◌↔◌, List, [], ◌∷◌, ◌++◌, length, take, min, nat_lt, if◌then◌else◌, AllPairs, Contains}
+use Rattle.map_level.specs.Findings.{AreAllInOrder}
 use Rattle.map_checks.specs.declared.warning.Side.{Side}
 use Rattle.map_checks.specs.declared.warning.Side.TheVariants.{Front, Back}
 use Rattle.map_checks.specs.declared.warning.Part.{Part}
@@ -42,10 +43,9 @@ rank (Twin linedef earlier) = linedef
 rank (NoStart player) = 0
 rank (FewStarts starts) = 0
 
--- the warnings that hold: each of them once, in order, and no others
-pub record AreWarnings (holds : Warning → Type 0) (all : List Warning) : Type 0 where
-  pub ascending : AllPairs (λ a b. rank a < rank b) all
-  pub exact : (w : Warning) → Contains all w ↔ holds w
+-- the warnings that hold
+abbrev pub AreWarnings : (Warning → Type 0) → List Warning → Type 0
+AreWarnings holds all = AreAllInOrder (λ a b. rank a < rank b) holds all
 
 -- the first of a list of warnings, so many at most, and how many there are
 pub record Cut : Type 0 where

@@ -8,18 +8,18 @@ use Rattle.map_level.specs.declared.finding.Code.{Code}
 use Rattle.map_level.specs.declared.finding.Code.TheVariants.{F1, F2, F3, F4, F5, F6, F7, F8, F9, F10, F11, F12, F13, F14, F15, F16, F17, F18, N1, N2, N3, N4, N5, N6, N7, N8, N9, N10, N11, N12}
 use Rattle.map_level.specs.declared.finding.Finding.{Finding}
 use Rattle.map_level.specs.declared.search.TheConstants.{CODE_COUNT}
-use Rattle.map_level.specs.Findings.{place, StandsBefore, AreFindings, AreFindingsBelow}
+use Rattle.map_level.specs.Findings.{rank, StandsBefore, AreFindings, AreFindingsBelow}
 
 -- all codes in their order
 abbrev pub all_codes : List Code
 all_codes = F1 ∷ F2 ∷ F3 ∷ F4 ∷ F5 ∷ F6 ∷ F7 ∷ F8 ∷ F9 ∷ F10 ∷ F11 ∷ F12 ∷ F13 ∷ F14 ∷ F15 ∷ F16 ∷ F17 ∷ F18 ∷ N1 ∷ N2 ∷ N3 ∷ N4 ∷ N5 ∷ N6 ∷ N7 ∷ N8 ∷ N9 ∷ N10 ∷ N11 ∷ N12 ∷ []
 
--- the codes of a list stand at the places from n on
+-- the codes of a list stand at the ranks from n on
 abbrev StandFrom : ℕ → List Code → Type 0
 StandFrom n [] = Unit {0}
-StandFrom n (c ∷ cs) = (place c ≡ n) × StandFrom (n + 1) cs
+StandFrom n (c ∷ cs) = (rank c ≡ n) × StandFrom (n + 1) cs
 
-StandFrom-at : (n : ℕ) (cs : List Code) → StandFrom n cs → (k : ℕ) (d : Code) → k < length cs → place (get_or cs k d) ≡ n + k
+StandFrom-at : (n : ℕ) (cs : List Code) → StandFrom n cs → (k : ℕ) (d : Code) → k < length cs → rank (get_or cs k d) ≡ n + k
 StandFrom-at n [] s k d h = absurd (omega arith)
 StandFrom-at n (c ∷ cs) s zero d h = omega (arith, s.0)
 StandFrom-at n (c ∷ cs) s (suc k) d h = omega (arith, StandFrom-at (n + 1) cs s.1 k d (omega arith))
@@ -27,44 +27,44 @@ StandFrom-at n (c ∷ cs) s (suc k) d h = omega (arith, StandFrom-at (n + 1) cs 
 all_stand : StandFrom 0 all_codes
 all_stand = (refl, (refl, (refl, (refl, (refl, (refl, (refl, (refl, (refl, (refl, (refl, (refl, (refl, (refl, (refl, (refl, (refl, (refl, (refl, (refl, (refl, (refl, (refl, (refl, (refl, (refl, (refl, (refl, (refl, (refl, tt))))))))))))))))))))))))))))))
 
--- the code at a place of the order
-pub place_at : (k : ℕ) (d : Code) → k < CODE_COUNT → place (get_or all_codes k d) ≡ k
-place_at k d h = omega (arith, StandFrom-at 0 all_codes all_stand k d h)
+-- the code at a rank of the order
+pub rank_at : (k : ℕ) (d : Code) → k < CODE_COUNT → rank (get_or all_codes k d) ≡ k
+rank_at k d h = omega (arith, StandFrom-at 0 all_codes all_stand k d h)
 
--- a code is known by its place
-pub place-below : (c : Code) → place c < CODE_COUNT
-place-below F1 = omega arith
-place-below F2 = omega arith
-place-below F3 = omega arith
-place-below F4 = omega arith
-place-below F5 = omega arith
-place-below F6 = omega arith
-place-below F7 = omega arith
-place-below F8 = omega arith
-place-below F9 = omega arith
-place-below F10 = omega arith
-place-below F11 = omega arith
-place-below F12 = omega arith
-place-below F13 = omega arith
-place-below F14 = omega arith
-place-below F15 = omega arith
-place-below F16 = omega arith
-place-below F17 = omega arith
-place-below F18 = omega arith
-place-below N1 = omega arith
-place-below N2 = omega arith
-place-below N3 = omega arith
-place-below N4 = omega arith
-place-below N5 = omega arith
-place-below N6 = omega arith
-place-below N7 = omega arith
-place-below N8 = omega arith
-place-below N9 = omega arith
-place-below N10 = omega arith
-place-below N11 = omega arith
-place-below N12 = omega arith
+-- a code is known by its rank
+pub rank-below : (c : Code) → rank c < CODE_COUNT
+rank-below F1 = omega arith
+rank-below F2 = omega arith
+rank-below F3 = omega arith
+rank-below F4 = omega arith
+rank-below F5 = omega arith
+rank-below F6 = omega arith
+rank-below F7 = omega arith
+rank-below F8 = omega arith
+rank-below F9 = omega arith
+rank-below F10 = omega arith
+rank-below F11 = omega arith
+rank-below F12 = omega arith
+rank-below F13 = omega arith
+rank-below F14 = omega arith
+rank-below F15 = omega arith
+rank-below F16 = omega arith
+rank-below F17 = omega arith
+rank-below F18 = omega arith
+rank-below N1 = omega arith
+rank-below N2 = omega arith
+rank-below N3 = omega arith
+rank-below N4 = omega arith
+rank-below N5 = omega arith
+rank-below N6 = omega arith
+rank-below N7 = omega arith
+rank-below N8 = omega arith
+rank-below N9 = omega arith
+rank-below N10 = omega arith
+rank-below N11 = omega arith
+rank-below N12 = omega arith
 
-code_at : (c : Code) → c ≡ get_or all_codes (place c) F1
+code_at : (c : Code) → c ≡ get_or all_codes (rank c) F1
 code_at F1 = refl
 code_at F2 = refl
 code_at F3 = refl
@@ -96,34 +96,34 @@ code_at N10 = refl
 code_at N11 = refl
 code_at N12 = refl
 
-pub same_from_place : (c d : Code) → place c ≡ place d → c ≡ d
-same_from_place c d h = code_at c ∙ ap (λ k. get_or all_codes k F1) h ∙ sym (code_at d)
+pub same_from_rank : (c d : Code) → rank c ≡ rank d → c ≡ d
+same_from_rank c d h = code_at c ∙ ap (λ k. get_or all_codes k F1) h ∙ sym (code_at d)
 
 pub same_finding : (f g : Finding) → f.code ≡ g.code → f.index ≡ g.index → f ≡ g
 same_finding f g code index =
     ap (λ c. let x : Finding = record { code = c; index = f.index } in x) code ∙ ap (λ i. let x : Finding = record { code = g.code; index = i } in x) index
 
 -- one finding more
-pub found_more : (holds : Code → ℕ → Type 0) (found : List Finding) (f : Finding) → AreFindingsBelow holds (place f.code) f.index found
-    → holds f.code f.index → AreFindingsBelow holds (place f.code) (f.index + 1) (found ++ f ∷ [])
+pub found_more : (holds : Code → ℕ → Type 0) (found : List Finding) (f : Finding) → AreFindingsBelow holds (rank f.code) f.index found
+    → holds f.code f.index → AreFindingsBelow holds (rank f.code) (f.index + 1) (found ++ f ∷ [])
 found_more holds found f before here =
     record {
       ascending = all_pairs_push StandsBefore found f before.ascending (λ k d below.
           let told = ((before.exact (get_or found k d)).0 (Contains-get_or found k d below)).1 in
           elim told [
             | inl less ↦ inl less
-            | inr same ↦ inr (same_from_place (get_or found k d).code f.code same.0, same.1)
+            | inr same ↦ inr (same_from_rank (get_or found k d).code f.code same.0, same.1)
           ]);
       exact = λ h. (
         (λ there. elim (Contains-push_cases found f h there) [
           | inl old ↦ let told = (before.exact h).0 old in (told.0, elim told.1 [ inl less ↦ inl less | inr same ↦ inr (same.0, omega (arith, same.1)) ])
-          | inr is ↦ subst (λ (g : Finding). holds g.code g.index × ((place g.code < place f.code) ⊎ ((place g.code ≡ place f.code) × (g.index < f.index + 1)))) is (here, inr (refl, omega arith))
+          | inr is ↦ subst (λ (g : Finding). holds g.code g.index × ((rank g.code < rank f.code) ⊎ ((rank g.code ≡ rank f.code) × (g.index < f.index + 1)))) is (here, inr (refl, omega arith))
         ]),
         (λ told. elim told.1 [
           | inl less ↦ Contains-append_left found (f ∷ []) h ((before.exact h).1 (told.0, inl less))
           | inr same ↦ elim (cases_eq h.index f.index) [
             | inl equal ↦
-                let is : h ≡ f = same_finding h f (same_from_place h.code f.code same.0) equal in
+                let is : h ≡ f = same_finding h f (same_from_rank h.code f.code same.0) equal in
                 subst (λ (g : Finding). Contains (found ++ f ∷ []) g) (sym is) (Contains-push found f)
             | inr other ↦ Contains-append_left found (f ∷ []) h ((before.exact h).1 (told.0, inr (same.0, omega (arith, same.1, other))))
           ]
@@ -132,8 +132,8 @@ found_more holds found f before here =
     }
 
 -- indexes at which the code doesn't hold
-pub found_no_more : (holds : Code → ℕ → Type 0) (found : List Finding) (c : Code) (from to : ℕ) → AreFindingsBelow holds (place c) from found → from ≤ to
-    → ((i : ℕ) → from ≤ i → i < to → ¬ holds c i) → AreFindingsBelow holds (place c) to found
+pub found_no_more : (holds : Code → ℕ → Type 0) (found : List Finding) (c : Code) (from to : ℕ) → AreFindingsBelow holds (rank c) from found → from ≤ to
+    → ((i : ℕ) → from ≤ i → i < to → ¬ holds c i) → AreFindingsBelow holds (rank c) to found
 found_no_more holds found c from to before le none =
     record {
       ascending = before.ascending;
@@ -145,7 +145,7 @@ found_no_more holds found c from to before le none =
             | inl less ↦ inl less
             | inr same ↦ elim (cases_lt h.index from) [
               | inl below ↦ inr (same.0, below)
-              | inr past ↦ absurd (none h.index (omega (arith, past)) same.1 (subst (λ d. holds d h.index) (same_from_place h.code c same.0) told.0))
+              | inr past ↦ absurd (none h.index (omega (arith, past)) same.1 (subst (λ d. holds d h.index) (same_from_rank h.code c same.0) told.0))
             ]
           ],
         )),
@@ -153,8 +153,8 @@ found_no_more holds found c from to before le none =
     }
 
 -- after a code's last index
-pub found_code : (holds : Code → ℕ → Type 0) (found : List Finding) (c : Code) (n : ℕ) → AreFindingsBelow holds (place c) n found
-    → ((i : ℕ) → holds c i → i < n) → AreFindingsBelow holds (place c + 1) 0 found
+pub found_code : (holds : Code → ℕ → Type 0) (found : List Finding) (c : Code) (n : ℕ) → AreFindingsBelow holds (rank c) n found
+    → ((i : ℕ) → holds c i → i < n) → AreFindingsBelow holds (rank c + 1) 0 found
 found_code holds found c n before all =
     record {
       ascending = before.ascending;
@@ -163,8 +163,8 @@ found_code holds found c n before all =
         (λ told. (before.exact h).1 (
           told.0,
           elim told.1 [
-            | inl less ↦ elim (cases_eq (place h.code) (place c)) [
-              | inl equal ↦ inr (equal, all h.index (subst (λ d. holds d h.index) (same_from_place h.code c equal) told.0))
+            | inl less ↦ elim (cases_eq (rank h.code) (rank c)) [
+              | inl equal ↦ inr (equal, all h.index (subst (λ d. holds d h.index) (same_from_rank h.code c equal) told.0))
               | inr other ↦ inl (omega (arith, less, other))
             ]
             | inr same ↦ absurd (omega (arith, same.1))
@@ -184,5 +184,5 @@ found_none holds = record {
 pub found_all : (holds : Code → ℕ → Type 0) (found : List Finding) → AreFindingsBelow holds CODE_COUNT 0 found → AreFindings holds found
 found_all holds found before = record {
   ascending = before.ascending;
-  exact = λ h. ((λ there. ((before.exact h).0 there).0), (λ told. (before.exact h).1 (told, inl (place-below h.code))));
+  exact = λ h. ((λ there. ((before.exact h).0 there).0), (λ told. (before.exact h).1 (told, inl (rank-below h.code))));
 }

@@ -3,7 +3,7 @@ use Rattle.std.proofs.Common.{◌≡◌, ℕ, suc, zero, ◌⊎◌, inl, inr, Li
 use Rattle.std.specs.Prelude.{AllPairs, Contains}
 use Rattle.std.proofs.lemmas.List.Elements.{Contains-append_right}
 use Rattle.map_level.specs.declared.finding.Finding.{Finding}
-use Rattle.map_level.specs.Findings.{place, StandsBefore, AreFindings}
+use Rattle.map_level.specs.Findings.{rank, StandsBefore, AreFindings}
 use Rattle.map_level.specs.declared.finding.Code.{Code}
 
 -- the first item of a list in order stands before each later one
@@ -77,8 +77,8 @@ one_list R asym (x ∷ xs) (y ∷ ys) p q to from =
 -- no finding stands before another and behind it
 pub not_both_before : (a b : Finding) → StandsBefore a b → StandsBefore b a → ⊥
 not_both_before a b (inl p) (inl q) = omega (arith, p, q)
-not_both_before a b (inl p) (inr q) = omega (arith, p, ap place q.0)
-not_both_before a b (inr p) (inl q) = omega (arith, q, ap place p.0)
+not_both_before a b (inl p) (inr q) = omega (arith, p, ap rank q.0)
+not_both_before a b (inr p) (inl q) = omega (arith, q, ap rank p.0)
 not_both_before a b (inr p) (inr q) = omega (arith, p.1, q.1)
 
 -- there is at most one list of the findings

@@ -6,7 +6,7 @@ use Rattle.le_rec.specs.declared.records.Seg.{Seg}
 use Rattle.le_rec.specs.declared.records.SideDef.{SideDef}
 use Rattle.map_level.specs.Level.{Level}
 use Rattle.map_level.specs.Links.{sidedefs_of, segs_of, ssectors_of, sectors_of, named, no_side, side_of, ◌>>=◌}
-use Rattle.map_level.specs.Findings.{place}
+use Rattle.map_level.specs.Findings.{rank}
 use Rattle.map_level.specs.LinkFaults.{LinkHolds}
 use Rattle.map_level.specs.declared.finding.Code.{Code}
 use Rattle.map_level.specs.declared.finding.Code.TheVariants.{F3, F10}
@@ -42,7 +42,7 @@ sector_of level t = do
 
 -- a code is one of F3 to F10
 abbrev pub IsLinkFault : Code → Type 0
-IsLinkFault code = (place F3 ≤ place code) × (place code ≤ place F10)
+IsLinkFault code = (rank F3 ≤ rank code) × (rank code ≤ rank F10)
 
 -- a level has no fault F3 to F10, so that each of its ssectors has a sector
 abbrev pub IsLinked : Level → Type 0

@@ -2,7 +2,7 @@
 
 ghost use Rattle.std.specs.Prelude.{◌≡◌, ◌++◌, ◌∷◌, [], length, OnOk, OnErr};
 ghost use Rattle.std.specs.List.{slice_get};
-ghost use Rattle.map_level.specs.Findings.{place, is_fault};
+ghost use Rattle.map_level.specs.Findings.{rank, is_fault};
 
 use std::alloc::{AllocError, Allocator, Global};
 use std::marker::Model;
@@ -77,12 +77,12 @@ impl Code {
     pub fn is_fault(self) -> bool
         ensures { result ≡ is_fault self }
     {
-        self.place() < Code::N1.place()
+        self.rank() < Code::N1.rank()
     }
 
-    /// The code's place in the order of a report, from 0.
-    pub fn place(self) -> u8
-        ensures { result ≡ place self }
+    /// The code's rank in the order of a report, from 0.
+    pub fn rank(self) -> u8
+        ensures { result ≡ rank self }
     {
         self as u8
     }

@@ -1,7 +1,7 @@
 //! The search for findings, code by code: where a code holds next, and the one walk over all codes that makes a list of it.
 
 ghost use Rattle.std.specs.Prelude.{◌+◌, ◌<◌, ◌≤◌, ◌^◌, ◌↔◌, ◌⊎◌, ℕ, Bool, false, IfNone, IfOk, IfSome, IsTrue, OnOk};
-ghost use Rattle.map_level.specs.Findings.{place, is_fault, AreFindings, AreFindingsBelow, IsFirst, NoFaultHolds};
+ghost use Rattle.map_level.specs.Findings.{rank, is_fault, AreFindings, AreFindingsBelow, IsFirst, NoFaultHolds};
 
 use crate::finding::{Code, Finding, Findings};
 use std::alloc::{AllocError, Allocator};
@@ -124,8 +124,8 @@ fn add_code<T: Search, A: Allocator>(
     searched: &T,
     code: Code,
 ) -> Result<(), AllocError>
-    requires { AreFindingsBelow (T.holds searched.now) (place code) 0 found.old }
-    ensures { OnOk result (AreFindingsBelow (T.holds searched.now) (place code + 1) 0 found.new) }
+    requires { AreFindingsBelow (T.holds searched.now) (rank code) 0 found.old }
+    ensures { OnOk result (AreFindingsBelow (T.holds searched.now) (rank code + 1) 0 found.new) }
 {
     let mut from = 0;
     'finds: while let Some(index) = searched.first(code, from) {

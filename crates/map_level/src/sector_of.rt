@@ -58,7 +58,7 @@ fn has_no_link_fault(found: &[Finding]) -> bool
 fn is_no_link_fault(code: Code) -> bool
     ensures { IsTrue result ↔ (¬ IsLinkFault code) }
 {
-    code.place() < Code::F3.place() || code.place() > Code::F10.place()
+    code.rank() < Code::F3.rank() || code.rank() > Code::F10.rank()
 }
 
 // The first seg of an ssector.

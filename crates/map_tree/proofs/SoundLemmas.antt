@@ -12,7 +12,7 @@ use Rattle.le_rec.specs.declared.records.SideDef.{SideDef}
 use Rattle.map_geo.specs.declared.sides.Side.{Side}
 use Rattle.map_level.specs.Level.{Level}
 use Rattle.map_level.specs.declared.finding.Code.TheVariants.{F17, F18, N1}
-use Rattle.map_level.specs.Findings.{place}
+use Rattle.map_level.specs.Findings.{rank}
 use Rattle.map_level.specs.Links.{sectors_of}
 use Rattle.map_level.specs.SectorOf.{number_named, first_seg, sidedef_of, sector_of, IsLinked}
 use Rattle.map_tree.specs.Paths.{Place, node, ssector}
@@ -89,7 +89,7 @@ few_nodes level sound = elim (cases_lt 32767 (node_count level)) [
 -- and its links are those of a level in which each ssector has a sector
 pub linked_from_sound : (level : Level) → IsSound level → IsLinked level
 linked_from_sound level sound =
-    λ code i link h. sound.linked code i (lt-ltb (place code) (place N1) (omega (arith, link.1))) h
+    λ code i link h. sound.linked code i (lt-ltb (rank code) (rank N1) (omega (arith, link.1))) h
 
 -- a number that names one of so many is below them
 number_below : (count : ℕ) (z : ℤ) (k : ℕ) → number_named count z ≡ Some k → k < count

@@ -14,12 +14,11 @@ use Rattle.level_list.specs.declared.format.Format.{Format}
 use Rattle.level_list.specs.declared.format.Format.TheVariants.{Udmf, Incomplete, Hexen, Outside, Extended, Doom}
 use Rattle.line_io.specs.Writes.{Writes}
 use Rattle.line_io.specs.declared.fault.IoFault.{IoFault}
-use Rattle.line_io.proofs.WriteLemmas.{TakesFront-after}
 use Rattle.map_audit.proofs.LawLemmas.{law_sound_is_no_fault}
 use Rattle.map_audit.specs.Findings.{AuditHolds}
-use Rattle.map_level.proofs.FindingLemmas.{place_at}
+use Rattle.map_level.proofs.FindingLemmas.{rank_at}
 use Rattle.map_level.proofs.LevelLemmas.{IsLevelAt-one}
-use Rattle.map_level.specs.Findings.{is_fault, place}
+use Rattle.map_level.specs.Findings.{is_fault, rank}
 use Rattle.map_level.specs.Level.{Level}
 use Rattle.map_level.specs.Opening.{IsLevelAt}
 use Rattle.map_level.specs.declared.finding.Code.{Code}
@@ -51,21 +50,21 @@ some_counted holds count i is here = omega (arith, is.counted, ((is.exact i).1 h
 -- a level is sound exactly where no fault is counted
 pub faultless : (level : Level) (counts : List ℕ) → AreCounts (AuditHolds level) counts → fault_total counts ≡ 0 → IsSound level
 faultless level counts are none = (law_sound_is_no_fault level).1 (λ code i fault holds.
-    let below : place code < 18 = ltb-true (place code) 18 fault in
-    let some = some_counted (AuditHolds level code) (get_or counts (place code) 0) i (are.each code) holds in
-    let long : place code < length (take 18 counts) = omega (arith, below, are.all, length-take 18 counts) in
-    let within = get_or-le-sum_by (λ n. n) (take 18 counts) (place code) 0 long in
-    let same = get_or-take 18 counts (place code) 0 below in
+    let below : rank code < 18 = ltb-true (rank code) 18 fault in
+    let some = some_counted (AuditHolds level code) (get_or counts (rank code) 0) i (are.each code) holds in
+    let long : rank code < length (take 18 counts) = omega (arith, below, are.all, length-take 18 counts) in
+    let within = get_or-le-sum_by (λ n. n) (take 18 counts) (rank code) 0 long in
+    let same = get_or-take 18 counts (rank code) 0 below in
     omega (arith, some, within, same, none))
 
 pub sound_faultless : (level : Level) (counts : List ℕ) → AreCounts (AuditHolds level) counts → IsSound level → fault_total counts ≡ 0
 sound_faultless level counts are sound = sum_zeros (take 18 counts) (λ k. elim (cases_lt k 18) [
   | inl below ↦
       let code = get_or report_order k F1 in
-      let at : place code ≡ k = place_at k F1 (omega (arith, below)) in
-      let fault : IsTrue (is_fault code) = lt-ltb (place code) 18 (omega (arith, at, below)) in
+      let at : rank code ≡ k = rank_at k F1 (omega (arith, below)) in
+      let fault : IsTrue (is_fault code) = lt-ltb (rank code) 18 (omega (arith, at, below)) in
       get_or-take 18 counts k 0 below ∙ ap (λ p. get_or counts p 0) (sym at)
-      ∙ nothing_holds (AuditHolds level code) (get_or counts (place code) 0) (are.each code) (λ i. (law_sound_is_no_fault level).0 sound code i fault)
+      ∙ nothing_holds (AuditHolds level code) (get_or counts (rank code) 0) (are.each code) (λ i. (law_sound_is_no_fault level).0 sound code i fault)
   | inr past ↦ beyond (take 18 counts) k (omega (arith, past, length-take 18 counts))
 ])
   where
@@ -218,12 +217,14 @@ stopped_in_text asked files before between after from g sum why so_far next wrot
           text = so_far.text;
           sum = sum;
           told = so_far.told;
+          between = between;
+          took = so_far.took;
           g = g;
           next = next;
           line = wrote.text;
           totals = wrote.totals;
           is = wrote.is;
-          took = TakesFront-after before between after so_far.text so_far.took writes.takes.front;
+          front = writes.takes.front;
           failed = line_stopped between after wrote.text e writes;
           says = refl;
         })

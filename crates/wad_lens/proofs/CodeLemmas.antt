@@ -4,8 +4,8 @@ use Rattle.std.proofs.lemmas.List.{drop_all}
 use Rattle.std.proofs.lemmas.Option.{slice_get-get_or}
 use Rattle.std.specs.List.{flat_map}
 use Rattle.std.specs.Prelude.{slice_index}
-use Rattle.map_level.proofs.FindingLemmas.{place_at}
-use Rattle.map_level.specs.Findings.{place}
+use Rattle.map_level.proofs.FindingLemmas.{rank_at}
+use Rattle.map_level.specs.Findings.{rank}
 use Rattle.map_level.specs.declared.finding.Code.{Code}
 use Rattle.map_level.specs.declared.finding.Code.TheVariants.{F1}
 use Rattle.map_level.specs.declared.search.TheConstants.{CODE_COUNT}
@@ -17,17 +17,17 @@ use Rattle.map_level.specs.Level.{Level}
 use Rattle.wad_lens.specs.LevelLines.{AreCounted, code_part, findings_part}
 use Rattle.wad_look.proofs.RestLemmas.{drop-at}
 
--- what is told of the codes from a place on begins with the code there
+-- what is told of the codes from a rank on begins with the code there
 pub codes-drop : (part : Code → List ℕ) (i : ℕ) (code : Code) → i < CODE_COUNT → code ≡ get_or report_order i F1
     → flat_map part (drop i report_order) ≡ part code ++ flat_map part (drop (i + 1) report_order)
 codes-drop part i code below is =
     let at = drop-at report_order i code (slice_get-get_or report_order i F1 below ∙ ap (λ c. Some c) (sym is)) in
     rw at refl
 
--- how often the code of a place holds
+-- how often the code of a rank holds
 pub counted_at : (counts : List ℕ) (told : Code → List ℕ) (i : ℕ) (code : Code) → AreCounted counts told → i < CODE_COUNT → code ≡ get_or report_order i F1
     → length (told code) ≡ slice_index counts i
-counted_at counts told i code counted below is = counted code ∙ ap (slice_index counts) (ap place is ∙ place_at i F1 below)
+counted_at counts told i code counted below is = counted code ∙ ap (slice_index counts) (ap rank is ∙ rank_at i F1 below)
 
 -- of what is told of all codes nothing was written
 pub codes-none : (path name : List ℕ) (most : ℕ) (level : Level) (told : Code → List ℕ) (before : SinkState)

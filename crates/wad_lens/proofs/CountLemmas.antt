@@ -5,8 +5,8 @@ use Rattle.std.proofs.lemmas.Bool.{cases_eq, cases_lt}
 use Rattle.std.proofs.lemmas.List.{length-append}
 use Rattle.std.proofs.lemmas.List.Elements.{Contains-push, Contains-push_cases, Contains-append_left, Contains-get_or}
 use Rattle.std.proofs.lemmas.List.Quantifiers.{all_pairs_push}
-use Rattle.map_level.proofs.FindingLemmas.{place_at, place-below, same_from_place}
-use Rattle.map_level.specs.Findings.{place, IsFirst}
+use Rattle.map_level.proofs.FindingLemmas.{rank_at, rank-below, same_from_rank}
+use Rattle.map_level.specs.Findings.{rank, IsFirst}
 use Rattle.map_level.specs.declared.finding.Code.{Code}
 use Rattle.map_level.specs.declared.finding.Code.TheVariants.{F1}
 use Rattle.wad_lens.specs.Counts.{IsCount, report_order}
@@ -68,6 +68,6 @@ all_counted holds from count before none = record {
   counted = before.counted;
 }
 
--- the code at a place of the order
-pub order-place : (code : Code) → get_or report_order (place code) F1 ≡ code
-order-place code = same_from_place _ code (place_at (place code) F1 (place-below code))
+-- the code at a rank of the order
+pub order-rank : (code : Code) → get_or report_order (rank code) F1 ≡ code
+order-rank code = same_from_rank _ code (rank_at (rank code) F1 (rank-below code))

@@ -7,8 +7,8 @@ use Rattle.std.proofs.lemmas.List.Elements.{Contains-get_or}
 use Rattle.std.proofs.lemmas.List.Sums.{get_or-le-sum_by, sum_by-le}
 use Rattle.map_audit.proofs.LawLemmas.{law_sound_is_no_fault}
 use Rattle.map_audit.specs.Findings.{AuditHolds}
-use Rattle.map_level.proofs.FindingLemmas.{place_at}
-use Rattle.map_level.specs.Findings.{is_fault, place}
+use Rattle.map_level.proofs.FindingLemmas.{rank_at}
+use Rattle.map_level.specs.Findings.{is_fault, rank}
 use Rattle.map_level.specs.declared.finding.Code.TheVariants.{F1}
 use Rattle.wad_lens.specs.Counts.{IsCount, report_order}
 use Rattle.wad_lens.specs.Laws.{FaultlessIsSound}
@@ -46,11 +46,11 @@ pub law_faultless_is_sound : FaultlessIsSound
 law_faultless_is_sound level counts are = (
   (λ none. (law_sound_is_no_fault level).1 (λ code i fault.
       none_counted (AuditHolds level code) _ (are.each code)
-      (each_zero counts 18 (place code) (omega (arith, are.all)) none (ltb-true (place code) 18 fault)) i)),
+      (each_zero counts 18 (rank code) (omega (arith, are.all)) none (ltb-true (rank code) 18 fault)) i)),
   (λ sound. zero_sum counts 18 (λ k below.
       let code = get_or report_order k F1 in
-      let at : place code ≡ k = place_at k F1 (omega arith) in
-      let fault : IsTrue (is_fault code) = lt-ltb (place code) 18 (omega (arith, at, below)) in
+      let at : rank code ≡ k = rank_at k F1 (omega arith) in
+      let fault : IsTrue (is_fault code) = lt-ltb (rank code) 18 (omega (arith, at, below)) in
       subst (λ (p : ℕ). slice_index counts p ≡ 0) at
       (nothing_holds (AuditHolds level code) _ (are.each code) (λ i. (law_sound_is_no_fault level).0 sound code i fault)))),
 )

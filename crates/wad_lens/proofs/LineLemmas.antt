@@ -6,9 +6,9 @@ use Rattle.std.proofs.lemmas.Bool.{cases_eq, cases_order, eq-eqb, le-ltb, lt-ltb
 use Rattle.std.proofs.lemmas.List.{take_all, take_more}
 use Rattle.std.proofs.lemmas.List.Concat.{flat_map-append}
 use Rattle.map_audit.specs.Findings.{AuditHolds}
-use Rattle.map_level.proofs.FindingLemmas.{place_at, place-below, same_from_place}
+use Rattle.map_level.proofs.FindingLemmas.{rank_at, rank-below, same_from_rank}
 use Rattle.map_level.proofs.OneListLemmas.{pairs-head, pairs-tail}
-use Rattle.map_level.specs.Findings.{StandsBefore, place}
+use Rattle.map_level.specs.Findings.{StandsBefore, rank}
 use Rattle.map_level.specs.Level.{Level}
 use Rattle.map_level.specs.declared.finding.Code.{Code}
 use Rattle.map_level.specs.declared.finding.Code.TheVariants.{F1}
@@ -21,10 +21,10 @@ use Rattle.wad_lens.specs.LevelLines.{code_lines, code_part, findings_part}
 use Rattle.wad_lens.proofs.ReportLemmas.{indexes_of_report, pick}
 
 module _ (line : Finding → List ℕ) where
-  -- the lines of the findings whose code's place passes a test
+  -- the lines of the findings whose code's rank passes a test
   abbrev lines_where : (ℕ → Bool) → List Finding → List ℕ
   lines_where test [] = []
-  lines_where test (f ∷ found) = if test (place f.code) then line f ++ lines_where test found else lines_where test found
+  lines_where test (f ∷ found) = if test (rank f.code) then line f ++ lines_where test found else lines_where test found
 
   abbrev lines_below : ℕ → List Finding → List ℕ
   lines_below n found = lines_where (λ p. nat_lt p n) found
@@ -32,30 +32,30 @@ module _ (line : Finding → List ℕ) where
   abbrev lines_at : ℕ → List Finding → List ℕ
   lines_at n found = lines_where (λ p. p == n) found
 
-  none_below : (n : ℕ) (found : List Finding) → ((f : Finding) → Contains found f → n ≤ place f.code) → lines_below n found ≡ []
+  none_below : (n : ℕ) (found : List Finding) → ((f : Finding) → Contains found f → n ≤ rank f.code) → lines_below n found ≡ []
   none_below n [] above = refl
   none_below n (f ∷ found) above =
-      let here : n ≤ place f.code = above f (0, omega arith, refl) in
-      rw (le-ltb (place f.code) n here) (none_below n found (λ g there. above g (suc there.0, omega (arith, there.1), there.2)))
+      let here : n ≤ rank f.code = above f (0, omega arith, refl) in
+      rw (le-ltb (rank f.code) n here) (none_below n found (λ g there. above g (suc there.0, omega (arith, there.1), there.2)))
 
-  -- the findings of one place more
+  -- the findings of one rank more
   lines_more : (n : ℕ) (found : List Finding) → AllPairs StandsBefore found → lines_below (n + 1) found ≡ lines_below n found ++ lines_at n found
   lines_more n [] pairs = refl
   lines_more n (f ∷ found) pairs =
       let rest = lines_more n found (pairs-tail StandsBefore f found pairs) in
-      elim (cases_order (place f.code) n) [
+      elim (cases_order (rank f.code) n) [
         | inl same ↦
             let none = none_below n found (λ g there. elim (pairs-head StandsBefore f found g pairs there) [
               | inl less ↦ omega (arith, less, same)
-              | inr stands ↦ omega (arith, ap place stands.0, same)
+              | inr stands ↦ omega (arith, ap rank stands.0, same)
             ]) in
-            rw (lt-ltb (place f.code) (n + 1) (omega arith), le-ltb (place f.code) n (omega arith), eq-eqb (place f.code) n same) (rw (rest, none) refl)
+            rw (lt-ltb (rank f.code) (n + 1) (omega arith), le-ltb (rank f.code) n (omega arith), eq-eqb (rank f.code) n same) (rw (rest, none) refl)
         | inr other ↦ elim other [
           | inl less ↦
-              rw (lt-ltb (place f.code) (n + 1) (omega arith), lt-ltb (place f.code) n less, ne_eqb (place f.code) n (λ e. omega arith))
+              rw (lt-ltb (rank f.code) (n + 1) (omega arith), lt-ltb (rank f.code) n less, ne_eqb (rank f.code) n (λ e. omega arith))
               (rw rest (sym (append_assoc (line f) (lines_below n found) (lines_at n found))))
           | inr more ↦
-              rw (le-ltb (place f.code) (n + 1) (omega arith), le-ltb (place f.code) n (omega arith), ne_eqb (place f.code) n (λ e. omega arith)) rest
+              rw (le-ltb (rank f.code) (n + 1) (omega arith), le-ltb (rank f.code) n (omega arith), ne_eqb (rank f.code) n (λ e. omega arith)) rest
         ]
       ]
 
@@ -63,25 +63,25 @@ module _ (line : Finding → List ℕ) where
   abbrev pub lines_by : Code → List ℕ → List ℕ
   lines_by code indexes = flat_map (λ i. line (record { code = code; index = i })) indexes
 
-  lines_at-picked : (code : Code) (found : List Finding) → lines_at (place code) found ≡ lines_by code (pick code found)
+  lines_at-picked : (code : Code) (found : List Finding) → lines_at (rank code) found ≡ lines_by code (pick code found)
   lines_at-picked code [] = refl
   lines_at-picked code (f ∷ found) =
       let rest = lines_at-picked code found in
-      elim (cases_eq (place f.code) (place code)) [
+      elim (cases_eq (rank f.code) (rank code)) [
         | inl same ↦
             let one : line f ≡ line (record { code = code; index = f.index }) =
-            ap (λ c. line (record { code = c; index = f.index })) (same_from_place f.code code same) in
-            rw (eq-eqb (place f.code) (place code) same) (rw (one, rest) refl)
-        | inr differs ↦ rw (ne_eqb (place f.code) (place code) differs) rest
+            ap (λ c. line (record { code = c; index = f.index })) (same_from_rank f.code code same) in
+            rw (eq-eqb (rank f.code) (rank code) same) (rw (one, rest) refl)
+        | inr differs ↦ rw (ne_eqb (rank f.code) (rank code) differs) rest
       ]
 
-  -- those of the first codes are those of the findings below a place
+  -- those of the first codes are those of the findings below a rank
   lines_of_first : (found : List Finding) → AllPairs StandsBefore found → (n : ℕ) → n ≤ CODE_COUNT
       → flat_map (λ code. lines_by code (pick code found)) (take n report_order) ≡ lines_below n found
   lines_of_first found pairs zero within = sym (none_below 0 found (λ f there. omega arith))
   lines_of_first found pairs (suc n) within =
       let code = get_or report_order n F1 in
-      let at : place code ≡ n = place_at n F1 (omega arith) in
+      let at : rank code ≡ n = rank_at n F1 (omega arith) in
       let here : lines_at n found ≡ lines_by code (pick code found) = subst (λ p. lines_at p found ≡ lines_by code (pick code found)) at (lines_at-picked code found) in
       let before = lines_of_first found pairs n (omega arith) in
       let cut : take (n + 1) report_order ≡ take n report_order ++ code ∷ [] = take_more report_order n F1 (omega arith) in
@@ -94,7 +94,7 @@ module _ (line : Finding → List ℕ) where
 
   lines_of_all : (found : List Finding) → lines_below CODE_COUNT found ≡ flat_map line found
   lines_of_all [] = refl
-  lines_of_all (f ∷ found) = rw (lt-ltb (place f.code) CODE_COUNT (place-below f.code)) (ap (λ text. line f ++ text) (lines_of_all found))
+  lines_of_all (f ∷ found) = rw (lt-ltb (rank f.code) CODE_COUNT (rank-below f.code)) (ap (λ text. line f ++ text) (lines_of_all found))
 
   -- and those of all codes those of the report
   pub lines_of_report : (found : List Finding) → AllPairs StandsBefore found

@@ -6,7 +6,7 @@ use Rattle.std.proofs.lemmas.Bool.{lt-ltb, le-ltb}
 use Rattle.std.proofs.lemmas.List.{append-nil, drop_all}
 use Rattle.le_rec.specs.Sink.{SinkState}
 use Rattle.line_io.proofs.WriteProgressLemmas.{SoFar, SoFar-none}
-use Rattle.map_level.proofs.FindingLemmas.{place_at}
+use Rattle.map_level.proofs.FindingLemmas.{rank_at}
 use Rattle.map_level.specs.declared.finding.Code.TheVariants.{F1}
 use Rattle.map_level.specs.declared.search.TheConstants.{CODE_COUNT}
 use Rattle.wad_lens.specs.Counts.{report_order}
@@ -28,15 +28,15 @@ filter-yes p x xs passes = rw passes refl
 filter-no : {X : Type 0} (p : X → Bool) (x : X) (xs : List X) → p x ≡ false → filter p (x ∷ xs) ≡ filter p xs
 filter-no p x xs fails = rw fails refl
 
--- the codes from a place on
+-- the codes from a rank on
 order-drop : (i : ℕ) → i < CODE_COUNT → drop i report_order ≡ get_or report_order i F1 ∷ drop (i + 1) report_order
 order-drop i below = let within : i < length report_order = omega arith in rw (add-one, drop-cons report_order i F1) refl
 
--- the count of the code of a place
+-- the count of the code of a rank
 pub count-at : (counts : List ℕ) (i : ℕ) → i < CODE_COUNT → count_of counts (get_or report_order i F1) ≡ slice_index counts i
-count-at counts i below = ap (λ at. slice_index counts at) (place_at i F1 below)
+count-at counts i below = ap (λ at. slice_index counts at) (rank_at i F1 below)
 
--- the members of the codes from a place on, where the first of them holds
+-- the members of the codes from a rank on, where the first of them holds
 pub members-some : (counts : List ℕ) (i count : ℕ) → i < CODE_COUNT → count ≡ slice_index counts i → 0 < count
     → count_members counts (drop i report_order) ≡ count_member (get_or report_order i F1) count ∷ count_members counts (drop (i + 1) report_order)
 members-some counts i count below is some =

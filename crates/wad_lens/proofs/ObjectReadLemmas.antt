@@ -16,7 +16,7 @@ use Rattle.level_list.specs.declared.format.Format.{Format}
 use Rattle.level_list.specs.declared.format.Format.TheVariants.{Udmf, Incomplete, Hexen, Outside, Extended, Doom}
 use Rattle.map_checks.specs.declared.warning.WarningCode.{WarningCode}
 use Rattle.map_checks.specs.declared.warning.WarningCode.TheVariants.{W1, W2, W3, W4, W5, W6, W7, W8}
-use Rattle.map_level.specs.Findings.{is_fault, place}
+use Rattle.map_level.specs.Findings.{is_fault, rank}
 use Rattle.map_level.specs.Level.{Level}
 use Rattle.map_level.specs.declared.finding.Code.{Code}
 use Rattle.map_level.specs.declared.finding.Code.TheVariants.{F1, F2, F3, F4, F5, F6, F7, F8, F9, F10, F11, F12, F13, F14, F15, F16, F17, F18, N1, N2, N3, N4, N5, N6, N7, N8, N9, N10, N11, N12}
@@ -141,7 +141,7 @@ chosen true fault note rest = ap (λ t. 70 ∷ (t ++ rest)) (sym (append-nil fau
 chosen false fault note rest = ap (λ t. 78 ∷ (t ++ rest)) (sym (append-nil note))
 
 code_before : (code : Code) (rest : List ℕ) → code_text code rest ≡ code_text code [] ++ rest
-code_before code rest = chosen (is_fault code) (decimal (place code + 1)) (decimal (place code - 17)) rest
+code_before code rest = chosen (is_fault code) (decimal (rank code + 1)) (decimal (rank code - 17)) rest
 
 counted_texts : (counts : List ℕ) (all : List Code)
     → map (λ code. count_member code (count_of counts code)) all ≡ map (λ code. 34 ∷ (code_text code [] ++ (34 ∷ 58 ∷ decimal (count_of counts code)))) all
@@ -170,9 +170,9 @@ behind xs n k above = elim (cases_lt k (length xs)) [
 ]
 
 count_small : (counts : List ℕ) → fault_total counts < 2 ^ 64 → note_total counts < 2 ^ 64 → (code : Code) → count_of counts code < 2 ^ 64
-count_small counts faults notes code = elim (cases_lt (place code) 18) [
-  | inl front ↦ omega (arith, in_front counts 18 (place code) front, faults)
-  | inr back ↦ omega (arith, behind counts 18 (place code) back, notes)
+count_small counts faults notes code = elim (cases_lt (rank code) 18) [
+  | inl front ↦ omega (arith, in_front counts 18 (rank code) front, faults)
+  | inr back ↦ omega (arith, behind counts 18 (rank code) back, notes)
 ]
 
 findings_tell : (counts : List ℕ) → fault_total counts < 2 ^ 64 → note_total counts < 2 ^ 64

@@ -16,14 +16,13 @@ use Rattle.level_list.specs.Format.{IsFormat}
 use Rattle.level_list.specs.Starts.{IsNextStart, LevelStartsAt, NoneStartsFrom}
 use Rattle.level_list.specs.declared.format.Format.{Format}
 use Rattle.level_list.specs.declared.format.Format.TheVariants.{Udmf, Incomplete, Hexen, Outside, Extended, Doom}
-use Rattle.line_io.specs.Writes.{TakesFront, Writes}
+use Rattle.line_io.specs.Writes.{Writes}
 use Rattle.line_io.specs.declared.fault.IoFault.{IoFault}
 use Rattle.line_io.specs.declared.fault.IoFault.TheVariants as io
-use Rattle.line_io.proofs.WriteLemmas.{TakesFront-after}
 use Rattle.wad_lens.specs.declared.judging.Judging.{Judging}
 use Rattle.wad_dir.specs.Entries.{names}
 use Rattle.wad_dir.specs.Wad.{IsRead, Wad}
-use Rattle.wad_lens.specs.Objects.{HasPlace, level_members, other_members}
+use Rattle.wad_lens.specs.Objects.{NamesLump, level_members, other_members}
 use Rattle.wad_lens.specs.Survey.{AreStartsBelow, AreTold, AreToldBelow, EndsObject, IsTold, Surveys, SurveysAll, SurveysDoom, SurveysFile, SurveysLevel, SurveysSome, Told, WritesLine, WritesLevel}
 use Rattle.wad_lens.specs.Survey.{fault_after, gravest, graver, line_end, lines_of, verdict_of_format}
 use Rattle.wad_lens.specs.declared.verdict.FileFault.{FileFault}
@@ -165,12 +164,16 @@ stopped_in_line path files judging before between after from g worst why so_far 
           end = g + 1;
           told = told ++ one ∷ [];
           are = told_next path files judging from g told one so_far.are next wrote.is;
-          stops = (
-            subst (TakesFront before after) (sym (lines-push told one))
-                (TakesFront-after before between after (lines_of told) so_far.took writes.takes.front),
-            line_stopped between after one.line e writes,
-            ap (λ v. graver v one.verdict) so_far.says ∙ sym (fold_push (λ v (t : Told). graver v t.verdict) Clean told one),
-          );
+          stops = record {
+            whole = told;
+            last = one;
+            are = refl;
+            between = between;
+            took = so_far.took;
+            front = writes.takes.front;
+            failed = line_stopped between after one.line e writes;
+            says = ap (λ v. graver v one.verdict) so_far.says ∙ sym (fold_push (λ v (t : Told). graver v t.verdict) Clean told one);
+          };
         })
 
 -- it stopped before a level for want of memory
@@ -199,14 +202,14 @@ told_all path files judging before after from worst so_far none sound = record {
   says = so_far.says;
 }
 
--- the place that tells a format is one of the ten
-pub place_of_format : (files : List Wad) (g : ℕ) (format : Format) → IsFormat files g format → HasPlace format
-place_of_format files g Udmf is = tt
-place_of_format files g (Incomplete k) is = (omega (arith, is.1.from), is.1.to)
-place_of_format files g Hexen is = tt
-place_of_format files g (Outside k) is = (is.1.from, is.1.to)
-place_of_format files g (Extended tag) is = tt
-place_of_format files g Doom is = tt
+-- the lump that tells a format is one of the ten
+pub lump_of_format : (files : List Wad) (g : ℕ) (format : Format) → IsFormat files g format → NamesLump format
+lump_of_format files g Udmf is = tt
+lump_of_format files g (Incomplete k) is = (omega (arith, is.1.from), is.1.to)
+lump_of_format files g Hexen is = tt
+lump_of_format files g (Outside k) is = (is.1.from, is.1.to)
+lump_of_format files g (Extended tag) is = tt
+lump_of_format files g Doom is = tt
 
 -- how the object of a level ends whose format isn't Doom's
 pub other_ends : (files : List Wad) (judging : Judging) (g : ℕ) (format : Format) → (format ≡ Doom → ⊥)

@@ -17,11 +17,11 @@ use Rattle.map_level.specs.declared.reading.Reading.{Reading}
 use Rattle.map_level.specs.declared.reading.Reading.TheVariants.{Signed, Wide}
 use Rattle.map_tree.specs.Sound.{IsSound}
 use Rattle.wad_dir.specs.Entries.{names}
-use Rattle.wad_dir.specs.Refusal.{RefusesWad}
 use Rattle.wad_dir.specs.Wad.{IsRead, Wad}
 use Rattle.wad_lens.specs.Counts.{AreCounts}
 use Rattle.wad_lens.specs.FindingLine.{level_line}
 use Rattle.wad_lens.specs.FormatLine.{format_text}
+use Rattle.wad_lens.specs.Left.{LeavesFile, WantsMemory}
 use Rattle.wad_lens.specs.LevelLines.{AreCounted, AreTold, judged_text}
 use Rattle.wad_lens.specs.Survey.{graver}
 use Rattle.wad_lens.specs.Totals.{format_totals, judged_totals, no_totals, totals_with, verdict_with}
@@ -98,18 +98,20 @@ pub record ChecksAll (asked : Asked) (files : List Wad) (before after : SinkStat
   pub took : Appends before.taken after.taken text
   pub sound : after.failed ≡ false
 
--- a write failed within the text of a level, and so much was found up to there
+-- all levels before one were told, and a write failed within its text; so much was found up to there and with it
 pub record StopsWriting (asked : Asked) (files : List Wad) (before after : SinkState) (found : Verdict) : Type 0 where
   pub from : ℕ
   pub text : List ℕ
   pub sum : Totals
   pub told : ToldTo asked files from text sum
+  pub between : SinkState
+  pub took : Appends before.taken between.taken text
   pub g : ℕ
   pub next : IsNextStart (names files) from g
   pub line : List ℕ
   pub totals : Totals
   pub is : IsLevelText asked files g line totals
-  pub took : TakesFront before after (text ++ line)
+  pub front : TakesFront between after line
   pub failed : after.failed ≡ true
   pub says : found ≡ graver (verdict_with asked.judging.warnings sum) (verdict_with asked.judging.warnings totals)
 
@@ -133,11 +135,6 @@ pub record Checks (asked : Asked) (files : List Wad) (before after : SinkState) 
   pub all : IfOk result (ChecksAll asked files before after)
   pub some : IfErr result (ChecksSome asked files before after)
 
--- nothing was written for want of memory
-pub record WantsMemory {W T : Type 0} (out out' : W) (result : Result T FileFault) : Type 0 where
-  pub ended : result ≡ Err Memory
-  pub untouched : out' ≡ out
-
 -- the end of a level's text: its totals, where the text was written
 abbrev pub text_end : Warnings → Totals → Result (Unit {0}) IoFault → Result Totals FileFault
 text_end warnings totals (Ok x) = Ok totals
@@ -155,19 +152,6 @@ pub record WritesText (warnings : Warnings) (Is : List ℕ → Totals → Type 0
 -- one of the two
 abbrev pub ChecksText : {W : Type 0} → (W → SinkState) → Warnings → (List ℕ → Totals → Type 0) → W → W → Result Totals FileFault → Type 0
 ChecksText state warnings Is out out' result = WantsMemory out out' result ⊎ WritesText warnings Is (state out) (state out') result
-
--- why a file isn't checked: its bytes have no directory, or a growth was refused
-abbrev pub RefusesCheck : List ℕ → FileFault → Type 0
-RefusesCheck bytes (NoWad why) = RefusesWad bytes why
-RefusesCheck bytes Memory = Unit {0}
-RefusesCheck bytes (Write found) = ⊥
-
--- the file wasn't checked, and nothing was written
-pub record LeavesFile {W : Type 0} (bytes : List ℕ) (out out' : W) (result : Result Totals FileFault) : Type 0 where
-  pub fault : FileFault
-  pub ended : result ≡ Err fault
-  pub holds : RefusesCheck bytes fault
-  pub untouched : out' ≡ out
 
 -- the file's levels were checked
 pub record ChecksFile (asked : Asked) (bytes : List ℕ) (before after : SinkState) (result : Result Totals FileFault) : Type 0 where

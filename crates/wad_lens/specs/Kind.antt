@@ -1,7 +1,7 @@
 -- What a code is found at, and how both are written (ours).
 use Rattle.std.specs.Prelude.{ℕ, ◌+◌, ◌-◌, List, ◌++◌, codes, if◌then◌else◌}
 use Rattle.std.specs.Fmt.{decimal}
-use Rattle.map_level.specs.Findings.{place, is_fault}
+use Rattle.map_level.specs.Findings.{rank, is_fault}
 use Rattle.map_level.specs.declared.finding.Code.{Code}
 use Rattle.map_level.specs.declared.finding.Code.TheVariants.{F1, F2, F3, F4, F5, F6, F7, F8, F9, F10, F11, F12, F13, F14, F15, F16, F17, F18, N1, N2, N3, N4, N5, N6, N7, N8, N9, N10, N11, N12}
 use Rattle.wad_lens.specs.declared.kind.Kind.{Kind}
@@ -56,5 +56,5 @@ kind_name Whole = codes "level"
 abbrev pub code_text : Code → List ℕ → List ℕ
 code_text code rest =
     if is_fault code
-    then codes "F" ++ (decimal (place code + 1) ++ rest)
-    else codes "N" ++ (decimal (place code - 17) ++ rest)
+    then codes "F" ++ (decimal (rank code + 1) ++ rest)
+    else codes "N" ++ (decimal (rank code - 17) ++ rest)

@@ -10,7 +10,7 @@ use Rattle.level_list.specs.Starts.{LevelStartsAt}
 use Rattle.level_list.specs.declared.format.Format.{Format}
 use Rattle.level_list.specs.declared.format.Format.TheVariants.{Doom}
 use Rattle.map_audit.specs.Findings.{AuditHolds}
-use Rattle.map_level.specs.Findings.{AreFindings, is_fault, place}
+use Rattle.map_level.specs.Findings.{AreFindings, is_fault, rank}
 use Rattle.map_level.specs.Level.{Level}
 use Rattle.map_level.specs.Opening.{IsLevelAt}
 use Rattle.map_level.specs.declared.finding.Code.{Code}
@@ -36,7 +36,7 @@ FaultlessIsSound = (level : Level) (counts : List ℕ) → AreCounts (AuditHolds
 
 -- the counts are those of a list of findings: of each code, of the faults and of the notes
 pub record CountFindings (counts : List ℕ) (found : List Finding) : Type 0 where
-  pub each : (code : Code) → slice_index counts (place code) ≡ count_by (λ f. place f.code == place code) found
+  pub each : (code : Code) → slice_index counts (rank code) ≡ count_by (λ f. rank f.code == rank code) found
   pub faults : fault_total counts ≡ count_by (λ f. is_fault f.code) found
   pub notes : note_total counts ≡ count_by (λ f. not (is_fault f.code)) found
 

@@ -2,7 +2,7 @@
 use Rattle.std.specs.Prelude.{◌≡◌, ◌↔◌, ℕ, ◌-◌, ◌<◌, Bool, List, [], ◌∷◌, ◌++◌, length, min, take, AllPairs, Contains, codes, nat_eq, slice_index, if◌then◌else◌}
 use Rattle.std.specs.Fmt.{decimal}
 use Rattle.std.specs.List.{flat_map}
-use Rattle.map_level.specs.Findings.{place}
+use Rattle.map_level.specs.Findings.{rank}
 use Rattle.map_level.specs.Level.{Level}
 use Rattle.map_level.specs.declared.finding.Code.{Code}
 use Rattle.wad_lens.specs.Counts.{report_order}
@@ -48,9 +48,9 @@ findings_part path name most level told = flat_map (λ code. code_part path name
 abbrev pub wide_part : List ℕ → List ℕ → Bool → List ℕ
 wide_part path name is_sound = if is_sound then level_line path name (codes "sound with --wide" ++ 10 ∷ []) else []
 
--- how many indexes each code has, by the codes' places
+-- how many indexes each code has, by the codes' ranks
 abbrev pub AreCounted : List ℕ → (Code → List ℕ) → Type 0
-AreCounted counts told = (code : Code) → length (told code) ≡ slice_index counts (place code)
+AreCounted counts told = (code : Code) → length (told code) ≡ slice_index counts (rank code)
 
 -- the lines of a judged level: its findings, its warnings, and whether the wide reading alone finds it sound
 abbrev pub judged_text : List ℕ → List ℕ → ℕ → Level → (Code → List ℕ) → List Warned → Bool → List ℕ

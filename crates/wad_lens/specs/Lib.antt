@@ -7,6 +7,7 @@ pub mod Kind
 pub mod Laws
 pub mod WarningLine
 pub mod Warned
+pub mod Left
 pub mod LevelLines
 pub mod Message
 pub mod ObjectValues

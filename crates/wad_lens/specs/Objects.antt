@@ -4,7 +4,7 @@ use Rattle.std.specs.List.{flat_map, join_with_byte}
 use Rattle.le_rec.specs.Name.{shown_name}
 use Rattle.level_list.specs.declared.format.Format.{Format}
 use Rattle.level_list.specs.declared.format.Format.TheVariants.{Udmf, Incomplete, Hexen, Outside, Extended, Doom}
-use Rattle.map_level.specs.Findings.{place}
+use Rattle.map_level.specs.Findings.{rank}
 use Rattle.map_level.specs.Level.{Level}
 use Rattle.map_level.specs.LinkFaults.{usual_names}
 use Rattle.map_level.specs.declared.finding.Code.{Code}
@@ -77,7 +77,7 @@ count_member code count = codes "\"" ++ code_text code (codes "\":" ++ decimal c
 
 -- how often a code holds, by the counts of all codes
 abbrev pub count_of : List ℕ → Code → ℕ
-count_of counts code = slice_index counts (place code)
+count_of counts code = slice_index counts (rank code)
 
 -- those of some codes that hold
 abbrev pub count_members : List ℕ → List Code → List (List ℕ)
@@ -111,7 +111,7 @@ abbrev pub doom_members : Level → List ℕ → Warnings → List Warned → Li
 doom_members level counts warnings warned =
     flat_map (λ text. text) (lump_members level) ++ (found_members counts ++ (warnings_member warnings warned ++ codes "}\n"))
 
--- the usual name of a lump, by its place after the label
+-- the usual name of a lump, by its number behind the label
 abbrev pub usual_name : ℕ → List ℕ
 usual_name k = slice_index_or usual_names (k - 1) []
 
@@ -128,11 +128,11 @@ telling_members Doom = []
 abbrev pub other_members : Format → List ℕ
 other_members format = telling_members format ++ codes "}\n"
 
--- the place that tells a format is one of the ten
-abbrev pub HasPlace : Format → Type 0
-HasPlace (Incomplete k) = (1 ≤ k) × (k ≤ 10)
-HasPlace (Outside k) = (1 ≤ k) × (k ≤ 10)
-HasPlace _ = Unit {0}
+-- the lump that tells a format is one of the ten
+abbrev pub NamesLump : Format → Type 0
+NamesLump (Incomplete k) = (1 ≤ k) × (k ≤ 10)
+NamesLump (Outside k) = (1 ≤ k) × (k ≤ 10)
+NamesLump _ = Unit {0}
 
 -- why a file is refused, in words
 abbrev pub refusal_text : Refusal → List ℕ

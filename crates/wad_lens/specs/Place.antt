@@ -5,7 +5,7 @@ use Rattle.std.specs.List.{slice_get}
 use Rattle.std.specs.Option.{option_map_or}
 use Rattle.std.specs.Ordering.{int_eq}
 use Rattle.le_rec.specs.declared.records.LineDef.{LineDef}
-use Rattle.map_level.specs.Findings.{place}
+use Rattle.map_level.specs.Findings.{rank}
 use Rattle.map_level.specs.Level.{Level}
 use Rattle.map_level.specs.Links.{named, no_side, ◌>>=◌}
 use Rattle.map_level.specs.Reading.{number_of}
@@ -75,7 +75,7 @@ place_at level _ i = Nowhere
 
 -- where a finding lies; the message of F12 tells the node's origin itself
 abbrev pub place_of : Level → Code → ℕ → Place
-place_of level code i = if nat_eq (place code) (place F12) then Nowhere else place_at level (kind_of code) i
+place_of level code i = if nat_eq (rank code) (rank F12) then Nowhere else place_at level (kind_of code) i
 
 -- `(X, Y)`, before other bytes
 abbrev pub spot_text : ℤ → ℤ → List ℕ → List ℕ

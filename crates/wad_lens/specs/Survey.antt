@@ -13,9 +13,9 @@ use Rattle.map_audit.specs.Findings.{AuditHolds}
 use Rattle.map_level.specs.Level.{Level}
 use Rattle.map_level.specs.Opening.{IsLevelAt}
 use Rattle.wad_dir.specs.Entries.{names}
-use Rattle.wad_dir.specs.Refusal.{RefusesWad}
 use Rattle.wad_dir.specs.Wad.{IsRead, Wad}
 use Rattle.wad_lens.specs.Counts.{AreCounts, fault_total}
+use Rattle.wad_lens.specs.Left.{LeavesFile, WantsMemory}
 use Rattle.wad_lens.specs.Objects.{doom_members, level_members, other_members}
 use Rattle.wad_lens.specs.Warned.{AreAskedFor, Warned, warned_total, warned_verdict}
 use Rattle.wad_lens.specs.declared.judging.Judging.{Judging}
@@ -114,9 +114,20 @@ pub record SurveysAll (path : List ℕ) (files : List Wad) (judging : Judging) (
   pub sound : after.failed ≡ false
   pub says : verdict ≡ gravest told
 
--- how a survey stops: at a failed write within the line of the last level of these, or where there is no memory to judge the next one
+-- the lines of all but the last of these levels were taken, and a write failed within that of the last
+pub record StopsWriting (before after : SinkState) (told : List Told) (found : Verdict) : Type 0 where
+  pub whole : List Told
+  pub last : Told
+  pub are : told ≡ whole ++ last ∷ []
+  pub between : SinkState
+  pub took : Appends before.taken between.taken (lines_of whole)
+  pub front : TakesFront between after last.line
+  pub failed : after.failed ≡ true
+  pub says : found ≡ gravest told
+
+-- how a survey stops: at a failed write within the line of the last of these levels, or where there is no memory to judge the next one
 abbrev pub StopsLines : SinkState → SinkState → List Told → FileFault → Type 0
-StopsLines before after told (Write found) = TakesFront before after (lines_of told) × (after.failed ≡ true) × (found ≡ gravest told)
+StopsLines before after told (Write found) = StopsWriting before after told found
 StopsLines before after told Memory = Appends before.taken after.taken (lines_of told) × (after.failed ≡ false)
 StopsLines before after told (NoWad why) = ⊥
 
@@ -131,19 +142,6 @@ pub record SurveysSome (path : List ℕ) (files : List Wad) (judging : Judging) 
 pub record Surveys (path : List ℕ) (files : List Wad) (judging : Judging) (before after : SinkState) (result : Result Verdict FileFault) : Type 0 where
   pub all : IfOk result (SurveysAll path files judging before after)
   pub some : IfErr result (SurveysSome path files judging before after)
-
--- why a file isn't surveyed: its bytes have no directory, or a growth was refused
-abbrev pub RefusesSurvey : List ℕ → FileFault → Type 0
-RefusesSurvey bytes (NoWad why) = RefusesWad bytes why
-RefusesSurvey bytes Memory = Unit {0}
-RefusesSurvey bytes (Write found) = ⊥
-
--- the file wasn't surveyed, and nothing was written
-pub record LeavesFile {W : Type 0} (bytes : List ℕ) (out out' : W) (result : Result Verdict FileFault) : Type 0 where
-  pub fault : FileFault
-  pub ended : result ≡ Err fault
-  pub holds : RefusesSurvey bytes fault
-  pub untouched : out' ≡ out
 
 -- the file's levels were surveyed
 pub record SurveysFile (path bytes : List ℕ) (judging : Judging) (before after : SinkState) (result : Result Verdict FileFault) : Type 0 where
@@ -174,11 +172,6 @@ pub record WritesDoom (path : List ℕ) (files : List Wad) (judging : Judging) (
   pub verdict : Verdict
   pub judged : IsJudged files judging g members verdict
   pub writes : WritesLine before after (level_members path name g Doom ++ members) verdict result
-
--- nothing was written for want of memory
-pub record WantsMemory {W : Type 0} (out out' : W) (result : Result Verdict FileFault) : Type 0 where
-  pub ended : result ≡ Err Memory
-  pub untouched : out' ≡ out
 
 -- one of the two
 abbrev pub SurveysDoom : {W : Type 0} → (W → SinkState) → List ℕ → List Wad → Judging → List ℕ → ℕ → W → W → Result Verdict FileFault → Type 0

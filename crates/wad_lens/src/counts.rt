@@ -2,7 +2,7 @@
 
 ghost use Rattle.std.specs.Prelude.{◌≡◌, ◌<◌, ◌≤◌, drop, length, sum, slice_index, take, IfOk};
 ghost use Rattle.map_audit.specs.Findings.{AuditHolds};
-ghost use Rattle.map_level.specs.Findings.{place};
+ghost use Rattle.map_level.specs.Findings.{rank};
 ghost use Rattle.map_level.specs.declared.finding.Code.TheVariants.{F1};
 ghost use Rattle.std.specs.Prelude.{slice_index_or};
 ghost use Rattle.wad_lens.specs.Counts.{AreCounts, IsCount, fault_total, note_total, report_order};
@@ -13,7 +13,7 @@ use map_level::{Code, Level};
 use std::alloc::{AllocError, Allocator};
 use std::marker::Model;
 
-/// How often each code holds of a level, by the codes' places.
+/// How often each code holds of a level, by the codes' ranks.
 #[derive(Drop)]
 pub struct Counts {
     counts: [u32; CODE_COUNT],
@@ -39,35 +39,35 @@ impl Counts {
         Ok(count_all(&parts))
     }
 
-    /// How often the code of a place holds.
-    pub fn get(&self, place: usize) -> u32
-        requires { place < CODE_COUNT }
-        ensures { result ≡ slice_index self.now place }
+    /// How often the code of a rank holds.
+    pub fn get(&self, rank: usize) -> u32
+        requires { rank < CODE_COUNT }
+        ensures { result ≡ slice_index self.now rank }
     {
-        self.counts[place]
+        self.counts[rank]
     }
 
     /// How many of the findings are faults.
     pub fn faults(&self) -> u64
         ensures { result ≡ fault_total self.now }
     {
-        total(&self.counts[..usize::from(Code::N1.place())])
+        total(&self.counts[..usize::from(Code::N1.rank())])
     }
 
     /// How many of them are notes.
     pub fn notes(&self) -> u64
         ensures { result ≡ note_total self.now }
     {
-        total(&self.counts[usize::from(Code::N1.place())..])
+        total(&self.counts[usize::from(Code::N1.rank())..])
     }
 }
 
-/// The code of a place in the order of a report.
-pub fn code_at(place: usize) -> Code
-    requires { place < CODE_COUNT }
-    ensures { result ≡ slice_index_or report_order place F1 }
+/// The code of a rank in the order of a report.
+pub fn code_at(rank: usize) -> Code
+    requires { rank < CODE_COUNT }
+    ensures { result ≡ slice_index_or report_order rank F1 }
 {
-    CODES[place]
+    CODES[rank]
 }
 
 // The sum of some counts.

@@ -58,7 +58,7 @@ fn write_escaped<W: Sink>(text: &[u8], out: &mut W) -> Result<(), IoFault>
     emit(out, rest)
 }
 
-// The place of the first byte that needs to be escaped.
+// The index of the first byte that needs to be escaped.
 fn first_escape(text: &[u8]) -> Option<usize>
     ensures { result ≡ position needs_escape text.now }
 {
@@ -71,7 +71,7 @@ fn needs_escape(byte: u8) -> bool
     byte < 32 || byte == b'"' || byte == b'\\'
 }
 
-// The bytes behind a place.
+// The bytes behind an index.
 fn behind(text: &[u8], at: usize) -> &[u8]
     requires { at < length text.now }
     ensures { result.now ≡ drop (at + 1) text.now }
@@ -79,7 +79,7 @@ fn behind(text: &[u8], at: usize) -> &[u8]
     &text[at + 1..]
 }
 
-// Writes the bytes before the first one that needs to be escaped, which stands at a place, and that one.
+// Writes the bytes before the first one that needs to be escaped, which stands at an index, and that one.
 fn write_run<W: Sink>(text: &[u8], at: usize, out: &mut W) -> Result<(), IoFault>
     requires sound { (W.state out.old).failed ≡ false }
     requires within { at < length text.now }

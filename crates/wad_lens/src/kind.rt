@@ -66,10 +66,10 @@ pub fn prepend_code(line: &mut TextLine, code: Code)
     ensures length { length line.new ≤ length line.old + 4 }
 {
     if code.is_fault() {
-        line.prepend_small(code.place() + 1);
+        line.prepend_small(code.rank() + 1);
         line.prepend_bytes(b"F");
     } else {
-        line.prepend_small(code.place() - (Code::N1.place() - 1));
+        line.prepend_small(code.rank() - (Code::N1.rank() - 1));
         line.prepend_bytes(b"N");
     }
 }

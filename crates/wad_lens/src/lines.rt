@@ -7,7 +7,7 @@ ghost use Rattle.wad_lens.specs.FindingLine.{block_text, body_text, finding_line
 ghost use Rattle.le_rec.specs.Name.{shown_name};
 ghost use Rattle.level_list.specs.declared.format.Format.TheVariants as format;
 ghost use Rattle.wad_lens.specs.FormatLine.{format_text};
-ghost use Rattle.wad_lens.specs.Objects.{HasPlace};
+ghost use Rattle.wad_lens.specs.Objects.{NamesLump};
 ghost use Rattle.wad_lens.specs.Owners.{AreOwners};
 
 use crate::digits::{prepend_count, prepend_short};
@@ -100,7 +100,7 @@ pub fn write_format<W: Sink>(
     format: Format,
     out: &mut W,
 ) -> Result<(), IoFault>
-    requires place { HasPlace format }
+    requires lump { NamesLump format }
     requires sound { (W.state out.old).failed ≡ false }
     ensures { Writes (W.state out.old) (W.state out.new)
         (level_line heading.now.path.now heading.now.name (format_text format)) result }
@@ -112,7 +112,7 @@ pub fn write_format<W: Sink>(
 
 /// Writes the line of a format, without the path and the label before it.
 pub fn write_format_alone<W: Sink>(format: Format, out: &mut W) -> Result<(), IoFault>
-    requires place { HasPlace format }
+    requires lump { NamesLump format }
     requires sound { (W.state out.old).failed ≡ false }
     ensures { Writes (W.state out.old) (W.state out.new) (format_text format) result }
 {
@@ -123,7 +123,7 @@ pub fn write_format_alone<W: Sink>(format: Format, out: &mut W) -> Result<(), Io
 
 // What tells that a level isn't judged.
 fn prepend_format(line: &mut TextLine, format: Format)
-    requires place { HasPlace format }
+    requires lump { NamesLump format }
     requires empty { line.old ≡ [] }
     ensures text { line.new ≡ format_text format }
     ensures length { length line.new ≤ 108 }

@@ -7,7 +7,7 @@ ghost use Rattle.line_io.specs.declared.text_line.TheConstants.{ROOM};
 ghost use Rattle.map_level.specs.declared.finding.Code.TheVariants.{F1};
 ghost use Rattle.wad_lens.specs.Counts.{fault_total, note_total, report_order};
 ghost use Rattle.wad_lens.specs.JsonString.{bool_text, json_string};
-ghost use Rattle.wad_lens.specs.Objects.{HasPlace, count_member, doom_members, file_member, findings_text, format_member};
+ghost use Rattle.wad_lens.specs.Objects.{NamesLump, count_member, doom_members, file_member, findings_text, format_member};
 ghost use Rattle.wad_lens.specs.Objects.{format_name, found_members, label_members, level_members, lump_members, name_string};
 ghost use Rattle.wad_lens.specs.Objects.{number_member, other_members, refusal_text, refused_object, sound_members};
 ghost use Rattle.wad_lens.specs.Objects.{telling_members, usual_name, warnings_member};
@@ -178,7 +178,7 @@ pub fn format_name(format: Format) -> &'static [u8]
 
 /// Writes what the object of a level of another format than Doom's ends with.
 pub fn write_other<W: Sink>(format: Format, out: &mut W) -> Result<(), IoFault>
-    requires place { HasPlace format }
+    requires lump { NamesLump format }
     requires sound { (W.state out.old).failed ≡ false }
     ensures { Writes (W.state out.old) (W.state out.new) (other_members format) result }
 {
@@ -188,7 +188,7 @@ pub fn write_other<W: Sink>(format: Format, out: &mut W) -> Result<(), IoFault>
 
 // Writes what tells a format.
 fn write_telling<W: Sink>(format: Format, out: &mut W) -> Result<(), IoFault>
-    requires place { HasPlace format }
+    requires lump { NamesLump format }
     requires sound { (W.state out.old).failed ≡ false }
     ensures { Writes (W.state out.old) (W.state out.new) (telling_members format) result }
 {
@@ -201,7 +201,7 @@ fn write_telling<W: Sink>(format: Format, out: &mut W) -> Result<(), IoFault>
 
 // `,"lump":<name>`
 fn write_lump<W: Sink>(k: u32, out: &mut W) -> Result<(), IoFault>
-    requires place { (1 ≤ k) × (k ≤ 10) }
+    requires lump { (1 ≤ k) × (k ≤ 10) }
     requires sound { (W.state out.old).failed ≡ false }
     ensures { Writes (W.state out.old) (W.state out.new) (codes ",\"lump\":" ++ name_string (usual_name k)) result }
 {
@@ -326,10 +326,10 @@ fn write_codes<W: Sink>(counts: &Counts, out: &mut W) -> Result<(), IoFault>
     ensures { Writes (W.state out.old) (W.state out.new) (findings_text counts.now) result }
 {
     let mut separator: &[u8] = b"";
-    'codes: for place in 0..CODE_COUNT {
-        let count = counts.get(place);
+    'codes: for rank in 0..CODE_COUNT {
+        let count = counts.get(rank);
         if count > 0 {
-            write_count(separator, code_at(place), count, out)?;
+            write_count(separator, code_at(rank), count, out)?;
             separator = b",";
         }
     }

@@ -35,7 +35,7 @@ pub fn place_of(level: &Level<'_>, owners: &[Option<u32>], code: Code, index: u3
     requires { AreOwners level.now owners.now }
     ensures { result ≡ place_of level.now code index }
 {
-    if code.place() == Code::F12.place() {
+    if code.rank() == Code::F12.rank() {
         return Place::Nowhere;
     }
     place_at(level, owners, kind_of(code), index as usize)

@@ -10,7 +10,7 @@ ghost use Rattle.map_audit.specs.Findings.{AuditHolds};
 ghost use Rattle.map_level.specs.Opening.{IsLevelAt};
 ghost use Rattle.wad_dir.specs.Entries.{names};
 ghost use Rattle.wad_lens.specs.Counts.{AreCounts};
-ghost use Rattle.wad_lens.specs.Objects.{HasPlace, doom_members, level_members, other_members};
+ghost use Rattle.wad_lens.specs.Objects.{NamesLump, doom_members, level_members, other_members};
 ghost use Rattle.wad_lens.specs.Survey.{RunsSurvey, Surveys, SurveysDoom, SurveysLevel, WritesLine};
 ghost use Rattle.wad_lens.specs.Survey.{line_end, verdict_of_counts, verdict_of_format};
 ghost use Rattle.wad_lens.specs.Warned.{AreAskedFor};
@@ -113,7 +113,7 @@ fn survey_other<W: Sink>(
     format: Format,
     out: &mut W,
 ) -> Result<Verdict, FileFault>
-    requires place { HasPlace format }
+    requires lump { NamesLump format }
     requires sound { (W.state out.old).failed ≡ false }
     ensures { WritesLine (W.state out.old) (W.state out.new)
         (level_members path.now name.now g format ++ other_members format) (verdict_of_format format) result }
@@ -131,7 +131,7 @@ fn write_other_line<W: Sink>(
     format: Format,
     out: &mut W,
 ) -> Result<(), IoFault>
-    requires place { HasPlace format }
+    requires lump { NamesLump format }
     requires sound { (W.state out.old).failed ≡ false }
     ensures { Writes (W.state out.old) (W.state out.new)
         (level_members path.now name.now g format ++ other_members format) result }

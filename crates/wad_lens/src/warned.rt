@@ -189,12 +189,12 @@ fn warned_by<A: Allocator + Copy>(
     Ok(all)
 }
 
-// The code of a place.
-fn code_at(place: usize) -> WarningCode
-    requires { place < 8 }
-    ensures { result ≡ slice_index_or warning_order place W1 }
+// The code of a rank.
+fn code_at(rank: usize) -> WarningCode
+    requires { rank < 8 }
+    ensures { result ≡ slice_index_or warning_order rank W1 }
 {
-    WARNINGS[place]
+    WARNINGS[rank]
 }
 
 // Adds what is told of a code.

@@ -1,9 +1,9 @@
 use Rattle.std.proofs.Common.{◌<◌, ◌≢◌, ◌∙◌, arith, below_more, get_or, get_or-set_other, get_or-set_same, length, subst}
 use Rattle.std.proofs.lemmas.List.{length-set}
-use Rattle.map_level.proofs.FindingLemmas.{place-below}
-use Rattle.map_level.specs.Findings.{place}
+use Rattle.map_level.proofs.FindingLemmas.{rank-below}
+use Rattle.map_level.specs.Findings.{rank}
 use Rattle.wad_lens.specs.Counts.{IsCount}
-use Rattle.wad_lens.proofs.CountLemmas.{order-place}
+use Rattle.wad_lens.proofs.CountLemmas.{order-rank}
 use Rattle.wad_lens.proofs.counts.count_all.Goals as goal
 
 pub loop-i-preserved : goal.loop-i-preserved
@@ -26,6 +26,6 @@ pub returns : goal.returns
 returns g c = record {
   all = c.loop-i.invariant.long;
   each = λ code.
-      subst (λ found. IsCount (g.T.Searched.holds c.args.searched.now found) (get_or c.loop-i.counts (place code) 0)) (order-place code)
-      (c.loop-i.invariant.each (place code) (omega (arith, place-below code, c.loop-i-test.false)));
+      subst (λ found. IsCount (g.T.Searched.holds c.args.searched.now found) (get_or c.loop-i.counts (rank code) 0)) (order-rank code)
+      (c.loop-i.invariant.each (rank code) (omega (arith, rank-below code, c.loop-i-test.false)));
 }

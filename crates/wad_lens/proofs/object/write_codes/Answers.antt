@@ -19,7 +19,7 @@ pub returns-in_err-write_count : goal.returns-in_err-write_count
 returns-in_err-write_count g c =
     let p = err_from_is_err_and c.from_residual.result c.from_residual.ensures.1 in
     let counts = c.args.counts.now in
-    let i = c.codes.place in
+    let i = c.codes.rank in
     let count = c.get-count.result in
     let separator = c.codes.separator.now in
     let next = ap (separated separator) (members-some counts i count c.codes-test.true c.get-count.ensures (omega (arith, c.if-count-gt0.true))) in
@@ -29,7 +29,7 @@ returns-in_err-write_count g c =
 pub codes-preserved : goal.codes-preserved
 codes-preserved g c =
     let counts = c.args.counts.now in
-    let i = c.codes.place in
+    let i = c.codes.rank in
     let count = c.get-count.result in
     let separator = c.codes.separator.now in
     elim c.if-count-gt0.branch [
@@ -53,4 +53,4 @@ codes-preserved g c =
 pub returns : goal.returns
 returns g c =
     SoFar-end tt c.codes.invariant.so_far
-    (ap (separated c.codes.separator.now) (members-past c.args.counts.now c.codes.place (omega (arith, c.codes-test.false)))) c.codes.invariant.sound
+    (ap (separated c.codes.separator.now) (members-past c.args.counts.now c.codes.rank (omega (arith, c.codes-test.false)))) c.codes.invariant.sound

@@ -9,5 +9,5 @@ abbrev pub invariant-codes : goal.invariant-codes
 invariant-codes g l = record {
   sound : (g.W.Sink.state l.out).failed ≡ false;
   short : length l.separator ≤ 1;
-  so_far : SoFar (findings_text l.counts) (g.W.Sink.state l.fn.out) (g.W.Sink.state l.out) (separated l.separator (count_members l.counts (drop l.place report_order)));
+  so_far : SoFar (findings_text l.counts) (g.W.Sink.state l.fn.out) (g.W.Sink.state l.out) (separated l.separator (count_members l.counts (drop l.rank report_order)));
 }

@@ -1,6 +1,6 @@
 use Rattle.std.proofs.Common.{refl}
 use Rattle.level_list.specs.declared.format.Format.TheVariants.{Doom}
-use Rattle.wad_lens.proofs.SurveyLemmas.{doom_line, other_line, place_of_format}
+use Rattle.wad_lens.proofs.SurveyLemmas.{doom_line, other_line, lump_of_format}
 use Rattle.wad_lens.proofs.survey.survey_level.Goals as goal
 
 pub survey_doom-requires-clause-is : goal.survey_doom-requires-clause-is
@@ -8,7 +8,7 @@ survey_doom-requires-clause-is g c = (c.in-Doom.ensures Doom).0 refl
 
 pub survey_other-requires : goal.survey_other-requires
 survey_other-requires g c = record {
-  place = place_of_format c.args.set.now c.args.g c.format_of.result ((c.format_of.ensures c.format_of.result).0 refl);
+  lump = lump_of_format c.args.set.now c.args.g c.format_of.result ((c.format_of.ensures c.format_of.result).0 refl);
   sound = c.requires.sound;
 }
 

@@ -1,0 +1,23 @@
+-- What isn't gone over (ours): a level that there is no memory to judge, and a file.
+use Rattle.std.specs.Prelude.{◌≡◌, ℕ, List, Result, Err}
+use Rattle.wad_dir.specs.Refusal.{RefusesWad}
+use Rattle.wad_lens.specs.declared.verdict.FileFault.{FileFault}
+use Rattle.wad_lens.specs.declared.verdict.FileFault.TheVariants.{NoWad, Write, Memory}
+
+-- nothing was written for want of memory
+pub record WantsMemory {W T : Type 0} (out out' : W) (result : Result T FileFault) : Type 0 where
+  pub ended : result ≡ Err Memory
+  pub untouched : out' ≡ out
+
+-- why a file isn't gone over: its bytes have no directory, or a growth was refused
+abbrev pub RefusesBytes : List ℕ → FileFault → Type 0
+RefusesBytes bytes (NoWad why) = RefusesWad bytes why
+RefusesBytes bytes Memory = Unit {0}
+RefusesBytes bytes (Write found) = ⊥
+
+-- and nothing was written
+pub record LeavesFile {W T : Type 0} (bytes : List ℕ) (out out' : W) (result : Result T FileFault) : Type 0 where
+  pub fault : FileFault
+  pub ended : result ≡ Err fault
+  pub holds : RefusesBytes bytes fault
+  pub untouched : out' ≡ out

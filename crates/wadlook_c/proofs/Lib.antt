@@ -1,3 +1,4 @@
+pub mod FindingLemmas
 pub mod SliceLemmas
 pub mod DescentLemmas
 pub mod LumpLemmas

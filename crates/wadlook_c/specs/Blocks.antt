@@ -15,6 +15,10 @@ pub record TellsList (map : BlockMap) (n first count : ℕ) : Type 0 where
   pub list : IsBlockList map.words n (take count (drop first map.words.numbers))
   pub inside : first + count ≤ length map.words.numbers
 
+-- both coordinates are points'
+abbrev pub IsAsked : WadlookPoint → Type 0
+IsAsked asked = IsInRange asked.x × IsInRange asked.y
+
 -- the block holds the point, and its list stands at the words that are told
 pub record TellsBlock (map : BlockMap) (point : Point) (told : WadlookBlock) : Type 0 where
   pub block : IsBlockOf map point told.column told.row
@@ -35,8 +39,9 @@ RefusesBlockOf map point reason =
 -- why there is none: there is no map, the point is out of range, or it has none
 abbrev pub RefusesBlock : Reading → List ℕ → WadlookPoint → Unlisted → Type 0
 RefusesBlock reading bytes asked why.NoBlockMap = length bytes < 8
-RefusesBlock reading bytes asked why.OutOfRange = ¬ (IsInRange asked.x × IsInRange asked.y)
-RefusesBlock reading bytes asked reason = RefusesBlockOf (block_map_of reading bytes) (point_at asked.x asked.y) reason
+RefusesBlock reading bytes asked why.OutOfRange = (8 ≤ length bytes) × (¬ IsAsked asked)
+RefusesBlock reading bytes asked reason =
+    (8 ≤ length bytes) × IsAsked asked × RefusesBlockOf (block_map_of reading bytes) (point_at asked.x asked.y) reason
 
 -- the number of why there is none
 abbrev pub unlisted_number : Unlisted → ℕ

@@ -1,10 +1,10 @@
 //! A block of BLOCKMAP and its list.
 
-ghost use Rattle.std.specs.Prelude.{◌≡◌, ◌+◌, ◌<◌, ℕ, pos, IfOk, IfErr, IfSome, IfNone, slice_get};
+ghost use Rattle.std.specs.Prelude.{◌≡◌, ◌+◌, ◌<◌, ℕ, pos, IfOk, OnOk, IfErr, IfSome, IfNone, slice_get};
 ghost use Rattle.map_geo.specs.Point.{point_at};
 ghost use Rattle.map_tables.specs.BlockMap.{block_map_of, block_number, count_of};
 ghost use Rattle.map_tables.specs.Words.{HasOffset, words_under};
-ghost use Rattle.wadlook_c.specs.Blocks.{RefusesBlock, RefusesBlockOf, RefusesList, TellsBlock, TellsList, unlisted_number};
+ghost use Rattle.wadlook_c.specs.Blocks.{IsAsked, RefusesBlock, RefusesBlockOf, RefusesList, TellsBlock, TellsList, unlisted_number};
 ghost use Rattle.wadlook_c.specs.Ends.{reading_of};
 
 use crate::opening::reading_of;
@@ -48,8 +48,8 @@ pub extern "C" fn wadlook_block(
     point: WadlookPoint,
     block: &mut WadlookBlock,
 ) -> u32
-    ensures done { result ≡ 0
-        → TellsBlock (block_map_of (reading_of wide) blockmap.now) (point_at point.x point.y) block.new }
+    ensures done { result ≡ 0 → IsAsked point
+        × TellsBlock (block_map_of (reading_of wide) blockmap.now) (point_at point.x point.y) block.new }
     ensures refused { ¬ (result ≡ 0) → (why : Unlisted) × (result ≡ unlisted_number why)
         × RefusesBlock (reading_of wide) blockmap.now point why }
     ensures untouched { ¬ (result ≡ 0) → block.new ≡ block.old }
@@ -70,6 +70,7 @@ fn block_in(
     asked: WadlookPoint,
 ) -> Result<WadlookBlock, Unlisted>
     ensures ok { IfOk result (TellsBlock (block_map_of reading blockmap.now) (point_at asked.x asked.y)) }
+    ensures asked { OnOk result (IsAsked asked) }
     ensures err { IfErr result (RefusesBlock reading blockmap.now asked) }
 {
     let Some(map) = BlockMap::of(blockmap, reading) else {

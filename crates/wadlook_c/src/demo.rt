@@ -1,6 +1,6 @@
 //! The commands of a demo.
 
-ghost use Rattle.std.specs.Prelude.{◌≡◌, OnOk, IfOk, IfErr};
+ghost use Rattle.std.specs.Prelude.{◌≡◌, OnOk, IfOk, IfErr, drop, length};
 ghost use Rattle.demo_lump.specs.Demo as read;
 ghost use Rattle.demo_lump.specs.Demo.{IsRead, RefusesDemo};
 ghost use Rattle.demo_lump.specs.declared.fault.DemoFault as fault;
@@ -52,6 +52,7 @@ pub extern "C" fn wadlook_demo(
 ) -> u32
     ensures done { result ≡ 0 → (demo : read.Demo) × IsRead bytes.now demo × (info.new ≡ info_of demo)
         × TellsCommands demo.commands out.new }
+    ensures behind { result ≡ 0 → drop info.new.commands out.new ≡ drop info.new.commands out.old }
     ensures refused { ¬ (result ≡ 0) → (why : fault.DemoFault) × (result ≡ demo_number_of why) × RefusesDemo bytes.now why }
     ensures untouched { ¬ (result ≡ 0) → out.new ≡ out.old }
     ensures info_untouched { ¬ (result ≡ 0) → info.new ≡ info.old }
@@ -93,7 +94,8 @@ fn told_info(demo: &Demo<'_>) -> WadlookDemo
 
 // Writes as many commands as there is room for.
 fn put_commands(demo: &Demo<'_>, out: &mut [WadlookCommand])
-    ensures { TellsCommands demo.now.commands out.new }
+    ensures told { TellsCommands demo.now.commands out.new }
+    ensures behind { drop (length demo.now.commands) out.new ≡ drop (length demo.now.commands) out.old }
 {
     for k in 0..out.len() {
         let Some(command) = demo.command(k) else {

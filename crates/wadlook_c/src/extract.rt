@@ -1,6 +1,6 @@
 //! A level alone, as a file.
 
-ghost use Rattle.std.specs.Prelude.{◌≡◌, ◌∷◌, [], ◌<◌, ◌≤◌, IfErr, IfOk, List, ℕ, length, take};
+ghost use Rattle.std.specs.Prelude.{◌≡◌, ◌∷◌, [], ◌<◌, ◌≤◌, IfErr, IfOk, List, ℕ, drop, length, take};
 ghost use Rattle.wad_look.specs.Engines.Extract.{IsPacked, RefusesExtract};
 ghost use Rattle.wadlook_c.specs.Ends.{EndsBy};
 
@@ -23,6 +23,7 @@ pub extern "C" fn wadlook_extract(
 ) -> u32
     ensures done { result ≡ 0 → IsPacked (wad.now ∷ []) name.now (take written.new out.new) }
     ensures inside { result ≡ 0 → written.new ≤ length out.old }
+    ensures behind { result ≡ 0 → drop written.new out.new ≡ drop written.new out.old }
     ensures room { result ≡ NO_ROOM → (file : List ℕ) × IsPacked (wad.now ∷ []) name.now file
         × (written.new ≡ length file) × (length out.old < length file) }
     ensures refused { ¬ (result ≡ 0) → ¬ (result ≡ NO_ROOM)

@@ -1,6 +1,6 @@
 //! The sectors of many points.
 
-ghost use Rattle.std.specs.Prelude.{◌≡◌, ◌∷◌, [], ◌<◌, ◌≤◌, IfErr, OnOk, IfOk, length};
+ghost use Rattle.std.specs.Prelude.{◌≡◌, ◌∷◌, [], ◌<◌, ◌≤◌, IfErr, OnOk, IfOk, drop, length};
 ghost use Rattle.map_level.specs.Level.{Level};
 ghost use Rattle.wad_look.specs.Opening.{IsAccepted, RefusesAccepted, bytes_of};
 ghost use Rattle.wadlook_c.specs.Ends.{EndsBy, reading_of};
@@ -54,6 +54,7 @@ pub extern "C" fn wadlook_points(
     ensures fits { ¬ (result ≡ NO_ROOM) → length points.now ≤ length out.old }
     ensures refused { ¬ (result ≡ 0) → ¬ (result ≡ NO_ROOM)
         → EndsBy (RefusesAccepted (wad.now ∷ []) name.now (reading_of wide)) result }
+    ensures behind { drop (length points.now) out.new ≡ drop (length points.now) out.old }
     ensures untouched { ¬ (result ≡ 0) → out.new ≡ out.old }
 {
     if out.len() < points.len() {
@@ -77,6 +78,7 @@ fn places(
     ensures ok { OnOk result ((level : Level) × IsAccepted (wad.now ∷ []) name.now reading level
         × TellsPlaces level points.now out.new) }
     ensures err { IfErr result (RefusesAccepted (wad.now ∷ []) name.now reading) }
+    ensures behind { drop (length points.now) out.new ≡ drop (length points.now) out.old }
     ensures untouched { IfErr result (λ _. out.new ≡ out.old) }
 {
     let level = open_level(alloc, wad, name, reading)?;
@@ -92,7 +94,8 @@ fn put_places<A: Allocator>(
     out: &mut [WadlookPlace],
 )
     requires { length points.now ≤ length out.old }
-    ensures { TellsPlaces tree.now points.now out.new }
+    ensures told { TellsPlaces tree.now points.now out.new }
+    ensures behind { drop (length points.now) out.new ≡ drop (length points.now) out.old }
 {
     for i in 0..points.len() {
         out[i] = place_of(tree, points[i]);

@@ -10,6 +10,8 @@ use wad_look::RunFault;
 
 /// All was done.
 pub const DONE: u32 = 0;
+/// The level has a fault.
+pub const UNSOUND: u32 = 1;
 /// The caller's slice for the answer has too few places.
 pub const NO_ROOM: u32 = 3;
 /// The bounds are no rectangle's.
@@ -34,7 +36,7 @@ pub fn number_of(fault: RunFault) -> u32
     ensures { result ≡ number_of fault }
 {
     match fault {
-        RunFault::Audit => 1,
+        RunFault::Audit => UNSOUND,
         RunFault::Memory | RunFault::Pack(PackFault::Memory) => 2,
         RunFault::Set(_, why) => wad_number_of(why),
         RunFault::Level(why) => level_number_of(why),

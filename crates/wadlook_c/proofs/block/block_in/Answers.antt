@@ -12,4 +12,4 @@ returns-in-Some-new-clause-err c =
     let y : FitsSigned w32 asked.y = search rules in
     let here = rw (to_z-of_z w32 asked.x x, to_z-of_z w32 asked.y y) at c.in-Some-new.ensures.value in
     refused_in c.args.reading c.args.blockmap.now asked c.in-Some.map c.in-Some-new.point c.block_of.result c.in-Some.ensures.some here
-    c.block_of.ensures.err
+    (search rules) (search rules) c.block_of.ensures.err

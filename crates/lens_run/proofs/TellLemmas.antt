@@ -3,8 +3,9 @@ use Rattle.std.proofs.Common.{◌≡◌, ℕ, ◌+◌, ◌<◌, inl, inr, List, 
 use Rattle.std.proofs.lemmas.List.{take_more, drop_more, take-append-drop, map_push, map-append}
 use Rattle.le_rec.specs.Sink.{SinkState}
 use Rattle.wad_lens.specs.declared.judging.Judging.{Judging}
-use Rattle.wad_lens.specs.Check.{Asked as CheckAsked, ChecksFile, RefusesCheck, RunsCheck}
-use Rattle.wad_lens.specs.Survey.{RefusesSurvey, RunsSurvey, SurveysFile}
+use Rattle.wad_lens.specs.Check.{Asked as CheckAsked, ChecksFile, RunsCheck}
+use Rattle.wad_lens.specs.Left.{RefusesBytes}
+use Rattle.wad_lens.specs.Survey.{RunsSurvey, SurveysFile}
 use Rattle.wad_lens.specs.Totals.{no_totals, verdict_with}
 use Rattle.wad_lens.specs.declared.totals.Totals.{Totals}
 use Rattle.wad_lens.specs.declared.verdict.FileFault.{FileFault}
@@ -13,7 +14,7 @@ use Rattle.wad_lens.specs.declared.verdict.Verdict.{Verdict}
 use Rattle.std.specs.Prelude.{IfErr, IfOk}
 use Rattle.wad_lens.specs.declared.object.Refusal.{Refusal}
 use Rattle.lens_run.specs.Run.{LeavesLevels, RefusesFile, StopsRefusal, WritesRefusal, fault_of}
-use Rattle.lens_run.specs.Run.{ChecksBytes, StopsAt, StopsPath, SurveysBytes, TellsPath, ToldTo, WantsAt, stop_after, tally_with, with_path}
+use Rattle.lens_run.specs.Run.{ChecksBytes, StopsAt, StopsPath, SurveysBytes, TellsPath, ToldBefore, ToldTo, stop_after, tally_with, with_path}
 use Rattle.lens_run.specs.declared.tell.Asked.{Asked}
 use Rattle.lens_run.specs.declared.tell.Stop.{Stop}
 use Rattle.lens_run.specs.declared.tell.Stop.TheVariants as stop
@@ -42,12 +43,12 @@ surveyed state path bytes judging out out' verdict tally of none (inr ran) = (
 -- a survey that didn't
 pub survey_left : {W : Type 0} (state : W → SinkState) (path bytes : List ℕ) (judging : Judging) (out out' : W) (why : FileFault)
     → RunsSurvey state path bytes judging out out' (Err why) → LeavesLevels state Survey path bytes judging out out' (fault_of why)
-survey_left state path bytes judging out out' why (inl left) = go why (subst (RefusesSurvey bytes) (sym (err_same why left.fault left.ended)) left.holds)
+survey_left state path bytes judging out out' why (inl left) = go why (subst (RefusesBytes bytes) (sym (err_same why left.fault left.ended)) left.holds)
   where
     err_same : (v w : FileFault) → ◌≡◌ {A = Result Verdict FileFault} (Err v) (Err w) → v ≡ w
     err_same v w same = cc
 
-    go : (f : FileFault) → RefusesSurvey bytes f → LeavesLevels state Survey path bytes judging out out' (fault_of f)
+    go : (f : FileFault) → RefusesBytes bytes f → LeavesLevels state Survey path bytes judging out out' (fault_of f)
     go (engine.NoWad w) refuses = (refuses, left.untouched)
     go (engine.Write found) refuses = absurd refuses
     go engine.Memory refuses = inl (ap state left.untouched)
@@ -55,7 +56,7 @@ survey_left state path bytes judging out out' why (inr ran) = go why ran
   where
     go : (f : FileFault) → SurveysFile path bytes judging (state out) (state out') (Err f) → LeavesLevels state Survey path bytes judging out out' (fault_of f)
     go (engine.NoWad w) stopped = absurd stopped.does.some.stops
-    go (engine.Write found) stopped = (stopped, stopped.does.some.stops.1)
+    go (engine.Write found) stopped = (stopped, stopped.does.some.stops.failed)
     go engine.Memory stopped = inr stopped
 
 -- a check that came to its end
@@ -80,12 +81,12 @@ checked state asked bytes out out' totals tally of says (inr ran) = (
 -- a check that didn't
 pub check_left : {W : Type 0} (state : W → SinkState) (asked : CheckAsked) (bytes : List ℕ) (out out' : W) (why : FileFault)
     → RunsCheck state asked bytes out out' (Err why) → LeavesLevels state (Check asked.most) asked.path bytes asked.judging out out' (fault_of why)
-check_left state asked bytes out out' why (inl left) = go why (subst (RefusesCheck bytes) (sym (err_same why left.fault left.ended)) left.holds)
+check_left state asked bytes out out' why (inl left) = go why (subst (RefusesBytes bytes) (sym (err_same why left.fault left.ended)) left.holds)
   where
     err_same : (v w : FileFault) → ◌≡◌ {A = Result Totals FileFault} (Err v) (Err w) → v ≡ w
     err_same v w same = cc
 
-    go : (f : FileFault) → RefusesCheck bytes f → LeavesLevels state (Check asked.most) asked.path bytes asked.judging out out' (fault_of f)
+    go : (f : FileFault) → RefusesBytes bytes f → LeavesLevels state (Check asked.most) asked.path bytes asked.judging out out' (fault_of f)
     go (engine.NoWad w) refuses = (refuses, left.untouched)
     go (engine.Write found) refuses = absurd refuses
     go engine.Memory refuses = inl (ap state left.untouched)
@@ -107,17 +108,23 @@ pub refused_stopped : (held : Option (List ℕ)) (asked : Asked) (path : List �
     → RefusesFile held refusal → IfErr result (StopsRefusal asked.word path refusal out out' errors errors')
     → IfErr result (StopsPath held asked path out out' errors errors')
 refused_stopped held asked path refusal out out' errors errors' (Ok tally) why stops = tt
-refused_stopped held asked path refusal out out' errors errors' (Err stop.Memory) why stops = tt
+refused_stopped held asked path refusal out out' errors errors' (Err stop.Memory) why stops = absurd stops
 refused_stopped held asked path refusal out out' errors errors' (Err (stop.Output found)) why stops = inr (record { refusal = refusal; why = why; stops = stops })
 refused_stopped held asked path refusal out out' errors errors' (Err stop.Errors) why stops = inr (record { refusal = refusal; why = why; stops = stops })
 
--- telling it takes no memory
-pub refused_wants : (held : Option (List ℕ)) (asked : Asked) (path : List ℕ) (refusal : Refusal) (out errors between out' between_errors errors' : SinkState) (result : Result Tally Stop)
-    → IfErr result (StopsRefusal asked.word path refusal between out' between_errors errors') → IfErr result (WantsAt held asked path out out' errors errors')
-refused_wants held asked path refusal out errors between out' between_errors errors' (Ok tally) stops = tt
-refused_wants held asked path refusal out errors between out' between_errors errors' (Err stop.Memory) stops = absurd stops
-refused_wants held asked path refusal out errors between out' between_errors errors' (Err (stop.Output found)) stops = tt
-refused_wants held asked path refusal out errors between out' between_errors errors' (Err stop.Errors) stops = tt
+-- all paths before one were told
+pub told_before : {P : Type 0} (path_of : P → List ℕ) (paths : List P) (i : ℕ) (d : P) → i < length paths
+    → (held : List ℕ → Option (List ℕ)) (asked : Asked) (out errors out' errors' : SinkState) (sum : Tally)
+    → ToldTo held asked out errors (map path_of (take i paths)) out' errors' sum
+    → ToldBefore held asked (map path_of paths) out errors (path_of (get_or paths i d)) out' errors' sum
+told_before path_of paths i d within held asked out errors out' errors' sum so_far = record {
+  before = map path_of (take i paths);
+  after = map path_of (drop (i + 1) paths);
+  stands =
+      ap (map path_of) (sym (take-append-drop i paths) ∙ ap (λ xs. take i paths ++ xs) (drop_more paths i d within))
+      ∙ map-append path_of (take i paths) (get_or paths i d ∷ drop (i + 1) paths);
+  told = so_far;
+}
 
 module _ {P : Type 0} (path_of : P → List ℕ) (paths : List P) (i : ℕ) (d : P) (within : i < length paths) (held : List ℕ → Option (List ℕ)) (asked : Asked) (out errors between between_errors after after_errors : SinkState) where
   -- one path more
@@ -133,21 +140,14 @@ module _ {P : Type 0} (path_of : P → List ℕ) (paths : List P) (i : ℕ) (d :
   -- it stopped at a path
   pub stopped_at : (sum : Tally) (at_path : Stop) → ToldTo held asked out errors (map path_of (take i paths)) between between_errors sum
       → StopsPath (held (path_of (get_or paths i d))) asked (path_of (get_or paths i d)) between after between_errors after_errors at_path
-      → WantsAt (held (path_of (get_or paths i d))) asked (path_of (get_or paths i d)) between after between_errors after_errors at_path
       → StopsAt held asked (map path_of paths) out errors after after_errors (stop_after sum.verdict at_path)
-  stopped_at sum at_path so_far stops wants = record {
-    before = map path_of (take i paths);
+  stopped_at sum at_path so_far stops = record {
     path = path_of (get_or paths i d);
-    after = map path_of (drop (i + 1) paths);
-    stands =
-        ap (map path_of) (sym (take-append-drop i paths) ∙ ap (λ xs. take i paths ++ xs) (drop_more paths i d within))
-        ∙ map-append path_of (take i paths) (get_or paths i d ∷ drop (i + 1) paths);
     out_before = between;
     errors_before = between_errors;
     found = sum;
-    told = so_far;
+    told = told_before path_of paths i d within held asked out errors between between_errors sum so_far;
     at_path = at_path;
     stops = stops;
-    wants = wants;
     is = refl;
   }

@@ -207,14 +207,6 @@ pub record StopsRefusing (held : Option (List ℕ)) (word : Word) (path : List �
   pub why : RefusesFile held refusal
   pub stops : StopsRefusal word path refusal out out' errors errors' stop
 
--- why a run stopped at a path: a growth was refused, or an end failed
-abbrev pub StopsPath : Option (List ℕ) → Asked → List ℕ → SinkState → SinkState → SinkState → SinkState → Stop → Type 0
-StopsPath held asked path out out' errors errors' stop.Memory = Unit {0}
-StopsPath held asked path out out' errors errors' (stop.Output found) =
-    StopsTelling held asked path out out' errors errors' found ⊎ StopsRefusing held asked.word path out out' errors errors' (stop.Output found)
-StopsPath held asked path out out' errors errors' stop.Errors =
-    StopsOnErrors held asked path out out' errors errors' ⊎ StopsRefusing held asked.word path out out' errors errors' stop.Errors
-
 -- the file under a path was read, and there was no memory to tell all of it
 pub record TellsHeldFirst (held : Option (List ℕ)) (asked : Asked) (path : List ℕ) (out out' : SinkState) : Type 0 where
   pub bytes : List ℕ
@@ -226,22 +218,28 @@ pub record WantsMore (held : Option (List ℕ)) (asked : Asked) (path : List ℕ
   pub answered : (out' ≡ out) ⊎ TellsHeldFirst held asked path out out'
   pub silent : errors' ≡ errors
 
-abbrev pub WantsAt : Option (List ℕ) → Asked → List ℕ → SinkState → SinkState → SinkState → SinkState → Stop → Type 0
-WantsAt held asked path out out' errors errors' stop.Memory = WantsMore held asked path out out' errors errors'
-WantsAt held asked path out out' errors errors' (stop.Output found) = Unit {0}
-WantsAt held asked path out out' errors errors' stop.Errors = Unit {0}
+-- why a run stopped at a path: a growth was refused, or an end failed
+abbrev pub StopsPath : Option (List ℕ) → Asked → List ℕ → SinkState → SinkState → SinkState → SinkState → Stop → Type 0
+StopsPath held asked path out out' errors errors' stop.Memory = WantsMore held asked path out out' errors errors'
+StopsPath held asked path out out' errors errors' (stop.Output found) =
+    StopsTelling held asked path out out' errors errors' found ⊎ StopsRefusing held asked.word path out out' errors errors' (stop.Output found)
+StopsPath held asked path out out' errors errors' stop.Errors =
+    StopsOnErrors held asked path out out' errors errors' ⊎ StopsRefusing held asked.word path out out' errors errors' stop.Errors
+
+-- of some paths all those before one were told
+pub record ToldBefore (held : List ℕ → Option (List ℕ)) (asked : Asked) (paths : List (List ℕ)) (out errors : SinkState) (path : List ℕ) (out' errors' : SinkState) (found : Tally) : Type 0 where
+  pub before : List (List ℕ)
+  pub after : List (List ℕ)
+  pub stands : paths ≡ before ++ path ∷ after
+  pub told : ToldTo held asked out errors before out' errors' found
 
 -- a run stopped at a path, and all before it were told
 pub record StopsAt (held : List ℕ → Option (List ℕ)) (asked : Asked) (paths : List (List ℕ)) (out errors out' errors' : SinkState) (stop : Stop) : Type 0 where
-  pub before : List (List ℕ)
   pub path : List ℕ
-  pub after : List (List ℕ)
-  pub stands : paths ≡ before ++ path ∷ after
   pub out_before : SinkState
   pub errors_before : SinkState
   pub found : Tally
-  pub told : ToldTo held asked out errors before out_before errors_before found
+  pub told : ToldBefore held asked paths out errors path out_before errors_before found
   pub at_path : Stop
   pub stops : StopsPath (held path) asked path out_before out' errors_before errors' at_path
-  pub wants : WantsAt (held path) asked path out_before out' errors_before errors' at_path
   pub is : stop ≡ stop_after found.verdict at_path

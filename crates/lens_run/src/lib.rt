@@ -26,7 +26,7 @@ pub use output::Output;
 pub use paths::all_paths;
 pub use run::{output_end, read_list, run_job, write_last, write_rest};
 pub use tell::{
-    Asked, BytesFault, Stop, Tally, Word, no_tally, tell_bytes, tell_paths, tell_refusal,
+    Asked, BytesFault, SHOWN, Stop, Tally, Word, no_tally, tell_bytes, tell_paths, tell_refusal,
     write_refusal,
 };
 pub use watch::{Unwatched, Watch};

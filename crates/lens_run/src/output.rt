@@ -4,14 +4,12 @@ ghost use Rattle.std.specs.Prelude.{◌≡◌, IfOk};
 ghost use Rattle.lens_run.specs.Output.{IsFresh, WritesOut, failed_by, is_closed};
 
 use le_rec::{EndFault, Sink};
+use line_io::BUFFER;
 use std::alloc::{AllocError, Global};
 use std::io;
 use std::io::{BufWriter, ErrorKind, Write};
 
-/// The most bytes that are held back.
-const BUFFER: usize = 65536;
-
-/// An output behind a buffer.
+/// An output behind a buffer, which holds back `BUFFER` bytes at most.
 #[derive(Drop)]
 pub struct Output<W: Write + Drop> {
     buffer: BufWriter<W>,

@@ -3,7 +3,7 @@ ghost use Rattle.std.specs.Prelude.{◌≡◌, ◌++◌, codes, false, map, IfOk
 ghost use Rattle.line_io.specs.Writes.{Writes};
 ghost use Rattle.wad_lens.specs.Objects.{refusal_text};
 ghost use Rattle.lens_run.specs.Run.{AreSound, ChecksBytes, LeavesBytes, LeavesLevels, StopsAt, StopsPath, StopsRefusal, SurveysBytes};
-ghost use Rattle.lens_run.specs.Run.{TellsPath, TellsWord, ToldTo, WantsAt, WritesRefusal, no_tally, refusal_answer, refusal_line};
+ghost use Rattle.lens_run.specs.Run.{TellsPath, TellsWord, ToldTo, WritesRefusal, no_tally, refusal_answer, refusal_line};
 ghost use Rattle.lens_run.specs.Run.{stop_after, tally_with};
 ghost use Rattle.lens_run.specs.declared.tell.Word.TheVariants as word;
 
@@ -19,6 +19,9 @@ use wad_dir::WadFault;
 use wad_lens::{
     FileFault, Judging, Question, Refusal, Totals, Verdict, check_file, refused_line, survey_file,
 };
+
+/// How many findings of one code in one level are shown where nothing is said.
+pub const SHOWN: u64 = 20;
 
 /// What is asked of each file.
 #[derive(Clone, Copy, Debug, PartialEq, Eq)]
@@ -173,8 +176,6 @@ fn tell_path<S: Storage, W: Sink, E: Sink, P: Watch>(
         (W.state out.old) (W.state out.new) (E.state errors.old) (E.state errors.new)) }
     ensures sound { OnOk result (AreSound (W.state out.new) (E.state errors.new)) }
     ensures stopped { IfErr result (StopsPath (S.held storage.now path.now) asked path.now
-        (W.state out.old) (W.state out.new) (E.state errors.old) (E.state errors.new)) }
-    ensures wanting { IfErr result (WantsAt (S.held storage.now path.now) asked path.now
         (W.state out.old) (W.state out.new) (E.state errors.old) (E.state errors.new)) }
 {
     match read_file(replace(room, Vec::new(alloc)), storage, path) {

@@ -23,7 +23,7 @@ pub chosen : {X : Type 0} (p : X → Bool) (text : X → List ℕ) (xs : List X)
 chosen p text [] = refl
 chosen p text (x ∷ xs) = chosen-more p text x xs (p x) refl (chosen p text xs)
 
--- the item of the code of a place, where it holds
+-- the item of the code of a rank, where it holds
 pub code_part-some : (counts : List ℕ) (i count : ℕ) → i < CODE_COUNT → count ≡ slice_index counts i → 0 < count
     → code_part counts (get_or report_order i F1) ≡ code_item (get_or report_order i F1) count
 code_part-some counts i count below is some =
@@ -39,7 +39,7 @@ code_part-none counts i count below is none =
     let fails : nat_lt 0 count ≡ false = le-ltb 0 count none in
     rw (same, fails) refl
 
--- the text of the item of a place
+-- the text of the item of a rank
 pub text_at : {X : Type 0} (text : X → List ℕ) (xs : List X) (i : ℕ) (d : X) → i < length xs → get_or (map text xs) i [] ≡ text (get_or xs i d)
 text_at text [] i d below = absurd (omega arith)
 text_at text (x ∷ xs) zero d below = refl

@@ -8,9 +8,9 @@ use Rattle.wad_atlas.specs.declared.warned.WarningCounts.{WarningCounts}
 use Rattle.wad_lens.specs.Warned.{AreAskedFor, Warned, warned_total}
 use Rattle.wad_lens.specs.declared.judging.Warnings.{Warnings}
 
--- how many there are of the code of a place, in the order of the codes: none, where they aren't looked for
+-- how many there are of the code of a rank, in the order of the codes: none, where they aren't looked for
 abbrev pub count_at : List Warned → ℕ → ℕ
-count_at all place = option_map_or (λ warned. warned.cut.count) (slice_get all place) 0
+count_at all rank = option_map_or (λ warned. warned.cut.count) (slice_get all rank) 0
 
 -- of each code, and all together
 abbrev pub counted : List Warned → WarningCounts

@@ -99,15 +99,15 @@ impl Parts for CodeParts<'_> {
     }
 }
 
-// Writes the item of the code of a place, where it holds.
-fn write_code_part<W: Sink>(counts: &Counts, place: usize, out: &mut W) -> Result<(), IoFault>
-    requires there { place < CODE_COUNT }
+// Writes the item of the code of a rank, where it holds.
+fn write_code_part<W: Sink>(counts: &Counts, rank: usize, out: &mut W) -> Result<(), IoFault>
+    requires there { rank < CODE_COUNT }
     requires sound { (W.state out.old).failed ≡ false }
-    ensures { Writes (W.state out.old) (W.state out.new) (code_part counts.now (slice_index_or report_order place F1)) result }
+    ensures { Writes (W.state out.old) (W.state out.new) (code_part counts.now (slice_index_or report_order rank F1)) result }
 {
-    let count = counts.get(place);
+    let count = counts.get(rank);
     if count > 0 {
-        write_code_item(code_at(place), count, out)
+        write_code_item(code_at(rank), count, out)
     } else {
         emit(out, b"")
     }

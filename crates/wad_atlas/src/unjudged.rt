@@ -1,8 +1,8 @@
 //! A level that isn't judged.
 
 ghost use Rattle.std.specs.Prelude.{◌≡◌, IsTrue};
-ghost use Rattle.wad_atlas.specs.Format.{has_place};
-ghost use Rattle.wad_lens.specs.Objects.{HasPlace};
+ghost use Rattle.wad_atlas.specs.Format.{names_lump};
+ghost use Rattle.wad_lens.specs.Objects.{NamesLump};
 
 use level_list::Format;
 
@@ -10,13 +10,13 @@ use level_list::Format;
 #[derive(Clone, Copy)]
 pub struct Unjudged {
     format: Format,
-    ghost placed: { IsTrue (has_place format) },
+    ghost placed: { IsTrue (names_lump format) },
 }
 
 impl Unjudged {
     /// A level of a format that tells one of the ten lumps, where it tells any.
     pub fn new(format: Format) -> Unjudged
-        requires { HasPlace format }
+        requires { NamesLump format }
         ensures { result.format ≡ format }
     {
         Unjudged { format }
@@ -25,7 +25,7 @@ impl Unjudged {
     /// Its format.
     pub fn format(&self) -> Format
         ensures format { result ≡ self.now.format }
-        ensures place { HasPlace result }
+        ensures lump { NamesLump result }
     {
         self.format
     }

@@ -58,11 +58,11 @@ fn counted<A: Allocator>(all: &[Warned<A>]) -> WarningCounts
     }
 }
 
-// How many there are of the code of a place.
-fn count_at<A: Allocator>(all: &[Warned<A>], place: usize) -> u64
-    ensures { result ≡ count_at all.now place }
+// How many there are of the code of a rank.
+fn count_at<A: Allocator>(all: &[Warned<A>], rank: usize) -> u64
+    ensures { result ≡ count_at all.now rank }
 {
-    match all.get(place) {
+    match all.get(rank) {
         Some(warned) => warned.count() as u64,
         None => 0,
     }

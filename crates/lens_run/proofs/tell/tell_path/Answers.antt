@@ -2,7 +2,7 @@ use Rattle.std.proofs.Common.{rules, subst}
 use Rattle.std.specs.Prelude.{IfErr, IfOk}
 use Rattle.wad_lens.specs.declared.object.Refusal.TheVariants.{NoWad}
 use Rattle.lens_run.specs.Run.{LeavesBytes, StopsRefusal, WritesRefusal}
-use Rattle.lens_run.proofs.TellLemmas.{refused_stopped, refused_told, refused_wants}
+use Rattle.lens_run.proofs.TellLemmas.{refused_stopped, refused_told}
 use Rattle.lens_run.proofs.tell.tell_path.Goals as goal
 
 pub returns-in-Err-NoWad-clause-told : goal.returns-in-Err-NoWad-clause-told
@@ -40,15 +40,3 @@ returns-in-Err-Refused-clause-stopped g c =
     refused_stopped (g.S.Storage.held c.args.storage.now c.args.path.now) c.args.asked c.args.path.now _ (g.W.Sink.state c.args.out.now)
     (g.W.Sink.state c.tell_refusal-in-Err-Refused.new.out) (g.E.Sink.state c.args.errors.now) (g.E.Sink.state c.tell_refusal-in-Err-Refused.new.errors) c.tell_refusal-in-Err-Refused.result
     (search rules) c.tell_refusal-in-Err-Refused.ensures.stopped
-
-pub returns-in-Err-NoWad-clause-wanting : goal.returns-in-Err-NoWad-clause-wanting
-returns-in-Err-NoWad-clause-wanting g c =
-    refused_wants (g.S.Storage.held c.args.storage.now c.args.path.now) c.args.asked c.args.path.now _ (g.W.Sink.state c.args.out.now) (g.E.Sink.state c.args.errors.now)
-    (g.W.Sink.state c.tell_bytes.new.out) (g.W.Sink.state c.tell_refusal.new.out) (g.E.Sink.state c.tell_bytes.new.errors) (g.E.Sink.state c.tell_refusal.new.errors) c.tell_refusal.result
-    c.tell_refusal.ensures.stopped
-
-pub returns-in-Err-Refused-clause-wanting : goal.returns-in-Err-Refused-clause-wanting
-returns-in-Err-Refused-clause-wanting g c =
-    refused_wants (g.S.Storage.held c.args.storage.now c.args.path.now) c.args.asked c.args.path.now _ (g.W.Sink.state c.args.out.now) (g.E.Sink.state c.args.errors.now)
-    (g.W.Sink.state c.args.out.now) (g.W.Sink.state c.tell_refusal-in-Err-Refused.new.out) (g.E.Sink.state c.args.errors.now) (g.E.Sink.state c.tell_refusal-in-Err-Refused.new.errors)
-    c.tell_refusal-in-Err-Refused.result c.tell_refusal-in-Err-Refused.ensures.stopped

@@ -12,7 +12,7 @@ returns-in-Err-clause-stopped g c =
     _ (omega (arith, c.loop-path-test.true))
     (g.S.Storage.held c.args.storage.now) c.args.asked (g.W.Sink.state c.args.out.now) (g.E.Sink.state c.args.errors.now)
     (g.W.Sink.state c.loop-path.out) (g.E.Sink.state c.loop-path.errors) (g.W.Sink.state c.tell_path.new.out) (g.E.Sink.state c.tell_path.new.errors)
-    c.loop-path.sum c.in-Err.stop c.loop-path.invariant.told c.in-Err.ensures.stopped c.in-Err.ensures.wanting in
+    c.loop-path.sum c.in-Err.stop c.loop-path.invariant.told c.in-Err.ensures.stopped in
     rw c.after.ensures at
 
 pub loop-path-preserved : goal.loop-path-preserved

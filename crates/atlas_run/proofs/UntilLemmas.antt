@@ -2,17 +2,17 @@
 use Rattle.std.proofs.Common.{◌≡◌, ℕ, ◌+◌, ◌<◌, true, inl, inr, List, ◌∷◌, ◌++◌, length, take, drop, map, get_or, Option, Some, Result, Ok, Err, refl, sym, ap, ◌∙◌}
 use Rattle.std.specs.Prelude.{IfErr}
 use Rattle.std.specs.Io.KnownBytes.{Keeps}
-use Rattle.std.proofs.lemmas.List.{drop_more, map-append, take-append-drop}
 use Rattle.le_rec.specs.Sink.{SinkState}
 use Rattle.wad_lens.specs.declared.judging.Judging.{Judging}
 use Rattle.wad_lens.specs.declared.object.Refusal.{Refusal}
 use Rattle.wad_lens.specs.declared.verdict.Verdict.{Verdict}
-use Rattle.lens_run.specs.Run.{RefusesFile, StopsRefusal, TellsPath, TellsSome, ToldTo}
+use Rattle.lens_run.specs.Run.{RefusesFile, StopsRefusal, TellsPath, TellsSome, ToldTo, WantsMore}
 use Rattle.lens_run.specs.declared.tell.Asked.{Asked}
 use Rattle.lens_run.specs.declared.tell.Stop.{Stop}
 use Rattle.lens_run.specs.declared.tell.Stop.TheVariants as stop
 use Rattle.lens_run.specs.declared.tell.Tally.{Tally}
 use Rattle.lens_run.specs.declared.tell.Word.TheVariants.{Survey}
+use Rattle.lens_run.proofs.TellLemmas.{told_before}
 use Rattle.atlas_run.specs.Atlas.{survey_of}
 use Rattle.atlas_run.specs.Until.{LeavesPath, LeavesRefused, StopsAtFile, stop_fault}
 use Rattle.atlas_run.specs.declared.fault.AtlasFault.{AtlasFault}
@@ -33,11 +33,15 @@ module _ (held : Option (List ℕ)) (judging : Judging) (path : List ℕ) (out o
     is = refl;
   })
 
+  -- there was no memory to tell all of it
+  pub left_wanting : WantsMore held (survey_of judging) path out out' errors errors' → LeavesPath held (survey_of judging) path out out' errors errors' fault.Memory
+  left_wanting wants = inr (record { stop = stop.Memory; stops = wants; is = refl })
+
   -- it was refused, and this wasn't told to its end
   pub refused_left : (refusal : Refusal) (result : Result Tally AtlasFault) → RefusesFile held refusal
       → IfErr result (LeavesRefused path refusal out out' errors errors') → IfErr result (LeavesPath held (survey_of judging) path out out' errors errors')
   refused_left refusal (Ok tally) why left = tt
-  refused_left refusal (Err e) why (inl memory) = inr (record { stop = stop.Memory; stops = tt; is = memory })
+  refused_left refusal (Err e) why (inl wants) = inl (record { tally = wants.tally; told = inr (record { refusal = refusal; why = why; writes = wants.told }) })
   refused_left refusal (Err e) why (inr left) = go left.stop left.stops left.is
     where
       go : (s : Stop) → StopsRefusal Survey path refusal out out' errors errors' s → e ≡ stop_fault s → LeavesPath held (survey_of judging) path out out' errors errors' e
@@ -52,15 +56,10 @@ pub stopped_at : {P : Type 0} (path_of : P → List ℕ) (paths : List P) (i : �
     → LeavesPath (held (path_of (get_or paths i d))) asked (path_of (get_or paths i d)) between after between_errors after_errors why
     → StopsAtFile held asked (map path_of paths) out errors after after_errors why
 stopped_at path_of paths i d within held asked out errors between between_errors after after_errors tally why so_far left = record {
-  before = map path_of (take i paths);
   path = path_of (get_or paths i d);
-  after = map path_of (drop (i + 1) paths);
-  stands =
-      ap (map path_of) (sym (take-append-drop i paths) ∙ ap (λ xs. take i paths ++ xs) (drop_more paths i d within))
-      ∙ map-append path_of (take i paths) (get_or paths i d ∷ drop (i + 1) paths);
   out_before = between;
   errors_before = between_errors;
   tally = tally;
-  told = so_far;
+  told = told_before path_of paths i d within held asked out errors between between_errors tally so_far;
   left = left;
 }

@@ -96,8 +96,9 @@ pub record StopsRun (held : List ℕ → Option (List ℕ)) (job : AtlasJob) (pa
   pub ended : result ≡ Err (fault_end fault)
 
 -- the folder wasn't taken, and nothing in it was touched
-pub record RefusesFolder (job : AtlasJob) (old new : Option (List Kept)) (errors errors' : SinkState) (result : Result Verdict End) : Type 0 where
+pub record RefusesFolder (refuses : FolderRefusal → Type 0) (job : AtlasJob) (old new : Option (List Kept)) (errors errors' : SinkState) (result : Result Verdict End) : Type 0 where
   pub refusal : FolderRefusal
+  pub why : refuses refusal
   pub told : IsTold errors errors' (folder_line job.folder.now (refusal_text refusal))
   pub untouched : new ≡ old
   pub ended : result ≡ Err end.Refused
@@ -109,12 +110,12 @@ pub record EndsRun (held : List ℕ → Option (List ℕ)) (job : AtlasJob) (pat
   pub ended : result ≡ Ok verdict
 
 -- the paths of the words and of the list became an atlas, or it isn't whole, or the folder wasn't taken
-pub record RunsPaths (held : List ℕ → Option (List ℕ)) (left : Option (List ℕ)) (job : AtlasJob) (old new : Option (List Kept)) (errors errors' : SinkState) (result : Result Verdict End) : Type 0 where
+pub record RunsPaths (held : List ℕ → Option (List ℕ)) (left : Option (List ℕ)) (refuses : FolderRefusal → Type 0) (job : AtlasJob) (old new : Option (List Kept)) (errors errors' : SinkState) (result : Result Verdict End) : Type 0 where
   pub list : List ℕ
   pub holds : HoldsList held left job.job list
   pub runs : EndsRun held job (job_paths job.job list) old new errors errors' result
       ⊎ StopsRun held job (job_paths job.job list) old new errors errors' result
-      ⊎ RefusesFolder job old new errors errors' result
+      ⊎ RefusesFolder refuses job old new errors errors' result
 
 -- the list was refused before any file was read, and the folder wasn't touched
 pub record RefusesList (held : List ℕ → Option (List ℕ)) (left : Option (List ℕ)) (job : AtlasJob) (old new : Option (List Kept)) (errors errors' : SinkState) (result : Result Verdict End) : Type 0 where
@@ -130,8 +131,10 @@ pub record WantsMemory (old new : Option (List Kept)) (errors errors' : SinkStat
   pub silent : errors' ≡ errors
   pub ended : result ≡ Err end.Memory
 
--- the run over files that hold what `held` says, an input that has the bytes `left`, where they are known, and a folder
-abbrev pub RunsAtlas : (List ℕ → Option (List ℕ)) → Option (List ℕ) → AtlasJob → Option (List Kept) → Option (List Kept) → SinkState → SinkState → Result Verdict End → Type 0
-RunsAtlas held left job old new errors errors' result =
+-- the run over files that hold what `held` says, an input that has the bytes `left`, where they are known, and a folder, which isn't taken
+-- for the reasons that `refuses` has
+abbrev pub RunsAtlas : (List ℕ → Option (List ℕ)) → Option (List ℕ) → (FolderRefusal → Type 0) → AtlasJob → Option (List Kept) → Option (List Kept)
+    → SinkState → SinkState → Result Verdict End → Type 0
+RunsAtlas held left refuses job old new errors errors' result =
     WantsMemory old new errors errors' result ⊎ RefusesList held left job old new errors errors' result
-    ⊎ RunsPaths held left job old new errors errors' result
+    ⊎ RunsPaths held left refuses job old new errors errors' result

@@ -4,10 +4,14 @@ use Rattle.map_level.specs.Level.{Level}
 use Rattle.map_level.specs.Opening.{IsLevelAt}
 use Rattle.map_level.specs.declared.reading.Reading.{Reading}
 use Rattle.map_picture.specs.Drawing.{IsPicture}
+use Rattle.map_picture.specs.declared.draw.DrawFault.{DrawFault}
+use Rattle.map_picture.specs.declared.draw.DrawFault.TheVariants as draw
 use Rattle.wad_atlas.specs.Rows.{is_drawn, picture_name}
 use Rattle.wad_atlas.specs.declared.row.Row.{Row}
 use Rattle.wad_dir.specs.Wad.{Wad}
 use Rattle.atlas_run.specs.Folder.{Kept, with_files}
+use Rattle.atlas_run.specs.declared.fault.AtlasFault.{AtlasFault}
+use Rattle.atlas_run.specs.declared.fault.AtlasFault.TheVariants as fault
 
 -- the picture of a whole level under a name, of so many cells at most
 pub record IsFileOf (cells : ℕ) (level : Level) (name : List ℕ) (file : Kept) : Type 0 where
@@ -36,6 +40,12 @@ pub data ShowsRows (cells : ℕ) (reading : Reading) (files : List Wad) : List R
   with_row : (rows : List Row) (shown : List Kept) (row : Row) (one : List Kept)
       → ShowsRows cells reading files rows shown → ShowsRow cells reading files row one
       → ShowsRows cells reading files (rows ++ row ∷ []) (shown ++ one)
+
+-- why an atlas isn't whole where a drawing ended
+abbrev pub fault_of : DrawFault → AtlasFault
+fault_of draw.Memory = fault.Memory
+fault_of draw.Write = fault.Write
+fault_of draw.NothingToDraw = fault.Write
 
 -- a level's picture was added to a folder
 pub record DrawsFile (cells : ℕ) (level : Level) (name : List ℕ) (old new : Option (List Kept)) : Type 0 where

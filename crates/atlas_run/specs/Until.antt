@@ -2,7 +2,7 @@
 use Rattle.std.specs.Prelude.{◌≡◌, ◌⊎◌, ℕ, List, ◌∷◌, ◌++◌, Option}
 use Rattle.le_rec.specs.Sink.{SinkState}
 use Rattle.wad_lens.specs.declared.object.Refusal.{Refusal}
-use Rattle.lens_run.specs.Run.{StopsPath, StopsRefusal, TellsPath, ToldTo}
+use Rattle.lens_run.specs.Run.{StopsPath, StopsRefusal, TellsPath, ToldBefore, ToldTo, WritesRefusal}
 use Rattle.lens_run.specs.declared.tell.Asked.{Asked as LensAsked}
 use Rattle.lens_run.specs.declared.tell.Stop.{Stop}
 use Rattle.lens_run.specs.declared.tell.Stop.TheVariants as stop
@@ -40,20 +40,24 @@ pub record StopsRefused (path : List ℕ) (refusal : Refusal) (out out' errors e
   pub stops : StopsRefusal Survey path refusal out out' errors errors' stop
   pub is : why ≡ stop_fault stop
 
--- or there was no memory
+-- it was told, and there was no memory to keep it for the page
+pub record WantsRefused (path : List ℕ) (refusal : Refusal) (out out' errors errors' : SinkState) (why : AtlasFault) : Type 0 where
+  pub tally : Tally
+  pub told : WritesRefusal Survey path refusal out out' errors errors' tally
+  pub is : why ≡ fault.Memory
+
+-- one of the two
 abbrev pub LeavesRefused : List ℕ → Refusal → SinkState → SinkState → SinkState → SinkState → AtlasFault → Type 0
-LeavesRefused path refusal out out' errors errors' why = (why ≡ fault.Memory) ⊎ StopsRefused path refusal out out' errors errors' why
+LeavesRefused path refusal out out' errors errors' why =
+    WantsRefused path refusal out out' errors errors' why ⊎ StopsRefused path refusal out out' errors errors' why
 
 -- the files before one were told, and that one as far as the run came
 pub record StopsAtFile (held : List ℕ → Option (List ℕ)) (asked : LensAsked) (paths : List (List ℕ)) (out errors out' errors' : SinkState) (why : AtlasFault) : Type 0 where
-  pub before : List (List ℕ)
   pub path : List ℕ
-  pub after : List (List ℕ)
-  pub stands : paths ≡ before ++ path ∷ after
   pub out_before : SinkState
   pub errors_before : SinkState
   pub tally : Tally
-  pub told : ToldTo held asked out errors before out_before errors_before tally
+  pub told : ToldBefore held asked paths out errors path out_before errors_before tally
   pub left : LeavesPath (held path) asked path out_before out' errors_before errors' why
 
 -- so far were files told into a survey that was begun

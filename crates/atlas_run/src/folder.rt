@@ -38,17 +38,22 @@ impl FolderRefusal {
 
 /// A folder whose files appear whole: each is written under another name, and takes its own at the end.
 pub trait Folder {
-    ghost use Rattle.std.specs.Prelude.{◌≡◌, List, Option, IfOk};
+    ghost use Rattle.std.specs.Prelude.{◌≡◌, List, Option, IfErr, IfOk};
     ghost use Rattle.atlas_run.specs.Folder.{IsBegun, Kept, KeepsFile};
+    ghost use Rattle.atlas_run.specs.declared.folder.FolderRefusal as refusal;
 
     type File: Sink + Drop;
 
     /// The files that stand in it under their names, in the order in which they came, where they are known.
     ghost kept: { Self → Option (List Kept) };
 
+    /// Why it isn't taken.
+    ghost refuses: { Self → refusal.FolderRefusal → Type 0 };
+
     /// Makes the folder, where it isn't there, in one that is. One that is there has to be empty, and is left as it is.
     fn make(&mut self) -> Result<(), FolderRefusal>
-        ensures { kept self.new ≡ kept self.old };
+        ensures kept { kept self.new ≡ kept self.old }
+        ensures refused { IfErr result (refuses self.old) };
 
     /// Begins a file that is to stand under `name`. It has no bytes, and stands under another name.
     fn begin(&mut self, name: &[u8]) -> Result<Self::File, AtlasFault>

@@ -1,7 +1,7 @@
 //! The pictures of a file's levels, each a file of the folder.
 
 ghost use Rattle.std.specs.Prelude.{◌≡◌, ◌≤◌, All, OnOk, OnErr};
-ghost use Rattle.atlas_run.specs.Pictures.{DrawsFile, DrawsRow, DrawsRows, DrawsSome};
+ghost use Rattle.atlas_run.specs.Pictures.{DrawsFile, DrawsRow, DrawsRows, DrawsSome, fault_of};
 ghost use Rattle.wad_atlas.specs.Levels.{HasLines, IsRow};
 
 use crate::fault::AtlasFault;
@@ -86,7 +86,9 @@ fn draw_file<F: Folder>(
 }
 
 // How the end of a drawing is told.
-fn fault_of(fault: DrawFault) -> AtlasFault {
+fn fault_of(fault: DrawFault) -> AtlasFault
+    ensures { result ≡ fault_of fault }
+{
     match fault {
         DrawFault::Memory => AtlasFault::Memory,
         DrawFault::Write | DrawFault::NothingToDraw => AtlasFault::Write,

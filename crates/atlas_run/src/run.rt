@@ -39,7 +39,7 @@ pub fn run_atlas<S: Storage, I: Read + Drop, F: Folder, E: Sink, P: Watch>(
     requires least { 1 ≤ job.now.cells }
     requires most { job.now.cells ≤ 1024 }
     requires sound { (E.state errors.old).failed ≡ false }
-    ensures { RunsAtlas (S.held storage.now) (I.remaining reader) job.now (F.kept folder.old) (F.kept folder.new)
+    ensures { RunsAtlas (S.held storage.now) (I.remaining reader) (F.refuses folder.old) job.now (F.kept folder.old) (F.kept folder.new)
         (E.state errors.old) (E.state errors.new) result }
 {
     let list = match read_list(alloc, &job.job, storage, reader) {

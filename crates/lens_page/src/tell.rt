@@ -5,13 +5,10 @@ ghost use Rattle.lens_page.specs.Tell.{TellsFile, most_of};
 ghost use Rattle.lens_run.specs.Run.{AreSound, WritesRefusal};
 
 use le_rec::Sink;
-use lens_run::{Asked, BytesFault, Tally, Unwatched, Word, tell_bytes, tell_refusal};
+use lens_run::{Asked, BytesFault, SHOWN, Tally, Unwatched, Word, tell_bytes, tell_refusal};
 use line_io::MAX_READ;
 use std::alloc::Allocator;
 use wad_lens::Refusal;
-
-/// How many findings of one code in one level are shown where nothing is said.
-const SHOWN: u64 = 20;
 
 /// A growth was refused, or an end failed.
 #[derive(Clone, Copy, Debug, PartialEq, Eq)]

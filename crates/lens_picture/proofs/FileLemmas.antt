@@ -8,7 +8,7 @@ use Rattle.lens_picture.specs.Files.{AreHeld, IsHeld}
 use Rattle.wad_dir.specs.Refusal.{IsFirstRefused}
 use Rattle.wad_dir.specs.declared.wad.WadFault.{WadFault}
 
--- the path of a place
+-- the path of an index
 pub path_at : {P : Type 0} (path_of : P → List ℕ) (paths : List P) (i : ℕ) (d : P) (path : List ℕ) → i < length paths → path ≡ path_of (get_or paths i d)
     → slice_get (map path_of paths) i ≡ Some path
 path_at path_of paths i d path within same =

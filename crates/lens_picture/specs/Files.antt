@@ -20,20 +20,20 @@ AreHeld held [] [] = ⊤
 AreHeld held (path ∷ paths) (file ∷ files) = IsHeld (held path) file × AreHeld held paths files
 AreHeld held _ _ = ⊥
 
--- the files before the one of a place are read, and that one isn't
-pub record IsFirstUnread (held : List ℕ → Option (List ℕ)) (paths : List (List ℕ)) (place : ℕ) (refusal : Refusal) : Type 0 where
+-- the files before the one of an index are read, and that one isn't
+pub record IsFirstUnread (held : List ℕ → Option (List ℕ)) (paths : List (List ℕ)) (index : ℕ) (refusal : Refusal) : Type 0 where
   pub path : List ℕ
-  pub there : slice_get paths place ≡ Some path
+  pub there : slice_get paths index ≡ Some path
   pub files : List (List ℕ)
-  pub read : AreHeld held (take place paths) files
+  pub read : AreHeld held (take index paths) files
   pub why : RefusesRead (held path) (unread.Refused refusal)
 
 -- why files aren't read: the first that isn't, or a growth was refused
 abbrev pub RefusesFiles : (List ℕ → Option (List ℕ)) → List (List ℕ) → FilesFault → Type 0
-RefusesFiles held paths (Refused place refusal) = IsFirstUnread held paths place refusal
+RefusesFiles held paths (Refused index refusal) = IsFirstUnread held paths index refusal
 RefusesFiles held paths Memory = ⊤
 
--- a fault's place is among so many
+-- a fault's index is among so many
 abbrev pub IsAmong : ℕ → FilesFault → Type 0
-IsAmong count (Refused place refusal) = place < count
+IsAmong count (Refused index refusal) = index < count
 IsAmong count Memory = ⊤

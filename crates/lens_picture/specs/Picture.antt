@@ -110,10 +110,10 @@ DrawsNamed files question contents old new errors errors' result =
 
 -- the first of the files that has no directory is told
 pub record RefusesDirectory {W : Type 0} (paths bytes : List (List ℕ)) (old new : Output W) (errors errors' : SinkState) (result : Result Verdict End) : Type 0 where
-  pub place : ℕ
+  pub index : ℕ
   pub why : WadFault
-  pub refuses : IsFirstRefused bytes (place + 1) why
-  pub tells : TellsRefused paths place (NoWad why) errors errors'
+  pub refuses : IsFirstRefused bytes (index + 1) why
+  pub tells : TellsRefused paths index (NoWad why) errors errors'
   pub untouched : new ≡ old
   pub ended : result ≡ Err end.Refused
 
@@ -132,10 +132,10 @@ DrawsFiles paths bytes question contents old new errors errors' result =
 
 -- the first of the files that isn't read is told
 pub record RefusesUnread {W : Type 0} (held : List ℕ → Option (List ℕ)) (paths : List (List ℕ)) (old new : Output W) (errors errors' : SinkState) (result : Result Verdict End) : Type 0 where
-  pub place : ℕ
+  pub index : ℕ
   pub refusal : Refusal
-  pub why : IsFirstUnread held paths place refusal
-  pub tells : TellsRefused paths place refusal errors errors'
+  pub why : IsFirstUnread held paths index refusal
+  pub tells : TellsRefused paths index refusal errors errors'
   pub untouched : new ≡ old
   pub ended : result ≡ Err end.Refused
 

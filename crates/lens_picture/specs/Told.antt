@@ -13,8 +13,8 @@ name_head name = codes "wadlens: " ++ (name ++ codes ": ")
 abbrev pub named_line : List ℕ → List ℕ → List ℕ
 named_line name text = name_head name ++ text
 
--- it was told that the file of a place is refused
-pub record TellsRefused (paths : List (List ℕ)) (place : ℕ) (refusal : Refusal) (errors errors' : SinkState) : Type 0 where
+-- it was told that the file of an index is refused
+pub record TellsRefused (paths : List (List ℕ)) (index : ℕ) (refusal : Refusal) (errors errors' : SinkState) : Type 0 where
   pub path : List ℕ
-  pub there : slice_get paths place ≡ Some path
+  pub there : slice_get paths index ≡ Some path
   pub told : IsTold errors errors' (refusal_line path refusal)

@@ -11,7 +11,7 @@ use wad_lens::Refusal;
 /// Why files aren't read.
 #[derive(Clone, Copy, Debug, PartialEq, Eq)]
 pub enum FilesFault {
-    /// The file of this place, from 0 on, is the first that is refused.
+    /// The file of this index, from 0 on, is the first that is refused.
     Refused(usize, Refusal),
     /// A growth was refused.
     Memory,

@@ -4,7 +4,7 @@ ghost use Rattle.std.specs.Prelude.{◌↔◌, IsTrue};
 ghost use Rattle.lens_picture.specs.Format.{IsFormatAt};
 ghost use Rattle.level_list.specs.Starts.{LevelStartsAt};
 ghost use Rattle.wad_dir.specs.Entries.{names};
-ghost use Rattle.wad_lens.specs.Objects.{HasPlace};
+ghost use Rattle.wad_lens.specs.Objects.{NamesLump};
 
 use level_list::{Format, format_of, next_start};
 use std::alloc::Allocator;
@@ -13,7 +13,7 @@ use wad_dir::Set;
 /// The format of the level whose label is an entry, where one starts there; and else it lacks its first lump.
 pub fn format_at<A: Allocator>(set: &Set<'_, A>, g: usize) -> Format
     ensures format { IsFormatAt set.now g result }
-    ensures place { HasPlace result }
+    ensures lump { NamesLump result }
 {
     if starts_at(set, g) {
         format_of(set, g)

@@ -38,8 +38,8 @@ pub fn run_picture<S: Storage, O: Write + Drop, E: Sink>(
     match read_files(alloc, storage, paths) {
         Ok(files) => draw_files(alloc, question, paths, &files, out, errors),
         Err(FilesFault::Memory) => Err(End::Memory),
-        Err(FilesFault::Refused(place, refusal)) => {
-            tell_refused(paths, place, refusal, errors);
+        Err(FilesFault::Refused(index, refusal)) => {
+            tell_refused(paths, index, refusal, errors);
             Err(End::Refused)
         }
     }

@@ -4,7 +4,7 @@ ghost use Rattle.std.specs.Prelude.{◌≡◌, ◌<◌, ◌++◌, codes, false, 
 ghost use Rattle.lens_picture.specs.Told.{TellsRefused, name_head, named_line};
 ghost use Rattle.line_io.specs.Writes.{Writes};
 ghost use Rattle.wad_lens.specs.FormatLine.{format_text};
-ghost use Rattle.wad_lens.specs.Objects.{HasPlace};
+ghost use Rattle.wad_lens.specs.Objects.{NamesLump};
 
 use le_rec::Sink;
 use lens_run::write_refusal;
@@ -12,13 +12,13 @@ use level_list::Format;
 use line_io::{IoFault, emit};
 use wad_lens::{Refusal, write_format_alone};
 
-/// Tells that the file of a place is refused, and why. Where standard error fails, nobody is left to be told.
-pub fn tell_refused<E: Sink>(paths: &[&str], place: usize, refusal: Refusal, errors: &mut E)
-    requires there { place < length paths.now }
+/// Tells that the file of an index is refused, and why. Where standard error fails, nobody is left to be told.
+pub fn tell_refused<E: Sink>(paths: &[&str], index: usize, refusal: Refusal, errors: &mut E)
+    requires there { index < length paths.now }
     requires sound { (E.state errors.old).failed ≡ false }
-    ensures { TellsRefused (map (λ path. path.now) paths.now) place refusal (E.state errors.old) (E.state errors.new) }
+    ensures { TellsRefused (map (λ path. path.now) paths.now) index refusal (E.state errors.old) (E.state errors.new) }
 {
-    let _ = write_refusal(paths[place].as_bytes(), refusal, errors);
+    let _ = write_refusal(paths[index].as_bytes(), refusal, errors);
 }
 
 /// Writes what is told of a level, by the name that was asked for: `wadlens: NAME: TEXT`.
@@ -32,7 +32,7 @@ pub fn write_named<E: Sink>(name: &[u8], text: &[u8], errors: &mut E) -> Result<
 
 /// Writes the format of a level that isn't drawn, by the name that was asked for.
 pub fn write_format<E: Sink>(name: &[u8], format: Format, errors: &mut E) -> Result<(), IoFault>
-    requires place { HasPlace format }
+    requires lump { NamesLump format }
     requires sound { (E.state errors.old).failed ≡ false }
     ensures { Writes (E.state errors.old) (E.state errors.new) (named_line name.now (format_text format)) result }
 {

@@ -24,7 +24,7 @@ returns-in-Err-File g c =
     let number : c.in-Err-File.number - 1 + 1 ≡ c.in-Err-File.number = omega (arith, among.0) in
     let tells = rw (c.in-Err-File.number-is, c.in-Err-File.why-is) at c.tell_refused.ensures in
     inr (inl (record {
-      place = c.in-Err-File.number - 1;
+      index = c.in-Err-File.number - 1;
       why = c.in-Err-File.why;
       refuses = rw number first;
       tells = tells;

@@ -6,6 +6,6 @@ use Rattle.lens_picture.proofs.told.tell_refused.Goals as goal
 pub returns : goal.returns
 returns g c = record {
   path = c.as_bytes.result.now;
-  there = path_at (λ (path : Bor (List ℕ)). path.now) c.args.paths.now c.args.place _ c.as_bytes.result.now c.requires.there c.as_bytes.ensures.value;
+  there = path_at (λ (path : Bor (List ℕ)). path.now) c.args.paths.now c.args.index _ c.as_bytes.result.now c.requires.there c.as_bytes.ensures.value;
   told = (c.write_refusal.result, c.write_refusal.ensures);
 }

@@ -69,6 +69,8 @@ impl<R: Files + AllocGlobal> Folder for DiskFolder<'_, R> {
 
     ghost kept = { λ _. None };
 
+    ghost refuses = { λ _ _. Unit {0} };
+
     fn make(&mut self) -> Result<(), FolderRefusal> {
         match fs::read_dir(&self.rt, self.path) {
             Ok(mut entries) => match entries.next() {

@@ -4,13 +4,10 @@ use crate::atlas_words::{AtlasWords, atlas_command};
 use crate::mistake::Mistake;
 use crate::picture_words::{PictureWords, picture_command};
 use clap::{Arg, ArgAction, ArgMatches, Command, value_parser};
-use lens_run::{Asked, DemoForm, Job, Word};
+use lens_run::{Asked, DemoForm, Job, SHOWN, Word};
 use map_level::Reading;
 use std::alloc::{AllocError, Global};
 use wad_lens::{Judging, Warnings};
-
-/// How many findings of one code in one level `check` shows where nothing is said.
-const SHOWN: u64 = 20;
 
 /// What the words ask for.
 #[derive(Drop)]

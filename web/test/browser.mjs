@@ -8,6 +8,9 @@ export const wait = (/** @type {number} */ ms) => new Promise((go) => setTimeout
 /** The codes of keys that are no signs. */
 const KEYS = /** @type {Record<string, number>} */ ({ ArrowDown: 40, ArrowUp: 38, ArrowLeft: 37, ArrowRight: 39, Enter: 13, Escape: 27, Tab: 9, End: 35, Home: 36 });
 
+// What an expression ends with whose page is left while it is computed.
+const LEFT = /navigated or closed|context was destroyed|Cannot find .*context/;
+
 export class Browser {
   /** @param {string} program @param {string} profile a folder of its own */
   constructor(program, profile) {
@@ -89,7 +92,9 @@ export class Browser {
   /** Waits until an expression holds. @param {string} condition @param {string} [what] @param {number} [seconds] */
   async until(condition, what = condition, seconds = 60) {
     for (const end = Date.now() + 1000 * seconds; Date.now() < end; await wait(5)) {
-      const value = await this.run(condition);
+      const value = await this.run(condition).catch((error) => {
+        if (!LEFT.test(String(error))) throw error; // a page that is left doesn't answer
+      });
       if (value) return value;
     }
     throw new Error(`never: ${what}`);

@@ -1,5 +1,6 @@
 pub mod BlockLemmas
 pub mod DigitLemmas
+pub mod FrontLemmas
 pub mod InputLemmas
 pub mod LineLemmas
 pub mod LinesLemmas

@@ -1,5 +1,5 @@
 -- What an engine of lines does between the input that it reads and the output that it writes (ours).
-use Rattle.std.specs.Prelude.{◌≡◌, ℕ, ◌+◌, ◌<◌, ◌≤◌, Bool, true, false, List, [], ◌++◌, length, take, Result, IfSome, OnOk, OnErr, IfErr}
+use Rattle.std.specs.Prelude.{◌≡◌, ℕ, ◌+◌, ◌<◌, ◌≤◌, Bool, true, false, List, [], ◌++◌, length, take, Result, IfSome, IfOk, OnOk, OnErr, IfErr}
 use Rattle.std.specs.Io.KnownBytes.{Appends, Consumes, IsAtEnd}
 use Rattle.le_rec.specs.Sink.{SinkState}
 use Rattle.le_rec.specs.Source.{SourceState}
@@ -39,6 +39,12 @@ pub record EndsLines {T : Type 0} (memory : Bool) (after : SinkState)
     (result : Result T IoFault) : Type 0 where
   pub sound : OnOk result (after.failed ≡ false)
   pub fault : IfErr result (LinesFault memory after)
+
+-- of the lines with which a block begins some were answered, at Ok those in so many of its bytes
+pub record AnswersFront (answer : List ℕ → List ℕ) (block : List ℕ) (out out' : SinkState) (result : Result ℕ IoFault) : Type 0 where
+  pub whole : IfOk result (λ count. Appends out.taken out'.taken (answers_from answer [] (take count block)))
+  pub front : OnErr result (TakesFront out out' (answers_from answer [] block))
+  pub unbroken : IfErr result (λ e. e ≡ Memory → LeavesWhole answer [] block out out')
 
 -- of an input from which `read` was read up to `limit`, which had `left` left where that is known,
 -- the lines are answered by `answer`

@@ -1,5 +1,5 @@
 -- The lines of an input and what they hold (ours).
-use Rattle.std.specs.Prelude.{◌≡◌, ◌≢◌, ◌⊎◌, ℕ, ◌-◌, List, [], ◌∷◌, ◌++◌, length, take, slice_index, ◌==◌, if◌then◌else◌}
+use Rattle.std.specs.Prelude.{◌≡◌, ◌≢◌, ◌⊎◌, ℕ, ◌-◌, ◌≤◌, List, [], ◌∷◌, ◌++◌, length, map, take, slice_index, ◌==◌, if◌then◌else◌}
 use Rattle.std.specs.List.{All, flat_map}
 
 -- the parts of `input` that a byte 10 ends, the first of them begun by `part`
@@ -42,3 +42,16 @@ pub record AreLines (input : List ℕ) (parts : List (List ℕ)) : Type 0 where
 abbrev pub IsContent : List ℕ → List ℕ → Type 0
 IsContent line inside =
     (line ≡ inside ++ 13 ∷ []) ⊎ ((line ≡ inside) × ((front : List ℕ) → line ≢ front ++ 13 ∷ []))
+
+-- so many bytes of a block are whole lines, each with the byte 10 that ends it
+pub record TakesLines (block : List ℕ) (count : ℕ) : Type 0 where
+  pub within : count ≤ length block
+  pub whole : last_from [] (take count block) ≡ []
+
+-- bytes begin with whole lines of these contents, of at most 64 bytes each, and go on with `rest`
+pub record BeginsWith (bytes : List ℕ) (contents : List (List ℕ)) (rest : List ℕ) : Type 0 where
+  pub done : List ℕ
+  pub joined : bytes ≡ done ++ rest
+  pub whole : last_from [] done ≡ []
+  pub contents_are : map content (ended_from [] done) ≡ contents
+  pub short : All (λ inside. length inside ≤ 64) contents

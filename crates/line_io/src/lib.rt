@@ -17,7 +17,7 @@ mod tied;
 pub use content::{Numbers, read_numbers};
 pub use fault::IoFault;
 pub use input::{MAX_READ, read_again, read_all};
-pub use lines::{LineCommand, MAX_CONTENT, answer_lines};
+pub use lines::{LineCommand, MAX_CONTENT, answer_lines, split_content};
 pub use output::emit;
 pub use refusal::LineRefusal;
 pub use text_line::{ROOM, TextLine};

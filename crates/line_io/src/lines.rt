@@ -1,10 +1,10 @@
 //! The engine of lines, on which every command over lines of input stands.
 ghost use Rattle.std.specs.Prelude.{◌≡◌, ◌≢◌, ℕ, ◌≤◌, Bool, false, List, [], ◌∷◌, ◌++◌, length};
-ghost use Rattle.std.specs.Prelude.{take, IfErr, OnOk, MatchOption};
+ghost use Rattle.std.specs.Prelude.{take, IfErr, IfOk, IfSome, OnOk, MatchOption};
 ghost use Rattle.std.specs.List.{All};
-ghost use Rattle.line_io.specs.AnswersLines.{AnswersLines, EndsLines, LeavesWhole};
+ghost use Rattle.line_io.specs.AnswersLines.{AnswersFront, AnswersLines, EndsLines, LeavesWhole};
 ghost use Rattle.line_io.specs.LineAnswers.{answers_from, last_answer, line_answer};
-ghost use Rattle.line_io.specs.Lines.{content, last_from};
+ghost use Rattle.line_io.specs.Lines.{BeginsWith, TakesLines, content, last_from};
 ghost use Rattle.line_io.specs.Writes.{EndsAnswer, TakesText};
 ghost use Rattle.line_io.specs.declared.fault.IoFault.TheVariants.{Memory};
 
@@ -35,6 +35,19 @@ pub trait LineCommand {
             → TakesText (W.state out.old) (W.state out.new) (answer content.now) result }
         ensures ends { EndsAnswer takes_memory (W.state out.old) (W.state out.new) result }
         ensures same { self.new ≡ self.old };
+
+    /// Answers some of the lines with which `block` begins, each as `reply` does, and tells how many bytes they take,
+    /// with the bytes 10 that end them. At 0 it answered none, and the first is one for `reply`.
+    fn reply_front<W: Sink>(&mut self, block: &[u8], out: &mut W) -> Result<usize, IoFault>
+        requires sound { (W.state out.old).failed ≡ false }
+        ensures whole { IfOk result (TakesLines block.now) }
+        ensures answered { (answer : List ℕ → List ℕ) → Answers self.old answer
+            → AnswersFront answer block.now (W.state out.old) (W.state out.new) result }
+        ensures ends { EndsLines takes_memory (W.state out.new) result }
+        ensures same { self.new ≡ self.old }
+    {
+        Ok(0)
+    }
 }
 
 fn content_of(line: &[u8]) -> &[u8]
@@ -99,6 +112,20 @@ fn split_line(bytes: &[u8]) -> Option<(&[u8], &[u8])>
     Some((&bytes[..end], &bytes[end + 1..]))
 }
 
+/// The content of the line with which the bytes begin, and the bytes behind that line. None where no byte 10 ends it,
+/// or its content has more than [`MAX_CONTENT`] bytes.
+#[inline(always)]
+pub fn split_content(bytes: &[u8]) -> Option<(&[u8], &[u8])>
+    ensures { IfSome result (λ found. BeginsWith bytes.now (found.0.now ∷ []) found.1.now) }
+{
+    let (line, rest) = split_line(bytes)?;
+    let content = content_of(line);
+    if content.len() > MAX_CONTENT {
+        return None;
+    }
+    Some((content, rest))
+}
+
 // Answers the lines that end in `block`, the first of them begun by
 // `part`, and keeps the part after them.
 fn answer_block<C: LineCommand, W: Sink>(
@@ -121,7 +148,8 @@ fn answer_block<C: LineCommand, W: Sink>(
     let mut rest = block;
     'lines: while let Some((line, after)) = split_line(rest) {
         answer_ended(command, part, line, out)?;
-        rest = after;
+        let count = command.reply_front(after, out)?;
+        rest = &after[count..];
     }
     part.keep(rest);
     Ok(())

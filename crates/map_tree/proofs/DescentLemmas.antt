@@ -1,9 +1,9 @@
 -- The loop of the descent, whose word names a place on the way of the point.
-use Rattle.std.proofs.Common.{◌≡◌, ℕ, ◌+◌, ◌-◌, ◌<◌, ◌≤◌, refl, sym, ap, ◌∙◌, subst, Option, Some, None, arith}
+use Rattle.std.proofs.Common.{◌≡◌, ℕ, ◌+◌, ◌-◌, ◌<◌, ◌≤◌, refl, sym, ap, ◌∙◌, subst, Option, Some, None, inl, inr, arith}
 use Rattle.std.specs.Prelude.{IsSomeAnd}
 use Rattle.le_rec.specs.Table.{Rows}
 use Rattle.std.specs.List.{slice_get}
-use Rattle.std.proofs.lemmas.Bool.{lt-ltb, ltb-true, cond-true}
+use Rattle.std.proofs.lemmas.Bool.{cases_lt, lt-ltb, ltb-true, cond-true}
 use Rattle.le_rec.specs.declared.records.Node.{Node}
 use Rattle.map_geo.specs.declared.sides.Side.{Side}
 use Rattle.map_geo.specs.Point.{Point, IsInRange}
@@ -14,6 +14,7 @@ use Rattle.map_tree.specs.Paths.{node, ssector}
 use Rattle.map_tree.specs.Child.{node_count, ssector_count, place_of, word_at, child, root_of, side_at}
 use Rattle.map_tree.specs.Leaf.{IsLeaf, CountsAncestors}
 use Rattle.map_tree.specs.Sound.{IsTree, IsSound}
+use Rattle.map_tree.specs.Steps.{IsWord}
 use Rattle.map_tree.proofs.SoundLemmas.{tree_from_sound, some_ssector, few_nodes}
 use Rattle.map_tree.proofs.ReachLemmas.{reached_there}
 use Rattle.map_tree.proofs.LeafLemmas.{OnWay, way_start, way_down, way_short, way_deep, way_leaf, way_tests, one_leaf, child_is}
@@ -85,3 +86,45 @@ at_smaller level point word tests below at = omega (arith, at_deep level point w
 -- a leaf is an ssector that is there
 pub leaf_within : (level : Level) (point : Point) (t : ℕ) → IsSound level → IsLeaf level point t → t < ssector_count level
 leaf_within level point t sound leaf = ltb-true t (ssector_count level) (reached_there level (ssector t) (some_ssector level sound) leaf.reached)
+
+-- the word names the place to which a point has come in so many turns, of which none is made behind an ssector
+pub record GoesDown (level : Level) (point : Point) (word turns : ℕ) : Type 0 where
+  pub tests : ℕ
+  pub at : IsAt level point word tests
+  pub each : word < 32768 → tests ≡ turns
+
+pub down_start : (level : Level) (point : Point) (word : ℕ) → IsSound level → place_of word ≡ root_of (node_count level) → GoesDown level point word 0
+down_start level point word sound e = record { tests = 0; at = at_start level point word sound e; each = λ below. refl }
+
+pub down_word : (level : Level) (point : Point) (word turns : ℕ) → GoesDown level point word turns → IsWord level.nodes.records word
+down_word level point word turns down = λ below. at_origin level point word down.tests below down.at
+
+pub down_turn : (level : Level) (point : Point) (word next turns : ℕ) (nodes : Rows Node) → GoesDown level point word turns → nodes ≡ level.nodes
+    → (word < 32768 → IsSomeAnd (slice_get nodes.records word) (λ found. next ≡ word_at found (side_of (partition_of found) point)))
+    → (32768 ≤ word → next ≡ word) → GoesDown level point next (turns + 1)
+down_turn level point word next turns nodes down e at_node stays =
+    elim (cases_lt word 32768) [
+      | inl below ↦ record {
+        tests = down.tests + 1;
+        at = at_next level point word next down.tests nodes below down.at e (at_node below);
+        each = λ _. ap (λ n. n + 1) (down.each below);
+      }
+      | inr past ↦
+          let same : next ≡ word = stays past in
+          record {
+            tests = down.tests;
+            at = subst (λ w. IsAt level point w down.tests) (sym same) down.at;
+            each = λ below. absurd (let h : next < 32768 = below in omega (arith, h, same, past));
+          }
+    ]
+
+-- after as many turns as there are nodes each point is in an ssector
+pub down_arrives : (level : Level) (point : Point) (word turns : ℕ) → node_count level ≤ turns → GoesDown level point word turns → 32768 ≤ word
+down_arrives level point word turns enough down =
+    elim (cases_lt word 32768) [
+      | inl below ↦ absurd (let deep = at_deep level point word down.tests below down.at in let same = down.each below in omega (arith, deep, same, enough))
+      | inr past ↦ past
+    ]
+
+pub down_leaf : (level : Level) (point : Point) (word turns t : ℕ) → place_of word ≡ ssector t → GoesDown level point word turns → IsLeaf level point t
+down_leaf level point word turns t e down = at_leaf level point word down.tests t e down.at

@@ -7,6 +7,7 @@ pub mod DescentLemmas
 pub mod SectorListLemmas
 pub mod Sizes
 pub mod SizeLemmas
+pub mod EachLemmas
 pub mod FaultLemmas
 pub mod LawLemmas
 pub mod SlotLemmas

@@ -1,8 +1,9 @@
 //! The tree of a sound level with the sector of each of its ssectors (`P_GroupLines` of linuxdoom 1.10).
 
-ghost use Rattle.std.specs.Prelude.{◌≡◌, ℕ, Some, IfOk};
+ghost use Rattle.std.specs.Prelude.{◌≡◌, ◌<◌, ℕ, Some, IfOk};
 ghost use Rattle.map_level.specs.SectorOf.{sector_of};
-ghost use Rattle.map_tree.specs.Leaf.{IsLeaf};
+ghost use Rattle.map_tree.specs.Child.{ssector_count};
+ghost use Rattle.map_tree.specs.Leaf.{Each, IsLeaf, LiesIn};
 ghost use Rattle.map_tree.specs.SectorList.{ListsSectors};
 ghost use Rattle.map_tree.specs.Sound.{IsSound};
 
@@ -49,6 +50,30 @@ impl<'l, 'a, A: Allocator> SectorTree<'l, 'a, A> {
         ensures sector { sector_of self.now result.0 ≡ Some result.1 }
     {
         let (t, _tests) = self.tree.leaf(point);
+        self.with_sector(t)
+    }
+
+    /// The numbers of the ssectors and of the sectors in which four points lie, in their order.
+    #[inline]
+    pub fn leaves(&self, points: [Point; 4]) -> [(u16, u16); 4]
+        ensures { Each (LiesIn self.now) points result }
+    {
+        let [a, b, c, d] = self.tree.leaves(points);
+        [
+            self.with_sector(a),
+            self.with_sector(b),
+            self.with_sector(c),
+            self.with_sector(d),
+        ]
+    }
+
+    // An ssector and its sector.
+    #[inline]
+    fn with_sector(&self, t: u16) -> (u16, u16)
+        requires { t < ssector_count self.now }
+        ensures ssector { result.0 ≡ t }
+        ensures sector { sector_of self.now t ≡ Some result.1 }
+    {
         (t, self.sectors[usize::from(t)])
     }
 

@@ -9,7 +9,8 @@ ghost use Rattle.map_level.specs.SectorOf.{sector_of};
 ghost use Rattle.map_tree.specs.Paths.{ssector};
 ghost use Rattle.map_tree.specs.Child.{node_count, ssector_count, place_of, word_at, root_of};
 ghost use Rattle.map_tree.specs.Sound.{IsSound};
-ghost use Rattle.map_tree.specs.Leaf.{IsLeaf, CountsAncestors};
+ghost use Rattle.map_tree.specs.Leaf.{Each, IsLeaf, CountsAncestors};
+ghost use Rattle.map_tree.specs.Steps.{IsWord};
 
 use crate::places::NF_SUBSECTOR;
 use le_rec::{Node, Table};
@@ -71,6 +72,27 @@ impl<'l, 'a> Tree<'l, 'a> {
         (ssector_of(word), tests)
     }
 
+    /// The numbers of the ssectors in which four points lie, in their order. The points go down together, so that none
+    /// waits for the product that tells another's side.
+    pub fn leaves(&self, points: [Point; 4]) -> [u16; 4]
+        ensures { Each (IsLeaf self.now) points result }
+    {
+        let [p, q, r, s] = points;
+        let nodes = self.level.nodes();
+        let root = root_word(nodes.len());
+        let (mut a, mut b, mut c, mut d) = (root, root, root, root);
+        'turns: for _turn in 0..nodes.len() {
+            if a.min(b).min(c.min(d)) >= NF_SUBSECTOR {
+                break;
+            }
+            a = word_below(&nodes, a, p);
+            b = word_below(&nodes, b, q);
+            c = word_below(&nodes, c, r);
+            d = word_below(&nodes, d, s);
+        }
+        [ssector_of(a), ssector_of(b), ssector_of(c), ssector_of(d)]
+    }
+
     /// The number of the sector in which the point lies: that of its ssector.
     pub fn sector(&self, point: Point) -> u16
         ensures { (t : ℕ) → IsLeaf self.now point t → sector_of self.now t ≡ Some result }
@@ -98,6 +120,21 @@ fn ssector_of(word: u16) -> u16
     ensures { place_of word ≡ ssector result }
 {
     word - NF_SUBSECTOR
+}
+
+// The word to which a point goes from a word: at a node the child's at its side, and at an ssector the same.
+#[inline]
+fn word_below(nodes: &Table<'_, Node>, word: u16, point: Point) -> u16
+    requires { IsWord nodes.now.records word }
+    ensures node { word < 32768 → IsSomeAnd (slice_get nodes.now.records word)
+        (λ found. result ≡ word_at found (side_of (partition_of found) point)) }
+    ensures ssector { 32768 ≤ word → result ≡ word }
+{
+    if word < NF_SUBSECTOR {
+        next_word(nodes, word, point)
+    } else {
+        word
+    }
 }
 
 // The child word of node n at the side of a point.

@@ -67,6 +67,20 @@ cases_of_points() {
     answers 'line_lengths: 64 bytes and byte 13' "$zeros 5\r\n" '0 5 sector 1 ssector 1\n' points E1M1 base.wad
     answers 'line_lengths: 65 bytes' "0$zeros 5" "$form" points E1M1 base.wad
     answers 'line_lengths: 62 digits 9' "$(times 62 9) 5" "$range" points E1M1 base.wad
+    # Points whose lines were read together are told by four: nine lines, with one that is refused at each place, or none.
+    local place refused side
+    for refused in {0..9}; do
+        lines='' texts=''
+        for place in {0..8}; do
+            side=$(((place / 2 + refused) % 2))
+            if ((place == refused)); then
+                lines+='x\n' texts+=$form
+            else
+                lines+="$side 5\n" texts+="$side 5 sector $((1 - side)) ssector $((1 - side))\n"
+            fi
+        done
+        answers "nine lines, line $refused of them refused" "$lines" "$texts" points E1M1 base.wad
+    done
     answers 'a long line between two' "1 5\n$(times 1000 '0 5 ')\n0 5\n" \
         "1 5 sector 0 ssector 0\n${form}0 5 sector 1 ssector 1\n" points E1M1 base.wad
 }
@@ -76,7 +90,12 @@ cases_of_accept() {
     answers two_nodes '1 5\n1 10\n0 5\n1 11\n' \
         '1 5 sector 0 ssector 0\n1 10 sector 0 ssector 0\n0 5 sector 1 ssector 1\n1 11 sector 1 ssector 2\n' \
         points E1M1 two_nodes.wad
+    local near='1 5 sector 0 ssector 0\n' far='1 11 sector 1 ssector 2\n' behind='0 5 sector 1 ssector 1\n'
+    answers 'two_nodes: depths side by side' '1 5\n1 11\n0 5\n1 5\n0 5\n0 5\n0 5\n1 11\n0 5\n1 5\n' \
+        "$near$far$behind$near$behind$behind$behind$far$behind$near" points E1M1 two_nodes.wad
     answers chain '1 5\n0 5\n' '1 5 sector 0 ssector 0\n0 5 sector 0 ssector 32767\n' points E1M1 chain.wad
+    local first='1 5 sector 0 ssector 0\n' last='0 5 sector 0 ssector 32767\n'
+    answers 'chain: depths side by side' '0 5\n0 5\n1 5\n1 5\n0 5\n' "$last$last$first$first$last" points E1M1 chain.wad
     refuses nodes_not_reached audit points E1M1 nodes_not_reached.wad
     refuses side_missing audit points E1M1 side_missing.wad
     refuses wide_ssectors audit points E1M1 wide_ssectors.wad

@@ -1,5 +1,6 @@
 pub mod Command
 pub mod Contents
+pub mod NamedPoints
 pub mod Engines
 pub mod Fault
 pub mod FaultText

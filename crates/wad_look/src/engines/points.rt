@@ -1,17 +1,20 @@
 //! The command `points`: the sector and the ssector of each point of its input.
 
-ghost use Rattle.std.specs.Prelude.{◌≡◌, ◌≤◌, [], false, length};
+ghost use Rattle.std.specs.Prelude.{◌≡◌, ◌≤◌, [], ◌∷◌, IfSome, false, length};
+ghost use Rattle.std.specs.List.{flat_map};
+ghost use Rattle.line_io.specs.Writes.{EndsWriting, TakesText, Writes};
 ghost use Rattle.map_geo.specs.Point as geo;
 ghost use Rattle.wad_dir.specs.declared.set.TheConstants.{MAX_FILES};
-ghost use Rattle.wad_look.specs.Engines.Points.{AreLeaves, RunsPoints, leaf_text};
+ghost use Rattle.wad_look.specs.Engines.Points.{AreLeaves, RunsPoints, leaf_text, point_text};
+ghost use Rattle.wad_look.specs.NamedPoints.{NamesPoints, told_point};
 ghost use Rattle.wad_look.specs.Opening.{bytes_of};
 ghost use Rattle.wad_look.specs.declared.engines.points.Leaf as found;
 
-use crate::contents::read_point;
+use crate::contents::{NamedPoint, Pair, read_point};
 use crate::fault::{RunFault, ended};
 use crate::opening::{open_level, sector_tree};
 use le_rec::{Sink, Source};
-use line_io::{IoFault, LineCommand, MAX_READ, TextLine, answer_lines, emit};
+use line_io::{IoFault, LineCommand, MAX_READ, TextLine, answer_lines, emit, split_content};
 use map_geo::Point;
 use map_level::Reading;
 use map_tree::SectorTree;
@@ -40,21 +43,113 @@ impl<A: Allocator> LineCommand for PointCommand<'_, '_, A> {
     fn reply<W: Sink>(&mut self, content: &[u8], out: &mut W) -> Result<(), IoFault> {
         match read_point(content) {
             Ok(named) => {
-                let mut line = TextLine::new();
-                prepend_leaf(&mut line, leaf_at(&self.tree, named.point));
-                named.pair.prepend(&mut line);
-                emit(out, line.as_bytes())
+                let leaf = leaf_at(&self.tree, named.point);
+                put_point(named.pair, leaf, out)
             }
             Err(refusal) => emit(out, refusal.text()),
         }
     }
+
+    fn reply_front<W: Sink>(&mut self, block: &[u8], out: &mut W) -> Result<usize, IoFault> {
+        let mut rest = block;
+        'fours: while let Some((a, b, c, d, after)) = next_four(rest) {
+            put_four(&self.tree, a, b, c, d, out)?;
+            rest = after;
+        }
+        Ok(block.len() - rest.len())
+    }
+}
+
+/// The points that the first four lines name, and the bytes behind those lines.
+type NextFour<'a> = (
+    NamedPoint<'a>,
+    NamedPoint<'a>,
+    NamedPoint<'a>,
+    NamedPoint<'a>,
+    &'a [u8],
+);
+
+// None where there are fewer lines, or one names no point.
+#[inline(always)]
+fn next_four(bytes: &[u8]) -> Option<NextFour<'_>>
+    ensures { IfSome result (λ found. NamesPoints bytes.now (found.0 ∷ found.1 ∷ found.2 ∷ found.3 ∷ []) found.4.now) }
+{
+    let Some((a, rest)) = next_point(bytes) else {
+        return None;
+    };
+    let Some((b, rest)) = next_point(rest) else {
+        return None;
+    };
+    let Some((c, rest)) = next_point(rest) else {
+        return None;
+    };
+    let Some((d, rest)) = next_point(rest) else {
+        return None;
+    };
+    Some((a, b, c, d, rest))
+}
+
+// The point that the first line names, and the bytes behind that line.
+#[inline(always)]
+fn next_point(bytes: &[u8]) -> Option<(NamedPoint<'_>, &[u8])>
+    ensures { IfSome result (λ found. NamesPoints bytes.now (found.0 ∷ []) found.1.now) }
+{
+    let (content, rest) = split_content(bytes)?;
+    match read_point(content) {
+        Ok(named) => Some((named, rest)),
+        Err(_) => None,
+    }
+}
+
+// The answers to four points.
+#[inline(always)]
+fn put_four<A: Allocator, W: Sink>(
+    tree: &SectorTree<'_, '_, A>,
+    a: NamedPoint<'_>,
+    b: NamedPoint<'_>,
+    c: NamedPoint<'_>,
+    d: NamedPoint<'_>,
+    out: &mut W,
+) -> Result<(), IoFault>
+    requires { (W.state out.old).failed ≡ false }
+    ensures takes { (leaf_of : geo.Point → found.Leaf) → AreLeaves tree.now leaf_of
+        → TakesText (W.state out.old) (W.state out.new)
+        (flat_map (told_point leaf_of) (a.entry ∷ b.entry ∷ c.entry ∷ d.entry ∷ [])) result }
+    ensures ends { EndsWriting (W.state out.new) result }
+{
+    let [p, q, r, s] = tree.leaves([a.point, b.point, c.point, d.point]);
+    let (a, b, c, d) = (a.pair, b.pair, c.pair, d.pair);
+    put_point(a, leaf_from(p), out)?;
+    put_point(b, leaf_from(q), out)?;
+    put_point(c, leaf_from(r), out)?;
+    put_point(d, leaf_from(s), out)
+}
+
+// The answer to a point.
+#[inline(always)]
+fn put_point<W: Sink>(pair: Pair<'_>, leaf: Leaf, out: &mut W) -> Result<(), IoFault>
+    requires { (W.state out.old).failed ≡ false }
+    ensures { Writes (W.state out.old) (W.state out.new) (point_text pair.entry.x pair.entry.y leaf) result }
+{
+    let mut line = TextLine::new();
+    prepend_leaf(&mut line, leaf);
+    pair.prepend(&mut line);
+    emit(out, line.as_bytes())
 }
 
 // The leaf of a point.
 fn leaf_at<A: Allocator>(tree: &SectorTree<'_, '_, A>, point: Point) -> Leaf
     ensures { (leaf_of : geo.Point → found.Leaf) → AreLeaves tree.now leaf_of → result ≡ leaf_of point }
 {
-    let (ssector, sector) = tree.leaf(point);
+    leaf_from(tree.leaf(point))
+}
+
+// An ssector and its sector.
+fn leaf_from(found: (u16, u16)) -> Leaf
+    ensures ssector { result.ssector ≡ found.0 }
+    ensures sector { result.sector ≡ found.1 }
+{
+    let (ssector, sector) = found;
     Leaf { ssector, sector }
 }
 

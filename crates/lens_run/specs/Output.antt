@@ -36,8 +36,9 @@ is_broken_pipe _ = false
 abbrev pub failed_by : {W : Type 0} → Output W → Error → Output W
 failed_by output error = record output { failed = true; closed = is_broken_pipe (error_kind error) }
 
--- what was held back was written out, or a write failed
+-- what was held back was written out, and what is known of a closed pipe stays, or a write failed
 pub record WritesOut {W E : Type 0} (contents : W → Option (List ℕ)) (old new : Output W) (result : Result (Unit {0}) E) : Type 0 where
   pub bytes : Keeps (writer_contents contents old.buffer) (writer_contents contents new.buffer)
   pub empty : OnOk result (held_back new ≡ [])
   pub failed : new.failed ≡ old.failed || is_err result
+  pub closed : OnOk result (is_closed new ≡ is_closed old)

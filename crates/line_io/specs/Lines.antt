@@ -1,5 +1,5 @@
 -- The lines of an input and what they hold (ours).
-use Rattle.std.specs.Prelude.{◌≡◌, ◌≢◌, ◌⊎◌, ℕ, ◌-◌, ◌≤◌, List, [], ◌∷◌, ◌++◌, length, map, take, slice_index, ◌==◌, if◌then◌else◌}
+use Rattle.std.specs.Prelude.{◌≡◌, ◌≢◌, ◌⊎◌, ℕ, ◌-◌, ◌<◌, ◌≤◌, List, [], ◌∷◌, ◌++◌, length, map, take, slice_index, ◌==◌, if◌then◌else◌}
 use Rattle.std.specs.List.{All, flat_map}
 
 -- the parts of `input` that a byte 10 ends, the first of them begun by `part`
@@ -55,3 +55,11 @@ pub record BeginsWith (bytes : List ℕ) (contents : List (List ℕ)) (rest : Li
   pub whole : last_from [] done ≡ []
   pub contents_are : map content (ended_from [] done) ≡ contents
   pub short : All (λ inside. length inside ≤ 64) contents
+
+-- bytes begin with a line that a byte 10 ends, and its content has more than 64 bytes
+pub record BeginsLong (bytes : List ℕ) : Type 0 where
+  pub line : List ℕ
+  pub rest : List ℕ
+  pub joined : bytes ≡ line ++ 10 ∷ rest
+  pub unbroken : All (λ b. b ≢ 10) line
+  pub long : 64 < length (content line)

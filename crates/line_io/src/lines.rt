@@ -1,10 +1,10 @@
 //! The engine of lines, on which every command over lines of input stands.
-ghost use Rattle.std.specs.Prelude.{◌≡◌, ◌≢◌, ℕ, ◌≤◌, Bool, false, List, [], ◌∷◌, ◌++◌, length};
+ghost use Rattle.std.specs.Prelude.{◌≡◌, ◌≢◌, ◌⊎◌, ℕ, ◌≤◌, Bool, false, List, [], ◌∷◌, ◌++◌, length};
 ghost use Rattle.std.specs.Prelude.{take, IfErr, IfOk, IfSome, OnOk, MatchOption};
 ghost use Rattle.std.specs.List.{All};
 ghost use Rattle.line_io.specs.AnswersLines.{AnswersFront, AnswersLines, EndsLines, LeavesWhole};
 ghost use Rattle.line_io.specs.LineAnswers.{answers_from, last_answer, line_answer};
-ghost use Rattle.line_io.specs.Lines.{BeginsWith, TakesLines, content, last_from};
+ghost use Rattle.line_io.specs.Lines.{BeginsLong, BeginsWith, TakesLines, content, last_from};
 ghost use Rattle.line_io.specs.Writes.{EndsAnswer, TakesText};
 ghost use Rattle.line_io.specs.declared.fault.IoFault.TheVariants.{Memory};
 
@@ -116,7 +116,8 @@ fn split_line(bytes: &[u8]) -> Option<(&[u8], &[u8])>
 /// or its content has more than [`MAX_CONTENT`] bytes.
 #[inline(always)]
 pub fn split_content(bytes: &[u8]) -> Option<(&[u8], &[u8])>
-    ensures { IfSome result (λ found. BeginsWith bytes.now (found.0.now ∷ []) found.1.now) }
+    ensures { MatchOption result (All (λ b. b ≢ 10) bytes.now ⊎ BeginsLong bytes.now) (λ found.
+        BeginsWith bytes.now (found.0.now ∷ []) found.1.now) }
 {
     let (line, rest) = split_line(bytes)?;
     let content = content_of(line);

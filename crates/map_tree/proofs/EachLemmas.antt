@@ -1,10 +1,11 @@
 -- What holds of each of some things and of what stands beside it.
-use Rattle.std.proofs.Common.{◌≡◌, ℕ, zero, suc, pos, ◌<◌, List, [], ◌∷◌, length, get_or, Some, arith}
+use Rattle.std.proofs.Common.{◌≡◌, ℕ, ◌<◌, List, [], ◌∷◌, length, get_or, arith}
+use Rattle.std.proofs.lemmas.List.Elements.{All-cons, All-nil}
+use Rattle.std.specs.List.{All}
 use Rattle.map_geo.specs.Point.{Point}
 use Rattle.map_level.specs.Level.{Level}
-use Rattle.map_level.specs.SectorOf.{sector_of}
 use Rattle.map_tree.specs.Child.{ssector_count}
-use Rattle.map_tree.specs.Leaf.{Each, IsLeaf, LiesIn}
+use Rattle.map_tree.specs.Leaf.{Each, IsLeaf}
 use Rattle.map_tree.specs.Sound.{IsSound}
 use Rattle.map_tree.proofs.DescentLemmas.{leaf_within}
 
@@ -17,26 +18,26 @@ each_of_four R (o ∷ p ∷ q ∷ []) d e f g s t u v long h i j k = absurd (ome
 each_of_four R (o ∷ p ∷ q ∷ r ∷ []) d e f g s t u v long h i j k = (h, (i, (j, (k, tt))))
 each_of_four R (o ∷ p ∷ q ∷ r ∷ more ∷ xs) d e f g s t u v long h i j k = absurd (omega (arith, long))
 
--- the relation at a place
-pub each_at : {A B : Type 0} (R : A → B → Type 0) (xs : List A) (ys : List B) (n : ℕ) (d : A) (e : B) → Each R xs ys → n < length xs
-    → R (get_or xs n d) (get_or ys n e)
-each_at R [] [] n d e each within = absurd (omega (arith, within))
-each_at R [] (y ∷ ys) n d e each within = absurd each
-each_at R (x ∷ xs) [] n d e each within = absurd each
-each_at R (x ∷ xs) (y ∷ ys) zero d e each within = each.0
-each_at R (x ∷ xs) (y ∷ ys) (suc n) d e each within = each_at R xs ys n d e each.1 (omega (arith, within))
+pub all_of_four : {A : Type 0} (P : A → Type 0) (a b c d : A) → P a → P b → P c → P d → All P (a ∷ b ∷ c ∷ d ∷ [])
+all_of_four P a b c d h i j k =
+    All-cons P a (b ∷ c ∷ d ∷ []) h (All-cons P b (c ∷ d ∷ []) i (All-cons P c (d ∷ []) j (All-cons P d [] k (All-nil P))))
 
-abbrev pub some_point : Point
-some_point = record { x = pos 0; y = pos 0 }
+-- through the things between two lists
+pub each_through : {A B C : Type 0} (R : A → B → Type 0) (S : B → C → Type 0) (T : A → C → Type 0) (xs : List A) (ys : List B) (zs : List C)
+    → ((x : A) (y : B) (z : C) → R x y → S y z → T x z) → Each R xs ys → Each S ys zs → Each T xs zs
+each_through R S T [] [] [] join first second = tt
+each_through R S T [] [] (z ∷ zs) join first second = absurd second
+each_through R S T [] (y ∷ ys) zs join first second = absurd first
+each_through R S T (x ∷ xs) [] zs join first second = absurd first
+each_through R S T (x ∷ xs) (y ∷ ys) [] join first second = absurd second
+each_through R S T (x ∷ xs) (y ∷ ys) (z ∷ zs) join first second =
+    (join x y z first.0 second.0, each_through R S T xs ys zs join first.1 second.1)
 
--- the leaves of points, at a place
-module _ (level : Level) (points : List Point) (ts : List ℕ) (leaves : Each (IsLeaf level) points ts) (n : ℕ) (there : n < length points) where
-  leaf_at : IsLeaf level (get_or points n some_point) (get_or ts n 0)
-  leaf_at = each_at (IsLeaf level) points ts n some_point 0 leaves there
-
-  pub leaves_within : IsSound level → get_or ts n 0 < ssector_count level
-  leaves_within sound = leaf_within level (get_or points n some_point) (get_or ts n 0) sound leaf_at
-
-  pub leaves_lie : (found : ℕ × ℕ) → found.0 ≡ get_or ts n 0 → sector_of level (get_or ts n 0) ≡ Some found.1
-      → LiesIn level (get_or points n some_point) found
-  leaves_lie found same sector = (rw same leaf_at, rw same sector)
+-- leaves are ssectors that are there
+pub leaves_within : (level : Level) (points : List Point) (ts : List ℕ) → IsSound level → Each (IsLeaf level) points ts
+    → All (λ t. t < ssector_count level) ts
+leaves_within level [] [] sound leaves = All-nil (λ t. t < ssector_count level)
+leaves_within level [] (t ∷ ts) sound leaves = absurd leaves
+leaves_within level (point ∷ points) [] sound leaves = absurd leaves
+leaves_within level (point ∷ points) (t ∷ ts) sound leaves =
+    All-cons (λ t. t < ssector_count level) t ts (leaf_within level point t sound leaves.0) (leaves_within level points ts sound leaves.1)

@@ -1,6 +1,7 @@
 //! The tree of a sound level with the sector of each of its ssectors (`P_GroupLines` of linuxdoom 1.10).
 
 ghost use Rattle.std.specs.Prelude.{◌≡◌, ◌<◌, ℕ, Some, IfOk};
+ghost use Rattle.std.specs.List.{All};
 ghost use Rattle.map_level.specs.SectorOf.{sector_of};
 ghost use Rattle.map_tree.specs.Child.{ssector_count};
 ghost use Rattle.map_tree.specs.Leaf.{Each, IsLeaf, LiesIn};
@@ -58,7 +59,16 @@ impl<'l, 'a, A: Allocator> SectorTree<'l, 'a, A> {
     pub fn leaves(&self, points: [Point; 4]) -> [(u16, u16); 4]
         ensures { Each (LiesIn self.now) points result }
     {
-        let [a, b, c, d] = self.tree.leaves(points);
+        self.with_sectors(self.tree.leaves(points))
+    }
+
+    // Ssectors and their sectors.
+    #[inline]
+    fn with_sectors(&self, found: [u16; 4]) -> [(u16, u16); 4]
+        requires { All (λ t. t < ssector_count self.now) found }
+        ensures { Each (λ t pair. (pair.0 ≡ t) × (sector_of self.now t ≡ Some pair.1)) found result }
+    {
+        let [a, b, c, d] = found;
         [
             self.with_sector(a),
             self.with_sector(b),

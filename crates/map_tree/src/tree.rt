@@ -1,7 +1,7 @@
 //! The descent of a point through the nodes of a sound level (`R_PointInSubsector` of linuxdoom 1.10).
 
 ghost use Rattle.std.specs.Prelude.{◌≡◌, ◌<◌, ◌≤◌, ℕ, Some, IsSomeAnd, length};
-ghost use Rattle.std.specs.List.{slice_get};
+ghost use Rattle.std.specs.List.{All, slice_get};
 ghost use Rattle.map_geo.specs.Point.{IsInRange};
 ghost use Rattle.map_geo.specs.Partition.{partition_of};
 ghost use Rattle.map_geo.specs.Side.{side_of};
@@ -90,7 +90,7 @@ impl<'l, 'a> Tree<'l, 'a> {
             c = word_below(&nodes, c, r);
             d = word_below(&nodes, d, s);
         }
-        [ssector_of(a), ssector_of(b), ssector_of(c), ssector_of(d)]
+        ssectors_of([a, b, c, d])
     }
 
     /// The number of the sector in which the point lies: that of its ssector.
@@ -120,6 +120,16 @@ fn ssector_of(word: u16) -> u16
     ensures { place_of word ≡ ssector result }
 {
     word - NF_SUBSECTOR
+}
+
+// The ssectors that four words name.
+#[inline]
+fn ssectors_of(words: [u16; 4]) -> [u16; 4]
+    requires { All (λ word. 32768 ≤ word) words }
+    ensures { Each (λ word t. place_of word ≡ ssector t) words result }
+{
+    let [a, b, c, d] = words;
+    [ssector_of(a), ssector_of(b), ssector_of(c), ssector_of(d)]
 }
 
 // The word to which a point goes from a word: at a node the child's at its side, and at an ssector the same.

@@ -1,11 +1,12 @@
-use Rattle.std.proofs.Common.{◌≡◌, ap, ◌∙◌, length, arith, rules}
+use Rattle.std.proofs.Common.{◌≡◌, ◌≤◌, ℕ, ap, ◌∙◌, length, arith, rules}
 use Rattle.le_rec.specs.declared.records.Node.{Node}
 use Rattle.le_rec.specs.Table.{Rows}
 use Rattle.map_level.specs.Level.{Level}
 use Rattle.map_tree.specs.Child.{node_count}
-use Rattle.map_tree.proofs.EachLemmas.{each_of_four}
+use Rattle.map_tree.specs.Leaf.{IsLeaf}
+use Rattle.map_tree.proofs.EachLemmas.{all_of_four, each_of_four, each_through}
 use Rattle.map_tree.proofs.SoundLemmas.{few_nodes}
-use Rattle.map_tree.proofs.DescentLemmas.{down_start, down_word, down_turn, down_arrives, down_leaf}
+use Rattle.map_tree.proofs.DescentLemmas.{GoesDown, down_turn, down_arrives, down_leaf}
 use Rattle.map_tree.proofs.tree.Tree.leaves.Goals.{else-turns-test, then-turns-test+then-min-ge-NF_SUBSECTOR}
 use Rattle.map_tree.proofs.tree.Tree.leaves.Goals as goal
 
@@ -25,51 +26,35 @@ turns-preserved c =
       down_turn _ _ _ _ _ _ c.turns.invariant.3 nodes c.word_below-d.ensures.node c.word_below-d.ensures.ssector,
     )
 
-pub ssector_of-requires : goal.ssector_of-requires
-ssector_of-requires c =
-    let nodes = c.nodes-nodes.ensures.is ∙ ap (λ (level : Level). level.nodes) c.self.view_is in
-    let count : c.len-turn-end.result ≡ node_count c.args.self.now = c.len-turn-end.ensures ∙ ap (λ (rows : Rows Node). length rows.records) nodes in
-    elim c.turns-test.branch [
-      | else-turns-test w ↦ down_arrives _ _ _ _ (omega (arith, w.turns-test.false, count)) c.turns.invariant.0
-      | then-turns-test+then-min-ge-NF_SUBSECTOR w ↦
-          omega (arith, w.min.ensures, w.min-in-turns.ensures, w.min-in-turns-2.ensures, w.if-min-ge-NF_SUBSECTOR.true)
-    ]
+abbrev IsPast : ℕ → Type 0
+IsPast word = 32768 ≤ word
 
-pub ssector_of-requires-2 : goal.ssector_of-requires-2
-ssector_of-requires-2 c =
+-- each word names an ssector where one ends the turns, and where there is none left
+pub ssectors_of-requires : goal.ssectors_of-requires
+ssectors_of-requires c =
     let nodes = c.nodes-nodes.ensures.is ∙ ap (λ (level : Level). level.nodes) c.self.view_is in
     let count : c.len-turn-end.result ≡ node_count c.args.self.now = c.len-turn-end.ensures ∙ ap (λ (rows : Rows Node). length rows.records) nodes in
     elim c.turns-test.branch [
-      | else-turns-test w ↦ down_arrives _ _ _ _ (omega (arith, w.turns-test.false, count)) c.turns.invariant.1
+      | else-turns-test w ↦
+          let enough : node_count c.args.self.now ≤ c.turns._turn = omega (arith, w.turns-test.false, count) in
+          all_of_four IsPast _ _ _ _
+          (down_arrives _ _ _ _ enough c.turns.invariant.0)
+          (down_arrives _ _ _ _ enough c.turns.invariant.1)
+          (down_arrives _ _ _ _ enough c.turns.invariant.2)
+          (down_arrives _ _ _ _ enough c.turns.invariant.3)
       | then-turns-test+then-min-ge-NF_SUBSECTOR w ↦
-          omega (arith, w.min.ensures, w.min-in-turns.ensures, w.min-in-turns-2.ensures, w.if-min-ge-NF_SUBSECTOR.true)
-    ]
-
-pub ssector_of-requires-3 : goal.ssector_of-requires-3
-ssector_of-requires-3 c =
-    let nodes = c.nodes-nodes.ensures.is ∙ ap (λ (level : Level). level.nodes) c.self.view_is in
-    let count : c.len-turn-end.result ≡ node_count c.args.self.now = c.len-turn-end.ensures ∙ ap (λ (rows : Rows Node). length rows.records) nodes in
-    elim c.turns-test.branch [
-      | else-turns-test w ↦ down_arrives _ _ _ _ (omega (arith, w.turns-test.false, count)) c.turns.invariant.2
-      | then-turns-test+then-min-ge-NF_SUBSECTOR w ↦
-          omega (arith, w.min.ensures, w.min-in-turns.ensures, w.min-in-turns-2.ensures, w.if-min-ge-NF_SUBSECTOR.true)
-    ]
-
-pub ssector_of-requires-4 : goal.ssector_of-requires-4
-ssector_of-requires-4 c =
-    let nodes = c.nodes-nodes.ensures.is ∙ ap (λ (level : Level). level.nodes) c.self.view_is in
-    let count : c.len-turn-end.result ≡ node_count c.args.self.now = c.len-turn-end.ensures ∙ ap (λ (rows : Rows Node). length rows.records) nodes in
-    elim c.turns-test.branch [
-      | else-turns-test w ↦ down_arrives _ _ _ _ (omega (arith, w.turns-test.false, count)) c.turns.invariant.3
-      | then-turns-test+then-min-ge-NF_SUBSECTOR w ↦
-          omega (arith, w.min.ensures, w.min-in-turns.ensures, w.min-in-turns-2.ensures, w.if-min-ge-NF_SUBSECTOR.true)
+          let least = w.if-min-ge-NF_SUBSECTOR.true in
+          all_of_four IsPast _ _ _ _
+          (omega (arith, least, w.min.ensures, w.min-in-turns.ensures))
+          (omega (arith, least, w.min.ensures, w.min-in-turns.ensures))
+          (omega (arith, least, w.min.ensures, w.min-in-turns-2.ensures))
+          (omega (arith, least, w.min.ensures, w.min-in-turns-2.ensures))
     ]
 
 pub returns : goal.returns
 returns c =
+    let level = c.args.self.now in
     let four : length c.args.points ≡ 4 = search rules in
-    each_of_four _ _ _ _ _ _ _ _ _ _ four
-    (down_leaf _ _ _ _ _ c.ssector_of.ensures c.turns.invariant.0)
-    (down_leaf _ _ _ _ _ c.ssector_of-2.ensures c.turns.invariant.1)
-    (down_leaf _ _ _ _ _ c.ssector_of-3.ensures c.turns.invariant.2)
-    (down_leaf _ _ _ _ _ c.ssector_of-4.ensures c.turns.invariant.3)
+    let down = each_of_four (λ point word. GoesDown level point word c.turns._turn) _ _ _ _ _ _ _ _ _ four
+    c.turns.invariant.0 c.turns.invariant.1 c.turns.invariant.2 c.turns.invariant.3 in
+    each_through _ _ (IsLeaf level) _ _ _ (λ point word t at e. down_leaf level point word c.turns._turn t e at) down c.ssectors_of.ensures

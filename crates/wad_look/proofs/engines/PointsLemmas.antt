@@ -2,7 +2,7 @@
 use Rattle.std.proofs.Common.{◌≡◌, ◌+◌, ◌-◌, ◌≤◌, ℕ, ℤ, pos, negsuc, List, [], ◌∷◌, ◌++◌, length, take, map, get_or, Result, Some, refl, sym, ap, ◌∙◌, subst, arith, FitsSigned, w64, length-append}
 use Rattle.le_rec.specs.Sink.{SinkState}
 use Rattle.line_io.specs.LineAnswers.{answers_from, line_answer}
-use Rattle.line_io.specs.Lines.{BeginsWith, TakesLines, content, ended_from, last_from, lines}
+use Rattle.line_io.specs.Lines.{TakesLines, last_from, lines}
 use Rattle.line_io.specs.Writes.{TakesFront, TakesText}
 use Rattle.line_io.specs.declared.fault.IoFault.{IoFault}
 use Rattle.line_io.proofs.BlockLemmas.{Answered}
@@ -178,16 +178,6 @@ module _ (level : Level) (f : List ℕ → List ℕ) (told : TellsPoints level f
       subst (TakesFront before after)
       (sym (ap (answers_from f []) names.begins.joined ∙ answers_from-append f [] done rest ∙ ap (λ t. t ++ more) lines_told))
       (TakesFront-longer more front)
-
--- behind lines there are fewer bytes
-pub lines_take : (bytes : List ℕ) (contents : List (List ℕ)) (rest : List ℕ) → BeginsWith bytes contents rest → 0 < length contents
-    → length rest < length bytes
-lines_take bytes contents rest begins some =
-    let long : length bytes ≡ length begins.done + length rest = ap length begins.joined ∙ length-append begins.done rest in
-    elim begins.done as (λ done. map content (ended_from [] done) ≡ contents → length bytes ≡ length done + length rest → length rest < length bytes) [
-      | [] ↦ λ are _. absurd (let none : 0 ≡ length contents = ap length are in omega (arith, none, some))
-      | b ∷ done ↦ λ _ is. omega (arith, is)
-    ] begins.contents_are long
 
 -- lines of a block that are answered, by how many bytes are left
 module _ {Answers : (List ℕ → List ℕ) → Type 0} {block : List ℕ} {before : SinkState} {rest : List ℕ} {after : SinkState}

@@ -14,7 +14,7 @@
  * `name` is looked up as the game does: its first eight bytes in capital letters, up to a NUL; the last entry of that name
  * is taken. `wide` reads a level's indexes as unsigned, as larger levels use them. A level is sound where its links and
  * nodes hold together (findings F1 to F18 don't hold). Docs: docs/wadlook.1 lists the findings, docs/DEFINITIONS.md says
- * what each word means. That each call answers as it says here is proved of crates/wadlook_c.
+ * what each word means. What the functions of crates/wadlook_c answer is proved; that this page says what they do is tested.
  *
  *     size_t size; uint8_t *wad = read_file("doom2.wad", &size);          // 'read_file' is yours
  *     wadlook_point_at points[] = {{0, 5}, {64, -128}};

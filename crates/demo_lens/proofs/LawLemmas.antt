@@ -10,13 +10,13 @@ use Rattle.demo_lump.specs.declared.command.Command.{Command}
 use Rattle.demo_lump.specs.declared.header.Header.{Header}
 use Rattle.demo_lens.specs.Assembly.{IsAssembled, IsListingOf}
 use Rattle.demo_lens.specs.Laws.{ListsAgain}
-use Rattle.demo_lens.specs.Parts.{FitsCommand}
+use Rattle.demo_lens.specs.Parts.{FitsCommand, totals_front}
 use Rattle.wad_look.specs.Listing.{header_line, ticcmd_line, ticcmds_text, totals_line, totals_text}
 use Rattle.wad_look.specs.Turn.{player_of, tic_of}
 use Rattle.demo_lens.proofs.AssemblyLemmas.{GoesOn, goes_on, no_totals, totals_begin}
 use Rattle.demo_lens.proofs.FitLemmas.{fit_listed, listed_fits}
 use Rattle.demo_lens.proofs.HeaderLineLemmas.{same_header}
-use Rattle.demo_lens.proofs.ListingLemmas.{end_stops, totals_from_front, totals_front}
+use Rattle.demo_lens.proofs.ListingLemmas.{end_stops, totals_from_front}
 use Rattle.demo_lens.proofs.RunLemmas.{same_number}
 
 -- totals of as many commands tell of as many bytes

@@ -1,5 +1,5 @@
 -- What a listing's lines tell, and that they tell it of one demo alone.
-use Rattle.std.proofs.Common.{◌≡◌, ℕ, ◌/◌, ◌%◌, ◌<◌, ◌≤◌, List, [], ◌∷◌, ◌++◌, length, sym, ap, ◌∙◌, arith, codes, length-append}
+use Rattle.std.proofs.Common.{◌≡◌, ℕ, ◌/◌, ◌%◌, ◌<◌, ◌≤◌, List, [], ◌∷◌, ◌++◌, length, sym, ap, ◌∙◌, arith, length-append}
 use Rattle.std.proofs.lemmas.Bool.Decides.{nat_tests}
 use Rattle.std.proofs.lemmas.List.{append_assoc, append_cancel_left}
 use Rattle.std.specs.Fmt.{decimal, signed_decimal}
@@ -8,7 +8,7 @@ use Rattle.demo_lump.specs.declared.command.Command.{Command}
 use Rattle.le_rec.specs.Name.{hex_digit}
 use Rattle.line_io.specs.Numbers.{IsDigit}
 use Rattle.demo_lens.specs.Differences.{command_text}
-use Rattle.demo_lens.specs.Parts.{FitsCommand, Stops, command_fields}
+use Rattle.demo_lens.specs.Parts.{FitsCommand, Stops, command_fields, front_of, totals_front}
 use Rattle.demo_lens.specs.Parts.Stops.{other}
 use Rattle.wad_look.specs.Listing.{hex_byte, ticcmd_line, totals_line}
 use Rattle.demo_lens.proofs.RunLemmas.{same_number, same_signed}
@@ -64,19 +64,11 @@ same_line tic player c d x y of_c of_d same =
 pub printed_fields : (c : Command) (rest : List ℕ) → (command_text c ++ 10 ∷ []) ++ rest ≡ command_fields c (10 ∷ rest)
 printed_fields c rest = simp append_assoc
 
--- what stands before them
-abbrev pub front_of : ℕ → ℕ → List ℕ
-front_of tic player = decimal tic ++ (32 ∷ (decimal player ++ 32 ∷ []))
-
 pub line_from_front : (tic player : ℕ) (c : Command) (rest : List ℕ) → ticcmd_line tic player c ++ rest ≡ front_of tic player ++ command_fields c (10 ∷ rest)
 line_from_front tic player c rest = line_fields tic player c rest ∙ sym (spread (command_fields c (10 ∷ rest)))
   where
     spread : (x : List ℕ) → front_of tic player ++ x ≡ decimal tic ++ (32 ∷ (decimal player ++ (32 ∷ x)))
     spread x = simp append_assoc
-
--- the totals up to their last number
-abbrev pub totals_front : ℕ → ℕ → List ℕ
-totals_front tics odd = codes "tics " ++ (decimal tics ++ (codes " odd " ++ (decimal odd ++ codes " after ")))
 
 pub totals_from_front : (tics odd after : ℕ) (rest : List ℕ) → totals_line tics odd after ++ rest ≡ totals_front tics odd ++ (decimal after ++ 10 ∷ rest)
 unfolding totals_line

@@ -1,5 +1,5 @@
 -- The parts of a listing (ours): what bytes of version 109 can hold, and what stands in a line behind its labels.
-use Rattle.std.specs.Prelude.{◌≡◌, ◌≢◌, ℕ, ◌<◌, negsuc, List, [], ◌∷◌, ◌++◌, length, slice_index}
+use Rattle.std.specs.Prelude.{◌≡◌, ◌≢◌, ℕ, ◌<◌, negsuc, List, [], ◌∷◌, ◌++◌, length, codes, slice_index}
 use Rattle.std.specs.Fmt.{decimal, signed_decimal}
 use Rattle.std.specs.Int.{w8}
 use Rattle.std.specs.Int.RustNames.{FitsSigned}
@@ -39,6 +39,14 @@ pub record FitsHeader (h : Header) : Type 0 where
 abbrev pub command_fields : Command → List ℕ → List ℕ
 command_fields c end =
     signed_decimal c.forward ++ (32 ∷ (signed_decimal c.side ++ (32 ∷ (decimal c.turn ++ (32 ∷ (hex_byte c.buttons ++ end))))))
+
+-- a command's line in front of its fields
+abbrev pub front_of : ℕ → ℕ → List ℕ
+front_of tic player = decimal tic ++ (32 ∷ (decimal player ++ 32 ∷ []))
+
+-- the totals' line in front of its last number
+abbrev pub totals_front : ℕ → ℕ → List ℕ
+totals_front tics odd = codes "tics " ++ (decimal tics ++ (codes " odd " ++ (decimal odd ++ codes " after ")))
 
 -- numbers behind their labels, and what comes behind them
 abbrev pub fields : List (List ℕ) → List ℕ → List ℕ → List ℕ

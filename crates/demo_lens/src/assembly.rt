@@ -3,7 +3,7 @@
 ghost use Rattle.std.specs.Prelude.{◌≡◌, ◌≢◌, ◌≤◌, ◌<◌, ◌^◌, ◌%◌, ◌++◌, ℕ, List, length, IfOk, IfErr, IfSome, IfNone};
 ghost use Rattle.std.specs.List.{AllByRecursion};
 ghost use Rattle.demo_lens.specs.Assembly.{IsAssembled, IsTakenFrom, WhyNone};
-ghost use Rattle.demo_lens.specs.Parts.{FitsCommand};
+ghost use Rattle.demo_lens.specs.Parts.{FitsCommand, totals_front};
 ghost use Rattle.demo_lump.specs.Header.{players_in};
 ghost use Rattle.wad_look.specs.Listing.{ticcmds_text, totals_line};
 ghost use Rattle.wad_look.specs.Turn.{tic_of};
@@ -93,12 +93,7 @@ fn take_totals<'t>(text: &'t [u8], turn: &Turn) -> Option<&'t [u8]>
     ensures none { IfNone result ((after : ℕ) (rest : List ℕ) → after < 2 ^ 64 → text.now
         ≢ totals_line (tic_of turn.now.players turn.now.index) (turn.now.index % players_in turn.now.players) after ++ rest) }
 {
-    let mut front = TextLine::new();
-    front.prepend_bytes(b" after ");
-    front.prepend_natural(turn.odd());
-    front.prepend_bytes(b" odd ");
-    front.prepend_natural(turn.tic());
-    front.prepend_bytes(b"tics ");
+    let front = totals_before_after(turn);
     let Some(behind) = take_label(text, front.as_bytes()) else {
         return None;
     };
@@ -106,4 +101,17 @@ fn take_totals<'t>(text: &'t [u8], turn: &Turn) -> Option<&'t [u8]>
         Some(rest) => Some(rest),
         None => None,
     }
+}
+
+// The totals' line at this turn up to the number of bytes after the demo.
+fn totals_before_after(turn: &Turn) -> TextLine
+    ensures { result ≡ totals_front (tic_of turn.now.players turn.now.index) (turn.now.index % players_in turn.now.players) }
+{
+    let mut front = TextLine::new();
+    front.prepend_bytes(b" after ");
+    front.prepend_natural(turn.odd());
+    front.prepend_bytes(b" odd ");
+    front.prepend_natural(turn.tic());
+    front.prepend_bytes(b"tics ");
+    front
 }

@@ -1,7 +1,7 @@
 //! The line of a command in a listing, read.
 
 ghost use Rattle.std.specs.Prelude.{◌≡◌, ◌≢◌, ◌≤◌, ◌<◌, ◌++◌, ◌∷◌, ℕ, List, [], length, IfSome, IfNone};
-ghost use Rattle.demo_lens.specs.Parts.{FitsCommand, command_fields};
+ghost use Rattle.demo_lens.specs.Parts.{FitsCommand, command_fields, front_of};
 ghost use Rattle.demo_lump.specs.declared.command.Command.{Command};
 ghost use Rattle.wad_look.specs.Listing.{ticcmd_line};
 ghost use Rattle.wad_look.specs.Turn.{player_of, tic_of};
@@ -20,11 +20,7 @@ pub fn take_command<'t>(text: &'t [u8], turn: &Turn) -> Option<(Command, &'t [u8
     ensures none { IfNone result ((c : Command) (rest : List ℕ) → FitsCommand c → text.now
         ≢ ticcmd_line (tic_of turn.now.players turn.now.index) (player_of turn.now.players turn.now.index) c ++ rest) }
 {
-    let mut front = TextLine::new();
-    front.prepend_bytes(b" ");
-    front.prepend_small(turn.player());
-    front.prepend_bytes(b" ");
-    front.prepend_natural(turn.tic());
+    let front = tic_and_player(turn);
     let Some(behind) = take_label(text, front.as_bytes()) else {
         return None;
     };
@@ -32,6 +28,18 @@ pub fn take_command<'t>(text: &'t [u8], turn: &Turn) -> Option<(Command, &'t [u8
         Some((command, rest)) => Some((command, rest)),
         None => None,
     }
+}
+
+// The command's line at this turn up to its fields.
+fn tic_and_player(turn: &Turn) -> TextLine
+    ensures { result ≡ front_of (tic_of turn.now.players turn.now.index) (player_of turn.now.players turn.now.index) }
+{
+    let mut front = TextLine::new();
+    front.prepend_bytes(b" ");
+    front.prepend_small(turn.player());
+    front.prepend_bytes(b" ");
+    front.prepend_natural(turn.tic());
+    front
 }
 
 // The command of which the fields stand at the front and end their line, and what follows it.

@@ -41,7 +41,7 @@ pub record DrawsNothing (files : List Wad) (reading : Reading) (asked : Asked) :
 abbrev pub RefusesDrawing : {W : Type 0} → List Wad → Reading → Asked → W → W → PictureFault → Type 0
 RefusesDrawing files reading asked out out' (NoWad why) = ⊥
 RefusesDrawing files reading asked out out' NoEntry = (length (joined files) ≡ 0) × (out' ≡ out)
-RefusesDrawing files reading asked out out' (NoLevel why) = RefusesLevelAt files 0 why × (out' ≡ out)
+RefusesDrawing files reading asked out out' (NoLevel why) = (0 < length (joined files)) × RefusesLevelAt files 0 why × (out' ≡ out)
 RefusesDrawing files reading asked out out' NothingToDraw = DrawsNothing files reading asked × (out' ≡ out)
 RefusesDrawing files reading asked out out' Full = Unit {0}
 

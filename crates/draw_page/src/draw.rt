@@ -16,7 +16,7 @@ pub enum PictureFault {
     NoWad(WadFault),
     /// The directory has no entry.
     NoEntry,
-    /// The first entry is no level's label.
+    /// A lump behind the first entry isn't there, or lies outside the file.
     NoLevel(LevelFault),
     /// No linedef has both of its vertexes, and no frame is asked for.
     NothingToDraw,

@@ -7,6 +7,7 @@ use Rattle.map_level.specs.Opening.{AreLumps, AreNames, IsLevelAt, RefusesLevelA
 use Rattle.map_level.specs.declared.level.LevelFault.{LevelFault}
 use Rattle.map_level.specs.declared.level.LevelFault.TheVariants.{NoLabel, Missing, Outside}
 use Rattle.map_level.specs.declared.reading.Reading.TheVariants.{Signed}
+use Rattle.wad_dir.specs.Entries.{joined}
 use Rattle.wad_dir.specs.Packing.{packed}
 use Rattle.wad_dir.specs.Wad.{Wad}
 use Rattle.wad_dir.specs.declared.packer.PackFault.{PackFault}
@@ -16,10 +17,11 @@ use Rattle.wad_lens.specs.Cut.{CutsLevel, HasLump, HasLumpsAt, RefusesEntry, cut
 use Rattle.wad_look.specs.Engines.Extract.{HoldsLumps, extracted}
 
 -- why there is no level, as why it isn't cut out
-pub entry_refused : (files : List Wad) (g : ℕ) (fault : LevelFault) → RefusesLevelAt files g fault → RefusesEntry files g (cut_fault_of fault) × HasLump (cut_fault_of fault)
-entry_refused files g NoLabel refuses = absurd refuses
-entry_refused files g (Missing k) refuses = (refuses, (refuses.from, refuses.to))
-entry_refused files g (Outside k) refuses = (refuses, (refuses.from, refuses.to))
+pub entry_refused : (files : List Wad) (g : ℕ) (fault : LevelFault) → g < length (joined files) → RefusesLevelAt files g fault
+    → RefusesEntry files g (cut_fault_of fault) × HasLump (cut_fault_of fault)
+entry_refused files g NoLabel there refuses = absurd refuses
+entry_refused files g (Missing k) there refuses = ((there, refuses), (refuses.from, refuses.to))
+entry_refused files g (Outside k) there refuses = (refuses, (refuses.from, refuses.to))
 
 module _ (files : List Wad) (g : ℕ) (level : Level) (there : IsLevelAt files g Signed level) where
   pub lumps_behind : AreLumps files level.label there.lumps

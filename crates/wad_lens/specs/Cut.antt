@@ -50,7 +50,7 @@ pub record IsTooLarge (files : List Wad) (g : ℕ) : Type 0 where
 abbrev pub RefusesEntry : List Wad → ℕ → CutFault → Type 0
 RefusesEntry files g (NoWad why) = ⊥
 RefusesEntry files g NoEntry = length (joined files) ≤ g
-RefusesEntry files g (Incomplete k) = IsMissing files g k
+RefusesEntry files g (Incomplete k) = (g < length (joined files)) × IsMissing files g k
 RefusesEntry files g (Outside k) = IsOutsideFile files g k
 RefusesEntry files g TooLarge = IsTooLarge files g
 RefusesEntry files g Memory = Unit {0}

@@ -1,4 +1,4 @@
-use Rattle.std.proofs.Common.{refl}
+use Rattle.std.proofs.Common.{refl, rules}
 use Rattle.wad_lens.proofs.CutLemmas.{cut_ends, entry_refused, lumps_behind, names_behind}
 use Rattle.wad_lens.proofs.cut.cut_entry.Goals as goal
 
@@ -23,7 +23,7 @@ returns-in-Ok-clause-err g c =
     c.pack_level.ensures.ok c.pack_level.ensures.fits c.pack_level.ensures.holds c.pack_level.ensures.too_large).1)
 
 pub returns-in-Err-clause-err : goal.returns-in-Err-clause-err
-returns-in-Err-clause-err g c = rw c.cut_fault_of.ensures ((entry_refused c.args.set.now c.args.entry c.in-Err.fault ((c.in-Err.ensures.refused c.in-Err.fault).0 refl)).0)
+returns-in-Err-clause-err g c = rw c.cut_fault_of.ensures ((entry_refused c.args.set.now c.args.entry c.in-Err.fault (search rules) ((c.in-Err.ensures.refused c.in-Err.fault).0 refl)).0)
 
 pub returns-in-Err-clause-lump : goal.returns-in-Err-clause-lump
-returns-in-Err-clause-lump g c = rw c.cut_fault_of.ensures ((entry_refused c.args.set.now c.args.entry c.in-Err.fault ((c.in-Err.ensures.refused c.in-Err.fault).0 refl)).1)
+returns-in-Err-clause-lump g c = rw c.cut_fault_of.ensures ((entry_refused c.args.set.now c.args.entry c.in-Err.fault (search rules) ((c.in-Err.ensures.refused c.in-Err.fault).0 refl)).1)

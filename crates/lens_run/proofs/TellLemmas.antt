@@ -99,13 +99,13 @@ check_left state asked bytes out out' why (inr ran) = go why ran
 
 -- a refused file was told
 pub refused_told : (held : Option (List ℕ)) (asked : Asked) (path : List ℕ) (refusal : Refusal) (out out' errors errors' : SinkState) (result : Result Tally Stop)
-    → RefusesFile held refusal → IfOk result (WritesRefusal asked.word path refusal out out' errors errors') → IfOk result (TellsPath held asked path out out' errors errors')
+    → RefusesFile held asked.word refusal → IfOk result (WritesRefusal asked.word path refusal out out' errors errors') → IfOk result (TellsPath held asked path out out' errors errors')
 refused_told held asked path refusal out out' errors errors' (Ok tally) why writes = inr (record { refusal = refusal; why = why; writes = writes })
 refused_told held asked path refusal out out' errors errors' (Err stop) why writes = tt
 
 -- a refused file was told in part
 pub refused_stopped : (held : Option (List ℕ)) (asked : Asked) (path : List ℕ) (refusal : Refusal) (out out' errors errors' : SinkState) (result : Result Tally Stop)
-    → RefusesFile held refusal → IfErr result (StopsRefusal asked.word path refusal out out' errors errors')
+    → RefusesFile held asked.word refusal → IfErr result (StopsRefusal asked.word path refusal out out' errors errors')
     → IfErr result (StopsPath held asked path out out' errors errors')
 refused_stopped held asked path refusal out out' errors errors' (Ok tally) why stops = tt
 refused_stopped held asked path refusal out out' errors errors' (Err stop.Memory) why stops = absurd stops

@@ -70,7 +70,8 @@ StopsOthers path bytes before after fault.Memory = after ≡ before
 
 -- why the demos of these bytes weren't all told; where there was no memory the demos that are read were answered, or nothing
 abbrev pub LeavesDemos : {W E : Type 0} → (W → SinkState) → (E → SinkState) → DemoForm → List ℕ → List ℕ → W → W → E → E → BytesFault → Type 0
-LeavesDemos state state' form path bytes out out' errors errors' (fault.NoWad why) = RefusesWad bytes why × (out' ≡ out) × (errors' ≡ errors)
+LeavesDemos state state' form path bytes out out' errors errors' (fault.NoWad why) =
+    (is_wad_file bytes ≡ true) × RefusesWad bytes why × (out' ≡ out) × (errors' ≡ errors)
 LeavesDemos state state' form path bytes out out' errors errors' (fault.Output found) =
     StopsDemos form path bytes (state out) (state out') found × ((state out').failed ≡ true) × (state' errors' ≡ state' errors)
 LeavesDemos state state' form path bytes out out' errors errors' fault.Errors =

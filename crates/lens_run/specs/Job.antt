@@ -15,6 +15,7 @@ use Rattle.lens_run.specs.Paths.{listed_paths}
 use Rattle.lens_run.specs.Run.{IsTold, StopsAt, ToldTo, refusal_line}
 use Rattle.lens_run.specs.declared.end.End.{End}
 use Rattle.lens_run.specs.declared.end.End.TheVariants as end
+use Rattle.lens_run.specs.declared.files.ReadFault.{ReadFault}
 use Rattle.lens_run.specs.declared.files.ReadFault.TheVariants.{Refused}
 use Rattle.lens_run.specs.declared.output.Output.{Output}
 use Rattle.lens_run.specs.declared.tell.Asked.{Asked}
@@ -34,20 +35,24 @@ abbrev pub dash : List ℕ
 dash = codes "-"
 
 -- what a list holds: standard input for `-`, which has the bytes `left`, and else the file under its path
-abbrev pub held_at : (List ℕ → Option (List ℕ)) → Option (List ℕ) → Option (List ℕ) → Option (List ℕ)
-held_at held left None = None
-held_at held left (Some path) = if bytes_eq path dash then left else held path
-
-abbrev pub list_held : (List ℕ → Option (List ℕ)) → Option (List ℕ) → Job → Option (List ℕ)
-list_held held left job = held_at held left (list_path job)
+abbrev pub held_at : (List ℕ → Option (List ℕ)) → Option (List ℕ) → List ℕ → Option (List ℕ)
+held_at held left path = if bytes_eq path dash then left else held path
 
 -- these are the bytes of the list of a job: none where there is no list
 abbrev pub HoldsAt : (List ℕ → Option (List ℕ)) → Option (List ℕ) → Option (List ℕ) → List ℕ → Type 0
 HoldsAt held left None list = list ≡ []
-HoldsAt held left (Some path) list = Keeps (if bytes_eq path dash then left else held path) (Some list)
+HoldsAt held left (Some path) list = Keeps (held_at held left path) (Some list)
 
 abbrev pub HoldsList : (List ℕ → Option (List ℕ)) → Option (List ℕ) → Job → List ℕ → Type 0
 HoldsList held left job list = HoldsAt held left (list_path job) list
+
+-- why it isn't read: there is one, and its file isn't
+abbrev pub RefusesAt : (List ℕ → Option (List ℕ)) → Option (List ℕ) → Option (List ℕ) → ReadFault → Type 0
+RefusesAt held left None fault = ⊥
+RefusesAt held left (Some path) fault = RefusesRead (held_at held left path) fault
+
+abbrev pub LacksList : (List ℕ → Option (List ℕ)) → Option (List ℕ) → Job → ReadFault → Type 0
+LacksList held left job fault = RefusesAt held left (list_path job) fault
 
 -- the paths of a job: those of the words, and then those of the list
 abbrev pub job_paths : Job → List ℕ → List (List ℕ)
@@ -100,7 +105,7 @@ pub record StopsJob {W : Type 0} (held : List ℕ → Option (List ℕ)) (job : 
   pub stop : Stop
   pub stops : StopsAt held job.asked paths (output_state contents old) errors (output_state contents between) errors' stop
   pub kept : Keeps (output_state contents between).taken (output_state contents new).taken
-  pub ended : result ≡ Err (stop_end (is_closed between) stop)
+  pub ended : result ≡ Err (stop_end (is_closed new) stop)
 
 -- the paths of the words and of the list were told, or the run stopped at one
 pub record RunsPaths {W : Type 0} (held : List ℕ → Option (List ℕ)) (left : Option (List ℕ)) (job : Job) (contents : W → Option (List ℕ)) (old new : Output W) (errors errors' : SinkState) (result : Result Verdict End) : Type 0 where
@@ -111,7 +116,7 @@ pub record RunsPaths {W : Type 0} (held : List ℕ → Option (List ℕ)) (left 
 -- the list was refused before any file was read, and nothing was answered
 pub record RefusesList {W : Type 0} (held : List ℕ → Option (List ℕ)) (left : Option (List ℕ)) (job : Job) (old new : Output W) (errors errors' : SinkState) (result : Result Verdict End) : Type 0 where
   pub refusal : Refusal
-  pub why : RefusesRead (list_held held left job) (Refused refusal)
+  pub why : LacksList held left job (Refused refusal)
   pub told : IsTold errors errors' (refusal_line (list_name job) refusal)
   pub untouched : new ≡ old
   pub ended : result ≡ Err end.Refused

@@ -2,6 +2,7 @@
 use Rattle.std.specs.Prelude.{◌≡◌, ◌⊎◌, ℕ, ◌≤◌, false, true, List, [], ◌∷◌, ◌++◌, codes, length, Option, Some, Result, Ok, Err}
 use Rattle.std.specs.Io.KnownBytes.{Appends, Keeps}
 use Rattle.le_rec.specs.Sink.{SinkState}
+use Rattle.demo_lens.specs.Demos.{is_wad_file}
 use Rattle.wad_lens.specs.declared.judging.Judging.{Judging}
 use Rattle.wad_dir.specs.Refusal.{RefusesWad}
 use Rattle.wad_dir.specs.Wad.{IsRead, Wad}
@@ -106,6 +107,12 @@ TellsFirst (Check most) path bytes judging before after =
     (after ≡ before) ⊎ ChecksFile (record { path = path; most = most; judging = judging }) bytes before after (Err engine.Memory)
 TellsFirst (Demos form) path bytes judging before after = (after ≡ before) ⊎ TellsDemos (answers_in form path) bytes before after (Ok false)
 
+-- bytes that are told as a WAD file have no directory; of demos only those are that begin as one
+abbrev pub LacksDirectory : Word → List ℕ → WadFault → Type 0
+LacksDirectory Survey bytes why = RefusesWad bytes why
+LacksDirectory (Check most) bytes why = RefusesWad bytes why
+LacksDirectory (Demos form) bytes why = (is_wad_file bytes ≡ true) × RefusesWad bytes why
+
 -- how an engine's fault is told
 abbrev pub fault_of : FileFault → BytesFault
 fault_of (engine.NoWad why) = fault.NoWad why
@@ -115,7 +122,8 @@ fault_of engine.Memory = fault.Memory
 -- why bytes aren't gone over to their end: they have no directory, and nothing was written; or an end failed; or there was no memory, and
 -- standard error was told nothing
 abbrev pub LeavesBytes : {W E : Type 0} → (W → SinkState) → (E → SinkState) → Word → List ℕ → List ℕ → Judging → W → W → E → E → BytesFault → Type 0
-LeavesBytes state state' word path bytes judging out out' errors errors' (fault.NoWad why) = RefusesWad bytes why × (out' ≡ out) × (errors' ≡ errors)
+LeavesBytes state state' word path bytes judging out out' errors errors' (fault.NoWad why) =
+    LacksDirectory word bytes why × (out' ≡ out) × (errors' ≡ errors)
 LeavesBytes state state' word path bytes judging out out' errors errors' (fault.Output found) =
     TellsSome word path bytes judging (state out) (state out') found × ((state out').failed ≡ true) × (state' errors' ≡ state' errors)
 LeavesBytes state state' word path bytes judging out out' errors errors' fault.Errors =
@@ -139,15 +147,15 @@ pub record TellsHeld (held : Option (List ℕ)) (asked : Asked) (path : List ℕ
   pub told : TellsWord asked.word path bytes asked.judging out out' errors errors' tally
 
 -- the bytes under a path, where they are known, have no directory
-pub record HasNoDirectory (held : Option (List ℕ)) (why : WadFault) : Type 0 where
+pub record HasNoDirectory (held : Option (List ℕ)) (word : Word) (why : WadFault) : Type 0 where
   pub bytes : List ℕ
   pub are : Keeps held (Some bytes)
-  pub refuses : RefusesWad bytes why
+  pub refuses : LacksDirectory word bytes why
 
--- why a file is refused
-abbrev pub RefusesFile : Option (List ℕ) → Refusal → Type 0
-RefusesFile held (refusal.NoWad why) = HasNoDirectory held why
-RefusesFile held refusal = RefusesRead held (Refused refusal)
+-- why a file is refused of which a word asks
+abbrev pub RefusesFile : Option (List ℕ) → Word → Refusal → Type 0
+RefusesFile held word (refusal.NoWad why) = HasNoDirectory held word why
+RefusesFile held word refusal = RefusesRead held (Refused refusal)
 
 -- a file was refused: both ends took what is told of it
 pub record WritesRefusal (word : Word) (path : List ℕ) (refusal : Refusal) (out out' errors errors' : SinkState) (tally : Tally) : Type 0 where
@@ -158,7 +166,7 @@ pub record WritesRefusal (word : Word) (path : List ℕ) (refusal : Refusal) (ou
 -- the file under a path was refused
 pub record TellsRefusal (held : Option (List ℕ)) (word : Word) (path : List ℕ) (out out' errors errors' : SinkState) (tally : Tally) : Type 0 where
   pub refusal : Refusal
-  pub why : RefusesFile held refusal
+  pub why : RefusesFile held word refusal
   pub writes : WritesRefusal word path refusal out out' errors errors' tally
 
 -- what is told of the file under a path
@@ -204,7 +212,7 @@ pub record StopsOnErrors (held : Option (List ℕ)) (asked : Asked) (path : List
 -- a run stopped while it told that the file under a path is refused
 pub record StopsRefusing (held : Option (List ℕ)) (word : Word) (path : List ℕ) (out out' errors errors' : SinkState) (stop : Stop) : Type 0 where
   pub refusal : Refusal
-  pub why : RefusesFile held refusal
+  pub why : RefusesFile held word refusal
   pub stops : StopsRefusal word path refusal out out' errors errors' stop
 
 -- the file under a path was read, and there was no memory to tell all of it

@@ -16,7 +16,7 @@ pub enum End {
     Output,
     /// Standard error can't be written.
     Errors,
-    /// The words are mistaken, or the list of files is refused, which was told.
+    /// The words are mistaken, or what they ask for is refused: a list, a file, a listing, a name, a folder. This was told.
     Refused,
     /// The words ask for the help or the version, which was told.
     Told,

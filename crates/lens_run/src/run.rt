@@ -3,8 +3,7 @@
 ghost use Rattle.std.specs.Prelude.{◌≡◌, [], false, IfOk, IfErr};
 ghost use Rattle.std.specs.Io.KnownBytes.{Keeps};
 ghost use Rattle.line_io.specs.Writes.{Writes};
-ghost use Rattle.lens_run.specs.Files.{RefusesRead};
-ghost use Rattle.lens_run.specs.Job.{HoldsList, RunsJob, TellsRest, closing_line, list_held, output_end, stop_end};
+ghost use Rattle.lens_run.specs.Job.{HoldsList, LacksList, RunsJob, TellsRest, closing_line, output_end, stop_end};
 ghost use Rattle.lens_run.specs.Output.{is_closed, output_state};
 ghost use Rattle.lens_run.specs.Run.{AreSound};
 
@@ -63,7 +62,7 @@ pub fn read_list<S: Storage, I: Read + Drop>(
     reader: I,
 ) -> Result<Vec<u8>, ReadFault>
     ensures held { IfOk result (λ list. HoldsList (S.held storage.now) (I.remaining reader) job.now list.items) }
-    ensures refused { IfErr result (RefusesRead (list_held (S.held storage.now) (I.remaining reader) job.now)) }
+    ensures refused { IfErr result (LacksList (S.held storage.now) (I.remaining reader) job.now) }
 {
     match job.list {
         None => Ok(Vec::new(alloc)),
@@ -117,7 +116,7 @@ pub fn write_last<W: Sink>(
 
 // How a run ends that stopped. What was told before stands.
 fn stop_end<O: Write + Drop>(stop: Stop, out: &mut Output<O>) -> End
-    ensures value { result ≡ stop_end (is_closed out.old) stop }
+    ensures value { result ≡ stop_end (is_closed out.new) stop }
     ensures kept { Keeps (output_state O.contents out.old).taken (output_state O.contents out.new).taken }
 {
     match stop {

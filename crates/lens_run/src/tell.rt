@@ -46,7 +46,7 @@ pub struct Asked {
 pub struct Tally {
     /// The gravest of what was found, where a refused file counts as one that isn't judged.
     pub verdict: Verdict,
-    /// What `check` adds up; nothing of a survey.
+    /// What `check` adds up; nothing of a survey, nor of demos.
     pub totals: Totals,
 }
 

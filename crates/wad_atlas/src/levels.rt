@@ -1,6 +1,6 @@
 //! The levels of a file as rows.
 
-ghost use Rattle.std.specs.Prelude.{◌≡◌, ◌↔◌, IfOk, IsTrue, OnOk, length};
+ghost use Rattle.std.specs.Prelude.{◌≡◌, ◌↔◌, ℕ, IfOk, IsTrue, OnErr, OnOk, length};
 ghost use Rattle.level_list.specs.Format.{IsFormat};
 ghost use Rattle.level_list.specs.Starts.{LevelStartsAt};
 ghost use Rattle.level_list.specs.declared.format.Format.TheVariants as format;
@@ -28,15 +28,16 @@ pub struct Origin<'p> {
     pub judging: Judging,
 }
 
-/// Adds a row for each level of a file, in the order of their labels. What judging a level takes is given back before the
-/// next one.
+/// Adds a row for each level of a set, in the order of their labels, as one of the origin's file. What judging a level takes is
+/// given back before the next one. At an Err the rows of the first levels were added.
 pub fn push_rows<'p, A: Allocator + Copy, B: Allocator>(
     alloc: A,
     origin: &Origin<'p>,
     set: &Set<'_, A>,
     rows: &mut Vec<Row<'p>, B>,
 ) -> Result<(), AllocError>
-    ensures { OnOk result (AddsRows origin.now set.now (length (names set.now)) rows.old.items rows.new.items) }
+    ensures all { OnOk result (AddsRows origin.now set.now (length (names set.now)) rows.old.items rows.new.items) }
+    ensures some { OnErr result ((end : ℕ) × AddsRows origin.now set.now end rows.old.items rows.new.items) }
 {
     let total = set.total();
     let mut from = 0;
@@ -56,7 +57,8 @@ fn push_row<'p, A: Allocator + Copy, B: Allocator>(
     rows: &mut Vec<Row<'p>, B>,
 ) -> Result<(), AllocError>
     requires { LevelStartsAt (names set.now) g }
-    ensures { OnOk result (AddsRow origin.now set.now g rows.old.items rows.new.items) }
+    ensures added { OnOk result (AddsRow origin.now set.now g rows.old.items rows.new.items) }
+    ensures kept { OnErr result (rows.new.items ≡ rows.old.items) }
 {
     let row = row_at(alloc, origin, set, g)?;
     rows.push(row)?;

@@ -1,6 +1,8 @@
-use Rattle.std.proofs.Common.{arith}
+use Rattle.std.proofs.Common.{arith, subst, sym}
+use Rattle.std.proofs.lemmas.Result.{err_from_is_err_and}
 use Rattle.std.proofs.lemmas.List.{length-map}
 use Rattle.wad_atlas.proofs.LevelLemmas.{AddsRows-end, AddsRows-more, AddsRows-none}
+use Rattle.wad_atlas.specs.Levels.{AddsRows}
 use Rattle.wad_dir.specs.Entries.{joined, listed_name, names}
 use Rattle.wad_lens.proofs.SurveyLemmas.{start_within}
 use Rattle.wad_atlas.proofs.levels.push_rows.Goals as goal
@@ -21,8 +23,14 @@ levels-smaller g c =
 pub levels-preserved : goal.levels-preserved
 levels-preserved g c =
     AddsRows-more c.args.origin.now c.args.set.now c.levels.from c.in-Some.g c.args.rows.now.items c.levels.rows.items c.push_row.new.rows.items
-    c.levels.invariant c.in-Some.ensures.some c.in_ok-push_row.ensures
+    c.levels.invariant c.in-Some.ensures.some c.in_ok-push_row.ensures.added
 
-pub returns : goal.returns
-returns g c =
+pub returns-in_err-push_row-clause-some : goal.returns-in_err-push_row-clause-some
+returns-in_err-push_row-clause-some g c =
+    let p = err_from_is_err_and c.from_residual.result c.from_residual.ensures.1 in
+    let some = subst (AddsRows c.args.origin.now c.args.set.now c.levels.from c.args.rows.now.items) (sym c.in_err-push_row.ensures.kept) c.levels.invariant in
+    rw p.1 (c.levels.from, some)
+
+pub returns-clause-all : goal.returns-clause-all
+returns-clause-all g c =
     AddsRows-end c.args.origin.now c.args.set.now c.levels.from c.args.rows.now.items c.levels.rows.items c.levels.invariant c.in_default.ensures.none

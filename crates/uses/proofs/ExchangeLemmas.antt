@@ -22,13 +22,14 @@ use Rattle.uses.specs.declared.lump_exchange.ExchangeFault.{ExchangeFault}
 use Rattle.uses.specs.declared.lump_exchange.ExchangeFault.TheVariants as exchange
 
 -- why another lump isn't taken up
-pub lacks_lump : {T : Type 0} (files : List Wad) (g i : ℕ) (result : Result T LumpFault) → i < length (joined files) → i ≢ g
+pub lacks_lump : {T : Type 0} (files : List Wad) (g i : ℕ) (result : Result T LumpFault) → g < length (joined files)
+    → i < length (joined files) → i ≢ g
     → (IsErrOf result NoSuch ↔ (length (joined files) ≤ i))
     → (IsErrOf result Outside ↔ ((i < length (joined files)) × ((lump : List ℕ) → ¬ IsLump files i lump)))
     → IfErr result (LacksLump files g)
-lacks_lump files g i (Ok x) within other no_such outside = tt
-lacks_lump files g i (Err NoSuch) within other no_such outside = absurd (omega (arith, within, no_such.0 refl))
-lacks_lump files g i (Err Outside) within other no_such outside = (i, within, other, (outside.0 refl).1)
+lacks_lump files g i (Ok x) there within other no_such outside = tt
+lacks_lump files g i (Err NoSuch) there within other no_such outside = absurd (omega (arith, within, no_such.0 refl))
+lacks_lump files g i (Err Outside) there within other no_such outside = (there, i, within, other, (outside.0 refl).1)
 
 -- the first lumps, under their names
 pub record ExchangedSoFar (files : List Wad) (g : ℕ) (bytes : List ℕ) (lumps : List NamedLump) (count : ℕ) : Type 0 where

@@ -6,6 +6,7 @@ use Rattle.wad_dir.specs.Packing.{NamedLump, packed}
 use Rattle.wad_dir.specs.Refusal.{RefusesWad}
 use Rattle.wad_dir.specs.Slice.{IsLump}
 use Rattle.wad_dir.specs.Wad.{Wad, IsRead}
+use Rattle.wad_dir.specs.declared.header.Kind.TheVariants.{Pwad}
 use Rattle.wad_dir.specs.declared.lump.LumpFault.{LumpFault}
 use Rattle.wad_dir.specs.declared.lump.LumpFault.TheVariants.{NoSuch, Outside}
 use Rattle.wad_dir.specs.declared.packer.PackFault.TheVariants as pack
@@ -24,7 +25,7 @@ pub record IsExchanged (old new : List Wad) (g : ℕ) (bytes : List ℕ) : Type 
   pub lumps : (i : ℕ) → i < length (joined old)
       → (lump : List ℕ) × IsLumpWith old g bytes i lump × IsLump new i lump
 
--- both are one file, as it is read of its bytes
+-- both are one file, as it is read of its bytes, and the new one is a PWAD
 pub record Exchanges (file : List ℕ) (g : ℕ) (bytes made : List ℕ) : Type 0 where
   pub old : Wad
   pub new : Wad
@@ -32,6 +33,7 @@ pub record Exchanges (file : List ℕ) (g : ℕ) (bytes made : List ℕ) : Type 
   pub is : new.bytes ≡ made
   pub read : IsRead old
   pub reads : IsRead new
+  pub patch : new.kind ≡ Pwad
   pub holds : IsExchanged (old ∷ []) (new ∷ []) g bytes
 
 -- lumps under the names of files' entries: theirs, with these bytes for lump g
@@ -40,11 +42,11 @@ pub record AreExchanged (files : List Wad) (g : ℕ) (bytes : List ℕ) (lumps :
   pub each : (i : ℕ) (lump : NamedLump) → slice_get lumps i ≡ Some lump
       → IsLumpWith files g bytes i lump.bytes
 
--- there is no lump g, or another one isn't inside its file
+-- there is no lump g; or there is one, and another isn't inside its file
 abbrev pub LacksLump : List Wad → ℕ → LumpFault → Type 0
 LacksLump files g NoSuch = length (joined files) ≤ g
 LacksLump files g Outside =
-    (i : ℕ) × (i < length (joined files)) × (i ≢ g) × ((lump : List ℕ) → ¬ IsLump files i lump)
+    (g < length (joined files)) × (i : ℕ) × (i < length (joined files)) × (i ≢ g) × ((lump : List ℕ) → ¬ IsLump files i lump)
 
 -- what stops taking up all lumps
 abbrev pub StopsExchange : List Wad → ℕ → ExchangeFault → Type 0
@@ -54,7 +56,7 @@ StopsExchange files g (exchange.Set _) = ⊥
 
 -- when each error comes; a growth can be refused at any time
 abbrev pub RefusesExchange : List ℕ → ℕ → List ℕ → ExchangeFault → Type 0
-RefusesExchange file g bytes (exchange.Set (set.File n fault)) = RefusesWad file fault
+RefusesExchange file g bytes (exchange.Set (set.File n fault)) = (n ≡ 1) × RefusesWad file fault
 RefusesExchange file g bytes (exchange.Lump fault) =
     (old : Wad) × (old.bytes ≡ file) × IsRead old × LacksLump (old ∷ []) g fault
 RefusesExchange file g bytes (exchange.Pack pack.TooLarge) =

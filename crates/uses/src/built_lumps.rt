@@ -18,7 +18,7 @@ pub fn nodes_are_clean<A: Allocator + Copy>(alloc: A, level: &Level<'_>) -> Resu
     Ok(found.len() == 0)
 }
 
-/// Whether nothing is found at a level's REJECT and BLOCKMAP: both have the size that is wanted, and each list ends inside.
+/// Whether nothing is found at a level's REJECT and BLOCKMAP: REJECT has the size that is wanted, and BLOCKMAP no less, and each list ends inside.
 pub fn tables_are_clean<A: Allocator + Copy>(
     alloc: A,
     level: &Level<'_>,

@@ -13,13 +13,13 @@ use wad_dir::{LumpFault, PackFault, Packer, Set, SetFault};
 /// Why no lump was exchanged.
 #[derive(Clone, Copy, Debug, PartialEq, Eq, Error)]
 pub enum ExchangeFault {
-    /// The bytes are no WAD file.
+    /// The bytes are no WAD file, or a growth was refused.
     #[error("{0}")]
     Set(SetFault),
     /// There is no lump of the number, or another one isn't inside the file.
     #[error("{0}")]
     Lump(LumpFault),
-    /// The new file would be too large.
+    /// The new file would be too large, or a growth was refused.
     #[error("{0}")]
     Pack(PackFault),
 }
@@ -81,6 +81,7 @@ fn lumps_with<'a, A: Allocator + Copy>(
     g: usize,
     bytes: &'a [u8],
 ) -> Result<Packer<'a, A>, ExchangeFault>
+    requires { g < length (joined set.now) }
     ensures ok { IfOk result (AreExchanged set.now g bytes.now) }
     ensures refused { IfErr result (StopsExchange set.now g) }
 {
@@ -99,7 +100,8 @@ fn lump_with<'a, A: Allocator>(
     bytes: &'a [u8],
     i: usize,
 ) -> Result<&'a [u8], LumpFault>
-    requires { i < length (joined set.now) }
+    requires there { g < length (joined set.now) }
+    requires within { i < length (joined set.now) }
     ensures ok { IfOk result (λ lump. IsLumpWith set.now g bytes.now i lump.now) }
     ensures refused { IfErr result (LacksLump set.now g) }
 {

@@ -1,9 +1,10 @@
 //! The ssector and the sector of a point, or all that is wrong with its level.
 
-ghost use Rattle.std.specs.Prelude.{◌≡◌, Some, IfOk, IfErr};
+ghost use Rattle.std.specs.Prelude.{◌≡◌, Some, IfOk, IfErr, OnOk};
 ghost use Rattle.map_audit.specs.Refusal.{Refuses};
 ghost use Rattle.map_level.specs.SectorOf.{sector_of};
 ghost use Rattle.map_tree.specs.Leaf.{IsLeaf};
+ghost use Rattle.map_tree.specs.Sound.{IsSound};
 
 use map_audit::{Refused, accept};
 use map_geo::Point;
@@ -16,6 +17,7 @@ pub fn locate<A: Allocator + Copy>(
     level: &Level<'_>,
     point: Point,
 ) -> Result<(u16, u16), Refused<A>>
+    ensures sound { OnOk result (IsSound level.now) }
     ensures found { IfOk result (λ found.
         IsLeaf level.now point found.0 × (sector_of level.now found.0 ≡ Some found.1)) }
     ensures refused { IfErr result (Refuses level.now) }

@@ -25,6 +25,7 @@ returns-clause-ok g c =
       is = refl;
       read = one.3;
       reads = c.in_ok-pack.ensures.directory;
+      patch = refl;
       holds = packs_exchanged c.reads_as_packed.ensures one.0 new c.args.g c.args.bytes.now c.in_ok-packer.packer
           (omega (arith, c.total.ensures, ap (λ files. length (joined files)) one.1, c.if-g-total.false)) are c.in_ok-pack.ensures.names c.in_ok-pack.ensures.slices;
     }

@@ -4,7 +4,7 @@ use Rattle.std.proofs.lemmas.List.{append-nil, append_assoc}
 use Rattle.le_rec.specs.Sink.{SinkState}
 use Rattle.wad_atlas.specs.declared.refused.Refused.{Refused}
 use Rattle.wad_atlas.specs.declared.row.Row.{Row}
-use Rattle.lens_run.specs.Run.{ToldTo}
+use Rattle.lens_run.specs.Run.{ToldTo, no_tally}
 use Rattle.lens_run.specs.declared.tell.Tally.{Tally}
 use Rattle.atlas_run.specs.Atlas.{LacksPage, WritesAtlas, index_file, survey_file, survey_of}
 use Rattle.atlas_run.specs.Folder.{IsBegun, Kept, KeepsFile, with_files}
@@ -15,21 +15,27 @@ use Rattle.atlas_run.proofs.GatherLemmas.{all_none}
 
 module _ (held : List ℕ → Option (List ℕ)) (asked : Asked) (paths : List (List ℕ)) (old : Option (List Kept)) where
   -- nothing was written
-  pub none_gathered : (new : Option (List Kept)) → new ≡ old → GathersSome held asked paths old new
-  none_gathered new untouched = record {
+  pub none_gathered : (state : SinkState) (new : Option (List Kept)) → new ≡ old → GathersSome held asked paths old new
+  none_gathered state new untouched = record {
     before = [];
     rest = paths;
     stands = refl;
     rows = [];
     refused = [];
     between = old;
-    gathers = all_none held asked old;
+    survey = state;
+    survey' = state;
+    errors = state;
+    errors' = state;
+    tally = no_tally;
+    gathers = all_none held asked old state state;
     shown = [];
     next = inl refl;
     adds = untouched ∙ sym (with_files-none old);
   }
 
-  module _ (rows : List Row) (refused : List Refused) (k1 : Option (List Kept)) (all : GathersAll held asked paths rows refused old k1) where
+  module _ (rows : List Row) (refused : List Refused) (k1 : Option (List Kept)) (before after errors errors' : SinkState) (tally : Tally)
+      (all : GathersAll held asked paths rows refused old k1 before after errors errors' tally) where
     -- all pictures were, and no more
     pub pictures_alone : (new : Option (List Kept)) → new ≡ k1 → GathersSome held asked paths old new
     pictures_alone new untouched = record {
@@ -39,13 +45,18 @@ module _ (held : List ℕ → Option (List ℕ)) (asked : Asked) (paths : List (
       rows = rows;
       refused = refused;
       between = k1;
+      survey = before;
+      survey' = after;
+      errors = errors;
+      errors' = errors';
+      tally = tally;
       gathers = all;
       shown = [];
       next = inl refl;
       adds = untouched ∙ sym (with_files-none k1);
     }
 
-    module _ (before after errors errors' : SinkState) (tally : Tally) (begun : IsBegun old before) (told : ToldTo held (survey_of asked.judging) before errors paths after errors' tally)
+    module _ (begun : IsBegun old before) (told : ToldTo held (survey_of asked.judging) before errors paths after errors' tally)
         (k2 : Option (List Kept)) (x : Unit {0}) (kept : KeepsFile k1 k2 after (codes "survey.jsonl") (Ok x)) where
       survey_added : k2 ≡ with_files old (all.shown ++ survey_file kept.0 ∷ [])
       survey_added = kept.2 ∙ ap (λ f. with_files f (survey_file kept.0 ∷ [])) all.adds ∙ with_files-more old all.shown (survey_file kept.0 ∷ [])
@@ -56,10 +67,9 @@ module _ (held : List ℕ → Option (List ℕ)) (asked : Asked) (paths : List (
         rows = rows;
         refused = refused;
         shown = all.shown;
-        gathered = all.gathered;
         tally = tally;
         text = kept.0;
-        survey = record { before = before; begun = begun; after = after; told = told; whole = kept.1 };
+        survey = record { before = before; begun = begun; after = after; told = told; gathered = all.gathered; whole = kept.1 };
         adds = untouched ∙ survey_added;
       }
 
@@ -70,10 +80,9 @@ module _ (held : List ℕ → Option (List ℕ)) (asked : Asked) (paths : List (
         rows = rows;
         refused = refused;
         shown = all.shown;
-        gathered = all.gathered;
         tally = tally;
         text = kept.0;
-        survey = record { before = before; begun = begun; after = after; told = told; whole = kept.1 };
+        survey = record { before = before; begun = begun; after = after; told = told; gathered = all.gathered; whole = kept.1 };
         adds =
             paged ∙ ap (λ f. with_files f (index_file n asked.judging.warnings rows refused ∷ [])) survey_added
             ∙ with_files-more old (all.shown ++ survey_file kept.0 ∷ []) (index_file n asked.judging.warnings rows refused ∷ [])

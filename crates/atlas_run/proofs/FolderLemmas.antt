@@ -5,7 +5,7 @@ use Rattle.std.proofs.lemmas.List.{append-nil, append_assoc}
 use Rattle.std.specs.Io.KnownBytes.{Appends, Keeps}
 use Rattle.le_rec.specs.Sink.{SinkState}
 use Rattle.atlas_run.specs.Folder.{IsBegun, Kept, KeepsFile, with_files}
-use Rattle.atlas_run.specs.declared.fault.AtlasFault.{AtlasFault}
+use Rattle.atlas_run.specs.declared.fault.FileFault.{FileFault}
 
 -- none were
 pub with_files-none : (files : Option (List Kept)) → with_files files [] ≡ files
@@ -33,7 +33,7 @@ kept_whole (Some files) new before after text name x begun added kept =
     (same_text before.taken after.taken text kept.0 begun.empty added kept.1)
 
 -- or not, where that failed
-pub text_kept : (old new : Option (List Kept)) (before after : SinkState) (text name : List ℕ) (result : Result (Unit {0}) AtlasFault)
+pub text_kept : (old new : Option (List Kept)) (before after : SinkState) (text name : List ℕ) (result : Result (Unit {0}) FileFault)
     → IsBegun old before → Appends before.taken after.taken text → KeepsFile old new after name result
     → OnOk result (new ≡ with_files old (record { name = name; text = text } ∷ [])) × OnErr result (new ≡ old)
 text_kept old new before after text name (Ok x) begun added kept = (kept_whole old new before after text name x begun added kept, tt)

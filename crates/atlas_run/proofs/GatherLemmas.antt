@@ -1,5 +1,5 @@
 -- How files come onto the page and into the folder.
-use Rattle.std.proofs.Common.{◌≡◌, ℕ, ◌+◌, ◌<◌, inl, inr, Bor, List, [], ◌∷◌, ◌++◌, length, take, drop, map, get_or, All, Option, Some, Result, Ok, Err, refl, sym, ap, ◌∙◌, subst, arith}
+use Rattle.std.proofs.Common.{◌≡◌, ℕ, ◌+◌, ◌<◌, ◌≤◌, inl, inr, Bor, List, [], ◌∷◌, ◌++◌, length, take, drop, map, get_or, All, Option, Some, Result, Ok, Err, refl, sym, ap, ◌∙◌, subst, arith}
 use Rattle.std.specs.Prelude.{◌-◌, IfOk, OnErr, OnOk, suc}
 use Rattle.std.specs.Io.KnownBytes.{Keeps}
 use Rattle.std.proofs.lemmas.List.{append-nil, drop_more, length-append, length-map, length-take-le, map-append, map_push, take-append-drop, take_all, take_more}
@@ -13,10 +13,12 @@ use Rattle.wad_atlas.specs.declared.row.Row.{Row}
 use Rattle.wad_dir.specs.Entries.{names}
 use Rattle.wad_dir.specs.Wad.{IsRead, Wad}
 use Rattle.lens_run.specs.Files.{RefusesRead}
-use Rattle.lens_run.specs.Run.{RefusesFile, TellsPath, WritesRefusal}
+use Rattle.lens_run.specs.Run.{RefusesFile, TellsPath, TellsWord, WritesRefusal, no_tally, tally_with}
 use Rattle.lens_run.specs.declared.files.ReadFault.TheVariants as read
 use Rattle.lens_run.specs.declared.tell.Asked.{Asked as LensAsked}
 use Rattle.lens_run.specs.declared.tell.Tally.{Tally}
+use Rattle.lens_run.specs.declared.tell.Word.TheVariants.{Survey}
+use Rattle.line_io.specs.declared.input.TheConstants.{MAX_READ}
 use Rattle.atlas_run.specs.Folder.{Kept, with_files}
 use Rattle.atlas_run.specs.Gathered.{AddsFront, AddsLevels, AddsPath, AddsSome, Gathers, GathersAll, GathersSome, IsOrigin, of_none, with_path}
 use Rattle.atlas_run.specs.Pictures.{DrawsRows, DrawsSome, ShowsRows}
@@ -51,12 +53,21 @@ part_added origin files end n rows old new adds same count =
 
 -- a refused file was told
 pub path_told : {E : Type 0} (held : Option (List ℕ)) (asked : LensAsked) (path : List ℕ) (refusal : Refusal) (out out' errors errors' : SinkState) (result : Result Tally E)
-    → RefusesFile held refusal → IfOk result (WritesRefusal asked.word path refusal out out' errors errors') → IfOk result (TellsPath held asked path out out' errors errors')
+    → RefusesFile held asked.word refusal → IfOk result (WritesRefusal asked.word path refusal out out' errors errors') → IfOk result (TellsPath held asked path out out' errors errors')
 path_told held asked path refusal out out' errors errors' (Ok tally) why writes = inr (record { refusal = refusal; why = why; writes = writes })
 path_told held asked path refusal out out' errors errors' (Err fault) why writes = tt
 
+-- it was, by ends that nothing was told of it before
+pub written_from : {W E F : Type 0} (state : W → SinkState) (state' : E → SinkState) (out between : W) (errors told : E) (path : List ℕ) (refusal : Refusal)
+    (after after_errors : SinkState) (result : Result Tally F) → between ≡ out → told ≡ errors
+    → IfOk result (WritesRefusal Survey path refusal (state between) after (state' told) after_errors)
+    → IfOk result (WritesRefusal Survey path refusal (state out) after (state' errors) after_errors)
+written_from state state' out between errors told path refusal after after_errors result same same_errors writes =
+    subst (λ e. IfOk result (WritesRefusal Survey path refusal (state out) after (state' e) after_errors)) same_errors
+    (subst (λ o. IfOk result (WritesRefusal Survey path refusal (state o) after (state' told) after_errors)) same writes)
+
 -- why a file isn't read is why it is refused
-pub file_refused : (held : Option (List ℕ)) (refusal : Refusal) → RefusesRead held (read.Refused refusal) → RefusesFile held refusal
+pub file_refused : (held : Option (List ℕ)) (refusal : Refusal) → RefusesRead held (read.Refused refusal) → RefusesFile held Survey refusal
 file_refused held refusal.Unopened why = why
 file_refused held refusal.Unread why = why
 file_refused held refusal.TooLarge why = why
@@ -96,36 +107,48 @@ module _ (cells : ℕ) (origin : Origin) (bytes : List ℕ) (old new : List Row)
   levels_stopped (file ∷ other ∷ files) part of_bytes read adds same some = absurd (cc)
 
 module _ (held : Option (List ℕ)) (cells : ℕ) (origin : Origin) (k0 k1 : Option (List Kept)) where
-  -- a file with its levels was added
-  pub path_levels : (bytes : List ℕ) (old new : Gathered) → Keeps held (Some bytes) → AddsLevels cells origin bytes old.rows.items new.rows.items k0 k1
-      → new.refused.items ≡ old.refused.items → new.tally ≡ old.tally → AddsPath held cells origin old new k0 k1
-  path_levels bytes old new holds levels same kept = record {
-    more = levels.more;
-    others = [];
-    pictures = levels.pictures;
-    exact = inl (record {
-      levels = record { bytes = bytes; holds = holds; file = levels.file; are = levels.are; pictures = levels.shows };
-      none = refl;
-    });
-    rows = levels.rows;
-    refused = same ∙ sym (append-nil old.refused.items);
-    tally = kept;
-    adds = levels.adds;
-  }
+  module _ (out out' errors errors' : SinkState) where
+    -- a file with its levels was added
+    pub path_levels : (bytes : List ℕ) (old new : Gathered) (tally : Tally) → Keeps held (Some bytes) → length bytes ≤ MAX_READ
+        → TellsWord Survey origin.path.now bytes origin.judging out out' errors errors' tally
+        → AddsLevels cells origin bytes old.rows.items new.rows.items k0 k1
+        → new.refused.items ≡ old.refused.items → new.tally ≡ old.tally → AddsPath held cells origin old new k0 k1 out out' errors errors' tally
+    path_levels bytes old new tally holds few told levels same kept = record {
+      more = levels.more;
+      others = [];
+      pictures = levels.pictures;
+      exact = inl (record {
+        bytes = bytes;
+        holds = holds;
+        few = few;
+        told = told;
+        file = levels.file;
+        are = levels.are;
+        pictures = levels.shows;
+        none = refl;
+      });
+      rows = levels.rows;
+      refused = same ∙ sym (append-nil old.refused.items);
+      found = kept;
+      adds = levels.adds;
+    }
 
-  -- a refused one was
-  pub path_refused : (old new : Gathered) (one : Refused) → one.path.now ≡ origin.path.now → RefusesFile held one.why
-      → new.rows.items ≡ old.rows.items → new.refused.items ≡ old.refused.items ++ one ∷ [] → new.tally ≡ old.tally → k1 ≡ k0 → AddsPath held cells origin old new k0 k1
-  path_refused old new one of_path why same refused kept untouched = record {
-    more = [];
-    others = one ∷ [];
-    pictures = [];
-    exact = inr (record { one = one; of_path = of_path; why = why; is = refl; rowless = refl; none = refl });
-    rows = same ∙ sym (append-nil old.rows.items);
-    refused = refused;
-    tally = kept;
-    adds = untouched ∙ sym (with_files-none k0);
-  }
+    -- a refused one was
+    pub path_refused : {E : Type 0} (old new : Gathered) (one : Refused) (result : Result Tally E) → one.path.now ≡ origin.path.now → RefusesFile held Survey one.why
+        → new.rows.items ≡ old.rows.items → OnOk result (new.refused.items ≡ old.refused.items ++ one ∷ []) → new.tally ≡ old.tally → k1 ≡ k0
+        → IfOk result (WritesRefusal Survey origin.path.now one.why out out' errors errors')
+        → IfOk result (AddsPath held cells origin old new k0 k1 out out' errors errors')
+    path_refused old new one (Ok tally) of_path why same refused kept untouched told = record {
+      more = [];
+      others = one ∷ [];
+      pictures = [];
+      exact = inr (record { one = one; of_path = of_path; why = why; told = told; is = refl; rowless = refl; none = refl });
+      rows = same ∙ sym (append-nil old.rows.items);
+      refused = refused;
+      found = kept;
+      adds = untouched ∙ sym (with_files-none k0);
+    }
+    path_refused old new one (Err fault) of_path why same refused kept untouched told = tt
 
   -- none was
   pub front_none : k1 ≡ k0 → AddsFront held cells origin k0 k1
@@ -142,31 +165,34 @@ module _ (held : Option (List ℕ)) (cells : ℕ) (origin : Origin) (k0 k1 : Opt
 
 module _ (held : List ℕ → Option (List ℕ)) (asked : Asked) where
   -- no path yet
-  pub all_none : (k0 : Option (List Kept)) → GathersAll held asked [] [] [] k0 k0
-  all_none k0 = record { shown = []; gathered = of_none; adds = sym (with_files-none k0) }
+  pub all_none : (k0 : Option (List Kept)) (out errors : SinkState) → GathersAll held asked [] [] [] k0 k0 out out errors errors no_tally
+  all_none k0 out errors = record { shown = []; gathered = of_none; adds = sym (with_files-none k0) }
 
-  module _ (paths : List (Bor (List ℕ))) (i : ℕ) (d : Bor (List ℕ)) (within : i < length paths) (origin : Origin) (k0 k1 k2 : Option (List Kept)) where
+  module _ (paths : List (Bor (List ℕ))) (i : ℕ) (d : Bor (List ℕ)) (within : i < length paths) (origin : Origin) (k0 k1 k2 : Option (List Kept))
+      (out between after errors between_errors after_errors : SinkState) (sum : Tally) where
     -- one path more
-    pub all_more : (old new : Gathered) → IsOrigin asked (i + 1) (get_or paths i d).now origin
-        → GathersAll held asked (map (λ path. path.now) (take i paths)) old.rows.items old.refused.items k0 k1
-        → AddsPath (held (get_or paths i d).now) asked.cells origin old new k1 k2
-        → GathersAll held asked (map (λ path. path.now) (take (i + 1) paths)) new.rows.items new.refused.items k0 k2
-    all_more old new is so_far adds =
+    pub all_more : (old new : Gathered) (tally : Tally) → IsOrigin asked (i + 1) (get_or paths i d).now origin
+        → GathersAll held asked (map (λ path. path.now) (take i paths)) old.rows.items old.refused.items k0 k1 out between errors between_errors sum
+        → AddsPath (held (get_or paths i d).now) asked.cells origin old new k1 k2 between after between_errors after_errors tally
+        → GathersAll held asked (map (λ path. path.now) (take (i + 1) paths)) new.rows.items new.refused.items k0 k2 out after errors after_errors (tally_with sum tally)
+    all_more old new tally is so_far adds =
         let first : map (λ (p : Bor (List ℕ)). p.now) (take i paths) ++ (get_or paths i d).now ∷ [] ≡ map (λ p. p.now) (take (i + 1) paths) =
         sym (map_push (λ p. p.now) (take i paths) (get_or paths i d)) ∙ ap (map (λ p. p.now)) (sym (take_more paths i d within)) in
         let count : i + 1 ≡ suc (length (map (λ (p : Bor (List ℕ)). p.now) (take i paths))) =
         omega (arith, length-map (take i paths) (λ (p : Bor (List ℕ)). p.now), length-take-le i paths (omega (arith, within))) in
-        let gathered = with_path (map (λ p. p.now) (take i paths)) old.rows.items old.refused.items so_far.shown (get_or paths i d).now origin adds.more adds.others adds.pictures
+        let gathered = with_path (map (λ p. p.now) (take i paths)) old.rows.items old.refused.items so_far.shown between between_errors sum
+        (get_or paths i d).now origin adds.more adds.others adds.pictures after after_errors tally
         so_far.gathered (subst (λ n. IsOrigin asked n (get_or paths i d).now origin) count is) adds.exact in
         record {
           shown = so_far.shown ++ adds.pictures;
-          gathered = rw (adds.rows, adds.refused) (subst (λ ps. Gathers held asked ps (old.rows.items ++ adds.more) (old.refused.items ++ adds.others) (so_far.shown ++ adds.pictures)) first gathered);
+          gathered = rw (adds.rows, adds.refused) (subst (λ ps. Gathers held asked out errors ps (old.rows.items ++ adds.more) (old.refused.items ++ adds.others) (so_far.shown ++ adds.pictures)
+              after after_errors (tally_with sum tally)) first gathered);
           adds = adds.adds ∙ ap (λ f. with_files f adds.pictures) so_far.adds ∙ with_files-more k0 so_far.shown adds.pictures;
         }
 
     -- the run stopped at a path
     pub some_stopped : (rows : List Row) (refused : List Refused) → IsOrigin asked (i + 1) (get_or paths i d).now origin
-        → GathersAll held asked (map (λ path. path.now) (take i paths)) rows refused k0 k1 → AddsFront (held (get_or paths i d).now) asked.cells origin k1 k2
+        → GathersAll held asked (map (λ path. path.now) (take i paths)) rows refused k0 k1 out between errors between_errors sum → AddsFront (held (get_or paths i d).now) asked.cells origin k1 k2
         → GathersSome held asked (map (λ path. path.now) paths) k0 k2
     some_stopped rows refused is so_far front =
         let count : i + 1 ≡ suc (length (map (λ (p : Bor (List ℕ)). p.now) (take i paths))) =
@@ -178,6 +204,11 @@ module _ (held : List ℕ → Option (List ℕ)) (asked : Asked) where
           rows = rows;
           refused = refused;
           between = k1;
+          survey = out;
+          survey' = between;
+          errors = errors;
+          errors' = between_errors;
+          tally = sum;
           gathers = so_far;
           shown = front.shown;
           next = inr (record {

@@ -19,7 +19,7 @@ use Rattle.wad_dir.specs.Wad.{Wad}
 use Rattle.wad_lens.specs.declared.judging.Judging.{Judging}
 use Rattle.atlas_run.specs.Folder.{IsBegun, Kept, KeepsFile, with_files}
 use Rattle.atlas_run.specs.Pictures.{DrawsFile, DrawsRow, DrawsRows, DrawsSome, ShowsRows, of_none, with_row}
-use Rattle.atlas_run.specs.declared.fault.AtlasFault.{AtlasFault}
+use Rattle.atlas_run.specs.declared.fault.FileFault.{FileFault}
 use Rattle.atlas_run.proofs.FolderLemmas.{kept_whole, with_files-more, with_files-none}
 
 -- a row with a picture is that of a level of Doom's format, in which there is something to draw
@@ -36,7 +36,7 @@ pub drawn_lines : (level : Level) → HasLines level → ¬ HasNothing level Non
 drawn_lines level lines nothing = nothing.none lines.0 lines.1
 
 -- a level's picture was put into a folder, or not
-pub picture_kept : (cells : ℕ) (level : Level) (name : List ℕ) (old new : Option (List Kept)) (before after : SinkState) (result : Result (Unit {0}) AtlasFault)
+pub picture_kept : (cells : ℕ) (level : Level) (name : List ℕ) (old new : Option (List Kept)) (before after : SinkState) (result : Result (Unit {0}) FileFault)
     → IsBegun old before → TakesWhole (IsPicture level (record { frame = None; cells = cells })) before after → KeepsFile old new after name result
     → OnOk result (DrawsFile cells level name old new) × OnErr result (new ≡ old)
 picture_kept cells level name old new before after (Ok x) begun took kept = (

@@ -14,15 +14,17 @@ use Rattle.lens_run.specs.declared.tell.Tally.{Tally}
 use Rattle.lens_run.specs.declared.tell.Word.TheVariants.{Survey}
 use Rattle.lens_run.proofs.TellLemmas.{told_before}
 use Rattle.atlas_run.specs.Atlas.{survey_of}
+use Rattle.atlas_run.specs.Folder.{IsOfFile}
+use Rattle.atlas_run.specs.declared.fault.FileFault.TheVariants as file
 use Rattle.atlas_run.specs.Until.{LeavesPath, LeavesRefused, StopsAtFile, stop_fault}
 use Rattle.atlas_run.specs.declared.fault.AtlasFault.{AtlasFault}
 use Rattle.atlas_run.specs.declared.fault.AtlasFault.TheVariants as fault
 
 module _ (held : Option (List ℕ)) (judging : Judging) (path : List ℕ) (out out' errors errors' : SinkState) where
   -- all of it was told
-  pub left_behind : (tally : Tally) (why : AtlasFault) → TellsPath held (survey_of judging) path out out' errors errors' tally
+  pub left_behind : (tally : Tally) (why : AtlasFault) → TellsPath held (survey_of judging) path out out' errors errors' tally → IsOfFile why
       → LeavesPath held (survey_of judging) path out out' errors errors' why
-  left_behind tally why told = inl (record { tally = tally; told = told })
+  left_behind tally why told fault = inl (record { tally = tally; told = told; fault = fault })
 
   -- its survey wasn't written
   pub left_unwritten : (bytes : List ℕ) (found : Verdict) → Keeps held (Some bytes) → TellsSome Survey path bytes judging out out' found → out'.failed ≡ true → errors' ≡ errors
@@ -38,10 +40,14 @@ module _ (held : Option (List ℕ)) (judging : Judging) (path : List ℕ) (out o
   left_wanting wants = inr (record { stop = stop.Memory; stops = wants; is = refl })
 
   -- it was refused, and this wasn't told to its end
-  pub refused_left : (refusal : Refusal) (result : Result Tally AtlasFault) → RefusesFile held refusal
+  pub refused_left : (refusal : Refusal) (result : Result Tally AtlasFault) → RefusesFile held Survey refusal
       → IfErr result (LeavesRefused path refusal out out' errors errors') → IfErr result (LeavesPath held (survey_of judging) path out out' errors errors')
   refused_left refusal (Ok tally) why left = tt
-  refused_left refusal (Err e) why (inl wants) = inl (record { tally = wants.tally; told = inr (record { refusal = refusal; why = why; writes = wants.told }) })
+  refused_left refusal (Err e) why (inl wants) = inl (record {
+    tally = wants.tally;
+    told = inr (record { refusal = refusal; why = why; writes = wants.told });
+    fault = record { fault = file.Memory; is = wants.is };
+  })
   refused_left refusal (Err e) why (inr left) = go left.stop left.stops left.is
     where
       go : (s : Stop) → StopsRefusal Survey path refusal out out' errors errors' s → e ≡ stop_fault s → LeavesPath held (survey_of judging) path out out' errors errors' e

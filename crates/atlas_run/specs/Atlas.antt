@@ -7,8 +7,7 @@ use Rattle.wad_atlas.specs.declared.refused.Refused.{Refused}
 use Rattle.wad_atlas.specs.declared.row.Row.{Row}
 use Rattle.wad_lens.specs.declared.object.Refusal.{Refusal}
 use Rattle.wad_lens.specs.declared.verdict.Verdict.{Verdict}
-use Rattle.lens_run.specs.Files.{RefusesRead}
-use Rattle.lens_run.specs.Job.{HoldsList, job_paths, list_held, list_name}
+use Rattle.lens_run.specs.Job.{HoldsList, LacksList, job_paths, list_name}
 use Rattle.lens_run.specs.Run.{IsTold, ToldTo, refusal_line}
 use Rattle.lens_run.specs.declared.end.End.{End}
 use Rattle.lens_run.specs.declared.end.End.TheVariants as end
@@ -40,12 +39,15 @@ survey_file text = record { name = codes "survey.jsonl"; text = text }
 abbrev pub index_file : ℕ → Warnings → List Row → List Refused → Kept
 index_file files warnings rows refused = record { name = codes "index.html"; text = page_text files warnings rows refused }
 
--- this text is what a survey tells of these paths, and what standard error is told besides
-pub record IsSurvey (held : List ℕ → Option (List ℕ)) (judging : Judging) (paths : List (List ℕ)) (files : Option (List Kept)) (errors errors' : SinkState) (tally : Tally) (text : List ℕ) : Type 0 where
+-- this text is what a survey tells of these paths, and what standard error is told besides; the rows, the refused files and the pictures are
+-- those of the same files
+pub record IsSurvey (held : List ℕ → Option (List ℕ)) (asked : Asked) (paths : List (List ℕ)) (rows : List Row) (refused : List Refused) (shown : List Kept)
+    (files : Option (List Kept)) (errors errors' : SinkState) (tally : Tally) (text : List ℕ) : Type 0 where
   pub before : SinkState
   pub begun : IsBegun files before
   pub after : SinkState
-  pub told : ToldTo held (survey_of judging) before errors paths after errors' tally
+  pub told : ToldTo held (survey_of asked.judging) before errors paths after errors' tally
+  pub gathered : Gathers held asked before errors paths rows refused shown after errors' tally
   pub whole : Keeps after.taken (Some text)
 
 -- all files of an atlas were added to a folder, the page behind all others
@@ -53,10 +55,9 @@ pub record WritesAtlas (held : List ℕ → Option (List ℕ)) (asked : Asked) (
   pub rows : List Row
   pub refused : List Refused
   pub shown : List Kept
-  pub gathered : Gathers held asked paths rows refused shown
   pub tally : Tally
   pub text : List ℕ
-  pub survey : IsSurvey held asked.judging paths old errors errors' tally text
+  pub survey : IsSurvey held asked paths rows refused shown old errors errors' tally text
   pub adds : new ≡ with_files old (shown ++ survey_file text ∷ index_file (length paths) asked.judging.warnings rows refused ∷ [])
   pub says : verdict ≡ tally.verdict
 
@@ -65,10 +66,9 @@ pub record LacksPage (held : List ℕ → Option (List ℕ)) (asked : Asked) (pa
   pub rows : List Row
   pub refused : List Refused
   pub shown : List Kept
-  pub gathered : Gathers held asked paths rows refused shown
   pub tally : Tally
   pub text : List ℕ
-  pub survey : IsSurvey held asked.judging paths old errors errors' tally text
+  pub survey : IsSurvey held asked paths rows refused shown old errors errors' tally text
   pub adds : new ≡ with_files old (shown ++ survey_file text ∷ [])
 
 -- an atlas isn't whole, and has no page
@@ -120,7 +120,7 @@ pub record RunsPaths (held : List ℕ → Option (List ℕ)) (left : Option (Lis
 -- the list was refused before any file was read, and the folder wasn't touched
 pub record RefusesList (held : List ℕ → Option (List ℕ)) (left : Option (List ℕ)) (job : AtlasJob) (old new : Option (List Kept)) (errors errors' : SinkState) (result : Result Verdict End) : Type 0 where
   pub refusal : Refusal
-  pub why : RefusesRead (list_held held left job.job) (read.Refused refusal)
+  pub why : LacksList held left job.job (read.Refused refusal)
   pub told : IsTold errors errors' (refusal_line (list_name job.job) refusal)
   pub untouched : new ≡ old
   pub ended : result ≡ Err end.Refused

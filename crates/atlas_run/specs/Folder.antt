@@ -4,6 +4,9 @@ use Rattle.std.specs.Option.{option_map}
 use Rattle.std.specs.Io.KnownBytes.{Keeps}
 use Rattle.le_rec.specs.Sink.{SinkState}
 use Rattle.atlas_run.specs.declared.fault.AtlasFault.{AtlasFault}
+use Rattle.atlas_run.specs.declared.fault.AtlasFault.TheVariants as fault
+use Rattle.atlas_run.specs.declared.fault.FileFault.{FileFault}
+use Rattle.atlas_run.specs.declared.fault.FileFault.TheVariants as file
 
 -- a whole file under its name
 pub record Kept : Type 0 where
@@ -20,6 +23,16 @@ pub record IsBegun (files : Option (List Kept)) (file : SinkState) : Type 0 wher
   pub empty : IfSome files (λ _. file.taken ≡ Some [])
 
 -- at Ok there is one file more, with what it took, and at Err there is none
-abbrev pub KeepsFile : Option (List Kept) → Option (List Kept) → SinkState → List ℕ → Result (Unit {0}) AtlasFault → Type 0
+abbrev pub KeepsFile : Option (List Kept) → Option (List Kept) → SinkState → List ℕ → Result (Unit {0}) FileFault → Type 0
 KeepsFile old new file name (Ok x) = (text : List ℕ) × Keeps file.taken (Some text) × (new ≡ with_files old (record { name = name; text = text } ∷ []))
 KeepsFile old new file name (Err why) = new ≡ old
+
+-- why an atlas isn't whole where a file of the folder isn't
+abbrev pub of_file : FileFault → AtlasFault
+of_file file.Memory = fault.Memory
+of_file file.Write = fault.Write
+
+-- a file of the folder is why
+pub record IsOfFile (why : AtlasFault) : Type 0 where
+  pub fault : FileFault
+  pub is : why ≡ of_file fault

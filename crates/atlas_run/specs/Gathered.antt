@@ -1,5 +1,5 @@
 -- What of some files goes onto the page and into the folder (ours).
-use Rattle.std.specs.Prelude.{◌≡◌, ◌⊎◌, ℕ, suc, List, [], ◌∷◌, ◌++◌, length, Option, Some, take}
+use Rattle.std.specs.Prelude.{◌≡◌, ◌⊎◌, ℕ, suc, ◌≤◌, List, [], ◌∷◌, ◌++◌, length, Option, Some, take}
 use Rattle.std.specs.Io.KnownBytes.{Keeps}
 use Rattle.wad_atlas.specs.Levels.{AreRowsBelow}
 use Rattle.wad_atlas.specs.declared.levels.Origin.{Origin}
@@ -7,7 +7,11 @@ use Rattle.wad_atlas.specs.declared.refused.Refused.{Refused}
 use Rattle.wad_atlas.specs.declared.row.Row.{Row}
 use Rattle.wad_dir.specs.Entries.{names}
 use Rattle.wad_dir.specs.Wad.{IsRead, Wad}
-use Rattle.lens_run.specs.Run.{RefusesFile}
+use Rattle.le_rec.specs.Sink.{SinkState}
+use Rattle.lens_run.specs.Run.{RefusesFile, TellsWord, WritesRefusal, no_tally, tally_with}
+use Rattle.lens_run.specs.declared.tell.Tally.{Tally}
+use Rattle.lens_run.specs.declared.tell.Word.TheVariants.{Survey}
+use Rattle.line_io.specs.declared.input.TheConstants.{MAX_READ}
 use Rattle.atlas_run.specs.Folder.{Kept, with_files}
 use Rattle.atlas_run.specs.Pictures.{ShowsRows}
 use Rattle.atlas_run.specs.declared.gather.Gathered.{Gathered}
@@ -25,41 +29,44 @@ pub record AreRowsOf (origin : Origin) (bytes : List ℕ) (file : Wad) (rows : L
   pub read : IsRead file
   pub are : AreRowsBelow origin (file ∷ []) (length (names (file ∷ []))) rows
 
--- the rows of a file's levels, and their pictures
-pub record GathersLevels (held : Option (List ℕ)) (cells : ℕ) (origin : Origin) (rows : List Row) (shown : List Kept) : Type 0 where
+-- the rows of a file's levels and their pictures, of the same bytes of which a survey tells
+pub record GathersFile (held : Option (List ℕ)) (cells : ℕ) (origin : Origin) (rows : List Row) (refused : List Refused) (shown : List Kept)
+    (out out' errors errors' : SinkState) (tally : Tally) : Type 0 where
   pub bytes : List ℕ
   pub holds : Keeps held (Some bytes)
+  pub few : length bytes ≤ MAX_READ
+  pub told : TellsWord Survey origin.path.now bytes origin.judging out out' errors errors' tally
   pub file : Wad
   pub are : AreRowsOf origin bytes file rows
   pub pictures : ShowsRows cells origin.judging.reading (file ∷ []) rows shown
-
--- a file with its levels
-pub record GathersFile (held : Option (List ℕ)) (cells : ℕ) (origin : Origin) (rows : List Row) (refused : List Refused) (shown : List Kept) : Type 0 where
-  pub levels : GathersLevels held cells origin rows shown
   pub none : refused ≡ []
 
--- a refused file has none
-pub record GathersRefused (held : Option (List ℕ)) (origin : Origin) (rows : List Row) (refused : List Refused) (shown : List Kept) : Type 0 where
+-- a refused file has none, and is refused for the same reason by a survey
+pub record GathersRefused (held : Option (List ℕ)) (origin : Origin) (rows : List Row) (refused : List Refused) (shown : List Kept)
+    (out out' errors errors' : SinkState) (tally : Tally) : Type 0 where
   pub one : Refused
   pub of_path : one.path.now ≡ origin.path.now
-  pub why : RefusesFile held one.why
+  pub why : RefusesFile held Survey one.why
+  pub told : WritesRefusal Survey origin.path.now one.why out out' errors errors' tally
   pub is : refused ≡ one ∷ []
   pub rowless : rows ≡ []
   pub none : shown ≡ []
 
 -- a file, refused or not
-abbrev pub GathersPath : Option (List ℕ) → ℕ → Origin → List Row → List Refused → List Kept → Type 0
-GathersPath held cells origin rows refused shown =
-    GathersFile held cells origin rows refused shown ⊎ GathersRefused held origin rows refused shown
+abbrev pub GathersPath : Option (List ℕ) → ℕ → Origin → List Row → List Refused → List Kept → SinkState → SinkState → SinkState → SinkState → Tally → Type 0
+GathersPath held cells origin rows refused shown out out' errors errors' tally =
+    GathersFile held cells origin rows refused shown out out' errors errors' tally
+    ⊎ GathersRefused held origin rows refused shown out out' errors errors' tally
 
--- the rows, the refused files and the pictures of some paths, one after another
-pub data Gathers (held : List ℕ → Option (List ℕ)) (asked : Asked) : List (List ℕ) → List Row → List Refused → List Kept → Type 0 where
-  of_none : Gathers held asked [] [] [] []
-  with_path : (paths : List (List ℕ)) (rows : List Row) (refused : List Refused) (shown : List Kept)
-      (path : List ℕ) (origin : Origin) (more : List Row) (others : List Refused) (pictures : List Kept)
-      → Gathers held asked paths rows refused shown → IsOrigin asked (suc (length paths)) path origin
-      → GathersPath (held path) asked.cells origin more others pictures
-      → Gathers held asked (paths ++ path ∷ []) (rows ++ more) (refused ++ others) (shown ++ pictures)
+-- the rows, the refused files and the pictures of some paths, one after another, and what a survey tells of them
+pub data Gathers (held : List ℕ → Option (List ℕ)) (asked : Asked) (out errors : SinkState)
+    : List (List ℕ) → List Row → List Refused → List Kept → SinkState → SinkState → Tally → Type 0 where
+  of_none : Gathers held asked out errors [] [] [] [] out errors no_tally
+  with_path : (paths : List (List ℕ)) (rows : List Row) (refused : List Refused) (shown : List Kept) (out' errors' : SinkState) (sum : Tally)
+      (path : List ℕ) (origin : Origin) (more : List Row) (others : List Refused) (pictures : List Kept) (out'' errors'' : SinkState) (tally : Tally)
+      → Gathers held asked out errors paths rows refused shown out' errors' sum → IsOrigin asked (suc (length paths)) path origin
+      → GathersPath (held path) asked.cells origin more others pictures out' out'' errors' errors'' tally
+      → Gathers held asked out errors (paths ++ path ∷ []) (rows ++ more) (refused ++ others) (shown ++ pictures) out'' errors'' (tally_with sum tally)
 
 -- the pictures of the first rows of a file
 pub record ShowsPart (held : Option (List ℕ)) (cells : ℕ) (origin : Origin) (shown : List Kept) : Type 0 where
@@ -74,15 +81,16 @@ pub record ShowsPart (held : Option (List ℕ)) (cells : ℕ) (origin : Origin) 
 abbrev pub ShowsFront : Option (List ℕ) → ℕ → Origin → List Kept → Type 0
 ShowsFront held cells origin shown = (shown ≡ []) ⊎ ShowsPart held cells origin shown
 
--- a path was added to what was gathered, and to the folder
-pub record AddsPath (held : Option (List ℕ)) (cells : ℕ) (origin : Origin) (old new : Gathered) (files files' : Option (List Kept)) : Type 0 where
+-- a path was added to what was gathered, to the folder and to the survey
+pub record AddsPath (held : Option (List ℕ)) (cells : ℕ) (origin : Origin) (old new : Gathered) (files files' : Option (List Kept))
+    (out out' errors errors' : SinkState) (tally : Tally) : Type 0 where
   pub more : List Row
   pub others : List Refused
   pub pictures : List Kept
-  pub exact : GathersPath held cells origin more others pictures
+  pub exact : GathersPath held cells origin more others pictures out out' errors errors' tally
   pub rows : new.rows.items ≡ old.rows.items ++ more
   pub refused : new.refused.items ≡ old.refused.items ++ others
-  pub tally : new.tally ≡ old.tally
+  pub found : new.tally ≡ old.tally
   pub adds : files' ≡ with_files files pictures
 
 -- some of it was added to the folder
@@ -124,9 +132,10 @@ pub record ShowsNext (held : List ℕ → Option (List ℕ)) (asked : Asked) (nu
   pub front : ShowsFront (held path) asked.cells origin shown
 
 -- all of some paths was gathered
-pub record GathersAll (held : List ℕ → Option (List ℕ)) (asked : Asked) (paths : List (List ℕ)) (rows : List Row) (refused : List Refused) (files files' : Option (List Kept)) : Type 0 where
+pub record GathersAll (held : List ℕ → Option (List ℕ)) (asked : Asked) (paths : List (List ℕ)) (rows : List Row) (refused : List Refused) (files files' : Option (List Kept))
+    (out out' errors errors' : SinkState) (tally : Tally) : Type 0 where
   pub shown : List Kept
-  pub gathered : Gathers held asked paths rows refused shown
+  pub gathered : Gathers held asked out errors paths rows refused shown out' errors' tally
   pub adds : files' ≡ with_files files shown
 
 -- the first of them were, and of the next one a front of its pictures
@@ -137,7 +146,12 @@ pub record GathersSome (held : List ℕ → Option (List ℕ)) (asked : Asked) (
   pub rows : List Row
   pub refused : List Refused
   pub between : Option (List Kept)
-  pub gathers : GathersAll held asked before rows refused files between
+  pub survey : SinkState
+  pub survey' : SinkState
+  pub errors : SinkState
+  pub errors' : SinkState
+  pub tally : Tally
+  pub gathers : GathersAll held asked before rows refused files between survey survey' errors errors' tally
   pub shown : List Kept
   pub next : (shown ≡ []) ⊎ ShowsNext held asked (suc (length before)) rest shown
   pub adds : files' ≡ with_files between shown

@@ -10,8 +10,8 @@ use Rattle.wad_atlas.specs.Rows.{is_drawn, picture_name}
 use Rattle.wad_atlas.specs.declared.row.Row.{Row}
 use Rattle.wad_dir.specs.Wad.{Wad}
 use Rattle.atlas_run.specs.Folder.{Kept, with_files}
-use Rattle.atlas_run.specs.declared.fault.AtlasFault.{AtlasFault}
-use Rattle.atlas_run.specs.declared.fault.AtlasFault.TheVariants as fault
+use Rattle.atlas_run.specs.declared.fault.FileFault.{FileFault}
+use Rattle.atlas_run.specs.declared.fault.FileFault.TheVariants as fault
 
 -- the picture of a whole level under a name, of so many cells at most
 pub record IsFileOf (cells : ℕ) (level : Level) (name : List ℕ) (file : Kept) : Type 0 where
@@ -41,8 +41,8 @@ pub data ShowsRows (cells : ℕ) (reading : Reading) (files : List Wad) : List R
       → ShowsRows cells reading files rows shown → ShowsRow cells reading files row one
       → ShowsRows cells reading files (rows ++ row ∷ []) (shown ++ one)
 
--- why an atlas isn't whole where a drawing ended
-abbrev pub fault_of : DrawFault → AtlasFault
+-- why a picture isn't whole where its drawing ended
+abbrev pub fault_of : DrawFault → FileFault
 fault_of draw.Memory = fault.Memory
 fault_of draw.Write = fault.Write
 fault_of draw.NothingToDraw = fault.Write

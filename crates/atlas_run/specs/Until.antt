@@ -8,7 +8,7 @@ use Rattle.lens_run.specs.declared.tell.Stop.{Stop}
 use Rattle.lens_run.specs.declared.tell.Stop.TheVariants as stop
 use Rattle.lens_run.specs.declared.tell.Tally.{Tally}
 use Rattle.lens_run.specs.declared.tell.Word.TheVariants.{Survey}
-use Rattle.atlas_run.specs.Folder.{IsBegun, Kept}
+use Rattle.atlas_run.specs.Folder.{IsBegun, IsOfFile, Kept}
 use Rattle.atlas_run.specs.declared.fault.AtlasFault.{AtlasFault}
 use Rattle.atlas_run.specs.declared.fault.AtlasFault.TheVariants as fault
 
@@ -24,15 +24,16 @@ pub record StopsWithin (held : Option (List ℕ)) (asked : LensAsked) (path : Li
   pub stops : StopsPath held asked path out out' errors errors' stop
   pub is : why ≡ stop_fault stop
 
--- all of it was told, and what came then failed
-pub record StopsBehind (held : Option (List ℕ)) (asked : LensAsked) (path : List ℕ) (out out' errors errors' : SinkState) : Type 0 where
+-- all of it was told, and then a file of the folder failed, or what is kept for the page
+pub record StopsBehind (held : Option (List ℕ)) (asked : LensAsked) (path : List ℕ) (out out' errors errors' : SinkState) (why : AtlasFault) : Type 0 where
   pub tally : Tally
   pub told : TellsPath held asked path out out' errors errors' tally
+  pub fault : IsOfFile why
 
 -- one of the two
 abbrev pub LeavesPath : Option (List ℕ) → LensAsked → List ℕ → SinkState → SinkState → SinkState → SinkState → AtlasFault → Type 0
 LeavesPath held asked path out out' errors errors' why =
-    StopsBehind held asked path out out' errors errors' ⊎ StopsWithin held asked path out out' errors errors' why
+    StopsBehind held asked path out out' errors errors' why ⊎ StopsWithin held asked path out out' errors errors' why
 
 -- telling that a file is refused stopped
 pub record StopsRefused (path : List ℕ) (refusal : Refusal) (out out' errors errors' : SinkState) (why : AtlasFault) : Type 0 where
@@ -67,15 +68,21 @@ pub record SurveysSome (held : List ℕ → Option (List ℕ)) (asked : LensAske
   pub after : SinkState
   pub stops : StopsAtFile held asked paths before errors after errors' why
 
--- and so were all of them
-pub record SurveysAll (held : List ℕ → Option (List ℕ)) (asked : LensAsked) (paths : List (List ℕ)) (files : Option (List Kept)) (errors errors' : SinkState) : Type 0 where
+-- and so were all of them, and then a file of the folder failed
+pub record SurveysAll (held : List ℕ → Option (List ℕ)) (asked : LensAsked) (paths : List (List ℕ)) (files : Option (List Kept)) (errors errors' : SinkState) (why : AtlasFault) : Type 0 where
   pub before : SinkState
   pub begun : IsBegun files before
   pub after : SinkState
   pub tally : Tally
   pub told : ToldTo held asked before errors paths after errors' tally
+  pub fault : IsOfFile why
+
+-- no survey was begun
+pub record LacksSurvey (errors errors' : SinkState) (why : AtlasFault) : Type 0 where
+  pub silent : errors' ≡ errors
+  pub fault : IsOfFile why
 
 -- what standard error was told of the files: nothing where no survey was begun
 abbrev pub TellsUntil : (List ℕ → Option (List ℕ)) → LensAsked → List (List ℕ) → Option (List Kept) → SinkState → SinkState → AtlasFault → Type 0
 TellsUntil held asked paths files errors errors' why =
-    (errors' ≡ errors) ⊎ SurveysSome held asked paths files errors errors' why ⊎ SurveysAll held asked paths files errors errors'
+    LacksSurvey errors errors' why ⊎ SurveysSome held asked paths files errors errors' why ⊎ SurveysAll held asked paths files errors errors' why

@@ -1,6 +1,6 @@
 //! The folder that an atlas is written into.
 
-use crate::fault::AtlasFault;
+use crate::fault::FileFault;
 use le_rec::Sink;
 
 /// Why a folder isn't taken.
@@ -38,7 +38,7 @@ impl FolderRefusal {
 
 /// A folder whose files appear whole: each is written under another name, and takes its own at the end.
 pub trait Folder {
-    ghost use Rattle.std.specs.Prelude.{◌≡◌, List, Option, IfErr, IfOk};
+    ghost use Rattle.std.specs.Prelude.{◌≡◌, Bool, true, List, [], Option, IfErr, IfOk, IfSome, OnOk};
     ghost use Rattle.atlas_run.specs.Folder.{IsBegun, Kept, KeepsFile};
     ghost use Rattle.atlas_run.specs.declared.folder.FolderRefusal as refusal;
 
@@ -50,21 +50,32 @@ pub trait Folder {
     /// Why it isn't taken.
     ghost refuses: { Self → refusal.FolderRefusal → Type 0 };
 
-    /// Makes the folder, where it isn't there, in one that is. One that is there has to be empty, and is left as it is.
+    /// Whether it was taken: no file is begun in one that wasn't.
+    ghost taken: { Self → Bool };
+
+    /// Takes the folder: makes it, where it isn't there, in one that is. One that is there has to be empty, and is left as it is.
     fn make(&mut self) -> Result<(), FolderRefusal>
         ensures kept { kept self.new ≡ kept self.old }
+        ensures taken { OnOk result (taken self.new ≡ true) }
+        ensures empty { OnOk result (IfSome (kept self.new) (λ files. files ≡ [])) }
         ensures refused { IfErr result (refuses self.old) };
 
     /// Begins a file that is to stand under `name`. It has no bytes, and stands under another name.
-    fn begin(&mut self, name: &[u8]) -> Result<Self::File, AtlasFault>
+    fn begin(&mut self, name: &[u8]) -> Result<Self::File, FileFault>
+        requires { taken self.old ≡ true }
+        ensures taken { taken self.new ≡ true }
         ensures kept { kept self.new ≡ kept self.old }
         ensures begun { IfOk result (λ file. IsBegun (kept self.old) (Self.File.state file)) };
 
     /// Gives a file its name. At an Err nothing stands under it.
-    fn keep(&mut self, file: Self::File, name: &[u8]) -> Result<(), AtlasFault>
-        ensures { KeepsFile (kept self.old) (kept self.new) (Self.File.state file) name.now result };
+    fn keep(&mut self, file: Self::File, name: &[u8]) -> Result<(), FileFault>
+        requires { taken self.old ≡ true }
+        ensures taken { taken self.new ≡ true }
+        ensures kept { KeepsFile (kept self.old) (kept self.new) (Self.File.state file) name.now result };
 
     /// Lets a file go that isn't whole.
     fn discard(&mut self, file: Self::File, name: &[u8])
-        ensures { kept self.new ≡ kept self.old };
+        requires { taken self.old ≡ true }
+        ensures taken { taken self.new ≡ true }
+        ensures kept { kept self.new ≡ kept self.old };
 }

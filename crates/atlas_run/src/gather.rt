@@ -1,13 +1,13 @@
 //! What of each file goes onto the page and into the folder.
 
-ghost use Rattle.std.specs.Prelude.{◌≡◌, ◌≤◌, ◌++◌, [], ◌∷◌, IfErr, IfOk, OnOk, OnErr, map};
+ghost use Rattle.std.specs.Prelude.{◌≡◌, ◌≤◌, ◌++◌, true, [], ◌∷◌, IfErr, IfOk, OnOk, OnErr, map};
 ghost use Rattle.atlas_run.specs.Atlas.{survey_of};
 ghost use Rattle.atlas_run.specs.Gathered.{AddsFront, AddsLevels, AddsPath, AddsSome, GathersAll, GathersSome};
 ghost use Rattle.atlas_run.specs.Until.{LeavesPath, LeavesRefused, StopsAtFile, stop_fault};
 ghost use Rattle.lens_run.specs.Run.{AreSound, TellsPath, ToldTo, WritesRefusal};
 ghost use Rattle.lens_run.specs.declared.tell.Word.TheVariants.{Survey};
 
-use crate::fault::AtlasFault;
+use crate::fault::{AtlasFault, FileFault};
 use crate::folder::Folder;
 use crate::job::Asked;
 use crate::pictures::draw_rows;
@@ -46,11 +46,14 @@ pub fn gather<'p, S: Storage, F: Folder, E: Sink, P: Watch>(
 ) -> Result<Gathered<'p>, AtlasFault>
     requires least { 1 ≤ asked.cells }
     requires most { asked.cells ≤ 1024 }
+    requires taken { F.taken folder.old ≡ true }
     requires sound { AreSound (F.File.state survey.old) (E.state errors.old) }
+    ensures taken { F.taken folder.new ≡ true }
     ensures told { IfOk result (λ gathered. ToldTo (S.held storage.now) (survey_of asked.judging) (F.File.state survey.old) (E.state errors.old)
         (map (λ path. path.now) paths.now) (F.File.state survey.new) (E.state errors.new) gathered.tally) }
     ensures all { IfOk result (λ gathered. GathersAll (S.held storage.now) asked (map (λ path. path.now) paths.now)
-        gathered.rows.items gathered.refused.items (F.kept folder.old) (F.kept folder.new)) }
+        gathered.rows.items gathered.refused.items (F.kept folder.old) (F.kept folder.new)
+        (F.File.state survey.old) (F.File.state survey.new) (E.state errors.old) (E.state errors.new) gathered.tally) }
     ensures some { OnErr result (GathersSome (S.held storage.now) asked (map (λ path. path.now) paths.now)
         (F.kept folder.old) (F.kept folder.new)) }
     ensures stopped { IfErr result (StopsAtFile (S.held storage.now) (survey_of asked.judging) (map (λ path. path.now) paths.now)
@@ -97,12 +100,14 @@ fn add_path<'p, S: Storage, F: Folder, E: Sink, P: Watch>(
 ) -> Result<Tally, AtlasFault>
     requires least { 1 ≤ cells }
     requires most { cells ≤ 1024 }
+    requires taken { F.taken folder.old ≡ true }
     requires sound { AreSound (F.File.state survey.old) (E.state errors.old) }
+    ensures taken { F.taken folder.new ≡ true }
     ensures told { IfOk result (TellsPath (S.held storage.now origin.now.path.now) (survey_of origin.now.judging) origin.now.path.now
         (F.File.state survey.old) (F.File.state survey.new) (E.state errors.old) (E.state errors.new)) }
     ensures sound { OnOk result (AreSound (F.File.state survey.new) (E.state errors.new)) }
-    ensures adds { OnOk result (AddsPath (S.held storage.now origin.now.path.now) cells origin.now gathered.old gathered.new
-        (F.kept folder.old) (F.kept folder.new)) }
+    ensures adds { IfOk result (AddsPath (S.held storage.now origin.now.path.now) cells origin.now gathered.old gathered.new
+        (F.kept folder.old) (F.kept folder.new) (F.File.state survey.old) (F.File.state survey.new) (E.state errors.old) (E.state errors.new)) }
     ensures front { OnErr result (AddsFront (S.held storage.now origin.now.path.now) cells origin.now (F.kept folder.old) (F.kept folder.new)) }
     ensures stopped { IfErr result (LeavesPath (S.held storage.now origin.now.path.now) (survey_of origin.now.judging) origin.now.path.now
         (F.File.state survey.old) (F.File.state survey.new) (E.state errors.old) (E.state errors.new)) }
@@ -164,15 +169,17 @@ fn add_levels<'p, F: Folder>(
     bytes: &[u8],
     rows: &mut Vec<Row<'p>>,
     folder: &mut F,
-) -> Result<(), AtlasFault>
+) -> Result<(), FileFault>
     requires least { 1 ≤ cells }
     requires most { cells ≤ 1024 }
+    requires taken { F.taken folder.old ≡ true }
+    ensures taken { F.taken folder.new ≡ true }
     ensures adds { OnOk result (AddsLevels cells origin.now bytes.now rows.old.items rows.new.items (F.kept folder.old) (F.kept folder.new)) }
     ensures front { OnErr result (AddsSome cells origin.now bytes.now (F.kept folder.old) (F.kept folder.new)) }
 {
     // The directory was read before, so it is memory that is wanting.
     let Ok(set) = Set::one(alloc, bytes) else {
-        return Err(AtlasFault::Memory);
+        return Err(FileFault::Memory);
     };
     let before = rows.len();
     push_rows(alloc, origin, &set, rows)?;

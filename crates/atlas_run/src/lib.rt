@@ -9,7 +9,7 @@ mod pictures;
 mod run;
 mod tell;
 
-pub use fault::AtlasFault;
+pub use fault::{AtlasFault, FileFault};
 pub use folder::{Folder, FolderRefusal};
 pub use gather::Gathered;
 pub use job::{Asked, AtlasJob};

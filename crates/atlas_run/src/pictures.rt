@@ -1,10 +1,10 @@
 //! The pictures of a file's levels, each a file of the folder.
 
-ghost use Rattle.std.specs.Prelude.{◌≡◌, ◌≤◌, All, OnOk, OnErr};
+ghost use Rattle.std.specs.Prelude.{◌≡◌, ◌≤◌, true, All, OnOk, OnErr};
 ghost use Rattle.atlas_run.specs.Pictures.{DrawsFile, DrawsRow, DrawsRows, DrawsSome, fault_of};
 ghost use Rattle.wad_atlas.specs.Levels.{HasLines, IsRow};
 
-use crate::fault::AtlasFault;
+use crate::fault::FileFault;
 use crate::folder::Folder;
 use line_io::TextLine;
 use map_level::Level;
@@ -22,10 +22,12 @@ pub fn draw_rows<F: Folder>(
     set: &Set<'_>,
     rows: &[Row<'_>],
     folder: &mut F,
-) -> Result<(), AtlasFault>
+) -> Result<(), FileFault>
     requires least { 1 ≤ cells }
     requires most { cells ≤ 1024 }
+    requires taken { F.taken folder.old ≡ true }
     requires rows { All (λ row. IsRow origin.now set.now row.entry row) rows.now }
+    ensures taken { F.taken folder.new ≡ true }
     ensures all { OnOk result (DrawsRows cells origin.now.judging.reading set.now rows.now (F.kept folder.old) (F.kept folder.new)) }
     ensures some { OnErr result (DrawsSome cells origin.now.judging.reading set.now rows.now (F.kept folder.old) (F.kept folder.new)) }
 {
@@ -43,10 +45,12 @@ fn draw_row<F: Folder>(
     set: &Set<'_>,
     row: &Row<'_>,
     folder: &mut F,
-) -> Result<(), AtlasFault>
+) -> Result<(), FileFault>
     requires least { 1 ≤ cells }
     requires most { cells ≤ 1024 }
+    requires taken { F.taken folder.old ≡ true }
     requires row { IsRow origin.now set.now row.now.entry row.now }
+    ensures taken { F.taken folder.new ≡ true }
     ensures drawn { OnOk result (DrawsRow cells origin.now.judging.reading set.now row.now (F.kept folder.old) (F.kept folder.new)) }
     ensures kept { OnErr result (F.kept folder.new ≡ F.kept folder.old) }
 {
@@ -66,10 +70,12 @@ fn draw_file<F: Folder>(
     level: &Level<'_>,
     name: &[u8],
     folder: &mut F,
-) -> Result<(), AtlasFault>
+) -> Result<(), FileFault>
     requires least { 1 ≤ cells }
     requires most { cells ≤ 1024 }
+    requires taken { F.taken folder.old ≡ true }
     requires lines { HasLines level.now }
+    ensures taken { F.taken folder.new ≡ true }
     ensures drawn { OnOk result (DrawsFile cells level.now name.now (F.kept folder.old) (F.kept folder.new)) }
     ensures kept { OnErr result (F.kept folder.new ≡ F.kept folder.old) }
 {
@@ -86,11 +92,11 @@ fn draw_file<F: Folder>(
 }
 
 // How the end of a drawing is told.
-fn fault_of(fault: DrawFault) -> AtlasFault
+fn fault_of(fault: DrawFault) -> FileFault
     ensures { result ≡ fault_of fault }
 {
     match fault {
-        DrawFault::Memory => AtlasFault::Memory,
-        DrawFault::Write | DrawFault::NothingToDraw => AtlasFault::Write,
+        DrawFault::Memory => FileFault::Memory,
+        DrawFault::Write | DrawFault::NothingToDraw => FileFault::Write,
     }
 }

@@ -1,13 +1,13 @@
 //! The run of `atlas`.
 
-ghost use Rattle.std.specs.Prelude.{◌≡◌, ◌≤◌, ◌∷◌, [], false, IfOk, IfErr, OnOk, OnErr, length, map};
+ghost use Rattle.std.specs.Prelude.{◌≡◌, ◌≤◌, ◌∷◌, [], false, true, IfOk, IfErr, OnOk, OnErr, length, map};
 ghost use Rattle.atlas_run.specs.Atlas.{RunsAtlas, StopsAtlas, TellsFault, WritesAtlas, index_file, survey_of};
 ghost use Rattle.atlas_run.specs.Folder.{with_files};
 ghost use Rattle.atlas_run.specs.Tell.{fault_end, folder_line, write_text};
 ghost use Rattle.atlas_run.specs.Until.{TellsUntil};
 ghost use Rattle.lens_run.specs.Run.{IsTold};
 
-use crate::fault::AtlasFault;
+use crate::fault::{AtlasFault, FileFault};
 use crate::folder::Folder;
 use crate::gather::{Gathered, gather};
 use crate::job::{Asked, AtlasJob};
@@ -81,6 +81,7 @@ pub fn write_atlas<S: Storage, F: Folder, E: Sink, P: Watch>(
 ) -> Result<Verdict, AtlasFault>
     requires least { 1 ≤ asked.cells }
     requires most { asked.cells ≤ 1024 }
+    requires taken { F.taken folder.old ≡ true }
     requires sound { (E.state errors.old).failed ≡ false }
     ensures all { IfOk result (WritesAtlas (S.held storage.now) asked (map (λ path. path.now) paths.now)
         (F.kept folder.old) (F.kept folder.new) (E.state errors.old) (E.state errors.new)) }
@@ -125,7 +126,9 @@ fn write_index<F: Folder>(
     warnings: Warnings,
     gathered: &Gathered<'_>,
     folder: &mut F,
-) -> Result<(), AtlasFault>
+) -> Result<(), FileFault>
+    requires taken { F.taken folder.old ≡ true }
+    ensures taken { F.taken folder.new ≡ true }
     ensures written { OnOk result (F.kept folder.new
         ≡ with_files (F.kept folder.old) (index_file files warnings gathered.now.rows.items gathered.now.refused.items ∷ [])) }
     ensures kept { OnErr result (F.kept folder.new ≡ F.kept folder.old) }
@@ -141,7 +144,7 @@ fn write_index<F: Folder>(
         Ok(()) => folder.keep(file, INDEX),
         Err(_) => {
             folder.discard(file, INDEX);
-            Err(AtlasFault::Write)
+            Err(FileFault::Write)
         }
     }
 }

@@ -1,6 +1,6 @@
 //! A folder of the machine that an atlas is written into.
 
-use atlas_run::{AtlasFault, Folder, FolderRefusal};
+use atlas_run::{FileFault, Folder, FolderRefusal};
 use le_rec::{EndFault, Sink};
 use lens_run::Output;
 use std::alloc::Global;
@@ -14,22 +14,40 @@ use std::{fs, str};
 pub struct DiskFolder<'a, R: Files + AllocGlobal> {
     rt: &'a R,
     path: &'a str,
+    is_taken: bool,
 }
 
 impl<'a, R: Files + AllocGlobal> DiskFolder<'a, R> {
     /// The folder under this path, there or not.
     pub fn new(rt: &'a R, path: &'a str) -> Self {
-        DiskFolder { rt, path }
+        DiskFolder {
+            rt,
+            path,
+            is_taken: false,
+        }
     }
 
     // The path under which a file stands that isn't whole, and the one that it takes then.
-    fn paths(&self, name: &[u8]) -> Result<(String, String), AtlasFault> {
+    fn paths(&self, name: &[u8]) -> Result<(String, String), FileFault> {
         let Ok(name) = str::from_utf8(name) else {
-            return Err(AtlasFault::Write);
+            return Err(FileFault::Write);
         };
         let part = format!(in self.rt.alloc(); "{}/{name}.part", self.path)?;
         let whole = format!(in self.rt.alloc(); "{}/{name}", self.path)?;
         Ok((part, whole))
+    }
+
+    // Finds the folder empty, or makes it.
+    fn find_or_create(&self) -> Result<(), FolderRefusal> {
+        match fs::read_dir(&self.rt, self.path) {
+            Ok(mut entries) => match entries.next() {
+                None => Ok(()),
+                Some(_) => Err(FolderRefusal::NotEmpty),
+            },
+            Err(e) if e.kind() == ErrorKind::NotFound => self.create(),
+            Err(e) if e.kind() == ErrorKind::NotADirectory => Err(FolderRefusal::NoFolder),
+            Err(_) => Err(FolderRefusal::Unread),
+        }
     }
 
     // Makes the folder, which isn't there.
@@ -71,34 +89,30 @@ impl<R: Files + AllocGlobal> Folder for DiskFolder<'_, R> {
 
     ghost refuses = { λ _ _. Unit {0} };
 
+    ghost taken = { λ folder. folder.is_taken };
+
     fn make(&mut self) -> Result<(), FolderRefusal> {
-        match fs::read_dir(&self.rt, self.path) {
-            Ok(mut entries) => match entries.next() {
-                None => Ok(()),
-                Some(_) => Err(FolderRefusal::NotEmpty),
-            },
-            Err(e) if e.kind() == ErrorKind::NotFound => self.create(),
-            Err(e) if e.kind() == ErrorKind::NotADirectory => Err(FolderRefusal::NoFolder),
-            Err(_) => Err(FolderRefusal::Unread),
-        }
+        self.find_or_create()?;
+        self.is_taken = true;
+        Ok(())
     }
 
-    fn begin(&mut self, name: &[u8]) -> Result<Self::File, AtlasFault> {
+    fn begin(&mut self, name: &[u8]) -> Result<Self::File, FileFault> {
         let (part, _) = self.paths(name)?;
         match File::create_new(self.rt, part.as_str()) {
             Ok(file) => Ok(DiskFile(Output::new(self.rt.alloc(), file)?)),
-            Err(_) => Err(AtlasFault::Write),
+            Err(_) => Err(FileFault::Write),
         }
     }
 
-    fn keep(&mut self, mut file: Self::File, name: &[u8]) -> Result<(), AtlasFault> {
+    fn keep(&mut self, mut file: Self::File, name: &[u8]) -> Result<(), FileFault> {
         let (part, whole) = self.paths(name)?;
         let written = file.0.write_out().is_ok();
         if written && fs::rename(self.rt, part.as_str(), whole.as_str()).is_ok() {
             return Ok(());
         }
         let _ = fs::remove_file(self.rt, part.as_str());
-        Err(AtlasFault::Write)
+        Err(FileFault::Write)
     }
 
     fn discard(&mut self, _file: Self::File, name: &[u8]) {

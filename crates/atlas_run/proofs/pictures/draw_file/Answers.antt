@@ -8,7 +8,7 @@ unreachable-requires g c =
 
 pub returns-in-Ok-clause-drawn : goal.returns-in-Ok-clause-drawn
 returns-in-Ok-clause-drawn g c =
-    let kept = rw c.in_ok-file.ensures.kept at c.keep.ensures in
+    let kept = rw c.in_ok-file.ensures.kept at c.keep.ensures.kept in
     let both = picture_kept c.args.cells c.args.level.now c.args.name.now (g.F.Folder.kept c.args.folder.now) (g.F.Folder.kept c.keep.new.self)
     (g.F.File.Sink.state c.in_ok-file.file) (g.F.File.Sink.state c.draw_level.new.out) c.keep.result c.in_ok-file.ensures.begun c.in-Ok.ensures.drawn kept in
     both.0

@@ -7,7 +7,8 @@ use Rattle.atlas_run.proofs.run.write_atlas.Goals as goal
 pub returns-in_err-survey-clause-some : goal.returns-in_err-survey-clause-some
 returns-in_err-survey-clause-some g c =
     let p = err_from_is_err_and c.from_residual.result c.from_residual.ensures.1 in
-    let none = none_gathered (g.S.Storage.held c.args.storage.now) c.args.asked (map (λ path. path.now) c.args.paths.now) (g.F.Folder.kept c.args.folder.now) (g.F.Folder.kept c.begin.new.self)
+    let none = none_gathered (g.S.Storage.held c.args.storage.now) c.args.asked (map (λ path. path.now) c.args.paths.now) (g.F.Folder.kept c.args.folder.now) (g.E.Sink.state c.args.errors.now)
+    (g.F.Folder.kept c.begin.new.self)
     c.in_err-survey.ensures.kept in
     rw p.1 (inl none)
 
@@ -16,22 +17,22 @@ returns-in_err-keep-in-Ok-clause-some g c =
     let p = err_from_is_err_and c.from_residual-in_err-keep-in-Ok.result c.from_residual-in_err-keep-in-Ok.ensures.1 in
     let all = rw c.in_ok-survey.ensures.kept at c.in-Ok.ensures.all in
     let alone = pictures_alone (g.S.Storage.held c.args.storage.now) c.args.asked (map (λ path. path.now) c.args.paths.now) (g.F.Folder.kept c.args.folder.now)
-    c.in-Ok.gathered.rows.items c.in-Ok.gathered.refused.items (g.F.Folder.kept c.gather-gathered.new.folder) all (g.F.Folder.kept c.keep.new.self) c.in_err-keep-in-Ok.ensures in
+    c.in-Ok.gathered.rows.items c.in-Ok.gathered.refused.items (g.F.Folder.kept c.gather-gathered.new.folder) _ _ _ _ _ all (g.F.Folder.kept c.keep.new.self) c.in_err-keep-in-Ok.ensures.kept in
     rw p.1 (inl alone)
 
 pub returns-in_ok-write_index-in-Ok-clause-all : goal.returns-in_ok-write_index-in-Ok-clause-all
 returns-in_ok-write_index-in-Ok-clause-all g c =
     let all = rw c.in_ok-survey.ensures.kept at c.in-Ok.ensures.all in
     atlas_written (g.S.Storage.held c.args.storage.now) c.args.asked (map (λ path. path.now) c.args.paths.now) (g.F.Folder.kept c.args.folder.now)
-    c.in-Ok.gathered.rows.items c.in-Ok.gathered.refused.items (g.F.Folder.kept c.gather-gathered.new.folder) all
+    c.in-Ok.gathered.rows.items c.in-Ok.gathered.refused.items (g.F.Folder.kept c.gather-gathered.new.folder)
     (g.F.File.Sink.state c.in_ok-survey.survey) (g.F.File.Sink.state c.gather-gathered.new.survey) (g.E.Sink.state c.args.errors.now) (g.E.Sink.state c.gather-gathered.new.errors)
-    c.in-Ok.gathered.tally c.in_ok-survey.ensures.begun c.in-Ok.ensures.told (g.F.Folder.kept c.keep.new.self) c.in_ok-keep-in-Ok.field-0 c.in_ok-keep-in-Ok.ensures
+    c.in-Ok.gathered.tally all c.in_ok-survey.ensures.begun c.in-Ok.ensures.told (g.F.Folder.kept c.keep.new.self) c.in_ok-keep-in-Ok.field-0 c.in_ok-keep-in-Ok.ensures.kept
     _ (g.F.Folder.kept c.write_index.new.folder) (sym (length-map c.args.paths.now (λ path. path.now))) c.in_ok-write_index-in-Ok.ensures.written
 
 pub returns-in_err-survey-clause-told : goal.returns-in_err-survey-clause-told
 returns-in_err-survey-clause-told g c =
     let p = err_from_is_err_and c.from_residual.result c.from_residual.ensures.1 in
-    rw p.1 (inl refl)
+    rw p.1 (inl (record { silent = refl; fault = record { fault = c.in_err-survey.field-0.0; is = p.2 } }))
 
 pub returns-in_err-keep-in-Ok-clause-told : goal.returns-in_err-keep-in-Ok-clause-told
 returns-in_err-keep-in-Ok-clause-told g c =
@@ -42,6 +43,7 @@ returns-in_err-keep-in-Ok-clause-told g c =
       after = g.F.File.Sink.state c.gather-gathered.new.survey;
       tally = c.in-Ok.gathered.tally;
       told = c.in-Ok.ensures.told;
+      fault = record { fault = c.in_err-keep-in-Ok.field-0.0; is = p.2 };
     })))
 
 pub returns-in-Err-clause-told : goal.returns-in-Err-clause-told

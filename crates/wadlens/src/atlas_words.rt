@@ -2,10 +2,10 @@
 
 ghost use Rattle.std.specs.Prelude.{◌≤◌};
 
-use crate::picture_words::CELLS;
+use crate::shared_words::{cells_of, cells_word};
 use crate::words::Telling;
 use atlas_run::AtlasJob;
-use clap::{Arg, ArgMatches, Command, value_parser};
+use clap::{Arg, ArgMatches, Command};
 use std::alloc::{AllocError, Global};
 
 /// What an atlas is made of, and where.
@@ -27,11 +27,7 @@ pub fn atlas_command<'a>(alloc: Global) -> Result<Command<'a>, AllocError> {
         .value_name("FOLDER")
         .required(true)
         .help("The folder to write into, which is made or is empty");
-    let cells = Arg::new(alloc, "cells")
-        .long("cells")
-        .value_name("N")
-        .value_parser(value_parser!(u32).range(1..=1024))
-        .help("Draw at most N cells along the longer side [512 where it isn't given]");
+    let cells = cells_word(alloc);
     Command::new(alloc, "atlas")
         .about("Write a folder of pictures with a page over all levels, and their survey")
         .arg(out)?
@@ -43,11 +39,7 @@ impl<'a> AtlasWords<'a> {
     pub fn of(telling: Telling<'a>, matches: &ArgMatches<'a>) -> AtlasWords<'a> {
         // It is required.
         let folder = matches.get_str("out").unwrap_or("");
-        // The words were refused where it is out of these bounds.
-        let cells = matches
-            .get_one::<u32>("cells")
-            .unwrap_or(CELLS)
-            .clamp(1, 1024);
+        let cells = cells_of(matches);
         let Telling { job, progress } = telling;
         AtlasWords {
             job: AtlasJob {

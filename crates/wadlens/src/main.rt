@@ -7,6 +7,7 @@ mod disk_folder;
 mod mistake;
 mod picture_words;
 mod progress;
+mod shared_words;
 mod words;
 
 use atlas_run::run_atlas;

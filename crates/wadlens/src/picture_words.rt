@@ -4,7 +4,8 @@ ghost use Rattle.std.specs.Prelude.{◌≤◌, length, vec_len};
 ghost use Rattle.wad_dir.specs.declared.set.TheConstants.{MAX_FILES};
 
 use crate::mistake::Mistake;
-use clap::{Arg, ArgAction, ArgMatches, Command, value_parser};
+use crate::shared_words::{cells_of, cells_word, reading_of, wide_word};
+use clap::{Arg, ArgAction, ArgMatches, Command};
 use lens_picture::PictureQuestion;
 use map_cells::Frame;
 use map_level::Reading;
@@ -12,23 +13,13 @@ use map_picture::Asked;
 use std::alloc::{AllocError, Global};
 use wad_dir::MAX_FILES;
 
-/// How many cells the longer side of a picture has where nothing is said.
-pub const CELLS: u32 = 512;
-
 const BAD_FRAME: &str =
     "--frame wants four numbers from -32768 to 32767, the lesser first: X0,Y0,X1,Y1";
 
 /// The words.
 pub fn picture_command<'a>(alloc: Global) -> Result<Command<'a>, AllocError> {
-    let wide = Arg::new(alloc, "wide")
-        .long("wide")
-        .action(ArgAction::SetTrue)
-        .help("Read vertexes, sidedefs, segs and ssectors as numbers from 0 to 65535");
-    let cells = Arg::new(alloc, "cells")
-        .long("cells")
-        .value_name("N")
-        .value_parser(value_parser!(u32).range(1..=1024))
-        .help("Draw at most N cells along the longer side [512 where it isn't given]");
+    let wide = wide_word(alloc);
+    let cells = cells_word(alloc);
     let frame = Arg::new(alloc, "frame")
         .long("frame")
         .value_name("X0,Y0,X1,Y1")
@@ -85,17 +76,9 @@ impl<'a> PictureWords<'a> {
         Ok(PictureWords {
             // It is required.
             name: matches.get_str("name").unwrap_or(""),
-            reading: if matches.get_flag("wide") {
-                Reading::Wide
-            } else {
-                Reading::Signed
-            },
+            reading: reading_of(matches),
             frame,
-            // The words were refused where it is out of these bounds.
-            cells: matches
-                .get_one::<u32>("cells")
-                .unwrap_or(CELLS)
-                .clamp(1, 1024),
+            cells: cells_of(matches),
             files,
         })
     }

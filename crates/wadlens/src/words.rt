@@ -3,9 +3,9 @@
 use crate::atlas_words::{AtlasWords, atlas_command};
 use crate::mistake::Mistake;
 use crate::picture_words::{PictureWords, picture_command};
+use crate::shared_words::{reading_of, wide_word};
 use clap::{Arg, ArgAction, ArgMatches, Command, value_parser};
 use lens_run::{Asked, DemoForm, Job, SHOWN, Word};
-use map_level::Reading;
 use std::alloc::{AllocError, Global};
 use wad_lens::{Judging, Warnings};
 
@@ -141,10 +141,7 @@ fn cut_command<'a>(alloc: Global) -> Result<Command<'a>, AllocError> {
 
 // Adds the words on files, and on how their levels are judged.
 fn with_levels<'a>(alloc: Global, command: Command<'a>) -> Result<Command<'a>, AllocError> {
-    let wide = Arg::new(alloc, "wide")
-        .long("wide")
-        .action(ArgAction::SetTrue)
-        .help("Read vertexes, sidedefs, segs and ssectors as numbers from 0 to 65535");
+    let wide = wide_word(alloc);
     let map = Arg::new(alloc, "map")
         .long("map")
         .action(ArgAction::SetTrue)
@@ -256,11 +253,7 @@ fn job_over<'a>(
 
 // How a command's matches ask for levels to be judged.
 fn judging_of(matches: &ArgMatches<'_>) -> Judging {
-    let reading = if matches.get_flag("wide") {
-        Reading::Wide
-    } else {
-        Reading::Signed
-    };
+    let reading = reading_of(matches);
     let warnings = if matches.get_flag("strict") {
         Warnings::Strict
     } else if matches.get_flag("map") {

@@ -1,0 +1,48 @@
+//! Words that several commands take.
+
+ghost use Rattle.std.specs.Prelude.{◌≤◌};
+
+use clap::{Arg, ArgAction, ArgMatches, value_parser};
+use map_level::Reading;
+use std::alloc::Global;
+
+/// How many cells there are along the longer side of a picture, where nothing is said.
+const CELLS: u32 = 512;
+
+/// How a level's indexes are read.
+pub fn wide_word<'a>(alloc: Global) -> Arg<'a> {
+    Arg::new(alloc, "wide")
+        .long("wide")
+        .action(ArgAction::SetTrue)
+        .help("Read a level's indexes as numbers from 0 to 65535")
+}
+
+/// How a level's indexes are read, by what matches of the words.
+pub fn reading_of(matches: &ArgMatches<'_>) -> Reading {
+    if matches.get_flag("wide") {
+        Reading::Wide
+    } else {
+        Reading::Signed
+    }
+}
+
+/// How many cells a picture has.
+pub fn cells_word<'a>(alloc: Global) -> Arg<'a> {
+    Arg::new(alloc, "cells")
+        .long("cells")
+        .value_name("N")
+        .value_parser(value_parser!(u32).range(1..=1024))
+        .help("Draw at most N cells along the longer side [512 where it isn't given]")
+}
+
+/// How many cells are asked for, by what matches of the words.
+pub fn cells_of(matches: &ArgMatches<'_>) -> u32
+    ensures least { 1 ≤ result }
+    ensures most { result ≤ 1024 }
+{
+    // The words were refused where it is out of these bounds.
+    matches
+        .get_one::<u32>("cells")
+        .unwrap_or(CELLS)
+        .clamp(1, 1024)
+}

@@ -38,7 +38,7 @@ pub struct Block {
 /// What an arena may take of a block beyond the room that its values have, in bytes: it rounds up to pages of 4096.
 pub const MARGIN: usize = 4160;
 
-/// The allocator. It gives its block to the first request that the block serves.
+/// The allocator. It gives its block to its first request, where the block serves that, and else loses it.
 #[derive(Drop)]
 pub struct OneBlock {
     slot: Cell<Option<Block>>,

@@ -10,8 +10,7 @@ ghost use Rattle.wadlook_c.specs.Status.{demo_number_of};
 use crate::status::{DONE, demo_number_of};
 use demo_lump::{Command, Demo, DemoFault};
 
-/// What a demo's header says, and how many commands, full tics, commands after these and bytes after the end marker
-/// there are.
+/// What a demo's header says, how many players' commands it has, and how many bytes come after the end marker.
 #[repr(C)]
 #[derive(Clone, Copy)]
 pub struct WadlookDemo {

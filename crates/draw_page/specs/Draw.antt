@@ -1,5 +1,5 @@
 -- What drawing the first level of a file does (ours).
-use Rattle.std.specs.Prelude.{◌≡◌, ◌↔◌, ℕ, Bool, IsTrue, List, [], ◌∷◌, All, length, map}
+use Rattle.std.specs.Prelude.{◌≡◌, ◌↔◌, ℕ, ◌<◌, Bool, IsTrue, List, [], ◌∷◌, All, length, map}
 use Rattle.le_rec.specs.Sink.{SinkState}
 use Rattle.draw_page.specs.declared.draw.PictureFault.{PictureFault}
 use Rattle.draw_page.specs.declared.draw.PictureFault.TheVariants.{NoWad, NoEntry, NoLevel, NothingToDraw, Full}

@@ -96,7 +96,7 @@ module _ (bytes : List ℕ) (g : ℕ) (other : List ℕ) (old : Wad) (was : old.
   stops_exchange (exchange.Pack pack.TooLarge) memory = absurd cc
   stops_exchange (exchange.Pack pack.Memory) memory = tt
 
-  pub pack_refused : {T : Type 0} (lumps : List NamedLump) (fault : PackFault) → AreExchanged (old ∷ []) g other lumps
+  pub pack_refused : {T : Type 0} (lumps : List NamedLump) (fault : PackFault) → g < length (joined (old ∷ [])) → AreExchanged (old ∷ []) g other lumps
       → (IsErrOf {T = T} (Err fault) pack.TooLarge ↔ (2 ^ 31 ≤ length (packed lumps))) → RefusesExchange bytes g other (exchange.Pack fault)
-  pack_refused lumps pack.TooLarge are too_large = (old, lumps, was, read, are, too_large.0 refl)
-  pack_refused lumps pack.Memory are too_large = tt
+  pack_refused lumps pack.TooLarge there are too_large = (old, lumps, was, read, there, are, too_large.0 refl)
+  pack_refused lumps pack.Memory there are too_large = tt

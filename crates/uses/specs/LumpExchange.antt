@@ -60,6 +60,6 @@ RefusesExchange file g bytes (exchange.Set (set.File n fault)) = (n ≡ 1) × Re
 RefusesExchange file g bytes (exchange.Lump fault) =
     (old : Wad) × (old.bytes ≡ file) × IsRead old × LacksLump (old ∷ []) g fault
 RefusesExchange file g bytes (exchange.Pack pack.TooLarge) =
-    (old : Wad) × (lumps : List NamedLump) × (old.bytes ≡ file) × IsRead old
+    (old : Wad) × (lumps : List NamedLump) × (old.bytes ≡ file) × IsRead old × (g < length (joined (old ∷ [])))
     × AreExchanged (old ∷ []) g bytes lumps × (2 ^ 31 ≤ length (packed lumps))
 RefusesExchange file g bytes _ = ⊤

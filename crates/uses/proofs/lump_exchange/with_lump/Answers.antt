@@ -1,4 +1,4 @@
-use Rattle.std.proofs.Common.{◌≤◌, length, ap, arith, subst, refl}
+use Rattle.std.proofs.Common.{◌<◌, ◌≤◌, List, [], ◌∷◌, length, ap, arith, subst, refl}
 use Rattle.std.proofs.lemmas.Result.{err_from_is_err_and}
 use Rattle.wad_dir.specs.Entries.{joined}
 use Rattle.wad_dir.specs.Packing.{packed_entries}
@@ -42,4 +42,5 @@ returns-in_err-pack-clause-refused g c =
     let p = err_from_is_err_and c.from_residual-in_err-pack.result c.from_residual-in_err-pack.ensures.1 in
     let one = one_file _ _ c.in_ok-set.ensures.bytes c.in_ok-set.ensures.read in
     let are = subst (λ files. AreExchanged files c.args.g c.args.bytes.now c.in_ok-packer.packer) one.1 c.in_ok-packer.ensures.ok in
-    rw (p.1, p.2) (pack_refused c.args.file.now c.args.g c.args.bytes.now one.0 one.2 one.3 c.in_ok-packer.packer _ are c.in_err-pack.ensures.too_large)
+    let there : c.args.g < length (joined (one.0 ∷ [])) = omega (arith, c.total.ensures, ap (λ files. length (joined files)) one.1, c.if-g-total.false) in
+    rw (p.1, p.2) (pack_refused c.args.file.now c.args.g c.args.bytes.now one.0 one.2 one.3 c.in_ok-packer.packer _ there are c.in_err-pack.ensures.too_large)

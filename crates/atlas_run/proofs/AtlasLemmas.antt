@@ -4,40 +4,19 @@ use Rattle.std.proofs.lemmas.List.{append-nil, append_assoc}
 use Rattle.le_rec.specs.Sink.{SinkState}
 use Rattle.wad_atlas.specs.declared.refused.Refused.{Refused}
 use Rattle.wad_atlas.specs.declared.row.Row.{Row}
-use Rattle.lens_run.specs.Run.{ToldTo, no_tally}
+use Rattle.lens_run.specs.Run.{ToldTo}
 use Rattle.lens_run.specs.declared.tell.Tally.{Tally}
 use Rattle.atlas_run.specs.Atlas.{LacksPage, WritesAtlas, index_file, survey_file, survey_of}
 use Rattle.atlas_run.specs.Folder.{IsBegun, Kept, KeepsFile, with_files}
 use Rattle.atlas_run.specs.Gathered.{GathersAll, GathersSome}
 use Rattle.atlas_run.specs.declared.job.Asked.{Asked}
 use Rattle.atlas_run.proofs.FolderLemmas.{with_files-more, with_files-none}
-use Rattle.atlas_run.proofs.GatherLemmas.{all_none}
 
 module _ (held : List ℕ → Option (List ℕ)) (asked : Asked) (paths : List (List ℕ)) (old : Option (List Kept)) where
-  -- nothing was written
-  pub none_gathered : (state : SinkState) (new : Option (List Kept)) → new ≡ old → GathersSome held asked paths old new
-  none_gathered state new untouched = record {
-    before = [];
-    rest = paths;
-    stands = refl;
-    rows = [];
-    refused = [];
-    between = old;
-    survey = state;
-    survey' = state;
-    errors = state;
-    errors' = state;
-    tally = no_tally;
-    gathers = all_none held asked old state state;
-    shown = [];
-    next = inl refl;
-    adds = untouched ∙ sym (with_files-none old);
-  }
-
   module _ (rows : List Row) (refused : List Refused) (k1 : Option (List Kept)) (before after errors errors' : SinkState) (tally : Tally)
       (all : GathersAll held asked paths rows refused old k1 before after errors errors' tally) where
     -- all pictures were, and no more
-    pub pictures_alone : (new : Option (List Kept)) → new ≡ k1 → GathersSome held asked paths old new
+    pub pictures_alone : (new : Option (List Kept)) → new ≡ k1 → GathersSome held asked paths old new before errors
     pictures_alone new untouched = record {
       before = paths;
       rest = [];
@@ -45,9 +24,7 @@ module _ (held : List ℕ → Option (List ℕ)) (asked : Asked) (paths : List (
       rows = rows;
       refused = refused;
       between = k1;
-      survey = before;
       survey' = after;
-      errors = errors;
       errors' = errors';
       tally = tally;
       gathers = all;

@@ -193,7 +193,7 @@ module _ (held : List ℕ → Option (List ℕ)) (asked : Asked) where
     -- the run stopped at a path
     pub some_stopped : (rows : List Row) (refused : List Refused) → IsOrigin asked (i + 1) (get_or paths i d).now origin
         → GathersAll held asked (map (λ path. path.now) (take i paths)) rows refused k0 k1 out between errors between_errors sum → AddsFront (held (get_or paths i d).now) asked.cells origin k1 k2
-        → GathersSome held asked (map (λ path. path.now) paths) k0 k2
+        → GathersSome held asked (map (λ path. path.now) paths) k0 k2 out errors
     some_stopped rows refused is so_far front =
         let count : i + 1 ≡ suc (length (map (λ (p : Bor (List ℕ)). p.now) (take i paths))) =
         omega (arith, length-map (take i paths) (λ (p : Bor (List ℕ)). p.now), length-take-le i paths (omega (arith, within))) in
@@ -204,9 +204,7 @@ module _ (held : List ℕ → Option (List ℕ)) (asked : Asked) where
           rows = rows;
           refused = refused;
           between = k1;
-          survey = out;
           survey' = between;
-          errors = errors;
           errors' = between_errors;
           tally = sum;
           gathers = so_far;

@@ -14,7 +14,7 @@ use Rattle.lens_run.specs.declared.tell.Tally.{Tally}
 use Rattle.lens_run.specs.declared.tell.Word.TheVariants.{Survey}
 use Rattle.lens_run.proofs.TellLemmas.{told_before}
 use Rattle.atlas_run.specs.Atlas.{survey_of}
-use Rattle.atlas_run.specs.Folder.{IsOfFile}
+use Rattle.atlas_run.specs.Folder.{IsNotErrors}
 use Rattle.atlas_run.specs.declared.fault.FileFault.TheVariants as file
 use Rattle.atlas_run.specs.Until.{LeavesPath, LeavesRefused, StopsAtFile, stop_fault}
 use Rattle.atlas_run.specs.declared.fault.AtlasFault.{AtlasFault}
@@ -22,7 +22,7 @@ use Rattle.atlas_run.specs.declared.fault.AtlasFault.TheVariants as fault
 
 module _ (held : Option (List ℕ)) (judging : Judging) (path : List ℕ) (out out' errors errors' : SinkState) where
   -- all of it was told
-  pub left_behind : (tally : Tally) (why : AtlasFault) → TellsPath held (survey_of judging) path out out' errors errors' tally → IsOfFile why
+  pub left_behind : (tally : Tally) (why : AtlasFault) → TellsPath held (survey_of judging) path out out' errors errors' tally → IsNotErrors why
       → LeavesPath held (survey_of judging) path out out' errors errors' why
   left_behind tally why told fault = inl (record { tally = tally; told = told; fault = fault })
 

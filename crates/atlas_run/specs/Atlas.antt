@@ -1,5 +1,5 @@
 -- The folder of an atlas (ours): a picture for each level that has one, then the survey, and at last the page; and how its run ends.
-use Rattle.std.specs.Prelude.{◌≡◌, ◌⊎◌, ℕ, List, [], ◌∷◌, ◌++◌, codes, length, Option, Some, Result, Ok, Err}
+use Rattle.std.specs.Prelude.{◌≡◌, ◌⊎◌, ℕ, List, [], ◌∷◌, ◌++◌, codes, length, Option, Some, IfSome, Result, Ok, Err}
 use Rattle.std.specs.Io.KnownBytes.{Keeps}
 use Rattle.le_rec.specs.Sink.{SinkState}
 use Rattle.wad_atlas.specs.Page.{page_text}
@@ -39,8 +39,8 @@ survey_file text = record { name = codes "survey.jsonl"; text = text }
 abbrev pub index_file : ℕ → Warnings → List Row → List Refused → Kept
 index_file files warnings rows refused = record { name = codes "index.html"; text = page_text files warnings rows refused }
 
--- this text is what a survey tells of these paths, and what standard error is told besides; the rows, the refused files and the pictures are
--- those of the same files
+-- this text is what a survey tells of these paths, and what standard error is told besides; the rows and the pictures of each file are those of
+-- the bytes of which it tells, and the file is refused where it tells so, for the same reason
 pub record IsSurvey (held : List ℕ → Option (List ℕ)) (asked : Asked) (paths : List (List ℕ)) (rows : List Row) (refused : List Refused) (shown : List Kept)
     (files : Option (List Kept)) (errors errors' : SinkState) (tally : Tally) (text : List ℕ) : Type 0 where
   pub before : SinkState
@@ -71,10 +71,16 @@ pub record LacksPage (held : List ℕ → Option (List ℕ)) (asked : Asked) (pa
   pub survey : IsSurvey held asked paths rows refused shown old errors errors' tally text
   pub adds : new ≡ with_files old (shown ++ survey_file text ∷ [])
 
--- an atlas isn't whole, and has no page
+-- a front of the pictures was added, while a survey was told that was begun
+pub record GathersFront (held : List ℕ → Option (List ℕ)) (asked : Asked) (paths : List (List ℕ)) (old new : Option (List Kept)) (errors : SinkState) : Type 0 where
+  pub before : SinkState
+  pub begun : IsBegun old before
+  pub gathers : GathersSome held asked paths old new before errors
+
+-- an atlas isn't whole, and has no page: nothing was added, or a front of the pictures, or these all and the survey
 abbrev pub StopsAtlas : (List ℕ → Option (List ℕ)) → Asked → List (List ℕ) → Option (List Kept) → Option (List Kept) → SinkState → SinkState → Type 0
 StopsAtlas held asked paths old new errors errors' =
-    GathersSome held asked paths old new ⊎ LacksPage held asked paths old new errors errors'
+    (new ≡ old) ⊎ GathersFront held asked paths old new errors ⊎ LacksPage held asked paths old new errors errors'
 
 -- how an atlas is asked for
 abbrev pub asked_of : AtlasJob → Asked
@@ -86,8 +92,9 @@ TellsFault folder fault.Memory errors errors' = errors' ≡ errors
 TellsFault folder fault.Write errors errors' = IsTold errors errors' (folder_line folder write_text)
 TellsFault folder fault.Errors errors errors' = errors' ≡ errors
 
--- the run ended before all was written
+-- the run ended before all was written, in a folder in which nothing stood
 pub record StopsRun (held : List ℕ → Option (List ℕ)) (job : AtlasJob) (paths : List (List ℕ)) (old new : Option (List Kept)) (errors errors' : SinkState) (result : Result Verdict End) : Type 0 where
+  pub empty : IfSome old (λ files. files ≡ [])
   pub between : SinkState
   pub stops : StopsAtlas held (asked_of job) paths old new errors between
   pub fault : AtlasFault
@@ -103,8 +110,9 @@ pub record RefusesFolder (refuses : FolderRefusal → Type 0) (job : AtlasJob) (
   pub untouched : new ≡ old
   pub ended : result ≡ Err end.Refused
 
--- the run wrote its files
+-- the run wrote its files, and these alone stand in the folder
 pub record EndsRun (held : List ℕ → Option (List ℕ)) (job : AtlasJob) (paths : List (List ℕ)) (old new : Option (List Kept)) (errors errors' : SinkState) (result : Result Verdict End) : Type 0 where
+  pub empty : IfSome old (λ files. files ≡ [])
   pub verdict : Verdict
   pub writes : WritesAtlas held (asked_of job) paths old new errors errors' verdict
   pub ended : result ≡ Ok verdict

@@ -32,7 +32,7 @@ abbrev pub of_file : FileFault → AtlasFault
 of_file file.Memory = fault.Memory
 of_file file.Write = fault.Write
 
--- a file of the folder is why
-pub record IsOfFile (why : AtlasFault) : Type 0 where
+-- want of memory, or a file of the folder that can't be written, is why, and not standard error
+pub record IsNotErrors (why : AtlasFault) : Type 0 where
   pub fault : FileFault
   pub is : why ≡ of_file fault

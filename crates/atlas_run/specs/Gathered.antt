@@ -138,17 +138,15 @@ pub record GathersAll (held : List ℕ → Option (List ℕ)) (asked : Asked) (p
   pub gathered : Gathers held asked out errors paths rows refused shown out' errors' tally
   pub adds : files' ≡ with_files files shown
 
--- the first of them were, and of the next one a front of its pictures
-pub record GathersSome (held : List ℕ → Option (List ℕ)) (asked : Asked) (paths : List (List ℕ)) (files files' : Option (List Kept)) : Type 0 where
+-- the first of them were, while a survey was told from these states on, and of the next one a front of its pictures
+pub record GathersSome (held : List ℕ → Option (List ℕ)) (asked : Asked) (paths : List (List ℕ)) (files files' : Option (List Kept)) (survey errors : SinkState) : Type 0 where
   pub before : List (List ℕ)
   pub rest : List (List ℕ)
   pub stands : paths ≡ before ++ rest
   pub rows : List Row
   pub refused : List Refused
   pub between : Option (List Kept)
-  pub survey : SinkState
   pub survey' : SinkState
-  pub errors : SinkState
   pub errors' : SinkState
   pub tally : Tally
   pub gathers : GathersAll held asked before rows refused files between survey survey' errors errors' tally

@@ -8,7 +8,7 @@ use Rattle.lens_run.specs.declared.tell.Stop.{Stop}
 use Rattle.lens_run.specs.declared.tell.Stop.TheVariants as stop
 use Rattle.lens_run.specs.declared.tell.Tally.{Tally}
 use Rattle.lens_run.specs.declared.tell.Word.TheVariants.{Survey}
-use Rattle.atlas_run.specs.Folder.{IsBegun, IsOfFile, Kept}
+use Rattle.atlas_run.specs.Folder.{IsBegun, IsNotErrors, Kept}
 use Rattle.atlas_run.specs.declared.fault.AtlasFault.{AtlasFault}
 use Rattle.atlas_run.specs.declared.fault.AtlasFault.TheVariants as fault
 
@@ -24,11 +24,11 @@ pub record StopsWithin (held : Option (List ℕ)) (asked : LensAsked) (path : Li
   pub stops : StopsPath held asked path out out' errors errors' stop
   pub is : why ≡ stop_fault stop
 
--- all of it was told, and then a file of the folder failed, or what is kept for the page
+-- all of it was told, and then a file of the folder failed, or there was no memory for what the page keeps
 pub record StopsBehind (held : Option (List ℕ)) (asked : LensAsked) (path : List ℕ) (out out' errors errors' : SinkState) (why : AtlasFault) : Type 0 where
   pub tally : Tally
   pub told : TellsPath held asked path out out' errors errors' tally
-  pub fault : IsOfFile why
+  pub fault : IsNotErrors why
 
 -- one of the two
 abbrev pub LeavesPath : Option (List ℕ) → LensAsked → List ℕ → SinkState → SinkState → SinkState → SinkState → AtlasFault → Type 0
@@ -75,12 +75,12 @@ pub record SurveysAll (held : List ℕ → Option (List ℕ)) (asked : LensAsked
   pub after : SinkState
   pub tally : Tally
   pub told : ToldTo held asked before errors paths after errors' tally
-  pub fault : IsOfFile why
+  pub fault : IsNotErrors why
 
 -- no survey was begun
 pub record LacksSurvey (errors errors' : SinkState) (why : AtlasFault) : Type 0 where
   pub silent : errors' ≡ errors
-  pub fault : IsOfFile why
+  pub fault : IsNotErrors why
 
 -- what standard error was told of the files: nothing where no survey was begun
 abbrev pub TellsUntil : (List ℕ → Option (List ℕ)) → LensAsked → List (List ℕ) → Option (List Kept) → SinkState → SinkState → AtlasFault → Type 0

@@ -53,7 +53,8 @@ pub trait Folder {
     /// Whether it was taken: no file is begun in one that wasn't.
     ghost taken: { Self → Bool };
 
-    /// Takes the folder: makes it, where it isn't there, in one that is. One that is there has to be empty, and is left as it is.
+    /// Takes the folder: makes it, where it isn't there, in one that is. One that is there has to be empty, and stays
+    /// as it is.
     fn make(&mut self) -> Result<(), FolderRefusal>
         ensures kept { kept self.new ≡ kept self.old }
         ensures taken { OnOk result (taken self.new ≡ true) }

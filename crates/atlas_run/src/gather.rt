@@ -55,7 +55,7 @@ pub fn gather<'p, S: Storage, F: Folder, E: Sink, P: Watch>(
         gathered.rows.items gathered.refused.items (F.kept folder.old) (F.kept folder.new)
         (F.File.state survey.old) (F.File.state survey.new) (E.state errors.old) (E.state errors.new) gathered.tally) }
     ensures some { OnErr result (GathersSome (S.held storage.now) asked (map (λ path. path.now) paths.now)
-        (F.kept folder.old) (F.kept folder.new)) }
+        (F.kept folder.old) (F.kept folder.new) (F.File.state survey.old) (E.state errors.old)) }
     ensures stopped { IfErr result (StopsAtFile (S.held storage.now) (survey_of asked.judging) (map (λ path. path.now) paths.now)
         (F.File.state survey.old) (E.state errors.old) (F.File.state survey.new) (E.state errors.new)) }
 {
@@ -107,7 +107,8 @@ fn add_path<'p, S: Storage, F: Folder, E: Sink, P: Watch>(
         (F.File.state survey.old) (F.File.state survey.new) (E.state errors.old) (E.state errors.new)) }
     ensures sound { OnOk result (AreSound (F.File.state survey.new) (E.state errors.new)) }
     ensures adds { IfOk result (AddsPath (S.held storage.now origin.now.path.now) cells origin.now gathered.old gathered.new
-        (F.kept folder.old) (F.kept folder.new) (F.File.state survey.old) (F.File.state survey.new) (E.state errors.old) (E.state errors.new)) }
+        (F.kept folder.old) (F.kept folder.new) (F.File.state survey.old) (F.File.state survey.new)
+        (E.state errors.old) (E.state errors.new)) }
     ensures front { OnErr result (AddsFront (S.held storage.now origin.now.path.now) cells origin.now (F.kept folder.old) (F.kept folder.new)) }
     ensures stopped { IfErr result (LeavesPath (S.held storage.now origin.now.path.now) (survey_of origin.now.judging) origin.now.path.now
         (F.File.state survey.old) (F.File.state survey.new) (E.state errors.old) (E.state errors.new)) }

@@ -6,10 +6,10 @@ use clap::{Arg, ArgAction, ArgMatches, value_parser};
 use map_level::Reading;
 use std::alloc::Global;
 
-/// How many cells there are along the longer side of a picture, where nothing is said.
+/// How many cells the longer side of a picture has at most, where nothing is said.
 const CELLS: u32 = 512;
 
-/// How a level's indexes are read.
+/// The word by which a level's indexes are read as numbers from 0 to 65535.
 pub fn wide_word<'a>(alloc: Global) -> Arg<'a> {
     Arg::new(alloc, "wide")
         .long("wide")
@@ -26,7 +26,7 @@ pub fn reading_of(matches: &ArgMatches<'_>) -> Reading {
     }
 }
 
-/// How many cells a picture has.
+/// The word for how many cells the longer side of a picture has at most.
 pub fn cells_word<'a>(alloc: Global) -> Arg<'a> {
     Arg::new(alloc, "cells")
         .long("cells")

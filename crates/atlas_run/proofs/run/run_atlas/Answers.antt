@@ -1,4 +1,5 @@
-use Rattle.std.proofs.Common.{◌≡◌, Err, inl, inr, map, ap, ◌∙◌, refl, rules, subst}
+use Rattle.std.proofs.Common.{◌≡◌, List, [], Err, inl, inr, map, ap, ◌∙◌, refl, rules, subst}
+use Rattle.std.specs.Prelude.{IfSome}
 use Rattle.lens_run.specs.Job.{LacksList, job_paths}
 use Rattle.atlas_run.specs.Atlas.{StopsAtlas, asked_of, survey_of}
 use Rattle.atlas_run.specs.Until.{TellsUntil}
@@ -25,6 +26,7 @@ pub returns : goal.returns
 returns g c =
     let same : map (λ path. path.now) c.deref-3.result.now ≡ job_paths c.args.job.now.job c.in-Ok.list.items =
     ap (map (λ path. path.now)) c.deref-3.ensures.value ∙ c.in-Ok-all_paths.ensures ∙ search rules in
+    let fresh : IfSome (g.F.Folder.kept c.make.new.self) (λ files. files ≡ []) = search rules in
     let told = subst (λ paths. StopsAtlas (g.S.Storage.held c.args.storage.now) (asked_of c.args.job.now) paths (g.F.Folder.kept c.make.new.self) (g.F.Folder.kept c.write_atlas.new.folder)
     (g.E.Sink.state c.args.errors.now) (g.E.Sink.state c.write_atlas.new.errors)) same c.in-Err-write_atlas.ensures.some in
     let stops = subst (λ files. StopsAtlas (g.S.Storage.held c.args.storage.now) (asked_of c.args.job.now) (job_paths c.args.job.now.job c.in-Ok.list.items) files (g.F.Folder.kept c.write_atlas.new.folder)
@@ -37,6 +39,7 @@ returns g c =
       list = c.in-Ok.list.items;
       holds = c.in-Ok.ensures.held;
       runs = inr (inl (record {
+        empty = subst (λ k. IfSome k (λ files. files ≡ [])) c.make.ensures.kept fresh;
         between = g.E.Sink.state c.write_atlas.new.errors;
         stops = stops;
         fault = c.in-Err-write_atlas.fault;

@@ -1,16 +1,13 @@
 use Rattle.std.proofs.Common.{inl, inr, map, refl, sym}
 use Rattle.std.proofs.lemmas.List.{length-map}
 use Rattle.std.proofs.lemmas.Result.{err_from_is_err_and}
-use Rattle.atlas_run.proofs.AtlasLemmas.{atlas_written, none_gathered, pictures_alone}
+use Rattle.atlas_run.proofs.AtlasLemmas.{atlas_written, pictures_alone}
 use Rattle.atlas_run.proofs.run.write_atlas.Goals as goal
 
 pub returns-in_err-survey-clause-some : goal.returns-in_err-survey-clause-some
 returns-in_err-survey-clause-some g c =
     let p = err_from_is_err_and c.from_residual.result c.from_residual.ensures.1 in
-    let none = none_gathered (g.S.Storage.held c.args.storage.now) c.args.asked (map (λ path. path.now) c.args.paths.now) (g.F.Folder.kept c.args.folder.now) (g.E.Sink.state c.args.errors.now)
-    (g.F.Folder.kept c.begin.new.self)
-    c.in_err-survey.ensures.kept in
-    rw p.1 (inl none)
+    rw p.1 (inl c.in_err-survey.ensures.kept)
 
 pub returns-in_err-keep-in-Ok-clause-some : goal.returns-in_err-keep-in-Ok-clause-some
 returns-in_err-keep-in-Ok-clause-some g c =
@@ -18,7 +15,7 @@ returns-in_err-keep-in-Ok-clause-some g c =
     let all = rw c.in_ok-survey.ensures.kept at c.in-Ok.ensures.all in
     let alone = pictures_alone (g.S.Storage.held c.args.storage.now) c.args.asked (map (λ path. path.now) c.args.paths.now) (g.F.Folder.kept c.args.folder.now)
     c.in-Ok.gathered.rows.items c.in-Ok.gathered.refused.items (g.F.Folder.kept c.gather-gathered.new.folder) _ _ _ _ _ all (g.F.Folder.kept c.keep.new.self) c.in_err-keep-in-Ok.ensures.kept in
-    rw p.1 (inl alone)
+    rw p.1 (inr (inl (record { before = g.F.File.Sink.state c.in_ok-survey.survey; begun = c.in_ok-survey.ensures.begun; gathers = alone })))
 
 pub returns-in_ok-write_index-in-Ok-clause-all : goal.returns-in_ok-write_index-in-Ok-clause-all
 returns-in_ok-write_index-in-Ok-clause-all g c =

@@ -1,0 +1,48 @@
+//! Why a job isn't done.
+
+use map_picture::DrawFault;
+use std::alloc::AllocError;
+use wad_dir::SetFault;
+use wad_lens::FileFault;
+use wad_look::RunFault;
+
+/// Why a job isn't done.
+#[derive(Clone, Copy, Debug, PartialEq, Eq)]
+pub enum Fault {
+    /// There are other words than `JOB SEED ROUNDS [FILE]`.
+    Words,
+    /// The file can't be read, or is no WAD file with such levels.
+    File,
+    /// A call of the library failed, for want of memory or of an output.
+    Call,
+}
+
+impl From<AllocError> for Fault {
+    fn from(_error: AllocError) -> Fault {
+        Fault::Call
+    }
+}
+
+impl From<SetFault> for Fault {
+    fn from(_fault: SetFault) -> Fault {
+        Fault::File
+    }
+}
+
+impl From<DrawFault> for Fault {
+    fn from(_fault: DrawFault) -> Fault {
+        Fault::Call
+    }
+}
+
+impl From<FileFault> for Fault {
+    fn from(_fault: FileFault) -> Fault {
+        Fault::Call
+    }
+}
+
+impl From<RunFault> for Fault {
+    fn from(_fault: RunFault) -> Fault {
+        Fault::Call
+    }
+}

@@ -1,0 +1,237 @@
+//! The jobs: each round on inputs of its own.
+
+ghost use Rattle.std.specs.Prelude.{◌≤◌, length};
+ghost use Rattle.level_list.specs.Starts.{LevelStartsAt};
+ghost use Rattle.wad_dir.specs.Entries.{names};
+
+use crate::digest::Digest;
+use crate::fault::Fault;
+use crate::inputs::{demo, point_lines, square_lines};
+use crate::random::Random;
+use crate::varied::varied;
+use level_list::{Format, format_of, next_start};
+use map_cells::Frame;
+use map_level::{Level, Reading};
+use map_picture::{Asked, draw_level};
+use memory_ends::{FromSlice, ToVec};
+use std::alloc::Global;
+use wad_dir::Set;
+use wad_lens::{Judging, Question, Warnings, check_file, label_of, level_at};
+use wad_look::{MAX_INPUT, MAX_READ, census_text, lmp, points};
+
+/// What is done in each round.
+#[derive(Clone, Copy, PartialEq, Eq)]
+pub enum Job {
+    /// Each level of the file is drawn, with other margins and other cells.
+    Atlas,
+    /// The file is checked with its warnings, after things, tags and textures were changed.
+    Check,
+    /// Points are answered on each level of the file.
+    Points,
+    /// Squares are counted on each level of the file.
+    Census,
+    /// A demo is listed.
+    Lmp,
+}
+
+/// The job of a word.
+pub fn job_named(word: &str) -> Option<Job> {
+    match word.as_bytes() {
+        b"atlas" => Some(Job::Atlas),
+        b"check" => Some(Job::Check),
+        b"points" => Some(Job::Points),
+        b"census" => Some(Job::Census),
+        b"lmp" => Some(Job::Lmp),
+        _ => None,
+    }
+}
+
+/// Does a round of a job over the files, of which there is one but for `lmp`.
+pub fn do_round(
+    alloc: Global,
+    job: Job,
+    files: &[Vec<u8>],
+    random: &mut Random,
+    digest: &mut Digest,
+) -> Result<(), Fault>
+    requires { length files.now ≤ 1 }
+{
+    if job == Job::Lmp {
+        return list_demo(alloc, random, digest);
+    }
+    let [bytes] = files else {
+        return Err(Fault::File);
+    };
+    let set = Set::one(alloc, bytes)?;
+    match job {
+        Job::Atlas => draw_levels(alloc, &set, random, digest),
+        Job::Check => check_varied(alloc, bytes, &set, random, digest),
+        Job::Points => {
+            let lines = point_lines(alloc, random, 40_000)?;
+            ask_levels(alloc, job, files, &set, &lines, digest)
+        }
+        Job::Census | Job::Lmp => {
+            let lines = square_lines(alloc, random, 40)?;
+            ask_levels(alloc, job, files, &set, &lines, digest)
+        }
+    }
+}
+
+// Lists a demo of 100,000 tics.
+fn list_demo(alloc: Global, random: &mut Random, digest: &mut Digest) -> Result<(), Fault> {
+    let bytes = demo(alloc, random, 100_000)?;
+    let mut out = ToVec::new(alloc);
+    lmp(&mut FromSlice::new(&bytes), MAX_READ, &mut out)?;
+    digest.add(out.taken());
+    Ok(())
+}
+
+// Draws each level of Doom's format.
+fn draw_levels(
+    alloc: Global,
+    set: &Set<'_>,
+    random: &mut Random,
+    digest: &mut Digest,
+) -> Result<(), Fault> {
+    for g in 0..set.total() {
+        let Some(start) = next_start(set, g) else {
+            return Ok(());
+        };
+        if start == g {
+            draw_start(alloc, set, start, random, digest)?;
+        }
+    }
+    Ok(())
+}
+
+// Draws the level that starts at an entry, where it is of Doom's format.
+fn draw_start(
+    alloc: Global,
+    set: &Set<'_>,
+    start: usize,
+    random: &mut Random,
+    digest: &mut Digest,
+) -> Result<(), Fault>
+    requires { LevelStartsAt (names set.now) start }
+{
+    match format_of(set, start) {
+        Format::Doom => {
+            let level = level_at(set, start, Reading::Signed);
+            draw_varied(alloc, &level, random, digest)
+        }
+        _ => Ok(()),
+    }
+}
+
+// Draws a level with margins and with a number of cells of its own.
+fn draw_varied(
+    alloc: Global,
+    level: &Level<'_>,
+    random: &mut Random,
+    digest: &mut Digest,
+) -> Result<(), Fault> {
+    let asked = Asked {
+        frame: Frame::of(level).and_then(|frame| widened(frame, random)),
+        cells: 512 - random.below(64),
+    };
+    let mut out = ToVec::new(alloc);
+    draw_level(alloc, level, asked, &mut out)?;
+    digest.add(out.taken());
+    Ok(())
+}
+
+// A frame with a margin of less than 256 units on each side.
+fn widened(frame: Frame, random: &mut Random) -> Option<Frame> {
+    let mut margin = || random.below(256) as i16;
+    Frame::new(
+        frame.x0().saturating_sub(margin()),
+        frame.y0().saturating_sub(margin()),
+        frame.x1().saturating_add(margin()),
+        frame.y1().saturating_add(margin()),
+    )
+}
+
+// Checks a changed file.
+fn check_varied(
+    alloc: Global,
+    bytes: &[u8],
+    set: &Set<'_>,
+    random: &mut Random,
+    digest: &mut Digest,
+) -> Result<(), Fault> {
+    let changed = varied(alloc, bytes, set, random)?;
+    let question = Question {
+        path: b"levels.wad",
+        most: 10,
+        judging: Judging {
+            reading: Reading::Signed,
+            warnings: Warnings::Told,
+        },
+    };
+    let mut out = ToVec::new(alloc);
+    check_file(alloc, &question, &changed, &mut out)?;
+    digest.add(out.taken());
+    Ok(())
+}
+
+// Asks each level of Doom's format for the answers to the same lines.
+fn ask_levels(
+    alloc: Global,
+    job: Job,
+    files: &[Vec<u8>],
+    set: &Set<'_>,
+    lines: &[u8],
+    digest: &mut Digest,
+) -> Result<(), Fault>
+    requires { length files.now ≤ 1 }
+{
+    for g in 0..set.total() {
+        let Some(start) = next_start(set, g) else {
+            return Ok(());
+        };
+        if start == g {
+            let mut text = [0; 32];
+            let len = label_of(set, start).shown(&mut text);
+            ask_level(alloc, job, files, &text[..len], lines, digest)?;
+        }
+    }
+    Ok(())
+}
+
+// Asks the level of a name.
+fn ask_level(
+    alloc: Global,
+    job: Job,
+    files: &[Vec<u8>],
+    name: &[u8],
+    lines: &[u8],
+    digest: &mut Digest,
+) -> Result<(), Fault>
+    requires { length files.now ≤ 1 }
+{
+    let mut input = FromSlice::new(lines);
+    let mut out = ToVec::new(alloc);
+    if job == Job::Points {
+        points(
+            alloc,
+            files,
+            name,
+            Reading::Signed,
+            &mut input,
+            MAX_INPUT,
+            &mut out,
+        )?;
+    } else {
+        census_text(
+            alloc,
+            files,
+            name,
+            Reading::Signed,
+            &mut input,
+            MAX_INPUT,
+            &mut out,
+        )?;
+    }
+    digest.add(out.taken());
+    Ok(())
+}

@@ -45,6 +45,10 @@ module _ (cell : ℕ → ℕ → Option ℕ) where
   pub begins-cell : (i j : ℕ) (b : Block) (p : BeginsAt cell i j b) → cell i j ≡ Some p.sector
   begins-cell i j b p = spans-cell p.sector i j b.width b.height (begins-spans i j b p)
 
+  -- and not on the left of it
+  pub begins-left : (i j : ℕ) (b : Block) (p : BeginsAt cell i j b) → 0 < i → cell (i - 1) j ≡ Some p.sector → ⊥
+  begins-left i j b p some shown = (spans-row p.sector i j b.width b.height (begins-spans i j b p)).left some shown
+
   pub begins-at : (i j s : ℕ) (b : Block) → BeginsAt cell i j b → cell i j ≡ Some s → Spans s i j b.width b.height
   begins-at i j s b p here =
       let same : p.sector ≡ s = some_inj p.sector s (sym (begins-cell i j b p) ∙ here) in

@@ -1,14 +1,16 @@
 -- Cells, row by row.
-use Rattle.std.proofs.Common.{◌≡◌, ◌↔◌, ◌∙◌, ℕ, zero, suc, ◌+◌, ◌*◌, ◌<◌, ◌≤◌, inl, inr, List, [], ◌∷◌, ◌++◌, length, get_or, Option, Some, None, refl, sym, subst, ap, arith}
+use Rattle.std.proofs.Common.{◌≡◌, ◌↔◌, ◌∙◌, ℕ, zero, suc, ◌+◌, ◌-◌, ◌*◌, ◌<◌, ◌≤◌, replicate, inl, inr, List, [], ◌∷◌, ◌++◌, length, get_or, Option, Some, None, Result, Ok, Err, take, refl, sym, subst, ap, arith}
 use Rattle.std.proofs.Math.Nat.{mul-le-mul_right}
-use Rattle.std.specs.Prelude.{option_and_then}
+use Rattle.std.specs.Prelude.{OnOk, if◌then◌else◌, is_ok, option_and_then}
+use Rattle.std.specs.declared.alloc.AllocError.{AllocError}
 use Rattle.std.specs.List.{slice_get}
 use Rattle.std.proofs.lemmas.Bool.{cases_lt, lt-ltb, le-ltb}
-use Rattle.std.proofs.lemmas.List.{append_assoc, append-nil, length-append}
+use Rattle.std.proofs.lemmas.List.{append_assoc, append-nil, length-append, take_all}
 use Rattle.std.proofs.lemmas.Option.{slice_get_past, slice_get_read}
 use Rattle.map_level.specs.Level.{Level}
 use Rattle.map_cells.specs.Grid.{Grid, columns_of, rows_of, cell_x, cell_y}
-use Rattle.map_cells.specs.Cells.{Cells, IsWhole, cell, AreCells, AddsRow}
+use Rattle.map_cells.specs.Cells.{Cells, IsWhole, cell, AreCells, AddsRow, GoesOn, TellsCell}
+use Rattle.map_cells.specs.Row.{Row}
 use Rattle.map_cells.specs.Shown.{IsShown}
 
 -- an item of two joined lists
@@ -61,6 +63,42 @@ AddsRow-more level grid j n before between after o old tells is =
       };
       is = is ∙ ap (λ xs. xs ++ o ∷ []) old.is ∙ append_assoc before old.row (o ∷ []);
     }
+
+-- cells more that all tell the same
+AddsRow-same : (level : Level) (grid : Grid) (j n k : ℕ) (before between : List (Option ℕ)) (o : Option ℕ)
+    → ((i : ℕ) → n ≤ i → i < n + k → Tells level grid i j o) → AddsRow level grid j n before between
+    → AddsRow level grid j (n + k) before (between ++ replicate k o)
+AddsRow-same level grid j n zero before between o tells old =
+    let none : n ≡ n + 0 = omega arith in
+    subst (λ m. AddsRow level grid j m before (between ++ [])) none
+    (subst (λ xs. AddsRow level grid j n before xs) (sym (append-nil between)) old)
+AddsRow-same level grid j n (suc k) before between o tells old =
+    let next : n + 1 + k ≡ n + suc k = omega arith in
+    let one = AddsRow-more level grid j n before between (between ++ o ∷ []) o old (tells n (omega arith) (omega arith)) refl in
+    let all = AddsRow-same level grid j (n + 1) k before (between ++ o ∷ []) o
+    (λ i from below. tells i (omega (arith, from)) (omega (arith, below))) one in
+    subst (λ m. AddsRow level grid j m before (between ++ o ∷ replicate k o)) next
+    (subst (λ xs. AddsRow level grid j (n + 1 + k) before xs) (append_assoc between (o ∷ []) (replicate k o)) all)
+
+pub GoesOn-same : (level : Level) (row : Row) (from end : ℕ) (o : Option ℕ) (old : List (Option ℕ)) → from ≤ end
+    → ((i : ℕ) → from ≤ i → i < end → TellsCell level row i o) → GoesOn level row from end old (old ++ replicate (end - from) o)
+GoesOn-same level row from end o old ordered tells before added =
+    let to : from + (end - from) ≡ end = omega (arith, ordered) in
+    subst (λ m. AddsRow level row.grid row.j m before (old ++ replicate (end - from) o)) to
+    (AddsRow-same level row.grid row.j from (end - from) before old o
+    (λ i after below. tells i after (omega (arith, below, ordered))) added)
+
+-- the same by a growth to a length
+pub GoesOn-resized : (level : Level) (row : Row) (from end : ℕ) (o : Option ℕ) (old new : List (Option ℕ)) (result : Result (Unit {0}) AllocError)
+    (len n : ℕ) → from ≤ end → len ≡ length old → n ≡ len + (end - from) → ((i : ℕ) → from ≤ i → i < end → TellsCell level row i o)
+    → new ≡ (if is_ok result then take n old ++ replicate (n - len) o else old)
+    → OnOk result (GoesOn level row from end old new)
+GoesOn-resized level row from end o old new (Err fault) len n ordered long more tells is = tt
+GoesOn-resized level row from end o old new (Ok done) len n ordered long more tells is =
+    let count : n - len ≡ end - from = omega (arith, more) in
+    let all : take n old ≡ old = take_all n old (omega (arith, long, more)) in
+    let shape : new ≡ old ++ replicate (end - from) o = is ∙ ap (λ xs. xs ++ replicate (n - len) o) all ∙ ap (λ k. old ++ replicate k o) count in
+    subst (λ xs. GoesOn level row from end old xs) (sym shape) (GoesOn-same level row from end o old ordered tells)
 
 -- the first n rows of cells
 pub record AreRows (level : Level) (grid : Grid) (n : ℕ) (seen : List (Option ℕ)) : Type 0 where

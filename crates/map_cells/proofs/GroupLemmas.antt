@@ -1,5 +1,5 @@
 -- Lists of blocks, one for each sector, cell by cell.
-use Rattle.std.proofs.Common.{◌≡◌, ◌↔◌, ◌∙◌, ℕ, zero, suc, ◌+◌, ◌<◌, ◌≤◌, ◌⊎◌, inl, inr, List, [], ◌∷◌, ◌++◌, length, get_or, set, map, Option, Some, None, refl, sym, subst, ap, arith}
+use Rattle.std.proofs.Common.{◌≡◌, ◌↔◌, ◌∙◌, ℕ, zero, suc, ◌+◌, ◌-◌, ◌<◌, ◌≤◌, ◌⊎◌, inl, inr, List, [], ◌∷◌, ◌++◌, length, get_or, set, map, Option, Some, None, refl, sym, subst, ap, arith}
 use Rattle.std.specs.List.{Contains}
 use Rattle.std.proofs.lemmas.Bool.{cases_eq, cases_lt}
 use Rattle.std.proofs.lemmas.List.{get_or-set_same, get_or-set_other, length-set}
@@ -8,7 +8,7 @@ use Rattle.std.proofs.lemmas.List.Quantifiers.{all_pairs_push}
 use Rattle.map_cells.specs.declared.block.Block.{Block}
 use Rattle.map_cells.specs.Blocks.{IsBlock, BeginsAt}
 use Rattle.map_cells.specs.Groups.{StandsBefore, AreGroups, IsBefore, AreSome, AreBlocksBefore, PushesBlock, AddsBlock}
-use Rattle.map_cells.proofs.BlockLemmas.{begins-cell, begins-one, block-cell}
+use Rattle.map_cells.proofs.BlockLemmas.{begins-cell, begins-left, begins-one, block-cell}
 
 -- a block more in one of several lists
 pub pushed-at : {V : Type 0} (items : V → List Block) (lists : List V) (s : ℕ) (v w : V) (b : Block) → s < length lists
@@ -139,6 +139,21 @@ module _ (cell : ℕ → ℕ → Option ℕ) where
     where
       sector-same : (i j a c : ℕ) → Some a ≡ Some c → a ≡ c
       sector-same i j a c e = cc
+
+  -- cells that show the same
+  pub before-same : (i j : ℕ) (lists : List (List Block)) (count : ℕ) → ((c : ℕ) → i ≤ c → c < i + 1 + count → cell c j ≡ cell i j)
+      → AreBlocksBefore cell (i + 1) j lists → AreBlocksBefore cell (i + 1 + count) j lists
+  before-same i j lists zero same old = subst (λ k. AreBlocksBefore cell k j lists) (omega arith) old
+  before-same i j lists (suc count) same old =
+      let k = i + 1 + count in
+      let none : (b : Block) → ¬ BeginsAt cell k j b = λ b begins.
+      let shown = begins-cell cell k j b begins in
+      let left : cell (k - 1) j ≡ Some begins.sector =
+      same (k - 1) (omega arith) (omega arith) ∙ (sym (same k (omega arith) (omega arith)) ∙ shown) in
+      begins-left cell k j b begins (omega arith) left in
+      subst (λ n. AreBlocksBefore cell n j lists) (omega arith)
+      (before-next k j lists lists (inl (none, refl))
+      (before-same i j lists count (λ c after below. same c after (omega (arith, below))) old))
 
   -- the next row
   pub before-row : (columns j : ℕ) (lists : List (List Block)) → ((i k : ℕ) → columns ≤ i → cell i k ≡ None)

@@ -1,7 +1,11 @@
 pub mod BlockLemmas
 pub mod CellLemmas
+pub mod CountLemmas
 pub mod GroupLemmas
 pub mod FrameLemmas
+pub mod RowLemmas
+pub mod WayLemmas
+pub mod FrontLemmas
 pub mod ShownLemmas
 pub mod SpanLemmas
 pub mod CoverLemmas

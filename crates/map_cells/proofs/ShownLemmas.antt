@@ -1,5 +1,5 @@
 -- What is shown at a point, by its one leaf.
-use Rattle.std.proofs.Common.{◌≡◌, ◌↔◌, ◌∙◌, ℕ, ℤ, Bool, true, false, Option, Some, None, IsTrue, refl, sym, subst}
+use Rattle.std.proofs.Common.{◌≡◌, ◌↔◌, ◌∙◌, ℕ, ◌<◌, ℤ, Bool, true, false, Option, Some, None, IsTrue, refl, sym, subst}
 use Rattle.std.proofs.lemmas.Bool.{false≢true}
 use Rattle.std.specs.Bool.{then_some}
 use Rattle.map_geo.specs.Point.{Point, IsInRange, point_at}
@@ -7,6 +7,10 @@ use Rattle.map_level.specs.Level.{Level}
 use Rattle.map_level.specs.SectorOf.{sector_of}
 use Rattle.map_tree.specs.Leaf.{IsLeaf}
 use Rattle.map_tree.proofs.LawLemmas.{law_one_leaf}
+use Rattle.map_tree.proofs.LeafLemmas.{one_leaf}
+use Rattle.map_cells.specs.Cells.{TellsCell}
+use Rattle.map_cells.specs.Grid.{cell_x, cell_y, columns_of}
+use Rattle.map_cells.specs.Row.{IsRowInRange, Row, point_of}
 use Rattle.map_cells.specs.Laws.{OneSectorShown}
 use Rattle.map_cells.specs.Shown.{IsBehind, IsSegOf, IsShown}
 
@@ -37,6 +41,19 @@ shown-told level x y t s false result column row leaf only sector before is r = 
   (λ shown.
       absurd (false≢true (before.1 (subst (IsBefore level x y) (only shown.t shown.leaf) shown.front)))),
 )
+
+-- what a cell of a row tells whose point has this leaf
+pub front-tells : (level : Level) (row : Row) (t s i : ℕ) → IsRowInRange row → i < columns_of row.grid → IsLeaf level (point_of row i) t
+    → sector_of level t ≡ Some s → IsBefore level (cell_x row.grid i) (cell_y row.grid row.j) t → TellsCell level row i (Some s)
+front-tells level row t s i valid within leaf sector before =
+    shown-told level (cell_x row.grid i) (cell_y row.grid row.j) t s true (Some s) (valid.columns i within) valid.height leaf
+    (λ u one. one_leaf level (point_of row i) u t one leaf) sector ((λ _. before), (λ _. refl)) refl
+
+pub void-tells : (level : Level) (row : Row) (t s i : ℕ) → IsRowInRange row → i < columns_of row.grid → IsLeaf level (point_of row i) t
+    → sector_of level t ≡ Some s → ¬ IsBefore level (cell_x row.grid i) (cell_y row.grid row.j) t → TellsCell level row i None
+void-tells level row t s i valid within leaf sector behind =
+    shown-told level (cell_x row.grid i) (cell_y row.grid row.j) t s false None (valid.columns i within) valid.height leaf
+    (λ u one. one_leaf level (point_of row i) u t one leaf) sector ((λ e. absurd (false≢true e)), (λ before. absurd (behind before))) refl
 
 -- what is told exactly where something holds is none exactly where that never holds
 pub none-told : (P : ℕ → Type 0) (result : Option ℕ) → ((s : ℕ) → (result ≡ Some s) ↔ P s)

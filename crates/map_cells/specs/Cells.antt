@@ -3,6 +3,7 @@ use Rattle.std.specs.Prelude.{◌≡◌, ◌↔◌, ℕ, ◌+◌, ◌*◌, ◌<�
 use Rattle.std.specs.List.{slice_get}
 use Rattle.map_level.specs.Level.{Level}
 use Rattle.map_cells.specs.Grid.{Grid, columns_of, rows_of, cell_x, cell_y}
+use Rattle.map_cells.specs.Row.{Row}
 use Rattle.map_cells.specs.Shown.{IsShown}
 
 -- the sectors of the cells, row by row
@@ -40,3 +41,12 @@ pub record AddsRow (level : Level) (grid : Grid) (j n : ℕ) (before after : Lis
   pub row : List (Option ℕ)
   pub whole : IsRow level grid j n row
   pub is : after ≡ before ++ row
+
+-- a cell in column i of a row tells the sector that is shown at its point
+abbrev pub TellsCell : Level → Row → ℕ → Option ℕ → Type 0
+TellsCell level row i told = (s : ℕ) → (told ≡ Some s) ↔ IsShown level (cell_x row.grid i) (cell_y row.grid row.j) s
+
+-- where the first cells of a row were added, so were those up to another column
+abbrev pub GoesOn : Level → Row → ℕ → ℕ → List (Option ℕ) → List (Option ℕ) → Type 0
+GoesOn level row from end old new =
+    (before : List (Option ℕ)) → AddsRow level row.grid row.j from before old → AddsRow level row.grid row.j end before new

@@ -2,6 +2,9 @@ pub mod Ends
 pub mod Frame
 pub mod Shown
 pub mod Grid
+pub mod Row
+pub mod Way
+pub mod Front
 pub mod Cells
 pub mod Counts
 pub mod Blocks

@@ -3,10 +3,17 @@
 ghost use Rattle.std.specs.Prelude.{◌≡◌, ◌<◌, ◌≤◌, ℕ, None, IfOk, IfSome, OnOk, OnSome, Some, length};
 ghost use Rattle.std.specs.List.{slice_get};
 ghost use Rattle.map_cells.specs.Grid.{columns_of, rows_of};
-ghost use Rattle.map_cells.specs.Cells.{cell, AddsRow, AreCells};
+ghost use Rattle.map_cells.specs.Cells.{cell, AddsRow, AreCells, GoesOn, TellsCell};
+ghost use Rattle.map_cells.specs.Row.{IsRowInRange};
+ghost use Rattle.map_cells.specs.Way.{AllCome};
+ghost use Rattle.map_tree.specs.Sound.{IsSound};
 
+use crate::front::{Span, front_of_segs};
 use crate::grid::Grid;
+use crate::row::Row;
 use crate::shown::Shown;
+use crate::way::{NF_SUBSECTOR, Part, Pending, go_down, start};
+use map_level::Level;
 use std::alloc::{AllocError, Allocator, Global};
 use std::marker::Model;
 
@@ -17,10 +24,13 @@ pub struct Cells<A: Allocator = Global> {
     columns: usize,
     rows: usize,
     shown: Vec<Option<u16>, A>,
+    // A number above each sector that is shown.
+    bound: usize,
 }
 
 impl<A: Allocator> Model for Cells<A> {
-    ghost use Rattle.std.specs.Prelude.{◌≡◌, ◌*◌, ◌<◌, length};
+    ghost use Rattle.std.specs.Prelude.{◌≡◌, ◌*◌, ◌<◌, ◌≤◌, ℕ, Some, length};
+    ghost use Rattle.std.specs.List.{slice_get};
     ghost use Rattle.map_cells.specs.Cells as cells;
     ghost use Rattle.map_cells.specs.Cells.{IsWhole};
     ghost use Rattle.map_cells.specs.Grid.{columns_of, rows_of};
@@ -30,7 +40,8 @@ impl<A: Allocator> Model for Cells<A> {
     ghost view = { λ c. record { grid = c.grid; shown = c.shown.items } };
 
     ghost invariant = { λ c. IsWhole (record { grid = c.grid; shown = c.shown.items })
-        × (c.columns ≡ columns_of c.grid) × (c.rows ≡ rows_of c.grid) };
+        × (c.columns ≡ columns_of c.grid) × (c.rows ≡ rows_of c.grid)
+        × ((p s : ℕ) → slice_get c.shown.items p ≡ Some (Some s) → s < c.bound) × (c.bound ≤ 65536) };
 }
 
 impl<A: Allocator> Cells<A> {
@@ -47,14 +58,17 @@ impl<A: Allocator> Cells<A> {
         let columns = usize::from(grid.columns());
         let rows = usize::from(grid.rows());
         let mut seen = Vec::with_capacity(alloc, rows * columns)?;
+        let mut pending = Pending::new();
         for j in 0..grid.rows() {
-            push_row(shown, grid, j, &mut seen)?;
+            push_row(shown, grid, j, &mut pending, &mut seen)?;
         }
+        let bound = sector_bound(&seen);
         Ok(Cells {
             grid,
             columns,
             rows,
             shown: seen,
+            bound,
         })
     }
 
@@ -79,7 +93,7 @@ impl<A: Allocator> Cells<A> {
         ensures listed { (p s : ℕ) → slice_get self.now.shown p ≡ Some (Some s) → s < result }
         ensures few { result ≤ 65536 }
     {
-        sector_bound(&self.shown)
+        self.bound
     }
 
     // How many cells a row has, at most 1024, and that what is outside the grid shows nothing.
@@ -102,6 +116,24 @@ impl<A: Allocator> Cells<A> {
         self.rows
     }
 
+    // The first column behind one whose cell shows something else, or the number of columns.
+    #[inline]
+    pub(crate) fn same_end(&self, i: usize, j: usize) -> usize
+        requires { i < columns_of self.now.grid }
+        ensures after { i < result }
+        ensures few { result ≤ columns_of self.now.grid }
+        ensures same { (c : ℕ) → i ≤ c → c < result → cell self.now c j ≡ cell self.now i j }
+    {
+        let columns = self.columns();
+        let shown = self.get(i, j);
+        for c in i + 1..columns {
+            if self.get(c, j) != shown {
+                return c;
+            }
+        }
+        columns
+    }
+
     /// The sector that the cell in column i and row j shows; None outside the grid, too.
     #[inline]
     pub fn get(&self, i: usize, j: usize) -> Option<u16>
@@ -116,8 +148,25 @@ impl<A: Allocator> Cells<A> {
     }
 }
 
-// Adds what a row of cells shows.
+// Adds what a row of cells shows: its points go down the nodes together, where all are in range.
 fn push_row<A: Allocator, B: Allocator>(
+    shown: &Shown<'_, '_, B>,
+    grid: Grid,
+    j: u16,
+    pending: &mut Pending,
+    seen: &mut Vec<Option<u16>, A>,
+) -> Result<(), AllocError>
+    requires { j < rows_of grid }
+    ensures { OnOk result (AddsRow shown.now grid j (columns_of grid) seen.old.items seen.new.items) }
+{
+    match Row::of(grid, j) {
+        Some(row) => push_together(shown, row, pending, seen),
+        None => push_each(shown, grid, j, seen),
+    }
+}
+
+// Adds what a row of cells shows, each by itself.
+fn push_each<A: Allocator, B: Allocator>(
     shown: &Shown<'_, '_, B>,
     grid: Grid,
     j: u16,
@@ -132,14 +181,92 @@ fn push_row<A: Allocator, B: Allocator>(
     Ok(())
 }
 
+// Adds what a row of cells shows whose points are in range.
+fn push_together<A: Allocator, B: Allocator>(
+    shown: &Shown<'_, '_, B>,
+    row: Row,
+    pending: &mut Pending,
+    seen: &mut Vec<Option<u16>, A>,
+) -> Result<(), AllocError>
+    ensures { OnOk result (AddsRow shown.now row.grid row.j (columns_of row.grid) seen.old.items seen.new.items) }
+{
+    let level = shown.level();
+    pending.clear();
+    let mut hand = start(level, row);
+    let mut from = 0;
+    while from < row.columns() {
+        let run = go_down(level, row, from, hand, pending);
+        push_run(level, row, from, run, seen)?;
+        from = run.end;
+        if let Some(next) = pending.pop() {
+            hand = next;
+        }
+    }
+    Ok(())
+}
+
+// Adds the cells of a row from a column on whose points have come to one ssector.
+#[inline]
+fn push_run<A: Allocator>(
+    level: &Level<'_>,
+    row: Row,
+    from: u16,
+    run: Part,
+    seen: &mut Vec<Option<u16>, A>,
+) -> Result<(), AllocError>
+    requires sound { IsSound level.now }
+    requires valid { IsRowInRange row }
+    requires ssector { 32768 ≤ run.word }
+    requires some { from < run.end }
+    requires within { run.end ≤ columns_of row.grid }
+    requires come { AllCome level.now row from run.end run.word }
+    ensures { OnOk result (GoesOn level.now row from run.end seen.old.items seen.new.items) }
+{
+    let t = run.word - NF_SUBSECTOR;
+    let span = Span {
+        first: from,
+        end: run.end,
+    };
+    let front = front_of_segs(level, t, row, span);
+    let sector = level.ssector_sector(u32::from(t));
+    push_same(level, row, from, front.first, None, seen)?;
+    push_same(level, row, front.first, front.end, Some(sector), seen)?;
+    push_same(level, row, front.end, run.end, None, seen)
+}
+
+// Adds cells of a row that all show the same.
+#[inline]
+fn push_same<A: Allocator>(
+    level: &Level<'_>,
+    row: Row,
+    from: u16,
+    end: u16,
+    same: Option<u16>,
+    seen: &mut Vec<Option<u16>, A>,
+) -> Result<(), AllocError>
+    requires ordered { from ≤ end }
+    requires within { end ≤ columns_of row.grid }
+    requires tells { (i : ℕ) → from ≤ i → i < end → TellsCell level.now row i same }
+    ensures { OnOk result (GoesOn level.now row from end seen.old.items seen.new.items) }
+{
+    // Only the clauses speak of the level and the row.
+    let (_level, _row) = (level, row);
+    seen.resize(seen.len() + usize::from(end - from), same)
+}
+
 // A number above each sector that is listed.
 fn sector_bound(shown: &[Option<u16>]) -> usize
     ensures bound { (p s : ℕ) → slice_get shown.now p ≡ Some (Some s) → s < result }
     ensures few { result ≤ 65536 }
 {
     let mut bound = 0;
+    let mut last = None;
     for k in 0..shown.len() {
-        bound = bound.max(above(shown[k]));
+        // Most cells show what the one before them does.
+        if shown[k] != last {
+            last = shown[k];
+            bound = bound.max(above(last));
+        }
     }
     bound
 }

@@ -54,20 +54,39 @@ fn count_cells(shown: &[Option<u16>], counts: &mut [u32])
     ensures told { (s : ℕ) → slice_index_or counts.new s 0 ≡ count_by (shows s) shown.now }
     ensures long { length counts.new ≡ length counts.old }
 {
-    for k in 0..shown.len() {
-        count_cell(shown[k], counts);
+    let mut from = 0;
+    while from < shown.len() {
+        let end = same_end(shown, from);
+        count_run(shown[from], (end - from) as u32, counts);
+        from = end;
     }
 }
 
-// Counts what a cell shows.
+// The first cell behind one that shows something else, or the number of cells.
 #[inline]
-fn count_cell(seen: Option<u16>, counts: &mut [u32])
+fn same_end(shown: &[Option<u16>], from: usize) -> usize
+    requires { from < length shown.now }
+    ensures after { from < result }
+    ensures few { result ≤ length shown.now }
+    ensures same { (k : ℕ) → from ≤ k → k < result → slice_get shown.now k ≡ slice_get shown.now from }
+{
+    for k in from + 1..shown.len() {
+        if shown[k] != shown[from] {
+            return k;
+        }
+    }
+    shown.len()
+}
+
+// Counts what so many cells show.
+#[inline]
+fn count_run(seen: Option<u16>, count: u32, counts: &mut [u32])
     requires there { IfSome seen (λ s. s < length counts.old) }
-    requires few { IfSome seen (λ s. slice_index_or counts.old s 0 ≤ 1048576) }
-    ensures told { (s : ℕ) → slice_index_or counts.new s 0 ≡ slice_index_or counts.old s 0 + (if shows s seen then 1 else 0) }
+    requires few { IfSome seen (λ s. slice_index_or counts.old s 0 + count ≤ 1048576) }
+    ensures told { (s : ℕ) → slice_index_or counts.new s 0 ≡ slice_index_or counts.old s 0 + (if shows s seen then count else 0) }
     ensures long { length counts.new ≡ length counts.old }
 {
     if let Some(s) = seen {
-        counts[usize::from(s)] += 1;
+        counts[usize::from(s)] += count;
     }
 }

@@ -95,8 +95,11 @@ fn add_row<A: Allocator, B: Allocator>(
     ensures after { OnOk result (AreBlocksBefore (cell cells.now) 0 (j + 1) (map (λ list. list.items) lists.new)) }
     ensures long { length lists.new ≡ length lists.old }
 {
-    for i in 0..cells.columns() {
+    let mut i = 0;
+    while i < cells.columns() {
         add_at(cells, i, j, lists)?;
+        // Behind its first cell no block begins in a run.
+        i = cells.same_end(i, j);
     }
     Ok(())
 }

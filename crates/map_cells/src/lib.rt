@@ -4,13 +4,17 @@
 
 mod block;
 mod cells;
+mod change;
 mod counts;
 mod ends;
 mod frame;
+mod front;
 mod grid;
 mod groups;
 pub mod laws;
+mod row;
 mod shown;
+mod way;
 
 pub use block::Block;
 pub use cells::Cells;

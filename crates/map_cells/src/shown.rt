@@ -43,6 +43,14 @@ impl<'l, 'a, A: Allocator> Shown<'l, 'a, A> {
         Ok(Shown { level, tree })
     }
 
+    // The level.
+    pub(crate) fn level(&self) -> &'l Level<'a>
+        ensures is { result.now ≡ self.now }
+        ensures sound { IsSound self.now }
+    {
+        self.level
+    }
+
     /// The sector that is shown at the point (x, y): where both coordinates are in -16384..16383 that of the point's ssector, unless
     /// the point is behind one of the ssector's segs. None elsewhere.
     pub fn at(&self, x: i32, y: i32) -> Option<u16>
@@ -68,16 +76,16 @@ fn is_before_segs(level: &Level<'_>, t: u16, point: Point) -> bool
     true
 }
 
-// Numbers of segs: from the first on those below the end.
+/// Numbers of segs: from the first on those below the end.
 #[derive(Clone, Copy)]
-struct SegRange {
-    first: usize,
-    end: usize,
+pub struct SegRange {
+    pub first: usize,
+    pub end: usize,
 }
 
-// The segs of an ssector.
+/// The segs of an ssector.
 #[inline]
-fn segs_of(level: &Level<'_>, t: u16) -> SegRange
+pub fn segs_of(level: &Level<'_>, t: u16) -> SegRange
     ensures { (i : ℕ) → IsSegOf level.now t i ↔ ((result.first ≤ i) × (i < result.end)) }
 {
     match level.ssectors().get(usize::from(t)) {
@@ -121,9 +129,9 @@ fn is_behind(level: &Level<'_>, i: usize, point: Point) -> bool
     }
 }
 
-// Below 0 where the point is behind: at most twice 65,535 by 49,151 in size, so more than 32 bits.
+/// Below 0 where the point is behind: at most twice 65,535 by 49,151 in size, so more than 32 bits.
 #[inline]
-fn cross(ends: &Ends, point: Point) -> i64
+pub fn cross(ends: &Ends, point: Point) -> i64
     ensures { result ≡ cross ends.now point }
 {
     let right = product(rise(&ends.from.y, &ends.to.y), run(&ends.from.x, point.x()));

@@ -1,20 +1,28 @@
-use Rattle.std.proofs.Common.{◌≡◌, ◌∙◌, map, subst, arith}
+use Rattle.std.proofs.Common.{◌≡◌, ◌∙◌, ◌+◌, ◌-◌, map, subst, arith}
 use Rattle.map_cells.specs.Cells.{cell}
 use Rattle.map_cells.specs.Groups.{AreBlocksBefore}
-use Rattle.map_cells.proofs.GroupLemmas.{before-next, before-row}
+use Rattle.map_cells.proofs.GroupLemmas.{before-next, before-row, before-same}
 use Rattle.map_cells.proofs.groups.add_row.Goals as goal
 
 pub loop-i-preserved : goal.loop-i-preserved
-loop-i-preserved g c = record {
-  before =
-      before-next (cell c.args.cells.now) c.loop-i.i c.args.j (map (λ list. list.items) c.loop-i.lists)
-      (map (λ list. list.items) c.add_at.new.lists) c.in_ok-add_at.ensures.adds c.loop-i.invariant.before;
-  long = c.in_ok-add_at.ensures.long ∙ c.loop-i.invariant.long;
-}
+loop-i-preserved g c =
+    let i = c.loop-i.i in
+    let end = c.same_end-i.result in
+    let after = c.same_end-i.ensures.after in
+    let to : i + 1 + (end - (i + 1)) ≡ end = omega (arith, after) in
+    let seen = cell c.args.cells.now in
+    let lists = map (λ list. list.items) c.add_at.new.lists in
+    let next = before-next seen i c.args.j (map (λ list. list.items) c.loop-i.lists) lists c.in_ok-add_at.ensures.adds c.loop-i.invariant.before in
+    record {
+      before = subst (λ k. AreBlocksBefore seen k c.args.j lists) to
+          (before-same seen i c.args.j lists (end - (i + 1)) (λ k from below. c.same_end-i.ensures.same k from (omega (arith, below, to))) next);
+      long = c.in_ok-add_at.ensures.long ∙ c.loop-i.invariant.long;
+      within = c.same_end-i.ensures.few;
+    }
 
 pub returns-clause-after : goal.returns-clause-after
 returns-clause-after g c =
-    let at : c.loop-i.i ≡ c.columns-i-end.result = omega arith in
-    before-row (cell c.args.cells.now) c.columns-i-end.result c.args.j (map (λ list. list.items) c.loop-i.lists)
-    c.columns-i-end.ensures.beside
+    let at : c.loop-i.i ≡ c.columns.result = omega (arith, c.loop-i.invariant.within, c.columns.ensures.value, c.loop-i-test.false) in
+    before-row (cell c.args.cells.now) c.columns.result c.args.j (map (λ list. list.items) c.loop-i.lists)
+    c.columns.ensures.beside
     (subst (λ n. AreBlocksBefore (cell c.args.cells.now) n c.args.j (map (λ list. list.items) c.loop-i.lists)) at c.loop-i.invariant.before)

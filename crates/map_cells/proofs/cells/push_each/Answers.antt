@@ -3,7 +3,7 @@ use Rattle.std.proofs.lemmas.Int.{to_z-of_z}
 use Rattle.map_cells.specs.Grid.{columns_of}
 use Rattle.map_cells.specs.Cells.{AddsRow}
 use Rattle.map_cells.proofs.CellLemmas.{AddsRow-none, AddsRow-more}
-use Rattle.map_cells.proofs.cells.push_row.Goals as goal
+use Rattle.map_cells.proofs.cells.push_each.Goals as goal
 
 pub loop-i-init : goal.loop-i-init
 loop-i-init g c = AddsRow-none c.args.shown.now c.args.grid c.args.j c.args.seen.now.items

@@ -1,0 +1,109 @@
+//! The columns of a row that are in front of an ssector's segs.
+
+ghost use Rattle.std.specs.Prelude.{◌≡◌, ◌≤◌, pos, int_lt};
+ghost use Rattle.map_cells.specs.Grid.{columns_of};
+ghost use Rattle.map_cells.specs.Shown.{cross};
+ghost use Rattle.map_cells.specs.Front.{IsCutBy, IsFrontOf, IsFrontOfSegs};
+
+use crate::change::{ColumnTest, change};
+use crate::ends::{Ends, seg_ends};
+use crate::row::Row;
+use crate::shown::{cross, segs_of};
+use map_geo::Point;
+use map_level::Level;
+
+/// The columns from the first up to one that isn't theirs.
+#[derive(Clone, Copy)]
+pub struct Span {
+    pub first: u16,
+    pub end: u16,
+}
+
+/// Those of some columns of a row that are behind none of the segs of an ssector.
+pub fn front_of_segs(level: &Level<'_>, t: u16, row: Row, span: Span) -> Span
+    requires ordered { span.first ≤ span.end }
+    requires within { span.end ≤ columns_of row.grid }
+    ensures { IsFrontOfSegs level.now t row span result }
+{
+    let segs = segs_of(level, t);
+    let mut front = span;
+    for i in segs.first..segs.end {
+        front = front_of_seg(level, i, row, front);
+    }
+    front
+}
+
+// Those that aren't behind the seg of a number.
+#[inline]
+fn front_of_seg(level: &Level<'_>, i: usize, row: Row, span: Span) -> Span
+    requires ordered { span.first ≤ span.end }
+    requires within { span.end ≤ columns_of row.grid }
+    ensures { IsFrontOf level.now i row span result }
+{
+    match seg_ends(level, i) {
+        Some(ends) => cut_by(&ends, row, span),
+        None => span,
+    }
+}
+
+// Whether a point of a row is behind a seg, or isn't.
+#[derive(Drop)]
+struct Behind<'e> {
+    ends: &'e Ends,
+    row: Row,
+    behind: bool,
+}
+
+impl ColumnTest for Behind<'_> {
+    ghost use Rattle.std.specs.Prelude.{◌≡◌, int_lt, pos};
+    ghost use Rattle.map_cells.specs.Grid.{columns_of};
+    ghost use Rattle.map_cells.specs.Row.{point_of};
+    ghost use Rattle.map_cells.specs.Shown.{cross};
+
+    ghost columns = { λ test. columns_of test.row.grid };
+
+    ghost holds = { λ test i. int_lt (cross test.ends.now (point_of test.row i)) (pos 0) ≡ test.behind };
+
+    #[inline]
+    fn holds(&self, i: u16) -> bool {
+        is_behind(self.ends, self.row.point(i)) == self.behind
+    }
+}
+
+// Whether a point is behind a seg.
+#[inline]
+fn is_behind(ends: &Ends, point: Point) -> bool
+    ensures { result ≡ int_lt (cross ends.now point) (pos 0) }
+{
+    cross(ends, point) < 0
+}
+
+// Those that aren't behind a seg of two ends.
+#[inline]
+fn cut_by(ends: &Ends, row: Row, span: Span) -> Span
+    requires ordered { span.first ≤ span.end }
+    requires within { span.end ≤ columns_of row.grid }
+    ensures { IsCutBy ends.now row span result }
+{
+    let Span { first, end } = span;
+    if first == end {
+        return span;
+    }
+    let last = end - 1;
+    let begins_behind = is_behind(ends, row.point(first));
+    let ends_behind = is_behind(ends, row.point(last));
+    match (begins_behind, ends_behind) {
+        (false, false) => span,
+        (true, true) => Span { first: end, end },
+        (false, true) => {
+            let behind = false;
+            let end = change(&Behind { ends, row, behind }, first, last);
+            Span { first, end }
+        }
+        (true, false) => {
+            let behind = true;
+            let first = change(&Behind { ends, row, behind }, first, last);
+            Span { first, end }
+        }
+    }
+}

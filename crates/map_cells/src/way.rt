@@ -1,0 +1,157 @@
+//! The way of a row's points down the nodes: they go down in one, and are parted where a partition parts them.
+
+ghost use Rattle.std.specs.Prelude.{◌≡◌, ◌<◌, ◌≤◌};
+ghost use Rattle.map_geo.specs.Partition.{partition_of};
+ghost use Rattle.map_geo.specs.Point.{IsInRange};
+ghost use Rattle.map_geo.specs.Side.{side_of};
+ghost use Rattle.map_tree.specs.Child.{place_of, root, root_of, word_at};
+ghost use Rattle.map_tree.specs.Sound.{IsSound};
+ghost use Rattle.map_cells.specs.Grid.{columns_of};
+ghost use Rattle.map_cells.specs.Way.{AllCome, ArePending, IsParted};
+
+use crate::change::{ColumnTest, change};
+use crate::row::Row;
+use arrayvec::ArrayVec;
+use le_rec::Node;
+use map_geo::{Partition, Side, side};
+use map_level::Level;
+
+/// The bit of a child word that says that it names an ssector (doomdata.h).
+pub const NF_SUBSECTOR: u16 = 0x8000;
+
+/// Columns of a row up to one that isn't theirs, and the child word of the place to which their points have come.
+#[derive(Clone, Copy, Default)]
+pub struct Part {
+    pub word: u16,
+    pub end: u16,
+}
+
+/// What of a row hasn't come to an ssector yet, the part that comes first last: of at most as many parts as the row has cells.
+pub type Pending = ArrayVec<Part, 1024>;
+
+/// The whole row at the root.
+pub fn start(level: &Level<'_>, row: Row) -> Part
+    requires { IsSound level.now }
+    ensures word { place_of result.word ≡ root level.now }
+    ensures end { result.end ≡ columns_of row.grid }
+{
+    Part {
+        word: root_word(level.nodes().len()),
+        end: row.columns(),
+    }
+}
+
+// The word that names the root: the last of so many nodes, or ssector 0 where there are none.
+fn root_word(nodes: usize) -> u16
+    requires { nodes ≤ 32767 }
+    ensures { place_of result ≡ root_of nodes }
+{
+    if nodes == 0 {
+        return NF_SUBSECTOR;
+    }
+    (nodes - 1) as u16
+}
+
+/// Goes down with the first of the columns that are in hand until its ssector, and leaves pending what is parted from it.
+pub fn go_down(level: &Level<'_>, row: Row, from: u16, hand: Part, pending: &mut Pending) -> Part
+    requires sound { IsSound level.now }
+    requires some { from < hand.end }
+    requires within { hand.end ≤ columns_of row.grid }
+    requires few { columns_of row.grid ≤ 1024 }
+    requires come { AllCome level.now row from hand.end hand.word }
+    requires pending { ArePending level.now row hand.end (columns_of row.grid) pending.old.items }
+    ensures ssector { 32768 ≤ result.word }
+    ensures some { from < result.end }
+    ensures within { result.end ≤ columns_of row.grid }
+    ensures come { AllCome level.now row from result.end result.word }
+    ensures pending { ArePending level.now row result.end (columns_of row.grid) pending.new.items }
+{
+    let nodes = level.nodes();
+    let mut hand = hand;
+    'turns: for _turn in 0..nodes.len() {
+        if hand.word >= NF_SUBSECTOR {
+            break;
+        }
+        let parted = part_at(&nodes.at(usize::from(hand.word)), row, from, hand.end);
+        if parted.near.end < hand.end {
+            pending.push(Part {
+                word: parted.far,
+                end: hand.end,
+            });
+        }
+        hand = parted.near;
+    }
+    hand
+}
+
+/// The first columns, and the word to which the others go, if there are some.
+#[derive(Clone, Copy)]
+pub struct Parted {
+    pub near: Part,
+    pub far: u16,
+}
+
+// Whether a point of a row lies on a side of a partition.
+#[derive(Drop)]
+struct OnSide {
+    row: Row,
+    partition: Partition,
+    side: Side,
+}
+
+impl ColumnTest for OnSide {
+    ghost use Rattle.std.specs.Prelude.{◌≡◌};
+    ghost use Rattle.map_geo.specs.Side.{side_of};
+    ghost use Rattle.map_cells.specs.Grid.{columns_of};
+    ghost use Rattle.map_cells.specs.Row.{point_of};
+
+    ghost columns = { λ test. columns_of test.row.grid };
+
+    ghost holds = { λ test i. side_of test.partition (point_of test.row i) ≡ test.side };
+
+    #[inline]
+    fn holds(&self, i: u16) -> bool {
+        side(self.row.point(i), self.partition) == self.side
+    }
+}
+
+// Parts the columns of a row at a node: those on the side of the first go to one child, the others to the other one.
+#[inline]
+fn part_at(node: &Node, row: Row, from: u16, end: u16) -> Parted
+    requires x_in { IsInRange node.now.x }
+    requires y_in { IsInRange node.now.y }
+    requires some { from < end }
+    requires within { end ≤ columns_of row.grid }
+    ensures { IsParted node.now row from end result }
+{
+    let partition = Partition::at(node);
+    let first = side(row.point(from), partition);
+    let last = side(row.point(end - 1), partition);
+    let test = OnSide {
+        row,
+        partition,
+        side: first,
+    };
+    Parted {
+        near: Part {
+            word: word_at(node, first),
+            end: if first == last {
+                end
+            } else {
+                change(&test, from, end - 1)
+            },
+        },
+        far: word_at(node, first.other()),
+    }
+}
+
+// A node's child word at a side.
+#[inline]
+fn word_at(node: &Node, side: Side) -> u16
+    ensures { result ≡ word_at node.now side }
+{
+    match side {
+        Side::Front => node.child0,
+        Side::Back => node.child1,
+    }
+}

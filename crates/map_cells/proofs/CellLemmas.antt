@@ -1,12 +1,11 @@
 -- Cells, row by row.
-use Rattle.std.proofs.Common.{◌≡◌, ◌↔◌, ◌∙◌, ℕ, zero, suc, ◌+◌, ◌-◌, ◌*◌, ◌<◌, ◌≤◌, replicate, inl, inr, List, [], ◌∷◌, ◌++◌, length, get_or, Option, Some, None, Result, Ok, Err, take, refl, sym, subst, ap, arith}
+use Rattle.std.proofs.Common.{◌≡◌, ◌↔◌, ◌∙◌, ℕ, zero, suc, ◌+◌, ◌-◌, ◌*◌, ◌<◌, ◌≤◌, replicate, inl, inr, List, [], ◌∷◌, ◌++◌, length, Option, Some, None, refl, sym, subst, ap, arith}
 use Rattle.std.proofs.Math.Nat.{mul-le-mul_right}
-use Rattle.std.specs.Prelude.{OnOk, if◌then◌else◌, is_ok, option_and_then}
-use Rattle.std.specs.declared.alloc.AllocError.{AllocError}
+use Rattle.std.specs.Prelude.{option_and_then}
 use Rattle.std.specs.List.{slice_get}
 use Rattle.std.proofs.lemmas.Bool.{cases_lt, lt-ltb, le-ltb}
-use Rattle.std.proofs.lemmas.List.{append_assoc, append-nil, length-append, take_all}
-use Rattle.std.proofs.lemmas.Option.{slice_get_past, slice_get_read}
+use Rattle.std.proofs.lemmas.List.{append_assoc, append-nil, length-append}
+use Rattle.std.proofs.lemmas.Option.{slice_get_past}
 use Rattle.map_level.specs.Level.{Level}
 use Rattle.map_cells.specs.Grid.{Grid, columns_of, rows_of, cell_x, cell_y}
 use Rattle.map_cells.specs.Cells.{Cells, IsWhole, cell, AreCells, AddsRow, GoesOn, TellsCell}
@@ -88,18 +87,6 @@ GoesOn-same level row from end o old ordered tells before added =
     (AddsRow-same level row.grid row.j from (end - from) before old o
     (λ i after below. tells i after (omega (arith, below, ordered))) added)
 
--- the same by a growth to a length
-pub GoesOn-resized : (level : Level) (row : Row) (from end : ℕ) (o : Option ℕ) (old new : List (Option ℕ)) (result : Result (Unit {0}) AllocError)
-    (len n : ℕ) → from ≤ end → len ≡ length old → n ≡ len + (end - from) → ((i : ℕ) → from ≤ i → i < end → TellsCell level row i o)
-    → new ≡ (if is_ok result then take n old ++ replicate (n - len) o else old)
-    → OnOk result (GoesOn level row from end old new)
-GoesOn-resized level row from end o old new (Err fault) len n ordered long more tells is = tt
-GoesOn-resized level row from end o old new (Ok done) len n ordered long more tells is =
-    let count : n - len ≡ end - from = omega (arith, more) in
-    let all : take n old ≡ old = take_all n old (omega (arith, long, more)) in
-    let shape : new ≡ old ++ replicate (end - from) o = is ∙ ap (λ xs. xs ++ replicate (n - len) o) all ∙ ap (λ k. old ++ replicate k o) count in
-    subst (λ xs. GoesOn level row from end old xs) (sym shape) (GoesOn-same level row from end o old ordered tells)
-
 -- the first n rows of cells
 pub record AreRows (level : Level) (grid : Grid) (n : ℕ) (seen : List (Option ℕ)) : Type 0 where
   pub long : length seen ≡ n * columns_of grid
@@ -164,16 +151,17 @@ cell-above cells i j whole past = elim (cases_lt i (columns_of cells.grid)) [
   | inr beside ↦ cell-beside cells i j beside
 ]
 
--- and what is read of one within
-pub cell-read : (cells : Cells) (columns rows i j : ℕ) (o : Option ℕ) → IsWhole cells
-    → columns ≡ columns_of cells.grid → rows ≡ rows_of cells.grid → i < columns → j < rows
-    → o ≡ get_or cells.shown (j * columns + i) o → o ≡ cell cells i j
-cell-read cells columns rows i j o whole wide high column row read =
-    let in_row : i < columns_of cells.grid = omega (arith, column, wide) in
-    let in_grid : j < rows_of cells.grid = omega (arith, row, high) in
-    let within = place_below (columns_of cells.grid) (rows_of cells.grid) i j in_row in_grid in
-    let at : o ≡ get_or cells.shown (j * columns_of cells.grid + i) o =
-    subst (λ c. o ≡ get_or cells.shown (j * c + i) o) wide read in
-    let there : slice_get cells.shown (j * columns_of cells.grid + i) ≡ Some o =
-    slice_get_read cells.shown (length cells.shown) (j * columns_of cells.grid + i) o refl (omega (arith, within, whole.long)) at in
-    sym (cell-inside cells i j in_row ∙ ap (option_and_then (λ s. s)) there)
+-- and what is got of one within
+pub cell-got : (cells : Cells) (columns i j : ℕ) (o : Option ℕ) → columns ≡ columns_of cells.grid → i < columns
+    → slice_get cells.shown (j * columns + i) ≡ Some o → o ≡ cell cells i j
+cell-got cells columns i j o wide column there =
+    let at : slice_get cells.shown (j * columns_of cells.grid + i) ≡ Some o =
+    subst (λ c. slice_get cells.shown (j * c + i) ≡ Some o) wide there in
+    sym (cell-inside cells i j (omega (arith, column, wide)) ∙ ap (option_and_then (λ s. s)) at)
+
+pub cell_place : (cells : Cells) (columns rows i j : ℕ) → IsWhole cells → columns ≡ columns_of cells.grid → rows ≡ rows_of cells.grid
+    → i < columns → j < rows → j * columns + i < length cells.shown
+cell_place cells columns rows i j whole wide high column row =
+    let within = place_below columns rows i j column row in
+    let all : rows * columns ≡ rows_of cells.grid * columns_of cells.grid = ap (λ a. a * columns) high ∙ ap (λ b. rows_of cells.grid * b) wide in
+    omega (arith, within, all, whole.long)

@@ -6,6 +6,7 @@ pub mod FrameLemmas
 pub mod RowLemmas
 pub mod WayLemmas
 pub mod FrontLemmas
+pub mod SeenLemmas
 pub mod ShownLemmas
 pub mod SpanLemmas
 pub mod CoverLemmas

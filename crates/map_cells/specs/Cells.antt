@@ -50,3 +50,9 @@ TellsCell level row i told = (s : ℕ) → (told ≡ Some s) ↔ IsShown level (
 abbrev pub GoesOn : Level → Row → ℕ → ℕ → List (Option ℕ) → List (Option ℕ) → Type 0
 GoesOn level row from end old new =
     (before : List (Option ℕ)) → AddsRow level row.grid row.j from before old → AddsRow level row.grid row.j end before new
+
+-- from column i of row j up to another all cells show the same
+pub record IsSameEnd (cells : Cells) (i j end : ℕ) : Type 0 where
+  pub after : i < end
+  pub few : end ≤ columns_of cells.grid
+  pub same : (c : ℕ) → i ≤ c → c < end → cell cells c j ≡ cell cells i j

@@ -5,6 +5,7 @@ pub mod Grid
 pub mod Row
 pub mod Way
 pub mod Front
+pub mod Seen
 pub mod Cells
 pub mod Counts
 pub mod Blocks

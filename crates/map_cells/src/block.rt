@@ -27,7 +27,22 @@ impl<A: Allocator> Cells<A> {
         ensures { (b : block.Block) → (result ≡ Some b) ↔ BeginsAt (cell self.now) i j b }
     {
         let sector = self.get(i, j)?;
-        let width = self.run_at(sector, i, j)?;
+        self.block_of_run(sector, i, j, self.same_end(i, j))
+    }
+
+    // The same where the cell shows the sector and those behind it do up to a column that doesn't.
+    #[inline]
+    pub(crate) fn block_of_run(&self, sector: u16, i: usize, j: usize, end: usize) -> Option<Block>
+        requires here { cell self.now i j ≡ Some sector }
+        requires column { i < end }
+        requires few { end ≤ 1024 }
+        requires low { j < 1024 }
+        requires row { j < rows_of self.now.grid }
+        requires all { (c : ℕ) → i ≤ c → c < end → cell self.now c j ≡ Some sector }
+        requires stops { cell self.now end j ≢ Some sector }
+        ensures { (b : block.Block) → (result ≡ Some b) ↔ BeginsAt (cell self.now) i j b }
+    {
+        let width = self.run_at(sector, i, j, end)?;
         if j > 0 && self.has_run(sector, i, j - 1, width) {
             return None;
         }
@@ -48,35 +63,21 @@ impl<A: Allocator> Cells<A> {
         self.get(i, j) == Some(sector)
     }
 
-    // How long the run is that begins in column i, which shows the sector; None where it begins on the left.
+    // How long the run is that begins in column i and goes up to another; None where it begins on the left.
     #[inline]
-    fn run_at(&self, sector: u16, i: usize, j: usize) -> Option<usize>
+    fn run_at(&self, sector: u16, i: usize, j: usize, end: usize) -> Option<usize>
         requires here { cell self.now i j ≡ Some sector }
-        requires within { i < columns_of self.now.grid }
+        requires column { i < end }
+        requires few { end ≤ 1024 }
+        requires all { (c : ℕ) → i ≤ c → c < end → cell self.now c j ≡ Some sector }
+        requires stops { cell self.now end j ≢ Some sector }
         ensures run { (n : ℕ) → (result ≡ Some n) ↔ IsRun (cell self.now) sector i j n }
         ensures few { IfSome result (λ n. i + n ≤ 1024) }
     {
         if i > 0 && self.shows(sector, i - 1, j) {
             return None;
         }
-        Some(self.run_end(sector, i, j) - i)
-    }
-
-    // The first column from one on that doesn't show the sector.
-    #[inline]
-    fn run_end(&self, sector: u16, i: usize, j: usize) -> usize
-        requires { i < columns_of self.now.grid }
-        ensures all { (c : ℕ) → i ≤ c → c < result → cell self.now c j ≡ Some sector }
-        ensures end { cell self.now result j ≢ Some sector }
-        ensures from { i ≤ result }
-        ensures few { result ≤ 1024 }
-    {
-        for c in i..self.columns() {
-            if !self.shows(sector, c, j) {
-                return c;
-            }
-        }
-        self.columns()
+        Some(end - i)
     }
 
     // Whether all columns from one to another show the sector.

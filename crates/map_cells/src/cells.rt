@@ -1,6 +1,6 @@
 //! Which sector each cell shows.
 
-ghost use Rattle.std.specs.Prelude.{◌≡◌, ◌<◌, ◌≤◌, ℕ, None, IfOk, IfSome, OnOk, OnSome, Some, length};
+ghost use Rattle.std.specs.Prelude.{◌≡◌, ◌≢◌, ◌<◌, ◌≤◌, ℕ, None, IfOk, IfSome, OnOk, OnSome, Some, length};
 ghost use Rattle.std.specs.List.{slice_get};
 ghost use Rattle.map_cells.specs.Grid.{columns_of, rows_of};
 ghost use Rattle.map_cells.specs.Cells.{cell, AddsRow, AreCells, GoesOn, TellsCell};
@@ -11,6 +11,7 @@ ghost use Rattle.map_tree.specs.Sound.{IsSound};
 use crate::front::{Span, front_of_segs};
 use crate::grid::Grid;
 use crate::row::Row;
+use crate::seen::Seen;
 use crate::shown::Shown;
 use crate::way::{NF_SUBSECTOR, Part, Pending, go_down, start};
 use map_level::Level;
@@ -23,25 +24,21 @@ pub struct Cells<A: Allocator = Global> {
     grid: Grid,
     columns: usize,
     rows: usize,
-    shown: Vec<Option<u16>, A>,
-    // A number above each sector that is shown.
-    bound: usize,
+    seen: Seen<A>,
 }
 
 impl<A: Allocator> Model for Cells<A> {
-    ghost use Rattle.std.specs.Prelude.{◌≡◌, ◌*◌, ◌<◌, ◌≤◌, ℕ, Some, length};
-    ghost use Rattle.std.specs.List.{slice_get};
+    ghost use Rattle.std.specs.Prelude.{◌≡◌};
     ghost use Rattle.map_cells.specs.Cells as cells;
     ghost use Rattle.map_cells.specs.Cells.{IsWhole};
     ghost use Rattle.map_cells.specs.Grid.{columns_of, rows_of};
 
     ghost Value = { cells.Cells };
 
-    ghost view = { λ c. record { grid = c.grid; shown = c.shown.items } };
+    ghost view = { λ c. record { grid = c.grid; shown = c.seen } };
 
-    ghost invariant = { λ c. IsWhole (record { grid = c.grid; shown = c.shown.items })
-        × (c.columns ≡ columns_of c.grid) × (c.rows ≡ rows_of c.grid)
-        × ((p s : ℕ) → slice_get c.shown.items p ≡ Some (Some s) → s < c.bound) × (c.bound ≤ 65536) };
+    ghost invariant = { λ c. IsWhole (record { grid = c.grid; shown = c.seen })
+        × (c.columns ≡ columns_of c.grid) × (c.rows ≡ rows_of c.grid) };
 }
 
 impl<A: Allocator> Cells<A> {
@@ -57,18 +54,16 @@ impl<A: Allocator> Cells<A> {
     {
         let columns = usize::from(grid.columns());
         let rows = usize::from(grid.rows());
-        let mut seen = Vec::with_capacity(alloc, rows * columns)?;
+        let mut seen = Seen::with_capacity(alloc, rows * columns)?;
         let mut pending = Pending::new();
         for j in 0..grid.rows() {
             push_row(shown, grid, j, &mut pending, &mut seen)?;
         }
-        let bound = sector_bound(&seen);
         Ok(Cells {
             grid,
             columns,
             rows,
-            shown: seen,
-            bound,
+            seen,
         })
     }
 
@@ -80,11 +75,11 @@ impl<A: Allocator> Cells<A> {
     }
 
     // What the cells show, row by row: at most 1,048,576.
-    pub(crate) fn shown(&self) -> &[Option<u16>]
+    pub(crate) fn seen(&self) -> &Seen<A>
         ensures value { result.now ≡ self.now.shown }
         ensures few { length result.now ≤ 1048576 }
     {
-        &self.shown
+        &self.seen
     }
 
     // A number above each sector that a cell shows.
@@ -93,7 +88,7 @@ impl<A: Allocator> Cells<A> {
         ensures listed { (p s : ℕ) → slice_get self.now.shown p ≡ Some (Some s) → s < result }
         ensures few { result ≤ 65536 }
     {
-        self.bound
+        self.seen.bound()
     }
 
     // How many cells a row has, at most 1024, and that what is outside the grid shows nothing.
@@ -119,19 +114,16 @@ impl<A: Allocator> Cells<A> {
     // The first column behind one whose cell shows something else, or the number of columns.
     #[inline]
     pub(crate) fn same_end(&self, i: usize, j: usize) -> usize
-        requires { i < columns_of self.now.grid }
+        requires column { i < columns_of self.now.grid }
+        requires row { j < rows_of self.now.grid }
         ensures after { i < result }
         ensures few { result ≤ columns_of self.now.grid }
+        ensures narrow { result ≤ 1024 }
         ensures same { (c : ℕ) → i ≤ c → c < result → cell self.now c j ≡ cell self.now i j }
+        ensures stops { (s : ℕ) → cell self.now i j ≡ Some s → cell self.now result j ≢ Some s }
     {
-        let columns = self.columns();
-        let shown = self.get(i, j);
-        for c in i + 1..columns {
-            if self.get(c, j) != shown {
-                return c;
-            }
-        }
-        columns
+        let start = j * self.columns;
+        self.seen.same_end(start + i, start + self.columns) - start
     }
 
     /// The sector that the cell in column i and row j shows; None outside the grid, too.
@@ -144,7 +136,7 @@ impl<A: Allocator> Cells<A> {
         if i >= self.columns || j >= self.rows {
             return None;
         }
-        self.shown[j * self.columns + i]
+        self.seen.get(j * self.columns + i)
     }
 }
 
@@ -154,10 +146,10 @@ fn push_row<A: Allocator, B: Allocator>(
     grid: Grid,
     j: u16,
     pending: &mut Pending,
-    seen: &mut Vec<Option<u16>, A>,
+    seen: &mut Seen<A>,
 ) -> Result<(), AllocError>
     requires { j < rows_of grid }
-    ensures { OnOk result (AddsRow shown.now grid j (columns_of grid) seen.old.items seen.new.items) }
+    ensures { OnOk result (AddsRow shown.now grid j (columns_of grid) seen.old seen.new) }
 {
     match Row::of(grid, j) {
         Some(row) => push_together(shown, row, pending, seen),
@@ -170,13 +162,13 @@ fn push_each<A: Allocator, B: Allocator>(
     shown: &Shown<'_, '_, B>,
     grid: Grid,
     j: u16,
-    seen: &mut Vec<Option<u16>, A>,
+    seen: &mut Seen<A>,
 ) -> Result<(), AllocError>
     requires { j < rows_of grid }
-    ensures { OnOk result (AddsRow shown.now grid j (columns_of grid) seen.old.items seen.new.items) }
+    ensures { OnOk result (AddsRow shown.now grid j (columns_of grid) seen.old seen.new) }
 {
     for i in 0..grid.columns() {
-        seen.push(shown.at(grid.x(i), grid.y(j)))?;
+        seen.push_same(shown.at(grid.x(i), grid.y(j)), 1)?;
     }
     Ok(())
 }
@@ -186,9 +178,9 @@ fn push_together<A: Allocator, B: Allocator>(
     shown: &Shown<'_, '_, B>,
     row: Row,
     pending: &mut Pending,
-    seen: &mut Vec<Option<u16>, A>,
+    seen: &mut Seen<A>,
 ) -> Result<(), AllocError>
-    ensures { OnOk result (AddsRow shown.now row.grid row.j (columns_of row.grid) seen.old.items seen.new.items) }
+    ensures { OnOk result (AddsRow shown.now row.grid row.j (columns_of row.grid) seen.old seen.new) }
 {
     let level = shown.level();
     pending.clear();
@@ -212,7 +204,7 @@ fn push_run<A: Allocator>(
     row: Row,
     from: u16,
     run: Part,
-    seen: &mut Vec<Option<u16>, A>,
+    seen: &mut Seen<A>,
 ) -> Result<(), AllocError>
     requires sound { IsSound level.now }
     requires valid { IsRowInRange row }
@@ -220,7 +212,7 @@ fn push_run<A: Allocator>(
     requires some { from < run.end }
     requires within { run.end ≤ columns_of row.grid }
     requires come { AllCome level.now row from run.end run.word }
-    ensures { OnOk result (GoesOn level.now row from run.end seen.old.items seen.new.items) }
+    ensures { OnOk result (GoesOn level.now row from run.end seen.old seen.new) }
 {
     let t = run.word - NF_SUBSECTOR;
     let span = Span {
@@ -242,43 +234,14 @@ fn push_same<A: Allocator>(
     from: u16,
     end: u16,
     same: Option<u16>,
-    seen: &mut Vec<Option<u16>, A>,
+    seen: &mut Seen<A>,
 ) -> Result<(), AllocError>
     requires ordered { from ≤ end }
     requires within { end ≤ columns_of row.grid }
     requires tells { (i : ℕ) → from ≤ i → i < end → TellsCell level.now row i same }
-    ensures { OnOk result (GoesOn level.now row from end seen.old.items seen.new.items) }
+    ensures { OnOk result (GoesOn level.now row from end seen.old seen.new) }
 {
     // Only the clauses speak of the level and the row.
     let (_level, _row) = (level, row);
-    seen.resize(seen.len() + usize::from(end - from), same)
-}
-
-// A number above each sector that is listed.
-fn sector_bound(shown: &[Option<u16>]) -> usize
-    ensures bound { (p s : ℕ) → slice_get shown.now p ≡ Some (Some s) → s < result }
-    ensures few { result ≤ 65536 }
-{
-    let mut bound = 0;
-    let mut last = None;
-    for k in 0..shown.len() {
-        // Most cells show what the one before them does.
-        if shown[k] != last {
-            last = shown[k];
-            bound = bound.max(above(last));
-        }
-    }
-    bound
-}
-
-// One more than a sector's number, 0 for none.
-#[inline]
-fn above(sector: Option<u16>) -> usize
-    ensures above { IfSome sector (λ s. s < result) }
-    ensures few { result ≤ 65536 }
-{
-    match sector {
-        Some(s) => usize::from(s) + 1,
-        None => 0,
-    }
+    seen.push_same(same, usize::from(end - from))
 }

@@ -5,6 +5,7 @@ ghost use Rattle.std.specs.List.{slice_get};
 ghost use Rattle.map_cells.specs.Counts.{shows};
 
 use crate::cells::Cells;
+use crate::seen::Seen;
 use std::alloc::{AllocError, Allocator, Global};
 use std::marker::Model;
 
@@ -30,7 +31,7 @@ impl<A: Allocator> Counts<A> {
         ensures { IfOk result (AreCounts cells.now) }
     {
         let mut counts = Vec::from_elem(alloc, 0, cells.sector_bound())?;
-        count_cells(cells.shown(), &mut counts);
+        count_cells(cells.seen(), &mut counts);
         Ok(Counts { counts })
     }
 
@@ -47,35 +48,19 @@ impl<A: Allocator> Counts<A> {
 }
 
 // Counts what cells show.
-fn count_cells(shown: &[Option<u16>], counts: &mut [u32])
-    requires bound { (p s : ℕ) → slice_get shown.now p ≡ Some (Some s) → s < length counts.old }
-    requires few { length shown.now ≤ 1048576 }
+fn count_cells<A: Allocator>(seen: &Seen<A>, counts: &mut [u32])
+    requires bound { (p s : ℕ) → slice_get seen.now p ≡ Some (Some s) → s < length counts.old }
+    requires few { length seen.now ≤ 1048576 }
     requires none { (s : ℕ) → slice_index_or counts.old s 0 ≡ 0 }
-    ensures told { (s : ℕ) → slice_index_or counts.new s 0 ≡ count_by (shows s) shown.now }
+    ensures told { (s : ℕ) → slice_index_or counts.new s 0 ≡ count_by (shows s) seen.now }
     ensures long { length counts.new ≡ length counts.old }
 {
     let mut from = 0;
-    while from < shown.len() {
-        let end = same_end(shown, from);
-        count_run(shown[from], (end - from) as u32, counts);
+    while from < seen.len() {
+        let end = seen.same_end(from, seen.len());
+        count_run(seen.get(from), (end - from) as u32, counts);
         from = end;
     }
-}
-
-// The first cell behind one that shows something else, or the number of cells.
-#[inline]
-fn same_end(shown: &[Option<u16>], from: usize) -> usize
-    requires { from < length shown.now }
-    ensures after { from < result }
-    ensures few { result ≤ length shown.now }
-    ensures same { (k : ℕ) → from ≤ k → k < result → slice_get shown.now k ≡ slice_get shown.now from }
-{
-    for k in from + 1..shown.len() {
-        if shown[k] != shown[from] {
-            return k;
-        }
-    }
-    shown.len()
 }
 
 // Counts what so many cells show.

@@ -2,8 +2,8 @@
 
 ghost use Rattle.std.specs.Prelude.{◌≡◌, ◌+◌, ◌<◌, ◌≤◌, ℕ, [], Some, IfOk, OnOk, length, map, slice_index_or};
 ghost use Rattle.std.specs.Vec.{vec_capacity};
-ghost use Rattle.map_cells.specs.Cells.{cell};
-ghost use Rattle.map_cells.specs.Grid.{rows_of};
+ghost use Rattle.map_cells.specs.Cells.{IsSameEnd, cell};
+ghost use Rattle.map_cells.specs.Grid.{columns_of, rows_of};
 ghost use Rattle.map_cells.specs.Groups.{AddsBlock, AreBlocksBefore, PushesBlock};
 
 use crate::block::Block;
@@ -90,6 +90,7 @@ fn add_row<A: Allocator, B: Allocator>(
     j: usize,
     lists: &mut [Vec<Block, A>],
 ) -> Result<(), AllocError>
+    requires row { j < rows_of cells.now.grid }
     requires bound { (i j s : ℕ) → cell cells.now i j ≡ Some s → s < length lists.old }
     requires before { AreBlocksBefore (cell cells.now) 0 j (map (λ list. list.items) lists.old) }
     ensures after { OnOk result (AreBlocksBefore (cell cells.now) 0 (j + 1) (map (λ list. list.items) lists.new)) }
@@ -97,32 +98,36 @@ fn add_row<A: Allocator, B: Allocator>(
 {
     let mut i = 0;
     while i < cells.columns() {
-        add_at(cells, i, j, lists)?;
         // Behind its first cell no block begins in a run.
-        i = cells.same_end(i, j);
+        i = add_at(cells, i, j, lists)?;
     }
     Ok(())
 }
 
-// Adds the block that begins at a cell, where one does.
+// Adds the block that begins at a cell, where one does, and answers the first column behind it whose cell shows something else.
 #[inline]
 fn add_at<A: Allocator, B: Allocator>(
     cells: &Cells<B>,
     i: usize,
     j: usize,
     lists: &mut [Vec<Block, A>],
-) -> Result<(), AllocError>
-    requires { (i j s : ℕ) → cell cells.now i j ≡ Some s → s < length lists.old }
+) -> Result<usize, AllocError>
+    requires column { i < columns_of cells.now.grid }
+    requires row { j < rows_of cells.now.grid }
+    requires bound { (i j s : ℕ) → cell cells.now i j ≡ Some s → s < length lists.old }
     ensures adds { OnOk result (AddsBlock (cell cells.now) i j (map (λ list. list.items) lists.old) (map (λ list. list.items) lists.new)) }
+    ensures end { IfOk result (IsSameEnd cells.now i j) }
     ensures long { length lists.new ≡ length lists.old }
 {
+    let end = cells.same_end(i, j);
     let Some(sector) = cells.get(i, j) else {
-        return Ok(());
+        return Ok(end);
     };
-    let Some(block) = cells.block_at(i, j) else {
-        return Ok(());
+    let Some(block) = cells.block_of_run(sector, i, j, end) else {
+        return Ok(end);
     };
-    push_block(lists, usize::from(sector), block)
+    push_block(lists, usize::from(sector), block)?;
+    Ok(end)
 }
 
 // Puts a block behind those of a sector.

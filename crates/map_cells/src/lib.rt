@@ -13,6 +13,7 @@ mod grid;
 mod groups;
 pub mod laws;
 mod row;
+mod seen;
 mod shown;
 mod way;
 

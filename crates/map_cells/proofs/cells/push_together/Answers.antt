@@ -13,7 +13,7 @@ loop-from-init g c =
     let whole = c.start-hand.ensures.end in
     record {
       within = omega arith;
-      added = AddsRow-none c.args.shown.now c.args.row.grid c.args.row.j c.args.seen.now.items;
+      added = AddsRow-none c.args.shown.now c.args.row.grid c.args.row.j c.args.seen.now;
       rest = λ some. (
         omega (arith, whole),
         omega (arith, whole),
@@ -41,7 +41,7 @@ loop-from-preserved-in-Some g c =
     let next = pending_pop c.args.shown.now c.args.row run.end columns c.pop.new.self.items c.in-Some.next left in
     record {
       within = c.go_down-run.ensures.within;
-      added = (subst (λ (level : Level). GoesOn level c.args.row c.loop-from.from run.end c.loop-from.seen.items c.push_run.new.seen.items)
-          c.level-level.ensures.is c.in_ok-push_run.ensures) c.args.seen.now.items c.loop-from.invariant.added;
+      added = (subst (λ (level : Level). GoesOn level c.args.row c.loop-from.from run.end c.loop-from.seen c.push_run.new.seen)
+          c.level-level.ensures.is c.in_ok-push_run.ensures) c.args.seen.now c.loop-from.invariant.added;
       rest = λ some. (next.0, next.1, next.2, next.3);
     }

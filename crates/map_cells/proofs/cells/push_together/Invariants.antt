@@ -7,7 +7,7 @@ use Rattle.map_cells.proofs.cells.push_together.Given as goal
 abbrev pub invariant-loop-from : goal.invariant-loop-from
 invariant-loop-from g l = record {
   within : l.from ≤ columns_of l.row.grid;
-  added : AddsRow l.shown l.row.grid l.row.j l.from l.fn.seen.items l.seen.items;
+  added : AddsRow l.shown l.row.grid l.row.j l.from l.fn.seen l.seen;
   rest : l.from < columns_of l.row.grid → (l.from < l.hand.end) × (l.hand.end ≤ columns_of l.row.grid)
       × AllCome l.shown l.row l.from l.hand.end l.hand.word
       × ArePending l.shown l.row l.hand.end (columns_of l.row.grid) l.pending.items;

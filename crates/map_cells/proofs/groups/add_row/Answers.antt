@@ -7,17 +7,17 @@ use Rattle.map_cells.proofs.groups.add_row.Goals as goal
 pub loop-i-preserved : goal.loop-i-preserved
 loop-i-preserved g c =
     let i = c.loop-i.i in
-    let end = c.same_end-i.result in
-    let after = c.same_end-i.ensures.after in
+    let end = c.in_ok-i.i in
+    let after = c.in_ok-i.ensures.end.after in
     let to : i + 1 + (end - (i + 1)) ≡ end = omega (arith, after) in
     let seen = cell c.args.cells.now in
     let lists = map (λ list. list.items) c.add_at.new.lists in
-    let next = before-next seen i c.args.j (map (λ list. list.items) c.loop-i.lists) lists c.in_ok-add_at.ensures.adds c.loop-i.invariant.before in
+    let next = before-next seen i c.args.j (map (λ list. list.items) c.loop-i.lists) lists c.in_ok-i.ensures.adds c.loop-i.invariant.before in
     record {
       before = subst (λ k. AreBlocksBefore seen k c.args.j lists) to
-          (before-same seen i c.args.j lists (end - (i + 1)) (λ k from below. c.same_end-i.ensures.same k from (omega (arith, below, to))) next);
-      long = c.in_ok-add_at.ensures.long ∙ c.loop-i.invariant.long;
-      within = c.same_end-i.ensures.few;
+          (before-same seen i c.args.j lists (end - (i + 1)) (λ k from below. c.in_ok-i.ensures.end.same k from (omega (arith, below, to))) next);
+      long = c.in_ok-i.ensures.long ∙ c.loop-i.invariant.long;
+      within = c.in_ok-i.ensures.end.few;
     }
 
 pub returns-clause-after : goal.returns-clause-after

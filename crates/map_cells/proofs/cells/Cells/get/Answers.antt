@@ -1,12 +1,12 @@
 use Rattle.std.proofs.Common.{◌∙◌, sym, ap, arith}
 use Rattle.map_cells.specs.Cells.{Cells, cell}
-use Rattle.map_cells.proofs.CellLemmas.{cell-beside, cell-above, cell-read}
+use Rattle.map_cells.proofs.CellLemmas.{cell-beside, cell-above, cell-got, cell_place}
 use Rattle.map_cells.proofs.cells.Cells.get.Goals as goal
 use Rattle.map_cells.proofs.cells.Cells.get.Goals.{then-i-self-via-then-i-self, then-i-self-via-else-i-self+then-j-self}
 
 pub returns-then-i-self-clause-value : goal.returns-then-i-self-clause-value
 returns-then-i-self-clause-value g c =
-    let cells : Cells = record { grid = c.self.inside.grid; shown = c.self.inside.shown.items } in
+    let cells : Cells = record { grid = c.self.inside.grid; shown = c.self.inside.seen } in
     let i = c.args.i in
     let j = c.args.j in
     elim c.then-i-self.branch [
@@ -20,9 +20,14 @@ returns-then-i-self-clause-value g c =
 
 pub returns-clause-value : goal.returns-clause-value
 returns-clause-value g c =
-    let cells : Cells = record { grid = c.self.inside.grid; shown = c.self.inside.shown.items } in
+    let cells : Cells = record { grid = c.self.inside.grid; shown = c.self.inside.seen } in
     let i = c.args.i in
     let j = c.args.j in
-    cell-read cells c.self.inside.columns c.self.inside.rows i j c.index.result.now
-    c.self.invariant.0 c.self.invariant.1 c.self.invariant.2 c.if-i-self.false c.if-j-self.false c.index.ensures
+    cell-got cells c.self.inside.columns i j c.get.result c.self.invariant.1 c.if-i-self.false c.get.ensures
     ∙ ap (λ (seen : Cells). cell seen i j) c.self.view_is
+
+pub get-requires : goal.get-requires
+get-requires g c =
+    let cells : Cells = record { grid = c.self.inside.grid; shown = c.self.inside.seen } in
+    cell_place cells c.self.inside.columns c.self.inside.rows c.args.i c.args.j c.self.invariant.0 c.self.invariant.1 c.self.invariant.2
+    c.if-i-self.false c.if-j-self.false

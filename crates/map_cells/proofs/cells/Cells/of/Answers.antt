@@ -6,14 +6,14 @@ use Rattle.map_cells.proofs.cells.Cells.of.Goals as goal
 
 pub loop-j-preserved : goal.loop-j-preserved
 loop-j-preserved g c =
-    AreRows-more c.args.shown.now c.args.grid c.loop-j.j c.loop-j.seen.items c.push_row.new.seen.items
+    AreRows-more c.args.shown.now c.args.grid c.loop-j.j c.loop-j.seen c.push_row.new.seen
     c.loop-j.invariant c.in_ok-push_row.ensures
 
 pub returns : goal.returns
 returns g c =
-    let cells : Cells = record { grid = c.args.grid; shown = c.loop-j.seen.items } in
+    let cells : Cells = record { grid = c.args.grid; shown = c.loop-j.seen } in
     let at : c.loop-j.j ≡ rows_of c.args.grid = omega (arith, c.rows-j-end.ensures.value) in
-    let rows = subst (λ n. AreRows c.args.shown.now c.args.grid n c.loop-j.seen.items) at c.loop-j.invariant in
+    let rows = subst (λ n. AreRows c.args.shown.now c.args.grid n c.loop-j.seen) at c.loop-j.invariant in
     let valid = c.columns.ensures.valid in (
       refl,
       AreCells-all c.args.shown.now cells (record { long = rows.long; columns = valid.columns; rows = valid.rows }) rows,

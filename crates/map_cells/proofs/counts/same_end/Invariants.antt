@@ -1,6 +1,0 @@
-use Rattle.std.proofs.Common.{◌≡◌, ℕ, ◌<◌, ◌≤◌}
-use Rattle.std.specs.List.{slice_get}
-use Rattle.map_cells.proofs.counts.same_end.Given as goal
-
-abbrev pub invariant-loop-k : goal.invariant-loop-k
-invariant-loop-k l = (n : ℕ) → l.fn.from ≤ n → n < l.k → slice_get l.shown n ≡ slice_get l.shown l.fn.from

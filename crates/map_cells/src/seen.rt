@@ -1,0 +1,121 @@
+//! What cells show, one after another.
+
+ghost use Rattle.std.specs.Prelude.{◌≡◌, ◌≢◌, ◌++◌, ◌<◌, ◌≤◌, ℕ, [], Some, IfOk, OnOk, length, replicate};
+ghost use Rattle.std.specs.List.{slice_get};
+ghost use Rattle.map_cells.specs.Seen.{seen_of};
+
+use std::alloc::{AllocError, Allocator, Global};
+use std::marker::Model;
+
+/// What cells show, in order: four bytes a cell. Two cells show the same where their codes are the same.
+#[derive(Drop)]
+pub struct Seen<A: Allocator = Global> {
+    // 0 where nothing is shown, and else one more than the sector's number.
+    codes: Vec<u32, A>,
+    // The greatest of them.
+    bound: u32,
+}
+
+impl<A: Allocator> Model for Seen<A> {
+    ghost use Rattle.std.specs.Prelude.{◌≤◌, ℕ, List, Option, map, slice_index_or};
+    ghost use Rattle.map_cells.specs.Seen.{seen_of};
+
+    ghost Value = { List (Option ℕ) };
+
+    ghost view = { λ s. map seen_of s.codes.items };
+
+    ghost invariant = { λ s. ((k : ℕ) → slice_index_or s.codes.items k 0 ≤ s.bound) × (s.bound ≤ 65536) };
+}
+
+impl<A: Allocator> Seen<A> {
+    /// Nothing yet, with room for so many cells.
+    pub fn with_capacity(alloc: A, room: usize) -> Result<Seen<A>, AllocError>
+        ensures { IfOk result (λ seen. seen ≡ []) }
+    {
+        let codes = Vec::with_capacity(alloc, room)?;
+        Ok(Seen { codes, bound: 0 })
+    }
+
+    /// So many cells more that show the same.
+    #[inline]
+    pub fn push_same(&mut self, shown: Option<u16>, count: usize) -> Result<(), AllocError>
+        requires { count ≤ 1024 }
+        ensures { OnOk result (self.new ≡ self.old ++ replicate count shown) }
+    {
+        let code = code_of(shown);
+        self.codes.resize(self.codes.len() + count, code)?;
+        if count > 0 {
+            self.bound = self.bound.max(code);
+        }
+        Ok(())
+    }
+
+    /// How many cells there are.
+    #[inline]
+    pub fn len(&self) -> usize
+        ensures { result ≡ length self.now }
+    {
+        self.codes.len()
+    }
+
+    /// What the cell at a place shows.
+    #[inline]
+    pub fn get(&self, place: usize) -> Option<u16>
+        requires { place < length self.now }
+        ensures { slice_get self.now place ≡ Some result }
+    {
+        shown_of(self.codes[place])
+    }
+
+    /// The first place from one up to another whose cell shows something else than the first.
+    #[inline]
+    pub fn same_end(&self, from: usize, to: usize) -> usize
+        requires some { from < to }
+        requires within { to ≤ length self.now }
+        ensures after { from < result }
+        ensures few { result ≤ to }
+        ensures same { (k : ℕ) → from ≤ k → k < result → slice_get self.now k ≡ slice_get self.now from }
+        ensures stops { result < to → slice_get self.now result ≢ slice_get self.now from }
+    {
+        let code = self.codes[from];
+        for k in from + 1..to {
+            if self.codes[k] != code {
+                return k;
+            }
+        }
+        to
+    }
+
+    /// A number above each sector that is shown.
+    #[inline]
+    pub fn bound(&self) -> usize
+        ensures listed { (p s : ℕ) → slice_get self.now p ≡ Some (Some s) → s < result }
+        ensures few { result ≤ 65536 }
+    {
+        self.bound as usize
+    }
+}
+
+// The code of what is shown.
+#[inline]
+fn code_of(shown: Option<u16>) -> u32
+    ensures is { seen_of result ≡ shown }
+    ensures few { result ≤ 65536 }
+{
+    match shown {
+        Some(sector) => u32::from(sector) + 1,
+        None => 0,
+    }
+}
+
+// What a code stands for.
+#[inline]
+fn shown_of(code: u32) -> Option<u16>
+    requires { code ≤ 65536 }
+    ensures { result ≡ seen_of code }
+{
+    if code == 0 {
+        return None;
+    }
+    Some((code - 1) as u16)
+}

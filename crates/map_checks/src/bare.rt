@@ -239,10 +239,13 @@ fn shows_lower(here: &Sector, there: &Sector) -> bool
     here.floor < there.floor
 }
 
+// Of most sidedefs the first byte tells that there is one.
+#[inline]
 fn is_no_texture(bytes: [u8; 8]) -> bool
     ensures { IsTrue result ↔ IsNoTexture bytes }
 {
-    Name8::stored(bytes) == Name8::stored(*b"-\0\0\0\0\0\0\0")
+    let [first, second, ..] = bytes;
+    first == b'-' && second == 0
 }
 
 fn is_sky(bytes: [u8; 8]) -> bool

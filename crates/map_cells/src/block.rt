@@ -58,7 +58,8 @@ impl<A: Allocator> Cells<A> {
     // Whether a cell shows the sector.
     #[inline]
     fn shows(&self, sector: u16, i: usize, j: usize) -> bool
-        ensures { IsTrue result ↔ (cell self.now i j ≡ Some sector) }
+        ensures shows { IsTrue result ↔ (cell self.now i j ≡ Some sector) }
+        ensures row { IsTrue result → j < rows_of self.now.grid }
     {
         self.get(i, j) == Some(sector)
     }
@@ -85,10 +86,12 @@ impl<A: Allocator> Cells<A> {
     fn shows_all(&self, sector: u16, from: usize, to: usize, j: usize) -> bool
         ensures { IsTrue result ↔ ((c : ℕ) → from ≤ c → c < to → cell self.now c j ≡ Some sector) }
     {
-        for c in from..to {
+        let mut c = from;
+        while c < to {
             if !self.shows(sector, c, j) {
                 return false;
             }
+            c = self.known_end(c, j);
         }
         true
     }

@@ -126,6 +126,18 @@ impl<A: Allocator> Cells<A> {
         self.seen.same_end(start + i, start + self.columns) - start
     }
 
+    // A column behind one up to which all cells of the row are known to show the same.
+    #[inline]
+    pub(crate) fn known_end(&self, i: usize, j: usize) -> usize
+        requires column { i < columns_of self.now.grid }
+        requires row { j < rows_of self.now.grid }
+        ensures after { i < result }
+        ensures same { (c : ℕ) → i ≤ c → c < result → cell self.now c j ≡ cell self.now i j }
+    {
+        let start = j * self.columns;
+        (self.seen.known_end(start + i) - start).min(self.columns)
+    }
+
     /// The sector that the cell in column i and row j shows; None outside the grid, too.
     #[inline]
     pub fn get(&self, i: usize, j: usize) -> Option<u16>

@@ -7,24 +7,28 @@ ghost use Rattle.map_cells.specs.Seen.{seen_of};
 use std::alloc::{AllocError, Allocator, Global};
 use std::marker::Model;
 
-/// What cells show, in order: four bytes a cell. Two cells show the same where their codes are the same.
+/// Above each code: a cell's number is its code, and this times how many cells behind it are known to show the same.
+const CODES: u32 = 131_072;
+
+/// What cells show, in order: four bytes a cell. Two cells show the same where their codes are the same: 0 where nothing is shown, and
+/// else one more than the sector's number. The first of cells that came together knows of the others.
 #[derive(Drop)]
 pub struct Seen<A: Allocator = Global> {
-    // 0 where nothing is shown, and else one more than the sector's number.
-    codes: Vec<u32, A>,
-    // The greatest of them.
+    numbers: Vec<u32, A>,
+    // The greatest code.
     bound: u32,
 }
 
 impl<A: Allocator> Model for Seen<A> {
     ghost use Rattle.std.specs.Prelude.{◌≤◌, ℕ, List, Option, map, slice_index_or};
-    ghost use Rattle.map_cells.specs.Seen.{seen_of};
+    ghost use Rattle.map_cells.specs.Seen.{code_in, AreKnown, shown_in};
 
     ghost Value = { List (Option ℕ) };
 
-    ghost view = { λ s. map seen_of s.codes.items };
+    ghost view = { λ s. map shown_in s.numbers.items };
 
-    ghost invariant = { λ s. ((k : ℕ) → slice_index_or s.codes.items k 0 ≤ s.bound) × (s.bound ≤ 65536) };
+    ghost invariant = { λ s. AreKnown s.numbers.items
+        × ((k : ℕ) → code_in (slice_index_or s.numbers.items k 0) ≤ s.bound) × (s.bound ≤ 65536) };
 }
 
 impl<A: Allocator> Seen<A> {
@@ -32,8 +36,8 @@ impl<A: Allocator> Seen<A> {
     pub fn with_capacity(alloc: A, room: usize) -> Result<Seen<A>, AllocError>
         ensures { IfOk result (λ seen. seen ≡ []) }
     {
-        let codes = Vec::with_capacity(alloc, room)?;
-        Ok(Seen { codes, bound: 0 })
+        let numbers = Vec::with_capacity(alloc, room)?;
+        Ok(Seen { numbers, bound: 0 })
     }
 
     /// So many cells more that show the same.
@@ -42,11 +46,14 @@ impl<A: Allocator> Seen<A> {
         requires { count ≤ 1024 }
         ensures { OnOk result (self.new ≡ self.old ++ replicate count shown) }
     {
-        let code = code_of(shown);
-        self.codes.resize(self.codes.len() + count, code)?;
-        if count > 0 {
-            self.bound = self.bound.max(code);
+        if count == 0 {
+            return Ok(());
         }
+        let code = code_of(shown);
+        let first = self.numbers.len();
+        self.numbers.resize(first + count, code)?;
+        self.numbers[first] = code + (count as u32 - 1) * CODES;
+        self.bound = self.bound.max(code);
         Ok(())
     }
 
@@ -55,7 +62,7 @@ impl<A: Allocator> Seen<A> {
     pub fn len(&self) -> usize
         ensures { result ≡ length self.now }
     {
-        self.codes.len()
+        self.numbers.len()
     }
 
     /// What the cell at a place shows.
@@ -64,7 +71,19 @@ impl<A: Allocator> Seen<A> {
         requires { place < length self.now }
         ensures { slice_get self.now place ≡ Some result }
     {
-        shown_of(self.codes[place])
+        shown_of(self.numbers[place] % CODES)
+    }
+
+    /// A place behind one up to which all cells are known to show the same.
+    #[inline]
+    pub fn known_end(&self, place: usize) -> usize
+        requires { place < length self.now }
+        ensures after { place < result }
+        ensures few { result ≤ length self.now }
+        ensures same { (k : ℕ) → place ≤ k → k < result → slice_get self.now k ≡ slice_get self.now place }
+    {
+        let behind = (self.numbers[place] / CODES) as usize;
+        place + behind + 1
     }
 
     /// The first place from one up to another whose cell shows something else than the first.
@@ -77,11 +96,13 @@ impl<A: Allocator> Seen<A> {
         ensures same { (k : ℕ) → from ≤ k → k < result → slice_get self.now k ≡ slice_get self.now from }
         ensures stops { result < to → slice_get self.now result ≢ slice_get self.now from }
     {
-        let code = self.codes[from];
-        for k in from + 1..to {
-            if self.codes[k] != code {
+        let code = self.numbers[from] % CODES;
+        let mut k = self.known_end(from);
+        while k < to {
+            if self.numbers[k] % CODES != code {
                 return k;
             }
+            k = self.known_end(k);
         }
         to
     }

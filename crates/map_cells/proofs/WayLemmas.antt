@@ -1,5 +1,5 @@
 -- The way of a row's points down the nodes.
-use Rattle.std.proofs.Common.{◌≡◌, ◌≢◌, ◌∙◌, inl, inr, ℕ, zero, suc, ◌+◌, ◌-◌, ◌<◌, ◌≤◌, refl, sym, ap, subst, List, [], ◌∷◌, ◌++◌, length, Option, Some, None, arith}
+use Rattle.std.proofs.Common.{◌≡◌, ◌≢◌, ◌∙◌, inl, inr, ℕ, zero, suc, ◌+◌, ◌-◌, ◌<◌, ◌≤◌, refl, sym, ap, subst, List, [], ◌∷◌, ◌++◌, get_or, length, Option, Some, None, arith}
 use Rattle.std.proofs.lemmas.Bool.{cases_lt, cond-false, le-ltb}
 use Rattle.std.specs.List.{slice_get}
 use Rattle.std.specs.Prelude.{IsSomeAnd}
@@ -13,12 +13,15 @@ use Rattle.map_geo.specs.Partition.{partition_of}
 use Rattle.map_geo.specs.Point.{Point, IsInRange}
 use Rattle.map_geo.specs.Side.{other, side_of}
 use Rattle.map_level.specs.Level.{Level}
+use Rattle.map_level.specs.SectorOf.{sector_of}
 use Rattle.map_tree.specs.Child.{child, node_count, place_of, root, side_at, word_at}
 use Rattle.map_tree.specs.Leaf.{IsLeaf}
 use Rattle.map_tree.specs.Paths.{Place, node, ssector}
 use Rattle.map_tree.specs.Sound.{IsSound}
-use Rattle.map_tree.proofs.DescentLemmas.{IsAt, at_deep, at_leaf, at_origin, place_below}
+use Rattle.map_tree.specs.SectorList.{ListsSectors}
+use Rattle.map_tree.proofs.DescentLemmas.{IsAt, at_deep, at_leaf, at_origin, leaf_within, place_below}
 use Rattle.map_tree.proofs.LeafLemmas.{OnWay, child_is, way_down, way_start}
+use Rattle.map_tree.proofs.SectorListLemmas.{listed_sector}
 use Rattle.map_tree.proofs.SoundLemmas.{some_ssector, tree_from_sound}
 use Rattle.map_cells.specs.Row.{Row, point_of}
 use Rattle.map_cells.specs.Way.{AllCome, ArePending, ComesTo, IsParted, SidesLead}
@@ -155,6 +158,17 @@ pub come_leaf : (level : Level) (row : Row) (from end word : ℕ) → IsSound le
 come_leaf level row from end word sound past come i after before =
     let one = come i after before in
     at_leaf level (point_of row i) word one.0 (word - 32768) (place_past word past) (comes_at level (point_of row i) one.0 word sound one.1)
+
+-- of which there is one, and the list of sectors has its sector
+pub come_listed : (level : Level) (row : Row) (from end word at : ℕ) (sectors : List ℕ) → IsSound level → 32768 ≤ word → from < end
+    → AllCome level row from end word → ListsSectors level sectors → at ≡ word - 32768
+    → (at < length sectors) × (sector_of level (word - 32768) ≡ Some (get_or sectors at 0))
+come_listed level row from end word at sectors sound past some come lists is =
+    let there = leaf_within level (point_of row from) (word - 32768) sound (come_leaf level row from end word sound past come from (omega arith) some) in
+    let long = lists.long in (
+      omega (arith, there, long, is),
+      listed_sector level sectors (word - 32768) 0 (get_or sectors at 0) lists there (ap (λ n. get_or sectors n 0) is),
+    )
 
 -- ---- what is pending
 pub pending_push : (level : Level) (row : Row) (from mid end word : ℕ) (parts : List Part) → from < mid → AllCome level row from mid word

@@ -6,6 +6,7 @@ ghost use Rattle.map_cells.specs.Grid.{columns_of, rows_of};
 ghost use Rattle.map_cells.specs.Cells.{cell, AddsRow, AreCells, GoesOn, TellsCell};
 ghost use Rattle.map_cells.specs.Row.{IsRowInRange};
 ghost use Rattle.map_cells.specs.Way.{AllCome};
+ghost use Rattle.map_tree.specs.SectorList.{ListsSectors};
 ghost use Rattle.map_tree.specs.Sound.{IsSound};
 
 use crate::front::{Span, front_of_segs};
@@ -13,8 +14,9 @@ use crate::grid::Grid;
 use crate::row::Row;
 use crate::seen::Seen;
 use crate::shown::Shown;
-use crate::way::{NF_SUBSECTOR, Part, Pending, go_down, start};
+use crate::way::{Part, Pending, go_down, start};
 use map_level::Level;
+use map_tree::NF_SUBSECTOR;
 use std::alloc::{AllocError, Allocator, Global};
 use std::marker::Model;
 
@@ -195,12 +197,13 @@ fn push_together<A: Allocator, B: Allocator>(
     ensures { OnOk result (AddsRow shown.now row.grid row.j (columns_of row.grid) seen.old seen.new) }
 {
     let level = shown.level();
+    let sectors = shown.sectors();
     pending.clear();
     let mut hand = start(level, row);
     let mut from = 0;
     while from < row.columns() {
         let run = go_down(level, row, from, hand, pending);
-        push_run(level, row, from, run, seen)?;
+        push_run(level, sectors, row, from, run, seen)?;
         from = run.end;
         if let Some(next) = pending.pop() {
             hand = next;
@@ -213,12 +216,14 @@ fn push_together<A: Allocator, B: Allocator>(
 #[inline]
 fn push_run<A: Allocator>(
     level: &Level<'_>,
+    sectors: &[u16],
     row: Row,
     from: u16,
     run: Part,
     seen: &mut Seen<A>,
 ) -> Result<(), AllocError>
     requires sound { IsSound level.now }
+    requires listed { ListsSectors level.now sectors.now }
     requires valid { IsRowInRange row }
     requires ssector { 32768 ≤ run.word }
     requires some { from < run.end }
@@ -232,7 +237,7 @@ fn push_run<A: Allocator>(
         end: run.end,
     };
     let front = front_of_segs(level, t, row, span);
-    let sector = level.ssector_sector(u32::from(t));
+    let sector = sectors[usize::from(t)];
     push_same(level, row, from, front.first, None, seen)?;
     push_same(level, row, front.first, front.end, Some(sector), seen)?;
     push_same(level, row, front.end, run.end, None, seen)

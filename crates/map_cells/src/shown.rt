@@ -4,6 +4,7 @@ ghost use Rattle.std.specs.Prelude.{◌≡◌, ◌↔◌, ◌<◌, ◌≤◌, �
 ghost use Rattle.std.specs.Prelude.{Some, None, IfOk, IsTrue};
 ghost use Rattle.map_geo.specs.Point.{IsInRange};
 ghost use Rattle.map_level.specs.Reading.{number_of};
+ghost use Rattle.map_tree.specs.SectorList.{ListsSectors};
 ghost use Rattle.map_tree.specs.Sound.{IsSound};
 ghost use Rattle.map_cells.specs.Shown.{cross, IsBehind, IsFromOn, IsSegOf, IsShown};
 
@@ -49,6 +50,13 @@ impl<'l, 'a, A: Allocator> Shown<'l, 'a, A> {
         ensures sound { IsSound self.now }
     {
         self.level
+    }
+
+    // The sector of each ssector, by its number.
+    pub(crate) fn sectors(&self) -> &[u16]
+        ensures { ListsSectors self.now result.now }
+    {
+        self.tree.sectors()
     }
 
     /// The sector that is shown at the point (x, y): where both coordinates are in -16384..16383 that of the point's ssector, unless

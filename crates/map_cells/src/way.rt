@@ -4,7 +4,7 @@ ghost use Rattle.std.specs.Prelude.{◌≡◌, ◌<◌, ◌≤◌};
 ghost use Rattle.map_geo.specs.Partition.{partition_of};
 ghost use Rattle.map_geo.specs.Point.{IsInRange};
 ghost use Rattle.map_geo.specs.Side.{side_of};
-ghost use Rattle.map_tree.specs.Child.{place_of, root, root_of, word_at};
+ghost use Rattle.map_tree.specs.Child.{place_of, root};
 ghost use Rattle.map_tree.specs.Sound.{IsSound};
 ghost use Rattle.map_cells.specs.Grid.{columns_of};
 ghost use Rattle.map_cells.specs.Way.{AllCome, ArePending, IsParted};
@@ -15,9 +15,7 @@ use arrayvec::ArrayVec;
 use le_rec::Node;
 use map_geo::{Partition, Side, side};
 use map_level::Level;
-
-/// The bit of a child word that says that it names an ssector (doomdata.h).
-pub const NF_SUBSECTOR: u16 = 0x8000;
+use map_tree::{NF_SUBSECTOR, root_word, word_at};
 
 /// Columns of a row up to one that isn't theirs, and the child word of the place to which their points have come.
 #[derive(Clone, Copy, Default)]
@@ -39,17 +37,6 @@ pub fn start(level: &Level<'_>, row: Row) -> Part
         word: root_word(level.nodes().len()),
         end: row.columns(),
     }
-}
-
-// The word that names the root: the last of so many nodes, or ssector 0 where there are none.
-fn root_word(nodes: usize) -> u16
-    requires { nodes ≤ 32767 }
-    ensures { place_of result ≡ root_of nodes }
-{
-    if nodes == 0 {
-        return NF_SUBSECTOR;
-    }
-    (nodes - 1) as u16
 }
 
 /// Goes down with the first of the columns that are in hand until its ssector, and leaves pending what is parted from it.
@@ -142,16 +129,5 @@ fn part_at(node: &Node, row: Row, from: u16, end: u16) -> Parted
             },
         },
         far: word_at(node, first.other()),
-    }
-}
-
-// A node's child word at a side.
-#[inline]
-fn word_at(node: &Node, side: Side) -> u16
-    ensures { result ≡ word_at node.now side }
-{
-    match side {
-        Side::Front => node.child0,
-        Side::Back => node.child1,
     }
 }

@@ -20,8 +20,10 @@ mod tree_faults;
 mod words;
 
 pub use counts::Counts;
+pub use pieces::word_at;
+pub use places::NF_SUBSECTOR;
 pub use sector_tree::SectorTree;
 pub use soundness::is_sound;
 pub use tally::Tally;
-pub use tree::Tree;
+pub use tree::{Tree, root_word};
 pub use tree_codes::{Nodes, tree_findings};

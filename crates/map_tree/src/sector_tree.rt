@@ -96,9 +96,9 @@ impl<'l, 'a, A: Allocator> SectorTree<'l, 'a, A> {
         self.tree.level()
     }
 
-    // The sector of each ssector.
+    /// The sector of each ssector, by its number.
     #[inline]
-    pub(crate) fn sectors(&self) -> &[u16]
+    pub fn sectors(&self) -> &[u16]
         ensures { ListsSectors self.now result.now }
     {
         &self.sectors

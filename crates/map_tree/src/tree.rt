@@ -102,8 +102,8 @@ impl<'l, 'a> Tree<'l, 'a> {
     }
 }
 
-// The word that names the root: the last of so many nodes, or ssector 0 where there are none.
-pub(crate) fn root_word(nodes: usize) -> u16
+/// The word that names the root: the last of so many nodes, or ssector 0 where there are none.
+pub fn root_word(nodes: usize) -> u16
     requires { nodes ≤ 32767 }
     ensures { place_of result ≡ root_of nodes }
 {

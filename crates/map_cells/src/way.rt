@@ -1,12 +1,14 @@
 //! The way of a row's points down the nodes: they go down in one, and are parted where a partition parts them.
 
-ghost use Rattle.std.specs.Prelude.{◌≡◌, ◌<◌, ◌≤◌};
+ghost use Rattle.std.specs.Prelude.{◌≡◌, ◌<◌, ◌≤◌, ℕ};
 ghost use Rattle.map_geo.specs.Partition.{partition_of};
 ghost use Rattle.map_geo.specs.Point.{IsInRange};
+ghost use Rattle.map_geo.specs.Side.{other, side_of};
 ghost use Rattle.map_geo.specs.Side.{side_of};
 ghost use Rattle.map_tree.specs.Child.{place_of, root};
 ghost use Rattle.map_tree.specs.Sound.{IsSound};
 ghost use Rattle.map_cells.specs.Grid.{columns_of};
+ghost use Rattle.map_cells.specs.Row.{point_of};
 ghost use Rattle.map_cells.specs.Way.{AllCome, ArePending, IsParted};
 
 use crate::change::{ColumnTest, change};
@@ -113,7 +115,6 @@ fn part_at(node: &Node, row: Row, from: u16, end: u16) -> Parted
 {
     let partition = Partition::at(node);
     let first = side(row.point(from), partition);
-    let last = side(row.point(end - 1), partition);
     let test = OnSide {
         row,
         partition,
@@ -122,12 +123,28 @@ fn part_at(node: &Node, row: Row, from: u16, end: u16) -> Parted
     Parted {
         near: Part {
             word: word_at(node, first),
-            end: if first == last {
-                end
-            } else {
-                change(&test, from, end - 1)
-            },
+            end: near_end(&test, from, end),
         },
         far: word_at(node, first.other()),
     }
+}
+
+// The first column behind one on a side whose point isn't there, or the end. A single column takes no test more.
+#[inline]
+fn near_end(test: &OnSide, from: u16, end: u16) -> u16
+    requires some { from < end }
+    requires within { end ≤ columns_of test.now.row.grid }
+    requires begins { side_of test.now.partition (point_of test.now.row from) ≡ test.now.side }
+    ensures some { from < result }
+    ensures within { result ≤ end }
+    ensures near { (i : ℕ) → from ≤ i → i < result
+        → side_of test.now.partition (point_of test.now.row i) ≡ test.now.side }
+    ensures far { (i : ℕ) → result ≤ i → i < end
+        → side_of test.now.partition (point_of test.now.row i) ≡ other test.now.side }
+{
+    let last = end - 1;
+    if last == from || test.holds(last) {
+        return end;
+    }
+    change(test, from, last)
 }

@@ -1,0 +1,32 @@
+use Rattle.std.proofs.Common.{◌≡◌, ◌-◌, refl, subst, arith}
+use Rattle.map_geo.specs.Side.{other, side_of}
+use Rattle.map_cells.specs.Row.{point_of}
+use Rattle.map_cells.proofs.RowLemmas.{side_between}
+use Rattle.map_cells.proofs.WayLemmas.{sides_differ}
+use Rattle.map_cells.proofs.way.near_end.Goals.{then-last-from-via-then-last-from, then-last-from-via-else-last-from+then-holds}
+use Rattle.map_cells.proofs.way.near_end.Goals as goal
+
+pub returns-then-last-from-clause-near : goal.returns-then-last-from-clause-near
+returns-then-last-from-clause-near c = λ i after before.
+    let test = c.args.test.now in
+    let begins = c.requires.begins in
+    elim c.then-last-from.branch [
+      | then-last-from-via-then-last-from w ↦
+          let same : c.args.from ≡ i = omega (arith, after, before, w.if-last-from.true) in
+          subst (λ k. side_of test.partition (point_of test.row k) ≡ test.side) same begins
+      | then-last-from-via-else-last-from+then-holds w ↦
+          side_between test.partition test.row test.side c.args.from i (c.args.end - 1) after (omega (arith, before)) begins
+          (w.if-holds.ensures.0 refl)
+    ]
+
+pub returns-clause-near : goal.returns-clause-near
+returns-clause-near c = λ i after before.
+    side_between c.args.test.now.partition c.args.test.now.row c.args.test.now.side c.args.from i (c.change.result - 1) after (omega (arith, before))
+    c.requires.begins c.change.ensures.before
+
+pub returns-clause-far : goal.returns-clause-far
+returns-clause-far c = λ i after before.
+    let test = c.args.test.now in
+    let here = sides_differ _ test.side c.change.ensures.here in
+    let last = sides_differ _ test.side (λ is. let yes = c.if-holds.ensures.1 is in let f : ⊥ = cc in f) in
+    side_between test.partition test.row (other test.side) c.change.result i (c.args.end - 1) after (omega (arith, before)) here last

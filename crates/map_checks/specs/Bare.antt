@@ -54,6 +54,12 @@ IsBarePart level side this other Upper =
 IsBarePart level side this other Lower =
     IsNoTexture this.bottom × IsSomeAnd other (λ back. BetweenSectors level ShowsLower this back)
 
+-- a part of this linedef's side can be seen and has no texture
+abbrev pub IsBareOf : Level → LineDef → Side → Part → Type 0
+IsBareOf level linedef side part =
+    IsSomeAnd (sidedef_at_side level linedef side)
+    (λ this. IsBarePart level side this (sidedef_at_side level linedef (behind side)) part)
+
 -- a part of a linedef's side can be seen and has no texture: the middle in front where there is no side behind, the upper where
 -- the ceiling behind is lower, the lower where the floor behind is higher
 abbrev pub IsBare : Level → ℕ → Side → Part → Type 0

@@ -5,10 +5,10 @@ ghost use Rattle.std.specs.Option.{option_map};
 ghost use Rattle.le_rec.specs.Name.{name_of};
 ghost use Rattle.map_level.specs.Reading.{linedef_under, number_of, sidedef_under};
 ghost use Rattle.map_level.specs.Links.{named, sectors_of};
-ghost use Rattle.map_checks.specs.Bare.{BetweenSectors, IsBare, IsBarePart, IsNoTexture, IsSky};
-ghost use Rattle.map_checks.specs.Bare.{behind, sidedef_at_side, ShowsLower, ShowsUpper};
+ghost use Rattle.map_checks.specs.Bare.{BetweenSectors, IsBare, IsBareOf, IsBarePart, IsNoTexture, IsSky, ShowsLower, ShowsUpper};
 ghost use Rattle.map_checks.specs.Warnings.{part_number, side_number, Tells, TellsBelow};
 ghost use Rattle.map_checks.specs.declared.warning.Part.TheVariants as part;
+ghost use Rattle.map_checks.specs.declared.warning.Side.TheVariants as side;
 ghost use Rattle.map_checks.specs.Holds.{HoldsOf};
 
 use crate::records::sidedef;
@@ -46,8 +46,9 @@ fn tell_linedef<A: Allocator>(
         (TellsBelow (HoldsOf level.now WarningCode.W2) (i * 6 + 6) told.new) }
     ensures most { OnOk result (told.new.most ≡ told.old.most) }
 {
-    tell_side(told, level, i, Side::Front)?;
-    tell_side(told, level, i, Side::Back)
+    let bare = bare_sides(level, i);
+    tell_side(told, level, i, Side::Front, bare.front)?;
+    tell_side(told, level, i, Side::Back, bare.back)
 }
 
 // Tells the bare parts of a linedef's side.
@@ -56,13 +57,16 @@ fn tell_side<A: Allocator>(
     level: &Level<'_>,
     i: u32,
     side: Side,
+    bare: BareParts,
 ) -> Result<(), AllocError>
-    requires { TellsBelow (HoldsOf level.now WarningCode.W2) (i * 6 + side_number side * 3) told.old }
+    requires below { TellsBelow (HoldsOf level.now WarningCode.W2) (i * 6 + side_number side * 3) told.old }
+    requires middle { IsTrue bare.middle ↔ IsBare level.now i side part.Middle }
+    requires upper { IsTrue bare.upper ↔ IsBare level.now i side part.Upper }
+    requires lower { IsTrue bare.lower ↔ IsBare level.now i side part.Lower }
     ensures told { OnOk result
         (TellsBelow (HoldsOf level.now WarningCode.W2) (i * 6 + side_number side * 3 + 3) told.new) }
     ensures most { OnOk result (told.new.most ≡ told.old.most) }
 {
-    let bare = bare_parts(level, i, side);
     tell_part(told, level, i, side, Part::Middle, bare.middle)?;
     tell_part(told, level, i, side, Part::Upper, bare.upper)?;
     tell_part(told, level, i, side, Part::Lower, bare.lower)
@@ -107,57 +111,78 @@ const NO_PARTS: BareParts = BareParts {
     lower: false,
 };
 
-// Which parts of a linedef's side are bare.
-fn bare_parts(level: &Level<'_>, i: u32, side: Side) -> BareParts
-    ensures middle { IsTrue result.middle ↔ IsBare level.now i side part.Middle }
-    ensures upper { IsTrue result.upper ↔ IsBare level.now i side part.Upper }
-    ensures lower { IsTrue result.lower ↔ IsBare level.now i side part.Lower }
+// Which parts of a linedef's two sides are bare.
+#[derive(Clone, Copy)]
+struct BareSides {
+    front: BareParts,
+    back: BareParts,
+}
+
+/// Those of a linedef that isn't there.
+const NO_SIDES: BareSides = BareSides {
+    front: NO_PARTS,
+    back: NO_PARTS,
+};
+
+// Which parts of a linedef's sides are bare.
+fn bare_sides(level: &Level<'_>, i: u32) -> BareSides
+    ensures front_middle { IsTrue result.front.middle ↔ IsBare level.now i side.Front part.Middle }
+    ensures front_upper { IsTrue result.front.upper ↔ IsBare level.now i side.Front part.Upper }
+    ensures front_lower { IsTrue result.front.lower ↔ IsBare level.now i side.Front part.Lower }
+    ensures back_middle { IsTrue result.back.middle ↔ IsBare level.now i side.Back part.Middle }
+    ensures back_upper { IsTrue result.back.upper ↔ IsBare level.now i side.Back part.Upper }
+    ensures back_lower { IsTrue result.back.lower ↔ IsBare level.now i side.Back part.Lower }
 {
     match linedef_at(level, i as usize) {
-        Some(linedef) => parts_of_side(level, &linedef, side),
-        None => NO_PARTS,
+        Some(linedef) => sides_of_linedef(level, &linedef),
+        None => NO_SIDES,
     }
 }
 
-fn parts_of_side(level: &Level<'_>, linedef: &LineDef, side: Side) -> BareParts
-    ensures middle { let under = linedef_under level.now.reading linedef.now in
-        IsTrue result.middle ↔ IsSomeAnd (sidedef_at_side level.now under side)
-        (λ this. IsBarePart level.now side this (sidedef_at_side level.now under (behind side)) part.Middle) }
-    ensures upper { let under = linedef_under level.now.reading linedef.now in
-        IsTrue result.upper ↔ IsSomeAnd (sidedef_at_side level.now under side)
-        (λ this. IsBarePart level.now side this (sidedef_at_side level.now under (behind side)) part.Upper) }
-    ensures lower { let under = linedef_under level.now.reading linedef.now in
-        IsTrue result.lower ↔ IsSomeAnd (sidedef_at_side level.now under side)
-        (λ this. IsBarePart level.now side this (sidedef_at_side level.now under (behind side)) part.Lower) }
+// The same of a linedef that is there: each of its sidedefs is read once, for its own side and for the one behind.
+fn sides_of_linedef(level: &Level<'_>, linedef: &LineDef) -> BareSides
+    ensures front_middle { IsTrue result.front.middle
+        ↔ IsBareOf level.now (linedef_under level.now.reading linedef.now) side.Front part.Middle }
+    ensures front_upper { IsTrue result.front.upper
+        ↔ IsBareOf level.now (linedef_under level.now.reading linedef.now) side.Front part.Upper }
+    ensures front_lower { IsTrue result.front.lower
+        ↔ IsBareOf level.now (linedef_under level.now.reading linedef.now) side.Front part.Lower }
+    ensures back_middle { IsTrue result.back.middle
+        ↔ IsBareOf level.now (linedef_under level.now.reading linedef.now) side.Back part.Middle }
+    ensures back_upper { IsTrue result.back.upper
+        ↔ IsBareOf level.now (linedef_under level.now.reading linedef.now) side.Back part.Upper }
+    ensures back_lower { IsTrue result.back.lower
+        ↔ IsBareOf level.now (linedef_under level.now.reading linedef.now) side.Back part.Lower }
 {
-    let Some(this) = sidedef_at_side(level, linedef, side) else {
+    let front = sidedef(level, linedef.side0);
+    let back = sidedef(level, linedef.side1);
+    BareSides {
+        front: bare_parts(level, Side::Front, &front, &back),
+        back: bare_parts(level, Side::Back, &back, &front),
+    }
+}
+
+// Which parts of a side are bare, given its sidedef and the one behind.
+fn bare_parts(
+    level: &Level<'_>,
+    side: Side,
+    this: &Option<SideDef>,
+    other: &Option<SideDef>,
+) -> BareParts
+    ensures middle { let under = option_map (sidedef_under level.now.reading) in IsTrue result.middle
+        ↔ IsSomeAnd (under this.now) (λ this. IsBarePart level.now side this (under other.now) part.Middle) }
+    ensures upper { let under = option_map (sidedef_under level.now.reading) in IsTrue result.upper
+        ↔ IsSomeAnd (under this.now) (λ this. IsBarePart level.now side this (under other.now) part.Upper) }
+    ensures lower { let under = option_map (sidedef_under level.now.reading) in IsTrue result.lower
+        ↔ IsSomeAnd (under this.now) (λ this. IsBarePart level.now side this (under other.now) part.Lower) }
+{
+    let Some(this) = this else {
         return NO_PARTS;
     };
-    let other = sidedef_at_side(level, linedef, behind(side));
     BareParts {
-        middle: is_bare_part(level, side, &this, &other, Part::Middle),
-        upper: is_bare_part(level, side, &this, &other, Part::Upper),
-        lower: is_bare_part(level, side, &this, &other, Part::Lower),
-    }
-}
-
-fn behind(side: Side) -> Side
-    ensures { result ≡ behind side }
-{
-    match side {
-        Side::Front => Side::Back,
-        Side::Back => Side::Front,
-    }
-}
-
-// The sidedef of a linedef's side.
-fn sidedef_at_side(level: &Level<'_>, linedef: &LineDef, side: Side) -> Option<SideDef>
-    ensures { option_map (sidedef_under level.now.reading) result
-        ≡ sidedef_at_side level.now (linedef_under level.now.reading linedef.now) side }
-{
-    match side {
-        Side::Front => sidedef(level, linedef.side0),
-        Side::Back => sidedef(level, linedef.side1),
+        middle: is_bare_part(level, side, this, other, Part::Middle),
+        upper: is_bare_part(level, side, this, other, Part::Upper),
+        lower: is_bare_part(level, side, this, other, Part::Lower),
     }
 }
 

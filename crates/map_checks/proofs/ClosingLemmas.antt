@@ -1,9 +1,9 @@
 -- Sides by their numbers in order, and the vertexes at which sectors aren't closed.
 use Rattle.std.proofs.Common.{◌≡◌, ◌≢◌, ℕ, zero, suc, ◌+◌, ◌-◌, ◌*◌, ◌/◌, ◌<◌, ◌≤◌, Bool, true, false, inl, inr, List, [], ◌∷◌, ◌++◌, length, get_or, map, take, min, Some, refl, sym, ap, subst, ◌∙◌, arith}
-use Rattle.std.specs.Prelude.{◌==◌, ◌&&◌, ◌%◌, ◌^◌, ◌↔◌, All, cond, count_by}
+use Rattle.std.specs.Prelude.{◌==◌, ◌&&◌, ◌%◌, ◌^◌, ◌↔◌, ⊤, ℤ, pos, negsuc, Option, None, All, IfSome, cond, count_by, option_and_then, option_to_list}
 use Rattle.std.specs.List.Sorted.{IsNonDecreasing, IsPermutation, IsSorted}
 use Rattle.std.specs.Ordering.{nat_cmp}
-use Rattle.std.proofs.lemmas.Bool.{cases_eq, cases_lt, eq-eqb, ne_eqb}
+use Rattle.std.proofs.lemmas.Bool.{cases_eq, cases_lt, eq-eqb, le-ltb, lt-ltb, ne_eqb}
 use Rattle.std.specs.List.{flat_map, slice_get}
 use Rattle.std.proofs.lemmas.List.{append-nil, append_assoc, flat_map_more, take_all, take_more}
 use Rattle.std.proofs.lemmas.Option.{get_or_from_slice_get, slice_get_within}
@@ -17,7 +17,10 @@ use Rattle.map_checks.specs.declared.closing.SideRun.{SideRun}
 use Rattle.map_checks.specs.declared.warning.Warning.{Warning}
 use Rattle.map_checks.specs.declared.warning.Warning.TheVariants.{Unclosed}
 use Rattle.map_checks.specs.declared.warning.WarningCode.TheVariants.{W1}
-use Rattle.map_checks.specs.Closing.{runs_of, runs_of_linedef, leaving, reaching, IsUnclosed}
+use Rattle.map_checks.specs.Closing.{run_of, runs_of, runs_of_linedef, leaving, reaching, IsUnclosed}
+use Rattle.map_checks.specs.Balance.{AreBalanced, end_in, sector_in}
+use Rattle.map_level.specs.Links.{linedefs_of, sectors_of, vertexes_of}
+use Rattle.map_level.specs.SectorOf.{number_named, sidedef_named}
 use Rattle.map_checks.specs.RunNumbers.{pair_number, numbers_of, IsShortRun, AddsRuns, AreRunNumbers, pair_bound}
 use Rattle.map_checks.specs.Warnings.{rank}
 use Rattle.map_checks.specs.Holds.{HoldsOf}
@@ -197,22 +200,16 @@ in_order level xs ys adds moved sorted = record {
   short = adds.short;
 }
 
-module _ (level : Level) (numbers : List ℕ) (are : AreRunNumbers level numbers) where
-  reaching_is : (s v : ℕ) → v < 65536 → reaching level s v ≡ count_by (λ n. n == pair_number s v * 2) numbers
-  reaching_is s v hv = sym (are.counts (pair_number s v * 2) ∙ reach_counted (runs_of level) s v hv are.short)
-
-  leaving_is : (s v : ℕ) → v < 65536 → leaving level s v ≡ count_by (λ n. n == pair_number s v * 2 + 1) numbers
-  leaving_is s v hv = sym (are.counts (pair_number s v * 2 + 1) ∙ leave_counted (runs_of level) s v hv are.short)
-
+module _ (level : Level) (short : All IsShortRun (runs_of level)) where
   reaching_past : (s v : ℕ) → 65536 ≤ v → reaching level s v ≡ 0
   reaching_past s v past = count_none (λ run. (run.sector == s) && (run.to == v)) (runs_of level)
       (All-weaker IsShortRun (λ run. ((run.sector == s) && (run.to == v)) ≡ false)
-      (λ run short. neither (run.sector == s) (run.to == v) (ne_eqb run.to v (λ e. omega (arith, e, past, short.to)))) (runs_of level) are.short)
+      (λ run own. neither (run.sector == s) (run.to == v) (ne_eqb run.to v (λ e. omega (arith, e, past, own.to)))) (runs_of level) short)
 
   leaving_past : (s v : ℕ) → 65536 ≤ v → leaving level s v ≡ 0
   leaving_past s v past = count_none (λ run. (run.sector == s) && (run.from == v)) (runs_of level)
       (All-weaker IsShortRun (λ run. ((run.sector == s) && (run.from == v)) ≡ false)
-      (λ run short. neither (run.sector == s) (run.from == v) (ne_eqb run.from v (λ e. omega (arith, e, past, short.from)))) (runs_of level) are.short)
+      (λ run own. neither (run.sector == s) (run.from == v) (ne_eqb run.from v (λ e. omega (arith, e, past, own.from)))) (runs_of level) short)
 
   -- a sector is unclosed at vertexes of 16 bits alone
   unclosed_short : (s v : ℕ) → IsUnclosed level s v → v < 65536
@@ -221,9 +218,16 @@ module _ (level : Level) (numbers : List ℕ) (are : AreRunNumbers level numbers
     | inr past ↦ absurd (is (leaving_past s v past ∙ sym (reaching_past s v past)))
   ]
 
+module _ (level : Level) (numbers : List ℕ) (are : AreRunNumbers level numbers) where
+  reaching_is : (s v : ℕ) → v < 65536 → reaching level s v ≡ count_by (λ n. n == pair_number s v * 2) numbers
+  reaching_is s v hv = sym (are.counts (pair_number s v * 2) ∙ reach_counted (runs_of level) s v hv are.short)
+
+  leaving_is : (s v : ℕ) → v < 65536 → leaving level s v ≡ count_by (λ n. n == pair_number s v * 2 + 1) numbers
+  leaving_is s v hv = sym (are.counts (pair_number s v * 2 + 1) ∙ leave_counted (runs_of level) s v hv are.short)
+
   pub unclosed_alone : (s v : ℕ) → v < 65536 → (w : Warning) → HoldsOf level W1 w → rank w ≡ pair_number s v → w ≡ Unclosed s v
   unclosed_alone s v hv (Unclosed x y) h e =
-      let hy = unclosed_short x y h.1 in
+      let hy = unclosed_short level are.short x y h.1 in
       let one : x ≡ s = omega (arith, hv, hy, e) in
       let two : y ≡ v = omega (arith, hv, hy, e) in
       rw (one, two) refl
@@ -232,7 +236,7 @@ module _ (level : Level) (numbers : List ℕ) (are : AreRunNumbers level numbers
   -- a pair of which there is no number is closed
   pub unclosed_there : (n : ℕ) → ((j : ℕ) → j < length numbers → get_or numbers j 0 / 2 ≢ n) → (w : Warning) → HoldsOf level W1 w → rank w ≢ n
   unclosed_there n none (Unclosed s v) h e =
-      let hv = unclosed_short s v h.1 in
+      let hv = unclosed_short level are.short s v h.1 in
       let even = count_nowhere numbers (pair_number s v * 2) (λ j below is. none j below (omega (arith, is, e))) in
       let odd = count_nowhere numbers (pair_number s v * 2 + 1) (λ j below is. none j below (omega (arith, is, e))) in
       h.1 (leaving_is s v hv ∙ odd ∙ sym even ∙ sym (reaching_is s v hv))
@@ -290,6 +294,97 @@ module _ (level : Level) (numbers : List ℕ) (are : AreRunNumbers level numbers
       let reach : reaching level s v ≡ m - k = reaching_is s v hv ∙ ap (λ p. count_by (λ n. n == p * 2) numbers) is ∙ evens in
       let leave : leaving level s v ≡ e - m = leaving_is s v hv ∙ ap (λ p. count_by (λ n. n == p * 2 + 1) numbers) is ∙ odds in
       (λ other. (refl, λ same. other (sym leave ∙ same ∙ reach)), λ h same. h.1 (leave ∙ same ∙ sym reach))
+
+-- the sector and the vertexes of a side are there
+record IsRunIn (level : Level) (run : SideRun) : Type 0 where
+  sector : run.sector < length (sectors_of level)
+  from : run.from < length (vertexes_of level)
+  to : run.to < length (vertexes_of level)
+
+then_some : {A B : Type 0} (o : Option A) (f : A → Option B) (P : A → Type 0) (Q : B → Type 0) → IfSome o P
+    → ((x : A) → P x → IfSome (f x) Q) → IfSome (option_and_then f o) Q
+then_some None f P Q some next = tt
+then_some (Some x) f P Q some next = next x some
+
+any_some : {A : Type 0} (o : Option A) → IfSome o (λ _. ⊤)
+any_some None = tt
+any_some (Some x) = tt
+
+number_below : (count : ℕ) (index : ℤ) → IfSome (number_named count index) (λ n. n < count)
+number_below count (pos n) = elim (cases_lt n count) [
+  | inl below ↦ rw (lt-ltb n count below) below
+  | inr past ↦ rw (le-ltb n count past) tt
+]
+number_below count (negsuc n) = tt
+
+run_within : (level : Level) (side start end : ℤ) → IfSome (run_of level side start end) (IsRunIn level)
+run_within level side start end =
+    let sectors = length (sectors_of level) in
+    let vertexes = length (vertexes_of level) in
+    then_some (sidedef_named level side) _ (λ _. ⊤) (IsRunIn level) (any_some (sidedef_named level side)) (λ sidedef _.
+    then_some (number_named sectors sidedef.sector) _ (λ s. s < sectors) (IsRunIn level) (number_below sectors sidedef.sector) (λ s hs.
+    then_some (number_named vertexes start) _ (λ v. v < vertexes) (IsRunIn level) (number_below vertexes start) (λ v hv.
+    then_some (number_named vertexes end) _ (λ v. v < vertexes) (IsRunIn level) (number_below vertexes end) (λ w hw.
+    record { sector = hs; from = hv; to = hw }))))
+
+listed : (P : SideRun → Type 0) (o : Option SideRun) → IfSome o P → All P (option_to_list o)
+listed P None some = All-nil P
+listed P (Some run) some = All-cons P run [] some (All-nil P)
+
+runs_within : (level : Level) (linedefs : List LineDef) → All (IsRunIn level) (flat_map (runs_of_linedef level) linedefs)
+runs_within level [] = All-nil (IsRunIn level)
+runs_within level (d ∷ linedefs) =
+    let front = run_of level d.side0 d.v1 d.v2 in
+    let back = run_of level d.side1 d.v2 d.v1 in
+    All-append (IsRunIn level) (runs_of_linedef level d) (flat_map (runs_of_linedef level) linedefs)
+    (All-append (IsRunIn level) (option_to_list front) (option_to_list back)
+    (listed (IsRunIn level) front (run_within level d.side0 d.v1 d.v2)) (listed (IsRunIn level) back (run_within level d.side1 d.v2 d.v1)))
+    (runs_within level linedefs)
+
+-- so the numbers of sides have sectors and ends below bounds
+sectors_within : (level : Level) (runs : List SideRun) → All IsShortRun runs → All (IsRunIn level) runs
+    → All (λ n. sector_in n < min (length (sectors_of level)) 65536) (numbers_of runs)
+sectors_within level [] short inside = All-nil (λ n. sector_in n < min (length (sectors_of level)) 65536)
+sectors_within level (run ∷ runs) short inside =
+    let P : ℕ → Type 0 = λ n. sector_in n < min (length (sectors_of level)) 65536 in
+    let own = All-head IsShortRun run runs short in
+    let here = All-head (IsRunIn level) run runs inside in
+    let rest = sectors_within level runs (All-tail IsShortRun run runs short) (All-tail (IsRunIn level) run runs inside) in
+    let to = pair_number run.sector run.to * 2 in
+    let from = pair_number run.sector run.from * 2 + 1 in
+    All-cons P to (from ∷ numbers_of runs) (omega (arith, own.sector, own.to, here.sector))
+    (All-cons P from (numbers_of runs) (omega (arith, own.sector, own.from, here.sector)) rest)
+
+ends_within : (level : Level) (runs : List SideRun) → All IsShortRun runs → All (IsRunIn level) runs
+    → All (λ n. end_in n < min (length (vertexes_of level)) 65536 * 2) (numbers_of runs)
+ends_within level [] short inside = All-nil (λ n. end_in n < min (length (vertexes_of level)) 65536 * 2)
+ends_within level (run ∷ runs) short inside =
+    let P : ℕ → Type 0 = λ n. end_in n < min (length (vertexes_of level)) 65536 * 2 in
+    let own = All-head IsShortRun run runs short in
+    let here = All-head (IsRunIn level) run runs inside in
+    let rest = ends_within level runs (All-tail IsShortRun run runs short) (All-tail (IsRunIn level) run runs inside) in
+    let to = pair_number run.sector run.to * 2 in
+    let from = pair_number run.sector run.from * 2 + 1 in
+    All-cons P to (from ∷ numbers_of runs) (omega (arith, own.sector, own.to, here.to))
+    (All-cons P from (numbers_of runs) (omega (arith, own.sector, own.from, here.from)) rest)
+
+pub few_sectors : (level : Level) (numbers : List ℕ) → AddsRuns (runs_of level) [] numbers
+    → All (λ n. sector_in n < min (length (sectors_of level)) 65536) numbers
+few_sectors level numbers adds = rw adds.is (sectors_within level (runs_of level) adds.short (runs_within level (linedefs_of level)))
+
+pub few_ends : (level : Level) (numbers : List ℕ) → AddsRuns (runs_of level) [] numbers
+    → All (λ n. end_in n < min (length (vertexes_of level)) 65536 * 2) numbers
+few_ends level numbers adds = rw adds.is (ends_within level (runs_of level) adds.short (runs_within level (linedefs_of level)))
+
+-- where the numbers are balanced, all is closed
+pub balanced_closed : (level : Level) (numbers : List ℕ) → AddsRuns (runs_of level) [] numbers → AreBalanced numbers
+    → (w : Warning) → ¬ HoldsOf level W1 w
+balanced_closed level numbers adds balanced (Unclosed s v) h =
+    let short = adds.short in
+    let hv = unclosed_short level short s v h.1 in
+    let even = rw adds.is at (balanced (pair_number s v)) in
+    h.1 (sym (leave_counted (runs_of level) s v hv short) ∙ sym even ∙ reach_counted (runs_of level) s v hv short)
+balanced_closed level numbers adds balanced w h = let other = h.0 in cc
 
 -- numbers of sides that stand one behind the other
 numbers_joined : (a b : List SideRun) → numbers_of (a ++ b) ≡ numbers_of a ++ numbers_of b

@@ -1,6 +1,7 @@
 pub mod ToldLemmas
 pub mod RankLemmas
 pub mod ClosingLemmas
+pub mod BalanceLemmas
 pub mod TagLemmas
 pub mod TwinLemmas
 pub mod KeyLemmas

@@ -2,6 +2,7 @@ pub mod Warnings
 pub mod References
 pub mod Closing
 pub mod RunNumbers
+pub mod Balance
 pub mod Bare
 pub mod Void
 pub mod Tag

@@ -1,6 +1,7 @@
 //! What every reference of a level allows and no mapper wants: warnings.
 #![tactic(auto)]
 
+mod balance;
 mod bare;
 mod checks;
 mod closing;
@@ -8,6 +9,7 @@ mod facing;
 pub mod laws;
 mod records;
 mod references;
+mod sector_links;
 mod starts;
 mod tags;
 mod told;

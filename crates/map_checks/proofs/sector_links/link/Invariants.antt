@@ -1,0 +1,6 @@
+use Rattle.std.proofs.Common.{length}
+use Rattle.map_checks.specs.Balance.{AreLinks}
+use Rattle.map_checks.proofs.sector_links.link.Given as goal
+
+abbrev pub invariant-loop-i : goal.invariant-loop-i
+invariant-loop-i l = AreLinks l.numbers (length l.fn.firsts) l.i l.firsts l.next

@@ -2,51 +2,12 @@
 use Rattle.std.proofs.Common.{◌≡◌, ◌≢◌, ℕ, zero, suc, ◌+◌, ◌*◌, ◌/◌, ◌<◌, ◌≤◌, ◌⊎◌, inl, inr, List, [], ◌∷◌, length, get_or, set, drop, refl, sym, ap, subst, ◌∙◌, add-one, arith}
 use Rattle.std.specs.Prelude.{◌==◌, ◌%◌, All, cond, count_by}
 use Rattle.std.proofs.lemmas.Bool.{cases_eq, cases_lt, eq-eqb, ne_eqb}
-use Rattle.std.proofs.lemmas.List.{drop_more, get_or-set_same, get_or-set_other, length-set}
-use Rattle.std.proofs.lemmas.List.Elements.{All-append, All-cons, All-filter, All-head, All-nil, All-tail}
+use Rattle.std.proofs.lemmas.List.{get_or-set_same, get_or-set_other, length-set}
+use Rattle.std.proofs.lemmas.List.Elements.{All-append, All-filter, All-head, All-nil, All-tail}
 use Rattle.std.proofs.lemmas.List.Sums.{sum_by-append, sum_by-cons}
-use Rattle.map_checks.specs.Balance.{AreBalanced, AreLinks, CountEnds, HasBalance, IsLink, end_in, of_sector, of_sectors, sector_in, with_end}
-
--- a number of a sector is the first of it from its place on
-sector_here : (numbers : List ℕ) (s i : ℕ) → i < length numbers → sector_in (get_or numbers i 0) ≡ s
-    → of_sector s (drop i numbers) ≡ get_or numbers i 0 ∷ of_sector s (drop (i + 1) numbers)
-sector_here numbers s i inside is = rw (drop_more numbers i 0 inside, eq-eqb (sector_in (get_or numbers i 0)) s is) refl
-
--- one of another sector is left out
-sector_past : (numbers : List ℕ) (s i : ℕ) → i < length numbers → sector_in (get_or numbers i 0) ≢ s
-    → of_sector s (drop (i + 1) numbers) ≡ of_sector s (drop i numbers)
-sector_past numbers s i inside other = rw (drop_more numbers i 0 inside, ne_eqb (sector_in (get_or numbers i 0)) s other) refl
-
--- a number more
-pub links_more : (numbers : List ℕ) (sectors i s : ℕ) (firsts next : List ℕ) → i < length numbers → s < sectors → sector_in (get_or numbers i 0) ≡ s
-    → AreLinks numbers sectors (i + 1) firsts next → AreLinks numbers sectors i (set firsts s i) (set next i (get_or firsts s 0))
-links_more numbers sectors i s firsts next inside few is are = record {
-  all = length-set firsts s i ∙ are.all;
-  long = length-set next i (get_or firsts s 0) ∙ are.long;
-  first = λ t below. elim (cases_eq t s) [
-    | inl same ↦
-        rw (same, get_or-set_same firsts s i 0 (omega (arith, few, are.all))) (record {
-          after = omega arith;
-          within = omega (arith, inside);
-          here = λ _. is;
-          same = refl;
-        })
-    | inr other ↦
-        let link = are.first t below in
-        rw (get_or-set_other firsts s t i 0 other) (record {
-          after = omega (arith, link.after);
-          within = link.within;
-          here = link.here;
-          same = link.same ∙ sector_past numbers t i inside (λ e. other (sym e ∙ is));
-        })
-  ];
-  behind = λ j from below. elim (cases_eq j i) [
-    | inl same ↦
-        rw (same, get_or-set_same next i (get_or firsts s 0) 0 (omega (arith, inside, are.long)), is) (are.first s few)
-    | inr other ↦
-        rw (get_or-set_other next i j (get_or firsts s 0) 0 other) (are.behind j (omega (arith, from, other)) below)
-  ];
-}
+use Rattle.map_checks.specs.KeyLinks.{IsLink, of_key}
+use Rattle.map_checks.specs.Balance.{AreBalanced, CountEnds, HasBalance, end_in, of_sectors, sector_in, with_end}
+use Rattle.map_checks.proofs.LinkLemmas.{key_here}
 
 ends_cons : (e n : ℕ) (numbers : List ℕ) → with_end e (n ∷ numbers) ≡ cond (end_in n == e) 1 0 + with_end e numbers
 ends_cons e n numbers = sum_by-cons (λ m. cond (end_in m == e) 1 0) n numbers
@@ -61,28 +22,28 @@ own_end e n numbers own =
     let value : cond {A = ℕ} (end_in n == e) 1 0 ≡ 1 = rw (eq-eqb (end_in n) e own) refl in
     omega (arith, ends_cons e n numbers, value)
 
-ends_joined : (e s : ℕ) (numbers : List ℕ) → with_end e (of_sectors (s + 1) numbers) ≡ with_end e (of_sectors s numbers) + with_end e (of_sector s numbers)
-ends_joined e s numbers = rw (add-one s) (sum_by-append (λ n. cond (end_in n == e) 1 0) (of_sectors s numbers) (of_sector s numbers))
+ends_joined : (e s : ℕ) (numbers : List ℕ) → with_end e (of_sectors (s + 1) numbers) ≡ with_end e (of_sectors s numbers) + with_end e (of_key sector_in s numbers)
+ends_joined e s numbers = rw (add-one s) (sum_by-append (λ n. cond (end_in n == e) 1 0) (of_sectors s numbers) (of_key sector_in s numbers))
 
 -- what is counted and what is left of a sector are what there is up to it
-pub counts_begin : (numbers counts : List ℕ) (s at : ℕ) → IsLink numbers s 0 at → CountEnds (of_sectors s numbers) counts
-    → (e : ℕ) → e < length counts → get_or counts e 0 + with_end e (of_sector s (drop at numbers)) ≡ with_end e (of_sectors (s + 1) numbers)
+pub counts_begin : (numbers counts : List ℕ) (s at : ℕ) → IsLink sector_in numbers s 0 at → CountEnds (of_sectors s numbers) counts
+    → (e : ℕ) → e < length counts → get_or counts e 0 + with_end e (of_key sector_in s (drop at numbers)) ≡ with_end e (of_sectors (s + 1) numbers)
 counts_begin numbers counts s at link before e inside =
     let joined = ends_joined e s numbers in
-    let own : with_end e (of_sector s (drop at numbers)) ≡ with_end e (of_sector s numbers) = ap (with_end e) link.same in
+    let own : with_end e (of_key sector_in s (drop at numbers)) ≡ with_end e (of_key sector_in s numbers) = ap (with_end e) link.same in
     omega (arith, joined, own, before e inside)
 
 pub counts_more : (numbers counts : List ℕ) (s at next end count : ℕ) (all : ℕ → ℕ) → at < length numbers → sector_in (get_or numbers at 0) ≡ s
-    → IsLink numbers (sector_in (get_or numbers at 0)) (at + 1) next
+    → IsLink sector_in numbers (sector_in (get_or numbers at 0)) (at + 1) next
     → end ≡ end_in (get_or numbers at 0) → end < length counts → count ≡ get_or counts end 0 + 1
-    → ((e : ℕ) → e < length counts → get_or counts e 0 + with_end e (of_sector s (drop at numbers)) ≡ all e)
-    → (e : ℕ) → e < length (set counts end count) → get_or (set counts end count) e 0 + with_end e (of_sector s (drop next numbers)) ≡ all e
+    → ((e : ℕ) → e < length counts → get_or counts e 0 + with_end e (of_key sector_in s (drop at numbers)) ≡ all e)
+    → (e : ℕ) → e < length (set counts end count) → get_or (set counts end count) e 0 + with_end e (of_key sector_in s (drop next numbers)) ≡ all e
 counts_more numbers counts s at next end count all inside is link own fits more before e within =
     let here = before e (rw (length-set counts end count) at within) in
     let n = get_or numbers at 0 in
-    let rest = of_sector s (drop (at + 1) numbers) in
-    let one : with_end e (of_sector s (drop at numbers)) ≡ with_end e (n ∷ rest) = ap (with_end e) (sector_here numbers s at inside is) in
-    let two : with_end e (of_sector s (drop next numbers)) ≡ with_end e rest = ap (with_end e) (rw is at link.same) in
+    let rest = of_key sector_in s (drop (at + 1) numbers) in
+    let one : with_end e (of_key sector_in s (drop at numbers)) ≡ with_end e (n ∷ rest) = ap (with_end e) (key_here sector_in numbers s at inside is) in
+    let two : with_end e (of_key sector_in s (drop next numbers)) ≡ with_end e rest = ap (with_end e) (rw is at link.same) in
     elim (cases_eq e end) [
       | inl same ↦
           let added = own_end e n rest (sym own ∙ sym same) in
@@ -94,15 +55,6 @@ counts_more numbers counts s at next end count all inside is link own fits more 
           let value : get_or (set counts end count) e 0 ≡ get_or counts e 0 = get_or-set_other counts end e count 0 other in
           omega (arith, here, one, two, left, value)
     ]
-
--- what holds of a sector's numbers if it holds of those that are left of them
-pub rest_more : (P : ℕ → Type 0) (numbers : List ℕ) (s at next : ℕ) → at < length numbers → sector_in (get_or numbers at 0) ≡ s
-    → IsLink numbers (sector_in (get_or numbers at 0)) (at + 1) next → P (get_or numbers at 0)
-    → (All P (of_sector s (drop at numbers)) → All P (of_sector s numbers)) → All P (of_sector s (drop next numbers)) → All P (of_sector s numbers)
-rest_more P numbers s at next inside is link here before left =
-    let rest : of_sector s (drop next numbers) ≡ of_sector s (drop (at + 1) numbers) = rw is at link.same in
-    let own = All-cons P (get_or numbers at 0) (of_sector s (drop (at + 1) numbers)) here (subst (All P) rest left) in
-    before (subst (All P) (sym (sector_here numbers s at inside is)) own)
 
 -- a vertex has as many of some numbers that leave it as reach it, or it is that of one of them
 balance_or : (counts numbers : List ℕ) (v : ℕ) → All (HasBalance counts) numbers
@@ -131,17 +83,17 @@ ends_past e bound (n ∷ numbers) few past =
 sectors_all : (s : ℕ) (P : ℕ → Type 0) (numbers : List ℕ) → All P numbers → All P (of_sectors s numbers)
 sectors_all zero P numbers all = All-nil P
 sectors_all (suc s) P numbers all =
-    All-append P (of_sectors s numbers) (of_sector s numbers) (sectors_all s P numbers all) (All-filter (λ n. sector_in n == s) P numbers all)
+    All-append P (of_sectors s numbers) (of_key sector_in s numbers) (sectors_all s P numbers all) (All-filter (λ n. sector_in n == s) P numbers all)
 
 -- as many leave each vertex as reach it below the first sector, and below the next one where its numbers are balanced
 pub balance_none : (numbers : List ℕ) (s v : ℕ) → s ≤ 0 → with_end (v * 2) (of_sectors s numbers) ≡ with_end (v * 2 + 1) (of_sectors s numbers)
 balance_none numbers s v below = let none : s ≡ 0 = omega (arith, below) in rw none refl
 
 pub balance_more : (numbers counts : List ℕ) (s v : ℕ) → length counts % 2 ≡ 0 → All (λ n. end_in n < length counts) numbers
-    → CountEnds (of_sectors (s + 1) numbers) counts → All (HasBalance counts) (of_sector s numbers)
+    → CountEnds (of_sectors (s + 1) numbers) counts → All (HasBalance counts) (of_key sector_in s numbers)
     → with_end (v * 2) (of_sectors s numbers) ≡ with_end (v * 2 + 1) (of_sectors s numbers)
     → with_end (v * 2) (of_sectors (s + 1) numbers) ≡ with_end (v * 2 + 1) (of_sectors (s + 1) numbers)
-balance_more numbers counts s v pairs few are own before = elim (balance_or counts (of_sector s numbers) v own) [
+balance_more numbers counts s v pairs few are own before = elim (balance_or counts (of_key sector_in s numbers) v own) [
   | inl even ↦ omega (arith, ends_joined (v * 2) s numbers, ends_joined (v * 2 + 1) s numbers, before, even)
   | inr told ↦ elim (cases_lt (v * 2) (length counts)) [
     | inl inside ↦
@@ -169,7 +121,7 @@ times_another n m numbers other =
     omega (arith, times_cons n m numbers, value)
 
 -- as often as its end among those of its sector
-times_in_sector : (n : ℕ) (numbers : List ℕ) → times n numbers ≡ with_end (end_in n) (of_sector (sector_in n) numbers)
+times_in_sector : (n : ℕ) (numbers : List ℕ) → times n numbers ≡ with_end (end_in n) (of_key sector_in (sector_in n) numbers)
 times_in_sector n [] = refl
 times_in_sector n (m ∷ numbers) =
     let rest = times_in_sector n numbers in
@@ -179,10 +131,10 @@ times_in_sector n (m ∷ numbers) =
             let is : m ≡ n = omega (arith, same, own) in
             let value : cond {A = ℕ} (m == n) 1 0 ≡ 1 = rw (eq-eqb m n is) refl in
             let one = times_cons n m numbers in
-            let two = own_end (end_in n) m (of_sector (sector_in n) numbers) own in
+            let two = own_end (end_in n) m (of_key sector_in (sector_in n) numbers) own in
             omega (arith, one, two, value, rest)
         | inr other ↦
-            times_another n m numbers (λ e. other (ap end_in e)) ∙ rest ∙ sym (another_end (end_in n) m (of_sector (sector_in n) numbers) other)
+            times_another n m numbers (λ e. other (ap end_in e)) ∙ rest ∙ sym (another_end (end_in n) m (of_key sector_in (sector_in n) numbers) other)
       ])
       | inr other ↦
           rw (ne_eqb (sector_in m) (sector_in n) other) (times_another n m numbers (λ e. other (ap sector_in e)) ∙ rest)
@@ -204,7 +156,7 @@ balance_all numbers sectors few even pair = elim (cases_lt (pair / 65536) sector
       let v = pair % 65536 in
       let one = even s v (omega (arith, below)) in
       let two = even (s + 1) v (omega (arith, below)) in
-      let own : with_end (v * 2) (of_sector s numbers) ≡ with_end (v * 2 + 1) (of_sector s numbers) =
+      let own : with_end (v * 2) (of_key sector_in s numbers) ≡ with_end (v * 2 + 1) (of_key sector_in s numbers) =
       omega (arith, ends_joined (v * 2) s numbers, ends_joined (v * 2 + 1) s numbers, one, two) in
       let sector_even : pair * 2 / 131072 ≡ s = omega arith in
       let sector_odd : (pair * 2 + 1) / 131072 ≡ s = omega arith in

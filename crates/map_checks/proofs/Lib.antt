@@ -1,8 +1,10 @@
 pub mod ToldLemmas
 pub mod RankLemmas
 pub mod ClosingLemmas
+pub mod LinkLemmas
 pub mod BalanceLemmas
 pub mod TagLemmas
+pub mod ApartLemmas
 pub mod TwinLemmas
 pub mod KeyLemmas
 pub mod FacingLemmas

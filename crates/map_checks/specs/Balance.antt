@@ -1,5 +1,6 @@
 -- Whether as many sides leave each vertex as reach it, sector by sector: numbers of sides by their sectors, and counts of their ends (ours).
-use Rattle.std.specs.Prelude.{◌≡◌, ℕ, ◌+◌, ◌*◌, ◌/◌, ◌%◌, ◌<◌, ◌≤◌, ◌==◌, zero, suc, List, [], ◌++◌, length, drop, filter, count_by, slice_index_or}
+use Rattle.std.specs.Prelude.{◌≡◌, ℕ, ◌+◌, ◌*◌, ◌/◌, ◌%◌, ◌<◌, ◌==◌, zero, suc, List, [], ◌++◌, length, count_by, slice_index_or}
+use Rattle.map_checks.specs.KeyLinks.{of_key}
 
 -- the sector of a side's number
 abbrev pub sector_in : ℕ → ℕ
@@ -9,29 +10,10 @@ sector_in n = n / 131072
 abbrev pub end_in : ℕ → ℕ
 end_in n = n % 131072
 
--- the numbers of a sector, in the order in which they stand
-abbrev pub of_sector : ℕ → List ℕ → List ℕ
-of_sector s numbers = filter (λ n. sector_in n == s) numbers
-
 -- the numbers of the sectors below one, sector by sector
 abbrev pub of_sectors : ℕ → List ℕ → List ℕ
 of_sectors zero numbers = []
-of_sectors (suc s) numbers = of_sectors s numbers ++ of_sector s numbers
-
--- the first place from one on that has a number of a sector, or how many numbers there are
-pub record IsLink (numbers : List ℕ) (s from at : ℕ) : Type 0 where
-  pub after : from ≤ at
-  pub within : at ≤ length numbers
-  pub here : at < length numbers → sector_in (slice_index_or numbers at 0) ≡ s
-  pub same : of_sector s (drop at numbers) ≡ of_sector s (drop from numbers)
-
--- from a place on, of each of so many sectors the first number, and of each number the next one of its sector
-pub record AreLinks (numbers : List ℕ) (sectors from : ℕ) (firsts next : List ℕ) : Type 0 where
-  pub all : length firsts ≡ sectors
-  pub long : length next ≡ length numbers
-  pub first : (s : ℕ) → s < sectors → IsLink numbers s from (slice_index_or firsts s 0)
-  pub behind : (i : ℕ) → from ≤ i → i < length numbers
-      → IsLink numbers (sector_in (slice_index_or numbers i 0)) (i + 1) (slice_index_or next i 0)
+of_sectors (suc s) numbers = of_sectors s numbers ++ of_key sector_in s numbers
 
 -- how many numbers have an end
 abbrev pub with_end : ℕ → List ℕ → ℕ

@@ -2,6 +2,8 @@ pub mod Warnings
 pub mod References
 pub mod Closing
 pub mod RunNumbers
+pub mod Buckets
+pub mod KeyLinks
 pub mod Balance
 pub mod Bare
 pub mod Void

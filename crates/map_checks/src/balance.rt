@@ -1,7 +1,8 @@
 //! Whether as many sides leave each vertex of each sector as reach it, told in linear time, without an order of the sides.
 
 ghost use Rattle.std.specs.Prelude.{◌≡◌, ◌+◌, ◌*◌, ◌%◌, ◌<◌, ◌≤◌, ◌↔◌, ℕ, All, IfOk, IsTrue, length, slice_index_or};
-ghost use Rattle.map_checks.specs.Balance.{AreBalanced, AreLinks, CountEnds, HasBalance, end_in, of_sector, of_sectors, sector_in};
+ghost use Rattle.map_checks.specs.KeyLinks.{AreLinks, of_key};
+ghost use Rattle.map_checks.specs.Balance.{AreBalanced, CountEnds, HasBalance, end_in, of_sectors, sector_in};
 
 use crate::sector_links::{SectorLinks, end_in, links_of, sector_in};
 use std::alloc::{AllocError, Allocator};
@@ -35,7 +36,7 @@ fn are_sectors_balanced<A: Allocator>(
     links: &SectorLinks<A>,
     sectors: usize,
 ) -> bool
-    requires links { AreLinks numbers.now sectors 0 links.now.firsts.items links.now.next.items }
+    requires links { AreLinks sector_in numbers.now sectors 0 links.now.firsts.items links.now.next.items }
     requires sectors { All (λ n. sector_in n < sectors) numbers.now }
     requires ends { All (λ n. end_in n < length counts.old) numbers.now }
     requires pairs { length counts.old % 2 ≡ 0 }
@@ -60,7 +61,7 @@ fn count_sector<A: Allocator>(
     links: &SectorLinks<A>,
     sector: usize,
 ) -> bool
-    requires links { AreLinks numbers.now (length links.now.firsts.items) 0 links.now.firsts.items links.now.next.items }
+    requires links { AreLinks sector_in numbers.now (length links.now.firsts.items) 0 links.now.firsts.items links.now.next.items }
     requires within { sector < length links.now.firsts.items }
     requires ends { All (λ n. end_in n < length counts.old) numbers.now }
     requires before { CountEnds (of_sectors sector numbers.now) counts.old }
@@ -86,11 +87,11 @@ fn is_sector_balanced<A: Allocator>(
     links: &SectorLinks<A>,
     sector: usize,
 ) -> bool
-    requires links { AreLinks numbers.now (length links.now.firsts.items) 0 links.now.firsts.items links.now.next.items }
+    requires links { AreLinks sector_in numbers.now (length links.now.firsts.items) 0 links.now.firsts.items links.now.next.items }
     requires within { sector < length links.now.firsts.items }
     requires ends { All (λ n. end_in n < length counts.now) numbers.now }
     requires pairs { length counts.now % 2 ≡ 0 }
-    ensures { IsTrue result → All (HasBalance counts.now) (of_sector sector numbers.now) }
+    ensures { IsTrue result → All (HasBalance counts.now) (of_key sector_in sector numbers.now) }
 {
     let mut at = links.firsts[sector] as usize;
     while at < numbers.len() {

@@ -1,6 +1,7 @@
 //! What every reference of a level allows and no mapper wants: warnings.
 #![tactic(auto)]
 
+mod apart;
 mod balance;
 mod bare;
 mod checks;

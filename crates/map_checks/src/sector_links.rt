@@ -1,7 +1,8 @@
 //! The numbers of sides one sector after another: links from each to the next one of its sector.
 
 ghost use Rattle.std.specs.Prelude.{◌≡◌, ◌^◌, ◌<◌, All, IfOk, length};
-ghost use Rattle.map_checks.specs.Balance.{AreLinks, end_in, sector_in};
+ghost use Rattle.map_checks.specs.KeyLinks.{AreLinks};
+ghost use Rattle.map_checks.specs.Balance.{end_in, sector_in};
 
 use std::alloc::{AllocError, Allocator};
 
@@ -38,7 +39,7 @@ pub fn links_of<A: Allocator + Copy>(
 ) -> Result<SectorLinks<A>, AllocError>
     requires sectors { All (λ n. sector_in n < sectors) numbers.now }
     requires few { length numbers.now < 2 ^ 32 }
-    ensures { IfOk result (λ links. AreLinks numbers.now sectors 0 links.firsts.items links.next.items) }
+    ensures { IfOk result (λ links. AreLinks sector_in numbers.now sectors 0 links.firsts.items links.next.items) }
 {
     let mut firsts = Vec::from_elem(alloc, numbers.len() as u32, sectors)?;
     let mut next = Vec::from_elem(alloc, 0, numbers.len())?;
@@ -50,8 +51,8 @@ pub fn links_of<A: Allocator + Copy>(
 fn link(numbers: &[u64], firsts: &mut [u32], next: &mut [u32])
     requires sectors { All (λ n. sector_in n < length firsts.old) numbers.now }
     requires few { length numbers.now < 2 ^ 32 }
-    requires none { AreLinks numbers.now (length firsts.old) (length numbers.now) firsts.old next.old }
-    ensures { AreLinks numbers.now (length firsts.old) 0 firsts.new next.new }
+    requires none { AreLinks sector_in numbers.now (length firsts.old) (length numbers.now) firsts.old next.old }
+    ensures { AreLinks sector_in numbers.now (length firsts.old) 0 firsts.new next.new }
 {
     for i in (0..numbers.len()).rev() {
         let sector = sector_in(numbers[i]);

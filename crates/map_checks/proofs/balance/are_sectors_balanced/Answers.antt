@@ -1,7 +1,8 @@
 use Rattle.std.proofs.Common.{◌≡◌, ◌+◌, ◌<◌, ◌∙◌, inl, inr, length, arith, refl, rules}
 use Rattle.std.specs.Prelude.{◌%◌, All, IsTrue}
 use Rattle.std.proofs.lemmas.Bool.{cases_eq}
-use Rattle.map_checks.specs.Balance.{CountEnds, HasBalance, end_in, of_sector, of_sectors}
+use Rattle.map_checks.specs.KeyLinks.{of_key}
+use Rattle.map_checks.specs.Balance.{CountEnds, HasBalance, end_in, of_sectors, sector_in}
 use Rattle.map_checks.proofs.BalanceLemmas.{balance_all, balance_more, balance_none}
 use Rattle.map_checks.proofs.balance.are_sectors_balanced.Goals as goal
 
@@ -20,7 +21,7 @@ loop-sector-preserved g c =
     let long : length counts ≡ length c.args.counts.now = c.count_sector.ensures.long ∙ c.loop-sector.invariant.long in
     let told : CountEnds (of_sectors (s + 1) numbers) counts = search rules in
     let yes : IsTrue c.is_sector_balanced.result = search rules in
-    let own : All (HasBalance counts) (of_sector s numbers) = c.is_sector_balanced.ensures yes in
+    let own : All (HasBalance counts) (of_key sector_in s numbers) = c.is_sector_balanced.ensures yes in
     let few : All (λ n. end_in n < length counts) numbers = rw long c.requires.ends in
     let pairs : length counts % 2 ≡ 0 = rw long c.requires.pairs in
     record {

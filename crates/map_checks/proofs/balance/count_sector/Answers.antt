@@ -1,6 +1,7 @@
 use Rattle.std.proofs.Common.{◌≡◌, ◌+◌, ◌<◌, ◌∙◌, arith, get_or, length, rules}
 use Rattle.std.proofs.lemmas.List.{get_or_default, length-set}
-use Rattle.map_checks.specs.Balance.{IsLink, of_sectors, sector_in, with_end}
+use Rattle.map_checks.specs.KeyLinks.{IsLink}
+use Rattle.map_checks.specs.Balance.{of_sectors, sector_in, with_end}
 use Rattle.map_checks.proofs.BalanceLemmas.{counts_begin, counts_more}
 use Rattle.map_checks.proofs.balance.count_sector.Goals as goal
 
@@ -10,7 +11,7 @@ loop-at-init g c =
     let firsts = c.args.links.now.firsts.items in
     let first : c.index.result.now ≡ get_or firsts c.args.sector 0 =
     c.index.ensures ∙ get_or_default firsts c.args.sector _ 0 c.requires.within in
-    let link : IsLink numbers c.args.sector 0 c.index.result.now = rw first (c.requires.links.first c.args.sector c.requires.within) in
+    let link : IsLink sector_in numbers c.args.sector 0 c.index.result.now = rw first (c.requires.links.first c.args.sector c.requires.within) in
     record {
       within = link.within;
       here = link.here;
@@ -28,7 +29,7 @@ loop-at-preserved g c =
     let is : sector_in (get_or numbers at 0) ≡ c.args.sector = c.loop-at.invariant.here inside in
     let behind : next ≡ get_or c.args.links.now.next.items at 0 =
     c.index-in-loop-at.ensures ∙ get_or_default c.args.links.now.next.items at _ 0 (omega (arith, inside, c.requires.links.long)) in
-    let link : IsLink numbers (sector_in (get_or numbers at 0)) (at + 1) next = rw behind (c.requires.links.behind at (search rules) inside) in
+    let link : IsLink sector_in numbers (sector_in (get_or numbers at 0)) (at + 1) next = rw behind (c.requires.links.behind at (search rules) inside) in
     let fits : c.end_in-end.result < length counts = search rules in
     let more : c.in-Some.count ≡ get_or counts c.end_in-end.result 0 + 1 = search rules in
     record {

@@ -1,5 +1,6 @@
 use Rattle.std.proofs.Common.{◌≡◌, ◌+◌, ◌-◌, ◌<◌, ◌≤◌, ℕ, drop, get_or, length}
-use Rattle.map_checks.specs.Balance.{of_sector, of_sectors, sector_in, with_end}
+use Rattle.map_checks.specs.KeyLinks.{of_key}
+use Rattle.map_checks.specs.Balance.{of_sectors, sector_in, with_end}
 use Rattle.map_checks.proofs.balance.count_sector.Given as goal
 
 abbrev pub invariant-loop-at : goal.invariant-loop-at
@@ -7,7 +8,7 @@ invariant-loop-at g l = record {
   within : l.at ≤ length l.numbers;
   here : l.at < length l.numbers → sector_in (get_or l.numbers l.at 0) ≡ l.sector;
   long : length l.counts ≡ length l.fn.counts;
-  left : (e : ℕ) → e < length l.counts → get_or l.counts e 0 + with_end e (of_sector l.sector (drop l.at l.numbers))
+  left : (e : ℕ) → e < length l.counts → get_or l.counts e 0 + with_end e (of_key sector_in l.sector (drop l.at l.numbers))
       ≡ with_end e (of_sectors (l.sector + 1) l.numbers);
 }
 

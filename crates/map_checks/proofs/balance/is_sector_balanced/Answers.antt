@@ -1,8 +1,9 @@
 use Rattle.std.proofs.Common.{◌≡◌, ◌+◌, ◌<◌, ◌∙◌, arith, get_or, length, rules}
 use Rattle.std.proofs.lemmas.List.{drop_all, get_or_default}
 use Rattle.std.proofs.lemmas.List.Elements.{All-nil}
-use Rattle.map_checks.specs.Balance.{HasBalance, IsLink, sector_in}
-use Rattle.map_checks.proofs.BalanceLemmas.{rest_more}
+use Rattle.map_checks.specs.KeyLinks.{IsLink, of_key}
+use Rattle.map_checks.specs.Balance.{HasBalance, sector_in}
+use Rattle.map_checks.proofs.LinkLemmas.{rest_more}
 use Rattle.map_checks.proofs.balance.is_sector_balanced.Goals as goal
 
 pub loop-at-preserved : goal.loop-at-preserved
@@ -14,12 +15,12 @@ loop-at-preserved g c =
     let is : sector_in (get_or numbers at 0) ≡ c.args.sector = c.loop-at.invariant.here inside in
     let behind : next ≡ get_or c.args.links.now.next.items at 0 =
     c.index-in-loop-at.ensures ∙ get_or_default c.args.links.now.next.items at _ 0 (omega (arith, inside, c.requires.links.long)) in
-    let link : IsLink numbers (sector_in (get_or numbers at 0)) (at + 1) next = rw behind (c.requires.links.behind at (search rules) inside) in
+    let link : IsLink sector_in numbers (sector_in (get_or numbers at 0)) (at + 1) next = rw behind (c.requires.links.behind at (search rules) inside) in
     let own : HasBalance c.args.counts.now (get_or numbers at 0) = search rules in
     record {
       within = link.within;
       here = λ there. link.here there ∙ is;
-      left = rest_more (HasBalance c.args.counts.now) numbers c.args.sector at next inside is link own c.loop-at.invariant.left;
+      left = rest_more sector_in (HasBalance c.args.counts.now) numbers (of_key sector_in c.args.sector numbers) c.args.sector at next inside is link own c.loop-at.invariant.left;
     }
 
 pub returns : goal.returns

@@ -8,6 +8,8 @@ use Rattle.le_rec.specs.declared.records.Sector.{Sector}
 use Rattle.map_level.specs.Level.{Level}
 use Rattle.map_level.specs.Links.{linedefs_of, sectors_of, named}
 use Rattle.map_level.specs.SectorOf.{sidedef_named}
+use Rattle.map_level.specs.Reading.{sidedef_under}
+use Rattle.map_checks.specs.declared.bare.Wall.{Wall}
 use Rattle.map_checks.specs.declared.warning.Side.{Side}
 use Rattle.map_checks.specs.declared.warning.Side.TheVariants.{Front, Back}
 use Rattle.map_checks.specs.declared.warning.Part.{Part}
@@ -35,6 +37,10 @@ abbrev pub BetweenSectors : Level → (Sector → Sector → Type 0) → SideDef
 BetweenSectors level shows this other =
     IsSomeAnd (named (sectors_of level) this.sector)
     (λ here. IsSomeAnd (named (sectors_of level) other.sector) (λ there. shows here there))
+
+-- a wall has the sector that its sidedef names
+abbrev pub HasSector : Level → Wall → Type 0
+HasSector level wall = wall.sector ≡ named (sectors_of level) (sidedef_under level.reading wall.sidedef).sector
 
 -- the sidedef of a linedef's side
 abbrev pub sidedef_at_side : Level → LineDef → Side → Option SideDef

@@ -1,11 +1,12 @@
 //! W2: parts of walls that can be seen and have no texture.
 
-ghost use Rattle.std.specs.Prelude.{◌≡◌, ◌<ℤ◌, ◌≤ℤ◌, ◌*◌, ◌+◌, ◌↔◌, IfOk, IsSomeAnd, IsTrue, OnOk};
+ghost use Rattle.std.specs.Prelude.{◌≡◌, ◌<ℤ◌, ◌≤ℤ◌, ◌*◌, ◌+◌, ◌↔◌, IfOk, IfSome, IsSomeAnd, IsTrue, OnOk};
 ghost use Rattle.std.specs.Option.{option_map};
 ghost use Rattle.le_rec.specs.Name.{name_of};
 ghost use Rattle.map_level.specs.Reading.{linedef_under, number_of, sidedef_under};
 ghost use Rattle.map_level.specs.Links.{named, sectors_of};
-ghost use Rattle.map_checks.specs.Bare.{BetweenSectors, IsBare, IsBareOf, IsBarePart, IsNoTexture, IsSky, ShowsLower, ShowsUpper};
+ghost use Rattle.map_level.specs.SectorOf.{sidedef_named};
+ghost use Rattle.map_checks.specs.Bare.{BetweenSectors, HasSector, IsBare, IsBareOf, IsBarePart, IsNoTexture, IsSky, ShowsLower, ShowsUpper};
 ghost use Rattle.map_checks.specs.Warnings.{part_number, side_number, Tells, TellsBelow};
 ghost use Rattle.map_checks.specs.declared.warning.Part.TheVariants as part;
 ghost use Rattle.map_checks.specs.declared.warning.Side.TheVariants as side;
@@ -139,7 +140,7 @@ fn bare_sides(level: &Level<'_>, i: u32) -> BareSides
     }
 }
 
-// The same of a linedef that is there: each of its sidedefs is read once, for its own side and for the one behind.
+// The same of a linedef that is there: each of its sidedefs and its sector are read once, for their own side and for the one behind.
 fn sides_of_linedef(level: &Level<'_>, linedef: &LineDef) -> BareSides
     ensures front_middle { IsTrue result.front.middle
         ↔ IsBareOf level.now (linedef_under level.now.reading linedef.now) side.Front part.Middle }
@@ -154,26 +155,43 @@ fn sides_of_linedef(level: &Level<'_>, linedef: &LineDef) -> BareSides
     ensures back_lower { IsTrue result.back.lower
         ↔ IsBareOf level.now (linedef_under level.now.reading linedef.now) side.Back part.Lower }
 {
-    let front = sidedef(level, linedef.side0);
-    let back = sidedef(level, linedef.side1);
+    let front = wall_of(level, linedef.side0);
+    let back = wall_of(level, linedef.side1);
     BareSides {
         front: bare_parts(level, Side::Front, &front, &back),
         back: bare_parts(level, Side::Back, &back, &front),
     }
 }
 
-// Which parts of a side are bare, given its sidedef and the one behind.
-fn bare_parts(
-    level: &Level<'_>,
-    side: Side,
-    this: &Option<SideDef>,
-    other: &Option<SideDef>,
-) -> BareParts
-    ensures middle { let under = option_map (sidedef_under level.now.reading) in IsTrue result.middle
+/// A side's sidedef, and the sector that it names.
+#[derive(Clone, Copy)]
+struct Wall {
+    sidedef: SideDef,
+    sector: Option<Sector>,
+}
+
+// The wall of the sidedef that a word names.
+#[inline]
+fn wall_of(level: &Level<'_>, word: i16) -> Option<Wall>
+    ensures sidedef { option_map (λ wall. sidedef_under level.now.reading wall.sidedef) result
+        ≡ sidedef_named level.now (number_of level.now.reading word) }
+    ensures sector { IfSome result (HasSector level.now) }
+{
+    let sidedef = sidedef(level, word)?;
+    let sector = sector(level, sidedef.sector);
+    Some(Wall { sidedef, sector })
+}
+
+// Which parts of a side are bare, given its wall and the one behind.
+#[inline]
+fn bare_parts(level: &Level<'_>, side: Side, this: &Option<Wall>, other: &Option<Wall>) -> BareParts
+    requires this { IfSome this.now (HasSector level.now) }
+    requires other { IfSome other.now (HasSector level.now) }
+    ensures middle { let under = option_map (λ wall. sidedef_under level.now.reading wall.sidedef) in IsTrue result.middle
         ↔ IsSomeAnd (under this.now) (λ this. IsBarePart level.now side this (under other.now) part.Middle) }
-    ensures upper { let under = option_map (sidedef_under level.now.reading) in IsTrue result.upper
+    ensures upper { let under = option_map (λ wall. sidedef_under level.now.reading wall.sidedef) in IsTrue result.upper
         ↔ IsSomeAnd (under this.now) (λ this. IsBarePart level.now side this (under other.now) part.Upper) }
-    ensures lower { let under = option_map (sidedef_under level.now.reading) in IsTrue result.lower
+    ensures lower { let under = option_map (λ wall. sidedef_under level.now.reading wall.sidedef) in IsTrue result.lower
         ↔ IsSomeAnd (under this.now) (λ this. IsBarePart level.now side this (under other.now) part.Lower) }
 {
     let Some(this) = this else {
@@ -186,65 +204,78 @@ fn bare_parts(
     }
 }
 
-// Whether a part of a sidedef can be seen and has no texture.
+// Whether a part of a wall can be seen and has no texture.
+#[inline]
 fn is_bare_part(
     level: &Level<'_>,
     side: Side,
-    this: &SideDef,
-    other: &Option<SideDef>,
+    wall: &Wall,
+    other: &Option<Wall>,
     part: Part,
 ) -> bool
-    ensures { IsTrue result ↔ IsBarePart level.now side (sidedef_under level.now.reading this.now)
-        (option_map (sidedef_under level.now.reading) other.now) part }
+    requires wall { HasSector level.now wall.now }
+    requires other { IfSome other.now (HasSector level.now) }
+    ensures { IsTrue result ↔ IsBarePart level.now side (sidedef_under level.now.reading wall.now.sidedef)
+        (option_map (λ wall. sidedef_under level.now.reading wall.sidedef) other.now) part }
 {
+    let this = &wall.sidedef;
     match part {
         Part::Middle => side == Side::Front && other.is_none() && is_no_texture(this.middle),
-        Part::Upper => is_no_texture(this.top) && is_upper_shown(level, this, other),
-        Part::Lower => is_no_texture(this.bottom) && is_lower_shown(level, this, other),
+        Part::Upper => is_no_texture(this.top) && is_upper_shown(level, wall, other),
+        Part::Lower => is_no_texture(this.bottom) && is_lower_shown(level, wall, other),
     }
 }
 
-fn is_upper_shown(level: &Level<'_>, this: &SideDef, other: &Option<SideDef>) -> bool
-    ensures { IsTrue result ↔ IsSomeAnd (option_map (sidedef_under level.now.reading) other.now)
-        (λ back. BetweenSectors level.now ShowsUpper (sidedef_under level.now.reading this.now) back) }
+fn is_upper_shown(level: &Level<'_>, this: &Wall, other: &Option<Wall>) -> bool
+    requires this { HasSector level.now this.now }
+    requires other { IfSome other.now (HasSector level.now) }
+    ensures { IsTrue result ↔ IsSomeAnd (option_map (λ wall. sidedef_under level.now.reading wall.sidedef) other.now)
+        (λ back. BetweenSectors level.now ShowsUpper (sidedef_under level.now.reading this.now.sidedef) back) }
 {
+    // Only the clauses speak of the level.
+    let _level = level;
     match other {
-        Some(other) => { is_upper_between(sector(level, this.sector), sector(level, other.sector)) }
+        Some(other) => is_upper_between(&this.sector, &other.sector),
         None => false,
     }
 }
 
-fn is_upper_between(here: Option<Sector>, there: Option<Sector>) -> bool
+fn is_upper_between(here: &Option<Sector>, there: &Option<Sector>) -> bool
     ensures { IsTrue result
-        ↔ IsSomeAnd here (λ here. IsSomeAnd there (λ there. ShowsUpper here there)) }
+        ↔ IsSomeAnd here.now (λ here. IsSomeAnd there.now (λ there. ShowsUpper here there)) }
 {
     match (here, there) {
-        (Some(here), Some(there)) => shows_upper(&here, &there),
+        (Some(here), Some(there)) => shows_upper(here, there),
         _ => false,
     }
 }
 
-fn is_lower_shown(level: &Level<'_>, this: &SideDef, other: &Option<SideDef>) -> bool
-    ensures { IsTrue result ↔ IsSomeAnd (option_map (sidedef_under level.now.reading) other.now)
-        (λ back. BetweenSectors level.now ShowsLower (sidedef_under level.now.reading this.now) back) }
+fn is_lower_shown(level: &Level<'_>, this: &Wall, other: &Option<Wall>) -> bool
+    requires this { HasSector level.now this.now }
+    requires other { IfSome other.now (HasSector level.now) }
+    ensures { IsTrue result ↔ IsSomeAnd (option_map (λ wall. sidedef_under level.now.reading wall.sidedef) other.now)
+        (λ back. BetweenSectors level.now ShowsLower (sidedef_under level.now.reading this.now.sidedef) back) }
 {
+    // Only the clauses speak of the level.
+    let _level = level;
     match other {
-        Some(other) => { is_lower_between(sector(level, this.sector), sector(level, other.sector)) }
+        Some(other) => is_lower_between(&this.sector, &other.sector),
         None => false,
     }
 }
 
-fn is_lower_between(here: Option<Sector>, there: Option<Sector>) -> bool
+fn is_lower_between(here: &Option<Sector>, there: &Option<Sector>) -> bool
     ensures { IsTrue result
-        ↔ IsSomeAnd here (λ here. IsSomeAnd there (λ there. ShowsLower here there)) }
+        ↔ IsSomeAnd here.now (λ here. IsSomeAnd there.now (λ there. ShowsLower here there)) }
 {
     match (here, there) {
-        (Some(here), Some(there)) => shows_lower(&here, &there),
+        (Some(here), Some(there)) => shows_lower(here, there),
         _ => false,
     }
 }
 
 // The sector that a word names.
+#[inline]
 fn sector(level: &Level<'_>, word: i16) -> Option<Sector>
     ensures { result ≡ named (sectors_of level.now) (number_of level.now.reading word) }
 {

@@ -18,7 +18,9 @@ pub mod RowLemmas
 pub mod BoundLemmas
 pub mod WorkLemmas
 pub mod CountLemmas
+pub mod RowsLemmas
 pub mod HeldLemmas
+pub mod HeightLemmas
 pub mod TurnLemmas
 pub mod PairLemmas
 pub mod TouchedLemmas

@@ -5,7 +5,7 @@ use Rattle.std.specs.Int.Signed.{shr_z}
 use Rattle.map_geo.specs.Point.{IsInRange}
 use Rattle.map_tree.specs.Cuts.{IsMiddle}
 
-half_of : (low high sum : ℤ) → sum ≡ low +ℤ high → IsMiddle (shr_z sum 2) low high
+pub half_of : (low high sum : ℤ) → sum ≡ low +ℤ high → IsMiddle (shr_z sum 2) low high
 half_of low high (pos n) e = record { lower = omega (arith, ints, e); upper = omega (arith, ints, e) }
 half_of low high (negsuc n) e = record { lower = omega (arith, ints, e); upper = omega (arith, ints, e) }
 

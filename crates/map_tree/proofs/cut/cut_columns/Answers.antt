@@ -1,17 +1,18 @@
-use Rattle.std.proofs.Common.{ℤ, pos, ◌+ℤ◌, ◌≤ℤ◌, ◌<ℤ◌, FitsSigned, w32, refl, sym, arith}
+use Rattle.std.proofs.Common.{ℕ, ◌+◌, ◌*◌, ◌≤◌, Fits, w64, ℤ, pos, ◌+ℤ◌, ◌≤ℤ◌, ◌<ℤ◌, FitsSigned, w32, refl, sym, arith}
 use Rattle.std.proofs.lemmas.Int.{ints, to_z-of_z}
+use Rattle.std.proofs.lemmas.Nat.{mul-le}
 use Rattle.map_geo.specs.Partition.{partition_of}
 use Rattle.map_geo.proofs.PointCountLemmas.{in_fits}
 use Rattle.map_tree.proofs.MiddleLemmas.{between_fits, next_fits}
-use Rattle.map_tree.proofs.RowLemmas.{ends_differ, ends_ordered}
-use Rattle.map_tree.proofs.cut.cut_row.Goals as goal
+use Rattle.map_tree.proofs.RowLemmas.{alike, ends_differ, ends_ordered}
+use Rattle.map_tree.proofs.cut.cut_columns.Goals as goal
 
 pub last_of_side-last-requires-clause-ordered : goal.last_of_side-last-requires-clause-ordered
 last_of_side-last-requires-clause-ordered c =
     let valid = c.x0-left.ensures.valid in
     let left : FitsSigned w32 c.x0-left.result = rw c.x0-left.ensures.value (in_fits _ valid.columns.first_in) in
     let right : FitsSigned w32 c.x1-right.result = rw c.x1-right.ensures.value (in_fits _ valid.columns.last_in) in
-    simp to_z-of_z (rw (c.x0-left.ensures.value, c.x1-right.ensures.value) (ends_ordered (partition_of c.args.node.now) c.args.piece.rect valid.columns.ordered c.requires.flat c.requires.cut))
+    simp to_z-of_z (rw (c.x0-left.ensures.value, c.x1-right.ensures.value) (ends_ordered (partition_of c.args.node.now) c.args.piece.rect valid.columns.ordered (alike c.args.node.now c.args.piece.rect c.requires.together) c.requires.cut))
 
 pub last_of_side-last-requires-clause-right : goal.last_of_side-last-requires-clause-right
 last_of_side-last-requires-clause-right c =
@@ -20,7 +21,10 @@ last_of_side-last-requires-clause-right c =
     let right : FitsSigned w32 c.x1-right.result = rw c.x1-right.ensures.value (in_fits _ valid.columns.last_in) in
     let y : FitsSigned w32 c.y0-y.result = rw c.y0-y.ensures.value (in_fits _ valid.rows.first_in) in
     let at = rw (c.x0-left.ensures.value, c.y0-y.ensures.value) at (simp to_z-of_z at c.at.ensures) in
-    simp to_z-of_z (rw (c.x1-right.ensures.value, c.y0-y.ensures.value, c.side-s.ensures, at, c.at-partition.ensures) (ends_differ (partition_of c.args.node.now) c.args.piece.rect c.requires.flat c.requires.cut))
+    simp to_z-of_z (rw (c.x1-right.ensures.value, c.y0-y.ensures.value, c.side-s.ensures, at, c.at-partition.ensures) (ends_differ (partition_of c.args.node.now) c.args.piece.rect (alike c.args.node.now c.args.piece.rect c.requires.together) c.requires.cut))
+
+two_more : (h : ℕ) → h ≤ 32767 → 2 + h ≤ 32769
+two_more h near = omega arith
 
 next_to : (y b : ℤ) → y <ℤ b → (y +ℤ pos 1) ≤ℤ b
 next_to y b h = omega (arith, ints)
@@ -57,5 +61,11 @@ returns c =
       halvings = halvings;
       first = rw (first, c.word_at.ensures);
       second = rw (second, c.word_at-2.ensures, c.other.ensures);
-      tests = refl;
+      tests = rw (c.tests_apart.ensures.is, c.from.ensures, c.rows.ensures.rows) refl;
     }
+
+tests_fit : (a k h : ℕ) → a ≤ 32768 → k ≤ 32768 → h ≤ 32767 → Fits w64 (a + k * (2 + h))
+tests_fit a k h few short near = omega (arith, mul-le k (2 + h) 32768 32769 short (two_more h near))
+
+pub overflow_add-result-2 : goal.overflow_add-result-2
+overflow_add-result-2 c = tests_fit _ _ _ c.tests_apart.ensures.few (rw c.from.ensures c.rows.ensures.few) c.last_of_side-last.ensures.few

@@ -116,7 +116,7 @@ def demo_lumps(count):
         again(out, bytes([25, 206, 7, 9]), n - 14); out.write(b'\x80')
     return make
 def chain(lumps, ssector=w(1, 0), direction=(0, 64)):
-    """a level with these lumps and 32767 nodes in a chain, of which the last ssector has the points with x above 0"""
+    """a level with these lumps and 32767 nodes in a chain, all along one line: the last ssector has the points on its right"""
     def make(out, part):
         n = int(32767*part); node = w(0, 0, *direction, 64, 0, 0, 0, 64, 0, 0, 0)
         lump = b''.join(node + (w(i - 1, 32769 + i) if i else w(32768, 32769)) for i in range(n))

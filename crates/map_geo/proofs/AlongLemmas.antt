@@ -84,7 +84,8 @@ side_of_tie-row Greater p q = refl
 zero_product-row : (a b k : ℤ) → pos 0 *ℤ a -ℤ k ≡ pos 0 *ℤ b -ℤ k
 zero_product-row a b k = omega (arith, ints)
 
-row_stays : (partition : Partition) (y a b : ℤ) → partition.dy ≡ pos 0
+-- a level partition has a row on one side
+pub row_stays : (partition : Partition) (y a b : ℤ) → partition.dy ≡ pos 0
     → side_of partition (point_at a y) ≡ side_of partition (point_at b y)
 row_stays partition y a b flat =
     let at : ℤ → Partition = λ dy. record partition { dy = dy } in

@@ -62,9 +62,11 @@ impl Partition {
         Partition { x, y, dx, dy }
     }
 
-    // At most 2,147,418,112 in size.
+    /// Above 0 in front of the partition, below 0 behind it, and 0 on its line: left - right in R_PointOnSide of
+    /// linuxdoom 1.10. It is at most 2,147,418,112 in size, and changes by dy from a column to the next, by -dx from a
+    /// row to the next.
     #[inline]
-    fn cross(self, point: Point) -> i32
+    pub fn cross(self, point: Point) -> i32
         ensures { result ≡ cross self point }
     {
         product(self.dy, self.x, point.x()) - product(self.dx, self.y, point.y())

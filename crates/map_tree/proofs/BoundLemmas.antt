@@ -104,7 +104,7 @@ half_high b y d middle h = omega (arith, ints, middle.more, middle.middle.lower,
 not_one : (b : Rect) (y : ℤ) → IsMiddleRow b y → rows_of b ≤ 1 → ⊥
 not_one b y middle h = omega (arith, ints, middle.more)
 
-double : (k j : ℕ) → k ≤ 2 ^ suc j → k ≤ 2 * 2 ^ j
+pub double : (k j : ℕ) → k ≤ 2 ^ suc j → k ≤ 2 * 2 ^ j
 double k j h = omega (arith, pow-suc 2 j)
 
 -- a node with a partition is there

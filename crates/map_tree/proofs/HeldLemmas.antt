@@ -33,7 +33,7 @@ use Rattle.map_tree.proofs.SizeLemmas.{sizes-from_sound, size-of_root, leaf-from
 use Rattle.map_tree.proofs.DescentLemmas.{place_below}
 use Rattle.map_tree.proofs.BoundLemmas.{Halvings-most, near_halvings, node_in, size-sides, IsArea, IsArea-rows_to, IsArea-rows_above, rows_of-rows, rows_of-pos, middle_from, middle_below, most_tests, most_tests-rows}
 use Rattle.map_tree.proofs.RowLemmas.{AreAlike}
-use Rattle.map_tree.proofs.RowsLemmas.{PieceWork, row_at, piece_leaf, piece_down, piece_rows, piece_columns}
+use Rattle.map_tree.proofs.RowsLemmas.{below_to, above_from, next_to, PieceWork, row_at, piece_leaf, piece_down, piece_rows, piece_columns}
 use Rattle.map_tree.proofs.CountLemmas.{plain-rows, plain-columns, plain-full, area-rows, area-columns, area-some, some_span}
 
 -- what a sound level gives
@@ -128,15 +128,6 @@ le_from_lt y b h = omega (arith, ints)
 
 next_above : (a y b : ℤ) → a ≤ℤ y → y <ℤ b → a ≤ℤ (y +ℤ pos 1)
 next_above a y b h k = omega (arith, ints)
-
-next_to : (y b : ℤ) → y <ℤ b → (y +ℤ pos 1) ≤ℤ b
-next_to y b h = omega (arith, ints)
-
-below_to : (z y b : ℤ) → z ≤ℤ y → y <ℤ b → z ≤ℤ b
-below_to z y b h k = omega (arith, ints)
-
-above_from : (a y z : ℤ) → a ≤ℤ y → (y +ℤ pos 1) ≤ℤ z → a ≤ℤ z
-above_from a y z h k = omega (arith, ints)
 
 after : (y z : ℤ) → (y +ℤ pos 1) ≤ℤ z → y <ℤ z
 after y z h = omega (arith, ints)

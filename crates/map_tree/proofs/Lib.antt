@@ -15,6 +15,8 @@ pub mod WordLemmas
 pub mod MarkLemmas
 pub mod MiddleLemmas
 pub mod RowLemmas
+pub mod ColumnLemmas
+pub mod HalvingsLemmas
 pub mod BoundLemmas
 pub mod WorkLemmas
 pub mod CountLemmas

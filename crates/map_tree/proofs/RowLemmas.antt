@@ -1,5 +1,5 @@
--- The search in one row, rows with the same sides, and the ends of those that aren't whole.
-use Rattle.std.proofs.Common.{ℕ, suc, ◌+◌, ℤ, pos, ◌+ℤ◌, ◌-ℤ◌, ◌*ℤ◌, ◌≤ℤ◌, ◌<ℤ◌, ◌≡◌, ◌≢◌, ◌⊎◌, inl, inr, refl, sym, ap, ◌∙◌, subst, Bool, true, false, arith}
+-- Rows with the same sides, and the ends of those that aren't whole.
+use Rattle.std.proofs.Common.{ℤ, pos, ◌-ℤ◌, ◌*ℤ◌, ◌≤ℤ◌, ◌<ℤ◌, ◌≡◌, ◌≢◌, ◌⊎◌, inl, inr, refl, sym, ap, ◌∙◌, subst, Bool, true, false, arith}
 use Rattle.std.proofs.lemmas.Int.{ints, by_lt_z}
 use Rattle.std.specs.Ordering.{int_cmp}
 use Rattle.std.specs.declared.cmp.Ordering.{Ordering}
@@ -15,7 +15,7 @@ use Rattle.map_geo.specs.Side.{side_of, side_of_tie, is_origin, other}
 use Rattle.map_geo.specs.Rect.{Rect, IsWholeSide}
 use Rattle.map_geo.proofs.AlongLemmas.{sides_along_rows}
 use Rattle.map_geo.proofs.SignLemmas.{side_of-same}
-use Rattle.map_tree.specs.Cuts.{IsCut, Halvings, beside, in_right, in_left, IsMiddle, IsLast}
+use Rattle.map_tree.specs.Cuts.{IsCut}
 use Rattle.map_tree.specs.Steps.{ChangeTogether}
 
 pub same_side : (a b : Side) → sameb the_type a b ≡ true → a ≡ b
@@ -35,66 +35,6 @@ other_differs Front Front e f = cc
 other_differs Front Back e f = cc
 other_differs Back Front e f = cc
 other_differs Back Back e f = cc
-
--- how far the search has come: the ends l and e have the two sides, and what is found from here is what is found from the whole row
-pub record Searched (line : Partition) (y : ℤ) (s : Side) (x0 x1 l e : ℤ) (halvings : ℕ) : Type 0 where
-  pub from : x0 ≤ℤ l
-  pub ordered : l <ℤ e
-  pub to : e ≤ℤ x1
-  pub has : side_of line (point_at l y) ≡ s
-  pub has_not : side_of line (point_at e y) ≡ other s
-  pub last : side_of line (point_at x1 y) ≡ other s
-  pub few : (pos halvings +ℤ (e -ℤ l)) ≤ℤ (x1 -ℤ x0)
-  pub owes : (b : ℕ) → Halvings line y s l e b → Halvings line y s x0 x1 (halvings + b)
-
-module _ (line : Partition) (y : ℤ) (s : Side) (x0 x1 : ℤ) where
-  pub Searched-start : x0 <ℤ x1 → side_of line (point_at x0 y) ≡ s → side_of line (point_at x1 y) ≡ other s → Searched line y s x0 x1 x0 x1 0
-  Searched-start ordered has last = record {
-    from = omega (arith, ints);
-    ordered = ordered;
-    to = omega (arith, ints);
-    has = has;
-    has_not = last;
-    last = last;
-    few = omega (arith, ints);
-    owes = λ b found. subst (Halvings line y s x0 x1) (omega arith) found;
-  }
-
-  pub Searched-right : (l e m : ℤ) (halvings : ℕ) → Searched line y s x0 x1 l e halvings → (l +ℤ pos 1) <ℤ e → IsMiddle m l e → side_of line (point_at m y) ≡ s → Searched line y s x0 x1 m e (halvings + 1)
-  Searched-right l e m halvings so_far more middle has = record {
-    from = omega (arith, ints, so_far.from, middle.upper);
-    ordered = omega (arith, ints, middle.lower);
-    to = so_far.to;
-    has = has;
-    has_not = so_far.has_not;
-    last = so_far.last;
-    few = omega (arith, ints, so_far.few, middle.upper);
-    owes = λ b found. subst (Halvings line y s x0 x1) (omega arith) (so_far.owes (suc b) (in_right l e m b more middle has found));
-  }
-
-  pub Searched-left : (l e m : ℤ) (halvings : ℕ) → Searched line y s x0 x1 l e halvings → (l +ℤ pos 1) <ℤ e → IsMiddle m l e → side_of line (point_at m y) ≡ other s → Searched line y s x0 x1 l m (halvings + 1)
-  Searched-left l e m halvings so_far more middle has = record {
-    from = so_far.from;
-    ordered = omega (arith, ints, middle.upper);
-    to = omega (arith, ints, so_far.to, middle.lower);
-    has = so_far.has;
-    has_not = has;
-    last = so_far.last;
-    few = omega (arith, ints, so_far.few, middle.lower);
-    owes = λ b found. subst (Halvings line y s x0 x1) (omega arith) (so_far.owes (suc b) (in_left l e m b more middle (other_differs _ s has) found));
-  }
-
-  pub Searched-last : (l e : ℤ) (halvings : ℕ) → Searched line y s x0 x1 l e halvings → e ≤ℤ (l +ℤ pos 1) → IsLast line y s x0 x1 l
-  Searched-last l e halvings so_far near = record {
-    from = so_far.from;
-    below = omega (arith, ints, so_far.ordered, so_far.to);
-    has = so_far.has;
-    others = λ x after to. sides_along_rows line y e x x1 (omega (arith, ints)) to (so_far.has_not ∙ sym so_far.last) ∙ so_far.has_not;
-  }
-
-  pub Searched-halvings : (l e : ℤ) (halvings : ℕ) → Searched line y s x0 x1 l e halvings → e ≤ℤ (l +ℤ pos 1) → Halvings line y s x0 x1 halvings
-  Searched-halvings l e halvings so_far near =
-      subst (Halvings line y s x0 x1) (omega arith) (so_far.owes 0 (beside l e (omega (arith, ints, so_far.ordered))))
 
 same_or_other : (a b : Side) → (a ≡ b) ⊎ (a ≡ other b)
 same_or_other Front Front = inl refl
@@ -140,7 +80,7 @@ ends_differ line b same_rows cut = elim (same_or_other (side_of line (point_at b
   | inr differ ↦ differ
 ]
 
-not_other : (a : Side) → a ≡ other a → ⊥
+pub not_other : (a : Side) → a ≡ other a → ⊥
 not_other Front e = cc
 not_other Back e = cc
 

@@ -15,8 +15,9 @@ use Rattle.map_tree.specs.Child.{child}
 use Rattle.map_tree.specs.Cuts.{IsCut, IsLast, Halvings, beside, in_right, in_left, IsMiddle, IsMiddleRow, rows_to, rows_above, columns_to, columns_right}
 use Rattle.map_tree.specs.Steps.{tests_whole, tests_apart, tests_halved, IsHeight, IsDepth}
 use Rattle.map_tree.specs.Work.{partition_at, Work, at_ssector, to_child, by_rows, in_row}
-use Rattle.map_tree.proofs.BoundLemmas.{rows_of-rows, rows_of-one, half_low, half_high, middle_from, middle_below}
-use Rattle.map_tree.proofs.MiddleLemmas.{half_of}
+use Rattle.map_tree.proofs.BoundLemmas.{rows_of-rows, rows_of-one, half_low, half_high, double, middle_from, middle_below}
+use Rattle.map_tree.proofs.MiddleLemmas.{half_of, le_itself}
+use Rattle.map_tree.proofs.WorkLemmas.{one_middle_row, flat_not}
 use Rattle.map_tree.proofs.RowLemmas.{other_differs, AreAlike}
 
 -- rows y0 to y1 of columns x0 to x1, each a piece by itself, take w tests together; they are found by halves, and are p deep
@@ -46,31 +47,22 @@ row_at line rect s c h alike left last halvings y from to = record {
   halvings = Halvings-same line rect.y0 y s rect.x0 rect.x1 h (alike y from to) halvings;
 }
 
-to_below : (z y b : ℤ) → z ≤ℤ y → y <ℤ b → z ≤ℤ b
-to_below z y b h k = omega (arith, ints)
+pub below_to : (z y b : ℤ) → z ≤ℤ y → y <ℤ b → z ≤ℤ b
+below_to z y b h k = omega (arith, ints)
 
-from_above : (a y z : ℤ) → a ≤ℤ y → (y +ℤ pos 1) ≤ℤ z → a ≤ℤ z
-from_above a y z h k = omega (arith, ints)
+pub above_from : (a y z : ℤ) → a ≤ℤ y → (y +ℤ pos 1) ≤ℤ z → a ≤ℤ z
+above_from a y z h k = omega (arith, ints)
 
 up_to : (z y b : ℤ) → z ≤ℤ y → y ≤ℤ b → z ≤ℤ b
 up_to z y b h k = omega (arith, ints)
 
-same : (y : ℤ) → y ≤ℤ y
-same y = omega (arith, ints)
-
-last_from : (y b : ℤ) → y <ℤ b → (y +ℤ pos 1) ≤ℤ b
-last_from y b h = omega (arith, ints)
+pub next_to : (y b : ℤ) → y <ℤ b → (y +ℤ pos 1) ≤ℤ b
+next_to y b h = omega (arith, ints)
 
 -- a rectangle with a cut row is cut
 cut_by_row : (line : Partition) (x0 x1 y0 y1 : ℤ) → y0 ≤ℤ y1 → IsCut (rect_at x0 y0 x1 y0) line → IsCut (rect_at x0 y0 x1 y1) line
 cut_by_row line x0 x1 y0 y1 some cut s on =
     cut s (λ point inside. on point (record { left = inside.left; right = inside.right; lowest = inside.lowest; highest = up_to _ _ _ inside.highest some }))
-
-one_middle_row : (x0 x1 x2 x3 y0 y1 y z : ℤ) → IsMiddleRow (rect_at x0 y0 x1 y1) y → IsMiddleRow (rect_at x2 y0 x3 y1) z → z ≡ y
-one_middle_row x0 x1 x2 x3 y0 y1 y z a b = omega (arith, ints, a.middle.lower, a.middle.upper, b.middle.lower, b.middle.upper)
-
-not_flat : (x0 x1 y0 y1 y : ℤ) → y0 ≡ y1 → IsMiddleRow (rect_at x0 y0 x1 y1) y → ⊥
-not_flat x0 x1 y0 y1 y e m = omega (arith, ints, m.more)
 
 tests_once : (w r : ℕ) → r ≡ 1 → w ≡ w + (r - 1)
 tests_once w r e = omega arith
@@ -96,9 +88,6 @@ tests_whole_row w r e = omega arith
 tests_whole_rows : (w1 w2 r1 r2 r : ℕ) → r ≡ r1 + r2 → w1 + r1 + (w2 + r2) ≡ w1 + w2 + r
 tests_whole_rows w1 w2 r1 r2 r e = omega arith
 
-sum_none : (z : ℤ) → z ≡ z +ℤ pos 0
-sum_none z = omega (arith, ints)
-
 -- the last of the lower half of some rows
 middle_at : (y0 y1 h : ℤ) → IsMiddle h (span y0 y1) (pos 0) → IsMiddle ((y0 +ℤ h -ℤ pos 1) -ℤ y0 +ℤ pos 1) (span y0 y1) (pos 0)
 middle_at y0 y1 h m = record { lower = omega (arith, ints, m.lower); upper = omega (arith, ints, m.upper) }
@@ -106,16 +95,13 @@ middle_at y0 y1 h m = record { lower = omega (arith, ints, m.lower); upper = ome
 some_middle : (x0 x1 y0 y1 : ℤ) → y0 <ℤ y1 → (y : ℤ) × IsMiddleRow (rect_at x0 y0 x1 y1) y
 some_middle x0 x1 y0 y1 less =
     let h = shr_z (span y0 y1) 2 in
-    (y0 +ℤ h -ℤ pos 1, record { more = less; middle = middle_at y0 y1 h (half_of (span y0 y1) (pos 0) (span y0 y1) (sum_none (span y0 y1))) })
+    (y0 +ℤ h -ℤ pos 1, record { more = less; middle = middle_at y0 y1 h (half_of (span y0 y1) (pos 0) (span y0 y1) (omega (arith, ints))) })
 
 one_left : (x0 x1 y0 y1 : ℤ) → y0 ≤ℤ y1 → rows_of (rect_at x0 y0 x1 y1) ≤ 1 → y0 ≡ y1
 one_left x0 x1 y0 y1 some few = omega (arith, ints)
 
 flat_from : (y0 y1 : ℤ) → y0 ≤ℤ y1 → y1 ≤ℤ y0 → y0 ≡ y1
 flat_from y0 y1 h k = omega (arith, ints)
-
-doubled : (b k : ℕ) → k ≤ 2 ^ suc b → k ≤ 2 * 2 ^ b
-doubled b k h = omega (arith, pow-suc 2 b)
 
 shallower : (d1 d2 b : ℕ) → d1 ≤ 1 + b → d2 ≤ 1 + b → max (d2 + 1) d1 ≤ 1 + suc b
 shallower d1 d2 b h k = omega arith
@@ -128,7 +114,7 @@ more_rows x0 x1 y0 y1 b some h = omega (arith, ints, h.least, pow-suc 2 b, pow_p
 
 high_height : (rect : Rect) (y : ℤ) (b : ℕ) → IsMiddleRow rect y → IsHeight (rows_of rect) (suc b) → IsHeight (rows_of (rows_above rect y)) b
 high_height rect y b m h = record {
-  enough = half_high rect y (2 ^ b) m (doubled b _ h.enough);
+  enough = half_high rect y (2 ^ b) m (double _ b h.enough);
   least = omega (arith, ints, h.least, pow-suc 2 b, m.more, m.middle.lower, m.middle.upper);
 }
 
@@ -149,10 +135,10 @@ module _ (level : Level) where
         let b : Rect = rect_at x0 y0 x1 y1 in
         let from = middle_from b y middle in
         let below = middle_below b y middle in
-        let first = joined x0 x1 y0 y w1 p1 from (λ z h k. cut z h (to_below z y y1 k below)) low in
-        let second = joined x0 x1 (y +ℤ pos 1) y1 w2 p2 (last_from y y1 below) (λ z h k. cut z (from_above y0 y z from h) k) high in
-        Work-same b (node n) _ (max (p2 + 1) p1) _ (tests_joined w1 w2 _ _ _ (rows_of-rows b y middle) (some_rows x0 x1 y0 y from) (some_rows x0 x1 (y +ℤ pos 1) y1 (last_from y y1 below)))
-        (by_rows b n line y _ p1 _ p2 at (cut_by_row line x0 x1 y0 y1 some (cut y0 (same y0) some)) middle first second)
+        let first = joined x0 x1 y0 y w1 p1 from (λ z h k. cut z h (below_to z y y1 k below)) low in
+        let second = joined x0 x1 (y +ℤ pos 1) y1 w2 p2 (next_to y y1 below) (λ z h k. cut z (above_from y0 y z from h) k) high in
+        Work-same b (node n) _ (max (p2 + 1) p1) _ (tests_joined w1 w2 _ _ _ (rows_of-rows b y middle) (some_rows x0 x1 y0 y from) (some_rows x0 x1 (y +ℤ pos 1) y1 (next_to y y1 below)))
+        (by_rows b n line y _ p1 _ p2 at (cut_by_row line x0 x1 y0 y1 some (cut y0 (le_itself y0) some)) middle first second)
 
     -- rows on one side go to that side's child with one test each
     whole : (s : Side) (next : Place) (x0 x1 y0 y1 : ℤ) (w p : ℕ) → child level n s ≡ Some next → IsWholeSide (rect_at x0 y0 x1 y1) line s
@@ -164,17 +150,17 @@ module _ (level : Level) where
         let b : Rect = rect_at x0 y0 x1 y1 in
         let from = middle_from b y middle in
         let below = middle_below b y middle in
-        let first = whole s next x0 x1 y0 y w1 p1 is_child (λ point inside. on point (record { left = inside.left; right = inside.right; lowest = inside.lowest; highest = to_below _ _ _ inside.highest below })) low in
-        let second = whole s next x0 x1 (y +ℤ pos 1) y1 w2 p2 is_child (λ point inside. on point (record { left = inside.left; right = inside.right; lowest = from_above _ _ _ from inside.lowest; highest = inside.highest })) high in
+        let first = whole s next x0 x1 y0 y w1 p1 is_child (λ point inside. on point (record { left = inside.left; right = inside.right; lowest = inside.lowest; highest = below_to _ _ _ inside.highest below })) low in
+        let second = whole s next x0 x1 (y +ℤ pos 1) y1 w2 p2 is_child (λ point inside. on point (record { left = inside.left; right = inside.right; lowest = above_from _ _ _ from inside.lowest; highest = inside.highest })) high in
         RowsWork-same (node n) x0 x1 y0 y1 _ (max (p2 + 1) p1) _ _ (tests_whole_rows w1 w2 _ _ _ (rows_of-rows b y middle)) refl (halves y0 y1 y _ p1 _ p2 middle first second)
 
     module _ (s : Side) (near far : Place) (x0 x1 c : ℤ) (h : ℕ) (is_child : child level n s ≡ Some near) (is_other : child level n (other s) ≡ Some far) where
       cut_at : (y : ℤ) → IsRowAt line s x0 x1 c h y → IsCut (rect_at x0 y x1 y) line
       cut_at y row u on =
-          let ordered : record { left : x0 ≤ℤ x1 } = record { left = to_below _ _ _ row.last.from row.last.below } in
-          other_differs (side_of line (point_at x1 y)) s (row.last.others x1 row.last.below (same x1))
-          (on (point_at x1 y) (record { left = ordered.left; right = same x1; lowest = same y; highest = same y })
-          ∙ (sym (on (point_at x0 y) (record { left = same x0; right = ordered.left; lowest = same y; highest = same y })) ∙ row.left))
+          let ordered : record { left : x0 ≤ℤ x1 } = record { left = below_to _ _ _ row.last.from row.last.below } in
+          other_differs (side_of line (point_at x1 y)) s (row.last.others x1 row.last.below (le_itself x1))
+          (on (point_at x1 y) (record { left = ordered.left; right = le_itself x1; lowest = le_itself y; highest = le_itself y })
+          ∙ (sym (on (point_at x0 y) (record { left = le_itself x0; right = ordered.left; lowest = le_itself y; highest = le_itself y })) ∙ row.left))
 
       -- rows that change their side at one column are cut there in one
       columns : (y0 y1 : ℤ) (w1 p1 w2 p2 : ℕ) → y0 ≤ℤ y1 → ((y : ℤ) → y0 ≤ℤ y → y ≤ℤ y1 → IsRowAt line s x0 x1 c h y)
@@ -182,21 +168,21 @@ module _ (level : Level) where
           → RowsWork level (node n) x0 x1 y0 y1 (w1 + w2 + rows_of (rect_at x0 y0 x1 y1) * (2 + h)) (max (p2 + 1) p1)
       columns _ _ _ _ _ _ some row (one_row y0 y1 w1 p1 flat work1) (one_row y0' y1' w2 p2 flat' work2) =
           let b : Rect = rect_at x0 y0 x1 y1 in
-          let first = row y0 (same y0) some in
+          let first = row y0 (le_itself y0) some in
           one_row y0 y1 _ _ flat (Work-same b (node n) _ _ _ (tests_row w1 w2 _ h (rows_of-one b flat))
           (in_row b n line s c near far h w1 p1 w2 p2 at (cut_by_row line x0 x1 y0 y1 some (cut_at y0 first)) flat first.left first.last first.halvings is_child is_other work1 work2))
       columns _ _ _ _ _ _ some row (one_row y0 y1 w1 p1 flat work1) (halves y0' y1' y w2 p2 w3 p3 middle low high) =
-          absurd (not_flat (c +ℤ pos 1) x1 y0 y1 y flat middle)
+          absurd (flat_not (rect_at (c +ℤ pos 1) y0 x1 y1) y flat middle)
       columns _ _ _ _ _ _ some row (halves y0 y1 y w2 p2 w3 p3 middle low high) (one_row y0' y1' w1 p1 flat work1) =
-          absurd (not_flat x0 c y0 y1 y flat middle)
+          absurd (flat_not (rect_at x0 y0 c y1) y flat middle)
       columns _ _ _ _ _ _ some row (halves y0 y1 y a1 p1 b1 q1 middle low high) (halves y0' y1' z a2 p2 b2 q2 middle' low' high') =
           let b : Rect = rect_at x0 y0 x1 y1 in
           let middle_here : IsMiddleRow b y = record { more = middle.more; middle = middle.middle } in
           let from = middle_from b y middle_here in
           let below = middle_below b y middle_here in
-          let e = one_middle_row x0 c (c +ℤ pos 1) x1 y0 y1 y z middle middle' in
-          let first = columns y0 y a1 p1 a2 p2 from (λ v h k. row v h (to_below v y y1 k below)) low (subst (λ v. RowsWork level far (c +ℤ pos 1) x1 y0 v a2 p2) e low') in
-          let second = columns (y +ℤ pos 1) y1 b1 q1 b2 q2 (last_from y y1 below) (λ v h k. row v (from_above y0 y v from h) k) high (subst (λ v. RowsWork level far (c +ℤ pos 1) x1 (v +ℤ pos 1) y1 b2 q2) e high') in
+          let e = one_middle_row b z y (record { more = middle'.more; middle = middle'.middle }) middle_here in
+          let first = columns y0 y a1 p1 a2 p2 from (λ v h k. row v h (below_to v y y1 k below)) low (subst (λ v. RowsWork level far (c +ℤ pos 1) x1 y0 v a2 p2) e low') in
+          let second = columns (y +ℤ pos 1) y1 b1 q1 b2 q2 (next_to y y1 below) (λ v h k. row v (above_from y0 y v from h) k) high (subst (λ v. RowsWork level far (c +ℤ pos 1) x1 (v +ℤ pos 1) y1 b2 q2) e high') in
           RowsWork-same (node n) x0 x1 y0 y1 _ _ _ _ (tests_columns a1 a2 b1 b2 _ _ _ (2 + h) (rows_of-rows b y middle_here)) (depth_columns p1 p2 q1 q2) (halves y0 y1 y _ _ _ _ middle_here first second)
 
   leaf_row : (t : ℕ) (x0 x1 y0 y1 : ℤ) → y0 ≡ y1 → RowsWork level (ssector t) x0 x1 y0 y1 0 1
@@ -211,9 +197,9 @@ module _ (level : Level) where
         (λ less.
         let rect : Rect = rect_at x0 y0 x1 y1 in
         let m = some_middle x0 x1 y0 y1 less in
-        let half = doubled b _ few in
+        let half = double _ b few in
         let low = shallow_leaf b y0 m.0 (middle_from rect m.0 m.1) (half_low rect m.0 (2 ^ b) m.1 half) in
-        let high = shallow_leaf b (m.0 +ℤ pos 1) y1 (last_from m.0 y1 (middle_below rect m.0 m.1)) (half_high rect m.0 (2 ^ b) m.1 half) in
+        let high = shallow_leaf b (m.0 +ℤ pos 1) y1 (next_to m.0 y1 (middle_below rect m.0 m.1)) (half_high rect m.0 (2 ^ b) m.1 half) in
         (max (high.0 + 1) low.0, halves y0 y1 m.0 0 low.0 0 high.0 m.1 low.1 high.1, shallower low.0 high.0 b low.2 high.2))
         (λ most. (1, leaf_row t x0 x1 y0 y1 (flat_from y0 y1 some most), omega arith))
 
@@ -222,9 +208,9 @@ module _ (level : Level) where
     leaf (suc b) y0 y1 some height =
         let rect : Rect = rect_at x0 y0 x1 y1 in
         let m = some_middle x0 x1 y0 y1 (more_rows x0 x1 y0 y1 b some height) in
-        let half = doubled b _ height.enough in
+        let half = double _ b height.enough in
         let low = shallow_leaf b y0 m.0 (middle_from rect m.0 m.1) (half_low rect m.0 (2 ^ b) m.1 half) in
-        let high = leaf b (m.0 +ℤ pos 1) y1 (last_from m.0 y1 (middle_below rect m.0 m.1)) (high_height rect m.0 b m.1 height) in
+        let high = leaf b (m.0 +ℤ pos 1) y1 (next_to m.0 y1 (middle_below rect m.0 m.1)) (high_height rect m.0 b m.1 height) in
         RowsWork-same (ssector t) x0 x1 y0 y1 0 _ 0 _ refl (deepest low.0 b low.2) (halves y0 y1 m.0 0 low.0 0 (1 + b) m.1 low.1 high)
 
 -- what a piece takes, and how deep it is

@@ -71,7 +71,8 @@ fn start(level: &Level<'_>, rect: Rect) -> Piece
     }
 }
 
-// How many tests a census tells, and the most pieces that were pending at once.
+// How many tests a census takes, and the most pieces that are pending at once, where each row that is cut goes on by
+// itself.
 #[derive(Clone, Copy)]
 pub(crate) struct Work {
     pub tests: u64,

@@ -37,15 +37,14 @@ impl<A: Allocator> Counts<A> {
         self.pairs.get(number).copied()
     }
 
-    /// How many calls of `whole_side` and `side` the census took, were each row that is cut at a column to go on by itself.
-    /// It makes fewer, as rows that are cut at the same column go on in one.
+    /// How many calls of `whole_side` and `side` the census takes, where each row that is cut goes on by itself.
     pub fn tests(&self) -> u64
         ensures { result ≡ self.now.tests }
     {
         self.tests
     }
 
-    /// The most pieces that were pending at once then, the one in hand included.
+    /// The most pieces that are then pending at once, the one in hand included.
     pub fn pending(&self) -> u32
         ensures { result ≡ self.now.pending }
     {

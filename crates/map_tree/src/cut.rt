@@ -9,7 +9,7 @@ ghost use Rattle.map_tree.specs.Steps.{IsWord, ChangeTogether, IsRowsCut, IsColu
 
 use crate::pieces::{Halves, Piece, Step, depth, rows, tests_whole, word_at};
 use crate::places::NF_SUBSECTOR;
-use crate::row::{last_of_side, middle};
+use crate::row::{halvings_to, last_column, middle};
 use le_rec::{Node, Table};
 use map_geo::{Partition, Point, Rect, side, whole_side};
 
@@ -113,19 +113,19 @@ fn cut_columns(node: &Node, piece: Piece) -> Halves
     let right = rect.x1();
     let y = rect.y0();
     let s = side(Point::at(left, y), partition);
-    let last = last_of_side(partition, y, s, left, right);
+    let column = last_column(node, y, s, left, right);
     Halves {
         first: Piece {
-            rect: rect.columns_to(last.column),
+            rect: rect.columns_to(column),
             word: word_at(node, s),
             rowwise: true,
         },
         second: Piece {
-            rect: rect.columns_from(last.column + 1),
+            rect: rect.columns_from(column + 1),
             word: word_at(node, s.other()),
             rowwise: true,
         },
-        tests: tests_apart(piece) + u64::from(rows(rect)) * (2 + last.halvings),
+        tests: tests_apart(piece) + u64::from(rows(rect)) * (2 + halvings_to(column, left, right)),
     }
 }
 

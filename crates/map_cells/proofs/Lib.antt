@@ -4,6 +4,7 @@ pub mod CountLemmas
 pub mod GroupLemmas
 pub mod FrameLemmas
 pub mod RowLemmas
+pub mod MetLemmas
 pub mod WayLemmas
 pub mod FrontLemmas
 pub mod SeenLemmas

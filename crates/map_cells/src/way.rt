@@ -11,7 +11,7 @@ ghost use Rattle.map_cells.specs.Grid.{columns_of};
 ghost use Rattle.map_cells.specs.Row.{point_of};
 ghost use Rattle.map_cells.specs.Way.{AllCome, ArePending, IsParted};
 
-use crate::change::{ColumnTest, change};
+use crate::change::ColumnTest;
 use crate::row::Row;
 use arrayvec::ArrayVec;
 use le_rec::Node;
@@ -146,5 +146,33 @@ fn near_end(test: &OnSide, from: u16, end: u16) -> u16
     if last == from || test.holds(last) {
         return end;
     }
-    change(test, from, last)
+    met_end(test, from, last)
+}
+
+// The first column that isn't on the side of `from`, up to `last`, which isn't. The line of the partition comes nearer by
+// the same with each column, so that a division tells where it is met.
+#[inline]
+fn met_end(test: &OnSide, from: u16, last: u16) -> u16
+    requires ordered { from < last }
+    requires within { last < columns_of test.now.row.grid }
+    requires begins { side_of test.now.partition (point_of test.now.row from) ≡ test.now.side }
+    requires ends { side_of test.now.partition (point_of test.now.row last) ≡ other test.now.side }
+    ensures some { from < result }
+    ensures within { result ≤ last }
+    ensures near { (i : ℕ) → from ≤ i → i < result
+        → side_of test.now.partition (point_of test.now.row i) ≡ test.now.side }
+    ensures far { (i : ℕ) → result ≤ i → i ≤ last
+        → side_of test.now.partition (point_of test.now.row i) ≡ other test.now.side }
+{
+    let here = test.partition.cross(test.row.point(from));
+    let next = test.partition.cross(test.row.point(from + 1));
+    let distance = here.unsigned_abs();
+    let step = here.abs_diff(next);
+    let met = from + (distance / step) as u16;
+    // A point of the line itself may be on either side.
+    if distance % step == 0 && !test.holds(met) {
+        met
+    } else {
+        met + 1
+    }
 }

@@ -1,5 +1,5 @@
 use Rattle.std.proofs.Common.{◌≡◌, ◌-◌, refl, subst, arith}
-use Rattle.map_geo.specs.Side.{other, side_of}
+use Rattle.map_geo.specs.Side.{side_of}
 use Rattle.map_cells.specs.Row.{point_of}
 use Rattle.map_cells.proofs.RowLemmas.{side_between}
 use Rattle.map_cells.proofs.WayLemmas.{sides_differ}
@@ -19,14 +19,9 @@ returns-then-last-from-clause-near c = λ i after before.
           (w.if-holds.ensures.0 refl)
     ]
 
-pub returns-clause-near : goal.returns-clause-near
-returns-clause-near c = λ i after before.
-    side_between c.args.test.now.partition c.args.test.now.row c.args.test.now.side c.args.from i (c.change.result - 1) after (omega (arith, before))
-    c.requires.begins c.change.ensures.before
+pub met_end-requires-clause-ends : goal.met_end-requires-clause-ends
+met_end-requires-clause-ends c =
+    sides_differ _ c.args.test.now.side (λ is. let yes = c.if-holds.ensures.1 is in let f : ⊥ = cc in f)
 
 pub returns-clause-far : goal.returns-clause-far
-returns-clause-far c = λ i after before.
-    let test = c.args.test.now in
-    let here = sides_differ _ test.side c.change.ensures.here in
-    let last = sides_differ _ test.side (λ is. let yes = c.if-holds.ensures.1 is in let f : ⊥ = cc in f) in
-    side_between test.partition test.row (other test.side) c.change.result i (c.args.end - 1) after (omega (arith, before)) here last
+returns-clause-far c = λ i after before. c.met_end.ensures.far i after (omega (arith, before))

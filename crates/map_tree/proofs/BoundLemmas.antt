@@ -77,8 +77,8 @@ pub IsArea-columns_right : (b : Rect) (c : ℤ) → IsArea b → b.x0 ≤ℤ c �
 IsArea-columns_right b c area from below =
     let near = area.near in record { columns = omega (arith, ints); rows = area.rows; near = omega (arith, ints) }
 
-pub rows_of-rows : (b : Rect) (y : ℤ) → IsMiddleRow b y → rows_of b ≡ rows_of (rows_to b y) + rows_of (rows_above b y)
-rows_of-rows b y middle = omega (arith, ints, middle.more, middle.middle.lower, middle.middle.upper)
+pub rows_of-rows : (b : Rect) (y : ℤ) → IsArea b → IsMiddleRow b y → rows_of b ≡ rows_of (rows_to b y) + rows_of (rows_above b y)
+rows_of-rows b y area middle = omega (arith, ints, middle.more, middle.middle.lower, middle.middle.upper)
 
 pub rows_of-pos : (b : Rect) → IsArea b → 0 < rows_of b
 rows_of-pos b area = omega (arith, ints, area.rows)
@@ -89,22 +89,16 @@ rows_of-one b e = omega (arith, ints)
 pub near_halvings : (l e : ℤ) → e ≤ℤ (l +ℤ pos 32768) → e ≤ℤ (l +ℤ pos (2 ^ 15))
 near_halvings l e h = h
 
-pub middle_from : (b : Rect) (y : ℤ) → IsMiddleRow b y → b.y0 ≤ℤ y
-middle_from b y m = omega (arith, ints, m.more, m.middle.upper)
+half_low : (b : Rect) (y : ℤ) (d : ℕ) → IsArea b → IsMiddleRow b y → rows_of b ≤ 2 * d → rows_of (rows_to b y) ≤ d
+half_low b y d area middle h = omega (arith, ints, middle.more, middle.middle.lower, middle.middle.upper)
 
-pub middle_below : (b : Rect) (y : ℤ) → IsMiddleRow b y → y <ℤ b.y1
-middle_below b y m = omega (arith, ints, m.more, m.middle.lower)
-
-pub half_low : (b : Rect) (y : ℤ) (d : ℕ) → IsMiddleRow b y → rows_of b ≤ 2 * d → rows_of (rows_to b y) ≤ d
-half_low b y d middle h = omega (arith, ints, middle.more, middle.middle.lower, middle.middle.upper)
-
-pub half_high : (b : Rect) (y : ℤ) (d : ℕ) → IsMiddleRow b y → rows_of b ≤ 2 * d → rows_of (rows_above b y) ≤ d
-half_high b y d middle h = omega (arith, ints, middle.more, middle.middle.lower, middle.middle.upper)
+half_high : (b : Rect) (y : ℤ) (d : ℕ) → IsArea b → IsMiddleRow b y → rows_of b ≤ 2 * d → rows_of (rows_above b y) ≤ d
+half_high b y d area middle h = omega (arith, ints, middle.more, middle.middle.lower, middle.middle.upper)
 
 not_one : (b : Rect) (y : ℤ) → IsMiddleRow b y → rows_of b ≤ 1 → ⊥
 not_one b y middle h = omega (arith, ints, middle.more)
 
-pub double : (k j : ℕ) → k ≤ 2 ^ suc j → k ≤ 2 * 2 ^ j
+double : (k j : ℕ) → k ≤ 2 ^ suc j → k ≤ 2 * 2 ^ j
 double k j h = omega (arith, pow-suc 2 j)
 
 -- a node with a partition is there
@@ -131,7 +125,7 @@ module _ (level : Level) (size : Place → ℕ) (sizes : AreSizes level size) wh
       let high_area = IsArea-rows_above b y area middle in
       let h1 = tests-most (rows_to b y) (node n) w1 p1 low low_area in
       let h2 = tests-most (rows_above b y) (node n) w2 p2 high high_area in
-      rw (rows_of-rows b y middle) (most_tests-rows (rows_of (rows_to b y)) (rows_of (rows_above b y)) (size (node n)) w1 w2 (sizes.some n (node_in level n line at_node)) (rows_of-pos _ low_area) (rows_of-pos _ high_area) h1 h2)
+      rw (rows_of-rows b y area middle) (most_tests-rows (rows_of (rows_to b y)) (rows_of (rows_above b y)) (size (node n)) w1 w2 (sizes.some n (node_in level n line at_node)) (rows_of-pos _ low_area) (rows_of-pos _ high_area) h1 h2)
   tests-most _ _ _ _ (in_row b n line s c q r h w1 p1 w2 p2 at_node cut flat is_side last halvings is_child is_other first second) area =
       let one = rows_of-one b flat in
       let h1 = rw one at (tests-most (columns_to b c) q w1 p1 first (IsArea-columns_to b c area last.from last.below)) in
@@ -147,8 +141,8 @@ module _ (level : Level) (size : Place → ℕ) (sizes : AreSizes level size) wh
       let less = double (rows_of b) j few in
       omega (
         arith,
-        depth-most (rows_to b y) (node n) w1 p1 j low (IsArea-rows_to b y area middle) (half_low b y (2 ^ j) middle less),
-        depth-most (rows_above b y) (node n) w2 p2 j high (IsArea-rows_above b y area middle) (half_high b y (2 ^ j) middle less),
+        depth-most (rows_to b y) (node n) w1 p1 j low (IsArea-rows_to b y area middle) (half_low b y (2 ^ j) area middle less),
+        depth-most (rows_above b y) (node n) w2 p2 j high (IsArea-rows_above b y area middle) (half_high b y (2 ^ j) area middle less),
       )
   depth-most _ _ _ _ j (in_row b n line s c q r h w1 p1 w2 p2 at_node cut flat is_side last halvings is_child is_other first second) area few =
       omega (

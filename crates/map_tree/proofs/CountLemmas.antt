@@ -75,7 +75,7 @@ area-rows b y from below = rw (span_parts b.y0 y b.y1 from below) (omega arith)
 pub area-columns : (b : Rect) (x : ℤ) → b.x0 ≤ℤ x → x <ℤ b.x1 → point_count b ≡ point_count (columns_to b x) + point_count (columns_right b x)
 area-columns b x from below = rw (span_parts b.x0 x b.x1 from below) (omega arith)
 
-pub some_span : (a b : ℤ) → a ≤ℤ b → 1 ≤ unsigned_abs (span a b)
+some_span : (a b : ℤ) → a ≤ℤ b → 1 ≤ unsigned_abs (span a b)
 some_span a b h = omega (arith, ints)
 
 pub area-some : (b : Rect) → IsArea b → 1 ≤ point_count b

@@ -20,9 +20,7 @@ pub mod HalvingsLemmas
 pub mod BoundLemmas
 pub mod WorkLemmas
 pub mod CountLemmas
-pub mod RowsLemmas
 pub mod HeldLemmas
-pub mod HeightLemmas
 pub mod TurnLemmas
 pub mod PairLemmas
 pub mod TouchedLemmas

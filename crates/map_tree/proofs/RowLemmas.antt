@@ -42,7 +42,7 @@ same_or_other Front Back = inr refl
 same_or_other Back Front = inr refl
 same_or_other Back Back = inl refl
 
-same_from_bounds : (a b z : ℤ) → a ≡ b → a ≤ℤ z → z ≤ℤ b → z ≡ a
+pub same_from_bounds : (a b z : ℤ) → a ≡ b → a ≤ℤ z → z ≤ℤ b → z ≡ a
 same_from_bounds a b z e h k = omega (arith, ints)
 
 tie_upright : (o : Ordering) (p q : Bool) → side_of_tie Equal o p ≡ side_of_tie Equal o q
@@ -70,7 +70,7 @@ pub alike : (found : Node) (b : Rect) → ChangeTogether found b → AreAlike (p
 alike found b (inl flat) y from to x = ap (λ z. side_of (partition_of found) (point_at x z)) (same_from_bounds b.y0 b.y1 y flat from to)
 alike found b (inr upright) y from to x = side_upright (partition_of found) x y b.y0 upright
 
-whole_rows : (line : Partition) (b : Rect) → AreAlike line b → side_of line (point_at b.x1 b.y0) ≡ side_of line (point_at b.x0 b.y0) → IsWholeSide b line (side_of line (point_at b.x0 b.y0))
+pub whole_rows : (line : Partition) (b : Rect) → AreAlike line b → side_of line (point_at b.x1 b.y0) ≡ side_of line (point_at b.x0 b.y0) → IsWholeSide b line (side_of line (point_at b.x0 b.y0))
 whole_rows line b same_rows same place inside =
     same_rows place.y inside.lowest inside.highest place.x ∙ sides_along_rows line b.y0 b.x0 place.x b.x1 inside.left inside.right (sym same)
 
@@ -87,3 +87,21 @@ not_other Back e = cc
 pub ends_ordered : (line : Partition) (b : Rect) → b.x0 ≤ℤ b.x1 → AreAlike line b → IsCut b line → b.x0 <ℤ b.x1
 ends_ordered line b some same_rows cut =
     by_lt_z b.x0 b.x1 (λ h. h) (λ h. let one : b.x0 ≡ b.x1 = omega (arith, ints) in absurd (not_other (side_of line (point_at b.x1 b.y0)) (rw one at (ends_differ line b same_rows cut))))
+
+to_itself : (z : ℤ) → z ≤ℤ z
+to_itself z = omega (arith, ints)
+
+pub other_back : (a b : Side) → a ≡ other b → b ≡ other a
+other_back Front Front e = cc
+other_back Front Back e = refl
+other_back Back Front e = refl
+other_back Back Back e = cc
+
+-- a rectangle whose lowest row has both sides at its ends is cut
+pub cut_by_ends : (line : Partition) (b : Rect) (s : Side) → b.x0 ≤ℤ b.x1 → b.y0 ≤ℤ b.y1 → side_of line (point_at b.x0 b.y0) ≡ s
+    → side_of line (point_at b.x1 b.y0) ≡ other s → IsCut b line
+cut_by_ends line b s columns rows left right u on =
+    let lowest = to_itself b.y0 in
+    let is_left = on (point_at b.x0 b.y0) (record { left = to_itself b.x0; right = columns; lowest = lowest; highest = rows }) in
+    let is_right = on (point_at b.x1 b.y0) (record { left = columns; right = to_itself b.x1; lowest = lowest; highest = rows }) in
+    not_other s (sym left ∙ (is_left ∙ (sym is_right ∙ right)))

@@ -17,15 +17,14 @@ use Rattle.map_tree.specs.declared.pieces.Halves.{Halves}
 use Rattle.map_tree.specs.Paths.{Place}
 use Rattle.map_tree.specs.Child.{node_count, ssector_count, has, root}
 use Rattle.map_tree.specs.SectorList.{ListsSectors}
-use Rattle.map_tree.specs.Steps.{IsWord, IsDepth, IsTally, IsDown, IsApart}
+use Rattle.map_tree.specs.Steps.{IsWord, IsTally, IsDown, IsApart}
 use Rattle.map_tree.specs.Work.{Work}
 use Rattle.map_tree.proofs.DescentLemmas.{place_below}
 use Rattle.map_tree.proofs.SectorListLemmas.{listed_sector}
 use Rattle.map_tree.proofs.BoundLemmas.{most_tests, tests-most, depth-most}
 use Rattle.map_geo.proofs.PointCountLemmas.{few_points}
 use Rattle.map_tree.proofs.CountLemmas.{area-some, rows_few}
-use Rattle.map_tree.proofs.RowLemmas.{alike}
-use Rattle.map_tree.proofs.HeldLemmas.{IsSized, area_from_rect, ssector_place, Held, Held-down, Held-rows, Held-columns, Held-leaf, measure, less-down, less-rows, less-columns, area}
+use Rattle.map_tree.proofs.HeldLemmas.{IsSized, area_from_rect, ssector_place, Held, Held-down, Held-rows, Held-row, Held-leaf, measure, less-down, less-rows, less-row, area}
 
 pub reverse_push : (ps : List Piece) (p : Piece) → reverse (ps ++ (p ∷ [])) ≡ p ∷ reverse ps
 reverse_push ps p = reverse-append ps (p ∷ [])
@@ -41,8 +40,8 @@ sum_zeros (n ∷ counts) zeros =
     let first : n ≡ 0 = zeros 0 in
     omega (arith, first, sum_zeros counts (λ s. zeros (suc s)), sum_by-cons (λ x. x) n counts)
 
-same_most : (m k n d r : ℕ) → r ≡ max m (n + d) → n ≡ k → max m (d + k) ≡ r
-same_most m k n d r h e = omega arith
+same_most : (m k n r : ℕ) → r ≡ max m (n + 1) → n ≡ suc k → max m (k + 2) ≡ r
+same_most m k n r h e = omega arith
 
 fewer_tests : (k m n t : ℕ) → m ≤ n → t ≤ 18 * k * m - 1 → t ≤ 18 * k * n
 fewer_tests k m n t h j = omega (arith, mul-le-mul_left k h)
@@ -122,32 +121,27 @@ module _ (level : Level) (size : Place → ℕ) (rect : Rect) (sized : IsSized l
     leaf_fits k more within_counts more_is =
         rw more_is (fits_count (get_or counts k 0) (sum counts) _ _ (area p) (get_or-le-sum_by (λ x. x) counts k 0 within_counts) held.added (few_points rect valid))
 
-    pub turn-leaf : (k more d len_now most_now : ℕ) → 32768 ≤ p.word → sector_of level (p.word - 32768) ≡ Some k → k < length counts → more ≡ area p → IsDepth p.rowwise p.rect d → most_now ≡ max most (len_now + d) → len_now ≡ length rest
-        → Held level size rect rest (set counts k (get_or counts k 0 + more)) tests most_now
-    turn-leaf k more d len_now most_now above sector_is within_counts more_is deep e f =
-        rw more_is (subst (Held level size rect rest (set counts k (get_or counts k 0 + area p)) tests) (same_most most (length rest) len_now d most_now e f) (Held-leaf level size rect sized p rest counts tests most k above sector_is held d deep within_counts))
+    pub turn-leaf : (k more : ℕ) → 32768 ≤ p.word → sector_of level (p.word - 32768) ≡ Some k → k < length counts → more ≡ area p → Held level size rect rest (set counts k (get_or counts k 0 + more)) tests most
+    turn-leaf k more above sector_is within_counts more_is =
+        rw more_is (Held-leaf level size rect sized p rest counts tests most k above sector_is held within_counts)
 
-    down_at : (next : Piece) (whole : ℕ) (found : Node) → p.word < 32768 → slice_get level.nodes.records p.word ≡ Some found → IsDown found p next whole → Held level size rect (next ∷ rest) counts (tests + whole) most
-    down_at next whole found below is down =
-        rw (down.next_is, down.tests_is) (Held-down level size rect sized p rest counts tests most found below is held down.s down.on)
+    pub turn-down : (next : Piece) → (p.word < 32768) × IsSomeAnd (slice_get level.nodes.records p.word) (λ found. IsDown found p next) → Held level size rect (next ∷ rest) counts (tests + 1) most
+    turn-down next h =
+        let at = some_and (slice_get level.nodes.records p.word) (λ found. IsDown found p next) h.1 in
+        rw at.2.next_is (Held-down level size rect sized p rest counts tests most at.0 h.0 at.1 held at.2.s at.2.on)
 
-    pub turn-down : (next : Piece) (whole : ℕ) → (p.word < 32768) × IsSomeAnd (slice_get level.nodes.records p.word) (λ found. IsDown found p next whole) → Held level size rect (next ∷ rest) counts (tests + whole) most
-    turn-down next whole h =
-        let at = some_and (slice_get level.nodes.records p.word) (λ found. IsDown found p next whole) h.1 in
-        down_at next whole at.0 h.0 at.1 at.2
-
-    pub fewer-down : (next : Piece) (whole : ℕ) → (p.word < 32768) × IsSomeAnd (slice_get level.nodes.records p.word) (λ found. IsDown found p next whole) → measure size (next ∷ rest) < measure size (p ∷ rest)
-    fewer-down next whole h =
-        let at = some_and (slice_get level.nodes.records p.word) (λ found. IsDown found p next whole) h.1 in
+    pub fewer-down : (next : Piece) → (p.word < 32768) × IsSomeAnd (slice_get level.nodes.records p.word) (λ found. IsDown found p next) → measure size (next ∷ rest) < measure size (p ∷ rest)
+    fewer-down next h =
+        let at = some_and (slice_get level.nodes.records p.word) (λ found. IsDown found p next) h.1 in
         rw at.2.next_is (less-down level size rect sized p rest counts tests most at.0 h.0 at.1 held at.2.s)
 
-    apart_at : (halves : Halves) (found : Node) → p.word < 32768 → slice_get level.nodes.records p.word ≡ Some found → IsApart found p halves → Held level size rect (halves.second ∷ (halves.first ∷ rest)) counts (tests + halves.tests) most
+    apart_at : (halves : Halves) (found : Node) → p.word < 32768 → slice_get level.nodes.records p.word ≡ Some found → IsApart found p halves → Held level size rect (halves.second ∷ (halves.first ∷ rest)) counts (tests + halves.tests) (max most (length rest + 2))
     apart_at halves found below is apart = elim apart.way [
       | inl r ↦ rw (r.first, r.second, r.tests) (Held-rows level size rect sized p rest counts tests most found below is held r.y apart.cut r.middle)
-      | inr r ↦ rw (r.1.first, r.1.second, r.1.tests) (Held-columns level size rect sized p rest counts tests most found below is held r.1.s r.1.c r.1.h (alike found p.rect r.0) r.1.left r.1.last r.1.halvings)
+      | inr r ↦ rw (r.1.first, r.1.second, r.1.tests) (Held-row level size rect sized p rest counts tests most found below is held r.1.s r.1.c r.1.h apart.cut r.0 r.1.left r.1.last r.1.halvings)
     ]
 
-    pub turn-apart : (halves : Halves) → (p.word < 32768) × IsSomeAnd (slice_get level.nodes.records p.word) (λ found. IsApart found p halves) → Held level size rect (halves.second ∷ (halves.first ∷ rest)) counts (tests + halves.tests) most
+    pub turn-apart : (halves : Halves) → (p.word < 32768) × IsSomeAnd (slice_get level.nodes.records p.word) (λ found. IsApart found p halves) → Held level size rect (halves.second ∷ (halves.first ∷ rest)) counts (tests + halves.tests) (max most (length rest + 2))
     turn-apart halves h =
         let at = some_and (slice_get level.nodes.records p.word) (λ found. IsApart found p halves) h.1 in
         apart_at halves at.0 h.0 at.1 at.2
@@ -155,10 +149,14 @@ module _ (level : Level) (size : Place → ℕ) (rect : Rect) (sized : IsSized l
     fewer_at : (halves : Halves) (found : Node) → p.word < 32768 → slice_get level.nodes.records p.word ≡ Some found → IsApart found p halves → measure size (halves.second ∷ (halves.first ∷ rest)) < measure size (p ∷ rest)
     fewer_at halves found below is apart = elim apart.way [
       | inl r ↦ rw (r.first, r.second) (less-rows level size rect sized p rest counts tests most found below is held r.y r.middle)
-      | inr r ↦ rw (r.1.first, r.1.second) (less-columns level size rect sized p rest counts tests most found below is held r.1.s r.1.c r.1.h (alike found p.rect r.0) r.1.left r.1.last r.1.halvings)
+      | inr r ↦ rw (r.1.first, r.1.second) (less-row level size rect sized p rest counts tests most found below is held r.1.s r.1.c r.1.h apart.cut r.0 r.1.left r.1.last r.1.halvings)
     ]
 
     pub fewer-apart : (halves : Halves) → (p.word < 32768) × IsSomeAnd (slice_get level.nodes.records p.word) (λ found. IsApart found p halves) → measure size (halves.second ∷ (halves.first ∷ rest)) < measure size (p ∷ rest)
     fewer-apart halves h =
         let at = some_and (slice_get level.nodes.records p.word) (λ found. IsApart found p halves) h.1 in
         fewer_at halves at.0 h.0 at.1 at.2
+
+    pub turn-pushed : (halves : Halves) (len_now most_now : ℕ) → (p.word < 32768) × IsSomeAnd (slice_get level.nodes.records p.word) (λ found. IsApart found p halves) → most_now ≡ max most (len_now + 1) → len_now ≡ suc (length rest) → Held level size rect (halves.second ∷ (halves.first ∷ rest)) counts (tests + halves.tests) most_now
+    turn-pushed halves len_now most_now h e f =
+        subst (Held level size rect (halves.second ∷ (halves.first ∷ rest)) counts (tests + halves.tests)) (same_most most (length rest) len_now most_now e f) (turn-apart halves h)

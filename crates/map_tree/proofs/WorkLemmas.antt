@@ -17,8 +17,8 @@ use Rattle.map_tree.proofs.RowLemmas.{other_differs}
 one_middle : (m k l e : ℤ) → IsMiddle m l e → IsMiddle k l e → m ≡ k
 one_middle m k l e a b = omega (arith, ints, a.lower, a.upper, b.lower, b.upper)
 
-pub one_middle_row : (b : Rect) (y z : ℤ) → IsMiddleRow b y → IsMiddleRow b z → y ≡ z
-one_middle_row b y z a c = omega (arith, ints, a.middle.lower, a.middle.upper, c.middle.lower, c.middle.upper)
+one_row : (b : Rect) (y z : ℤ) → IsMiddleRow b y → IsMiddleRow b z → y ≡ z
+one_row b y z a c = omega (arith, ints, a.middle.lower, a.middle.upper, c.middle.lower, c.middle.upper)
 
 near_far : (l e : ℤ) → e ≡ l +ℤ pos 1 → (l +ℤ pos 1) <ℤ e → ⊥
 near_far l e h k = omega (arith, ints)
@@ -43,7 +43,7 @@ one_side b line s u area h k =
     let here : record { left : b.x0 ≤ℤ b.x0; low : b.y0 ≤ℤ b.y0 } = record { left = omega (arith, ints); low = omega (arith, ints) } in
     sym (h (point_at b.x0 b.y0) (record { left = here.left; right = area.columns; lowest = here.low; highest = area.rows })) ∙ k (point_at b.x0 b.y0) (record { left = here.left; right = area.columns; lowest = here.low; highest = area.rows })
 
-pub flat_not : (b : Rect) (y : ℤ) → b.y0 ≡ b.y1 → IsMiddleRow b y → ⊥
+flat_not : (b : Rect) (y : ℤ) → b.y0 ≡ b.y1 → IsMiddleRow b y → ⊥
 flat_not b y e m = omega (arith, ints, m.more)
 
 last_not_after : (line : Partition) (y : ℤ) (s : Side) (l e c d : ℤ) → IsLast line y s l e c → IsLast line y s l e d → c <ℤ d → ⊥
@@ -80,7 +80,7 @@ module _ (level : Level) where
   Work-once _ _ _ _ _ _ area (by_rows b n line y w1 p1 w2 p2 at cut middle low high) (in_row b' n' line' u c q r h v1 r1 v2 r2 at' cut' flat has last halvings is_child is_other first second) = absurd (flat_not b y flat middle)
   Work-once _ _ _ _ _ _ area (in_row b n line u c q r h w1 p1 w2 p2 at cut flat has last halvings is_child is_other first second) (by_rows b' n' line' y v1 r1 v2 r2 at' cut' middle low high) = absurd (flat_not b y flat middle)
   Work-once _ _ _ _ _ _ area (by_rows b n line y w1 p1 w2 p2 at cut middle low high) (by_rows b' n' line' z v1 r1 v2 r2 at' cut' middle' low' high') =
-      let same = one_middle_row b z y middle' middle in
+      let same = one_row b z y middle' middle in
       let lows = Work-once (rows_to b y) (node n) w1 p1 v1 r1 (IsArea-rows_to b y area middle) low (subst (λ x. Work level (rows_to b x) (node n) v1 r1) same low') in
       let highs = Work-once (rows_above b y) (node n) w2 p2 v2 r2 (IsArea-rows_above b y area middle) high (subst (λ x. Work level (rows_above b x) (node n) v2 r2) same high') in
       (rw (lows.0, highs.0), rw (lows.1, highs.1))

@@ -1,7 +1,7 @@
 //! The census of a rectangle: how many of its points lie in each sector.
 
 ghost use Rattle.std.specs.Prelude.{◌≡◌, ◌<◌, ◌≤◌, ◌++◌, ◌∷◌, [], ℕ, length};
-ghost use Rattle.std.specs.Prelude.{IfOk, IfSome, Some, None, false};
+ghost use Rattle.std.specs.Prelude.{IfOk, IfSome, Some, None};
 ghost use Rattle.map_geo.specs.Rect.{IsRect};
 ghost use Rattle.map_level.specs.SectorOf.{sector_of};
 ghost use Rattle.map_tree.specs.Child.{place_of, root};
@@ -59,7 +59,6 @@ fn start(level: &Level<'_>, rect: Rect) -> Piece
     requires { IsSound level.now }
     ensures rect { result.rect ≡ rect }
     ensures word { place_of result.word ≡ root level.now }
-    ensures whole { result.rowwise ≡ false }
     ensures valid { IsRect rect }
 {
     // A rectangle's bounds tell that it is valid, which the clause says.
@@ -67,12 +66,10 @@ fn start(level: &Level<'_>, rect: Rect) -> Piece
     Piece {
         rect,
         word: root_word(level.nodes().len()),
-        rowwise: false,
     }
 }
 
-// How many tests a census takes, and the most pieces that are pending at once, where each row that is cut goes on by
-// itself.
+// How many tests a census made, and the most pieces that it had pending at once.
 #[derive(Clone, Copy)]
 pub(crate) struct Work {
     pub tests: u64,
@@ -100,21 +97,21 @@ pub(crate) fn tally<A: Allocator>(
     pending.clear();
     let mut hand = start(level, rect);
     let mut tests = 0;
-    let mut most: usize = 0;
+    let mut most: usize = 1;
     loop {
         hand = match step(&nodes, hand) {
-            Step::Down(next, whole) => {
-                tests += whole;
+            Step::Down(next) => {
+                tests += 1;
                 next
             }
             Step::Apart(halves) => {
                 pending.push(halves.first)?;
                 tests += halves.tests;
+                most = most.max(pending.len() + 1);
                 halves.second
             }
-            Step::AtSsector(t, points, depth) => {
+            Step::AtSsector(t, points) => {
                 counts.add(sectors[usize::from(t)], points)?;
-                most = most.max(pending.len() + depth);
                 match take_newest(pending) {
                     Some(next) => next,
                     None => return Ok(Work {

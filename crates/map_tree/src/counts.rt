@@ -37,14 +37,15 @@ impl<A: Allocator> Counts<A> {
         self.pairs.get(number).copied()
     }
 
-    /// How many calls of `whole_side` and `side` the census takes, where each row that is cut goes on by itself.
+    /// How many tests the census made: one of each piece at a node, one of the left end of a row that is cut, and one for each time
+    /// that its columns are halved to find where.
     pub fn tests(&self) -> u64
         ensures { result ≡ self.now.tests }
     {
         self.tests
     }
 
-    /// The most pieces that are then pending at once, the one in hand included.
+    /// The most pieces that were pending at once, the one in hand included.
     pub fn pending(&self) -> u32
         ensures { result ≡ self.now.pending }
     {

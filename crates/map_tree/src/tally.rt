@@ -62,8 +62,7 @@ impl<'t, 'a, A: Allocator + Copy> Tally<'t, 'a, A> {
     ///
     /// It keeps a list of pending pieces, begins with the whole rectangle at the root, and takes
     /// the newest first. A piece that lies on one side of a node's partition goes to that side's
-    /// child, another is cut into its lower and upper rows, or as a row where its side changes. Rows
-    /// whose sides change at the same column are cut there in one, and go on in one.
+    /// child, another is cut into its lower and upper rows, or as a row where its side changes.
     pub fn census(&mut self, rect: Rect) -> Result<Counts<A>, AllocError>
         ensures census { IfOk result (IsCensus self.old rect) }
         ensures same { self.new ≡ self.old }

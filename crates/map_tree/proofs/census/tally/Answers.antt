@@ -4,14 +4,14 @@ use Rattle.std.proofs.lemmas.List.{length-reverse}
 use Rattle.map_tree.specs.declared.pieces.Piece.{Piece}
 use Rattle.map_tree.proofs.Sizes.{size_of}
 use Rattle.map_tree.proofs.HeldLemmas.{sized-from_sound, Held-start}
-use Rattle.map_tree.proofs.TurnLemmas.{pushed, sum_zeros, tests_fit, most_fits, done, sector_in, some_points, leaf_fits, turn-leaf, turn-down, turn-apart, fewer-down, fewer-apart}
+use Rattle.map_tree.proofs.TurnLemmas.{pushed, sum_zeros, tests_fit, most_fits, done, sector_in, some_points, leaf_fits, turn-leaf, turn-down, turn-apart, turn-pushed, fewer-down, fewer-apart}
 use Rattle.map_tree.proofs.census.tally.Goals as goal
 
 pub loop-next-init : goal.loop-next-init
 loop-next-init g c =
     let sized = sized-from_sound c.args.level.now c.requires.sound in
     record {
-      held = rw c.clear.ensures.items (Held-start c.args.level.now (size_of c.args.level.now) c.args.rect sized c.start-hand.result c.args.counts.now c.start-hand.ensures.rect c.start-hand.ensures.word c.start-hand.ensures.whole c.start-hand.ensures.valid (sum_zeros c.args.counts.now c.requires.fresh.zeros) c.requires.fresh.zeros);
+      held = rw c.clear.ensures.items (Held-start c.args.level.now (size_of c.args.level.now) c.args.rect sized c.start-hand.result c.args.counts.now c.start-hand.ensures.rect c.start-hand.ensures.word c.start-hand.ensures.valid (sum_zeros c.args.counts.now c.requires.fresh.zeros) c.requires.fresh.zeros);
       long = refl;
     }
 
@@ -20,7 +20,7 @@ overflow_add-tests g c =
     let sized = sized-from_sound c.args.level.now c.requires.sound in
     let valid = c.start-hand.ensures.valid in
     let step = rw c.nodes-nodes.ensures.is at c.in-Down.ensures in
-    tests_fit c.args.level.now (size_of c.args.level.now) c.args.rect sized valid _ _ _ _ (turn-down c.args.level.now (size_of c.args.level.now) c.args.rect sized valid c.loop-next.hand _ _ _ _ c.loop-next.invariant.held c.in-Down.next c.in-Down.whole step)
+    tests_fit c.args.level.now (size_of c.args.level.now) c.args.rect sized valid _ _ _ _ (turn-down c.args.level.now (size_of c.args.level.now) c.args.rect sized valid c.loop-next.hand _ _ _ _ c.loop-next.invariant.held c.in-Down.next step)
 
 pub overflow_add-tests-in-Apart : goal.overflow_add-tests-in-Apart
 overflow_add-tests-in-Apart g c =
@@ -53,10 +53,7 @@ add-requires-clause-fits g c =
 pub overflow_cast-result : goal.overflow_cast-result
 overflow_cast-result g c =
     let sized = sized-from_sound c.args.level.now c.requires.sound in
-    let leaf = c.in-AtSsector.ensures in
-    let k = get_or c.args.sectors.now c.from.result 0 in
-    let in_counts = sector_in c.args.level.now (size_of c.args.level.now) c.args.rect sized c.start-hand.ensures.valid c.loop-next.hand _ _ _ _ c.loop-next.invariant.held c.args.counts.now c.args.sectors.now c.from.result k c.requires.fresh.within c.loop-next.invariant.long c.requires.listed c.type_inv.sectors leaf.0 (c.from.ensures ∙ leaf.1) refl in
-    most_fits c.args.level.now (size_of c.args.level.now) c.args.rect sized c.start-hand.ensures.valid _ _ _ _ (turn-leaf c.args.level.now (size_of c.args.level.now) c.args.rect sized c.start-hand.ensures.valid c.loop-next.hand _ _ _ _ c.loop-next.invariant.held k c.in-AtSsector.points c.in-AtSsector.depth c.len.result c.max-most.result leaf.0 in_counts.0 in_counts.1 leaf.2 leaf.4 c.max-most.ensures (omega (arith, length-reverse {A = Piece} c.loop-next.pending.items, c.loop-next.pending.ok.0, c.len.ensures)))
+    most_fits c.args.level.now (size_of c.args.level.now) c.args.rect sized c.start-hand.ensures.valid _ _ _ _ c.loop-next.invariant.held
 
 pub returns-in-None-clause-tally : goal.returns-in-None-clause-tally
 returns-in-None-clause-tally g c =
@@ -64,22 +61,22 @@ returns-in-None-clause-tally g c =
     let leaf = c.in-AtSsector.ensures in
     let k = get_or c.args.sectors.now c.from.result 0 in
     let in_counts = sector_in c.args.level.now (size_of c.args.level.now) c.args.rect sized c.start-hand.ensures.valid c.loop-next.hand _ _ _ _ c.loop-next.invariant.held c.args.counts.now c.args.sectors.now c.from.result k c.requires.fresh.within c.loop-next.invariant.long c.requires.listed c.type_inv.sectors leaf.0 (c.from.ensures ∙ leaf.1) refl in
-    let held = turn-leaf c.args.level.now (size_of c.args.level.now) c.args.rect sized c.start-hand.ensures.valid c.loop-next.hand _ _ _ _ c.loop-next.invariant.held k c.in-AtSsector.points c.in-AtSsector.depth c.len.result c.max-most.result leaf.0 in_counts.0 in_counts.1 leaf.2 leaf.4 c.max-most.ensures (omega (arith, length-reverse {A = Piece} c.loop-next.pending.items, c.loop-next.pending.ok.0, c.len.ensures)) in
+    let held = turn-leaf c.args.level.now (size_of c.args.level.now) c.args.rect sized c.start-hand.ensures.valid c.loop-next.hand _ _ _ _ c.loop-next.invariant.held k c.in-AtSsector.points leaf.0 in_counts.0 in_counts.1 leaf.2 in
     let none = c.in-None.ensures.none refl in
-    rw c.in_ok-add-in-AtSsector.ensures.ok (done c.args.level.now (size_of c.args.level.now) c.args.rect sized c.start-hand.ensures.valid (set c.loop-next.counts k (get_or c.loop-next.counts k 0 + c.in-AtSsector.points)) c.loop-next.tests c.max-most.result (rw none at held))
+    rw c.in_ok-add-in-AtSsector.ensures.ok (done c.args.level.now (size_of c.args.level.now) c.args.rect sized c.start-hand.ensures.valid (set c.loop-next.counts k (get_or c.loop-next.counts k 0 + c.in-AtSsector.points)) c.loop-next.tests c.loop-next.most (rw none at held))
 
 pub loop-next-smaller-in-Down : goal.loop-next-smaller-in-Down
 loop-next-smaller-in-Down g c =
     let sized = sized-from_sound c.args.level.now c.requires.sound in
     let step = rw c.nodes-nodes.ensures.is at c.in-Down.ensures in
-    fewer-down c.args.level.now (size_of c.args.level.now) c.args.rect sized c.start-hand.ensures.valid c.loop-next.hand _ _ _ _ c.loop-next.invariant.held c.in-Down.next c.in-Down.whole step
+    fewer-down c.args.level.now (size_of c.args.level.now) c.args.rect sized c.start-hand.ensures.valid c.loop-next.hand _ _ _ _ c.loop-next.invariant.held c.in-Down.next step
 
 pub loop-next-preserved-in-Down : goal.loop-next-preserved-in-Down
 loop-next-preserved-in-Down g c =
     let sized = sized-from_sound c.args.level.now c.requires.sound in
     let step = rw c.nodes-nodes.ensures.is at c.in-Down.ensures in
     record {
-      held = turn-down c.args.level.now (size_of c.args.level.now) c.args.rect sized c.start-hand.ensures.valid c.loop-next.hand _ _ _ _ c.loop-next.invariant.held c.in-Down.next c.in-Down.whole step;
+      held = turn-down c.args.level.now (size_of c.args.level.now) c.args.rect sized c.start-hand.ensures.valid c.loop-next.hand _ _ _ _ c.loop-next.invariant.held c.in-Down.next step;
       long = c.loop-next.invariant.long;
     }
 
@@ -96,7 +93,7 @@ loop-next-preserved-in_ok-push-in-Apart g c =
     let step = rw c.nodes-nodes.ensures.is at c.in-Apart.ensures in
     let grown = pushed c.loop-next.pending.items c.push.new.self.items c.in-Apart.halves.first c.in_ok-push-in-Apart.ensures.items in
     record {
-      held = rw grown (turn-apart c.args.level.now (size_of c.args.level.now) c.args.rect sized c.start-hand.ensures.valid c.loop-next.hand _ _ _ _ c.loop-next.invariant.held c.in-Apart.halves step);
+      held = rw grown (turn-pushed c.args.level.now (size_of c.args.level.now) c.args.rect sized c.start-hand.ensures.valid c.loop-next.hand _ _ _ _ c.loop-next.invariant.held c.in-Apart.halves c.len.result c.max-most.result step c.max-most.ensures (omega (arith, length-reverse {A = Piece} c.loop-next.pending.items, c.loop-next.pending.ok.0, c.len.ensures, c.in_ok-push-in-Apart.ensures.len)));
       long = c.loop-next.invariant.long;
     }
 
@@ -106,6 +103,6 @@ loop-next-preserved g c =
     let leaf = c.in-AtSsector.ensures in
     let k = get_or c.args.sectors.now c.from.result 0 in
     let in_counts = sector_in c.args.level.now (size_of c.args.level.now) c.args.rect sized c.start-hand.ensures.valid c.loop-next.hand _ _ _ _ c.loop-next.invariant.held c.args.counts.now c.args.sectors.now c.from.result k c.requires.fresh.within c.loop-next.invariant.long c.requires.listed c.type_inv.sectors leaf.0 (c.from.ensures ∙ leaf.1) refl in
-    let held = turn-leaf c.args.level.now (size_of c.args.level.now) c.args.rect sized c.start-hand.ensures.valid c.loop-next.hand _ _ _ _ c.loop-next.invariant.held k c.in-AtSsector.points c.in-AtSsector.depth c.len.result c.max-most.result leaf.0 in_counts.0 in_counts.1 leaf.2 leaf.4 c.max-most.ensures (omega (arith, length-reverse {A = Piece} c.loop-next.pending.items, c.loop-next.pending.ok.0, c.len.ensures)) in
+    let held = turn-leaf c.args.level.now (size_of c.args.level.now) c.args.rect sized c.start-hand.ensures.valid c.loop-next.hand _ _ _ _ c.loop-next.invariant.held k c.in-AtSsector.points leaf.0 in_counts.0 in_counts.1 leaf.2 in
     let popped = pushed c.take_newest.new.pending.items c.loop-next.pending.items c.in-Some.next c.in-Some.ensures.some in
     rw c.in_ok-add-in-AtSsector.ensures.ok (record { held = rw popped at held; long = length-set c.loop-next.counts k (get_or c.loop-next.counts k 0 + c.in-AtSsector.points) ∙ c.loop-next.invariant.long })

@@ -1,4 +1,4 @@
-use Rattle.std.proofs.Common.{ℤ, pos, ◌+ℤ◌, ◌≤ℤ◌, FitsSigned, w32, arith}
+use Rattle.std.proofs.Common.{ℤ, pos, ◌+ℤ◌, ◌≤ℤ◌, FitsSigned, w32, refl, arith}
 use Rattle.std.proofs.lemmas.Int.{ints, to_z-of_z}
 use Rattle.map_geo.specs.Point.{IsInRange}
 use Rattle.map_geo.specs.Rect.{Rect}
@@ -26,4 +26,4 @@ returns c =
     let n = next_fits _ c.middle_row-y.ensures.in_range in
     let low = simp to_z-of_z at c.rows_to.ensures in
     let high = simp to_z-of_z at c.rows_from.ensures in
-    record { y = c.middle_row-y.result; middle = c.middle_row-y.ensures.middle; first = rw low; second = rw high; tests = c.tests_halved.ensures }
+    record { y = c.middle_row-y.result; middle = c.middle_row-y.ensures.middle; first = rw low; second = rw high; tests = refl }

@@ -164,7 +164,9 @@ for c in ('points', 'census', 'sight', 'blocks'):
     job(c + ': 16 MB of empty lines', c + ' E1M1 S', None, text(b'\n'))
     job(c + ': 16 MB of the shortest lines', c + ' E1M1 S', None, text(b'0 0 0 0\n' if c == 'census' else b'0 0\n'))
 job('points: 1024 points down a chain of 32,767 nodes', 'points E1M1 F', chain({}), lambda out, part: out.write(b'1 5\n'*1024))
-job('census: a square of 1024 on such a chain, slanted', 'census E1M1 F', chain({}, direction=(1, 64)), lambda out, part: out.write(b'-512 -512 511 511\n'))
+for name, direction in (('', (0, 64)), (', slanted', (1, 64))):
+    job('census: a square of 1024 on such a chain' + name, 'census E1M1 F', chain({}, direction=direction),
+        lambda out, part: out.write(b'-512 -512 511 511\n'))
 job('lmp: 67 million commands', 'lmp D', demo(109, [1, 0, 0, 0]))
 job('lmp: 53 million commands of the long form', 'lmp D', demo(111, [1, 1, 1, 1]))
 job('demo: 67 million commands in a lump', 'demo DEMO1 F', demo_lumps(1))
@@ -296,6 +298,7 @@ for word, name, make, ends in (
     ('prepare', 'a chain of 32,767 nodes', chain({}), 0),
     ('point', '1024 calls down such a chain', chain({}), 0),
     ('point', '1024 calls round a ring of 32,767 nodes', ring, 0),
+    ('census', 'a square of 1024 on a chain of 32,767 nodes', chain({}), 0),
     ('census', 'a square of 1024 on a chain of 32,767 slanted nodes', chain({}, direction=(1, 64)), 0),
     ('census_wide', '1,047,552 points in 32,736 sectors', slanted, 0),
     ('find', '16,777,215 entries of another name', one_name, 8),

@@ -160,3 +160,16 @@ pub front_all : (level : Level) (t : ℕ) (row : Row) (span front : Span) (end :
     → IsThose (IsFrontOfFirst level t row end) span front → IsFrontOfSegs level t row span front
 front_all level t row span front end below is =
     those_same _ _ span front (λ i within. ((λ first k one. first k one (below k one)), (λ all k one before. all k one))) is
+
+-- what none of an ssector's segs so far has in front is behind one of them
+pub front_done : (level : Level) (t : ℕ) (row : Row) (span front : Span) (end : ℕ) → front.first ≡ front.end
+    → IsThose (IsFrontOfFirst level t row end) span front → IsFrontOfSegs level t row span front
+front_done level t row span front end none is = record {
+  from = is.from;
+  ordered = is.ordered;
+  to = is.to;
+  exact = λ i within. (
+    (λ inside. absurd (omega (arith, inside.0, inside.1, none))),
+    (λ all. (is.exact i within).1 (λ k one before. all k one)),
+  );
+}

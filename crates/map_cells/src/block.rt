@@ -1,6 +1,6 @@
 //! Blocks of cells that show one sector.
 
-ghost use Rattle.std.specs.Prelude.{◌≡◌, ◌≢◌, ◌↔◌, ◌+◌, ◌<◌, ◌≤◌, ℕ, IsTrue, IfSome, Some};
+ghost use Rattle.std.specs.Prelude.{◌≡◌, ◌≢◌, ◌↔◌, ◌+◌, ◌-◌, ◌<◌, ◌≤◌, ℕ, IsTrue, IfSome, Some};
 ghost use Rattle.map_cells.specs.Blocks.{IsRun};
 ghost use Rattle.map_cells.specs.Cells.{cell};
 ghost use Rattle.map_cells.specs.Grid.{columns_of, rows_of};
@@ -27,6 +27,10 @@ impl<A: Allocator> Cells<A> {
         ensures { (b : block.Block) → (result ≡ Some b) ↔ BeginsAt (cell self.now) i j b }
     {
         let sector = self.get(i, j)?;
+        // The run is looked through where it begins, and nowhere else.
+        if self.goes_on(sector, i, j) {
+            return None;
+        }
         self.block_of_run(sector, i, j, self.same_end(i, j))
     }
 
@@ -64,6 +68,14 @@ impl<A: Allocator> Cells<A> {
         self.get(i, j) == Some(sector)
     }
 
+    // Whether the cell on the left of a column shows the sector, too.
+    #[inline]
+    fn goes_on(&self, sector: u16, i: usize, j: usize) -> bool
+        ensures { IsTrue result ↔ ((0 < i) × (cell self.now (i - 1) j ≡ Some sector)) }
+    {
+        i > 0 && self.shows(sector, i - 1, j)
+    }
+
     // How long the run is that begins in column i and goes up to another; None where it begins on the left.
     #[inline]
     fn run_at(&self, sector: u16, i: usize, j: usize, end: usize) -> Option<usize>
@@ -75,7 +87,7 @@ impl<A: Allocator> Cells<A> {
         ensures run { (n : ℕ) → (result ≡ Some n) ↔ IsRun (cell self.now) sector i j n }
         ensures few { IfSome result (λ n. i + n ≤ 1024) }
     {
-        if i > 0 && self.shows(sector, i - 1, j) {
+        if self.goes_on(sector, i, j) {
             return None;
         }
         Some(end - i)
@@ -104,7 +116,7 @@ impl<A: Allocator> Cells<A> {
         ensures { IsTrue result ↔ IsRun (cell self.now) sector i j n }
     {
         // The ends mostly differ first.
-        if i > 0 && self.shows(sector, i - 1, j) {
+        if self.goes_on(sector, i, j) {
             return false;
         }
         !self.shows(sector, i + n, j) && self.shows_all(sector, i, i + n, j)

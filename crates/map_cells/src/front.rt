@@ -1,6 +1,6 @@
 //! The columns of a row that are in front of an ssector's segs.
 
-ghost use Rattle.std.specs.Prelude.{◌≡◌, ◌≤◌, pos, int_lt};
+ghost use Rattle.std.specs.Prelude.{◌≡◌, ◌<◌, ◌≤◌, pos, int_lt};
 ghost use Rattle.map_cells.specs.Grid.{columns_of};
 ghost use Rattle.map_cells.specs.Shown.{cross};
 ghost use Rattle.map_cells.specs.Front.{IsCutBy, IsFrontOf, IsFrontOfSegs};
@@ -28,6 +28,9 @@ pub fn front_of_segs(level: &Level<'_>, t: u16, row: Row, span: Span) -> Span
     let segs = segs_of(level, t);
     let mut front = span;
     for i in segs.first..segs.end {
+        if front.first == front.end {
+            return front;
+        }
         front = front_of_seg(level, i, row, front);
     }
     front
@@ -36,7 +39,7 @@ pub fn front_of_segs(level: &Level<'_>, t: u16, row: Row, span: Span) -> Span
 // Those that aren't behind the seg of a number.
 #[inline]
 fn front_of_seg(level: &Level<'_>, i: usize, row: Row, span: Span) -> Span
-    requires ordered { span.first ≤ span.end }
+    requires some { span.first < span.end }
     requires within { span.end ≤ columns_of row.grid }
     ensures { IsFrontOf level.now i row span result }
 {
@@ -81,14 +84,11 @@ fn is_behind(ends: &Ends, point: Point) -> bool
 // Those that aren't behind a seg of two ends.
 #[inline]
 fn cut_by(ends: &Ends, row: Row, span: Span) -> Span
-    requires ordered { span.first ≤ span.end }
+    requires some { span.first < span.end }
     requires within { span.end ≤ columns_of row.grid }
     ensures { IsCutBy ends.now row span result }
 {
     let Span { first, end } = span;
-    if first == end {
-        return span;
-    }
     let last = end - 1;
     let begins_behind = is_behind(ends, row.point(first));
     let ends_behind = is_behind(ends, row.point(last));

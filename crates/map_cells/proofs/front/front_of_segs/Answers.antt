@@ -1,5 +1,5 @@
 use Rattle.std.proofs.Common.{arith}
-use Rattle.map_cells.proofs.FrontLemmas.{front_all, front_more, front_none}
+use Rattle.map_cells.proofs.FrontLemmas.{front_all, front_done, front_more, front_none}
 use Rattle.map_cells.proofs.front.front_of_segs.Goals as goal
 
 pub loop-i-init : goal.loop-i-init
@@ -18,3 +18,7 @@ returns c =
     let past = c.loop-i-test.false in
     front_all c.args.level.now c.args.t c.args.row c.args.span c.loop-i.front c.loop-i.i
     (λ k one. let within = (c.segs_of-segs.ensures k).0 one in omega (arith, within.1, past)) c.loop-i.invariant
+
+pub returns-then-front : goal.returns-then-front
+returns-then-front c =
+    front_done c.args.level.now c.args.t c.args.row c.args.span c.loop-i.front c.loop-i.i (omega (arith, c.if-front.true)) c.loop-i.invariant

@@ -35,7 +35,7 @@ pub fn unclosed<A: Allocator + Copy>(
     ensures most { IfOk result (λ told. told.most ≡ most) }
 {
     let mut numbers = numbers_of(alloc, level)?;
-    if are_closed(alloc, level, &numbers)? {
+    if are_closed(alloc, level, &numbers) {
         return Ok(Told::new(alloc, most));
     }
     numbers.sort_unstable();
@@ -43,18 +43,21 @@ pub fn unclosed<A: Allocator + Copy>(
 }
 
 // Where it answers true, all sectors are closed, as those of most levels are, and the numbers need no order.
-fn are_closed<A: Allocator + Copy>(
-    alloc: A,
-    level: &Level<'_>,
-    numbers: &[u64],
-) -> Result<bool, AllocError>
+fn are_closed<A: Allocator + Copy>(alloc: A, level: &Level<'_>, numbers: &[u64]) -> bool
     requires { AddsRuns (runs_of level.now) [] numbers.now }
-    ensures { IfOk result (λ closed. IsTrue closed → (w : Warning) → ¬ HoldsOf level.now WarningCode.W1 w) }
+    ensures { IsTrue result → (w : Warning) → ¬ HoldsOf level.now WarningCode.W1 w }
 {
     let sectors = level.sectors().len().min(65536);
     let vertexes = level.vertexes().len().min(65536);
-    let closed = are_balanced(alloc, numbers, sectors, vertexes)?;
-    Ok(closed)
+    // Few numbers are sooner put in order than all sectors and vertexes are looked through.
+    if numbers.len() < (sectors + vertexes) / 2 {
+        return false;
+    }
+    // Where it is refused its memory the numbers are put in order, too, which asks for none.
+    let Ok(closed) = are_balanced(alloc, numbers, sectors, vertexes) else {
+        return false;
+    };
+    closed
 }
 
 // Tells where sectors aren't closed, given the numbers of the sides in order.

@@ -6,12 +6,12 @@ ghost use Rattle.map_checks.specs.Balance.{end_in, sector_in};
 
 use std::alloc::{AllocError, Allocator};
 
-/// Of each sector the place of its first number, and of each number that of the next one of its sector: how many numbers there are
-/// stands for none.
+/// Of each number the place of the next one of its sector, and of each sector that of its first number: how many numbers there are
+/// stands for none. The list that was made last is freed first, which an arena needs to take both back.
 #[derive(Drop)]
 pub struct SectorLinks<A: Allocator> {
-    pub firsts: Vec<u32, A>,
     pub next: Vec<u32, A>,
+    pub firsts: Vec<u32, A>,
 }
 
 /// The sector of a side's number.

@@ -10,4 +10,4 @@ are_balanced-requires-clause-ends g c =
     rw (c.min-vertexes.ensures, c.len-2.ensures, c.vertexes.ensures.is) (few_ends c.args.level.now c.args.numbers.now c.requires)
 
 pub returns : goal.returns
-returns g c = λ yes. balanced_closed c.args.level.now c.args.numbers.now c.requires (c.in_ok-closed.ensures yes)
+returns g c = λ yes. balanced_closed c.args.level.now c.args.numbers.now c.requires (c.in-Ok.ensures yes)

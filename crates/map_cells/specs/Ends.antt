@@ -1,5 +1,5 @@
 -- Where the linedefs and segs of a level start and end (maplinedef_t and mapseg_t of doomdata.h).
-use Rattle.std.specs.Prelude.{◌≡◌, ℕ, ℤ, ◌⊎◌, Option, Some, IsSomeAnd}
+use Rattle.std.specs.Prelude.{◌≡◌, ℕ, ◌<◌, ℤ, ◌⊎◌, Option, Some, None, IsSomeAnd, List, length, slice_index_or}
 use Rattle.std.specs.List.{slice_get}
 use Rattle.le_rec.specs.declared.records.Vertex.{Vertex}
 use Rattle.map_level.specs.Level.{Level}
@@ -24,6 +24,10 @@ abbrev pub seg_ends : Level → ℕ → Option Ends
 seg_ends level i = do
   seg ← slice_get level.segs.records i
   ends_named level seg.v1 seg.v2
+
+-- a list has the ends of the first of a level's segs
+abbrev pub ListsEnds : Level → List (Option Ends) → Type 0
+ListsEnds level list = (i : ℕ) → i < length list → seg_ends level i ≡ slice_index_or list i None
 
 -- a vertex is the start or the end
 abbrev pub IsEither : Ends → Vertex → Type 0

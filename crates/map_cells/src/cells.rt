@@ -2,6 +2,7 @@
 
 ghost use Rattle.std.specs.Prelude.{◌≡◌, ◌≢◌, ◌<◌, ◌≤◌, ℕ, None, IfOk, IfSome, OnOk, OnSome, Some, length};
 ghost use Rattle.std.specs.List.{slice_get};
+ghost use Rattle.map_cells.specs.Ends.{ListsEnds};
 ghost use Rattle.map_cells.specs.Grid.{columns_of, rows_of};
 ghost use Rattle.map_cells.specs.Cells.{cell, AddsRow, AreCells, GoesOn, TellsCell};
 ghost use Rattle.map_cells.specs.Row.{IsRowInRange};
@@ -9,6 +10,7 @@ ghost use Rattle.map_cells.specs.Way.{AllCome};
 ghost use Rattle.map_tree.specs.SectorList.{ListsSectors};
 ghost use Rattle.map_tree.specs.Sound.{IsSound};
 
+use crate::ends::{Ends, listed_ends};
 use crate::front::{Span, front_of_segs};
 use crate::grid::Grid;
 use crate::row::Row;
@@ -46,7 +48,8 @@ impl<A: Allocator> Model for Cells<A> {
 impl<A: Allocator> Cells<A> {
     ghost use Rattle.map_cells.specs.Cells.{IsWhole};
 
-    /// What is shown at the points of a grid's cells.
+    /// What is shown at the points of a grid's cells. While it runs it takes ten bytes more for each seg, of no more segs than cells, where
+    /// there is memory for that.
     pub fn of<B: Allocator>(
         alloc: A,
         shown: &Shown<'_, '_, B>,
@@ -57,9 +60,10 @@ impl<A: Allocator> Cells<A> {
         let columns = usize::from(grid.columns());
         let rows = usize::from(grid.rows());
         let mut seen = Seen::with_capacity(alloc, rows * columns)?;
+        let ends = listed_ends(shown.allocator(), shown.level(), rows * columns);
         let mut pending = Pending::new();
         for j in 0..grid.rows() {
-            push_row(shown, grid, j, &mut pending, &mut seen)?;
+            push_row(shown, &ends, grid, j, &mut pending, &mut seen)?;
         }
         Ok(Cells {
             grid,
@@ -157,16 +161,18 @@ impl<A: Allocator> Cells<A> {
 // Adds what a row of cells shows: its points go down the nodes together, where all are in range.
 fn push_row<A: Allocator, B: Allocator>(
     shown: &Shown<'_, '_, B>,
+    ends: &[Option<Ends>],
     grid: Grid,
     j: u16,
     pending: &mut Pending,
     seen: &mut Seen<A>,
 ) -> Result<(), AllocError>
-    requires { j < rows_of grid }
+    requires listed { ListsEnds shown.now ends.now }
+    requires there { j < rows_of grid }
     ensures { OnOk result (AddsRow shown.now grid j (columns_of grid) seen.old seen.new) }
 {
     match Row::of(grid, j) {
-        Some(row) => push_together(shown, row, pending, seen),
+        Some(row) => push_together(shown, ends, row, pending, seen),
         None => push_each(shown, grid, j, seen),
     }
 }
@@ -190,10 +196,12 @@ fn push_each<A: Allocator, B: Allocator>(
 // Adds what a row of cells shows whose points are in range.
 fn push_together<A: Allocator, B: Allocator>(
     shown: &Shown<'_, '_, B>,
+    ends: &[Option<Ends>],
     row: Row,
     pending: &mut Pending,
     seen: &mut Seen<A>,
 ) -> Result<(), AllocError>
+    requires { ListsEnds shown.now ends.now }
     ensures { OnOk result (AddsRow shown.now row.grid row.j (columns_of row.grid) seen.old seen.new) }
 {
     let level = shown.level();
@@ -203,7 +211,7 @@ fn push_together<A: Allocator, B: Allocator>(
     let mut from = 0;
     while from < row.columns() {
         let run = go_down(level, row, from, hand, pending);
-        push_run(level, sectors, row, from, run, seen)?;
+        push_run(level, sectors, ends, row, from, run, seen)?;
         from = run.end;
         if let Some(next) = pending.pop() {
             hand = next;
@@ -217,6 +225,7 @@ fn push_together<A: Allocator, B: Allocator>(
 fn push_run<A: Allocator>(
     level: &Level<'_>,
     sectors: &[u16],
+    ends: &[Option<Ends>],
     row: Row,
     from: u16,
     run: Part,
@@ -224,6 +233,7 @@ fn push_run<A: Allocator>(
 ) -> Result<(), AllocError>
     requires sound { IsSound level.now }
     requires listed { ListsSectors level.now sectors.now }
+    requires ends { ListsEnds level.now ends.now }
     requires valid { IsRowInRange row }
     requires ssector { 32768 ≤ run.word }
     requires some { from < run.end }
@@ -236,7 +246,7 @@ fn push_run<A: Allocator>(
         first: from,
         end: run.end,
     };
-    let front = front_of_segs(level, t, row, span);
+    let front = front_of_segs(level, ends, t, row, span);
     let sector = sectors[usize::from(t)];
     push_same(level, row, from, front.first, None, seen)?;
     push_same(level, row, front.first, front.end, Some(sector), seen)?;

@@ -6,6 +6,7 @@ ghost use Rattle.map_level.specs.Reading.{number_of};
 
 use le_rec::Vertex;
 use map_level::{Level, number};
+use std::alloc::Allocator;
 
 /// The two vertexes of a linedef or seg.
 #[derive(Clone, Copy, Debug, PartialEq, Eq)]
@@ -14,7 +15,7 @@ pub struct Ends {
     pub to: Vertex,
 }
 
-ghost use Rattle.map_cells.specs.Ends.{ends_named, linedef_ends, seg_ends};
+ghost use Rattle.map_cells.specs.Ends.{ListsEnds, ends_named, linedef_ends, seg_ends};
 
 /// The ends of the linedef of a number; None where there is no such linedef or one of its vertexes isn't there.
 #[inline]
@@ -32,6 +33,44 @@ pub fn seg_ends(level: &Level<'_>, i: usize) -> Option<Ends>
 {
     let seg = level.segs().get(i)?;
     ends_named(level, &seg.v1, &seg.v2)
+}
+
+/// The ends of the first of a level's segs, so many at most, as far as there is memory for them: ten bytes a seg.
+pub fn listed_ends<A: Allocator>(alloc: A, level: &Level<'_>, most: usize) -> Vec<Option<Ends>, A>
+    ensures { ListsEnds level.now result.items }
+{
+    let count = level.segs().len().min(most);
+    let mut list = Vec::new(alloc);
+    if list.reserve_exact(count).is_err() {
+        return list;
+    }
+    for i in 0..count {
+        if list.push(seg_ends(level, i)).is_err() {
+            return list;
+        }
+    }
+    list
+}
+
+/// The ends of the seg of a number, by a list of the first ones.
+#[inline]
+pub fn ends_at(level: &Level<'_>, listed: &[Option<Ends>], i: usize) -> Option<Ends>
+    requires { ListsEnds level.now listed.now }
+    ensures { result ≡ seg_ends level.now i }
+{
+    match listed.get(i) {
+        Some(ends) => *ends,
+        None => unlisted_ends(level, i),
+    }
+}
+
+// Those that aren't listed, apart from the others.
+#[cold]
+#[inline(never)]
+fn unlisted_ends(level: &Level<'_>, i: usize) -> Option<Ends>
+    ensures { result ≡ seg_ends level.now i }
+{
+    seg_ends(level, i)
 }
 
 // The vertexes that two words name.

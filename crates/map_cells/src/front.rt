@@ -1,12 +1,13 @@
 //! The columns of a row that are in front of an ssector's segs.
 
 ghost use Rattle.std.specs.Prelude.{◌≡◌, ◌<◌, ◌≤◌, pos, int_lt};
+ghost use Rattle.map_cells.specs.Ends.{ListsEnds};
 ghost use Rattle.map_cells.specs.Grid.{columns_of};
 ghost use Rattle.map_cells.specs.Shown.{cross};
 ghost use Rattle.map_cells.specs.Front.{IsCutBy, IsFrontOf, IsFrontOfSegs};
 
 use crate::change::{ColumnTest, change};
-use crate::ends::{Ends, seg_ends};
+use crate::ends::{Ends, ends_at};
 use crate::row::Row;
 use crate::shown::{cross, segs_of};
 use map_geo::Point;
@@ -20,7 +21,14 @@ pub struct Span {
 }
 
 /// Those of some columns of a row that are behind none of the segs of an ssector.
-pub fn front_of_segs(level: &Level<'_>, t: u16, row: Row, span: Span) -> Span
+pub fn front_of_segs(
+    level: &Level<'_>,
+    listed: &[Option<Ends>],
+    t: u16,
+    row: Row,
+    span: Span,
+) -> Span
+    requires listed { ListsEnds level.now listed.now }
     requires ordered { span.first ≤ span.end }
     requires within { span.end ≤ columns_of row.grid }
     ensures { IsFrontOfSegs level.now t row span result }
@@ -31,19 +39,20 @@ pub fn front_of_segs(level: &Level<'_>, t: u16, row: Row, span: Span) -> Span
         if front.first == front.end {
             return front;
         }
-        front = front_of_seg(level, i, row, front);
+        front = front_of_seg(level, listed, i, row, front);
     }
     front
 }
 
 // Those that aren't behind the seg of a number.
 #[inline]
-fn front_of_seg(level: &Level<'_>, i: usize, row: Row, span: Span) -> Span
+fn front_of_seg(level: &Level<'_>, listed: &[Option<Ends>], i: usize, row: Row, span: Span) -> Span
+    requires listed { ListsEnds level.now listed.now }
     requires some { span.first < span.end }
     requires within { span.end ≤ columns_of row.grid }
     ensures { IsFrontOf level.now i row span result }
 {
-    match seg_ends(level, i) {
+    match ends_at(level, listed, i) {
         Some(ends) => cut_by(&ends, row, span),
         None => span,
     }

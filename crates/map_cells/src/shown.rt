@@ -52,6 +52,11 @@ impl<'l, 'a, A: Allocator> Shown<'l, 'a, A> {
         self.level
     }
 
+    // Where it has its memory from.
+    pub(crate) fn allocator(&self) -> &A {
+        self.tree.allocator()
+    }
+
     // The sector of each ssector, by its number.
     pub(crate) fn sectors(&self) -> &[u16]
         ensures { ListsSectors self.now result.now }

@@ -96,6 +96,11 @@ impl<'l, 'a, A: Allocator> SectorTree<'l, 'a, A> {
         self.tree.level()
     }
 
+    /// Where the list of sectors has its memory from, for what else is listed for as long.
+    pub fn allocator(&self) -> &A {
+        self.sectors.allocator()
+    }
+
     /// The sector of each ssector, by its number.
     #[inline]
     pub fn sectors(&self) -> &[u16]

@@ -1,6 +1,7 @@
 -- The halvings that find a column.
-use Rattle.std.proofs.Common.{ℕ, suc, ◌+◌, ℤ, pos, ◌+ℤ◌, ◌-ℤ◌, ◌≤ℤ◌, ◌<ℤ◌, ◌≡◌, sym, ◌∙◌, subst, arith}
-use Rattle.std.proofs.lemmas.Int.{ints}
+use Rattle.std.proofs.Common.{ℕ, suc, ◌+◌, ◌-◌, ◌*◌, ◌^◌, ◌<◌, ℤ, pos, ◌+ℤ◌, ◌-ℤ◌, ◌≤ℤ◌, ◌<ℤ◌, ◌≡◌, refl, sym, ◌∙◌, subst, arith}
+use Rattle.std.proofs.lemmas.Int.{ints, by_lt_z}
+use Rattle.std.proofs.Math.Nat.{pow-suc}
 use Rattle.map_geo.specs.declared.sides.Side.{Side}
 use Rattle.map_geo.specs.Partition.{Partition}
 use Rattle.map_geo.specs.Point.{point_at}
@@ -53,6 +54,37 @@ module _ (c x0 x1 : ℤ) where
   pub Halved-end : (l e : ℤ) (halvings : ℕ) → Halved c x0 x1 l e halvings → e ≤ℤ (l +ℤ pos 1) → HalvingsTo c x0 x1 halvings
   Halved-end l e halvings so_far near_by =
       subst (HalvingsTo c x0 x1) (omega arith) (so_far.owes 0 (next_to l e (omega (arith, ints, so_far.at, so_far.below))))
+
+-- how wide what is left is, with so many turns to come
+pub record IsWide (l e : ℤ) (turns : ℕ) : Type 0 where
+  pub least : pos (2 ^ turns) ≤ℤ (e -ℤ l)
+  pub greatest : (e -ℤ l) ≤ℤ pos (2 * 2 ^ turns)
+
+pub wide_right : (l e m : ℤ) (turns : ℕ) → IsMiddle m l e → IsWide l e (suc turns) → IsWide m e turns
+wide_right l e m turns middle wide = record {
+  least = omega (arith, ints, pow-suc 2 turns, wide.least, middle.lower, middle.upper);
+  greatest = omega (arith, ints, pow-suc 2 turns, wide.greatest, middle.lower, middle.upper);
+}
+
+pub wide_left : (l e m : ℤ) (turns : ℕ) → IsMiddle m l e → IsWide l e (suc turns) → IsWide l m turns
+wide_left l e m turns middle wide = record {
+  least = omega (arith, ints, pow-suc 2 turns, wide.least, middle.lower, middle.upper);
+  greatest = omega (arith, ints, pow-suc 2 turns, wide.greatest, middle.lower, middle.upper);
+}
+
+pub wide_more : (l e : ℤ) (turns : ℕ) → 0 < 2 ^ turns → IsWide l e (suc turns) → (l +ℤ pos 1) <ℤ e
+wide_more l e turns some wide = omega (arith, ints, pow-suc 2 turns, some, wide.least)
+
+pub one_turn_less : (all turn : ℕ) → turn < all → all - turn ≡ suc (all - (turn + 1))
+one_turn_less all turn before = omega (arith, before)
+
+-- of two columns that are left one more halving tells which it is
+pub Halved-last : (c x0 x1 l e : ℤ) (halvings : ℕ) → Halved c x0 x1 l e halvings → (l +ℤ pos 1) <ℤ e → (e -ℤ l) ≤ℤ pos 2 → HalvingsTo c x0 x1 (halvings + 1)
+Halved-last c x0 x1 l e halvings so_far more few =
+    let middle : IsMiddle (l +ℤ pos 1) l e = record { lower = omega (arith, ints, more); upper = omega (arith, ints, few) } in
+    by_lt_z c (l +ℤ pos 1)
+    (λ before. so_far.owes 1 (to_left l e (l +ℤ pos 1) 0 more middle before (next_to l (l +ℤ pos 1) refl)))
+    (λ after. so_far.owes 1 (to_right l e (l +ℤ pos 1) 0 more middle after (next_to (l +ℤ pos 1) e (omega (arith, ints, more, few)))))
 
 middle_after : (x0 l e m : ℤ) → x0 ≤ℤ l → (l +ℤ pos 1) <ℤ e → IsMiddle m l e → x0 ≤ℤ m
 middle_after x0 l e m from more middle = omega (arith, ints, middle.upper)

@@ -1,9 +1,8 @@
 -- The middle of two numbers, and what fits.
 use lib.Signed.{lt_z}
-use Rattle.std.proofs.Common.{true, false, ◌<◌, ◌-ℤ◌, ℤ, pos, negsuc, ◌+ℤ◌, ◌≤ℤ◌, ◌<ℤ◌, ◌≡◌, FitsSigned, to_z, of_z, w32, refl, arith}
+use Rattle.std.proofs.Common.{true, false, ℤ, pos, negsuc, ◌+ℤ◌, ◌≤ℤ◌, ◌<ℤ◌, ◌≡◌, FitsSigned, to_z, of_z, w32, refl, arith}
 use Rattle.std.proofs.lemmas.Int.{ints, to_z-of_z}
 use Rattle.std.specs.Int.Signed.{shr_z}
-use Rattle.std.specs.Prelude.{unsigned_abs}
 use Rattle.map_geo.specs.Point.{IsInRange}
 use Rattle.map_tree.specs.Cuts.{IsMiddle}
 
@@ -47,12 +46,6 @@ test_true l e x0 x1 a b from ordered to test = omega (arith, ints, a.least, b.gr
 
 pub test_false : (l e x0 x1 : ℤ) → IsInRange x0 → IsInRange x1 → x0 ≤ℤ l → l <ℤ e → e ≤ℤ x1 → lt_z (to_z w32 (of_z w32 (l +ℤ pos 1))) e ≡ false → e ≤ℤ (l +ℤ pos 1)
 test_false l e x0 x1 a b from ordered to test = omega (arith, ints, a.least, b.greatest)
-
-pub less_right : (l e m : ℤ) → l <ℤ e → (l +ℤ pos 1) <ℤ e → IsMiddle m l e → unsigned_abs (e -ℤ m) < unsigned_abs (e -ℤ l)
-less_right l e m ordered more middle = omega (arith, ints, middle.lower, middle.upper)
-
-pub less_left : (l e m : ℤ) → l <ℤ e → (l +ℤ pos 1) <ℤ e → IsMiddle m l e → unsigned_abs (m -ℤ l) < unsigned_abs (e -ℤ l)
-less_left l e m ordered more middle = omega (arith, ints, middle.lower, middle.upper)
 
 pub in_range_fits : (z : ℤ) → IsInRange z → FitsSigned w32 z
 in_range_fits z h = omega (arith, ints, h.least, h.greatest)

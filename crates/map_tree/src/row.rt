@@ -46,8 +46,8 @@ pub fn last_column(node: &Node, y: i32, s: Side, x0: i32, x1: i32) -> i32
     }
 }
 
-/// How many halvings find column `c`, which is the last with its side, from columns `x0` and `x1`. Which half it is in
-/// can't be told ahead, so nothing is branched on.
+/// How many halvings find column `c`, which is the last with its side, from columns `x0` and `x1`. The width tells all but
+/// the last of them; which half `c` is in can't be told ahead, so nothing is branched on.
 #[inline]
 pub fn halvings_to(c: i32, x0: i32, x1: i32) -> u64
     requires left_in { IsInRange x0 }
@@ -60,7 +60,8 @@ pub fn halvings_to(c: i32, x0: i32, x1: i32) -> u64
     let mut low = x0;
     let mut high = x1;
     let mut halvings = 0;
-    while low + 1 < high {
+    let sure = (x1 - x0).unsigned_abs().ilog2();
+    for _turn in 0..sure {
         let m = middle(low, high);
         if m <= c {
             low = m;
@@ -69,5 +70,5 @@ pub fn halvings_to(c: i32, x0: i32, x1: i32) -> u64
         }
         halvings += 1;
     }
-    halvings
+    halvings + u64::from(low + 1 < high)
 }

@@ -1,10 +1,10 @@
-use Rattle.std.proofs.Common.{◌-ℤ◌}
-use Rattle.std.specs.Prelude.{unsigned_abs}
-use Rattle.map_tree.proofs.HalvingsLemmas.{Halved}
+use Rattle.std.proofs.Common.{◌-◌, ◌≤◌}
+use Rattle.map_tree.proofs.HalvingsLemmas.{Halved, IsWide}
 use Rattle.map_tree.proofs.row.halvings_to.Given as goal
 
-abbrev pub invariant-loop-low : goal.invariant-loop-low
-invariant-loop-low l = Halved l.c l.x0 l.x1 l.low l.high l.halvings
-
-abbrev pub decreases-loop-low : goal.decreases-loop-low
-decreases-loop-low l = unsigned_abs (l.high -ℤ l.low)
+abbrev pub invariant-loop-turn : goal.invariant-loop-turn
+invariant-loop-turn l = record {
+  so_far : Halved l.c l.x0 l.x1 l.low l.high l.halvings;
+  turns : l._turn ≤ l.sure;
+  wide : IsWide l.low l.high (l.sure - l._turn);
+}

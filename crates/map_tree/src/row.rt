@@ -21,9 +21,29 @@ pub fn middle(low: i32, high: i32) -> i32
     (low + high) >> 1
 }
 
-/// The last column with side `s` of row `y`, from column `x0`, which has it, to `x1`, which doesn't. The line of the
-/// partition comes nearer by dy with each column, so that a division tells where it is met.
+/// The last column with side `s` of row `y`, from column `x0`, which has it, to `x1`, which doesn't. An upright partition has
+/// its own column on its left.
+#[inline]
 pub fn last_column(node: &Node, y: i32, s: Side, x0: i32, x1: i32) -> i32
+    requires x_in { IsInRange node.now.x }
+    requires y_in { IsInRange node.now.y }
+    requires row_in { IsInRange y }
+    requires left_in { IsInRange x0 }
+    requires right_in { IsInRange x1 }
+    requires ordered { x0 <ℤ x1 }
+    requires left { side_of (partition_of node.now) (point_at x0 y) ≡ s }
+    requires right { side_of (partition_of node.now) (point_at x1 y) ≡ other s }
+    ensures { IsLast (partition_of node.now) y s x0 x1 result }
+{
+    if node.dx == 0 {
+        i32::from(node.x)
+    } else {
+        met_column(node, y, s, x0, x1)
+    }
+}
+
+// That column by a division: the line of the partition comes nearer by dy with each column.
+fn met_column(node: &Node, y: i32, s: Side, x0: i32, x1: i32) -> i32
     requires x_in { IsInRange node.now.x }
     requires y_in { IsInRange node.now.y }
     requires row_in { IsInRange y }

@@ -7,7 +7,7 @@ use Rattle.wad_atlas.specs.declared.refused.Refused.{Refused}
 use Rattle.wad_atlas.specs.declared.row.Row.{Row}
 use Rattle.wad_lens.specs.declared.object.Refusal.{Refusal}
 use Rattle.wad_lens.specs.declared.verdict.Verdict.{Verdict}
-use Rattle.lens_run.specs.Job.{HoldsList, LacksList, job_paths, list_name}
+use Rattle.lens_run.specs.Job.{HoldsList, ListUnread, job_paths, list_name}
 use Rattle.lens_run.specs.Run.{IsTold, ToldTo, refusal_line}
 use Rattle.lens_run.specs.declared.end.End.{End}
 use Rattle.lens_run.specs.declared.end.End.TheVariants as end
@@ -128,7 +128,7 @@ pub record RunsPaths (held : List ℕ → Option (List ℕ)) (left : Option (Lis
 -- the list was refused before any file was read, and the folder wasn't touched
 pub record RefusesList (held : List ℕ → Option (List ℕ)) (left : Option (List ℕ)) (job : AtlasJob) (old new : Option (List Kept)) (errors errors' : SinkState) (result : Result Verdict End) : Type 0 where
   pub refusal : Refusal
-  pub why : LacksList held left job.job (read.Refused refusal)
+  pub why : ListUnread held left job.job (read.Refused refusal)
   pub told : IsTold errors errors' (refusal_line (list_name job.job) refusal)
   pub untouched : new ≡ old
   pub ended : result ≡ Err end.Refused

@@ -51,8 +51,8 @@ abbrev pub RefusesAt : (List ℕ → Option (List ℕ)) → Option (List ℕ) �
 RefusesAt held left None fault = ⊥
 RefusesAt held left (Some path) fault = RefusesRead (held_at held left path) fault
 
-abbrev pub LacksList : (List ℕ → Option (List ℕ)) → Option (List ℕ) → Job → ReadFault → Type 0
-LacksList held left job fault = RefusesAt held left (list_path job) fault
+abbrev pub ListUnread : (List ℕ → Option (List ℕ)) → Option (List ℕ) → Job → ReadFault → Type 0
+ListUnread held left job fault = RefusesAt held left (list_path job) fault
 
 -- the paths of a job: those of the words, and then those of the list
 abbrev pub job_paths : Job → List ℕ → List (List ℕ)
@@ -116,7 +116,7 @@ pub record RunsPaths {W : Type 0} (held : List ℕ → Option (List ℕ)) (left 
 -- the list was refused before any file was read, and nothing was answered
 pub record RefusesList {W : Type 0} (held : List ℕ → Option (List ℕ)) (left : Option (List ℕ)) (job : Job) (old new : Output W) (errors errors' : SinkState) (result : Result Verdict End) : Type 0 where
   pub refusal : Refusal
-  pub why : LacksList held left job (Refused refusal)
+  pub why : ListUnread held left job (Refused refusal)
   pub told : IsTold errors errors' (refusal_line (list_name job) refusal)
   pub untouched : new ≡ old
   pub ended : result ≡ Err end.Refused

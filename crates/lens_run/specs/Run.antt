@@ -150,6 +150,7 @@ pub record TellsHeld (held : Option (List ℕ)) (asked : Asked) (path : List ℕ
 pub record HasNoDirectory (held : Option (List ℕ)) (word : Word) (why : WadFault) : Type 0 where
   pub bytes : List ℕ
   pub are : Keeps held (Some bytes)
+  pub few : length bytes ≤ MAX_READ
   pub refuses : LacksDirectory word bytes why
 
 -- why a file is refused of which a word asks

@@ -3,7 +3,7 @@
 ghost use Rattle.std.specs.Prelude.{◌≡◌, [], false, IfOk, IfErr};
 ghost use Rattle.std.specs.Io.KnownBytes.{Keeps};
 ghost use Rattle.line_io.specs.Writes.{Writes};
-ghost use Rattle.lens_run.specs.Job.{HoldsList, LacksList, RunsJob, TellsRest, closing_line, output_end, stop_end};
+ghost use Rattle.lens_run.specs.Job.{HoldsList, ListUnread, RunsJob, TellsRest, closing_line, output_end, stop_end};
 ghost use Rattle.lens_run.specs.Output.{is_closed, output_state};
 ghost use Rattle.lens_run.specs.Run.{AreSound};
 
@@ -62,7 +62,7 @@ pub fn read_list<S: Storage, I: Read + Drop>(
     reader: I,
 ) -> Result<Vec<u8>, ReadFault>
     ensures held { IfOk result (λ list. HoldsList (S.held storage.now) (I.remaining reader) job.now list.items) }
-    ensures refused { IfErr result (LacksList (S.held storage.now) (I.remaining reader) job.now) }
+    ensures refused { IfErr result (ListUnread (S.held storage.now) (I.remaining reader) job.now) }
 {
     match job.list {
         None => Ok(Vec::new(alloc)),

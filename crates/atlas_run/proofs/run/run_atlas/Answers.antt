@@ -1,13 +1,13 @@
 use Rattle.std.proofs.Common.{◌≡◌, List, [], Err, inl, inr, map, ap, ◌∙◌, refl, rules, subst}
 use Rattle.std.specs.Prelude.{IfSome}
-use Rattle.lens_run.specs.Job.{LacksList, job_paths}
+use Rattle.lens_run.specs.Job.{ListUnread, job_paths}
 use Rattle.atlas_run.specs.Atlas.{StopsAtlas, asked_of, survey_of}
 use Rattle.atlas_run.specs.Until.{TellsUntil}
 use Rattle.atlas_run.proofs.run.run_atlas.Goals as goal
 
 pub returns-in-Err-Refused : goal.returns-in-Err-Refused
 returns-in-Err-Refused g c =
-    let why = subst (LacksList (g.S.Storage.held c.args.storage.now) (g.I.Read.remaining c.args.reader) c.args.job.now.job)
+    let why = subst (ListUnread (g.S.Storage.held c.args.storage.now) (g.I.Read.remaining c.args.reader) c.args.job.now.job)
     c.in-Err-Refused.field-0-is c.in-Err-Refused.ensures.refused in
     let wrote = rw c.in-Err-Refused.refusal-is at c.write_refusal.ensures in
     let named = rw c.list_name.ensures at wrote in

@@ -1,6 +1,6 @@
 use Rattle.std.proofs.Common.{◌≡◌, Err, inl, inr, length, map, ap, sym, ◌∙◌, refl, rules, subst}
 use Rattle.std.proofs.lemmas.List.{length-map}
-use Rattle.lens_run.specs.Job.{LacksList, job_paths}
+use Rattle.lens_run.specs.Job.{ListUnread, job_paths}
 use Rattle.lens_run.specs.Run.{StopsAt}
 use Rattle.lens_run.specs.Output.{output_state}
 use Rattle.lens_run.proofs.JobLemmas.{tells_all}
@@ -8,7 +8,7 @@ use Rattle.lens_run.proofs.run.run_job.Goals as goal
 
 pub returns-in-Err-Refused : goal.returns-in-Err-Refused
 returns-in-Err-Refused g c =
-    let why = subst (LacksList (g.S.Storage.held c.args.storage.now) (g.I.Read.remaining c.args.reader) c.args.job.now)
+    let why = subst (ListUnread (g.S.Storage.held c.args.storage.now) (g.I.Read.remaining c.args.reader) c.args.job.now)
     c.in-Err-Refused.field-0-is c.in-Err-Refused.ensures.refused in
     let wrote = rw c.in-Err-Refused.refusal-is at c.write_refusal.ensures in
     let named = rw c.list_name.ensures at wrote in

@@ -18,7 +18,7 @@ returns-in-Err-NoWad-clause-told g c =
     (g.W.Sink.state c.args.out.now) (g.W.Sink.state c.tell_refusal.new.out) (g.E.Sink.state e) (g.E.Sink.state c.tell_refusal.new.errors))) left.2 at_out in
     refused_told (g.S.Storage.held c.args.storage.now c.args.path.now) c.args.asked c.args.path.now (NoWad c.in-Err-NoWad.why) (g.W.Sink.state c.args.out.now)
     (g.W.Sink.state c.tell_refusal.new.out) (g.E.Sink.state c.args.errors.now) (g.E.Sink.state c.tell_refusal.new.errors) c.tell_refusal.result
-    (record { bytes = bytes; are = search rules; refuses = left.0 }) writes
+    (record { bytes = bytes; are = search rules; few = search rules; refuses = left.0 }) writes
 
 pub returns-in-Err-NoWad-clause-stopped : goal.returns-in-Err-NoWad-clause-stopped
 returns-in-Err-NoWad-clause-stopped g c =
@@ -33,7 +33,7 @@ returns-in-Err-NoWad-clause-stopped g c =
     (g.W.Sink.state c.args.out.now) (g.W.Sink.state c.tell_refusal.new.out) (g.E.Sink.state e) (g.E.Sink.state c.tell_refusal.new.errors))) left.2 at_out in
     refused_stopped (g.S.Storage.held c.args.storage.now c.args.path.now) c.args.asked c.args.path.now (NoWad c.in-Err-NoWad.why) (g.W.Sink.state c.args.out.now)
     (g.W.Sink.state c.tell_refusal.new.out) (g.E.Sink.state c.args.errors.now) (g.E.Sink.state c.tell_refusal.new.errors) c.tell_refusal.result
-    (record { bytes = bytes; are = search rules; refuses = left.0 }) stops
+    (record { bytes = bytes; are = search rules; few = search rules; refuses = left.0 }) stops
 
 pub returns-in-Err-Refused-clause-stopped : goal.returns-in-Err-Refused-clause-stopped
 returns-in-Err-Refused-clause-stopped g c =

@@ -3,4 +3,4 @@ use Rattle.wad_atlas.proofs.style.write_style.Goals as goal
 
 pub returns : goal.returns
 unfolding style_text
-returns g c = c.write_parts.ensures
+returns g c = c.emit.ensures

@@ -23,7 +23,11 @@ __all__ = [
 ]
 
 NOWHERE = 65535
-"""The sector and the ssector of a point that is out of range, in answers to buffers."""
+"""The sector and the ssector of a point that is out of range, in answers to buffers.
+
+Under `wide` it is also the number of the last of 65,536 sectors, but never that of an ssector: `places`, and `sectors` of pairs,
+tell them apart.
+"""
 
 
 class Status(enum.IntEnum):
@@ -81,12 +85,15 @@ _WORDS = {
 
 
 class WadlookError(Exception):
-    """A call was refused: `status` is why, and the text says it in words."""
+    """A call was refused: `status` is why, `what` the name that it was asked for, if any, and the text says both in words."""
 
     def __init__(self, status: int, what: str = "") -> None:
-        self.status = Status(status)
+        self.status, self.what = Status(status), what
         words = _WORDS.get(self.status, self.status.name.lower())
         super().__init__(f"{what}: {words}" if what else words)
+
+    def __reduce__(self) -> tuple[type[WadlookError], tuple[Status, str], dict[str, object]]:
+        return type(self), (self.status, self.what), self.__dict__
 
 
 class Place(NamedTuple):
@@ -282,6 +289,8 @@ def _points_of(points: Points) -> tuple[ctypes.Array[_Point], int]:
     flat = memoryview(points)  # type: ignore[arg-type]
     if flat.itemsize != 4 or flat.format not in ("i", "l", "<i", "=i") or not flat.c_contiguous or flat.nbytes % 8:
         raise TypeError("points in a buffer are pairs of 32-bit integers without gaps, as array('i') or numpy's int32")
+    if flat.shape[1:] not in ((), (2,)):
+        raise TypeError(f"points in a buffer stand in one dimension or in two columns, not in the shape {flat.shape}")
     count = flat.nbytes // 8
     if count == 0:
         return (_Point * 1)(), 0
@@ -310,12 +319,12 @@ class Wad:
         else:
             self.name = ""
         view = memoryview(source)
-        self._held = bytes(source) if view.readonly and not isinstance(source, bytes) else source
+        self._held = bytes(source) if (view.readonly or not view.nbytes) and not isinstance(source, bytes) else source
         self._size = view.nbytes
         if isinstance(self._held, bytes):
             self._at = ctypes.cast(ctypes.c_char_p(self._held), ctypes.c_void_p).value or 0
         else:
-            self._held = (ctypes.c_char * max(self._size, 1)).from_buffer(self._held)
+            self._held = (ctypes.c_char * self._size).from_buffer(self._held)
             self._at = ctypes.addressof(self._held)
 
     def find(self, name: str, after: int = 0) -> Lump:
@@ -360,7 +369,7 @@ class Level:
 
     @property
     def findings(self) -> list[Finding]:
-        """The level's faults and then its notes, by code and then by index."""
+        """The level's faults and then its notes, by code and then by index. The list is the caller's own."""
         if self._audited is None:
             room, totals = 64, _Totals()
             while True:
@@ -371,7 +380,7 @@ class Level:
                     break
                 room = count
             self._audited = [Finding(_CODES[it.code], it.index, _TEXTS[_CODES[it.code]]) for it in found[:count]]
-        return self._audited
+        return self._audited.copy()
 
     @property
     def faults(self) -> list[Finding]:
@@ -400,8 +409,9 @@ class Level:
 
         Of pairs `(x, y)`: a list, with None where a point is out of range. Of a buffer of 32-bit integers x, y, x, y, .. (an
         `array('i')`, or numpy's int32 of two columns), which isn't copied unless it is read-only: a memoryview of unsigned
-        16-bit integers, which numpy takes as it is, with NOWHERE where a point is out of range. The call lets other threads
-        run: until it returns, none may write to the buffer.
+        16-bit integers, which numpy takes as it is, with NOWHERE where a point is out of range; under `wide` that is also the
+        number of the last of 65,536 sectors, and `places` tells them apart. The call lets other threads run: until it returns,
+        none may write to the buffer.
         """
         told, count = self._places(points)
         if _is_buffer(points):

@@ -1,6 +1,8 @@
 """cases.py BASE: the module `wadlook` on worked cases over the sample level; the last line is `N passed, M failed`."""
 
+import copy
 import ctypes
+import pickle
 import re
 import struct
 import sys
@@ -10,7 +12,7 @@ import wadlook
 from wadlook import NOWHERE, Block, Command, Place, Status, Wad, WadlookError
 
 passed = failed = 0
-NODES, REJECT, BLOCKMAP, DIRECTORY = 136, 216, 217, 233
+SIDEDEFS, NODES, REJECT, BLOCKMAP, DIRECTORY = 36, 136, 216, 217, 233
 
 
 def check(name, holds):
@@ -51,7 +53,8 @@ def cases(path):
     check("an array is lent", lends(flat))
     lent = (ctypes.c_int32 * 2)(0, 5)
     check("sectors of another module's buffer", level.sectors(lent).tolist() == [1])
-    for bad in (array("d", [0.0, 5.0]), array("i", [1, 2, 3]), memoryview(flat)[::2]):
+    rows, deep = (memoryview(flat).cast("B").cast("i", shape) for shape in ((2, 4), (2, 2, 2)))
+    for bad in (array("d", [0.0, 5.0]), array("i", [1, 2, 3]), memoryview(flat)[::2], rows, deep):
         try:
             level.sectors(bad)
             check("a buffer that holds no points", False)
@@ -87,10 +90,14 @@ def cases(path):
     twice = Wad(with_words(base, NODES + 24, -32768, -32768)).level("E1M1")  # one ssector twice
     check("faults", [it[:2] for it in twice.faults] == [("F15", 0), ("F16", 1)] and not twice.is_sound and twice.notes == [])
     check("texts", twice.faults[0].text == "ssector named more than once")
+    twice.findings.clear()
+    check("faults stay, whatever is done to the list", len(twice.findings) == 2 and not twice.is_sound)
     for call, words in ((twice.sectors, ([(0, 5)],)), (twice.place, (0, 5)), (twice.census, (0, 0, 1, 1))):
         check("a level with faults", refused(Status.UNSOUND, call, *words))
     for status, bytes_ in ((Status.SHORT, base[:11]), (Status.MAGIC, b"X" + base[1:]), (Status.DIRECTORY, base[:-1]), (Status.SHORT, b"")):
         check(f"no file: {status.name}", refused(status, Wad(bytes_).level, "E1M1"))
+    for empty in (bytearray(), array("B"), memoryview(bytearray(base))[:0], memoryview(base)[:0]):
+        check("a buffer of no bytes", refused(Status.SHORT, lambda source: Wad(source).level("E1M1"), empty))
     for size in range(len(base)):
         check(f"wad_cut {size}", refused(Status.SHORT if size < 12 else Status.DIRECTORY, Wad(base[:size]).level, "E1M1"))
     check("no name", refused(Status.NO_NAME, Wad(base).level, "E2M9"))
@@ -98,6 +105,19 @@ def cases(path):
     label = with_words(base, DIRECTORY, -1, -1, 1, 0)
     check("a label outside the file, of which no byte is asked", Wad(label).level("E1M1").sectors([(0, 5)]) == [1])
     check("a missing lump, audited", [it[:2] for it in Wad(base).level("THINGS").findings] == [("F1", 10)])
+
+    last = many_sectors(base)
+    check("a level of 65,536 sectors is sound", last.is_sound and [it.code for it in last.findings] == ["N8"])
+    check("the last of 65,536 sectors", last.places(asked) == [Place(0, 0), Place(NOWHERE, 1), Place(NOWHERE, 1), None])
+    check("the last of 65,536 sectors, of pairs", last.sectors(asked) == [0, NOWHERE, NOWHERE, None])
+    check("the last of 65,536 sectors, of an array", last.sectors(flat).tolist() == [0, NOWHERE, NOWHERE, NOWHERE])
+    check("places of an array tell it from no place", last.places(flat) == last.places(asked))
+    check("one place tells it from no place", last.place(0, 5) == Place(NOWHERE, 1) and last.place(16384, 0) is None)
+
+    for status in Status:
+        check(f"a refusal pickled and copied: {status.name}", all(stays(WadlookError(status, what)) for what in ("MAP01", "")))
+    check("a refusal's words", str(WadlookError(Status.NO_NAME, "MAP01")) == "MAP01: no entry of this name")
+    check("a refusal's words alone", str(WadlookError(Status.NO_NAME)) == "no entry of this name")
 
     two = bytes([109, 3, 1, 1, 0, 0, 0, 0, 0, 1, 0, 0, 0, 25, 0, 0, 0, 206, 128, 255, 128, 128, 7])
     demo = wadlook.read_demo(two)
@@ -121,6 +141,20 @@ def cases(path):
     check("docstrings", all(it.__doc__ for it in public + members))
 
 
+def many_sectors(base):
+    """The sample level with 65,536 sectors, of which sidedef 1 faces the last."""
+    wad = with_words(base, SIDEDEFS + 58, -1)
+    struct.pack_into("<ii", wad, DIRECTORY + 16 * 8, len(wad), 26 * 65536)
+    return Wad(wad + bytes(26 * 65536)).level("E1M1", wide=True)
+
+
+def stays(why):
+    """Whether a refusal comes out of pickle, as from another process, and of copy as it went in."""
+    why.added = "by the caller"
+    again = pickle.loads(pickle.dumps(why)), copy.copy(why)
+    return all((str(it), it.args, vars(it)) == (str(why), why.args, vars(why)) for it in again)
+
+
 def lends(points):
     """Whether the library reads a buffer's points where they are."""
     return ctypes.addressof(wadlook._points_of(points)[0]) == ctypes.addressof(ctypes.c_char.from_buffer(points))
@@ -135,15 +169,17 @@ def numpy_cases(path):
     points = numpy.array([[1, 5], [0, 5], [16384, 0]], dtype=numpy.int32)
     check("numpy's points are lent", lends(points))
     check("sectors of numpy's points", numpy.asarray(level.sectors(points)).tolist() == [0, 1, NOWHERE])
+    check("sectors of numpy's no points", numpy.asarray(level.sectors(points[:0])).tolist() == [])
     points.setflags(write=False)
     check("read-only points are copied", ctypes.addressof(wadlook._points_of(points)[0]) != points.ctypes.data)
     check("sectors of read-only points", level.sectors(points).tolist() == [0, 1, NOWHERE])
-    for wrong in (points.astype(numpy.int64), points.astype(numpy.float32), points.T):
+    rows = numpy.array([[1, 0, 16384, -1], [5, 5, 0, 5]], dtype=numpy.int32)
+    for wrong in (points.astype(numpy.int64), points.astype(numpy.float32), points.T, rows, rows.reshape(2, 2, 2)):
         try:
             level.sectors(wrong)
-            check("numpy's other numbers", False)
+            check("numpy's other arrays", False)
         except TypeError:
-            check("numpy's other numbers", True)
+            check("numpy's other arrays", True)
 
 
 cases(sys.argv[1])

@@ -13,7 +13,7 @@
 //! `include/wadlook.h` says what each call promises. These declarations aren't checked against it but by tests. Each safe
 //! function owes the library slices of memory that is borrowed for the call, which is what its types say.
 #![no_std]
-#![warn(missing_docs)]
+#![warn(missing_debug_implementations, missing_docs)]
 
 extern crate alloc;
 
@@ -186,6 +186,25 @@ impl<'a> Wad<'a> {
 
     /// The entry that many entries behind the last one of a name; behind a level's label 1 to 10 are its lumps.
     pub fn find(self, name: &str, after: usize) -> Result<Lump, Refused> {
+        self.entry(name.as_bytes(), after)
+    }
+
+    /// The bytes of that entry's lump.
+    pub fn lump(self, name: &str, after: usize) -> Result<&'a [u8], Refused> {
+        self.lump_of(name.as_bytes(), after)
+    }
+
+    /// The level of a name, of which the first eight bytes count and are kept; its indexes are read as signed. Each call
+    /// looks it up, and answers where there is none.
+    pub fn level(self, name: &str) -> Level<'a> {
+        let mut kept = [0; 8];
+        for (to, from) in kept.iter_mut().zip(name.bytes()) {
+            *to = from;
+        }
+        Level { wad: self, name: kept, wide: false }
+    }
+
+    fn entry(self, name: &[u8], after: usize) -> Result<Lump, Refused> {
         let mut lump = Lump::default();
         // SAFETY: each pointer and length are those of one slice that is borrowed for the call; `lump` is borrowed mutably.
         let status = unsafe {
@@ -194,15 +213,15 @@ impl<'a> Wad<'a> {
         Refused::of(status).map(|()| lump)
     }
 
-    /// The bytes of that entry's lump.
-    pub fn lump(self, name: &str, after: usize) -> Result<&'a [u8], Refused> {
-        let lump = self.find(name, after)?;
+    fn lump_of(self, name: &[u8], after: usize) -> Result<&'a [u8], Refused> {
+        let lump = self.entry(name, after)?;
         Ok(&self.bytes[lump.place..lump.place + lump.size])
     }
+}
 
-    /// The level of a name, whose indexes are read as signed. Each call looks it up, and answers where there is none.
-    pub fn level(self, name: &'a str) -> Level<'a> {
-        Level { wad: self, name, wide: false }
+impl fmt::Debug for Wad<'_> {
+    fn fmt(&self, f: &mut fmt::Formatter<'_>) -> fmt::Result {
+        f.debug_struct("Wad").field("len", &self.bytes.len()).finish_non_exhaustive()
     }
 }
 
@@ -210,7 +229,7 @@ impl<'a> Wad<'a> {
 #[derive(Clone, Copy)]
 pub struct Level<'a> {
     wad: Wad<'a>,
-    name: &'a str,
+    name: [u8; 8],
     wide: bool,
 }
 
@@ -222,8 +241,8 @@ impl<'a> Level<'a> {
 
     /// Writes the place of each point to the front of `places`, which may be longer. Takes no memory but what the audit takes.
     pub fn places_into(&self, points: &[Point], places: &mut [Place]) -> Result<(), Refused> {
-        let (wad, name) = (self.wad.bytes, self.name);
-        // SAFETY: as in `find`.
+        let (wad, name) = (self.wad.bytes, &self.name);
+        // SAFETY: as in `entry`.
         Refused::of(unsafe {
             raw::wadlook_points(
                 wad.as_ptr(), wad.len(), name.as_ptr(), name.len(), self.wide,
@@ -241,10 +260,10 @@ impl<'a> Level<'a> {
 
     /// The level audited once, for one point after another.
     pub fn prepare(&self) -> Result<Prepared<'a>, Refused> {
-        let (wad, name) = (self.wad.bytes, self.name);
+        let (wad, name) = (self.wad.bytes, &self.name);
         let mut sectors = vec![0; 32768]; // no sound level has more ssectors
         let mut count = 0;
-        // SAFETY: as in `find`.
+        // SAFETY: as in `entry`.
         let status = unsafe {
             raw::wadlook_prepare(
                 wad.as_ptr(), wad.len(), name.as_ptr(), name.len(), self.wide,
@@ -257,16 +276,16 @@ impl<'a> Level<'a> {
             Err(why) => return Err(why),
         }
         sectors.truncate(count);
-        Ok(Prepared { nodes: self.wad.lump(self.name, 7)?, sectors })
+        Ok(Prepared { nodes: self.wad.lump_of(&self.name, 7)?, sectors })
     }
 
     /// How many points of a rectangle lie in each sector that has some, by sectors.
     pub fn census(&self, rect: Rect) -> Result<Vec<Count>, Refused> {
-        let (wad, name) = (self.wad.bytes, self.name);
+        let (wad, name) = (self.wad.bytes, &self.name);
         let mut counts = vec![Count::default(); 256];
         loop {
             let mut count = 0;
-            // SAFETY: as in `find`.
+            // SAFETY: as in `entry`.
             Refused::of(unsafe {
                 raw::wadlook_census(
                     wad.as_ptr(), wad.len(), name.as_ptr(), name.len(), self.wide,
@@ -283,11 +302,11 @@ impl<'a> Level<'a> {
 
     /// The level's faults and then its notes, by code and then by index.
     pub fn findings(&self) -> Result<Vec<Finding>, Refused> {
-        let (wad, name) = (self.wad.bytes, self.name);
+        let (wad, name) = (self.wad.bytes, &self.name);
         let mut found = vec![raw::Finding { code: 0, index: 0 }; 64];
         loop {
             let mut totals = raw::Totals::default();
-            // SAFETY: as in `find`.
+            // SAFETY: as in `entry`.
             Refused::of(unsafe {
                 raw::wadlook_audit(
                     wad.as_ptr(), wad.len(), name.as_ptr(), name.len(), self.wide,
@@ -304,10 +323,10 @@ impl<'a> Level<'a> {
 
     /// Whether REJECT refuses the sight from a sector to another; `Unknown` where it ends before their bit.
     pub fn is_blocked(&self, from: u32, to: u32) -> Result<bool, Refused> {
-        let reject = self.wad.lump(self.name, 9)?;
-        let sectors = self.wad.find(self.name, 8)?.size / 26;
+        let reject = self.wad.lump_of(&self.name, 9)?;
+        let sectors = self.wad.entry(&self.name, 8)?.size / 26;
         let mut blocked = 0;
-        // SAFETY: as in `find`.
+        // SAFETY: as in `entry`.
         let status =
             unsafe { raw::wadlook_sight(reject.as_ptr(), reject.len(), sectors as u32, from, to, &mut blocked) };
         Refused::of(status).map(|()| blocked == 1)
@@ -315,9 +334,9 @@ impl<'a> Level<'a> {
 
     /// The block that holds a point, and its list.
     pub fn block(&self, point: Point) -> Result<Block<'a>, Refused> {
-        let lump = self.wad.lump(self.name, 10)?;
+        let lump = self.wad.lump_of(&self.name, 10)?;
         let mut block = raw::Block::default();
-        // SAFETY: as in `find`.
+        // SAFETY: as in `entry`.
         Refused::of(unsafe { raw::wadlook_block(lump.as_ptr(), lump.len(), self.wide, point, &mut block) })?;
         let bytes = &lump[2 * block.first..2 * (block.first + block.count)];
         Ok(Block { column: block.column, row: block.row, bytes, wide: self.wide })
@@ -325,11 +344,11 @@ impl<'a> Level<'a> {
 
     /// A PWAD of the level alone.
     pub fn extract(&self) -> Result<Vec<u8>, Refused> {
-        let (wad, name) = (self.wad.bytes, self.name);
+        let (wad, name) = (self.wad.bytes, &self.name);
         let mut out = Vec::new();
         loop {
             let mut written = 0;
-            // SAFETY: as in `find`.
+            // SAFETY: as in `entry`.
             let status = unsafe {
                 raw::wadlook_extract(
                     wad.as_ptr(), wad.len(), name.as_ptr(), name.len(),
@@ -341,6 +360,16 @@ impl<'a> Level<'a> {
                 ended => return ended.map(|()| out),
             }
         }
+    }
+}
+
+impl fmt::Debug for Level<'_> {
+    fn fmt(&self, f: &mut fmt::Formatter<'_>) -> fmt::Result {
+        let name = self.name.split(|&byte| byte == 0).next().unwrap_or_default();
+        f.debug_struct("Level")
+            .field("name", &format_args!("\"{}\"", name.escape_ascii()))
+            .field("wide", &self.wide)
+            .finish_non_exhaustive()
     }
 }
 
@@ -361,7 +390,7 @@ pub struct Prepared<'a> {
 impl Prepared<'_> {
     /// The place of a point, None where it is out of range. Takes no memory.
     pub fn place(&self, point: Point) -> Option<Place> {
-        // SAFETY: as in `find`.
+        // SAFETY: as in `entry`.
         let place = unsafe {
             raw::wadlook_point(
                 self.nodes.as_ptr(), self.nodes.len(), self.sectors.as_ptr(), self.sectors.len(), point,
@@ -371,12 +400,18 @@ impl Prepared<'_> {
     }
 }
 
+impl fmt::Debug for Prepared<'_> {
+    fn fmt(&self, f: &mut fmt::Formatter<'_>) -> fmt::Result {
+        f.debug_struct("Prepared").field("ssectors", &self.sectors.len()).finish_non_exhaustive()
+    }
+}
+
 /// What a demo's bytes say, and its commands: of each tic one for each player that takes part.
 pub fn read_demo(bytes: &[u8]) -> Result<(DemoInfo, Vec<Command>), Refused> {
     let mut commands = vec![Command::default(); 4096];
     loop {
         let mut info = DemoInfo::default();
-        // SAFETY: as in `find`.
+        // SAFETY: as in `entry`.
         Refused::of(unsafe {
             raw::wadlook_demo(bytes.as_ptr(), bytes.len(), commands.as_mut_ptr(), commands.len(), &mut info)
         })?;

@@ -1,6 +1,6 @@
 //! The calls on worked cases over the sample level (`sample/README.md`).
 
-use wadlook::{read_demo, Code, Command, Count, Finding, Lump, Place, Point, Rect, Refused, Wad};
+use wadlook::{read_demo, Code, Command, Count, Finding, Level, Lump, Place, Point, Rect, Refused, Wad};
 
 const TWO_COMMANDS: [u8; 23] = [109, 3, 1, 1, 0, 0, 0, 0, 0, 1, 0, 0, 0, 25, 0, 0, 0, 206, 128, 255, 128, 128, 7];
 
@@ -16,8 +16,14 @@ fn with_words(place: usize, words: &[i16]) -> Vec<u8> {
     wad
 }
 
-fn sector(level: wadlook::Level<'_>, x: i32, y: i32) -> Result<Option<u16>, Refused> {
+fn sector(level: Level<'_>, x: i32, y: i32) -> Result<Option<u16>, Refused> {
     Ok(level.places(&[Point { x, y }])?[0].map(|place| place.sector))
+}
+
+/// The level of a name that is made for the call.
+fn level_of(wad: Wad<'_>, number: u32) -> Level<'_> {
+    let name = format!("E1M{number}");
+    wad.level(&name)
 }
 
 #[test]
@@ -43,6 +49,45 @@ fn one_point_after_another() {
     assert_eq!(level.place(Point { x: 0, y: 5 }), Some(Place { ssector: 1, sector: 1 }));
     assert_eq!(level.place(Point { x: 1, y: 5 }), Some(Place { ssector: 0, sector: 0 }));
     assert_eq!(level.place(Point { x: 0, y: -16385 }), None);
+}
+
+#[test]
+fn names_are_kept() {
+    let mut wad = base();
+    let level = level_of(Wad::new(&wad), 1);
+    assert_eq!(sector(level, 0, 5), Ok(Some(1)));
+    assert_eq!(level.is_blocked(0, 1), Ok(false));
+    assert_eq!(level.block(Point { x: 0, y: 5 }).map(|block| (block.column, block.row)), Ok((0, 0)));
+    assert_eq!(level.extract(), Ok(base()));
+    assert_eq!(level_of(Wad::new(&wad), 2).findings(), Err(Refused::NoName));
+    let prepared = level_of(Wad::new(&wad), 1).prepare().unwrap();
+    assert_eq!(prepared.place(Point { x: 0, y: 5 }), Some(Place { ssector: 1, sector: 1 }));
+    for name in ["e1m1", "E1M1\0", "E1M1\0ABCDEFG"] {
+        assert_eq!(sector(Wad::new(&wad).level(name), 0, 5), Ok(Some(1)), "{name:?}");
+    }
+    for name in ["", "\0E1M1", "E1M", "E1M1 ", "E1M1É", "ÉÉÉÉÉ"] {
+        assert_eq!(Wad::new(&wad).level(name).findings(), Err(Refused::NoName), "{name:?}");
+        assert_eq!(Wad::new(&wad).find(name, 0), Err(Refused::NoName), "{name:?}");
+    }
+    wad[233 + 8..233 + 16].copy_from_slice(b"E1M1ABCD");
+    for name in ["E1M1ABCD", "e1m1abcdé", "E1M1ABCDEFGHIJKLM"] {
+        assert_eq!(sector(Wad::new(&wad).level(name), 0, 5), Ok(Some(1)), "{name:?}");
+        assert_eq!(Wad::new(&wad).find(name, 7), Ok(Lump { entry: 7, place: 136, size: 28 }), "{name:?}");
+    }
+    for name in ["E1M1", "E1M1ABC", "E1M1ABC\0"] {
+        assert_eq!(Wad::new(&wad).level(name).findings(), Err(Refused::NoName), "{name:?}");
+    }
+}
+
+#[test]
+fn shown_without_their_bytes() {
+    let wad = base();
+    let level = Wad::new(&wad).level("e1m1");
+    let other = Wad::new(&wad).level("\"ÉABCDEFG").wide();
+    assert_eq!(format!("{:?}", Wad::new(&wad)), "Wad { len: 409, .. }");
+    assert_eq!(format!("{level:?}"), r#"Level { name: "e1m1", wide: false, .. }"#);
+    assert_eq!(format!("{other:?}"), r#"Level { name: "\"\xc3\x89ABCDE", wide: true, .. }"#);
+    assert_eq!(format!("{:?}", level.prepare()), "Ok(Prepared { ssectors: 2, .. })");
 }
 
 #[test]
@@ -84,7 +129,7 @@ fn lumps_sight_and_blocks() {
     assert_eq!(level.block(Point { x: -9, y: 5 }).err(), Some(Refused::NoBlock));
     let lists = with_words(217, &[0, 0, 1, 1, 5, 0, -2, -1]);
     let level = Wad::new(&lists).level("E1M1");
-    let lines = |level: wadlook::Level<'_>| level.block(Point::default()).unwrap().lines().collect::<Vec<_>>();
+    let lines = |level: Level<'_>| level.block(Point::default()).unwrap().lines().collect::<Vec<_>>();
     assert_eq!((lines(level), lines(level.wide())), (vec![0, -2], vec![0, 65534]));
 }
 

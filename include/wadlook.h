@@ -9,7 +9,8 @@
  *   - what a call writes to overlaps nothing else that the call is given;
  *   - a bool is 0 or 1, and a pointer is aligned as its type asks.
  * All else is tested: any bytes, any name and any numbers are answered by one of the statuses below. Where the status isn't
- * WADLOOK_DONE, what the call writes to is as it was, unless it is said of WADLOOK_NO_ROOM that a number was written.
+ * WADLOOK_DONE, what the call writes to is as it was, unless it is said of WADLOOK_NO_ROOM that a number was written. Behind an
+ * answer an array stays as it was.
  *
  * `name` is looked up as the game does: its first eight bytes in capital letters, up to a NUL; the last entry of that name
  * is taken. `wide` reads a level's indexes as unsigned, as larger levels use them. A level is sound where its links and
@@ -68,7 +69,9 @@ enum wadlook_status {
 typedef struct { int32_t x, y; } wadlook_point_at;           /* in map units, -16384 to 16383 */
 typedef struct { uint16_t ssector, sector; } wadlook_place;
 
-#define WADLOOK_NOWHERE 65535 /* the ssector, which no level has, and the sector of a point that is out of range */
+/* The ssector and the sector of a point that is out of range. No level has such an ssector; under `wide` the last of 65,536
+ * sectors has the number, too. */
+#define WADLOOK_NOWHERE 65535
 
 /* Writes to places[i] the ssector and the sector in which points[i] lies, for each point; the file is read and the level
  * audited once. NO_ROOM: places_len < points_len. Else DONE, UNSOUND, MEMORY, SHORT to LUMP_OUTSIDE. */

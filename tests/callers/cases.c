@@ -10,7 +10,7 @@
 #define NAME(text) (const uint8_t *)(text), strlen(text)
 #define CHECK(what) check(what, #what, __LINE__)
 
-enum { BASE = 409, SSECTORS = 128, NODES = 136, REJECT = 216, BLOCKMAP = 217, DIRECTORY = 233 };
+enum { BASE = 409, SIDEDEFS = 36, SSECTORS = 128, NODES = 136, REJECT = 216, BLOCKMAP = 217, DIRECTORY = 233 };
 
 static unsigned passed, failed;
 static uint8_t base[BASE], wad[BASE + 64];
@@ -81,6 +81,20 @@ static void points(void) {
     CHECK(at(0, 0, 0, 0) && at(1, -1, 1, 1) && at(-1, 1, 1, 1));
     PUT(NODES, -16384, 16383, 32767, -32768); /* the greatest products */
     CHECK(at(16383, -16384, 1, 1));
+}
+
+/* Sidedef 1 faces the last of 65,536 sectors: its number is that of nowhere, and the ssector's isn't. */
+static void many_sectors(void) {
+    static uint8_t many[BASE + 26 * 65536];
+    const wadlook_point_at asked[] = {{0, 5}, {16384, 0}};
+    wadlook_place places[] = {{7, 7}, {7, 7}};
+    fresh();
+    PUT(SIDEDEFS + 58, -1);
+    PUT(entry(8), BASE, 0, 0, 26);
+    memcpy(many, wad, BASE);
+    CHECK(wadlook_points(many, sizeof many, NAME("E1M1"), true, asked, 2, places, 2) == WADLOOK_DONE);
+    CHECK(places[0].sector == WADLOOK_NOWHERE && places[0].ssector == 1);
+    CHECK(places[1].sector == WADLOOK_NOWHERE && places[1].ssector == WADLOOK_NOWHERE);
 }
 
 static void refusals(void) {
@@ -336,6 +350,7 @@ int main(int argc, char **argv) {
     }
     fclose(file);
     points();
+    many_sectors();
     refusals();
     single_points();
     census();

@@ -6,8 +6,9 @@ use Rattle.std.specs.List.{AllByRecursion}
 use Rattle.demo_lump.specs.declared.command.Command.{Command}
 use Rattle.demo_lump.specs.Demo.{Demo, IsDemo, IsRead}
 use Rattle.le_rec.specs.Bytes.{AreBytes}
-use Rattle.demo_lens.specs.Parts.{FitsCommand}
-use Rattle.wad_look.specs.Listing.{listing, ticcmd_line, ticcmds_text}
+use Rattle.demo_lens.specs.Parts.{FitsCommand, FitsHeader}
+use Rattle.demo_lump.specs.declared.header.Header.{Header}
+use Rattle.wad_look.specs.Listing.{header_line, listing, ticcmd_line, ticcmds_text}
 use Rattle.wad_look.specs.Turn.{Turn, player_of, tic_of}
 
 -- The text is the listing of a demo of version 109. How many bytes come after the marker is a number of 64 bits.
@@ -55,10 +56,17 @@ pub record IsWrongLine (text : List ℕ) (number : ℕ) : Type 0 where
   pub begins : BeginsListing before
   pub wrong : (line more : List ℕ) → IsLine line → rest ≡ line ++ more → ¬ BeginsListing (before ++ line)
 
--- why no demo is put together from a text: a line of it is wrong, or there was no memory
+-- its first line is that of a header
+pub record HasHeaderLine (text : List ℕ) : Type 0 where
+  pub header : Header
+  pub fits : FitsHeader header
+  pub rest : List ℕ
+  pub splits : text ≡ header_line header ++ rest
+
+-- why no demo is put together from a text: a line of it is wrong, or there was no memory for what follows its header
 abbrev pub WhyNone : List ℕ → AssembleFault → Type 0
 WhyNone text (Line number) = IsWrongLine text number
-WhyNone text Memory = Unit {0}
+WhyNone text Memory = HasHeaderLine text
 
 -- lines of commands stand at the front of a text, and no more of them: these commands, then it is this turn, and this is left
 pub record IsTakenFrom (players text : List ℕ) (commands : List Command) (turn : Turn) (rest : List ℕ) : Type 0 where

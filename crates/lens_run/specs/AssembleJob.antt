@@ -1,5 +1,5 @@
 -- What the run of `assemble` does (ours): the demo of a listing is written, or it is told which line is wrong.
-use Rattle.std.specs.Prelude.{◌≡◌, ◌⊎◌, ℕ, List, ◌++◌, codes, decimal, Option, Some, Result, Ok, Err}
+use Rattle.std.specs.Prelude.{◌≡◌, ◌⊎◌, ℕ, ◌≤◌, List, ◌++◌, codes, length, decimal, Option, Some, Result, Ok, Err}
 use Rattle.std.specs.Io.KnownBytes.{Keeps}
 use Rattle.demo_lens.specs.Assembly.{IsAssembled, IsWrongLine}
 use Rattle.le_rec.specs.Sink.{SinkState}
@@ -10,6 +10,7 @@ use Rattle.lens_run.specs.declared.end.End.{End}
 use Rattle.lens_run.specs.declared.end.End.TheVariants as end
 use Rattle.lens_run.specs.declared.files.ReadFault.TheVariants.{Refused}
 use Rattle.lens_run.specs.declared.output.Output.{Output}
+use Rattle.line_io.specs.declared.input.TheConstants.{MAX_READ}
 use Rattle.line_io.specs.Writes.{Writes}
 use Rattle.line_io.specs.declared.fault.IoFault.{IoFault}
 use Rattle.wad_lens.specs.declared.object.Refusal.{Refusal}
@@ -55,6 +56,7 @@ pub record RefusesInput {W : Type 0} (left : Option (List ℕ)) (old new : Outpu
 pub record AssemblesInput {W : Type 0} (left : Option (List ℕ)) (contents : W → Option (List ℕ)) (old new : Output W) (errors errors' : SinkState) (result : Result Verdict End) : Type 0 where
   pub listing : List ℕ
   pub holds : Keeps left (Some listing)
+  pub few : length listing ≤ MAX_READ
   pub does : AssemblesBytes listing contents old new errors errors' result
 
 -- the run over an input that has the bytes `left`, where they are known

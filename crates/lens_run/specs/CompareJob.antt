@@ -1,5 +1,5 @@
 -- What the run of `compare` does (ours): it tells where the demos of two files first differ, or why a file holds none.
-use Rattle.std.specs.Prelude.{◌≡◌, ◌⊎◌, ℕ, List, [], ◌++◌, length, Option, Some, None, Result, Ok, Err}
+use Rattle.std.specs.Prelude.{◌≡◌, ◌⊎◌, ℕ, ◌≤◌, List, [], ◌++◌, length, Option, Some, None, Result, Ok, Err}
 use Rattle.std.specs.Io.KnownBytes.{Keeps}
 use Rattle.demo_lens.specs.Differences.{AreSame, Differs}
 use Rattle.demo_lens.specs.RefusalText.{fault_text}
@@ -16,14 +16,15 @@ use Rattle.lens_run.specs.declared.end.End.{End}
 use Rattle.lens_run.specs.declared.end.End.TheVariants as end
 use Rattle.lens_run.specs.declared.files.ReadFault.TheVariants.{Refused}
 use Rattle.lens_run.specs.declared.output.Output.{Output}
+use Rattle.line_io.specs.declared.input.TheConstants.{MAX_READ}
 use Rattle.line_io.specs.Writes.{Writes}
 use Rattle.line_io.specs.declared.fault.IoFault.{IoFault}
 use Rattle.wad_lens.specs.declared.verdict.Verdict.{Verdict}
 use Rattle.wad_lens.specs.declared.verdict.Verdict.TheVariants.{Clean, Faulty}
 
--- what was read of a file that holds these bytes, where they are known
+-- what was read of a file that holds these bytes, where they are known: all of them, and no more than are read
 abbrev pub IsGiven : Option (List ℕ) → Given → Type 0
-IsGiven held (given.Read bytes) = Keeps held (Some bytes.items)
+IsGiven held (given.Read bytes) = Keeps held (Some bytes.items) × (length bytes.items ≤ MAX_READ)
 IsGiven held (given.Unread refusal) = RefusesRead held (Refused refusal)
 
 -- the demo in it

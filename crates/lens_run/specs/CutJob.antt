@@ -1,7 +1,8 @@
 -- What the run of `cut` does (ours): a level of one file is written, or it is told why not.
-use Rattle.std.specs.Prelude.{◌≡◌, ◌⊎◌, ℕ, List, ◌++◌, codes, Option, Some, Result, Ok, Err}
+use Rattle.std.specs.Prelude.{◌≡◌, ◌⊎◌, ℕ, ◌≤◌, List, ◌++◌, codes, length, Option, Some, Result, Ok, Err}
 use Rattle.std.specs.Io.KnownBytes.{Keeps}
 use Rattle.le_rec.specs.Sink.{SinkState}
+use Rattle.line_io.specs.declared.input.TheConstants.{MAX_READ}
 use Rattle.wad_lens.specs.Cut.{IsCut, RefusesCut, cut_fault_text}
 use Rattle.wad_lens.specs.declared.cut.CutFault.{CutFault}
 use Rattle.wad_lens.specs.declared.cut.CutFault.TheVariants as fault
@@ -69,6 +70,7 @@ pub record CutsNoFile {W : Type 0} (held : Option (List ℕ)) (path : List ℕ) 
 pub record CutsFile {W : Type 0} (held : Option (List ℕ)) (entry : ℕ) (path : List ℕ) (contents : W → Option (List ℕ)) (old new : Output W) (errors errors' : SinkState) (result : Result Verdict End) : Type 0 where
   pub bytes : List ℕ
   pub are : Keeps held (Some bytes)
+  pub few : length bytes ≤ MAX_READ
   pub cuts : CutsBytes bytes entry path contents old new errors errors' result
 
 abbrev pub CutsPath : {W : Type 0} → Option (List ℕ) → ℕ → List ℕ → (W → Option (List ℕ)) → Output W → Output W → SinkState → SinkState → Result Verdict End → Type 0

@@ -1,8 +1,9 @@
 -- What a run of a job does (ours): the paths of the words and of the list are told, and it ends as that ended.
-use Rattle.std.specs.Prelude.{◌≡◌, ◌⊎◌, ℕ, Bool, true, List, [], ◌++◌, codes, length, map, Option, None, Some, Result, Ok, Err, if◌then◌else◌}
+use Rattle.std.specs.Prelude.{◌≡◌, ◌⊎◌, ℕ, ◌≤◌, Bool, true, List, [], ◌++◌, codes, length, map, Option, None, Some, Result, Ok, Err, if◌then◌else◌}
 use Rattle.std.specs.Io.KnownBytes.{Appends, Keeps}
 use Rattle.std.specs.Str.{bytes_eq}
 use Rattle.le_rec.specs.Sink.{SinkState}
+use Rattle.line_io.specs.declared.input.TheConstants.{MAX_READ}
 use Rattle.line_io.specs.Writes.{TakesFront}
 use Rattle.wad_lens.specs.Totals.{totals_line}
 use Rattle.wad_lens.specs.declared.object.Refusal.{Refusal}
@@ -38,10 +39,10 @@ dash = codes "-"
 abbrev pub held_at : (List ℕ → Option (List ℕ)) → Option (List ℕ) → List ℕ → Option (List ℕ)
 held_at held left path = if bytes_eq path dash then left else held path
 
--- these are the bytes of the list of a job: none where there is no list
+-- these are the bytes of the list of a job, no more than are read: none where there is no list
 abbrev pub HoldsAt : (List ℕ → Option (List ℕ)) → Option (List ℕ) → Option (List ℕ) → List ℕ → Type 0
 HoldsAt held left None list = list ≡ []
-HoldsAt held left (Some path) list = Keeps (held_at held left path) (Some list)
+HoldsAt held left (Some path) list = Keeps (held_at held left path) (Some list) × (length list ≤ MAX_READ)
 
 abbrev pub HoldsList : (List ℕ → Option (List ℕ)) → Option (List ℕ) → Job → List ℕ → Type 0
 HoldsList held left job list = HoldsAt held left (list_path job) list
@@ -101,10 +102,8 @@ pub record TellsAll {W : Type 0} (held : List ℕ → Option (List ℕ)) (job : 
 
 -- the run stopped at a path
 pub record StopsJob {W : Type 0} (held : List ℕ → Option (List ℕ)) (job : Job) (paths : List (List ℕ)) (contents : W → Option (List ℕ)) (old new : Output W) (errors errors' : SinkState) (result : Result Verdict End) : Type 0 where
-  pub between : Output W
   pub stop : Stop
-  pub stops : StopsAt held job.asked paths (output_state contents old) errors (output_state contents between) errors' stop
-  pub kept : Keeps (output_state contents between).taken (output_state contents new).taken
+  pub stops : StopsAt held job.asked paths (output_state contents old) errors (output_state contents new) errors' stop
   pub ended : result ≡ Err (stop_end (is_closed new) stop)
 
 -- the paths of the words and of the list were told, or the run stopped at one

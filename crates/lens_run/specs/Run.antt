@@ -200,6 +200,7 @@ StopsRefusal word path refusal out out' errors errors' stop.Errors =
 pub record StopsTelling (held : Option (List ℕ)) (asked : Asked) (path : List ℕ) (out out' errors errors' : SinkState) (found : Verdict) : Type 0 where
   pub bytes : List ℕ
   pub are : Keeps held (Some bytes)
+  pub few : length bytes ≤ MAX_READ
   pub told : TellsSome asked.word path bytes asked.judging out out' found
   pub failed : out'.failed ≡ true
   pub silent : errors' ≡ errors
@@ -208,6 +209,7 @@ pub record StopsTelling (held : Option (List ℕ)) (asked : Asked) (path : List 
 pub record StopsOnErrors (held : Option (List ℕ)) (asked : Asked) (path : List ℕ) (out out' errors errors' : SinkState) : Type 0 where
   pub bytes : List ℕ
   pub are : Keeps held (Some bytes)
+  pub few : length bytes ≤ MAX_READ
   pub stops : StopsErrors asked.word path bytes out out' errors errors'
 
 -- a run stopped while it told that the file under a path is refused
@@ -220,6 +222,7 @@ pub record StopsRefusing (held : Option (List ℕ)) (word : Word) (path : List �
 pub record TellsHeldFirst (held : Option (List ℕ)) (asked : Asked) (path : List ℕ) (out out' : SinkState) : Type 0 where
   pub bytes : List ℕ
   pub are : Keeps held (Some bytes)
+  pub few : length bytes ≤ MAX_READ
   pub told : TellsFirst asked.word path bytes asked.judging out out'
 
 -- what was told of the file under a path where there was no memory: nothing, or the first of what its bytes are told by

@@ -114,19 +114,14 @@ pub fn write_last<W: Sink>(
     }
 }
 
-// How a run ends that stopped. What was told before stands.
-fn stop_end<O: Write + Drop>(stop: Stop, out: &mut Output<O>) -> End
-    ensures value { result ≡ stop_end (is_closed out.new) stop }
-    ensures kept { Keeps (output_state O.contents out.old).taken (output_state O.contents out.new).taken }
+// How a run ends that stopped. What was told before stands, and is written out when the output is let go.
+fn stop_end<O: Write + Drop>(stop: Stop, out: &Output<O>) -> End
+    ensures { result ≡ stop_end (is_closed out.now) stop }
 {
     match stop {
         Stop::Output(found) => output_end(found, out),
         Stop::Errors => End::Errors,
-        Stop::Memory => {
-            // Want of memory goes before a failed end.
-            let _ = out.write_out();
-            End::Memory
-        }
+        Stop::Memory => End::Memory,
     }
 }
 

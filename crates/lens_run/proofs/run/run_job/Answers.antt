@@ -38,10 +38,8 @@ returns g c =
       list = c.in-Ok.list.items;
       holds = c.in-Ok.ensures.held;
       tells = inr (record {
-        between = c.tell_paths-told.new.out;
         stop = c.in-Err.stop;
         stops = stops;
-        kept = c.stop_end.ensures.kept;
-        ended = ap Err c.stop_end.ensures.value;
+        ended = ap Err c.stop_end.ensures;
       });
     }))

@@ -1,5 +1,5 @@
 -- What words do over files (ours): each file is told in order, and a check ends with its totals.
-use Rattle.std.specs.Prelude.{◌≡◌, ◌⊎◌, ℕ, ◌+◌, List, [], ◌++◌, length, slice_index_or, Result, Ok, Err}
+use Rattle.std.specs.Prelude.{◌≡◌, ◌⊎◌, ℕ, ◌+◌, ◌<◌, ◌≤◌, List, [], ◌++◌, length, slice_index_or, Result, Ok, Err}
 use Rattle.std.specs.Io.KnownBytes.{Appends}
 use Rattle.le_rec.specs.Sink.{SinkState}
 use Rattle.lens_page.specs.Tell.{TellsFile, most_of}
@@ -11,14 +11,16 @@ use Rattle.lens_page.specs.declared.words.Word.{Word}
 use Rattle.lens_page.specs.declared.words.Word.TheVariants.{Check, Survey, Demos, Cut}
 use Rattle.lens_run.specs.CutJob.{IsOfFile, cut_fault_line}
 use Rattle.lens_run.specs.Job.{closing_line}
-use Rattle.lens_run.specs.Run.{no_tally, tally_with}
+use Rattle.lens_run.specs.Run.{no_tally, refusal_line, tally_with}
 use Rattle.lens_run.specs.declared.tell.Asked.{Asked as FileAsked}
 use Rattle.lens_run.specs.declared.tell.Tally.{Tally}
 use Rattle.lens_run.specs.declared.tell.Word.TheVariants as file
+use Rattle.line_io.specs.declared.input.TheConstants.{MAX_READ}
 use Rattle.wad_lens.specs.declared.judging.Judging.{Judging}
 use Rattle.wad_lens.specs.Cut.{IsCut, RefusesCut}
 use Rattle.wad_lens.specs.declared.cut.CutFault.{CutFault}
 use Rattle.wad_lens.specs.declared.cut.CutFault.TheVariants as fault
+use Rattle.wad_lens.specs.declared.object.Refusal.TheVariants as refusal
 use Rattle.wad_lens.specs.declared.verdict.Verdict.{Verdict}
 use Rattle.wad_lens.specs.declared.verdict.Verdict.TheVariants.{Clean, Unjudged, Faulty}
 
@@ -30,6 +32,7 @@ verdict_of_cut _ = Unjudged
 
 -- the level at an entry was cut out
 pub record CutsOut (entry : ℕ) (bytes : List ℕ) (out out' errors errors' : SinkState) (verdict : Verdict) : Type 0 where
+  pub few : length bytes ≤ MAX_READ
   pub text : List ℕ
   pub is : IsCut bytes entry text
   pub took : Appends out.taken out'.taken text
@@ -38,6 +41,7 @@ pub record CutsOut (entry : ℕ) (bytes : List ℕ) (out out' errors errors' : S
 
 -- it wasn't, which was told
 pub record CutsNone (entry : ℕ) (path bytes : List ℕ) (out out' errors errors' : SinkState) (verdict : Verdict) : Type 0 where
+  pub few : length bytes ≤ MAX_READ
   pub why : CutFault
   pub of_file : IsOfFile why
   pub holds : RefusesCut bytes entry why
@@ -45,9 +49,17 @@ pub record CutsNone (entry : ℕ) (path bytes : List ℕ) (out out' errors error
   pub message : Appends errors.taken errors'.taken (cut_fault_line path why)
   pub says : verdict ≡ verdict_of_cut why
 
+-- the file is larger than what is read, which was told
+pub record CutsTooLarge (path bytes : List ℕ) (out out' errors errors' : SinkState) (verdict : Verdict) : Type 0 where
+  pub large : MAX_READ < length bytes
+  pub untouched : out' ≡ out
+  pub message : Appends errors.taken errors'.taken (refusal_line path refusal.TooLarge)
+  pub says : verdict ≡ Unjudged
+
 abbrev pub CutsFile : ℕ → List ℕ → List ℕ → SinkState → SinkState → SinkState → SinkState → Verdict → Type 0
 CutsFile entry path bytes out out' errors errors' verdict =
-    CutsOut entry bytes out out' errors errors' verdict ⊎ CutsNone entry path bytes out out' errors errors' verdict
+    CutsTooLarge path bytes out out' errors errors' verdict ⊎ CutsOut entry bytes out out' errors errors' verdict
+    ⊎ CutsNone entry path bytes out out' errors errors' verdict
 
 -- so many files were told, one after another, and what was found
 pub data ToldTo (asked : FileAsked) (paths files : List (List ℕ)) (out errors : SinkState) : ℕ → SinkState → SinkState → Tally → Type 0 where
@@ -86,6 +98,12 @@ pub record Asks (words : List (List ℕ)) (count : ℕ) (asked : Asked) (paths :
   pub as_many : length paths ≡ count
   pub is : IsAsked front count asked
 
+-- the words ask for something of so many files
+pub record AskSomething (words : List (List ℕ)) (count : ℕ) : Type 0 where
+  pub asked : Asked
+  pub paths : List (List ℕ)
+  pub asks : Asks words count asked paths
+
 -- the words' question was answered
 pub record AnswersWords (words files : List (List ℕ)) (out out' errors errors' : SinkState) (verdict : Verdict) : Type 0 where
   pub asked : Asked
@@ -103,4 +121,4 @@ abbrev pub RunsWords : {W E : Type 0} → (W → SinkState) → (E → SinkState
 RunsWords state estate words files out out' errors errors' (Ok verdict) =
     AnswersWords words files (state out) (state out') (estate errors) (estate errors') verdict
 RunsWords state estate words files out out' errors errors' (Err Usage) = RefusesWords words files out out' errors errors'
-RunsWords state estate words files out out' errors errors' (Err Full) = Unit {0}
+RunsWords state estate words files out out' errors errors' (Err Full) = AskSomething words (length files)

@@ -6,9 +6,10 @@ ghost use Rattle.lens_run.specs.Run.{AreSound};
 
 use crate::tell::NoRoom;
 use le_rec::Sink;
-use lens_run::write_cut_line;
+use lens_run::{write_cut_line, write_refusal};
+use line_io::MAX_READ;
 use std::alloc::Allocator;
-use wad_lens::{CutFault, Verdict, cut_level};
+use wad_lens::{CutFault, Refusal, Verdict, cut_level};
 
 /// Writes the level whose label is an entry of the bytes, or tells why not.
 pub fn cut_file<A: Allocator + Copy, W: Sink, E: Sink>(
@@ -22,6 +23,12 @@ pub fn cut_file<A: Allocator + Copy, W: Sink, E: Sink>(
     requires { AreSound (W.state out.old) (E.state errors.old) }
     ensures { IfOk result (CutsFile entry path.now bytes.now (W.state out.old) (W.state out.new) (E.state errors.old) (E.state errors.new)) }
 {
+    if bytes.len() as u64 > MAX_READ {
+        return match write_refusal(path, Refusal::TooLarge, errors) {
+            Ok(()) => Ok(Verdict::Unjudged),
+            Err(_) => Err(NoRoom),
+        };
+    }
     match cut_level(alloc, bytes, entry, out) {
         Ok(()) => Ok(Verdict::Clean),
         Err(CutFault::Memory | CutFault::Write) => Err(NoRoom),

@@ -13,7 +13,6 @@ use Rattle.lens_run.specs.Run.{IsTold}
 use Rattle.lens_run.specs.declared.end.End.{End}
 use Rattle.lens_run.specs.declared.end.End.TheVariants as end
 use Rattle.lens_run.specs.declared.output.Output.{Output}
-use Rattle.level_list.specs.Format.{IsFormat}
 use Rattle.level_list.specs.declared.format.Format.{Format}
 use Rattle.level_list.specs.declared.format.Format.TheVariants.{Doom}
 use Rattle.map_level.specs.Level.{Level}
@@ -82,9 +81,9 @@ pub record DrawsOther {W : Type 0} (files : List Wad) (g : ℕ) (name : List ℕ
   pub other : format ≢ Doom
   pub tells : TellsAlone (named_line name (format_text format)) (Ok (verdict_of_format format)) old new errors errors' result
 
--- the level at an entry is in Doom's format
+-- a level in Doom's format starts at an entry
 pub record DrawsDoom {W : Type 0} (files : List Wad) (g : ℕ) (question : PictureQuestion) (contents : W → Option (List ℕ)) (old new : Output W) (errors errors' : SinkState) (result : Result Verdict End) : Type 0 where
-  pub is : IsFormat files g Doom
+  pub is : IsFormatAt files g Doom
   pub level : Level
   pub there : IsLevelAt files g question.reading level
   pub draws : DrawsLevel level question contents old new errors errors' result

@@ -1,5 +1,5 @@
 -- How far files were told where an atlas isn't whole.
-use Rattle.std.proofs.Common.{◌≡◌, ℕ, ◌+◌, ◌<◌, true, inl, inr, List, ◌∷◌, ◌++◌, length, take, drop, map, get_or, Option, Some, Result, Ok, Err, refl, sym, ap, ◌∙◌}
+use Rattle.std.proofs.Common.{◌≡◌, ℕ, ◌+◌, ◌<◌, ◌≤◌, true, inl, inr, List, ◌∷◌, ◌++◌, length, take, drop, map, get_or, Option, Some, Result, Ok, Err, refl, sym, ap, ◌∙◌}
 use Rattle.std.specs.Prelude.{IfErr}
 use Rattle.std.specs.Io.KnownBytes.{Keeps}
 use Rattle.le_rec.specs.Sink.{SinkState}
@@ -13,6 +13,7 @@ use Rattle.lens_run.specs.declared.tell.Stop.TheVariants as stop
 use Rattle.lens_run.specs.declared.tell.Tally.{Tally}
 use Rattle.lens_run.specs.declared.tell.Word.TheVariants.{Survey}
 use Rattle.lens_run.proofs.TellLemmas.{told_before}
+use Rattle.line_io.specs.declared.input.TheConstants.{MAX_READ}
 use Rattle.atlas_run.specs.Atlas.{survey_of}
 use Rattle.atlas_run.specs.Folder.{IsNotErrors}
 use Rattle.atlas_run.specs.declared.fault.FileFault.TheVariants as file
@@ -27,11 +28,11 @@ module _ (held : Option (List ℕ)) (judging : Judging) (path : List ℕ) (out o
   left_behind tally why told fault = inl (record { tally = tally; told = told; fault = fault })
 
   -- its survey wasn't written
-  pub left_unwritten : (bytes : List ℕ) (found : Verdict) → Keeps held (Some bytes) → TellsSome Survey path bytes judging out out' found → out'.failed ≡ true → errors' ≡ errors
+  pub left_unwritten : (bytes : List ℕ) (found : Verdict) → Keeps held (Some bytes) → length bytes ≤ MAX_READ → TellsSome Survey path bytes judging out out' found → out'.failed ≡ true → errors' ≡ errors
       → LeavesPath held (survey_of judging) path out out' errors errors' fault.Write
-  left_unwritten bytes found are told failed silent = inr (record {
+  left_unwritten bytes found are few told failed silent = inr (record {
     stop = stop.Output found;
-    stops = inl (record { bytes = bytes; are = are; told = told; failed = failed; silent = silent });
+    stops = inl (record { bytes = bytes; are = are; few = few; told = told; failed = failed; silent = silent });
     is = refl;
   })
 

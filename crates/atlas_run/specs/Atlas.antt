@@ -98,7 +98,7 @@ pub record StopsRun (held : List ℕ → Option (List ℕ)) (job : AtlasJob) (pa
   pub between : SinkState
   pub stops : StopsAtlas held (asked_of job) paths old new errors between
   pub fault : AtlasFault
-  pub files : TellsUntil held (survey_of job.job.asked.judging) paths old errors between fault
+  pub files : TellsUntil held (survey_of job.job.asked.judging) paths old new errors between fault
   pub told : TellsFault job.folder.now fault between errors'
   pub ended : result ≡ Err (fault_end fault)
 

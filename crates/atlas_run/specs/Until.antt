@@ -77,12 +77,13 @@ pub record SurveysAll (held : List ℕ → Option (List ℕ)) (asked : LensAsked
   pub told : ToldTo held asked before errors paths after errors' tally
   pub fault : IsNotErrors why
 
--- no survey was begun
-pub record LacksSurvey (errors errors' : SinkState) (why : AtlasFault) : Type 0 where
+-- no survey was begun, nor anything else
+pub record LacksSurvey (old new : Option (List Kept)) (errors errors' : SinkState) (why : AtlasFault) : Type 0 where
+  pub untouched : new ≡ old
   pub silent : errors' ≡ errors
   pub fault : IsNotErrors why
 
 -- what standard error was told of the files: nothing where no survey was begun
-abbrev pub TellsUntil : (List ℕ → Option (List ℕ)) → LensAsked → List (List ℕ) → Option (List Kept) → SinkState → SinkState → AtlasFault → Type 0
-TellsUntil held asked paths files errors errors' why =
-    LacksSurvey errors errors' why ⊎ SurveysSome held asked paths files errors errors' why ⊎ SurveysAll held asked paths files errors errors' why
+abbrev pub TellsUntil : (List ℕ → Option (List ℕ)) → LensAsked → List (List ℕ) → Option (List Kept) → Option (List Kept) → SinkState → SinkState → AtlasFault → Type 0
+TellsUntil held asked paths old new errors errors' why =
+    LacksSurvey old new errors errors' why ⊎ SurveysSome held asked paths old errors errors' why ⊎ SurveysAll held asked paths old errors errors' why

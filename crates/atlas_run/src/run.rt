@@ -88,7 +88,7 @@ pub fn write_atlas<S: Storage, F: Folder, E: Sink, P: Watch>(
     ensures some { OnErr result (StopsAtlas (S.held storage.now) asked (map (λ path. path.now) paths.now)
         (F.kept folder.old) (F.kept folder.new) (E.state errors.old) (E.state errors.new)) }
     ensures told { IfErr result (TellsUntil (S.held storage.now) (survey_of asked.judging) (map (λ path. path.now) paths.now)
-        (F.kept folder.old) (E.state errors.old) (E.state errors.new)) }
+        (F.kept folder.old) (F.kept folder.new) (E.state errors.old) (E.state errors.new)) }
 {
     let mut survey = folder.begin(SURVEY)?;
     let gathered = gather(

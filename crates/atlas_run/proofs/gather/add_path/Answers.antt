@@ -37,7 +37,7 @@ returns-in-Err-NoWad-clause-told g c =
     let writes = written_from g.F.File.Sink.state g.E.Sink.state _ _ _ _ _ _ _ _ c.add_refused.result left.1 left.2 (rw c.in-Err-NoWad.why-is at c.add_refused.ensures.told) in
     path_told (g.S.Storage.held c.args.storage.now c.args.origin.now.path.now) (survey_of c.args.origin.now.judging) c.args.origin.now.path.now (NoWad c.in-Err-NoWad.why)
     (g.F.File.Sink.state c.args.survey.now) (g.F.File.Sink.state c.add_refused.new.survey) (g.E.Sink.state c.args.errors.now) (g.E.Sink.state c.add_refused.new.errors) c.add_refused.result
-    (record { bytes = c.deref.result.now; are = search rules; refuses = left.0 }) writes
+    (record { bytes = c.deref.result.now; are = search rules; few = search rules; refuses = left.0 }) writes
 
 pub returns-in-Err-NoWad-clause-adds : goal.returns-in-Err-NoWad-clause-adds
 returns-in-Err-NoWad-clause-adds g c =
@@ -48,7 +48,7 @@ returns-in-Err-NoWad-clause-adds g c =
     path_refused (g.S.Storage.held c.args.storage.now c.args.origin.now.path.now) c.args.cells c.args.origin.now (g.F.Folder.kept c.args.folder.now) (g.F.Folder.kept c.args.folder.now)
     (g.F.File.Sink.state c.args.survey.now) (g.F.File.Sink.state c.add_refused.new.survey) (g.E.Sink.state c.args.errors.now) (g.E.Sink.state c.add_refused.new.errors)
     c.args.gathered.now (record c.args.gathered.now { refused = c.add_refused.new.refused }) (record { path = c.args.origin.now.path; why = NoWad c.in-Err-NoWad.why })
-    c.add_refused.result refl (record { bytes = c.deref.result.now; are = search rules; refuses = left.0 }) refl (rw c.in-Err-NoWad.why-is at c.add_refused.ensures.adds) refl refl writes
+    c.add_refused.result refl (record { bytes = c.deref.result.now; are = search rules; few = search rules; refuses = left.0 }) refl (rw c.in-Err-NoWad.why-is at c.add_refused.ensures.adds) refl refl writes
 
 pub returns-in-Err-Refused-clause-adds : goal.returns-in-Err-Refused-clause-adds
 returns-in-Err-Refused-clause-adds g c =
@@ -82,7 +82,7 @@ returns-in-Err-NoWad-clause-stopped g c =
     (g.F.File.Sink.state c.args.survey.now) (g.F.File.Sink.state c.add_refused.new.survey) (g.E.Sink.state e) (g.E.Sink.state c.add_refused.new.errors))) left.2 at_out in
     refused_left (g.S.Storage.held c.args.storage.now c.args.origin.now.path.now) c.args.origin.now.judging c.args.origin.now.path.now
     (g.F.File.Sink.state c.args.survey.now) (g.F.File.Sink.state c.add_refused.new.survey) (g.E.Sink.state c.args.errors.now) (g.E.Sink.state c.add_refused.new.errors)
-    (NoWad c.in-Err-NoWad.why) c.add_refused.result (record { bytes = c.deref.result.now; are = search rules; refuses = left.0 }) stops
+    (NoWad c.in-Err-NoWad.why) c.add_refused.result (record { bytes = c.deref.result.now; are = search rules; few = search rules; refuses = left.0 }) stops
 
 pub returns-in-Err-Refused-clause-stopped : goal.returns-in-Err-Refused-clause-stopped
 returns-in-Err-Refused-clause-stopped g c =
@@ -99,4 +99,4 @@ returns-in-Err-Output-clause-stopped g c =
     c.in-Err-Output.field-0-is (rw c.survey_of.ensures at c.in-Err-Output.ensures.left) in
     left_unwritten (g.S.Storage.held c.args.storage.now c.args.origin.now.path.now) c.args.origin.now.judging c.args.origin.now.path.now
     (g.F.File.Sink.state c.args.survey.now) (g.F.File.Sink.state c.tell_bytes.new.out) (g.E.Sink.state c.args.errors.now) (g.E.Sink.state c.tell_bytes.new.errors)
-    c.deref.result.now c.in-Err-Output.field-0-0 (search rules) left.0 left.1 left.2
+    c.deref.result.now c.in-Err-Output.field-0-0 (search rules) (search rules) left.0 left.1 left.2

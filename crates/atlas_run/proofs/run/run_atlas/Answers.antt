@@ -31,9 +31,9 @@ returns g c =
     (g.E.Sink.state c.args.errors.now) (g.E.Sink.state c.write_atlas.new.errors)) same c.in-Err-write_atlas.ensures.some in
     let stops = subst (λ files. StopsAtlas (g.S.Storage.held c.args.storage.now) (asked_of c.args.job.now) (job_paths c.args.job.now.job c.in-Ok.list.items) files (g.F.Folder.kept c.write_atlas.new.folder)
     (g.E.Sink.state c.args.errors.now) (g.E.Sink.state c.write_atlas.new.errors)) c.make.ensures.kept told in
-    let until = subst (λ paths. TellsUntil (g.S.Storage.held c.args.storage.now) (survey_of c.args.job.now.job.asked.judging) paths (g.F.Folder.kept c.make.new.self)
+    let until = subst (λ paths. TellsUntil (g.S.Storage.held c.args.storage.now) (survey_of c.args.job.now.job.asked.judging) paths (g.F.Folder.kept c.make.new.self) (g.F.Folder.kept c.write_atlas.new.folder)
     (g.E.Sink.state c.args.errors.now) (g.E.Sink.state c.write_atlas.new.errors) c.in-Err-write_atlas.fault) same c.in-Err-write_atlas.ensures.told in
-    let files = subst (λ files. TellsUntil (g.S.Storage.held c.args.storage.now) (survey_of c.args.job.now.job.asked.judging) (job_paths c.args.job.now.job c.in-Ok.list.items) files
+    let files = subst (λ files. TellsUntil (g.S.Storage.held c.args.storage.now) (survey_of c.args.job.now.job.asked.judging) (job_paths c.args.job.now.job c.in-Ok.list.items) files (g.F.Folder.kept c.write_atlas.new.folder)
     (g.E.Sink.state c.args.errors.now) (g.E.Sink.state c.write_atlas.new.errors) c.in-Err-write_atlas.fault) c.make.ensures.kept until in
     inr (inr (record {
       list = c.in-Ok.list.items;

@@ -29,7 +29,7 @@ returns-in_ok-write_index-in-Ok-clause-all g c =
 pub returns-in_err-survey-clause-told : goal.returns-in_err-survey-clause-told
 returns-in_err-survey-clause-told g c =
     let p = err_from_is_err_and c.from_residual.result c.from_residual.ensures.1 in
-    rw p.1 (inl (record { silent = refl; fault = record { fault = c.in_err-survey.field-0.0; is = p.2 } }))
+    rw p.1 (inl (record { untouched = c.in_err-survey.ensures.kept; silent = refl; fault = record { fault = c.in_err-survey.field-0.0; is = p.2 } }))
 
 pub returns-in_err-keep-in-Ok-clause-told : goal.returns-in_err-keep-in-Ok-clause-told
 returns-in_err-keep-in-Ok-clause-told g c =

@@ -3,6 +3,7 @@ use Rattle.std.specs.Prelude.{◌≡◌, ◌≢◌, ◌↔◌, ℕ, List, [], �
 use Rattle.std.specs.List.{slice_get}
 use Rattle.le_rec.specs.declared.records.Vertex.{Vertex}
 use Rattle.level_list.specs.Format.{IsFormat}
+use Rattle.level_list.specs.Starts.{IsNextStart}
 use Rattle.level_list.specs.declared.format.Format.TheVariants.{Doom}
 use Rattle.map_audit.specs.Findings.{AuditHolds}
 use Rattle.map_cells.specs.Ends.{IsEnd}
@@ -57,6 +58,13 @@ pub record AddsRows (origin : Origin) (files : List Wad) (end : ℕ) (old new : 
   pub added : List Row
   pub is : new ≡ old ++ added
   pub are : AreRowsBelow origin files end added
+
+-- the rows of the first levels were added, and another level follows
+pub record AddsSome (origin : Origin) (files : List Wad) (old new : List Row) : Type 0 where
+  pub end : ℕ
+  pub added : AddsRows origin files end old new
+  pub g : ℕ
+  pub next : IsNextStart (names files) end g
 
 -- one row was
 pub record AddsRow (origin : Origin) (files : List Wad) (g : ℕ) (old new : List Row) : Type 0 where

@@ -1,10 +1,10 @@
 //! The levels of a file as rows.
 
-ghost use Rattle.std.specs.Prelude.{◌≡◌, ◌↔◌, ℕ, IfOk, IsTrue, OnErr, OnOk, length};
+ghost use Rattle.std.specs.Prelude.{◌≡◌, ◌↔◌, IfOk, IsTrue, OnErr, OnOk, length};
 ghost use Rattle.level_list.specs.Format.{IsFormat};
 ghost use Rattle.level_list.specs.Starts.{LevelStartsAt};
 ghost use Rattle.level_list.specs.declared.format.Format.TheVariants as format;
-ghost use Rattle.wad_atlas.specs.Levels.{AddsRow, AddsRows, FoundAt, HasLines, IsJudged, IsRow};
+ghost use Rattle.wad_atlas.specs.Levels.{AddsRow, AddsRows, AddsSome, FoundAt, HasLines, IsJudged, IsRow};
 ghost use Rattle.wad_dir.specs.Entries.{names};
 
 use crate::row::{Found, Judged, Row};
@@ -29,7 +29,8 @@ pub struct Origin<'p> {
 }
 
 /// Adds a row for each level of a set, in the order of their labels, as one of the origin's file. What judging a level takes is
-/// given back before the next one. At an Err the rows of the first levels were added.
+/// given back before the next one. At an Err the rows of the first levels were added,
+/// and not those of all.
 pub fn push_rows<'p, A: Allocator + Copy, B: Allocator>(
     alloc: A,
     origin: &Origin<'p>,
@@ -37,7 +38,7 @@ pub fn push_rows<'p, A: Allocator + Copy, B: Allocator>(
     rows: &mut Vec<Row<'p>, B>,
 ) -> Result<(), AllocError>
     ensures all { OnOk result (AddsRows origin.now set.now (length (names set.now)) rows.old.items rows.new.items) }
-    ensures some { OnErr result ((end : ℕ) × AddsRows origin.now set.now end rows.old.items rows.new.items) }
+    ensures some { OnErr result (AddsSome origin.now set.now rows.old.items rows.new.items) }
 {
     let total = set.total();
     let mut from = 0;

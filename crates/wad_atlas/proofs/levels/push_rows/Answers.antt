@@ -29,7 +29,7 @@ pub returns-in_err-push_row-clause-some : goal.returns-in_err-push_row-clause-so
 returns-in_err-push_row-clause-some g c =
     let p = err_from_is_err_and c.from_residual.result c.from_residual.ensures.1 in
     let some = subst (AddsRows c.args.origin.now c.args.set.now c.levels.from c.args.rows.now.items) (sym c.in_err-push_row.ensures.kept) c.levels.invariant in
-    rw p.1 (c.levels.from, some)
+    rw p.1 (record { end = c.levels.from; added = some; g = c.in-Some.g; next = c.in-Some.ensures.some })
 
 pub returns-clause-all : goal.returns-clause-all
 returns-clause-all g c =

@@ -63,6 +63,34 @@ pub fn usage(alloc: Global) -> Result<String, AllocError> {
 
 // The words that there are.
 fn program<'a>(alloc: Global) -> Result<Command<'a>, AllocError> {
+    let program = Command::new(alloc, "wadlens")
+        .version("0.1.0")
+        .about("Looks over all levels of Doom WAD files")
+        .subcommand_required(true)
+        .disable_help_subcommand(true);
+    with_single(alloc, with_archives(alloc, program)?)
+}
+
+// Adds the commands over many files.
+fn with_archives<'a>(alloc: Global, program: Command<'a>) -> Result<Command<'a>, AllocError> {
+    program
+        .subcommand(check_command(alloc)?)?
+        .subcommand(survey_command(alloc)?)?
+        .subcommand(with_levels(alloc, atlas_command(alloc)?)?)?
+        .subcommand(demos_command(alloc)?)
+}
+
+// Adds the commands over one level or demo.
+fn with_single<'a>(alloc: Global, program: Command<'a>) -> Result<Command<'a>, AllocError> {
+    program
+        .subcommand(picture_command(alloc)?)?
+        .subcommand(cut_command(alloc)?)?
+        .subcommand(compare_command(alloc)?)?
+        .subcommand(assemble_command(alloc))
+}
+
+// The words of `check`.
+fn check_command<'a>(alloc: Global) -> Result<Command<'a>, AllocError> {
     let most = Arg::new(alloc, "max")
         .long("max")
         .value_name("N")
@@ -73,9 +101,19 @@ fn program<'a>(alloc: Global) -> Result<Command<'a>, AllocError> {
     let check = Command::new(alloc, "check")
         .about("Tell the findings of each level, a line each")
         .arg(most)?;
+    with_levels(alloc, check)
+}
+
+// The words of `survey`.
+fn survey_command<'a>(alloc: Global) -> Result<Command<'a>, AllocError> {
     let survey = Command::new(alloc, "survey").about(
         "Write a JSON object a line for each level and each refused file",
     );
+    with_levels(alloc, survey)
+}
+
+// The words of `demos`.
+fn demos_command<'a>(alloc: Global) -> Result<Command<'a>, AllocError> {
     let json = Arg::new(alloc, "json")
         .long("json")
         .action(ArgAction::SetTrue)
@@ -83,19 +121,7 @@ fn program<'a>(alloc: Global) -> Result<Command<'a>, AllocError> {
     let demos = Command::new(alloc, "demos")
         .about("Tell each demo in a line: demo files, and the demos in WAD files")
         .arg(json)?;
-    Command::new(alloc, "wadlens")
-        .version("0.1.0")
-        .about("Looks over all levels of Doom WAD files")
-        .subcommand_required(true)
-        .disable_help_subcommand(true)
-        .subcommand(with_levels(alloc, check)?)?
-        .subcommand(with_levels(alloc, survey)?)?
-        .subcommand(with_levels(alloc, atlas_command(alloc)?)?)?
-        .subcommand(with_files(alloc, demos)?)?
-        .subcommand(picture_command(alloc)?)?
-        .subcommand(cut_command(alloc)?)?
-        .subcommand(compare_command(alloc)?)?
-        .subcommand(assemble_command(alloc))
+    with_files(alloc, demos)
 }
 
 // The words of `compare`.
@@ -141,41 +167,72 @@ fn cut_command<'a>(alloc: Global) -> Result<Command<'a>, AllocError> {
 
 // Adds the words on files, and on how their levels are judged.
 fn with_levels<'a>(alloc: Global, command: Command<'a>) -> Result<Command<'a>, AllocError> {
-    let wide = wide_word(alloc);
-    let map = Arg::new(alloc, "map")
+    let judged = command
+        .arg(wide_word(alloc))?
+        .arg(map_word(alloc))?
+        .arg(strict_word(alloc)?)?;
+    with_files(alloc, judged)
+}
+
+// The word by which warnings are told.
+fn map_word<'a>(alloc: Global) -> Arg<'a> {
+    Arg::new(alloc, "map")
         .long("map")
         .action(ArgAction::SetTrue)
-        .help("Tell warnings, too: what references allow and no mapper wants");
-    let strict = Arg::new(alloc, "strict")
+        .help("Tell warnings, too: what references allow and no mapper wants")
+}
+
+// The word by which a warning ends a run as a fault does.
+fn strict_word<'a>(alloc: Global) -> Result<Arg<'a>, AllocError> {
+    Arg::new(alloc, "strict")
         .long("strict")
         .action(ArgAction::SetTrue)
-        .requires_arg("map")?
-        .help("End with status 1 at a warning, too");
-    with_files(alloc, command.arg(wide)?.arg(map)?.arg(strict)?)
+        .help("End with status 1 at a warning, too")
+        .requires_arg("map")
 }
 
 // Adds the words on files.
 fn with_files<'a>(alloc: Global, command: Command<'a>) -> Result<Command<'a>, AllocError> {
-    let files = Arg::new(alloc, "files")
+    command
+        .arg(files_word(alloc)?)?
+        .arg(list_word(alloc))?
+        .arg(null_word(alloc)?)?
+        .arg(progress_word(alloc))
+}
+
+// The words that are files.
+fn files_word<'a>(alloc: Global) -> Result<Arg<'a>, AllocError> {
+    Arg::new(alloc, "files")
         .value_name("FILE")
         .action(ArgAction::Append)
         .num_args(1..)
-        .required_unless_present("files-from")?
-        .help("The files, each a set by itself");
-    let list = Arg::new(alloc, "files-from")
+        .help("The files, each a set by itself")
+        .required_unless_present("files-from")
+}
+
+// The word for a list of more files.
+fn list_word<'a>(alloc: Global) -> Arg<'a> {
+    Arg::new(alloc, "files-from")
         .long("files-from")
         .value_name("LIST")
-        .help("Then the files whose paths stand in LIST, one a line; `-`: standard input");
-    let null = Arg::new(alloc, "null")
+        .help("Then the files whose paths stand in LIST, one a line; `-`: standard input")
+}
+
+// The word by which that list's paths are ended by NULs.
+fn null_word<'a>(alloc: Global) -> Result<Arg<'a>, AllocError> {
+    Arg::new(alloc, "null")
         .long("null")
         .action(ArgAction::SetTrue)
-        .requires_arg("files-from")?
-        .help("The paths of LIST are ended by NULs");
-    let progress = Arg::new(alloc, "progress")
+        .help("The paths of LIST are ended by NULs")
+        .requires_arg("files-from")
+}
+
+// The word by which a run tells how far it is.
+fn progress_word<'a>(alloc: Global) -> Arg<'a> {
+    Arg::new(alloc, "progress")
         .long("progress")
         .action(ArgAction::SetTrue)
-        .help("Tell on standard error how many files and levels are done");
-    command.arg(files)?.arg(list)?.arg(null)?.arg(progress)
+        .help("Tell on standard error how many files and levels are done")
 }
 
 // What matches of the words ask for. What is asked of them is required.

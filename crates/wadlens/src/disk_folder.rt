@@ -42,7 +42,8 @@ impl<'a, R: Files + AllocGlobal> DiskFolder<'a, R> {
         match fs::read_dir(&self.rt, self.path) {
             Ok(mut entries) => match entries.next() {
                 None => Ok(()),
-                Some(_) => Err(FolderRefusal::NotEmpty),
+                Some(Ok(_)) => Err(FolderRefusal::NotEmpty),
+                Some(Err(_)) => Err(FolderRefusal::Unread),
             },
             Err(e) if e.kind() == ErrorKind::NotFound => self.create(),
             Err(e) if e.kind() == ErrorKind::NotADirectory => Err(FolderRefusal::NoFolder),
@@ -99,9 +100,16 @@ impl<R: Files + AllocGlobal> Folder for DiskFolder<'_, R> {
 
     fn begin(&mut self, name: &[u8]) -> Result<Self::File, FileFault> {
         let (part, _) = self.paths(name)?;
-        match File::create_new(self.rt, part.as_str()) {
-            Ok(file) => Ok(DiskFile(Output::new(self.rt.alloc(), file)?)),
-            Err(_) => Err(FileFault::Write),
+        let Ok(file) = File::create_new(self.rt, part.as_str()) else {
+            return Err(FileFault::Write);
+        };
+        match Output::new(self.rt.alloc(), file) {
+            Ok(output) => Ok(DiskFile(output)),
+            Err(_) => {
+                // Nothing comes into it, so it doesn't stay.
+                let _ = fs::remove_file(self.rt, part.as_str());
+                Err(FileFault::Memory)
+            }
         }
     }
 

@@ -46,13 +46,23 @@ fn do_words<R: Env + Files + Input + Print + Eprint + AllocGlobal, E: Write + Dr
     is_terminal: bool,
 ) -> Result<Verdict, End> {
     let words = words_of(rt)?;
-    let task = match read_words(rt.alloc(), &words) {
-        Ok(task) => task,
-        Err(mistake) => return Err(tell_mistake(rt, &mistake)),
-    };
+    match read_words(rt.alloc(), &words) {
+        Ok(task) => do_task(rt, &task, errors, line, is_terminal),
+        Err(mistake) => Err(tell_mistake(rt, &mistake)),
+    }
+}
+
+// Does what is asked for.
+fn do_task<R: Files + Input + Print + AllocGlobal, E: Write + Drop>(
+    rt: &R,
+    task: &Task<'_>,
+    errors: E,
+    line: E,
+    is_terminal: bool,
+) -> Result<Verdict, End> {
     let mut output = Output::new(rt.alloc(), io::writer(rt))?;
     let mut told = ToWrite::new(errors);
-    match &task {
+    match task {
         Task::Tell(telling) => {
             let shown = (telling.progress || is_terminal).then_some(line);
             run_job(

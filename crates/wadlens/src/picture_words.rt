@@ -1,6 +1,6 @@
 //! The words of `picture`.
 
-ghost use Rattle.std.specs.Prelude.{◌≤◌, length, vec_len};
+ghost use Rattle.std.specs.Prelude.{◌≡◌, ◌≤◌, length, vec_len};
 ghost use Rattle.wad_dir.specs.declared.set.TheConstants.{MAX_FILES};
 
 use crate::mistake::Mistake;
@@ -100,7 +100,8 @@ impl<'a> PictureWords<'a> {
 
     /// The paths of the files.
     pub fn files(&self) -> &[&'a str]
-        ensures { length result.now ≤ MAX_FILES }
+        ensures all { result.now ≡ self.now.files.items }
+        ensures few { length result.now ≤ MAX_FILES }
     {
         &self.files
     }

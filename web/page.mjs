@@ -299,7 +299,10 @@ function showSaves() {
 
 /** @type {Record<string, (f: OpenFile) => unknown>} what is saved of the level, or of the chosen file */
 const saves = {
-  'save-pwad': async () => view.asked && save(await desk.ask('cut', view.asked), `${view.asked.name}.wad`, 'application/octet-stream'),
+  'save-pwad': async () => {
+    const { asked } = view; // another may be shown when the answer is there
+    if (asked) save(await desk.ask('cut', asked), `${asked.name}.wad`, 'application/octet-stream');
+  },
   'save-svg': () => view.svg && save(view.svg, `${view.asked?.name}.svg`, 'image/svg+xml'),
   'save-report': async (f) => save(await judge.ask('report', { ...asking(f), path: pathOf(f) }, `Checking ${f.file.name}`), `${f.file.name}.txt`, 'text/plain'),
   'save-json': (f) => f.survey && save(f.survey.bytes, `${f.file.name}.jsonl`, 'application/jsonl'),

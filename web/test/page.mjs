@@ -381,6 +381,13 @@ async function saves() {
   check('the saved report', await saved('report', 'rooms.wad.txt'), printed(['check', '--map', '--max', '0', 'rooms.wad'], twoRooms).toString('latin1'));
   check('the saved survey', await saved('json', 'rooms.wad.jsonl'), printed(['survey', '--map', 'rooms.wad'], twoRooms).toString('latin1'));
   check('the saved picture', await saved('svg', 'MAP01.svg'), printed(['picture', '--cells', '512', 'MAP01', 'f'], twoRooms).toString('latin1'));
+  await withhold('cut');
+  await browser.press('#save-pwad');
+  await pick('levels', 'MAP02');
+  await drawn('MAP02');
+  await browser.run('free()');
+  await browser.until("/ saved$/.test(document.querySelector('#said').textContent)", 'a level that is left is saved');
+  check('a level that is left meanwhile is saved under its own name', await textOf('#said'), 'MAP01.wad saved');
 }
 
 async function markup() {
@@ -451,9 +458,14 @@ async function large() {
   await answering('a point of it', () => pinBy('300 100'), "document.querySelector('#point-line').textContent === '300 100 sector 1 ssector 1'");
 }
 
-/** Lets a job never end, until `free()` in the page. @param {string} job */
-const withhold = (job) => browser.run(`{ const send = Worker.prototype.postMessage; window.free = () => { Worker.prototype.postMessage = send; };
-  Worker.prototype.postMessage = function (data, ...more) { if (data.job !== '${job}') send.call(this, data, ...more); }; }`);
+/**
+ * Holds the questions of a job back, or those of one file, until `free()` in the page sends them.
+ * @param {string} job @param {string} [name]
+ */
+const withhold = (job, name = '') => browser.run(`{ const send = Worker.prototype.postMessage, kept = [];
+  window.free = () => { Worker.prototype.postMessage = send; kept.forEach(([worker, data]) => worker.postMessage(data)); };
+  Worker.prototype.postMessage = function (data, ...more) {
+    if (data.job === '${job}' && ['', data.file.name].includes(${JSON.stringify(name)})) kept.push([this, data]); else send.call(this, data, ...more); }; }`);
 
 async function stop() {
   await fresh();
@@ -677,7 +689,8 @@ const isThere = await Promise.race([browser.attach().then(() => true, () => fals
 if (!isThere) console.log("skipped, as Chromium doesn't start here: the page");
 let at = 'the start';
 try {
-  const all = [files, levels, picture, point, moves, finer, findings, unknown, warnings, faults, undrawn, demos, saves, markup, hostile, manyFindings, large, stop, wide, contrast, labels, keys, phone, unable, engineless, anyHost, alone, policy];
+  const all = [files, levels, picture, point, moves, finer, findings, unknown, warnings, faults, undrawn, demos, saves, markup, hostile, manyFindings, large, stop,
+    wide, contrast, labels, keys, phone, unable, engineless, anyHost, alone, policy];
   const only = valueOf('--only').split(',');
   for (const one of all.filter(({ name }) => isThere && (!only[0] || only.includes(name)))) {
     at = one.name;

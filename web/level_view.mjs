@@ -45,6 +45,8 @@ export class LevelView {
     /** @type {Promise<Int32Array> | undefined} */
     this.ends = undefined;
     this.pins = 0; // a late answer of an earlier pin is let go
+    this.choices = 0; // so is the late place of an earlier finding
+    this.sector = -1; // of the pinned point
     /** @type {Promise<unknown>} */
     this.drawing = Promise.resolve();
     this.map = new MapView(get('map'), {
@@ -143,6 +145,7 @@ export class LevelView {
     get('save-svg').toggleAttribute('disabled', !svg);
     this.#none(why ?? '');
     this.map.show(picture ?? null);
+    this.#tellSector(); // of a point that was pinned meanwhile
     this.#mark();
     get('map').setAttribute('aria-label', `Map of ${asked.name}: ${verdict(level, warnings)}`);
     Object.assign(get('map').dataset, { drawn: asked.name, paths: picture?.paths ?? 0, ms: (performance.now() - began).toFixed(0) });
@@ -170,7 +173,7 @@ export class LevelView {
 
   /** @param {Finding} finding */
   async #choose(finding) {
-    const asked = this.asked;
+    const { asked } = this, mine = ++this.choices;
     if (finding.wide) return this.readWide();
     if (finding.all && asked) {
       try {
@@ -182,7 +185,7 @@ export class LevelView {
       return;
     }
     const place = await this.#placeOf(finding);
-    if (this.asked !== asked) return;
+    if (this.asked !== asked || mine !== this.choices) return;
     if (place && this.map.picture && isNarrow()) pane('map');
     this.map.mark(place);
   }
@@ -236,13 +239,20 @@ export class LevelView {
     get('point-none').hidden = true;
     get('point-line').textContent = this.#inWords(line, x, y);
     this.#rest();
-    const title = inShort(this.map.titleOf(Number(sector)));
-    get('point-sector').textContent = title.replace(/^sector /, '');
-    get('sector-row').hidden = !title;
-    this.#legend('pinned', sector !== undefined && !!this.map.picture);
+    this.sector = Number(sector ?? -1);
+    this.#tellSector();
     if (sector === undefined) this.#tellSight(-1, []); else this.#sight(Number(sector), mine);
     const told = await block, ends = await this.#linedefs();
     if (mine === this.pins) this.map.showBlock(this.#tellBlock(told), ends);
+  }
+
+  /** Tells what only the picture knows of the pinned point's sector. */
+  #tellSector() {
+    const title = this.sector < 0 ? '' : inShort(this.map.titleOf(this.sector));
+    get('point-sector').textContent = title.replace(/^sector /, '');
+    get('sector-row').hidden = !title;
+    this.#legend('pinned', this.sector >= 0);
+    this.#legend('sight', this.map.seen.answers.includes('clear'));
   }
 
   /** @param {string} line @param {number} x @param {number} y */
@@ -281,6 +291,7 @@ export class LevelView {
 
   unpin() {
     this.pins++;
+    this.sector = -1;
     this.map.pin(null);
     get('point').hidden = get('unpin').hidden = true;
     this.#legend('pinned', false);

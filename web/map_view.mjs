@@ -125,7 +125,7 @@ export class MapView {
     this.ground = picture && new Ground(picture);
     this.fine = null;
     this.hovered = -1;
-    this.forget();
+    if (!picture) this.forget(); // what was marked while it was drawn stays
     if (picture) {
       this.oneSided = pathOf(picture.oneSided);
       this.twoSided = pathOf(picture.twoSided);
@@ -133,6 +133,7 @@ export class MapView {
     }
     this.#ink();
     this.fit();
+    if (this.found && this.frame.checkVisibility()) this.mark(this.found);
   }
 
   /** What the picture tells of a sector; nothing where it has no cell of it. @param {number} sector */

@@ -281,6 +281,64 @@ async function findings() {
   check('and is marked there', await hasInk('fault', 384, 256, 19), true);
 }
 
+/** Whether the mark of a chosen finding is about a place: an arm of it stands above. @param {number} x @param {number} y */
+const isMarked = async (x, y) => hasInk('fault', x, y + 24 / (await viewOf())[2]);
+
+/** What is chosen before the picture is there is marked in it. */
+async function early() {
+  await dropRooms();
+  await withhold('picture');
+  await pick('levels', 'MAP02');
+  await browser.until("document.querySelector('#findings .row')", 'the findings before the picture');
+  await browser.press('#findings .row');
+  await pinBy('300 100');
+  await pointTold('300 100');
+  check('no picture yet tells of its sector', [await isHidden('#sector-row'), await legend()], [true, []]);
+  await browser.run('free()');
+  await drawn('MAP02');
+  await browser.until("document.querySelector('#map').dataset.view.startsWith('384.000 256.000')", 'the finding that was chosen');
+  await drawnAnew();
+  check('a finding that was chosen before the picture is marked', await isMarked(384, 256), true);
+  check('and so is the point', await hasInk('ink', 300, 100), true);
+  check('what the picture tells of it', await textOf('#point-sector'), '1 · floor 24 FLOOR0_1 · ceiling 128 CEIL1_1 · light 224 · special 0 · tag 0');
+  check('and the legend', [await isHidden('#sector-row'), await legend()], [false, ['pinned sector', 'REJECT lets it see', 'linedefs of its block', 'findings']]);
+
+  await browser.screen(390, 844, 'dark', true);
+  await fresh();
+  await withhold('picture');
+  await browser.drop(written('overlooked.wad', wad(rooms('MAP01', { damage: twoOverlooked }))));
+  await browser.until("document.querySelector('#findings .row')", 'the findings before the picture');
+  await browser.press('.tabs [data-to=notes]');
+  await browser.press('#findings .row');
+  await browser.run('free()');
+  await drawn('MAP01');
+  await browser.press('.tabs [data-to=map]');
+  await browser.until("document.querySelector('#map').dataset.view.split(' ')[2] > 0.5", 'the whole map, where it was not seen yet');
+  check('and where the map was not seen yet', await isMarked(512, 128), true);
+}
+
+/** The place of a finding that is told late doesn't win over a later choice. */
+async function late() {
+  const damage = (/** @type {Record<string, Buffer>} */ lumps) => {
+    lumps.SIDEDEFS.writeInt16LE(-1, 28);
+    oneMistaken(lumps);
+  };
+  await fresh();
+  await withhold('ends');
+  await browser.drop(written('late.wad', wad(rooms('MAP01', { damage }))));
+  await drawn('MAP01');
+  check('a finding whose place is asked for, and one that tells it', (await textsOf('#findings .row-message')).slice(0, 2),
+    ["Sector -1 isn't there (2 sectors), of linedef 0", 'Two-sided, without a back sidedef, from (256, 256) to (512, 256)']);
+  await browser.press('#findings .row');
+  await browser.run("document.querySelector('#findings').focus()");
+  await browser.key('ArrowDown');
+  await browser.until("document.querySelector('#map').dataset.view.startsWith('384.000 256.000')", 'the later finding');
+  await browser.run('free()');
+  await browser.until("document.querySelector('#legend').classList.contains('found')", 'all places');
+  await drawnAnew();
+  check('the later of two choices is marked', [await isMarked(384, 256), (await viewOf()).slice(0, 2)], [true, [384, 256]]);
+}
+
 /** What no fault is, and no mapper wants. */
 async function warnings() {
   const file = wad([...rooms('MAP01', { damage: twoOverlooked }), ...rooms('MAP02')]);
@@ -689,7 +747,7 @@ const isThere = await Promise.race([browser.attach().then(() => true, () => fals
 if (!isThere) console.log("skipped, as Chromium doesn't start here: the page");
 let at = 'the start';
 try {
-  const all = [files, levels, picture, point, moves, finer, findings, unknown, warnings, faults, undrawn, demos, saves, markup, hostile, manyFindings, large, stop,
+  const all = [files, levels, picture, point, moves, finer, findings, early, late, unknown, warnings, faults, undrawn, demos, saves, markup, hostile, manyFindings, large, stop,
     wide, contrast, labels, keys, phone, unable, engineless, anyHost, alone, policy];
   const only = valueOf('--only').split(',');
   for (const one of all.filter(({ name }) => isThere && (!only[0] || only.includes(name)))) {

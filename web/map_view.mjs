@@ -14,6 +14,7 @@ import { cellColour, css, pixel, themeNow } from './inks.mjs';
 
 export const NOWHERE = 0x7fffffff; // in ends: a linedef without both vertexes
 const CLOSEST = 16; // pixels to a unit
+const FARTHEST = 32767; // a number of a place is no larger; cells may reach beyond
 const SLOW = 30; // ms: a picture that takes longer is moved as it is, and drawn anew when it rests
 const CASE = 1.2; // pixels of the ground's colour about a mark, so that it stands out on each sector, whatever its light and tint
 
@@ -149,11 +150,13 @@ export class MapView {
 
   /** Units to a cell where it is coarsest in view; 0 where no cells are shown. */
   get cell() {
-    const { x, y, zoom } = this.view, { width, height } = this.size;
-    if (!this.ground?.picture.shown.length) return 0;
-    const corners = [-1, 1].flatMap((a) => [-1, 1].map((b) => [x + a * width / zoom / 2, y + b * height / zoom / 2]));
-    const covers = this.fine && corners.every(([cx, cy]) => this.fine?.has(cx, cy) || !this.ground?.has(cx, cy));
-    return (covers && this.fine ? this.fine : this.ground).picture.size;
+    const { ground, fine, view: { x, y, zoom } } = this, dx = this.size.width / zoom / 2, dy = this.size.height / zoom / 2;
+    if (!ground?.picture.shown.length) return 0;
+    const { x0, y0, size, columns, rows } = ground.picture; // of which this much is in view:
+    const left = Math.max(x0, x - dx), right = Math.min(x0 + size * columns - 1, x + dx, FARTHEST);
+    const low = Math.max(y0, y - dy), high = Math.min(y0 + size * rows - 1, y + dy, FARTHEST);
+    if (left > right || low > high) return 0;
+    return (fine?.has(left, low) && fine.has(right, high) ? fine : ground).picture.size;
   }
 
   /** Marks the places of findings. @param {Place[]} places */
@@ -223,7 +226,7 @@ export class MapView {
   /** The part of the map that is in view, and some around it: x0 y0 x1 y1. */
   get part() {
     const { x, y, zoom } = this.view, dx = 0.6 * this.size.width / zoom, dy = 0.6 * this.size.height / zoom;
-    return [x - dx, y - dy, x + dx, y + dy].map((at) => Math.max(-32768, Math.min(32767, Math.round(at))));
+    return [x - dx, y - dy, x + dx, y + dy].map((at) => Math.max(-32768, Math.min(FARTHEST, Math.round(at))));
   }
 
   /** Moves by pixels. @param {number} dx @param {number} dy */

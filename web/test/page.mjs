@@ -5,7 +5,7 @@ import { join } from 'node:path';
 import { Browser, chromium, wait } from './browser.mjs';
 import { measure } from './measure.mjs';
 import { pythonHost, runProgram, serve } from './server.mjs';
-import { demo, farLinedef, lostLinedef, oneMistaken, rooms, twoOverlooked, wad } from './wads.mjs';
+import { demo, farLinedef, lostLinedef, oneMistaken, rooms, twoOverlooked, wad, words } from './wads.mjs';
 
 const [root, ...options] = process.argv.slice(2);
 const valueOf = (/** @type {string} */ name) => options.includes(name) ? options[options.indexOf(name) + 1] : '';
@@ -337,6 +337,39 @@ async function late() {
   await browser.until("document.querySelector('#legend').classList.contains('found')", 'all places');
   await drawnAnew();
   check('the later of two choices is marked', [await isMarked(384, 256), (await viewOf()).slice(0, 2)], [true, [384, 256]]);
+}
+
+/** The part in view is asked for anew where it isn't there, in a map that is lower than the view too, and once, at the edge of all places too. */
+async function edge() {
+  const damage = (/** @type {Record<string, Buffer>} */ lumps) => {
+    lumps.VERTEXES = Buffer.concat([lumps.VERTEXES, words(-20000, 128, 32767, 128)]);
+    lumps.LINEDEFS = Buffer.concat([lumps.LINEDEFS, words(6, 7, 1, 0, 0, 0, -1)]);
+  };
+  await fresh();
+  await browser.drop(written('edge.wad', wad(rooms('MAP01', { damage }))));
+  await drawn('MAP01');
+  await browser.run(`{ const send = Worker.prototype.postMessage; window.asks = 0;
+    Worker.prototype.postMessage = function (...question) { window.asks++; send.apply(this, question); }; }`);
+  const middle = await placeOf(6000, 128);
+  for (; (await viewOf())[2] < 1; await drawnAnew()) await browser.mouse('mouseWheel', ...middle, { deltaX: 0, deltaY: -300 });
+  await browser.until("document.querySelector('#map').dataset.fine === '1'", 'finer cells of a low map');
+  await wait(500);
+  await browser.run("{ window.asks = 0; document.querySelector('#map').focus(); }");
+  for (let k = 0; k < 8; k++) await browser.key('ArrowRight', 8);
+  await browser.until('window.asks', 'finer cells of another part');
+  await browser.key('0');
+  await drawnAnew();
+  const place = await placeOf(32767, 128);
+  for (let k = 0; k < 20; k++) {
+    await browser.mouse('mouseWheel', ...place, { deltaX: 0, deltaY: -300 });
+    await drawnAnew();
+  }
+  for (; (await viewOf())[0] < 32760; await drawnAnew()) await browser.key('ArrowRight', 8);
+  await browser.until("document.querySelector('#map').dataset.fine === '1'", 'finer cells at the edge');
+  await wait(500);
+  await browser.run('{ window.asks = 0; }');
+  await wait(500);
+  check('a map at rest asks no more', await browser.run('window.asks < 2'), true);
 }
 
 /** What no fault is, and no mapper wants. */
@@ -747,7 +780,7 @@ const isThere = await Promise.race([browser.attach().then(() => true, () => fals
 if (!isThere) console.log("skipped, as Chromium doesn't start here: the page");
 let at = 'the start';
 try {
-  const all = [files, levels, picture, point, moves, finer, findings, early, late, unknown, warnings, faults, undrawn, demos, saves, markup, hostile, manyFindings, large, stop,
+  const all = [files, levels, picture, point, moves, finer, findings, early, late, edge, unknown, warnings, faults, undrawn, demos, saves, markup, hostile, manyFindings, large, stop,
     wide, contrast, labels, keys, phone, unable, engineless, anyHost, alone, policy];
   const only = valueOf('--only').split(',');
   for (const one of all.filter(({ name }) => isThere && (!only[0] || only.includes(name)))) {

@@ -181,7 +181,7 @@ export class LevelView {
         if (this.asked !== asked) return;
         this.#list(new Lines(findings), before);
         this.#mark();
-      } catch (error) { say(wordsOf(error)); }
+      } catch (error) { say(`${asked.name}: ${wordsOf(error)}`, !(error instanceof Stopped)); }
       return;
     }
     const place = await this.#placeOf(finding);
@@ -336,6 +336,6 @@ export class LevelView {
       map.sharpen(picture);
       get('map').dataset.fine = String(picture.size);
       this.#sharpen(); // where the map was moved meanwhile
-    } catch (error) { if (!(error instanceof Stopped)) say(wordsOf(error)); }
+    } catch (error) { if (!(error instanceof Stopped)) say(`${asked.name}: ${wordsOf(error)}`, true); }
   }
 }

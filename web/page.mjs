@@ -11,7 +11,8 @@ import { field, get, isNarrow, notJudged, pane, plural, say, sizeOf, verdict, wo
 /** @typedef {import('./words.mjs').Level} Level */
 /**
  * @typedef {{ key: string, file: File, kind: string, refused: string, heads: Lines, survey: Lines | null, demos: Lines,
- *   stopped: boolean, surveys: number }} OpenFile  `heads` and `demos` are lines of `lumps`, `survey` those of the engine's answer, once all is judged
+ *   stopped: boolean, failed: string, surveys: number }} OpenFile  `heads` and `demos` are lines of `lumps`, `survey` those of the engine's
+ *   answer, once all is judged; `failed` tells why it isn't
  */
 
 const none = () => new Lines({ bytes: new Uint8Array(), ends: new Uint32Array() });
@@ -63,7 +64,7 @@ async function open(chosen) {
   document.body.classList.remove('empty');
   /** @type {OpenFile[]} */
   const fresh = [...chosen].map((file, k) => ({
-    key: `${performance.now()} ${k}`, file, kind: '', refused: '', heads: none(), survey: null, demos: none(), stopped: false, surveys: 0,
+    key: `${performance.now()} ${k}`, file, kind: '', refused: '', heads: none(), survey: null, demos: none(), stopped: false, failed: '', surveys: 0,
   }));
   state.files.push(...fresh);
   showFiles();
@@ -96,6 +97,7 @@ async function survey(f) {
   if (!f.heads.count) return;
   const mine = ++f.surveys; // a late answer of an earlier one is let go
   f.stopped = false;
+  f.failed = '';
   try {
     const told = await judge.ask('survey', { ...asking(f), path: pathOf(f), count: f.heads.count }, `Judging ${f.file.name}`);
     if (mine !== f.surveys) return;
@@ -103,8 +105,9 @@ async function survey(f) {
     say(`${f.file.name}: ${plural(f.heads.count, 'level')} judged`);
   } catch (error) {
     if (mine !== f.surveys) return;
-    f.stopped = true;
-    if (!(error instanceof Stopped)) say(wordsOf(error));
+    f.stopped = error instanceof Stopped;
+    f.failed = f.stopped ? '' : wordsOf(error);
+    if (f.failed) say(`${f.file.name}: ${f.failed}`, true);
   }
   if (f === state.file) showLevels(true);
   if (f === state.of && state.shown >= 0 && f.survey && levelOf(f, state.shown).format !== 'doom') showLevel(); // now it can say why
@@ -133,7 +136,7 @@ function levelOf(f, k) {
 /** @type {ListBox<{ k: number, level: Level }>} */
 const levels = new ListBox(get('levels'), ({ level }) => {
   const { format, faults } = level, doom = format === 'doom', codes = Object.keys(level.warnings ?? {});
-  const told = doom ? `${verdict(level)}${codes.length ? ` · ${codes.join(' ')}` : ''}` : format ? 'not judged' : state.file?.stopped ? 'stopped' : '…';
+  const told = doom ? `${verdict(level)}${codes.length ? ` · ${codes.join(' ')}` : ''}` : format || state.file?.failed ? 'not judged' : state.file?.stopped ? 'stopped' : '…';
   const isFault = faults || format === 'incomplete' || format === 'outside';
   const more = doom ? `${level.linedefs} linedefs · ${level.sectors} sectors · ${level.things} things` : format ? notJudged(level) : `entry ${level.entry}`;
   return [
@@ -186,13 +189,15 @@ async function showLevels(kept = false) {
 
 /** What stands where there is no level to list, or none judged. @param {OpenFile} f @param {number} count @param {number} listed */
 function tellNone(f, count, listed) {
-  const told = get('levels-none'), goOn = make('button', '', 'Go on');
+  const told = get('levels-none'), goOn = make('button', '', f.failed ? 'Try again' : 'Go on'), isUnjudged = f.stopped || !!f.failed;
   goOn.addEventListener('click', () => {
     survey(f);
     showLevels(true);
   });
-  told.hidden = listed > 0 && !f.stopped;
-  told.replaceChildren(...(f.refused ? [`Refused: ${f.refused}.`] : !count ? ['No levels in this file.'] : f.stopped ? ['Stopped before all levels were judged. ', goOn] : ['No level matches.']));
+  const why = f.refused ? `Refused: ${f.refused}.` : !count ? 'No levels in this file.' :
+    f.failed ? `Not judged: ${f.failed}. ` : f.stopped ? 'Stopped before all levels were judged. ' : 'No level matches.';
+  told.hidden = listed > 0 && !isUnjudged;
+  told.replaceChildren(why, ...(isUnjudged ? [goOn] : []));
 }
 
 /** @param {number} k */
@@ -309,7 +314,7 @@ const saves = {
 };
 for (const [id, act] of Object.entries(saves)) {
   get(id).addEventListener('click', async () => {
-    try { if (state.file) await act(state.file); } catch (error) { say(wordsOf(error)); }
+    try { if (state.file) await act(state.file); } catch (error) { say(`Not saved: ${wordsOf(error)}`, !(error instanceof Stopped)); }
   });
 }
 
@@ -331,6 +336,7 @@ field('filter').addEventListener('keydown', (event) => {
   levels.pick(Math.max(0, levels.at));
 });
 field('wide').addEventListener('input', readAnew);
+get('said').addEventListener('click', () => say('')); // a refusal, which was read
 get('stop').addEventListener('click', () => [desk, judge].forEach((questions) => questions.stop()));
 addEventListener('keydown', (event) => {
   if (event.key !== '/' || /** @type {Element} */ (event.target).matches('input')) return;

@@ -11,8 +11,11 @@
 
 export const get = (/** @type {string} */ id) => /** @type {HTMLElement} */ (document.getElementById(id));
 export const field = (/** @type {string} */ id) => /** @type {HTMLInputElement} */ (get(id));
-/** Tells those who can't see it. @param {string} words */
-export const say = (words) => { get('said').textContent = words; };
+/** Tells those who can't see it; a refusal is seen, too, until something else is told. @param {string} words @param {boolean} [isRefusal] */
+export const say = (words, isRefusal = false) => {
+  get('said').textContent = words;
+  get('said').className = isRefusal ? 'refusal' : 'unseen';
+};
 export const isNarrow = () => matchMedia('(max-width: 760px)').matches;
 export const plural = (/** @type {number} */ n, /** @type {string} */ word) => `${n} ${word}${n === 1 ? '' : 's'}`;
 export const sizeOf = (/** @type {number} */ bytes) => bytes < 1e6 ? `${Math.max(1, Math.round(bytes / 1e3))} kB` : `${(bytes / 1e6).toFixed(1)} MB`;

@@ -558,6 +558,36 @@ const withhold = (job, name = '') => browser.run(`{ const send = Worker.prototyp
   Worker.prototype.postMessage = function (data, ...more) {
     if (data.job === '${job}' && ['', data.file.name].includes(${JSON.stringify(name)})) kept.push([this, data]); else send.call(this, data, ...more); }; }`);
 
+/** What fails is seen, and doesn't read as if it had been stopped. */
+async function refusals() {
+  const isSeen = () => browser.run("(({ width, height }) => width > 100 && height > 20)(document.querySelector('#said').getBoundingClientRect())");
+  await fresh();
+  await withhold('survey');
+  await browser.drop(written('gone.wad', twoRooms));
+  await drawn('MAP01');
+  check('what goes well is told and not seen', [await textOf('#said'), await isSeen()], ['MAP01 drawn, sound', false]);
+  await browser.until("document.querySelector('#map').dataset.fine", 'the worker of parts has read the file, too');
+  written('gone.wad', 'now another');
+  await browser.run('free()');
+  await browser.until("document.querySelector('#said').textContent.endsWith(\"can't be read\")", 'a survey that fails');
+  check('why a survey fails is seen', [await textOf('#said'), await isSeen()], ["gone.wad: can't be read", true]);
+  check('and its levels are not told as stopped', [await textsOf('#levels .row-state'), await textOf('#levels-none')],
+    [['not judged', 'not judged'], "Not judged: can't be read. Try again"]);
+  await pick('levels', 'MAP02');
+  await drawn('MAP02');
+  check('what then goes well hides it', await isSeen(), false);
+  await browser.press('#save-report');
+  await browser.until("document.querySelector('#said').textContent === \"Not saved: can't be read\"", 'a report that fails');
+  check('why nothing is saved is seen', await isSeen(), true);
+  await browser.press('#said');
+  check('until it is clicked', [await textOf('#said'), await isSeen()], ['', false]);
+  await withhold('survey');
+  await browser.press('#levels-none button');
+  await browser.press('#stop');
+  await browser.until("document.querySelector('#levels-none').textContent.startsWith('Stopped')", 'a survey that is stopped');
+  check('what was stopped is told as such, and not seen', [await textsOf('#levels .row-state'), await isSeen()], [['stopped', 'stopped'], false]);
+}
+
 async function stop() {
   await fresh();
   await withhold('survey');
@@ -780,7 +810,7 @@ const isThere = await Promise.race([browser.attach().then(() => true, () => fals
 if (!isThere) console.log("skipped, as Chromium doesn't start here: the page");
 let at = 'the start';
 try {
-  const all = [files, levels, picture, point, moves, finer, findings, early, late, edge, unknown, warnings, faults, undrawn, demos, saves, markup, hostile, manyFindings, large, stop,
+  const all = [files, levels, picture, point, moves, finer, findings, early, late, edge, unknown, warnings, faults, undrawn, demos, saves, markup, hostile, manyFindings, large, stop, refusals,
     wide, contrast, labels, keys, phone, unable, engineless, anyHost, alone, policy];
   const only = valueOf('--only').split(',');
   for (const one of all.filter(({ name }) => isThere && (!only[0] || only.includes(name)))) {

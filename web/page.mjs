@@ -68,13 +68,17 @@ async function open(chosen) {
   }));
   state.files.push(...fresh);
   showFiles();
-  let first = true;
+  let first = true, isStopped = false;
   for (const f of fresh) {
     try {
+      if (isStopped) throw new Stopped(); // a stop is of them all
       const { levels, demos, ...told } = await desk.ask('open', asking(f), `Reading ${f.file.name}`);
       Object.assign(f, told, !told.refused && { heads: new Lines(levels), demos: new Lines(demos) });
-    } catch (error) { f.refused = error instanceof Stopped ? 'stopped before it was read' : wordsOf(error); }
-    showFiles();
+    } catch (error) {
+      isStopped = error instanceof Stopped;
+      f.refused = isStopped ? 'stopped before it was read' : wordsOf(error);
+    }
+    if (f === state.file) showFile(); else showFiles(); // it may have been chosen while it was read
     if (f.refused) {
       say(`${f.file.name}: ${f.refused}`);
       continue;
@@ -116,11 +120,16 @@ async function survey(f) {
 /** @param {OpenFile} f */
 function chooseFile(f) {
   state.file = f;
-  showFiles();
   field('filter').value = '';
   field('only').checked = false;
+  showFile();
+}
+
+/** Shows what the chosen file holds. */
+function showFile() {
+  showFiles();
   showLevels();
-  get('demos-part').hidden = !f.demos.count;
+  get('demos-part').hidden = !state.file?.demos.count;
   showDemos();
 }
 
@@ -194,7 +203,7 @@ function tellNone(f, count, listed) {
     survey(f);
     showLevels(true);
   });
-  const why = f.refused ? `Refused: ${f.refused}.` : !count ? 'No levels in this file.' :
+  const why = f.refused ? `Refused: ${f.refused}.` : !f.kind ? `Reading ${f.file.name} …` : !count ? 'No levels in this file.' :
     f.failed ? `Not judged: ${f.failed}. ` : f.stopped ? 'Stopped before all levels were judged. ' : 'No level matches.';
   told.hidden = listed > 0 && !isUnjudged;
   told.replaceChildren(why, ...(isUnjudged ? [goOn] : []));

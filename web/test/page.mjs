@@ -119,6 +119,23 @@ async function files() {
   await drawn('MAP01');
 }
 
+/** A file that is chosen while it is read is shown once it is. */
+async function reading() {
+  const none = () => textOf('#levels-none');
+  for (const [name, told, isDemo] of /** @type {[string, string, boolean][]} */ ([['walk.lmp', 'No levels in this file.', true],
+    ['notes.txt', 'Refused: not a WAD file: it begins with neither IWAD nor PWAD.', false]])) {
+    await fresh();
+    await withhold('open', name);
+    await browser.drop(roomsFile, join(room, name));
+    await drawn('MAP01');
+    await pick('files', name);
+    check(`while it is read: ${name}`, [await none(), await isHidden('#levels-none')], [`Reading ${name} …`, false]);
+    await browser.run('free()');
+    await browser.until("!document.querySelector('#files').textContent.includes('reading')", 'a file that was chosen');
+    check(`and once it is: ${name}`, [await none(), !await isHidden('#demos-part'), (await textsOf('#demos .row-name')).length], [told, isDemo, Number(isDemo)]);
+  }
+}
+
 async function levels() {
   await judged();
   check('the levels', await textsOf('#levels .row-name'), ['MAP01 doom', 'MAP02 doom']);
@@ -558,6 +575,19 @@ const withhold = (job, name = '') => browser.run(`{ const send = Worker.prototyp
   Worker.prototype.postMessage = function (data, ...more) {
     if (data.job === '${job}' && ['', data.file.name].includes(${JSON.stringify(name)})) kept.push([this, data]); else send.call(this, data, ...more); }; }`);
 
+/** One stop ends the reading of all files. */
+async function stopAll() {
+  await fresh();
+  await withhold('open');
+  await browser.drop(roomsFile, join(room, 'walk.lmp'), join(room, 'short.wad'));
+  await browser.until("document.querySelector('#work-label').textContent === 'Reading rooms.wad' && !document.querySelector('#work').hidden", 'a file under way');
+  await browser.press('#stop');
+  await browser.until("document.querySelector('#files .row-state').textContent === 'refused'", 'a stop');
+  await drawnAnew();
+  check('all that were not read are stopped', await textsOf('#files .row-more'), Array.from({ length: 3 }, () => 'stopped before it was read'));
+  check('and nothing is under way', await isHidden('#work'), true);
+}
+
 /** What fails is seen, and doesn't read as if it had been stopped. */
 async function refusals() {
   const isSeen = () => browser.run("(({ width, height }) => width > 100 && height > 20)(document.querySelector('#said').getBoundingClientRect())");
@@ -810,7 +840,7 @@ const isThere = await Promise.race([browser.attach().then(() => true, () => fals
 if (!isThere) console.log("skipped, as Chromium doesn't start here: the page");
 let at = 'the start';
 try {
-  const all = [files, levels, picture, point, moves, finer, findings, early, late, edge, unknown, warnings, faults, undrawn, demos, saves, markup, hostile, manyFindings, large, stop, refusals,
+  const all = [files, levels, picture, point, moves, finer, findings, reading, early, late, edge, unknown, warnings, faults, undrawn, demos, saves, markup, hostile, manyFindings, large, stop, stopAll, refusals,
     wide, contrast, labels, keys, phone, unable, engineless, anyHost, alone, policy];
   const only = valueOf('--only').split(',');
   for (const one of all.filter(({ name }) => isThere && (!only[0] || only.includes(name)))) {

@@ -104,6 +104,7 @@ export class LevelView {
     this.#legend('found', false);
     this.map.show(null);
     for (const name of ['drawn', 'fine', 'paths']) delete get('map').dataset[name];
+    get('map').setAttribute('aria-label', 'Map');
     this.#none(why);
     get('counts').replaceChildren();
     get('told').textContent = '';

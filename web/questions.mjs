@@ -32,7 +32,7 @@ export class Questions {
     });
   }
 
-  /** What is under way, the newest first asked for; undefined where nothing is that has a label. */
+  /** What is under way: of what has a label, what was asked first; undefined where there is none. */
   get label() {
     return [...this.open.values()].find(({ label }) => label)?.label;
   }

@@ -442,6 +442,7 @@ async function faults() {
   await pick('levels', 'MAP02');
   await browser.until("document.querySelector('#title').textContent === 'MAP02' && document.querySelector('#map-none').textContent !== ''", 'MAP02');
   check('no picture of it', await browser.run("document.querySelector('#map').dataset.drawn ?? ''"), '');
+  check('nor is it told as that of another', await browser.run("document.querySelector('#map').ariaLabel"), 'Map');
 }
 
 /** A level without a place has findings and no picture. */

@@ -1,0 +1,92 @@
+// What the cases of the page stand on: the page in a browser, and what a person sees and does there.
+import { existsSync, mkdirSync, mkdtempSync, writeFileSync } from 'node:fs';
+import { tmpdir } from 'node:os';
+import { join } from 'node:path';
+import { Browser, chromium } from './browser.mjs';
+import { runProgram, serve } from './server.mjs';
+
+export const [root, ...options] = process.argv.slice(2);
+export const valueOf = (/** @type {string} */ name) => options.includes(name) ? options[options.indexOf(name) + 1] : '';
+export const programs = { wadlook: join(root, 'crates/wadlook/out/wadlook'), wadlens: join(root, 'crates/wadlens/out/wadlens') };
+export const built = join(root, 'web/out');
+export const isNative = options.includes('--native') || !existsSync(join(built, 'wad_page.wasm'));
+export const pictures = valueOf('--pictures');
+if (pictures) mkdirSync(pictures, { recursive: true });
+if (isNative) console.log("the programs answer in the modules' place");
+
+export const room = mkdtempSync(join(tmpdir(), 'page-'));
+export const server = isNative ? await serve(join(root, 'web'), room, programs) : await serve(built, room);
+export const browser = new Browser(chromium(), join(room, 'profile'));
+
+/** How many checks passed and failed. */
+export const tally = { passed: 0, failed: 0 };
+/** @param {string} what @param {unknown} came @param {unknown} wanted */
+export function check(what, came, wanted) {
+  const [is, should] = [came, wanted].map((value) => typeof value === 'string' ? value : JSON.stringify(value));
+  if (is === should) {
+    tally.passed++;
+    return;
+  }
+  tally.failed++;
+  console.log(`FAILED ${what}\n--- wanted\n${should?.slice(0, 1000)}\n--- came\n${is?.slice(0, 1000)}\n---`);
+}
+
+// What a person sees and does ---------------------------------------------------------------------------------------------------
+
+export const textOf = (/** @type {string} */ selector) => browser.run(`document.querySelector(${JSON.stringify(selector)}).textContent`);
+export const textsOf = (/** @type {string} */ selector) => browser.run(`[...document.querySelectorAll(${JSON.stringify(selector)})].map((e) => e.textContent)`);
+export const isHidden = (/** @type {string} */ selector) => browser.run(`document.querySelector(${JSON.stringify(selector)}).hidden`);
+export const viewOf = async () => (await browser.run("document.querySelector('#map').dataset.view")).split(' ').map(Number);
+export const judged = () => browser.until("!!document.querySelector('#levels .row-state') && ![...document.querySelectorAll('#levels .row-state')].some((e) => e.textContent === '…')", 'all judged');
+export const pointTold = (/** @type {string} */ begin) => browser.until(`document.querySelector('#point-line').textContent.startsWith(${JSON.stringify(begin)}) && !document.querySelector('#point').hidden && document.querySelector('#point-clear').textContent !== ''`, `the point ${begin}`);
+/** Clicks the row of a list whose name is this. @param {string} list @param {string} name */
+export const pick = async (list, name) => {
+  const at = await browser.run(`(() => { const row = [...document.querySelectorAll('#${list} .row')].find((r) => r.querySelector('.row-name').firstChild.textContent === ${JSON.stringify(name)});
+    row.scrollIntoView({ block: 'nearest' }); const b = row.getBoundingClientRect(); return [b.x + 40, b.y + b.height / 2]; })()`);
+  await browser.click(at[0], at[1]);
+};
+/** Waits until what was done is drawn. */
+export const drawnAnew = () => browser.run('new Promise((go) => requestAnimationFrame(() => requestAnimationFrame(() => go(1))))');
+/** Waits until a level's map is there, and in the frame that says where it stands. @param {string} name */
+export const drawn = async (name) => {
+  await browser.until(`document.querySelector('#map').dataset.drawn === ${JSON.stringify(name)}`, `the level ${name}`);
+  await drawnAnew();
+};
+export const filterBy = (/** @type {string} */ words) => browser.run(`{ const e = document.querySelector('#filter'); e.value = ${JSON.stringify(words)}; e.dispatchEvent(new Event('input')); }`);
+export const fresh = async (address = server.address) => {
+  await browser.send('Page.navigate', { url: address });
+  await browser.until("document.body?.dataset.ready === 'yes'", 'the page');
+};
+/** @param {string} name @param {Buffer | string} body */
+export const written = (name, body) => {
+  writeFileSync(join(room, name), body);
+  return join(room, name);
+};
+/** What a program prints of a file. @param {string[]} words @param {Buffer} file @param {string} [input] */
+export const printed = (words, file, input = '') => runProgram(programs, room, words, [file], Buffer.from(input)).answer;
+/** The place on the screen of a place of the map. @param {number} x @param {number} y @returns {Promise<[number, number]>} */
+export const placeOf = async (x, y) => {
+  const [vx, vy, zoom] = await viewOf(), [mx, my] = await browser.middle('#map');
+  return [mx + (x - vx) * zoom, my - (y - vy) * zoom];
+};
+
+/**
+ * Whether an ink of page.css is on the map at a place, or in one of the pixels that stand so far to its right.
+ * @param {string} ink @param {number} x @param {number} y @param {number} [from] @param {number} [to]
+ */
+export const hasInk = async (ink, x, y, from = 0, to = from) => {
+  const [vx, vy, zoom] = await viewOf();
+  return browser.run(`(() => { const e = document.querySelectorAll('#map canvas')[1], d = getComputedStyle(document.documentElement).getPropertyValue('--${ink}').trim().slice(1);
+    const wanted = [0, 2, 4].map((k) => parseInt(d.slice(k, k + 2), 16)), left = e.width / 2 + (${x} - ${vx}) * ${zoom}, top = e.height / 2 - (${y} - ${vy}) * ${zoom};
+    const isIt = (right) => { const at = e.getContext('2d').getImageData(Math.floor(left + right), Math.floor(top), 1, 1).data;
+      return at[3] > 120 && wanted.every((v, k) => Math.abs(at[k] - v) < 40); };
+    for (let right = ${from}; right <= ${to}; right++) if (isIt(right)) return true;
+    return false; })()`);
+};
+/** Pins a point by its numbers. @param {string} numbers */
+export const pinBy = async (numbers) => {
+  await browser.run(`{ document.querySelector('#at').value = ${JSON.stringify(numbers)}; }`);
+  await browser.press('#pin');
+};
+/** Pins a point by a click. @param {number} x @param {number} y */
+export const pinAt = async (x, y) => browser.click(...await placeOf(x, y));

@@ -1,6 +1,7 @@
 // The cases of the page: see `page`, which runs this.
 import { existsSync, readFileSync, rmSync, statSync, writeFileSync } from 'node:fs';
 import { join } from 'node:path';
+import { pathToFileURL } from 'node:url';
 import { wait } from './browser.mjs';
 import { measure } from './measure.mjs';
 import {
@@ -683,6 +684,19 @@ async function unable() {
   await browser.send('Page.removeScriptToEvaluateOnNewDocument', { identifier });
 }
 
+/** Opened as a file, where none of its scripts is loaded, the page says so. */
+async function unserved() {
+  const [asked, complained] = [browser.requests.length, browser.complaints.length];
+  await browser.send('Page.navigate', { url: pathToFileURL(join(root, 'web/index.html')).href });
+  await browser.until("document.querySelector('.unserved')?.checkVisibility({ visibilityProperty: true })", 'the word on a file');
+  check('a page that is opened as a file', (await textOf('.unserved')).startsWith("Opened as a file this page can't start"), true);
+  browser.requests.splice(asked);
+  browser.complaints.splice(complained);
+  await fresh();
+  await wait(3500);
+  check('and one that is served', await browser.run("document.querySelector('.unserved').checkVisibility({ visibilityProperty: true })"), false);
+}
+
 /** Without its modules the page says which one isn't there. */
 async function engineless() {
   const bare = await serve(join(root, 'web'), room), before = browser.complaints.length;
@@ -759,7 +773,7 @@ if (!isThere) console.log("skipped, as Chromium doesn't start here: the page");
 let at = 'the start';
 try {
   const all = [files, levels, picture, point, moves, finer, findings, reading, early, late, edge, unknown, warnings, faults, undrawn, demos, saves, markup, hostile, manyFindings, large, stop, stopAll, refusals,
-    wide, contrast, labels, keys, phone, unable, engineless, anyHost, alone, policy];
+    wide, contrast, labels, keys, phone, unable, unserved, engineless, anyHost, alone, policy];
   const only = valueOf('--only').split(',');
   for (const one of all.filter(({ name }) => isThere && (!only[0] || only.includes(name)))) {
     at = one.name;

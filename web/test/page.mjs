@@ -690,11 +690,12 @@ async function unserved() {
   await browser.send('Page.navigate', { url: pathToFileURL(join(root, 'web/index.html')).href });
   await browser.until("document.querySelector('.unserved')?.checkVisibility({ visibilityProperty: true })", 'the word on a file');
   check('a page that is opened as a file', (await textOf('.unserved')).startsWith("Opened as a file this page can't start"), true);
-  browser.requests.splice(asked);
-  browser.complaints.splice(complained);
   await fresh();
   await wait(3500);
   check('and one that is served', await browser.run("document.querySelector('.unserved').checkVisibility({ visibilityProperty: true })"), false);
+  const keepServed = (/** @type {string[]} */ told, /** @type {number} */ from) => told.splice(from, Infinity, ...told.slice(from).filter((one) => !one.includes('file:')));
+  keepServed(browser.requests, asked);
+  keepServed(browser.complaints, complained);
 }
 
 /** Without its modules the page says which one isn't there. */

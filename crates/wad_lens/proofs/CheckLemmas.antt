@@ -29,7 +29,7 @@ use Rattle.map_tree.proofs.TurnLemmas.{sum_zeros}
 use Rattle.map_tree.specs.Sound.{IsSound}
 use Rattle.wad_dir.specs.Entries.{names}
 use Rattle.wad_dir.specs.Wad.{IsRead, Wad}
-use Rattle.wad_lens.specs.Check.{Asked, Checks, ChecksAll, ChecksFile, ChecksSome, ChecksText, IsJudged, IsLevelText, IsSoundWideAlone, IsToldBy, ToldTo, WritesText, at_start, with_level, text_end}
+use Rattle.wad_lens.specs.Check.{Asked, Checks, ChecksAll, ChecksDoom, ChecksFile, ChecksLevel, ChecksSome, IsLevelText, IsSoundWideAlone, IsToldBy, ToldTo, WritesText, at_start, with_level, text_end}
 use Rattle.wad_lens.specs.Counts.{AreCounts, IsCount, fault_total, report_order}
 use Rattle.wad_lens.specs.FindingLine.{level_line}
 use Rattle.wad_lens.specs.FormatLine.{format_text}
@@ -90,7 +90,7 @@ pub judged_written : {W : Type 0} (state : W → SinkState) (asked : Asked) (fil
     → (IsTrue sound_wide ↔ IsSoundWideAlone files g asked.judging.reading level)
     → ((told : Code → List ℕ) → AreTold (AuditHolds level) told → AreCounted counts told
     → Writes (state out) (state out') (judged_text asked.path name asked.most level told warned sound_wide) wrote)
-    → result ≡ text_end asked.judging.warnings (judged_totals counts (warned_total warned)) wrote → ChecksText state asked.judging.warnings (IsJudged asked files g name) out out' result
+    → result ≡ text_end asked.judging.warnings (judged_totals counts (warned_total warned)) wrote → ChecksDoom state asked files g name out out' result
 judged_written state asked files g name level counts warned sound_wide out out' wrote result there are are_warned wide writes ended =
     let told = λ (code : Code). (are.each code).indexes in
     let are_told : AreTold (AuditHolds level) told = λ code. record { ascending = (are.each code).ascending; exact = (are.each code).exact } in
@@ -120,9 +120,9 @@ judged_written state asked files g name level counts warned sound_wide out out' 
 
 -- the text of a level of Doom's format
 pub doom_text : {W : Type 0} (state : W → SinkState) (asked : Asked) (files : List Wad) (name : List ℕ) (g : ℕ) (out out' : W) (result : Result Totals FileFault)
-    → slice_get (names files) g ≡ Some name → IsFormat files g Doom → ChecksText state asked.judging.warnings (IsJudged asked files g name) out out' result
-    → ChecksText state asked.judging.warnings (IsLevelText asked files g) out out' result
-doom_text state asked files name g out out' result named is (inl wants) = inl wants
+    → slice_get (names files) g ≡ Some name → IsFormat files g Doom → ChecksDoom state asked files g name out out' result
+    → ChecksLevel state asked files g out out' result
+doom_text state asked files name g out out' result named is (inl wants) = inl (record { doom = is; wants = wants })
 doom_text state asked files name g out out' result named is (inr wrote) = inr (record {
   text = wrote.text;
   totals = wrote.totals;
@@ -137,7 +137,7 @@ pub format_line : {W : Type 0} (state : W → SinkState) (asked : Asked) (files 
     (result : Result Totals FileFault)
     → slice_get (names files) g ≡ Some name → IsFormat files g format → (format ≡ Doom → ⊥)
     → Writes (state out) (state out') (level_line asked.path name (format_text format)) wrote → result ≡ text_end asked.judging.warnings (format_totals format) wrote
-    → ChecksText state asked.judging.warnings (IsLevelText asked files g) out out' result
+    → ChecksLevel state asked files g out out' result
 format_line state asked files name g format out out' wrote result named is other writes ended = inr (record {
   text = level_line asked.path name (format_text format);
   totals = format_totals format;
@@ -164,8 +164,8 @@ pub record ToldLevel (asked : Asked) (files : List Wad) (g : ℕ) (before after 
 
 -- one level more was told
 pub level_told : {W : Type 0} (state : W → SinkState) (asked : Asked) (files : List Wad) (g : ℕ) (out out' : W) (totals : Totals)
-    → ChecksText state asked.judging.warnings (IsLevelText asked files g) out out' (Ok totals) → ToldLevel asked files g (state out) (state out') totals
-level_told state asked files g out out' totals (inl wants) = absurd (ok_is_no_err totals wants.ended)
+    → ChecksLevel state asked files g out out' (Ok totals) → ToldLevel asked files g (state out) (state out') totals
+level_told state asked files g out out' totals (inl left) = absurd (ok_is_no_err totals left.wants.ended)
   where
     ok_is_no_err : (t : Totals) → ◌≡◌ {A = Result Totals FileFault} (Ok t) (Err fault.Memory) → ⊥
     ok_is_no_err t same = cc
@@ -232,12 +232,12 @@ stopped_in_text asked files before between after from g sum why so_far next wrot
 -- it stopped at a level
 pub level_stopped : {W : Type 0} (state : W → SinkState) (asked : Asked) (files : List Wad) (before : SinkState) (from g : ℕ) (sum : Totals) (out out' : W) (why : FileFault)
     → SoFar asked files before (state out) from sum → (state out).failed ≡ false → IsNextStart (names files) from g
-    → ChecksText state asked.judging.warnings (IsLevelText asked files g) out out' (Err why) → ChecksSome asked files before (state out') (fault_after (verdict_with asked.judging.warnings sum) why)
-level_stopped state asked files before from g sum out out' why so_far sound next (inl wants) =
-    let same : fault.Memory ≡ why = err_same why wants.ended in
+    → ChecksLevel state asked files g out out' (Err why) → ChecksSome asked files before (state out') (fault_after (verdict_with asked.judging.warnings sum) why)
+level_stopped state asked files before from g sum out out' why so_far sound next (inl left) =
+    let same : fault.Memory ≡ why = err_same why left.wants.ended in
     subst (λ w. ChecksSome asked files before (state out') (fault_after (verdict_with asked.judging.warnings sum) w)) same
-    (subst (λ o. ChecksSome asked files before (state o) fault.Memory) (sym wants.untouched)
-    (record { from = from; text = so_far.text; sum = sum; told = so_far.told; took = so_far.took; sound = sound }))
+    (subst (λ o. ChecksSome asked files before (state o) fault.Memory) (sym left.wants.untouched)
+    (record { from = from; text = so_far.text; sum = sum; told = so_far.told; took = so_far.took; sound = sound; g = g; next = next; doom = left.doom }))
   where
     err_same : (w : FileFault) → ◌≡◌ {A = Result Totals FileFault} (Err w) (Err fault.Memory) → fault.Memory ≡ w
     err_same w same = cc

@@ -177,13 +177,14 @@ stopped_in_line path files judging before between after from g worst why so_far 
         })
 
 -- it stopped before a level for want of memory
-pub stopped_before_line : (path : List ℕ) (files : List Wad) (judging : Judging) (before after : SinkState) (from : ℕ) (worst : Verdict)
-    → ToldSoFar path files judging before after from worst → after.failed ≡ false → SurveysSome path files judging before after fault.Memory
-stopped_before_line path files judging before after from worst so_far sound = record {
+stopped_before_line : (path : List ℕ) (files : List Wad) (judging : Judging) (before after : SinkState) (from g : ℕ) (worst : Verdict)
+    → ToldSoFar path files judging before after from worst → after.failed ≡ false → IsNextStart (names files) from g → IsFormat files g Doom
+    → SurveysSome path files judging before after fault.Memory
+stopped_before_line path files judging before after from g worst so_far sound next doom = record {
   end = from;
   told = so_far.told;
   are = so_far.are;
-  stops = (so_far.took, sound);
+  stops = record { took = so_far.took; sound = sound; g = g; next = next; doom = doom };
 }
 
 -- all levels were told
@@ -226,7 +227,7 @@ pub doom_line : {W : Type 0} (state : W → SinkState) (path : List ℕ) (files 
     → slice_get (names files) g ≡ Some name → IsFormat files g Doom
     → SurveysDoom state path files judging name g out out' result → SurveysLevel state path files judging g out out' result
 doom_line state path files judging name g out out' result named is does = elim does [
-  | inl wants ↦ inl wants
+  | inl wants ↦ inl (record { doom = is; wants = wants })
   | inr wrote ↦ inr (record {
     told = record { line = level_members path name g Doom ++ wrote.members; verdict = wrote.verdict };
     is = record { format = Doom; is = is; name = name; named = named; members = wrote.members; ends = wrote.judged; line = refl };
@@ -249,7 +250,7 @@ other_line state path files judging name g format out out' result named is other
 pub level_told : {W : Type 0} (state : W → SinkState) (path : List ℕ) (files : List Wad) (judging : Judging) (g : ℕ) (out out' : W) (verdict : Verdict)
     → SurveysLevel state path files judging g out out' (Ok verdict) → WritesLevel path files judging g (state out) (state out') (Ok verdict)
 level_told state path files judging g out out' verdict does = elim does [
-  | inl wants ↦ absurd (ok_is_no_err verdict wants.ended)
+  | inl left ↦ absurd (ok_is_no_err verdict left.wants.ended)
   | inr wrote ↦ wrote
 ]
   where
@@ -261,11 +262,11 @@ pub level_stopped : {W : Type 0} (state : W → SinkState) (path : List ℕ) (fi
     → ToldSoFar path files judging before (state out) from worst → (state out).failed ≡ false → IsNextStart (names files) from g
     → SurveysLevel state path files judging g out out' (Err why) → SurveysSome path files judging before (state out') (fault_after worst why)
 level_stopped state path files judging before from g worst out out' why so_far sound next does = elim does [
-  | inl wants ↦
-      let same : fault.Memory ≡ why = err_same why wants.ended in
+  | inl left ↦
+      let same : fault.Memory ≡ why = err_same why left.wants.ended in
       subst (λ w. SurveysSome path files judging before (state out') (fault_after worst w)) same
-      (subst (λ (o : _). SurveysSome path files judging before (state o) fault.Memory) (sym wants.untouched)
-      (stopped_before_line path files judging before (state out) from worst so_far sound))
+      (subst (λ (o : _). SurveysSome path files judging before (state o) fault.Memory) (sym left.wants.untouched)
+      (stopped_before_line path files judging before (state out) from g worst so_far sound next left.doom))
   | inr wrote ↦ stopped_in_line path files judging before (state out) (state out') from g worst why so_far next wrote
 ]
   where

@@ -21,7 +21,7 @@ use Rattle.wad_dir.specs.Wad.{IsRead, Wad}
 use Rattle.wad_lens.specs.Counts.{AreCounts}
 use Rattle.wad_lens.specs.FindingLine.{level_line}
 use Rattle.wad_lens.specs.FormatLine.{format_text}
-use Rattle.wad_lens.specs.Left.{LeavesFile, WantsMemory}
+use Rattle.wad_lens.specs.Left.{LeavesFile, LeavesLevel, WantsMemory}
 use Rattle.wad_lens.specs.LevelLines.{AreCounted, AreTold, judged_text}
 use Rattle.wad_lens.specs.Survey.{graver}
 use Rattle.wad_lens.specs.Totals.{format_totals, judged_totals, no_totals, totals_with, verdict_with}
@@ -115,7 +115,7 @@ pub record StopsWriting (asked : Asked) (files : List Wad) (before after : SinkS
   pub failed : after.failed ≡ true
   pub says : found ≡ graver (verdict_with asked.judging.warnings sum) (verdict_with asked.judging.warnings totals)
 
--- there was no memory to judge the level behind those that were told
+-- all levels before one of Doom's format were told, and there was no memory to judge it
 pub record StopsJudging (asked : Asked) (files : List Wad) (before after : SinkState) : Type 0 where
   pub from : ℕ
   pub text : List ℕ
@@ -123,6 +123,9 @@ pub record StopsJudging (asked : Asked) (files : List Wad) (before after : SinkS
   pub told : ToldTo asked files from text sum
   pub took : Appends before.taken after.taken text
   pub sound : after.failed ≡ false
+  pub g : ℕ
+  pub next : IsNextStart (names files) from g
+  pub doom : IsFormat files g Doom
 
 -- why not all levels were told
 abbrev pub ChecksSome : Asked → List Wad → SinkState → SinkState → FileFault → Type 0
@@ -149,9 +152,15 @@ pub record WritesText (warnings : Warnings) (Is : List ℕ → Totals → Type 0
   pub writes : Writes before after text outcome
   pub ended : result ≡ text_end warnings totals outcome
 
--- one of the two
-abbrev pub ChecksText : {W : Type 0} → (W → SinkState) → Warnings → (List ℕ → Totals → Type 0) → W → W → Result Totals FileFault → Type 0
-ChecksText state warnings Is out out' result = WantsMemory out out' result ⊎ WritesText warnings Is (state out) (state out') result
+-- the text of a level of Doom's format was written, or nothing was
+abbrev pub ChecksDoom : {W : Type 0} → (W → SinkState) → Asked → List Wad → ℕ → List ℕ → W → W → Result Totals FileFault → Type 0
+ChecksDoom state asked files g name out out' result =
+    WantsMemory out out' result ⊎ WritesText asked.judging.warnings (IsJudged asked files g name) (state out) (state out') result
+
+-- that of any level was, or nothing was
+abbrev pub ChecksLevel : {W : Type 0} → (W → SinkState) → Asked → List Wad → ℕ → W → W → Result Totals FileFault → Type 0
+ChecksLevel state asked files g out out' result =
+    LeavesLevel files g out out' result ⊎ WritesText asked.judging.warnings (IsLevelText asked files g) (state out) (state out') result
 
 -- the file's levels were checked
 pub record ChecksFile (asked : Asked) (bytes : List ℕ) (before after : SinkState) (result : Result Totals FileFault) : Type 0 where

@@ -1,6 +1,9 @@
 -- What isn't gone over (ours): a level that there is no memory to judge, and a file.
 use Rattle.std.specs.Prelude.{◌≡◌, ℕ, List, Result, Err}
+use Rattle.level_list.specs.Format.{IsFormat}
+use Rattle.level_list.specs.declared.format.Format.TheVariants.{Doom}
 use Rattle.wad_dir.specs.Refusal.{RefusesWad}
+use Rattle.wad_dir.specs.Wad.{Wad}
 use Rattle.wad_lens.specs.declared.verdict.FileFault.{FileFault}
 use Rattle.wad_lens.specs.declared.verdict.FileFault.TheVariants.{NoWad, Write, Memory}
 
@@ -8,6 +11,11 @@ use Rattle.wad_lens.specs.declared.verdict.FileFault.TheVariants.{NoWad, Write, 
 pub record WantsMemory {W T : Type 0} (out out' : W) (result : Result T FileFault) : Type 0 where
   pub ended : result ≡ Err Memory
   pub untouched : out' ≡ out
+
+-- there was none to judge the level at an entry, which is of Doom's format: no other takes any
+pub record LeavesLevel {W T : Type 0} (files : List Wad) (g : ℕ) (out out' : W) (result : Result T FileFault) : Type 0 where
+  pub doom : IsFormat files g Doom
+  pub wants : WantsMemory out out' result
 
 -- why a file isn't gone over: its bytes have no directory, or a growth was refused
 abbrev pub RefusesBytes : List ℕ → FileFault → Type 0

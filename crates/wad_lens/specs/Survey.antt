@@ -4,7 +4,7 @@ use Rattle.std.specs.Io.KnownBytes.{Appends}
 use Rattle.std.specs.List.{flat_map, slice_get}
 use Rattle.le_rec.specs.Sink.{SinkState}
 use Rattle.level_list.specs.Format.{IsFormat}
-use Rattle.level_list.specs.Starts.{LevelStartsAt}
+use Rattle.level_list.specs.Starts.{IsNextStart, LevelStartsAt}
 use Rattle.level_list.specs.declared.format.Format.{Format}
 use Rattle.level_list.specs.declared.format.Format.TheVariants.{Udmf, Incomplete, Hexen, Outside, Extended, Doom}
 use Rattle.line_io.specs.Writes.{TakesFront, Writes}
@@ -15,7 +15,7 @@ use Rattle.map_level.specs.Opening.{IsLevelAt}
 use Rattle.wad_dir.specs.Entries.{names}
 use Rattle.wad_dir.specs.Wad.{IsRead, Wad}
 use Rattle.wad_lens.specs.Counts.{AreCounts, fault_total}
-use Rattle.wad_lens.specs.Left.{LeavesFile, WantsMemory}
+use Rattle.wad_lens.specs.Left.{LeavesFile, LeavesLevel, WantsMemory}
 use Rattle.wad_lens.specs.Objects.{doom_members, level_members, other_members}
 use Rattle.wad_lens.specs.Warned.{AreAskedFor, Warned, warned_total, warned_verdict}
 use Rattle.wad_lens.specs.declared.judging.Judging.{Judging}
@@ -125,18 +125,26 @@ pub record StopsWriting (before after : SinkState) (told : List Told) (found : V
   pub failed : after.failed ≡ true
   pub says : found ≡ gravest told
 
--- how a survey stops: at a failed write within the line of the last of these levels, or where there is no memory to judge the next one
-abbrev pub StopsLines : SinkState → SinkState → List Told → FileFault → Type 0
-StopsLines before after told (Write found) = StopsWriting before after told found
-StopsLines before after told Memory = Appends before.taken after.taken (lines_of told) × (after.failed ≡ false)
-StopsLines before after told (NoWad why) = ⊥
+-- their lines were taken, and there was no memory to judge the next level, which is of Doom's format
+pub record StopsJudging (files : List Wad) (end : ℕ) (before after : SinkState) (told : List Told) : Type 0 where
+  pub took : Appends before.taken after.taken (lines_of told)
+  pub sound : after.failed ≡ false
+  pub g : ℕ
+  pub next : IsNextStart (names files) end g
+  pub doom : IsFormat files g Doom
+
+-- how a survey stops behind the levels below an entry: within the line of the last of them, or before the next one
+abbrev pub StopsLines : List Wad → ℕ → SinkState → SinkState → List Told → FileFault → Type 0
+StopsLines files end before after told (Write found) = StopsWriting before after told found
+StopsLines files end before after told Memory = StopsJudging files end before after told
+StopsLines files end before after told (NoWad why) = ⊥
 
 -- the levels up to some entry were told, and no others
 pub record SurveysSome (path : List ℕ) (files : List Wad) (judging : Judging) (before after : SinkState) (fault : FileFault) : Type 0 where
   pub end : ℕ
   pub told : List Told
   pub are : AreToldBelow path files judging end told
-  pub stops : StopsLines before after told fault
+  pub stops : StopsLines files end before after told fault
 
 -- a survey of all levels of some files
 pub record Surveys (path : List ℕ) (files : List Wad) (judging : Judging) (before after : SinkState) (result : Result Verdict FileFault) : Type 0 where
@@ -187,4 +195,4 @@ pub record WritesLevel (path : List ℕ) (files : List Wad) (judging : Judging) 
 -- or nothing was
 abbrev pub SurveysLevel : {W : Type 0} → (W → SinkState) → List ℕ → List Wad → Judging → ℕ → W → W → Result Verdict FileFault → Type 0
 SurveysLevel state path files judging g out out' result =
-    WantsMemory out out' result ⊎ WritesLevel path files judging g (state out) (state out') result
+    LeavesLevel files g out out' result ⊎ WritesLevel path files judging g (state out) (state out') result

@@ -6,7 +6,7 @@ ghost use Rattle.level_list.specs.Starts.{LevelStartsAt};
 ghost use Rattle.level_list.specs.declared.format.Format.TheVariants as format;
 ghost use Rattle.map_audit.specs.Findings.{AuditHolds};
 ghost use Rattle.wad_dir.specs.Entries.{names};
-ghost use Rattle.wad_lens.specs.Check.{asked_of, text_end, Checks, ChecksText, IsJudged, IsLevelText, IsSoundWideAlone, RunsCheck};
+ghost use Rattle.wad_lens.specs.Check.{asked_of, text_end, Checks, ChecksDoom, ChecksLevel, IsSoundWideAlone, RunsCheck};
 ghost use Rattle.wad_lens.specs.Counts.{AreCounts};
 
 use crate::counts::Counts;
@@ -91,7 +91,7 @@ fn check_level<A: Allocator + Copy, W: Sink>(
 ) -> Result<Totals, FileFault>
     requires starts { LevelStartsAt (names set.now) g }
     requires sound { (W.state out.old).failed ≡ false }
-    ensures { ChecksText W.state question.now.judging.warnings (IsLevelText (asked_of question.now) set.now g) out.old out.new result }
+    ensures { ChecksLevel W.state (asked_of question.now) set.now g out.old out.new result }
 {
     let heading = Heading {
         path: question.path,
@@ -119,7 +119,7 @@ fn check_doom<A: Allocator + Copy, W: Sink>(
     requires is { IsFormat set.now g format.Doom }
     requires path { heading.now.path.now ≡ question.now.path.now }
     requires sound { (W.state out.old).failed ≡ false }
-    ensures { ChecksText W.state question.now.judging.warnings (IsJudged (asked_of question.now) set.now g heading.now.name) out.old out.new result }
+    ensures { ChecksDoom W.state (asked_of question.now) set.now g heading.now.name out.old out.new result }
 {
     let judging = question.judging;
     let level = level_at(set, g, judging.reading);

@@ -3,7 +3,7 @@
 ghost use Rattle.demo_lens.specs.Laws.{AssembledIsDemo, AssembledListsAgain, ObjectIsRead, OneListing, SameOrDiffer};
 
 /// A difference is told only of demos that differ in their headers or commands.
-pub fn differing_demos_are_told()
+pub fn told_demos_differ()
     ensures { SameOrDiffer }
 {}
 

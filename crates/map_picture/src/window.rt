@@ -42,5 +42,5 @@ fn top(row: i16) -> i32
 fn span(low: i16, high: i16) -> i32
     ensures { result ≡ (high -ℤ low) +ℤ pos 64 }
 {
-    i32::from(high) - i32::from(low) + 64
+    i32::from(high) - i32::from(low) + 2 * MARGIN
 }

@@ -18,9 +18,7 @@ use line_io::TextLine;
 use map_level::links::{named, no_side};
 use map_level::{Code, Level};
 use map_tables::blocks_along;
-
-// The bit of a child word that says that it names an ssector (doomdata.h).
-const NF_SUBSECTOR: u16 = 0x8000;
+use map_tree::NF_SUBSECTOR;
 
 /// Puts what is wrong where a code holds at an index before the line; nothing where there is no such record.
 pub fn prepend_message(line: &mut TextLine, level: &Level<'_>, code: Code, index: u32)

@@ -15,8 +15,7 @@ ghost use Rattle.wadlook_c.specs.Prepared.{IsPrepared};
 use crate::points::{NOWHERE, WadlookPlace, WadlookPoint};
 use le_rec::{Node, Table};
 use map_geo::{Partition, Point, Side, side};
-
-const NF_SUBSECTOR: u16 = 0x8000;
+use map_tree::NF_SUBSECTOR;
 
 /// The ssector and the sector of a point, by the bytes of a level's nodes and by the sectors of its ssectors, as
 /// `wadlook_prepare` lists them. It may be handed any bytes and any numbers: where they are no sound level's, the answer

@@ -120,7 +120,7 @@ pub record RefusesList {W : Type 0} (held : List ℕ → Option (List ℕ)) (lef
   pub untouched : new ≡ old
   pub ended : result ≡ Err end.Refused
 
--- there was no memory for the list or the paths, and nothing was told
+-- there was no memory before anything was told
 pub record WantsMemory {W : Type 0} (old new : Output W) (errors errors' : SinkState) (result : Result Verdict End) : Type 0 where
   pub untouched : new ≡ old
   pub silent : errors' ≡ errors

@@ -55,7 +55,8 @@ impl From<AllocError> for DrawFault {
 }
 
 /// Writes the picture of a level, and answers whether the level has a fault: then it is drawn without cells. `NothingToDraw`
-/// and `Memory` come before anything is written. It takes at most twelve bytes a cell and some hundred a sector.
+/// and `Memory` come before anything is written. It takes the level's findings, and where there is no fault at most twelve bytes
+/// a cell, ten a seg and some hundred a sector.
 pub fn draw_level<A: Allocator + Copy, W: Sink>(
     alloc: A,
     level: &Level<'_>,

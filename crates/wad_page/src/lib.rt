@@ -24,7 +24,7 @@ use refusal::{exit_status, tell};
 #[repr(C)]
 #[derive(Drop)]
 pub struct Ended {
-    /// The program's status: 0 done, 1 a fault was found, 2 refused, 3 no memory, also where `out` is too small.
+    /// The program's status: 0 done, 1 a fault was found, 2 refused or not judged, 3 no memory, or no room in `out`.
     pub status: u8,
     /// How many bytes of `out` the answer has.
     pub answered: usize,

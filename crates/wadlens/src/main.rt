@@ -19,6 +19,7 @@ use lens_picture::run_picture;
 use lens_run::{End, Output, exit_status, run_assemble, run_compare, run_cut, run_job};
 use mistake::Mistake;
 use progress::Progress;
+use std::fmt::Display;
 use std::io::{IsTerminal, Write};
 use std::process::ExitCode;
 use std::rt::{Env, Files};
@@ -131,15 +132,18 @@ fn words_of<R: Env + Eprint + AllocGlobal>(rt: &R) -> Result<Vec<String>, End> {
 fn tell_mistake<R: Print + Eprint + AllocGlobal>(rt: &R, mistake: &Mistake) -> End {
     match mistake {
         Mistake::Words(error) => tell_words(rt, error),
-        Mistake::Told(text) => match usage(rt.alloc()) {
-            Ok(usage) => {
-                // Where standard error fails, nobody is left to be told.
-                let _ = rt.eprintln(format_args!("error: {text}\n\n{}", usage.as_str()));
-                End::Refused
-            }
-            Err(_) => End::Memory,
-        },
+        Mistake::Told(text) => tell_with_usage(rt, format_args!("error: {text}\n")),
     }
+}
+
+// Tells what is mistaken, and behind it how the words go.
+fn tell_with_usage<R: Eprint + AllocGlobal>(rt: &R, mistaken: impl Display + Drop) -> End {
+    let Ok(usage) = usage(rt.alloc()) else {
+        return End::Memory;
+    };
+    // Where standard error fails, nobody is left to be told.
+    let _ = rt.eprintln(format_args!("{mistaken}\n{}", usage.as_str()));
+    End::Refused
 }
 
 // Tells what is mistaken in the words, or the help or the version that they ask for.
@@ -147,14 +151,9 @@ fn tell_words<R: Print + Eprint + AllocGlobal>(rt: &R, error: &clap::Error) -> E
     match error.kind() {
         ErrorKind::OutOfMemory => End::Memory,
         // Their texts have no usage.
-        ErrorKind::InvalidValue | ErrorKind::ValueValidation => match usage(rt.alloc()) {
-            Ok(usage) => {
-                // Where standard error fails, nobody is left to be told.
-                let _ = rt.eprintln(format_args!("{error}\n{}", usage.as_str()));
-                End::Refused
-            }
-            Err(_) => End::Memory,
-        },
+        ErrorKind::InvalidValue | ErrorKind::ValueValidation => {
+            tell_with_usage(rt, format_args!("{error}"))
+        }
         _ => match error.print(rt) {
             Ok(()) if !error.use_stderr() => End::Told,
             Err(e) if !error.use_stderr() && e.kind() != io::ErrorKind::BrokenPipe => End::Output,

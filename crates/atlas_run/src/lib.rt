@@ -11,6 +11,5 @@ mod tell;
 
 pub use fault::{AtlasFault, FileFault};
 pub use folder::{Folder, FolderRefusal};
-pub use gather::Gathered;
 pub use job::{Asked, AtlasJob};
 pub use run::{run_atlas, write_atlas};

@@ -8,4 +8,3 @@ mod tell;
 mod words;
 
 pub use run::{LensFault, run_words};
-pub use words::{Asked, Word};

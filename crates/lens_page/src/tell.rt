@@ -11,7 +11,7 @@ use std::alloc::Allocator;
 use wad_lens::Refusal;
 
 /// A growth was refused, or an end failed.
-#[derive(Clone, Copy, Debug, PartialEq, Eq)]
+#[derive(Clone, Copy)]
 pub struct NoRoom;
 
 /// How many findings of a code are shown.

@@ -14,7 +14,7 @@ use wad_lens::{Judging, Warnings};
 use wad_look::after_wide;
 
 /// What is asked of files.
-#[derive(Clone, Copy, Debug, PartialEq, Eq)]
+#[derive(Clone, Copy)]
 pub enum Word {
     /// The findings, at most so many of one code in one level; 0: all. `None`: as many as where nothing is said.
     Check(Option<u64>),
@@ -27,7 +27,7 @@ pub enum Word {
 }
 
 /// What is asked of files, and how their levels are judged.
-#[derive(Clone, Copy, Debug, PartialEq, Eq)]
+#[derive(Clone, Copy)]
 pub struct Asked {
     pub word: Word,
     pub judging: Judging,

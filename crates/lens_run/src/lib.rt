@@ -20,13 +20,12 @@ pub use compare::run_compare;
 pub use cut::{run_cut, write_cut_line};
 pub use demos::DemoForm;
 pub use end::{End, exit_status, status};
-pub use files::{ReadFault, Storage, read_file, read_whole};
+pub use files::{ReadFault, Storage, read_file};
 pub use job::Job;
 pub use output::Output;
 pub use paths::all_paths;
 pub use run::{output_end, read_list, run_job, write_last, write_rest};
 pub use tell::{
-    Asked, BytesFault, SHOWN, Stop, Tally, Word, no_tally, tell_bytes, tell_paths, tell_refusal,
-    write_refusal,
+    Asked, BytesFault, SHOWN, Stop, Tally, Word, no_tally, tell_bytes, tell_refusal, write_refusal,
 };
 pub use watch::{Unwatched, Watch};

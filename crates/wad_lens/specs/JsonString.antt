@@ -1,4 +1,4 @@
--- Strings of JSON (RFC 8259, section 7), and members of objects.
+-- Strings of JSON (RFC 8259, section 7), and its two truth values.
 use Rattle.std.specs.Prelude.{ℕ, ◌/◌, ◌%◌, Bool, true, false, ◌==◌, ◌||◌, nat_lt, List, length, [], ◌∷◌, ◌++◌, codes, if◌then◌else◌}
 use Rattle.std.specs.List.{flat_map}
 use Rattle.std.specs.Str.Lossy.{utf8_lossy, replacement_bytes}
@@ -29,10 +29,6 @@ replaced invalid = if length invalid == 0 then [] else replacement_bytes
 -- bytes as a string: their text, with U+FFFD for each sequence that isn't UTF-8, in quotes
 abbrev pub json_string : List ℕ → List ℕ
 json_string bytes = 34 ∷ (escaped (utf8_lossy bytes) ++ 34 ∷ [])
-
--- a name of a member and what stands before its value: `"name":`
-abbrev pub key : List ℕ → List ℕ
-key name = 34 ∷ (name ++ codes "\":")
 
 -- true or false
 abbrev pub bool_text : Bool → List ℕ

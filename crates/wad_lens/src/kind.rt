@@ -8,7 +8,7 @@ use line_io::TextLine;
 use map_level::Code;
 
 /// What a code is found at.
-#[derive(Clone, Copy, Debug, PartialEq, Eq)]
+#[derive(Clone, Copy)]
 pub enum Kind {
     Linedef,
     Sidedef,

@@ -13,14 +13,14 @@ use line_io::TextLine;
 use map_level::{Code, Level};
 
 /// A place on the map, in map units.
-#[derive(Clone, Copy, Debug, PartialEq, Eq)]
+#[derive(Clone, Copy)]
 pub struct Spot {
     pub x: i16,
     pub y: i16,
 }
 
 /// Where on the map a finding lies.
-#[derive(Clone, Copy, Debug, PartialEq, Eq)]
+#[derive(Clone, Copy)]
 pub enum Place {
     /// It isn't known.
     Nowhere,

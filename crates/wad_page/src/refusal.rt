@@ -5,12 +5,11 @@ ghost use Rattle.wad_page.specs.Refusal.{exit_status_of, page_end, reason_text, 
 
 use memory_ends::hand_out;
 use std::alloc::{AllocError, Allocator};
-use std::error::Error;
 use std::fmt;
 use wad_look::{RunFault, status};
 
 /// Why there is no answer.
-#[derive(Clone, Copy, Debug, PartialEq, Eq)]
+#[derive(Clone, Copy)]
 pub enum Refusal {
     /// The words are no form of a command, or there aren't as many files as they name.
     Usage,
@@ -28,8 +27,6 @@ impl fmt::Display for Refusal {
         }
     }
 }
-
-impl Error for Refusal {}
 
 impl From<AllocError> for Refusal {
     ghost use Rattle.wad_look.specs.declared.fault.RunFault.TheVariants.{Memory};

@@ -7,7 +7,7 @@ use thiserror::Error;
 use wad_look::{RunFault, status};
 
 /// Why the program refused.
-#[derive(Clone, Copy, Debug, PartialEq, Eq, Error)]
+#[derive(Clone, Copy, Debug, Error)]
 pub enum Refusal {
     /// The words are no form of a command.
     #[error("usage")]

@@ -18,6 +18,19 @@ module _ (cell : ℕ → ℕ → Option ℕ) where
     ]
   ]
 
+  -- from a column up to another all show the sector, and the cells on the left and behind don't: so the run has that length, and no other
+  pub run-told : (s i j end : ℕ) → i < end → ((c : ℕ) → i ≤ c → c < end → cell c j ≡ Some s) → (cell end j ≡ Some s → ⊥)
+      → (0 < i → cell (i - 1) j ≡ Some s → ⊥) → (n : ℕ) → (Some (end - i) ≡ Some n) ↔ IsRun cell s i j n
+  run-told s i j end some all stops left n =
+      let at : i + (end - i) ≡ end = omega (arith, some) in
+      let run : IsRun cell s i j (end - i) = record {
+        some = omega (arith, some);
+        all = λ c from to. all c from (omega (arith, to, at));
+        left = left;
+        right = subst (λ c. cell c j ≡ Some s → ⊥) (sym at) stops;
+      } in
+      ((λ e. subst (IsRun cell s i j) (some_inj (end - i) n e) run), (λ other. ap Some (run-same s i j (end - i) n run other)))
+
   -- a run of n columns from i on that rows j to j + k - 1 all have, and the rows around them don't
   pub record Spans (s i j n k : ℕ) : Type 0 where
     pub some : 0 < k

@@ -5,6 +5,7 @@ use Rattle.std.specs.Prelude.{option_and_then}
 use Rattle.std.specs.List.{slice_get}
 use Rattle.std.proofs.lemmas.Bool.{cases_lt, lt-ltb, le-ltb}
 use Rattle.std.proofs.lemmas.List.{append_assoc, append-nil, length-append}
+use Rattle.std.proofs.lemmas.Nat.{row_fits}
 use Rattle.std.proofs.lemmas.Option.{slice_get_past}
 use Rattle.map_level.specs.Level.{Level}
 use Rattle.map_cells.specs.Grid.{Grid, columns_of, rows_of, cell_x, cell_y}
@@ -163,5 +164,13 @@ pub cell_place : (cells : Cells) (columns rows i j : ℕ) → IsWhole cells → 
     → i < columns → j < rows → j * columns + i < length cells.shown
 cell_place cells columns rows i j whole wide high column row =
     let within = place_below columns rows i j column row in
+    let all : rows * columns ≡ rows_of cells.grid * columns_of cells.grid = ap (λ a. a * columns) high ∙ ap (λ b. rows_of cells.grid * b) wide in
+    omega (arith, within, all, whole.long)
+
+-- and a whole row of them is there
+pub row_place : (cells : Cells) (columns rows j : ℕ) → IsWhole cells → columns ≡ columns_of cells.grid → rows ≡ rows_of cells.grid
+    → j < rows → j * columns + columns ≤ length cells.shown
+row_place cells columns rows j whole wide high row =
+    let within : j * columns + columns ≤ rows * columns = row_fits j columns rows columns row (omega arith) in
     let all : rows * columns ≡ rows_of cells.grid * columns_of cells.grid = ap (λ a. a * columns) high ∙ ap (λ b. rows_of cells.grid * b) wide in
     omega (arith, within, all, whole.long)

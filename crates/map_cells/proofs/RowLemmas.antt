@@ -1,7 +1,7 @@
 -- The points of a row between two of its columns.
-use Rattle.std.proofs.Common.{◌≡◌, ◌∙◌, sym, ap, ℕ, ◌+◌, ◌*◌, ◌<◌, ◌≤◌, ℤ, pos, ◌-ℤ◌, ◌*ℤ◌, ◌≤ℤ◌, ◌<ℤ◌, Bool, true, false, refl, arith}
+use Rattle.std.proofs.Common.{◌≡◌, ◌∙◌, sym, ap, ℕ, ◌+◌, ◌*◌, ◌<◌, ◌≤◌, ℤ, pos, ◌+ℤ◌, ◌-ℤ◌, ◌*ℤ◌, ◌≤ℤ◌, ◌<ℤ◌, Bool, true, false, FitsSigned, to_z, of_z, w16, w32, refl, arith}
 use Rattle.std.proofs.Math.Nat.{mul-le-mul_right}
-use Rattle.std.proofs.lemmas.Int.{ints, by_lt_z}
+use Rattle.std.proofs.lemmas.Int.{ints, by_lt_z, to_z-of_z}
 use Rattle.std.specs.Prelude.{int_lt}
 use Rattle.map_geo.proofs.AlongLemmas.{sides_along_rows}
 use Rattle.map_geo.proofs.ProductLemmas.{mul-lt_negative, mul-lt_positive}
@@ -13,6 +13,28 @@ use Rattle.map_cells.specs.Grid.{Grid, columns_of, rows_of, cell_x, cell_y}
 use Rattle.map_cells.specs.Row.{IsRowInRange, Row, point_of, row_at}
 use Rattle.map_cells.specs.Shown.{cross}
 use Rattle.map_cells.specs.declared.ends.Ends.{Ends}
+
+-- where the cells begin and how far a middle lies behind it, added as the code reads both: the sum fits, and is the point's coordinate
+module _ (start begin from middle : ℤ) (far : ℕ) (fits : FitsSigned w16 begin) (begin_is : begin ≡ start)
+    (read : from ≡ to_z w16 (of_z w16 begin)) (middle_is : middle ≡ pos far) (few : middle ≤ℤ pos 67108864) where
+  from_is : from ≡ begin
+  from_is = read ∙ to_z-of_z w16 begin fits
+
+  from_fits : FitsSigned w32 from
+  from_fits = rw from_is (omega (arith, ints, fits))
+
+  middle_fits : FitsSigned w32 middle
+  middle_fits = omega (arith, ints, middle_is, few)
+
+  pub point_fits : FitsSigned w32 (to_z w32 (of_z w32 from) +ℤ to_z w32 (of_z w32 middle))
+  point_fits = let f = from_fits in let m = middle_fits in simp to_z-of_z (rw from_is (omega (arith, ints, fits, middle_is, few)))
+
+  pub point_read : to_z w32 (of_z w32 (to_z w32 (of_z w32 from) +ℤ to_z w32 (of_z w32 middle))) ≡ start +ℤ pos far
+  point_read = let f = from_fits in let m = middle_fits in to_z-of_z w32 _ point_fits ∙ simp to_z-of_z (rw (from_is, begin_is, middle_is) refl)
+
+-- a coordinate in range is what the code reads of it
+pub read_in_range : (z at : ℤ) → z ≡ at → IsInRange at → to_z w32 (of_z w32 z) ≡ at
+read_in_range z at e h = let fits : FitsSigned w32 at = omega (arith, ints, h.least, h.greatest) in rw e (to_z-of_z w32 at fits)
 
 -- columns come one after another
 pub cell_x-ordered : (grid : Grid) (i k : ℕ) → i ≤ k → cell_x grid i ≤ℤ cell_x grid k

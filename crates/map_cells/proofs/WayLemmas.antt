@@ -190,6 +190,12 @@ pending_few level row from end (part ∷ parts) lead =
     let fewer = pending_few level row from lead.1 parts lead.4 in
     omega (arith, fewer, lead.2)
 
+-- where nothing is pending no column is left
+pub pending_none : (level : Level) (row : Row) (from end : ℕ) (parts : List Part) → (0 < length parts → ⊥) → ArePending level row from end parts
+    → from ≡ end
+pending_none level row from end [] none e = e
+pending_none level row from end (part ∷ parts) none lead = absurd (none (omega arith))
+
 pub pending_pop : (level : Level) (row : Row) (from end : ℕ) (parts : List Part) (part : Part)
     → ArePending level row from end (parts ++ part ∷ [])
     → (from < part.end) × (part.end ≤ end) × AllCome level row from part.end part.word × ArePending level row part.end end parts

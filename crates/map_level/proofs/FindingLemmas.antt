@@ -1,9 +1,9 @@
 -- Facts about findings: the order of codes, and the findings so far as a search goes on.
 use Rattle.std.proofs.Common.{◌≡◌, ℕ, suc, zero, ◌+◌, ◌<◌, ◌≤◌, ◌⊎◌, inl, inr, List, [], ◌∷◌, ◌++◌, length, get_or, refl, sym, ap, ◌∙◌, subst, arith}
-use Rattle.std.specs.Prelude.{Contains}
+use Rattle.std.specs.Prelude.{◌↔◌, Bool, true, false, Contains, IsTrue}
 use Rattle.std.proofs.lemmas.List.Quantifiers.{all_pairs_push}
 use Rattle.std.proofs.lemmas.List.Elements.{Contains-push, Contains-push_cases, Contains-append_left, Contains-get_or}
-use Rattle.std.proofs.lemmas.Bool.{cases_eq, cases_lt}
+use Rattle.std.proofs.lemmas.Bool.{cases_eq, cases_lt, iff_false}
 use Rattle.map_level.specs.declared.finding.Code.{Code}
 use Rattle.map_level.specs.declared.finding.Code.TheVariants.{F1, F2, F3, F4, F5, F6, F7, F8, F9, F10, F11, F12, F13, F14, F15, F16, F17, F18, N1, N2, N3, N4, N5, N6, N7, N8, N9, N10, N11, N12}
 use Rattle.map_level.specs.declared.finding.Finding.{Finding}
@@ -173,16 +173,20 @@ found_code holds found c n before all =
       );
     }
 
--- none are found before the first code
-pub found_none : (holds : Code → ℕ → Type 0) → AreFindingsBelow holds 0 0 []
-found_none holds = record {
-  ascending = λ i j d below within. absurd (omega (arith, within));
-  exact = λ h. ((λ there. absurd (omega (arith, there.1))), (λ told. absurd (elim told.1 [ inl less ↦ omega (arith, less) | inr same ↦ omega (arith, same.1) ])));
-}
-
 -- after the last code
 pub found_all : (holds : Code → ℕ → Type 0) (found : List Finding) → AreFindingsBelow holds CODE_COUNT 0 found → AreFindings holds found
 found_all holds found before = record {
   ascending = before.ascending;
   exact = λ h. ((λ there. ((before.exact h).0 there).0), (λ told. (before.exact h).1 (told, inl (rank-below h.code))));
 }
+
+-- a test of the first of two things that answers true is one of either
+pub by_first : {P Q : Type 0} {a : Bool} → (IsTrue a ↔ P) → a ≡ true → IsTrue a ↔ (P ⊎ Q)
+by_first first so = ((λ is. inl (first.0 is)), (λ either. so))
+
+-- and where it answers false, a test of the second is one of either
+pub by_second : {P Q : Type 0} {a b : Bool} → (IsTrue a ↔ P) → a ≡ false → (IsTrue b ↔ Q) → IsTrue b ↔ (P ⊎ Q)
+by_second first not_so second = (
+  (λ is. inr (second.0 is)),
+  (λ either. elim either [ inl here ↦ absurd (iff_false first not_so here) | inr there ↦ second.1 there ]),
+)

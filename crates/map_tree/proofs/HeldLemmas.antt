@@ -217,6 +217,10 @@ added_leaf new old was a r n h k = omega arith
 measure_leaf : (a r k : ℕ) → 2 * r + k < 2 * (a + r) + suc k
 measure_leaf a r k = omega arith
 
+-- a piece that is counted leaves less to do
+pub less-leaf : (size : Place → ℕ) (p : Piece) (rest : List Piece) → measure size rest < measure size (p ∷ rest)
+less-leaf size p rest = measure_leaf _ _ _
+
 module _ (level : Level) (size : Place → ℕ) (rect : Rect) (sized : IsSized level size) where
   length-area : (ps : List Piece) → Each (IsGood level) ps → length ps ≤ total area ps
   length-area [] good = omega arith
@@ -397,6 +401,3 @@ module _ (level : Level) (size : Place → ℕ) (rect : Rect) (sized : IsSized l
       added = added_leaf _ _ _ _ _ _ (sum_by-set (λ x. x) counts k (get_or counts k 0 + area p) 0 within_counts) held.added;
       counted = λ sector are s. counted_leaf counts s k (rows_of p.rect) (columns_of p.rect) (plain sector s p) _ _ within_counts (plain-full sector s p.rect k (area_from_rect p.rect held.good.0.valid) (all_there sector are)) (held.counted sector are s);
     }
-
-    pub less-leaf : measure size rest < measure size (p ∷ rest)
-    less-leaf = measure_leaf _ _ _

@@ -1,5 +1,5 @@
 -- The sectors whose number is above 0.
-use Rattle.std.proofs.Common.{ℕ, ◌+◌, ◌<◌, ◌≡◌, ◌≢◌, inl, inr, refl, sym, ap, ◌∙◌, subst, List, [], ◌∷◌, ◌++◌, length, get_or, set, map, arith}
+use Rattle.std.proofs.Common.{ℕ, zero, suc, ◌+◌, ◌<◌, ◌≡◌, ◌≢◌, inl, inr, refl, sym, ap, ◌∙◌, subst, List, [], ◌∷◌, ◌++◌, length, get_or, set, map, replicate, arith}
 use Rattle.std.specs.List.{All, Contains}
 use Rattle.std.specs.List.Sorted.{IsPermutation, IsNonDecreasing}
 use Rattle.std.proofs.Math.Dec.{eqb}
@@ -7,7 +7,7 @@ use Rattle.std.proofs.Math.ListN.{get_or-eq_default}
 use Rattle.std.proofs.lemmas.Bool.{cases_eq, cases_lt}
 use Rattle.std.proofs.lemmas.Bool.Decides.{Decides-eqb, eqb_tells}
 use Rattle.std.proofs.lemmas.List.{get_or_default, get_or-set_same, get_or-set_other, get_or-map, length-map}
-use Rattle.std.proofs.lemmas.List.Elements.{All-map, All-push, Contains-push, Contains-append_left}
+use Rattle.std.proofs.lemmas.List.Elements.{All-map, All-nil, All-push, Contains-push, Contains-append_left}
 use Rattle.std.proofs.lemmas.List.Quantifiers.{all_pairs_push}
 use Rattle.std.proofs.lemmas.List.Sorted.{All-permutation, Contains-permutation}
 use Rattle.std.proofs.lemmas.List.Kept.{AllPairs-from_increasing}
@@ -15,6 +15,24 @@ use Rattle.std.proofs.lemmas.Map.Keys.{IsDistinct-IsPermutation, IsStrictlyIncre
 use Rattle.std.proofs.lemmas.Map.Made.{AllPairs-from_IsDistinct, IsDistinct-from_AllPairs}
 use Rattle.map_tree.specs.Counts.{ArePairs}
 use Rattle.map_tree.specs.Touched.{Touches}
+
+-- a list of one value has it at each place, as one past its end is read, too
+pub get_or-alike : {X : Type 0} (n i : ℕ) (x : X) → get_or (replicate n x) i x ≡ x
+get_or-alike zero i x = refl
+get_or-alike (suc n) zero x = refl
+get_or-alike (suc n) (suc i) x = get_or-alike n i x
+
+-- no number of so many zeros is above 0
+none_above : (n s : ℕ) → 0 < get_or (replicate n 0) s 0 → ⊥
+none_above n s above = omega (arith, above, get_or-alike {X = ℕ} n s 0)
+
+-- of numbers that are all 0 none is listed
+pub Touches-none : (n : ℕ) → Touches (replicate n 0) []
+Touches-none n = record {
+  some = All-nil _;
+  once = λ i j d h k. absurd (omega arith);
+  each = λ s above. absurd (none_above n s above);
+}
 
 -- a sector with a number above 0 has a place in the list
 pub touched_within : (numbers : List ℕ) (s : ℕ) → 0 < get_or numbers s 0 → s < length numbers

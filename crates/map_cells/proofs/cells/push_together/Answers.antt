@@ -1,11 +1,12 @@
-use Rattle.std.proofs.Common.{◌++◌, [], ◌∷◌, List, sym, subst, arith}
+use Rattle.std.proofs.Common.{◌≡◌, ◌++◌, [], ◌∷◌, List, sym, subst, arith}
+use Rattle.std.proofs.lemmas.Bool.{false≢true}
 use Rattle.map_level.specs.Level.{Level}
-use Rattle.map_cells.specs.Cells.{GoesOn}
+use Rattle.map_cells.specs.Cells.{AddsRow, GoesOn}
 use Rattle.map_cells.specs.Grid.{columns_of}
 use Rattle.map_cells.specs.Way.{AllCome, ArePending}
 use Rattle.map_cells.specs.declared.way.Part.{Part}
 use Rattle.map_cells.proofs.CellLemmas.{AddsRow-none}
-use Rattle.map_cells.proofs.WayLemmas.{come_start, pending_pop}
+use Rattle.map_cells.proofs.WayLemmas.{come_start, pending_none, pending_pop}
 use Rattle.map_cells.proofs.cells.push_together.Goals as goal
 
 pub loop-from-init : goal.loop-from-init
@@ -45,3 +46,23 @@ loop-from-preserved-in-Some g c =
           c.level-level.ensures.is c.in_ok-push_run.ensures) c.args.seen.now c.loop-from.invariant.added;
       rest = λ some. (next.0, next.1, next.2, next.3);
     }
+
+pub loop-from-preserved : goal.loop-from-preserved
+loop-from-preserved g c =
+    let columns = columns_of c.args.row.grid in
+    let run = c.go_down-run.result in
+    let last =
+    pending_none c.level-level.result.now c.args.row run.end columns _ (λ some. false≢true (c.in_default.ensures.variant.1 some))
+    c.go_down-run.ensures.pending in
+    record {
+      within = c.go_down-run.ensures.within;
+      added = (subst (λ (level : Level). GoesOn level c.args.row c.loop-from.from run.end c.loop-from.seen c.push_run.new.seen)
+          c.level-level.ensures.is c.in_ok-push_run.ensures) c.args.seen.now c.loop-from.invariant.added;
+      rest = λ some. absurd (omega (arith, last, some));
+    }
+
+pub returns : goal.returns
+returns g c =
+    let at : c.loop-from.from ≡ columns_of c.args.row.grid =
+    omega (arith, c.columns.ensures.value, c.loop-from.invariant.within, c.loop-from-test.false) in
+    subst (λ n. AddsRow c.args.shown.now c.args.row.grid c.args.row.j n c.args.seen.now c.loop-from.seen) at c.loop-from.invariant.added

@@ -1,10 +1,10 @@
-use Rattle.std.proofs.Common.{◌+◌, length-set, get_or, set, refl, ◌∙◌, arith}
+use Rattle.std.proofs.Common.{◌+◌, ◌∷◌, length-set, reverse, get_or, set, refl, ◌∙◌, arith}
 use Rattle.std.proofs.Math.Facts.{Fits-lt-pow}
 use Rattle.std.proofs.lemmas.List.{length-reverse}
 use Rattle.map_tree.specs.declared.pieces.Piece.{Piece}
 use Rattle.map_tree.proofs.Sizes.{size_of}
-use Rattle.map_tree.proofs.HeldLemmas.{sized-from_sound, Held-start}
-use Rattle.map_tree.proofs.TurnLemmas.{pushed, sum_zeros, tests_fit, most_fits, done, sector_in, some_points, leaf_fits, turn-leaf, turn-down, turn-apart, turn-pushed, fewer-down, fewer-apart}
+use Rattle.map_tree.proofs.HeldLemmas.{sized-from_sound, Held-start, less-leaf}
+use Rattle.map_tree.proofs.TurnLemmas.{pushed, sum_zeros, tests_fit, most_fits, done, is_word, ssector_in, sector_in, some_points, leaf_fits, turn-leaf, turn-down, turn-apart, turn-pushed, fewer-down, fewer-apart}
 use Rattle.map_tree.proofs.census.tally.Goals as goal
 
 pub loop-next-init : goal.loop-next-init
@@ -14,6 +14,12 @@ loop-next-init g c =
       held = rw c.clear.ensures.items (Held-start c.args.level.now (size_of c.args.level.now) c.args.rect sized c.start-hand.result c.args.counts.now c.start-hand.ensures.rect c.start-hand.ensures.word c.start-hand.ensures.valid (sum_zeros c.args.counts.now c.requires.fresh.zeros) c.requires.fresh.zeros);
       long = refl;
     }
+
+pub step-requires : goal.step-requires
+step-requires g c =
+    let level = c.args.level.now in
+    let sized = sized-from_sound level c.requires.sound in
+    rw c.nodes-nodes.ensures.is (is_word level (size_of level) c.args.rect sized c.start-hand.ensures.valid c.loop-next.hand _ _ _ _ c.loop-next.invariant.held)
 
 pub overflow_add-tests : goal.overflow_add-tests
 overflow_add-tests g c =
@@ -28,6 +34,14 @@ overflow_add-tests-in-Apart g c =
     let valid = c.start-hand.ensures.valid in
     let step = rw c.nodes-nodes.ensures.is at c.in-Apart.ensures in
     tests_fit c.args.level.now (size_of c.args.level.now) c.args.rect sized valid _ _ _ _ (turn-apart c.args.level.now (size_of c.args.level.now) c.args.rect sized valid c.loop-next.hand _ _ _ _ c.loop-next.invariant.held c.in-Apart.halves step)
+
+pub bounds-sectors-from : goal.bounds-sectors-from
+bounds-sectors-from g c =
+    let level = c.args.level.now in
+    let sized = sized-from_sound level c.requires.sound in
+    let leaf = c.in-AtSsector.ensures in
+    rw (c.from.ensures, leaf.1, c.requires.listed.long)
+    (ssector_in level (size_of level) c.args.rect sized c.start-hand.ensures.valid c.loop-next.hand _ _ _ _ c.loop-next.invariant.held leaf.0)
 
 pub add-requires-clause-within : goal.add-requires-clause-within
 add-requires-clause-within g c =
@@ -96,6 +110,11 @@ loop-next-preserved-in_ok-push-in-Apart g c =
       held = rw grown (turn-pushed c.args.level.now (size_of c.args.level.now) c.args.rect sized c.start-hand.ensures.valid c.loop-next.hand _ _ _ _ c.loop-next.invariant.held c.in-Apart.halves c.len.result c.max-most.result step c.max-most.ensures (omega (arith, length-reverse {A = Piece} c.loop-next.pending.items, c.loop-next.pending.ok.0, c.len.ensures, c.in_ok-push-in-Apart.ensures.len)));
       long = c.loop-next.invariant.long;
     }
+
+pub loop-next-smaller : goal.loop-next-smaller
+loop-next-smaller g c =
+    let popped = pushed c.take_newest.new.pending.items c.loop-next.pending.items c.in-Some.next c.in-Some.ensures.some in
+    rw popped (less-leaf (size_of c.args.level.now) c.loop-next.hand (c.in-Some.next ∷ reverse c.take_newest.new.pending.items))
 
 pub loop-next-preserved : goal.loop-next-preserved
 loop-next-preserved g c =

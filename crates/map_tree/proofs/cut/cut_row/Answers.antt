@@ -27,6 +27,20 @@ last_column-column-requires-clause-right c =
 next_to : (y b : ℤ) → y <ℤ b → (y +ℤ pos 1) ≤ℤ b
 next_to y b h = omega (arith, ints)
 
+-- what is not above a number is not above the next
+then_next : (a y : ℤ) → a ≤ℤ y → a ≤ℤ (y +ℤ pos 1)
+then_next a y h = omega (arith, ints)
+
+pub columns_from-requires-clause-from : goal.columns_from-requires-clause-from
+columns_from-requires-clause-from c =
+    let valid = c.x0-left.ensures.valid in
+    let left : FitsSigned w32 c.x0-left.result = rw c.x0-left.ensures.value (in_fits _ valid.columns.first_in) in
+    let right : FitsSigned w32 c.x1-right.result = rw c.x1-right.ensures.value (in_fits _ valid.columns.last_in) in
+    let last = rw (c.x0-left.ensures.value, c.x1-right.ensures.value) at (simp to_z-of_z at c.last_column-column.ensures) in
+    let column = between_fits _ _ _ valid.columns.first_in valid.columns.last_in last.from last.below in
+    let next = next_fits _ _ _ valid.columns.first_in valid.columns.last_in last.from last.below in
+    simp to_z-of_z (then_next _ _ last.from)
+
 pub columns_from-requires-clause-to : goal.columns_from-requires-clause-to
 columns_from-requires-clause-to c =
     let valid = c.x0-left.ensures.valid in

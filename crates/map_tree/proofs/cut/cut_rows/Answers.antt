@@ -14,6 +14,21 @@ fits y h = omega (arith, ints, h.least, h.greatest)
 next_within : (b : Rect) (y : ℤ) → IsMiddleRow b y → (y +ℤ pos 1) ≤ℤ b.y1
 next_within b y m = omega (arith, ints, m.more, m.middle.lower)
 
+-- the row after the middle one is not below the first
+next_from_first : (b : Rect) (y : ℤ) → IsMiddleRow b y → b.y0 ≤ℤ (y +ℤ pos 1)
+next_from_first b y m = omega (arith, ints, m.more, m.middle.upper)
+
+pub overflow_add-y : goal.overflow_add-y
+overflow_add-y c =
+    let y = fits _ c.middle_row-y.ensures.in_range in
+    simp to_z-of_z (next_fits _ c.middle_row-y.ensures.in_range)
+
+pub rows_from-requires-clause-from : goal.rows_from-requires-clause-from
+rows_from-requires-clause-from c =
+    let y = fits _ c.middle_row-y.ensures.in_range in
+    let n = next_fits _ c.middle_row-y.ensures.in_range in
+    simp to_z-of_z (next_from_first _ _ c.middle_row-y.ensures.middle)
+
 pub rows_from-requires-clause-to : goal.rows_from-requires-clause-to
 rows_from-requires-clause-to c =
     let y = fits _ c.middle_row-y.ensures.in_range in

@@ -1,8 +1,11 @@
 use Rattle.std.proofs.Common.{◌≡◌, refl, subst, arith}
 use Rattle.map_cells.specs.Cells.{Cells}
 use Rattle.map_cells.specs.Grid.{rows_of}
-use Rattle.map_cells.proofs.CellLemmas.{AreRows, AreRows-more, AreCells-all}
+use Rattle.map_cells.proofs.CellLemmas.{AreRows, AreRows-none, AreRows-more, AreCells-all}
 use Rattle.map_cells.proofs.cells.Cells.of.Goals as goal
+
+pub loop-j-init : goal.loop-j-init
+loop-j-init g c = rw c.in_ok-seen.ensures (AreRows-none c.args.shown.now c.args.grid)
 
 pub loop-j-preserved : goal.loop-j-preserved
 loop-j-preserved g c =

@@ -3,11 +3,21 @@ use Rattle.std.proofs.Math.Seq.{take-append_seam}
 use Rattle.std.proofs.lemmas.List.{length-map}
 use Rattle.map_cells.specs.Cells.{cell}
 use Rattle.map_cells.specs.Groups.{AreBlocksBefore}
-use Rattle.map_cells.proofs.GroupLemmas.{before-all}
+use Rattle.map_cells.proofs.GroupLemmas.{before-all, before-none}
 use Rattle.map_cells.proofs.groups.Groups.of.Goals as goal
+
+pub loop-j-init : goal.loop-j-init
+loop-j-init g c = record {
+  before = before-none (cell c.args.cells.now) _ c.in_ok-lists.ensures.none;
+  few = omega (arith, c.in_ok-lists.ensures.long, c.sector_bound.ensures.few);
+  bound = λ i j s shows. omega (arith, c.in_ok-lists.ensures.long, c.sector_bound.ensures.bound i j s shows);
+}
 
 pub add_row-requires-clause-before : goal.add_row-requires-clause-before
 add_row-requires-clause-before g c = rw c.deref_mut.ensures.value c.loop-j.invariant.before
+
+pub add_row-requires-clause-bound : goal.add_row-requires-clause-bound
+add_row-requires-clause-bound g c = rw c.deref_mut.ensures.value c.loop-j.invariant.bound
 
 pub loop-j-preserved : goal.loop-j-preserved
 loop-j-preserved g c =

@@ -1,12 +1,13 @@
-use Rattle.std.proofs.Common.{◌≡◌, ◌≤◌, ℕ, ap, ◌∙◌, length, arith, rules}
+use Rattle.std.proofs.Common.{◌≡◌, ◌≤◌, ℕ, ap, subst, ◌∙◌, length, arith, rules}
 use Rattle.le_rec.specs.declared.records.Node.{Node}
 use Rattle.le_rec.specs.Table.{Rows}
 use Rattle.map_level.specs.Level.{Level}
 use Rattle.map_tree.specs.Child.{node_count}
 use Rattle.map_tree.specs.Leaf.{IsLeaf}
+use Rattle.map_tree.specs.Sound.{IsSound}
 use Rattle.map_tree.proofs.EachLemmas.{all_of_four, each_of_four, each_through}
 use Rattle.map_tree.proofs.SoundLemmas.{few_nodes}
-use Rattle.map_tree.proofs.DescentLemmas.{GoesDown, down_turn, down_arrives, down_leaf}
+use Rattle.map_tree.proofs.DescentLemmas.{GoesDown, down_start, down_word, down_turn, down_arrives, down_leaf}
 use Rattle.map_tree.proofs.tree.Tree.leaves.Goals.{else-turns-test, then-turns-test+then-min-ge-NF_SUBSECTOR}
 use Rattle.map_tree.proofs.tree.Tree.leaves.Goals as goal
 
@@ -16,6 +17,25 @@ root_word-root-requires c =
       c.len.ensures,
       c.nodes-nodes.ensures.is,
     ) (few_nodes c.self.inside.level.now c.self.invariant)
+
+pub turns-init : goal.turns-init
+turns-init c =
+    let sound = subst IsSound c.self.view_is c.self.invariant in
+    let nodes = c.nodes-nodes.ensures.is ∙ ap (λ (level : Level). level.nodes) c.self.view_is in
+    let root = rw (c.len.ensures, nodes) at c.root_word-root.ensures in
+    (down_start _ _ _ sound root, down_start _ _ _ sound root, down_start _ _ _ sound root, down_start _ _ _ sound root)
+
+pub word_below-a-requires : goal.word_below-a-requires
+word_below-a-requires c = rw (c.nodes-nodes.ensures.is ∙ ap (λ (level : Level). level.nodes) c.self.view_is) (down_word _ _ _ _ c.turns.invariant.0)
+
+pub word_below-b-requires : goal.word_below-b-requires
+word_below-b-requires c = rw (c.nodes-nodes.ensures.is ∙ ap (λ (level : Level). level.nodes) c.self.view_is) (down_word _ _ _ _ c.turns.invariant.1)
+
+pub word_below-c-requires : goal.word_below-c-requires
+word_below-c-requires c = rw (c.nodes-nodes.ensures.is ∙ ap (λ (level : Level). level.nodes) c.self.view_is) (down_word _ _ _ _ c.turns.invariant.2)
+
+pub word_below-d-requires : goal.word_below-d-requires
+word_below-d-requires c = rw (c.nodes-nodes.ensures.is ∙ ap (λ (level : Level). level.nodes) c.self.view_is) (down_word _ _ _ _ c.turns.invariant.3)
 
 pub turns-preserved : goal.turns-preserved
 turns-preserved c =

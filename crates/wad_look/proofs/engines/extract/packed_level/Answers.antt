@@ -3,6 +3,9 @@ use Rattle.wad_look.proofs.LevelFileLemmas.{level_packed, level_refused}
 use Rattle.wad_look.specs.Opening.{bytes_of}
 use Rattle.wad_look.proofs.engines.extract.packed_level.Goals as goal
 
+pub returns-in-Err-clause-err : goal.returns-in-Err-clause-err
+returns-in-Err-clause-err g c = (c.in_ok-set.set, c.in_ok-set.ensures.ok, rw c.query.ensures at c.in-Err.ensures.refused)
+
 pub returns-in-Ok-pack_level-clause-ok : goal.returns-in-Ok-pack_level-clause-ok
 returns-in-Ok-pack_level-clause-ok g c =
     level_packed (bytes_of c.args.files.now) c.args.name.now c.in_ok-set.set c.in-Ok.level c.in_ok-set.ensures.ok (rw c.query.ensures at c.in-Ok.ensures.level)

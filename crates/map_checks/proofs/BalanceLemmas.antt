@@ -25,6 +25,11 @@ own_end e n numbers own =
 ends_joined : (e s : ℕ) (numbers : List ℕ) → with_end e (of_sectors (s + 1) numbers) ≡ with_end e (of_sectors s numbers) + with_end e (of_key sector_in s numbers)
 ends_joined e s numbers = rw (add-one s) (sum_by-append (λ n. cond (end_in n == e) 1 0) (of_sectors s numbers) (of_key sector_in s numbers))
 
+-- a number's end is one of the counts
+pub end_within : (numbers counts before : List ℕ) (at end : ℕ) → All (λ n. end_in n < length before) numbers → length counts ≡ length before
+    → at < length numbers → end ≡ end_in (get_or numbers at 0) → end < length counts
+end_within numbers counts before at end ends long inside is = rw (is, long) (ends at 0 inside)
+
 -- what is counted and what is left of a sector are what there is up to it
 pub counts_begin : (numbers counts : List ℕ) (s at : ℕ) → IsLink sector_in numbers s 0 at → CountEnds (of_sectors s numbers) counts
     → (e : ℕ) → e < length counts → get_or counts e 0 + with_end e (of_key sector_in s (drop at numbers)) ≡ with_end e (of_sectors (s + 1) numbers)

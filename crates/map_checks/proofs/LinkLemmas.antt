@@ -2,7 +2,7 @@
 use Rattle.std.proofs.Common.{◌≡◌, ◌≢◌, ℕ, ◌+◌, ◌<◌, inl, inr, List, ◌∷◌, length, get_or, set, drop, refl, sym, subst, ◌∙◌, arith}
 use Rattle.std.specs.Prelude.{All}
 use Rattle.std.proofs.lemmas.Bool.{cases_eq, eq-eqb, ne_eqb}
-use Rattle.std.proofs.lemmas.List.{drop_more, get_or-set_same, get_or-set_other, length-set}
+use Rattle.std.proofs.lemmas.List.{drop_more, get_or-set_same, get_or-set_other, get_or_default, length-set}
 use Rattle.std.proofs.lemmas.List.Elements.{All-cons}
 use Rattle.map_checks.specs.KeyLinks.{AreLinks, IsLink, of_key}
 
@@ -61,6 +61,13 @@ links_more key numbers keys i k firsts next inside few is are = record {
         rw (get_or-set_other next i j (get_or firsts k 0) 0 other) (are.behind j (omega (arith, from, other)) below)
   ];
 }
+
+-- what stands at a number's place links it to the next one of its key
+pub link_behind : (key : ℕ → ℕ) (numbers : List ℕ) (keys : ℕ) (firsts next : List ℕ) (at to : ℕ) → AreLinks key numbers keys 0 firsts next
+    → at < length numbers → to ≡ get_or next at to → IsLink key numbers (key (get_or numbers at 0)) (at + 1) to
+link_behind key numbers keys firsts next at to are inside is =
+    let there : to ≡ get_or next at 0 = is ∙ get_or_default next at _ 0 (omega (arith, inside, are.long)) in
+    rw there (are.behind at (omega arith) inside)
 
 -- what holds of some numbers of a key if it holds of those that are left of them
 pub rest_more : (key : ℕ → ℕ) (P : ℕ → Type 0) (numbers all : List ℕ) (k at next : ℕ) → at < length numbers → key (get_or numbers at 0) ≡ k

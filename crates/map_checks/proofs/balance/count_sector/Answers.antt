@@ -2,7 +2,8 @@ use Rattle.std.proofs.Common.{◌≡◌, ◌+◌, ◌<◌, ◌∙◌, arith, get
 use Rattle.std.proofs.lemmas.List.{get_or_default, length-set}
 use Rattle.map_checks.specs.KeyLinks.{IsLink}
 use Rattle.map_checks.specs.Balance.{of_sectors, sector_in, with_end}
-use Rattle.map_checks.proofs.BalanceLemmas.{counts_begin, counts_more}
+use Rattle.map_checks.proofs.BalanceLemmas.{counts_begin, counts_more, end_within}
+use Rattle.map_checks.proofs.LinkLemmas.{link_behind}
 use Rattle.map_checks.proofs.balance.count_sector.Goals as goal
 
 pub loop-at-init : goal.loop-at-init
@@ -25,12 +26,12 @@ loop-at-preserved g c =
     let counts = c.loop-at.counts in
     let at = c.loop-at.at in
     let next = c.index-in-loop-at.result.now in
-    let inside : at < length numbers = search rules in
+    let inside : at < length numbers = c.loop-at-test.true in
     let is : sector_in (get_or numbers at 0) ≡ c.args.sector = c.loop-at.invariant.here inside in
-    let behind : next ≡ get_or c.args.links.now.next.items at 0 =
-    c.index-in-loop-at.ensures ∙ get_or_default c.args.links.now.next.items at _ 0 (omega (arith, inside, c.requires.links.long)) in
-    let link : IsLink sector_in numbers (sector_in (get_or numbers at 0)) (at + 1) next = rw behind (c.requires.links.behind at (search rules) inside) in
-    let fits : c.end_in-end.result < length counts = search rules in
+    let links = c.args.links.now in
+    let link = link_behind sector_in numbers _ links.firsts.items links.next.items at next c.requires.links inside c.index-in-loop-at.ensures in
+    let fits : c.end_in-end.result < length counts =
+    end_within numbers counts c.args.counts.now at _ c.requires.ends c.loop-at.invariant.long inside c.end_in-end.ensures.value in
     let more : c.in-Some.count ≡ get_or counts c.end_in-end.result 0 + 1 = search rules in
     record {
       within = link.within;
@@ -39,3 +40,20 @@ loop-at-preserved g c =
       left = counts_more numbers counts c.args.sector at next c.end_in-end.result c.in-Some.count
           (λ e. with_end e (of_sectors (c.args.sector + 1) numbers)) inside is link c.end_in-end.ensures.value fits more c.loop-at.invariant.left;
     }
+
+pub bounds-counts-end : goal.bounds-counts-end
+bounds-counts-end g c =
+    end_within c.args.numbers.now c.loop-at.counts c.args.counts.now c.loop-at.at _ c.requires.ends c.loop-at.invariant.long c.loop-at-test.true
+    c.end_in-end.ensures.value
+
+pub bounds-counts-end-in-loop-at : goal.bounds-counts-end-in-loop-at
+bounds-counts-end-in-loop-at g c =
+    end_within c.args.numbers.now c.loop-at.counts c.args.counts.now c.loop-at.at _ c.requires.ends c.loop-at.invariant.long c.loop-at-test.true
+    c.end_in-end.ensures.value
+
+pub loop-at-smaller : goal.loop-at-smaller
+loop-at-smaller g c =
+    let links = c.args.links.now in
+    let link = link_behind sector_in c.args.numbers.now _ links.firsts.items links.next.items c.loop-at.at _ c.requires.links c.loop-at-test.true
+    c.index-in-loop-at.ensures in
+    omega (arith, link.after, c.loop-at-test.true)

@@ -119,7 +119,8 @@ side_of_tie-column Greater p q = refl
 zero_product-column : (k a b : ℤ) → k -ℤ pos 0 *ℤ a ≡ k -ℤ pos 0 *ℤ b
 zero_product-column k a b = omega (arith, ints)
 
-column_stays : (partition : Partition) (x a b : ℤ) → partition.dx ≡ pos 0
+-- an upright partition has a column on one side
+pub column_stays : (partition : Partition) (x a b : ℤ) → partition.dx ≡ pos 0
     → side_of partition (point_at x a) ≡ side_of partition (point_at x b)
 column_stays partition x a b upright =
     let at : ℤ → Partition = λ dx. record partition { dx = dx } in

@@ -1,14 +1,16 @@
 -- Two sides that agree, and the rectangle that they decide.
-use Rattle.std.proofs.Common.{◌≡◌, ◌↔◌, ◌&&◌, Option, Some, None, IsNone, IfSome, rules, refl, arith}
+use Rattle.std.proofs.Common.{ℤ, pos, ◌≡◌, ◌↔◌, ◌⊎◌, inl, inr, sym, ap, ◌&&◌, Option, Some, None, IsNone, IfSome, rules, refl, arith}
 use Rattle.std.proofs.lemmas.Int.{ints}
 use Rattle.std.specs.Bool.{then_some}
 use denote.Enum.Bare.{sameb}
 use Rattle.map_geo.specs.contracts.sides.Side.{the_type}
 use Rattle.map_geo.specs.declared.sides.Side.{Side}
 use Rattle.map_geo.specs.declared.sides.Side.TheVariants.{Front, Back}
+use Rattle.map_geo.specs.Point.{point_at}
 use Rattle.map_geo.specs.Partition.{Partition}
+use Rattle.map_geo.specs.Side.{side_of}
 use Rattle.map_geo.specs.Rect.{Rect, IsRect, AreCornersOn, IsWholeSide}
-use Rattle.map_geo.proofs.AlongLemmas.{sides_by_corners}
+use Rattle.map_geo.proofs.AlongLemmas.{column_stays, sides_by_corners}
 
 -- what the code's `(a == b & a == c & a == d).then_some(a)` gives
 pub some_of_four : (a b c d s : Side)
@@ -21,6 +23,19 @@ some_of_four Back Back Back Back s = (λ h. (cc, cc, cc, cc), λ h. cc)
 some_of_four Back Back Back Front s = (λ h. cc, λ h. cc)
 some_of_four Back Back Front d s = (λ h. cc, λ h. cc)
 some_of_four Back Front c d s = (λ h. cc, λ h. cc)
+
+-- what the code's `(a == b).then_some(a)` gives
+pub some_of_two : (a b s : Side) → (then_some (sameb the_type a b) a ≡ Some s) ↔ (a ≡ s) × (b ≡ s)
+some_of_two Front Front s = (λ h. (cc, cc), λ h. cc)
+some_of_two Front Back s = (λ h. cc, λ h. cc)
+some_of_two Back Front s = (λ h. cc, λ h. cc)
+some_of_two Back Back s = (λ h. (cc, cc), λ h. cc)
+
+-- the highest row has the sides of the lowest
+pub high_as_low : (rect : Rect) (partition : Partition) → (rect.y0 ≡ rect.y1) ⊎ (partition.dx ≡ pos 0) → (x : ℤ)
+    → side_of partition (point_at x rect.y1) ≡ side_of partition (point_at x rect.y0)
+high_as_low rect partition (inl flat) x = sym (ap (λ y. side_of partition (point_at x y)) flat)
+high_as_low rect partition (inr upright) x = column_stays partition x rect.y1 rect.y0 upright
 
 none_or_some : (answer : Option Side) → ((s : Side) → ¬ (answer ≡ Some s)) ↔ IsNone answer
 none_or_some None = (λ h. refl, λ e s f. cc)

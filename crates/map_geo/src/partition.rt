@@ -1,6 +1,6 @@
 //! Partitions of nodes, and on which side of one a point lies.
 
-ghost use Rattle.std.specs.Prelude.{◌≡◌, ◌↔◌, pos, IsSome, IfSome, ◌*ℤ◌, ◌-ℤ◌, ◌≤◌, unsigned_abs};
+ghost use Rattle.std.specs.Prelude.{◌≡◌, ◌↔◌, true, pos, IsSome, IfSome, ◌*ℤ◌, ◌-ℤ◌, ◌≤◌, unsigned_abs};
 ghost use Rattle.std.specs.Ordering.{int_cmp};
 ghost use Rattle.map_geo.specs.Point.{IsInRange};
 ghost use Rattle.map_geo.specs.Partition.{IsStep, partition_of};
@@ -70,6 +70,14 @@ impl Partition {
         ensures { result ≡ cross self point }
     {
         product(self.dy, self.x, point.x()) - product(self.dx, self.y, point.y())
+    }
+
+    // Whether it goes up or down, so that the points of a column have one side.
+    #[inline]
+    pub(crate) fn is_upright(self) -> bool
+        ensures { result ≡ true → self.dx ≡ pos 0 }
+    {
+        self.dx == 0
     }
 
     fn is_origin(self, point: Point) -> bool

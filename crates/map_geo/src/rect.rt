@@ -1,6 +1,6 @@
 //! Rectangles of a map, and on which side of a partition all their points lie.
 
-ghost use Rattle.std.specs.Prelude.{◌≡◌, ◌↔◌, ◌≤◌, ◌≤ℤ◌, IsSome, IfSome, IsNone, unsigned_abs};
+ghost use Rattle.std.specs.Prelude.{◌≡◌, ◌↔◌, ◌⊎◌, ◌≤◌, ◌≤ℤ◌, pos, true, IsSome, IfSome, IsNone, unsigned_abs};
 ghost use Rattle.map_geo.specs.declared.sides.Side.{Side};
 ghost use Rattle.map_geo.specs.Rect.{point_count, rect_at, span, IsSpan, IsRect, AreCornersOn, IsWholeSide};
 
@@ -169,7 +169,7 @@ pub fn whole_side(rect: Rect, partition: Partition) -> Option<Side>
     corner_side(rect, partition)
 }
 
-// The side that the four corners have.
+// The side that the four corners have. Where the lowest row tells that of each other row, its two ends do.
 #[inline]
 fn corner_side(rect: Rect, partition: Partition) -> Option<Side>
     ensures corners { (s : Side) → (result ≡ Some s) ↔ AreCornersOn rect partition s }
@@ -177,9 +177,20 @@ fn corner_side(rect: Rect, partition: Partition) -> Option<Side>
 {
     let low_left = side(Point::at(rect.x0(), rect.y0()), partition);
     let low_right = side(Point::at(rect.x1(), rect.y0()), partition);
+    if is_told_by_lowest(rect, partition) {
+        return (low_left == low_right).then_some(low_left);
+    }
     let high_left = side(Point::at(rect.x0(), rect.y1()), partition);
     let high_right = side(Point::at(rect.x1(), rect.y1()), partition);
     one_side(low_left, low_right, high_left, high_right)
+}
+
+// Each row has the sides of the lowest: it is the only one, or the partition is upright.
+#[inline]
+fn is_told_by_lowest(rect: Rect, partition: Partition) -> bool
+    ensures { result ≡ true → (rect.y0 ≡ rect.y1) ⊎ (partition.dx ≡ pos 0) }
+{
+    (rect.y0() == rect.y1()) | partition.is_upright()
 }
 
 // The side that all four are. Which of them differ can't be told ahead, so nothing is branched on.

@@ -16,8 +16,6 @@ pub mod MarkLemmas
 pub mod MiddleLemmas
 pub mod RowLemmas
 pub mod ColumnLemmas
-pub mod UprightLemmas
-pub mod HalvingsLemmas
 pub mod BoundLemmas
 pub mod WorkLemmas
 pub mod CountLemmas

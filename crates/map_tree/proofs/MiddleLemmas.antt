@@ -1,12 +1,11 @@
 -- The middle of two numbers, and what fits.
-use lib.Signed.{lt_z}
-use Rattle.std.proofs.Common.{true, false, ℤ, pos, negsuc, ◌+ℤ◌, ◌≤ℤ◌, ◌<ℤ◌, ◌≡◌, FitsSigned, to_z, of_z, w32, refl, arith}
+use Rattle.std.proofs.Common.{ℤ, pos, negsuc, ◌+ℤ◌, ◌≤ℤ◌, ◌<ℤ◌, ◌≡◌, FitsSigned, to_z, of_z, w32, refl, arith}
 use Rattle.std.proofs.lemmas.Int.{ints, to_z-of_z}
 use Rattle.std.specs.Int.Signed.{shr_z}
 use Rattle.map_geo.specs.Point.{IsInRange}
 use Rattle.map_tree.specs.Cuts.{IsMiddle}
 
-pub half_of : (low high sum : ℤ) → sum ≡ low +ℤ high → IsMiddle (shr_z sum 2) low high
+half_of : (low high sum : ℤ) → sum ≡ low +ℤ high → IsMiddle (shr_z sum 2) low high
 half_of low high (pos n) e = record { lower = omega (arith, ints, e); upper = omega (arith, ints, e) }
 half_of low high (negsuc n) e = record { lower = omega (arith, ints, e); upper = omega (arith, ints, e) }
 
@@ -39,16 +38,3 @@ between_fits a z b h k from below = omega (arith, ints, h.least, k.greatest)
 
 pub next_fits : (a z b : ℤ) → IsInRange a → IsInRange b → a ≤ℤ z → z <ℤ b → FitsSigned w32 (z +ℤ pos 1)
 next_fits a z b h k from below = omega (arith, ints, h.least, k.greatest)
-
--- what the test l + 1 < e says
-pub test_true : (l e x0 x1 : ℤ) → IsInRange x0 → IsInRange x1 → x0 ≤ℤ l → l <ℤ e → e ≤ℤ x1 → lt_z (to_z w32 (of_z w32 (l +ℤ pos 1))) e ≡ true → (l +ℤ pos 1) <ℤ e
-test_true l e x0 x1 a b from ordered to test = omega (arith, ints, a.least, b.greatest)
-
-pub test_false : (l e x0 x1 : ℤ) → IsInRange x0 → IsInRange x1 → x0 ≤ℤ l → l <ℤ e → e ≤ℤ x1 → lt_z (to_z w32 (of_z w32 (l +ℤ pos 1))) e ≡ false → e ≤ℤ (l +ℤ pos 1)
-test_false l e x0 x1 a b from ordered to test = omega (arith, ints, a.least, b.greatest)
-
-pub in_range_fits : (z : ℤ) → IsInRange z → FitsSigned w32 z
-in_range_fits z h = omega (arith, ints, h.least, h.greatest)
-
-pub le_itself : (z : ℤ) → z ≤ℤ z
-le_itself z = omega (arith, ints)

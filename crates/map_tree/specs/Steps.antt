@@ -1,5 +1,5 @@
 -- One step of a census: what becomes of the piece in hand (ours).
-use Rattle.std.specs.Prelude.{◌≡◌, ◌⊎◌, ℕ, suc, ◌+◌, ◌-◌, ◌<◌, ◌≤◌, ℤ, pos, ◌+ℤ◌, ◌≤ℤ◌, ◌<ℤ◌, IsSomeAnd, List, slice_index}
+use Rattle.std.specs.Prelude.{◌≡◌, ◌⊎◌, ℕ, ◌+◌, ◌-◌, ◌<◌, ◌≤◌, ℤ, IsSomeAnd, List, slice_index}
 use Rattle.std.specs.List.{slice_get, sum}
 use Rattle.le_rec.specs.declared.records.Node.{Node}
 use Rattle.map_geo.specs.declared.sides.Side.{Side}
@@ -13,23 +13,13 @@ use Rattle.map_tree.specs.declared.pieces.Halves.{Halves}
 use Rattle.map_tree.specs.declared.pieces.Step.{Step}
 use Rattle.map_tree.specs.declared.pieces.Step.TheVariants.{AtSsector, Down, Apart}
 use Rattle.map_tree.specs.Child.{word_at, root}
-use Rattle.map_tree.specs.Cuts.{IsCut, IsLast, Halvings, IsMiddle, IsMiddleRow, rows_to, rows_above, columns_to, columns_right}
+use Rattle.map_tree.specs.Cuts.{IsCut, IsLast, Halvings, IsMiddleRow, rows_to, rows_above, columns_to, columns_right}
 use Rattle.map_tree.specs.PlainCount.{TellsSectors, plain_count}
 use Rattle.map_tree.specs.Work.{Work}
 
 -- the word names an ssector, or a node that is there and whose origin is in range
 abbrev pub IsWord : List Node → ℕ → Type 0
 IsWord records word = word < 32768 → IsSomeAnd (slice_get records word) (λ found. IsInRange found.x × IsInRange found.y)
-
--- so many halvings lead from columns l and e to column c and the next
-pub data HalvingsTo (c : ℤ) : ℤ → ℤ → ℕ → Type 0 where
-  next_to : (l e : ℤ) → e ≡ l +ℤ pos 1 → HalvingsTo c l e 0
-  to_right : (l e m : ℤ) (b : ℕ) → (l +ℤ pos 1) <ℤ e → IsMiddle m l e → m ≤ℤ c → HalvingsTo c m e b → HalvingsTo c l e (suc b)
-  to_left : (l e m : ℤ) (b : ℕ) → (l +ℤ pos 1) <ℤ e → IsMiddle m l e → c <ℤ m → HalvingsTo c l m b → HalvingsTo c l e (suc b)
-
--- each row has its sides in the same columns: there is one row, or the partition is upright
-abbrev pub ChangeTogether : Node → Rect → Type 0
-ChangeTogether found rect = (rect.y0 ≡ rect.y1) ⊎ (found.dx ≡ pos 0)
 
 -- the lowest half of the rows and the others, both where the piece is
 pub record IsRowsCut (piece : Piece) (halves : Halves) : Type 0 where

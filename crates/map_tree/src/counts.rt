@@ -37,8 +37,7 @@ impl<A: Allocator> Counts<A> {
         self.pairs.get(number).copied()
     }
 
-    /// How many tests the census made: one of each piece at a node, one of the left end of a row that is cut, and one for each time
-    /// that its columns are halved to find where.
+    /// How many calls of `whole_side` and `side` the census made.
     pub fn tests(&self) -> u64
         ensures { result ≡ self.now.tests }
     {

@@ -1,18 +1,17 @@
 //! One step of a census: what becomes of the piece in hand.
 
-ghost use Rattle.std.specs.Prelude.{◌≡◌, ◌<ℤ◌, true, false};
-ghost use Rattle.map_geo.specs.Point.{IsInRange, point_at};
+ghost use Rattle.std.specs.Prelude.{◌≡◌, ◌<ℤ◌};
+ghost use Rattle.map_geo.specs.Point.{IsInRange};
 ghost use Rattle.map_geo.specs.Partition.{partition_of};
 ghost use Rattle.map_geo.specs.Rect.{IsRect};
-ghost use Rattle.map_geo.specs.Side.{side_of};
 ghost use Rattle.map_tree.specs.Cuts.{IsCut, IsMiddleRow};
-ghost use Rattle.map_tree.specs.Steps.{IsWord, ChangeTogether, IsRowsCut, IsRowCut, IsStepAt, IsStep};
+ghost use Rattle.map_tree.specs.Steps.{IsWord, IsRowsCut, IsRowCut, IsStepAt, IsStep};
 
 use crate::pieces::{Halves, Piece, Step, word_at};
 use crate::places::NF_SUBSECTOR;
-use crate::row::{halvings_to, last_column, middle};
+use crate::row::{last_of_side, middle};
 use le_rec::{Node, Table};
-use map_geo::{Partition, Point, Rect, Side, side, whole_side};
+use map_geo::{Partition, Point, Rect, side, whole_side};
 
 /// What becomes of a piece: its points are counted where it has come to an ssector; at a node it
 /// goes whole to the child of its side, or is cut where it has both sides.
@@ -34,71 +33,18 @@ fn step_at(node: &Node, piece: Piece) -> Step
     requires y_in { IsInRange node.now.y }
     ensures { IsStepAt node.now piece result }
 {
-    if change_together(node, piece.rect) {
-        return step_by_row(node, piece);
-    }
-    let partition = Partition::at(node);
-    match whole_side(piece.rect, partition) {
+    match whole_side(piece.rect, Partition::at(node)) {
         Some(s) => Step::Down(Piece {
             rect: piece.rect,
             word: word_at(node, s),
         }),
-        None => Step::Apart(cut_rows(piece)),
-    }
-}
-
-// All rows have their sides in the same columns: the partition is upright, or there is one row.
-#[inline]
-fn change_together(node: &Node, rect: Rect) -> bool
-    ensures together { result ≡ true → ChangeTogether node.now rect }
-    ensures more { result ≡ false → rect.y0 <ℤ rect.y1 }
-{
-    (node.dx == 0) | (rect.y0() == rect.y1())
-}
-
-// What becomes of a piece whose rows have their sides in the same columns: the ends of its lowest row tell.
-#[inline]
-fn step_by_row(node: &Node, piece: Piece) -> Step
-    requires x_in { IsInRange node.now.x }
-    requires y_in { IsInRange node.now.y }
-    requires together { ChangeTogether node.now piece.rect }
-    ensures { IsStepAt node.now piece result }
-{
-    let EndSides { left, right } = end_sides(node, piece.rect);
-    if left == right {
-        return Step::Down(Piece {
-            rect: piece.rect,
-            word: word_at(node, left),
-        });
-    }
-    if piece.rect.y0() < piece.rect.y1() {
-        Step::Apart(cut_rows(piece))
-    } else {
-        Step::Apart(cut_row(node, piece, left))
-    }
-}
-
-// The sides of a row's ends.
-#[derive(Clone, Copy)]
-struct EndSides {
-    left: Side,
-    right: Side,
-}
-
-// Those of a rectangle's lowest row.
-#[inline]
-fn end_sides(node: &Node, rect: Rect) -> EndSides
-    requires x_in { IsInRange node.now.x }
-    requires y_in { IsInRange node.now.y }
-    ensures left { side_of (partition_of node.now) (point_at rect.x0 rect.y0) ≡ result.left }
-    ensures right { side_of (partition_of node.now) (point_at rect.x1 rect.y0) ≡ result.right }
-    ensures valid { IsRect rect }
-{
-    let partition = Partition::at(node);
-    let y = rect.y0();
-    EndSides {
-        left: side(Point::at(rect.x0(), y), partition),
-        right: side(Point::at(rect.x1(), y), partition),
+        None => {
+            if piece.rect.y0() < piece.rect.y1() {
+                Step::Apart(cut_rows(piece))
+            } else {
+                Step::Apart(cut_row(node, piece))
+            }
+        }
     }
 }
 
@@ -133,29 +79,31 @@ fn middle_row(rect: Rect) -> i32
     middle(rect.y0(), rect.y1() - 1)
 }
 
-// A row in two where the side of its left end changes: each part goes to the child of its side.
+// A row in two where its side changes: each part goes to the child of its side.
 #[inline]
-fn cut_row(node: &Node, piece: Piece, s: Side) -> Halves
+fn cut_row(node: &Node, piece: Piece) -> Halves
     requires x_in { IsInRange node.now.x }
     requires y_in { IsInRange node.now.y }
     requires flat { piece.rect.y0 ≡ piece.rect.y1 }
     requires cut { IsCut piece.rect (partition_of node.now) }
-    requires left { side_of (partition_of node.now) (point_at piece.rect.x0 piece.rect.y0) ≡ s }
     ensures { IsRowCut node.now piece result }
 {
     let rect = piece.rect;
+    let partition = Partition::at(node);
     let left = rect.x0();
     let right = rect.x1();
-    let column = last_column(node, rect.y0(), s, left, right);
+    let y = rect.y0();
+    let s = side(Point::at(left, y), partition);
+    let last = last_of_side(partition, y, s, left, right);
     Halves {
         first: Piece {
-            rect: rect.columns_to(column),
+            rect: rect.columns_to(last.column),
             word: word_at(node, s),
         },
         second: Piece {
-            rect: rect.columns_from(column + 1),
+            rect: rect.columns_from(last.column + 1),
             word: word_at(node, s.other()),
         },
-        tests: 2 + halvings_to(column, left, right),
+        tests: 2 + last.halvings,
     }
 }

@@ -1,6 +1,7 @@
-use Rattle.std.proofs.Common.{FitsSigned, w32, rules, ap, sym, ◌∙◌}
+use Rattle.std.proofs.Common.{◌≡◌, ◌↔◌, Some, FitsSigned, w32, rules, ap, sym, ◌∙◌}
 use Rattle.std.proofs.lemmas.Int.{to_z-of_z}
 use Rattle.map_geo.specs.Side.{side_of}
+use Rattle.map_geo.proofs.WholeLemmas.{high_as_low, some_of_two}
 use Rattle.map_geo.proofs.rect.corner_side.Goals as goal
 
 pub returns-clause-corners : goal.returns-clause-corners
@@ -27,4 +28,26 @@ returns-clause-corners c = λ s.
             high_right = sym high_right ∙ h.3;
           },
       λ h. four.1 (low_left ∙ h.low_left, low_right ∙ h.low_right, high_left ∙ h.high_left, high_right ∙ h.high_right),
+    )
+
+pub returns-then-is_told_by_lowest-clause-corners : goal.returns-then-is_told_by_lowest-clause-corners
+returns-then-is_told_by_lowest-clause-corners c = λ s.
+    let x0 : FitsSigned w32 c.x0.result = search rules in
+    let x1 : FitsSigned w32 c.x1.result = search rules in
+    let y0 : FitsSigned w32 c.y0.result = search rules in
+    let y0' : FitsSigned w32 c.y0-2.result = search rules in
+    let side_at = side_of c.args.partition in
+    let low_left = c.side-low_left.ensures ∙ ap side_at (rw (c.x0.ensures.value, c.y0.ensures.value) at (simp to_z-of_z at c.at.ensures)) in
+    let low_right = c.side-low_right.ensures ∙ ap side_at (rw (c.x1.ensures.value, c.y0-2.ensures.value) at (simp to_z-of_z at c.at-2.ensures)) in
+    let high = high_as_low c.args.rect c.args.partition (c.is_told_by_lowest.ensures c.if-is_told_by_lowest.true) in
+    let two : (c.then_some.result ≡ Some s) ↔ (c.side-low_left.result ≡ s) × (c.side-low_right.result ≡ s) =
+    rw (c.then_some.ensures, c.eq.ensures) (some_of_two c.side-low_left.result c.side-low_right.result s) in (
+      λ e. let h = two.0 e in
+          record {
+            low_left = sym low_left ∙ h.0;
+            low_right = sym low_right ∙ h.1;
+            high_left = high c.args.rect.x0 ∙ (sym low_left ∙ h.0);
+            high_right = high c.args.rect.x1 ∙ (sym low_right ∙ h.1);
+          },
+      λ h. two.1 (low_left ∙ h.low_left, low_right ∙ h.low_right),
     )

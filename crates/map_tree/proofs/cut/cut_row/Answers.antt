@@ -1,28 +1,26 @@
-use Rattle.std.proofs.Common.{inl, ◌∙◌, ap, ℤ, pos, ◌+ℤ◌, ◌≤ℤ◌, ◌<ℤ◌, FitsSigned, w32, refl, arith}
+use Rattle.std.proofs.Common.{ℤ, pos, ◌+ℤ◌, ◌≤ℤ◌, ◌<ℤ◌, FitsSigned, w32, refl, sym, arith}
 use Rattle.std.proofs.lemmas.Int.{ints, to_z-of_z}
 use Rattle.map_geo.specs.Partition.{partition_of}
-use Rattle.map_geo.specs.Side.{other}
 use Rattle.map_geo.proofs.PointCountLemmas.{in_fits}
-use Rattle.map_tree.proofs.MiddleLemmas.{between_fits, next_fits, le_itself}
-use Rattle.map_tree.proofs.HalvingsLemmas.{Halvings-from_last}
-use Rattle.map_tree.proofs.RowLemmas.{alike, ends_differ, ends_ordered}
+use Rattle.map_tree.proofs.MiddleLemmas.{between_fits, next_fits}
+use Rattle.map_tree.proofs.RowLemmas.{ends_differ, ends_ordered}
 use Rattle.map_tree.proofs.cut.cut_row.Goals as goal
 
-pub last_column-column-requires-clause-ordered : goal.last_column-column-requires-clause-ordered
-last_column-column-requires-clause-ordered c =
+pub last_of_side-last-requires-clause-ordered : goal.last_of_side-last-requires-clause-ordered
+last_of_side-last-requires-clause-ordered c =
     let valid = c.x0-left.ensures.valid in
     let left : FitsSigned w32 c.x0-left.result = rw c.x0-left.ensures.value (in_fits _ valid.columns.first_in) in
     let right : FitsSigned w32 c.x1-right.result = rw c.x1-right.ensures.value (in_fits _ valid.columns.last_in) in
-    simp to_z-of_z (rw (c.x0-left.ensures.value, c.x1-right.ensures.value) (ends_ordered (partition_of c.args.node.now) c.args.piece.rect valid.columns.ordered (alike c.args.node.now c.args.piece.rect (inl c.requires.flat)) c.requires.cut))
+    simp to_z-of_z (rw (c.x0-left.ensures.value, c.x1-right.ensures.value) (ends_ordered (partition_of c.args.node.now) c.args.piece.rect valid.columns.ordered c.requires.flat c.requires.cut))
 
-pub last_column-column-requires-clause-right : goal.last_column-column-requires-clause-right
-last_column-column-requires-clause-right c =
+pub last_of_side-last-requires-clause-right : goal.last_of_side-last-requires-clause-right
+last_of_side-last-requires-clause-right c =
     let valid = c.x0-left.ensures.valid in
     let left : FitsSigned w32 c.x0-left.result = rw c.x0-left.ensures.value (in_fits _ valid.columns.first_in) in
     let right : FitsSigned w32 c.x1-right.result = rw c.x1-right.ensures.value (in_fits _ valid.columns.last_in) in
-    let y : FitsSigned w32 c.y0.result = rw c.y0.ensures.value (in_fits _ valid.rows.first_in) in
-    let differ = ends_differ (partition_of c.args.node.now) c.args.piece.rect (alike c.args.node.now c.args.piece.rect (inl c.requires.flat)) c.requires.cut in
-    simp to_z-of_z (rw (c.x1-right.ensures.value, c.y0.ensures.value) (differ ∙ ap other c.requires.left))
+    let y : FitsSigned w32 c.y0-y.result = rw c.y0-y.ensures.value (in_fits _ valid.rows.first_in) in
+    let at = rw (c.x0-left.ensures.value, c.y0-y.ensures.value) at (simp to_z-of_z at c.at.ensures) in
+    simp to_z-of_z (rw (c.x1-right.ensures.value, c.y0-y.ensures.value, c.side-s.ensures, at, c.at-partition.ensures) (ends_differ (partition_of c.args.node.now) c.args.piece.rect c.requires.flat c.requires.cut))
 
 next_to : (y b : ℤ) → y <ℤ b → (y +ℤ pos 1) ≤ℤ b
 next_to y b h = omega (arith, ints)
@@ -36,7 +34,7 @@ columns_from-requires-clause-from c =
     let valid = c.x0-left.ensures.valid in
     let left : FitsSigned w32 c.x0-left.result = rw c.x0-left.ensures.value (in_fits _ valid.columns.first_in) in
     let right : FitsSigned w32 c.x1-right.result = rw c.x1-right.ensures.value (in_fits _ valid.columns.last_in) in
-    let last = rw (c.x0-left.ensures.value, c.x1-right.ensures.value) at (simp to_z-of_z at c.last_column-column.ensures) in
+    let last = rw (c.x0-left.ensures.value, c.x1-right.ensures.value) at (simp to_z-of_z at c.last_of_side-last.ensures.last) in
     let column = between_fits _ _ _ valid.columns.first_in valid.columns.last_in last.from last.below in
     let next = next_fits _ _ _ valid.columns.first_in valid.columns.last_in last.from last.below in
     simp to_z-of_z (then_next _ _ last.from)
@@ -46,7 +44,7 @@ columns_from-requires-clause-to c =
     let valid = c.x0-left.ensures.valid in
     let left : FitsSigned w32 c.x0-left.result = rw c.x0-left.ensures.value (in_fits _ valid.columns.first_in) in
     let right : FitsSigned w32 c.x1-right.result = rw c.x1-right.ensures.value (in_fits _ valid.columns.last_in) in
-    let last = rw (c.x0-left.ensures.value, c.x1-right.ensures.value) at (simp to_z-of_z at c.last_column-column.ensures) in
+    let last = rw (c.x0-left.ensures.value, c.x1-right.ensures.value) at (simp to_z-of_z at c.last_of_side-last.ensures.last) in
     let column = between_fits _ _ _ valid.columns.first_in valid.columns.last_in last.from last.below in
     let next = next_fits _ _ _ valid.columns.first_in valid.columns.last_in last.from last.below in
     simp to_z-of_z (next_to _ _ last.below)
@@ -56,20 +54,21 @@ returns c =
     let valid = c.x0-left.ensures.valid in
     let left : FitsSigned w32 c.x0-left.result = rw c.x0-left.ensures.value (in_fits _ valid.columns.first_in) in
     let right : FitsSigned w32 c.x1-right.result = rw c.x1-right.ensures.value (in_fits _ valid.columns.last_in) in
-    let y : FitsSigned w32 c.y0.result = rw c.y0.ensures.value (in_fits _ valid.rows.first_in) in
-    let last = rw (c.x0-left.ensures.value, c.x1-right.ensures.value, c.y0.ensures.value) at (simp to_z-of_z at c.last_column-column.ensures) in
+    let y : FitsSigned w32 c.y0-y.result = rw c.y0-y.ensures.value (in_fits _ valid.rows.first_in) in
+    let at = rw (c.x0-left.ensures.value, c.y0-y.ensures.value) at (simp to_z-of_z at c.at.ensures) in
+    let last = rw (c.x0-left.ensures.value, c.x1-right.ensures.value, c.y0-y.ensures.value, c.at-partition.ensures) at (simp to_z-of_z at c.last_of_side-last.ensures.last) in
+    let halvings = rw (c.x0-left.ensures.value, c.x1-right.ensures.value, c.y0-y.ensures.value, c.at-partition.ensures) at (simp to_z-of_z at c.last_of_side-last.ensures.halvings) in
     let column = between_fits _ _ _ valid.columns.first_in valid.columns.last_in last.from last.below in
     let next = next_fits _ _ _ valid.columns.first_in valid.columns.last_in last.from last.below in
-    let halvings = rw (c.x0-left.ensures.value, c.x1-right.ensures.value) at (simp to_z-of_z at c.halvings_to.ensures.halvings) in
     let first = simp to_z-of_z at c.columns_to.ensures in
     let second = simp to_z-of_z at c.columns_from.ensures in
     record {
-      s = c.args.s;
-      c = c.last_column-column.result;
-      h = c.halvings_to.result;
-      left = c.requires.left;
+      s = c.side-s.result;
+      c = c.last_of_side-last.result.column;
+      h = c.last_of_side-last.result.halvings;
+      left = sym (rw (at, c.at-partition.ensures) at c.side-s.ensures);
       last = last;
-      halvings = Halvings-from_last _ _ _ _ _ _ c.requires.left last _ _ _ (le_itself _) (le_itself _) halvings;
+      halvings = halvings;
       first = rw (first, c.word_at.ensures);
       second = rw (second, c.word_at-2.ensures, c.other.ensures);
       tests = refl;

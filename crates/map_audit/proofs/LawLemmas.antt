@@ -1,9 +1,12 @@
 -- The laws of this crate.
-use Rattle.std.proofs.Common.{◌≡◌, ◌+◌, inl, inr, refl, sym, subst, arith}
+use Rattle.std.proofs.Common.{◌≡◌, ℕ, ◌+◌, ◌<◌, ◌≤◌, inl, inr, refl, sym, subst, arith}
 use Rattle.std.proofs.lemmas.Bool.{ltb-true}
 use Rattle.map_level.specs.Level.{Level, level_of, lump_of}
 use Rattle.map_level.specs.Findings.{rank}
 use Rattle.map_level.specs.Opening.{IsLevel}
+use Rattle.map_level.specs.declared.finding.Code.{Code}
+use Rattle.map_level.specs.declared.finding.Code.TheVariants.{N8, N9, N10}
+use Rattle.map_tables.specs.TableFaults.{TableHolds}
 use Rattle.map_level.specs.declared.reading.Reading.TheVariants.{Signed, Wide}
 use Rattle.map_level.proofs.LevelLemmas.{IsLevel-one}
 use Rattle.map_tree.specs.Sound.{IsSound}
@@ -11,8 +14,19 @@ use Rattle.map_tree.proofs.LawLemmas.{law_faultless}
 use Rattle.map_audit.specs.Readings.{KeepsSound}
 use Rattle.map_audit.specs.Laws.{SoundIsNoFault, WideKeepsSound}
 use Rattle.map_audit.proofs.FileLemmas.{lump_bytes}
-use Rattle.map_audit.proofs.PartLemmas.{table_place}
 use Rattle.map_audit.proofs.ReadingLemmas.{wide_keeps_sound}
+
+-- a code of REJECT or BLOCKMAP stands from N8 to N10
+record IsTableRank (p : ℕ) : Type 0 where
+  pub from : 25 ≤ p
+  pub to : p < 28
+
+table_place : (level : Level) (code : Code) (i : ℕ) → TableHolds level code i
+    → IsTableRank (rank code)
+table_place level N8 i h = record { from = omega arith; to = omega arith }
+table_place level N9 i h = record { from = omega arith; to = omega arith }
+table_place level N10 i h = record { from = omega arith; to = omega arith }
+table_place level _ i h = absurd h
 
 pub law_sound_is_no_fault : SoundIsNoFault
 law_sound_is_no_fault level = (

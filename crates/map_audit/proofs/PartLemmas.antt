@@ -1,11 +1,10 @@
 -- Each code is of one part.
-use Rattle.std.proofs.Common.{◌≡◌, ◌↔◌, ℕ, ◌<◌, ◌≤◌, ◌⊎◌, inl, inr, subst, sym, arith}
+use Rattle.std.proofs.Common.{◌≡◌, ◌↔◌, ℕ, ◌≤◌, ◌⊎◌, inl, inr, subst, sym}
 use Rattle.std.specs.Prelude.{IfSome, IfNone, Option, Some, None}
 use Rattle.map_level.specs.Level.{Level}
-use Rattle.map_level.specs.Findings.{rank, IsFirst}
+use Rattle.map_level.specs.Findings.{IsFirst}
 use Rattle.map_level.specs.declared.finding.Code.{Code}
 use Rattle.map_level.specs.declared.finding.Code.TheVariants.{F11, F12, F13, F14, F15, F16, N7, N8, N9, N10}
-use Rattle.map_tables.specs.TableFaults.{TableHolds}
 use Rattle.map_audit.specs.Findings.{AuditHolds, part_of, PartHolds}
 use Rattle.map_audit.specs.declared.auditing.Part.{Part}
 
@@ -51,15 +50,3 @@ module _ (level : Level) (code : Code) (part : Part) (is : part ≡ part_of code
       → IfNone found ((i : ℕ) → from ≤ i → ¬ AuditHolds level code i)
   none_by_part from None h = λ i le holds. h i le ((both i).0 holds)
   none_by_part from (Some at) h = h
-
--- a code of REJECT or BLOCKMAP stands from N8 to N10
-pub record IsTableRank (p : ℕ) : Type 0 where
-  pub from : 25 ≤ p
-  pub to : p < 28
-
-pub table_place : (level : Level) (code : Code) (i : ℕ) → TableHolds level code i
-    → IsTableRank (rank code)
-table_place level N8 i h = record { from = omega arith; to = omega arith }
-table_place level N9 i h = record { from = omega arith; to = omega arith }
-table_place level N10 i h = record { from = omega arith; to = omega arith }
-table_place level _ i h = absurd h

@@ -7,11 +7,10 @@ use Rattle.map_tree.specs.Counts.{ArePairs, IsCensus}
 use Rattle.map_tree.specs.Sound.{IsSound}
 use Rattle.map_tree.specs.Steps.{IsTally}
 use Rattle.map_tree.proofs.CountedLemmas.{same_pairs}
-use Rattle.map_tree.proofs.HeldLemmas.{sized-from_sound}
+use Rattle.map_tree.proofs.FewLemmas.{sized-from_sound, work_few_tests, work_few_pending}
 use Rattle.map_tree.proofs.LawLemmas.{law_sectors}
 use Rattle.map_tree.proofs.Sizes.{size_of}
 use Rattle.map_tree.proofs.TotalLemmas.{counts_total}
-use Rattle.map_tree.proofs.TurnLemmas.{work_few_tests, work_few_pending}
 
 pub census_from_tally : (level : Level) (rect : Rect) (counts : List ℕ) (pairs : List (ℕ × ℕ)) (tests pending : ℕ) → IsSound level → IsRect rect → IsTally level rect counts tests pending
     → ArePairs (slice_index counts) pairs → IsCensus level rect (record { pairs = pairs; tests = tests; pending = pending })

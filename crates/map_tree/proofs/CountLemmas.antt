@@ -1,7 +1,10 @@
--- Plain counts of parts, and of an area that is all one sector.
-use Rattle.std.proofs.Common.{ℕ, zero, suc, ◌+◌, ◌*◌, ◌≤◌, ℤ, pos, ◌+ℤ◌, ◌≤ℤ◌, ◌<ℤ◌, ◌≡◌, refl, ap, arith}
+-- Plain counts of parts, and of an area that is all one sector; sums of none.
+use Rattle.std.proofs.Common.{ℕ, zero, suc, ◌+◌, ◌*◌, ◌≤◌, ℤ, pos, ◌+ℤ◌, ◌≤ℤ◌, ◌<ℤ◌, ◌≡◌, List, [], ◌∷◌, get_or, refl, ap, arith}
 use Rattle.std.proofs.Math.Nat.{suc-add, zero-add, suc-mul, one-le-mul}
+use Rattle.std.proofs.lemmas.Bool.Decides.{nat_tests}
 use Rattle.std.proofs.lemmas.Int.{ints}
+use Rattle.std.proofs.lemmas.List.Sums.{sum_by-cons}
+use Rattle.std.specs.List.{sum}
 use Rattle.std.specs.Prelude.{unsigned_abs}
 use Rattle.map_geo.specs.Point.{Point, point_at}
 use Rattle.map_geo.specs.Rect.{Rect, Holds, IsRect, span, rows_of, columns_of, point_count}
@@ -84,3 +87,16 @@ area-some b area = one-le-mul (some_span b.y0 b.y1 area.rows) (some_span b.x0 b.
 -- a rectangle's rows are few
 pub rows_few : (b : Rect) → IsRect b → rows_of b ≤ 32768
 rows_few b valid = omega (arith, ints, valid.rows.first_in.least, valid.rows.last_in.greatest, valid.rows.ordered)
+
+pub one_at-same : (s k : ℕ) → s ≡ k → one_at s k ≡ 1
+one_at-same s k e = grind (arith, nat_tests)
+
+pub one_at-other : (s k : ℕ) → (s ≡ k → ⊥) → one_at s k ≡ 0
+one_at-other s k e = grind (arith, nat_tests)
+
+-- a list of zeros adds up to none
+pub sum_zeros : (counts : List ℕ) → ((s : ℕ) → get_or counts s 0 ≡ 0) → sum counts ≡ 0
+sum_zeros [] zeros = refl
+sum_zeros (n ∷ counts) zeros =
+    let first : n ≡ 0 = zeros 0 in
+    omega (arith, first, sum_zeros counts (λ s. zeros (suc s)), sum_by-cons (λ x. x) n counts)

@@ -15,7 +15,7 @@ use Rattle.map_tree.specs.Counts.{ArePairs}
 use Rattle.map_tree.specs.PlainCount.{TellsSectors, row_count, rows_count, plain_count}
 use Rattle.map_tree.proofs.LeafLemmas.{some_leaf}
 use Rattle.map_tree.proofs.SoundLemmas.{sector_below}
-use Rattle.map_tree.proofs.HeldLemmas.{one_at-other}
+use Rattle.map_tree.proofs.CountLemmas.{one_at-other}
 use Rattle.map_tree.proofs.PairLemmas.{SoFar, SoFar-start, SoFar-skip, SoFar-push, SoFar-end}
 
 over : (count : ℕ → ℕ) (p q : List (ℕ × ℕ)) → ArePairs count p → ArePairs count q → (x : ℕ × ℕ) → Contains p x → Contains q x

@@ -3,7 +3,6 @@ use Rattle.std.proofs.Common.{ℕ, suc, ◌+◌, ◌*◌, ◌-◌, ◌<◌, ◌�
 use Rattle.std.specs.Option.{option_map}
 use Rattle.std.specs.List.{sum, slice_get}
 use Rattle.std.proofs.lemmas.Bool.{cases_eq}
-use Rattle.std.proofs.lemmas.Bool.Decides.{nat_tests}
 use Rattle.std.proofs.lemmas.Grind.{get_or-set_at}
 use Rattle.std.proofs.lemmas.Int.{ints}
 use Rattle.std.proofs.lemmas.List.Sums.{sum_by-set}
@@ -20,35 +19,20 @@ use Rattle.map_level.specs.SectorOf.{sector_of}
 use Rattle.map_tree.specs.declared.pieces.Piece.{Piece}
 use Rattle.map_tree.specs.Paths.{Place, node, ssector}
 use Rattle.map_tree.specs.Child.{node_count, place_of, word_at, has, side_at, root}
-use Rattle.map_tree.specs.Sound.{IsTree, IsSound}
-use Rattle.map_tree.proofs.Sizes.{size_of, AreSizes, Falls, there, down}
+use Rattle.map_tree.specs.Sound.{IsTree}
+use Rattle.map_tree.proofs.Sizes.{Falls, there, down}
 use Rattle.map_tree.specs.PlainCount.{TellsSectors, one_at, plain_count}
 use Rattle.map_tree.specs.Cuts.{IsCut, IsLast, Halvings, IsMiddleRow, rows_to, rows_above, columns_to, columns_right}
 use Rattle.map_tree.specs.Work.{partition_at, Work, at_ssector, to_child, by_rows, in_row}
-use Rattle.map_tree.proofs.SoundLemmas.{child_there, root_there, some_ssector, few_nodes, tree_from_sound}
+use Rattle.map_tree.proofs.SoundLemmas.{child_there, root_there, some_ssector}
 use Rattle.map_tree.proofs.LeafLemmas.{child_is}
-use Rattle.map_tree.proofs.SizeLemmas.{sizes-from_sound, size-of_root, leaf-from_falls}
+use Rattle.map_tree.proofs.FewLemmas.{IsSized, area_from_rect}
+use Rattle.map_tree.proofs.PlaceLemmas.{ssector_place}
+use Rattle.map_tree.proofs.SizeLemmas.{leaf-from_falls}
 use Rattle.map_tree.proofs.DescentLemmas.{place_below}
-use Rattle.map_tree.proofs.BoundLemmas.{Halvings-most, near_halvings, node_in, size-sides, IsArea, IsArea-rows_to, IsArea-rows_above, rows_of-rows, rows_of-pos, rows_of-one, most_tests, most_tests-whole, most_tests-rows}
+use Rattle.map_tree.proofs.BoundLemmas.{Halvings-most, near_halvings, node_in, size-sides, IsArea-rows_to, IsArea-rows_above, rows_of-rows, rows_of-pos, rows_of-one, most_tests, most_tests-whole, most_tests-rows}
 use Rattle.map_tree.proofs.RowLemmas.{same_from_bounds}
-use Rattle.map_tree.proofs.CountLemmas.{plain-rows, plain-columns, plain-full, area-rows, area-columns, area-some}
-
--- what a sound level gives
-pub record IsSized (level : Level) (size : Place → ℕ) : Type 0 where
-  pub sound : IsSound level
-  pub tree : IsTree level
-  pub few : node_count level ≤ 32767
-  pub sizes : AreSizes level size
-  pub whole_size : size (root level) ≤ node_count level
-
-pub sized-from_sound : (level : Level) → IsSound level → IsSized level (size_of level)
-sized-from_sound level sound = record {
-  sound = sound;
-  tree = tree_from_sound level sound;
-  few = few_nodes level sound;
-  sizes = sizes-from_sound level sound;
-  whole_size = size-of_root level sound;
-}
+use Rattle.map_tree.proofs.CountLemmas.{one_at-same, one_at-other, plain-rows, plain-columns, plain-full, area-rows, area-columns, area-some}
 
 abbrev pub total : (Piece → ℕ) → List Piece → ℕ
 total f [] = 0
@@ -87,16 +71,6 @@ pub Owes-start : (level : Level) (rect : Rect) (p : Piece) → p.rect ≡ rect �
 Owes-start level rect p same at_root = λ w d work.
     let some = Work-depth _ _ _ _ _ work in
     Owes-same level rect [] w (0 + w) d (max 1 (d + 0)) (omega arith) (omega arith) (rw (same, at_root) at work)
-
--- words
-pub ssector_place : (w : ℕ) → 32768 ≤ w → place_of w ≡ ssector (w - 32768)
-ssector_place w h = grind (arith, nat_tests)
-
-pub area_from_rect : (b : Rect) → IsRect b → IsArea b
-area_from_rect b valid =
-    let least = valid.columns.first_in.least in
-    let greatest = valid.columns.last_in.greatest in
-    record { columns = valid.columns.ordered; rows = valid.rows.ordered; near = omega (arith, ints) }
 
 -- a piece that the census may hold
 pub record IsGood (level : Level) (p : Piece) : Type 0 where
@@ -186,12 +160,6 @@ measure_apart a b c more r k some h = omega arith
 
 leaf_owes : (t m d k : ℕ) → suc k ≤ m → max m (1 + k) ≡ m
 leaf_owes t m d k h = omega arith
-
-pub one_at-same : (s k : ℕ) → s ≡ k → one_at s k ≡ 1
-one_at-same s k e = grind (arith, nat_tests)
-
-pub one_at-other : (s k : ℕ) → (s ≡ k → ⊥) → one_at s k ≡ 0
-one_at-other s k e = grind (arith, nat_tests)
 
 counted_same : (now was a height width one r n : ℕ) → now ≡ was + height * width → one ≡ 1 → a ≡ height * (width * one) → was + (a + r) ≡ n → now + r ≡ n
 counted_same now was a height width one r n h1 h2 h3 h4 = let e = rw h2 at h3 in omega arith

@@ -13,8 +13,7 @@ use Rattle.map_tree.specs.Child.{node_count, child, root}
 use Rattle.map_tree.specs.Laws.{OneLeaf, AncestorsByDepth, DepthAtMostNodes, SoundIsFaultless, OneWork, FewTests, FewPending, SectorsAreTold, CountsAddUp, OneCounting}
 use Rattle.map_tree.proofs.Sizes.{size_of}
 use Rattle.map_tree.proofs.WorkLemmas.{Work-once}
-use Rattle.map_tree.proofs.HeldLemmas.{area_from_rect, sized-from_sound}
-use Rattle.map_tree.proofs.TurnLemmas.{work_few_tests, work_few_pending}
+use Rattle.map_tree.proofs.FewLemmas.{area_from_rect, sized-from_sound, work_few_tests, work_few_pending}
 use Rattle.map_tree.specs.PlainCount.{plain_count}
 use Rattle.map_tree.proofs.CountedLemmas.{one_list_of_pairs, some_counts}
 use Rattle.map_tree.proofs.TotalLemmas.{counts_total}

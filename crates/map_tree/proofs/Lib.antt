@@ -19,6 +19,7 @@ pub mod ColumnLemmas
 pub mod BoundLemmas
 pub mod WorkLemmas
 pub mod CountLemmas
+pub mod FewLemmas
 pub mod HeldLemmas
 pub mod TurnLemmas
 pub mod PairLemmas

@@ -8,7 +8,7 @@ use Rattle.map_geo.specs.Point.{Point, point_at}
 use Rattle.map_geo.specs.Rect.{Rect, rows_of, columns_of, point_count}
 use Rattle.map_tree.specs.PlainCount.{one_at, row_count, rows_count, plain_count}
 use Rattle.map_tree.specs.Counts.{ArePairs}
-use Rattle.map_tree.proofs.HeldLemmas.{one_at-same, one_at-other}
+use Rattle.map_tree.proofs.CountLemmas.{one_at-same, one_at-other}
 
 sum_none : (pairs : List (ℕ × ℕ)) → sum_by (λ (pair : ℕ × ℕ). zero) pairs ≡ 0
 sum_none [] = refl

@@ -1,30 +1,30 @@
 -- One turn of a census's loop.
-use Rattle.std.proofs.Common.{ℕ, suc, ◌+◌, ◌*◌, ◌-◌, ◌<◌, ◌≤◌, max, ◌≡◌, inl, inr, refl, ap, ◌∙◌, subst, List, [], ◌∷◌, ◌++◌, reverse, length, get_or, set, Fits, w16, w32, w64, Option, Some, None, IsTrue, arith}
+use Rattle.std.proofs.Common.{ℕ, suc, ◌+◌, ◌-◌, ◌<◌, ◌≤◌, max, ◌≡◌, inl, inr, refl, ap, ◌∙◌, subst, List, [], ◌∷◌, ◌++◌, reverse, length, get_or, set, Fits, w16, w32, w64, Option, Some, None, IsTrue, arith}
 use Rattle.std.specs.Prelude.{IsSomeAnd}
 use Rattle.std.specs.List.{sum, slice_get}
 use Rattle.std.proofs.Math.Facts.{Fits-lt-pow}
-use Rattle.std.proofs.Math.Nat.{mul-le-mul_left}
 use Rattle.std.proofs.lemmas.List.{reverse-append}
 use Rattle.std.proofs.lemmas.Bool.{ltb-true}
 use Rattle.std.proofs.lemmas.Nat.{mul-le}
-use Rattle.std.proofs.lemmas.List.Sums.{get_or-le-sum_by, sum_by-cons}
+use Rattle.std.proofs.lemmas.List.Sums.{get_or-le-sum_by}
 use Rattle.le_rec.specs.declared.records.Node.{Node}
-use Rattle.map_geo.specs.Rect.{Rect, IsRect, rows_of}
+use Rattle.map_geo.specs.Rect.{Rect, IsRect}
 use Rattle.map_level.specs.Level.{Level}
 use Rattle.map_level.specs.SectorOf.{sector_of}
 use Rattle.map_tree.specs.declared.pieces.Piece.{Piece}
 use Rattle.map_tree.specs.declared.pieces.Halves.{Halves}
 use Rattle.map_tree.specs.Paths.{Place}
-use Rattle.map_tree.specs.Child.{node_count, ssector_count, has, root}
+use Rattle.map_tree.specs.Child.{node_count, ssector_count, has}
 use Rattle.map_tree.specs.SectorList.{ListsSectors}
 use Rattle.map_tree.specs.Steps.{IsWord, IsTally, IsDown, IsApart}
-use Rattle.map_tree.specs.Work.{Work}
 use Rattle.map_tree.proofs.DescentLemmas.{place_below}
 use Rattle.map_tree.proofs.SectorListLemmas.{listed_sector}
-use Rattle.map_tree.proofs.BoundLemmas.{most_tests, tests-most, depth-most}
+use Rattle.map_tree.proofs.BoundLemmas.{most_tests}
 use Rattle.map_geo.proofs.PointCountLemmas.{few_points}
 use Rattle.map_tree.proofs.CountLemmas.{area-some, rows_few}
-use Rattle.map_tree.proofs.HeldLemmas.{IsSized, area_from_rect, ssector_place, Held, Held-down, Held-rows, Held-row, Held-leaf, measure, less-down, less-rows, less-row, area}
+use Rattle.map_tree.proofs.FewLemmas.{IsSized, area_from_rect}
+use Rattle.map_tree.proofs.PlaceLemmas.{ssector_place}
+use Rattle.map_tree.proofs.HeldLemmas.{Held, Held-down, Held-rows, Held-row, Held-leaf, measure, less-down, less-rows, less-row, area}
 
 pub reverse_push : (ps : List Piece) (p : Piece) → reverse (ps ++ (p ∷ [])) ≡ p ∷ reverse ps
 reverse_push ps p = reverse-append ps (p ∷ [])
@@ -33,21 +33,8 @@ reverse_push ps p = reverse-append ps (p ∷ [])
 pub pushed : (before after : List Piece) (p : Piece) → after ≡ before ++ (p ∷ []) → reverse after ≡ p ∷ reverse before
 pushed before after p e = rw e (reverse_push before p)
 
--- a list of zeros adds up to none
-pub sum_zeros : (counts : List ℕ) → ((s : ℕ) → get_or counts s 0 ≡ 0) → sum counts ≡ 0
-sum_zeros [] zeros = refl
-sum_zeros (n ∷ counts) zeros =
-    let first : n ≡ 0 = zeros 0 in
-    omega (arith, first, sum_zeros counts (λ s. zeros (suc s)), sum_by-cons (λ x. x) n counts)
-
 same_most : (m k n r : ℕ) → r ≡ max m (n + 1) → n ≡ suc k → max m (k + 2) ≡ r
 same_most m k n r h e = omega arith
-
-fewer_tests : (k m n t : ℕ) → m ≤ n → t ≤ 18 * k * m - 1 → t ≤ 18 * k * n
-fewer_tests k m n t h j = omega (arith, mul-le-mul_left k h)
-
-fewer_pending : (p m n : ℕ) → m ≤ n → p ≤ m + 1 + 15 → p ≤ n + 16
-fewer_pending p m n h j = omega arith
 
 fits_tests : (tests rest most : ℕ) → tests + rest ≤ most → most ≤ 19327352832 → Fits w64 tests
 fits_tests tests rest most h k = omega arith
@@ -71,14 +58,6 @@ add_none a b h = omega arith
 
 most_few : (k m : ℕ) → k ≤ 32768 → m ≤ 32767 → most_tests k m ≤ 19327352832
 most_few k m h j = omega (arith, mul-le k m 32768 32767 h j)
-
--- the bounds of a rectangle's work at the root
-module _ (level : Level) (size : Place → ℕ) (rect : Rect) (sized : IsSized level size) (valid : IsRect rect) (tests pending : ℕ) (work : Work level rect (root level) tests pending) where
-  pub work_few_tests : tests ≤ 18 * rows_of rect * node_count level
-  work_few_tests = fewer_tests (rows_of rect) (size (root level)) (node_count level) tests sized.whole_size (tests-most level size sized.sizes rect (root level) tests pending work (area_from_rect rect valid))
-
-  pub work_few_pending : pending ≤ node_count level + 16
-  work_few_pending = fewer_pending pending (size (root level)) (node_count level) sized.whole_size (depth-most level size sized.sizes rect (root level) tests pending 15 work (area_from_rect rect valid) (rows_few rect valid))
 
 module _ (level : Level) (size : Place → ℕ) (rect : Rect) (sized : IsSized level size) (valid : IsRect rect) where
   pub tests_fit : (stack : List Piece) (counts : List ℕ) (tests most : ℕ) → Held level size rect stack counts tests most → Fits w64 tests

@@ -36,7 +36,7 @@ impl<'l, 'a> Model for Tree<'l, 'a> {
 }
 
 impl<'l, 'a> Tree<'l, 'a> {
-    /// The tree of a level with no fault F3 to F18, as `is_sound` tells by its findings.
+    /// The tree of a level with no fault F3 to F18, as `is_sound` tells.
     pub fn of(level: &'l Level<'a>) -> Tree<'l, 'a>
         requires { IsSound level.now }
         ensures { result ≡ level.now }

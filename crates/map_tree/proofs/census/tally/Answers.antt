@@ -3,8 +3,10 @@ use Rattle.std.proofs.Math.Facts.{Fits-lt-pow}
 use Rattle.std.proofs.lemmas.List.{length-reverse}
 use Rattle.map_tree.specs.declared.pieces.Piece.{Piece}
 use Rattle.map_tree.proofs.Sizes.{size_of}
-use Rattle.map_tree.proofs.HeldLemmas.{sized-from_sound, Held-start, less-leaf}
-use Rattle.map_tree.proofs.TurnLemmas.{pushed, sum_zeros, tests_fit, most_fits, done, is_word, ssector_in, sector_in, some_points, leaf_fits, turn-leaf, turn-down, turn-apart, turn-pushed, fewer-down, fewer-apart}
+use Rattle.map_tree.proofs.CountLemmas.{sum_zeros}
+use Rattle.map_tree.proofs.FewLemmas.{sized-from_sound}
+use Rattle.map_tree.proofs.HeldLemmas.{Held-start, less-leaf}
+use Rattle.map_tree.proofs.TurnLemmas.{pushed, tests_fit, most_fits, done, is_word, ssector_in, sector_in, some_points, leaf_fits, turn-leaf, turn-down, turn-apart, turn-pushed, fewer-down, fewer-apart}
 use Rattle.map_tree.proofs.census.tally.Goals as goal
 
 pub loop-next-init : goal.loop-next-init

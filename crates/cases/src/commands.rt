@@ -9,7 +9,7 @@ use std::alloc::{AllocError, Allocator, Global};
 use std::process::Abort;
 use test_alloc::Refusing;
 use test_ends::{SliceSink, SliceSource};
-use wad_look::{Job, RunFault, job, run, status};
+use wad_look::{Cmd, Job, RunFault, job, run, status};
 
 // A command line, its input, and what it writes.
 #[derive(Clone, Copy)]
@@ -75,19 +75,49 @@ fn words_of(alloc: Global, line: &str) -> Result<Vec<String>, AllocError> {
     Ok(words)
 }
 
+// What words ask for: the command, the place of the first file, and whether `--wide` stands. None of what is no form.
+const JOBS: [(&str, Option<Job>); 9] = [
+    ("points E1M1 a b", asks(Cmd::Points, 2, false)),
+    ("lumps a", asks(Cmd::Lumps, 1, false)),
+    ("points --wide E1M1 a", asks(Cmd::Points, 3, true)),
+    ("points E1M1", None),
+    ("Points E1M1 a", None),
+    ("lmp a b", None),
+    ("lumps -x", None),
+    ("sight --wide E1M1 a", None),
+    ("points E1M1 --wide a", None),
+];
+
+const fn asks(command: Cmd, first: usize, wide: bool) -> Option<Job> {
+    Some(Job {
+        command,
+        first,
+        wide,
+    })
+}
+
+#[test]
+fn jobs(rt: HostRuntime) {
+    for (line, expected) in JOBS {
+        let words = words_of(rt.alloc(), line).expect(&rt, "no memory for the words");
+        check_same(&rt, job(&words), expected);
+    }
+}
+
 // How a job over these files ends.
 fn run_job<A: Allocator + Copy>(
     rt: &impl Abort,
     alloc: A,
-    job: &Job<'_, Global>,
+    words: &[String],
+    job: Job,
     files: &[Vec<u8>],
     input: &mut SliceSource<'_>,
     out: &mut SliceSink<'_>,
 ) -> Result<bool, RunFault> {
     let fresh = !input.failed() && !out.failed();
-    let all = job.paths().len() == files.len();
+    let all = job.paths(words).len() == files.len();
     assert!(rt; fresh && all);
-    run(alloc, job, files, input, out)
+    run(alloc, words, job, files, input, out)
 }
 
 // How a command line over these files ends.
@@ -101,7 +131,7 @@ fn run_line<A: Allocator + Copy>(
 ) -> Result<bool, RunFault> {
     let words = words_of(rt.alloc(), line).expect(rt, "no memory for the words");
     let job = job(&words).expect(rt, "no form of a command");
-    run_job(rt, alloc, &job, files, input, out)
+    run_job(rt, alloc, &words, job, files, input, out)
 }
 
 // A command that met a refused growth has read and written nothing, but `census` a front of its text.

@@ -1,10 +1,12 @@
 -- The words of a form are read in one way.
 use Rattle.std.proofs.Common.{◌≡◌, ◌≢◌, ℕ, ◌+◌, ◌-◌, ◌<◌, ◌≤◌, Bool, true, false, IsTrue, List, [], ◌∷◌, ◌++◌, length, take, drop, get_or, All, map, codes, Some, ◌↔◌, ap, sym, ◌∙◌, subst, refl, arith, zero, suc, inl, inr, ◌⊎◌, length-append, length-drop}
-use Rattle.std.proofs.lemmas.List.{get_or-map, length-map}
-use Rattle.wad_look.specs.Command.{Job, word_of}
-use Rattle.wad_look.specs.Words.{IsJob, IsPlain, form_of, name_in, names_of, wide_words}
+use Rattle.std.proofs.Math.Seq.{drop-append_seam, drop-append-add}
+use Rattle.std.proofs.lemmas.List.{get_or-map, length-map, length-take-le, take-append-drop}
+use Rattle.wad_look.specs.Command.{word_of}
+use Rattle.wad_look.specs.Words.{IsJob, IsPlain, form_of, names_of, paths_of, wide_words}
 use Rattle.wad_look.specs.declared.command.Cmd.{Cmd}
 use Rattle.wad_look.specs.declared.command.Cmd.TheVariants.{Lumps, Levels, Show, Audit, Points, Census, Sight, Blocks, Extract, Demo, Lmp}
+use Rattle.wad_look.specs.declared.command.Job.{Job}
 use Rattle.wad_look.specs.declared.words.Form.{Form}
 
 -- the words after a command's own: whether `--wide` stands first, and the operands
@@ -53,79 +55,83 @@ names_few Extract = inr refl
 names_few Demo = inr refl
 names_few Lmp = inl refl
 
--- the name and the paths among operands that begin with the names
-parts : (n : ℕ) (name : List ℕ) (paths operands : List (List ℕ)) → (n ≡ 0) ⊎ (n ≡ 1) → take n (name ∷ []) ++ paths ≡ operands → (n ≡ 0 → name ≡ [])
-    → (name_in n operands ≡ name) × (drop n operands ≡ paths) × (length paths + n ≡ length operands)
-parts zero name paths operands few spelled none = (sym (none refl), sym spelled, let long = ap length spelled in omega arith)
-parts (suc zero) name paths operands few spelled none =
-    (ap (λ (ws : List (List ℕ)). get_or ws 0 []) (sym spelled), ap (drop 1) (sym spelled), let long = ap length spelled in omega arith)
-parts (suc (suc n)) name paths operands (inl e) spelled none = absurd (omega arith)
-parts (suc (suc n)) name paths operands (inr e) spelled none = absurd (omega arith)
+-- the NAME before the first file, where one is taken: `front` are the words before it
+cut_at : (n : ℕ) (front operands : List (List ℕ)) → (n ≡ 0) ⊎ (n ≡ 1)
+    → take n (drop ((length front + n) - 1) (front ++ operands)) ++ drop (length front + n) (front ++ operands) ≡ operands
+cut_at zero front operands few = drop-append-add front operands 0
+cut_at (suc zero) front operands few =
+    let at : (length front + 1) - 1 ≡ length front = omega arith in
+    rw (at, drop-append_seam front operands, drop-append-add front operands 1) (take-append-drop 1 operands)
+cut_at (suc (suc n)) front operands (inl e) = absurd (omega arith)
+cut_at (suc (suc n)) front operands (inr e) = absurd (omega arith)
 
--- operands are the name, where there is one, and the paths
-whole : (n : ℕ) (operands : List (List ℕ)) → (n ≡ 0) ⊎ (n ≡ 1) → n < length operands → take n (name_in n operands ∷ []) ++ drop n operands ≡ operands
-whole zero operands few some = refl
-whole (suc zero) [] few some = absurd (omega arith)
-whole (suc zero) (word ∷ operands) few some = refl
-whole (suc (suc n)) operands (inl e) some = absurd (omega arith)
-whole (suc (suc n)) operands (inr e) some = absurd (omega arith)
+-- it is one word, where there is a file
+name_fits : (n first : ℕ) (words : List (List ℕ)) → (n ≡ 0) ⊎ (n ≡ 1) → first < length words → n ≤ length words - (first - 1)
+name_fits n first words (inl none) below = omega arith
+name_fits n first words (inr one) below = omega arith
+
+name_count : (n first : ℕ) (words : List (List ℕ)) → (n ≡ 0) ⊎ (n ≡ 1) → first < length words → length (take n (drop (first - 1) words)) ≡ n
+name_count n first words few below =
+    length-take-le n (drop (first - 1) words) (rw length-drop (name_fits n first words few below))
 
 -- what is asked for, by its parts
-abbrev pub job_from : Cmd → List ℕ → List (List ℕ) → Bool → Job
-job_from command name paths wide = record { command = command; name = name; paths = paths; wide = wide }
+abbrev pub job_at : Cmd → ℕ → Bool → Job
+job_at command first wide = record { command = command; first = first; wide = wide }
 
--- what is asked for by a command, the names of its form, the operands, and whether `--wide` stood
-abbrev pub job_of : Cmd → ℕ → List (List ℕ) → Bool → Job
-job_of command names operands wide = job_from command (name_in names operands) (drop names operands) wide
+-- what is asked for by a command, the number of its names, and the words behind its own and `--wide`
+abbrev pub job_of : List (List ℕ) → Cmd → ℕ → List (List ℕ) → Bool → Job
+job_of words command names operands wide = job_at command (length words - length operands + names) wide
 
-pub same_job : (c d : Cmd) (m n : List ℕ) (p q : List (List ℕ)) (v w : Bool) → c ≡ d → m ≡ n → p ≡ q → v ≡ w
-    → job_from c m p v ≡ job_from d n q w
-same_job c d m n p q v w e f g h = cc
+same_job : (c d : Cmd) (i k : ℕ) (v w : Bool) → c ≡ d → i ≡ k → v ≡ w → job_at c i v ≡ job_at d k w
+same_job c d i k v w e f g = cc
 
 pub only_job : (words : List (List ℕ)) (command : Cmd) (form : Form) (wide : Bool) (operands : List (List ℕ)) → IsRead words command form wide operands → (job : Job) → IsJob words job
-    → IsTaken form operands × (job_of command form.names operands wide ≡ job)
+    → IsTaken form operands × (job_of words command form.names operands wide ≡ job)
 only_job words command form wide operands r job j =
     let in_order = r.in_order in
     let spelled = j.spelled in
     let word_is : r.word ≡ word_of job.command = cc in
-    let rest_is : r.rest ≡ wide_words job.wide ++ (names_of job ++ job.paths) = cc in
+    let rest_is : r.rest ≡ wide_words job.wide ++ (names_of words job ++ paths_of words job) = cc in
     let some_same = (r.named job.command).1 word_is in
     let same : command ≡ job.command = cc in
     let form_is : form_of job.command ≡ form = ap form_of (sym same) ∙ sym r.form_is in
     let names_are : (form_of job.command).names ≡ form.names = ap (λ (f : Form). f.names) form_is in
     let may : IsTrue job.wide → IsTrue form.wide = λ w. subst (λ (f : Form). IsTrue f.wide) form_is (j.may_be_wide w) in
     let some_file = j.some_file in
-    let joined = length-append (names_of job) job.paths in
-    let one = one_split form.wide wide job.wide r.rest operands (names_of job ++ job.paths) r.split rest_is may j.plain (omega arith) in
-    let told = parts (form_of job.command).names job.name job.paths operands (names_few job.command) one.1 j.nameless in
-    let few : length job.paths ≤ form.files = subst (λ (f : Form). length job.paths ≤ f.files) form_is j.few_files in
-    let counted = told.2 in (
+    let joined = length-append (names_of words job) (paths_of words job) in
+    let one = one_split form.wide wide job.wide r.rest operands (names_of words job ++ paths_of words job) r.split rest_is may j.plain (omega arith) in
+    let rest_long = length-drop job.first words in
+    let below : job.first < length words = omega arith in
+    let named = name_count (form_of job.command).names job.first words (names_few job.command) below in
+    let long = ap length spelled in
+    let long_front = length-append (wide_words job.wide) (names_of words job ++ paths_of words job) in
+    let operands_long = ap length one.1 in
+    let few : length (paths_of words job) ≤ form.files = subst (λ (f : Form). length (paths_of words job) ≤ f.files) form_is j.few_files in (
       record { some_file = omega arith; few_files = omega arith; plain = subst (All IsPlain) one.1 j.plain },
-      same_job command job.command _ job.name _ job.paths wide job.wide same (ap (λ n. name_in n operands) (sym names_are) ∙ told.0)
-          (ap (λ n. drop n operands) (sym names_are) ∙ told.1) (sym one.0),
+      same_job command job.command _ job.first wide job.wide same (omega arith) (sym one.0),
     )
 
 pub is_job : (words : List (List ℕ)) (command : Cmd) (form : Form) (wide : Bool) (operands : List (List ℕ)) → IsRead words command form wide operands → IsTaken form operands
-    → IsJob words (job_of command form.names operands wide)
+    → IsJob words (job_of words command form.names operands wide)
 is_job words command form wide operands r taken =
+    let job : Job = job_of words command form.names operands wide in
+    let front = r.word ∷ wide_words wide in
     let names_are : form.names ≡ (form_of command).names = ap (λ (f : Form). f.names) r.form_is in
-    let few = subst (λ n. (n ≡ 0) ⊎ (n ≡ 1)) (sym names_are) (names_few command) in
-    let all = whole form.names operands few taken.some_file in
-    let named : take (form_of command).names (name_in form.names operands ∷ []) ++ drop form.names operands ≡ operands =
-    subst (λ n. take n (name_in form.names operands ∷ []) ++ drop form.names operands ≡ operands) names_are all in
-    let in_order = r.in_order in
+    let words_are : words ≡ front ++ operands = r.in_order ∙ ap (λ ws. r.word ∷ ws) r.split.spelled in
+    let long = ap length words_are ∙ length-append front operands in
+    let first_is : job.first ≡ length front + (form_of command).names = omega (arith, long, names_are) in
+    let cut : names_of words job ++ paths_of words job ≡ operands = rw (first_is, words_are) (cut_at (form_of command).names front operands (names_few command)) in
     let word_is = (r.named command).0 refl in
-    let rest_is = r.split.spelled in
     let some_file = taken.some_file in
     let few_files = taken.few_files in
     let same_files = ap (λ (f : Form). f.files) r.form_is in
+    let paths_long : length (paths_of words job) ≡ length words - job.first = length-drop job.first words in
     record {
-      spelled = rw named cc;
+      spelled = rw cut (words_are ∙ ap (λ w. w ∷ (wide_words wide ++ operands)) word_is);
       may_be_wide = λ w. subst (λ (f : Form). IsTrue f.wide) r.form_is (r.split.may_be_wide w);
-      nameless = λ none. ap (λ n. name_in n operands) (names_are ∙ none);
-      some_file = rw length-drop (omega arith);
-      few_files = rw length-drop (omega arith);
-      plain = rw named taken.plain;
+      some_file = omega arith;
+      few_files = omega arith;
+      plain = rw cut taken.plain;
     }
 
 pub All-unmap : {X : Type 0} (f : X → List ℕ) (xs : List X) → All IsPlain (map f xs) → All (λ x. IsPlain (f x)) xs

@@ -13,40 +13,42 @@ use Rattle.wad_look.specs.Engines.Lmp.{RunsLmp}
 use Rattle.wad_look.specs.Engines.Points.{RunsPoints}
 use Rattle.wad_look.specs.Engines.Show.{RunsShow}
 use Rattle.wad_look.specs.Engines.Sight.{RunsSight}
-use Rattle.wad_look.specs.Command.{Job, reading_of}
+use Rattle.wad_look.specs.Command.{reading_of}
 use Rattle.wad_look.specs.Runs.{EndsAs}
+use Rattle.wad_look.specs.Words.{name_of}
 use Rattle.line_io.specs.declared.input.TheConstants.{MAX_READ}
 use Rattle.wad_look.specs.declared.engines.TheConstants.{MAX_INPUT}
 use Rattle.wad_look.specs.declared.command.Cmd.{Cmd}
 use Rattle.wad_look.specs.declared.command.Cmd.TheVariants.{Lumps, Levels, Show, Audit, Points, Census, Sight, Blocks, Extract, Demo, Lmp}
+use Rattle.wad_look.specs.declared.command.Job.{Job}
 use Rattle.wad_look.specs.declared.fault.RunFault.{RunFault}
 
 -- over files of these bytes, a source and a sink, of which clauses see their states: a command of files leaves the input alone
-abbrev pub RunsCommand : {S W : Type 0} → (S → SourceState) → (W → SinkState) → Cmd → Job → List (List ℕ) → S → S → W → W → Result Bool RunFault → Type 0
-RunsCommand source sink Lumps job bytes input input' out out' result =
+abbrev pub RunsCommand : {S W : Type 0} → (S → SourceState) → (W → SinkState) → Cmd → List (List ℕ) → Job → List (List ℕ) → S → S → W → W → Result Bool RunFault → Type 0
+RunsCommand source sink Lumps words job bytes input input' out out' result =
     (input' ≡ input) × EndsAs (RunsLumps sink bytes out out') result
-RunsCommand source sink Levels job bytes input input' out out' result =
+RunsCommand source sink Levels words job bytes input input' out out' result =
     (input' ≡ input) × EndsAs (RunsLevels sink bytes out out') result
-RunsCommand source sink Show job bytes input input' out out' result =
-    (input' ≡ input) × EndsAs (RunsShow sink bytes job.name (reading_of job) out out') result
-RunsCommand source sink Audit job bytes input input' out out' result =
-    (input' ≡ input) × RunsAudit sink bytes job.name (reading_of job) out out' result
-RunsCommand source sink Points job bytes input input' out out' result =
-    EndsAs (RunsPoints source sink bytes job.name (reading_of job) MAX_INPUT input input' out out') result
-RunsCommand source sink Census job bytes input input' out out' result =
-    EndsAs (RunsCensus source sink bytes job.name (reading_of job) MAX_INPUT input input' out out') result
-RunsCommand source sink Sight job bytes input input' out out' result =
-    EndsAs (RunsSight source sink bytes job.name MAX_INPUT input input' out out') result
-RunsCommand source sink Blocks job bytes input input' out out' result =
-    EndsAs (RunsBlocks source sink bytes job.name (reading_of job) MAX_INPUT input input' out out') result
-RunsCommand source sink Extract job bytes input input' out out' result =
-    (input' ≡ input) × EndsAs (RunsExtract sink bytes job.name out out') result
-RunsCommand source sink Demo job bytes input input' out out' result =
-    (input' ≡ input) × EndsAs (RunsDemo sink bytes job.name out out') result
+RunsCommand source sink Show words job bytes input input' out out' result =
+    (input' ≡ input) × EndsAs (RunsShow sink bytes (name_of words job) (reading_of job) out out') result
+RunsCommand source sink Audit words job bytes input input' out out' result =
+    (input' ≡ input) × RunsAudit sink bytes (name_of words job) (reading_of job) out out' result
+RunsCommand source sink Points words job bytes input input' out out' result =
+    EndsAs (RunsPoints source sink bytes (name_of words job) (reading_of job) MAX_INPUT input input' out out') result
+RunsCommand source sink Census words job bytes input input' out out' result =
+    EndsAs (RunsCensus source sink bytes (name_of words job) (reading_of job) MAX_INPUT input input' out out') result
+RunsCommand source sink Sight words job bytes input input' out out' result =
+    EndsAs (RunsSight source sink bytes (name_of words job) MAX_INPUT input input' out out') result
+RunsCommand source sink Blocks words job bytes input input' out out' result =
+    EndsAs (RunsBlocks source sink bytes (name_of words job) (reading_of job) MAX_INPUT input input' out out') result
+RunsCommand source sink Extract words job bytes input input' out out' result =
+    (input' ≡ input) × EndsAs (RunsExtract sink bytes (name_of words job) out out') result
+RunsCommand source sink Demo words job bytes input input' out out' result =
+    (input' ≡ input) × EndsAs (RunsDemo sink bytes (name_of words job) out out') result
 -- the demo's file is the input
-RunsCommand source sink Lmp job bytes input input' out out' result =
+RunsCommand source sink Lmp words job bytes input input' out out' result =
     EndsAs (RunsLmp source sink MAX_READ input input' out out') result
 
--- the command of the job
-abbrev pub RunsJob : {S W : Type 0} → (S → SourceState) → (W → SinkState) → Job → List (List ℕ) → S → S → W → W → Result Bool RunFault → Type 0
-RunsJob source sink job = RunsCommand source sink job.command job
+-- the command of the job of the words
+abbrev pub RunsJob : {S W : Type 0} → (S → SourceState) → (W → SinkState) → List (List ℕ) → Job → List (List ℕ) → S → S → W → W → Result Bool RunFault → Type 0
+RunsJob source sink words job = RunsCommand source sink job.command words job

@@ -1,9 +1,10 @@
 -- The forms of a command line (this project's own): a table with a line a command, and what the words of a form ask for.
-use Rattle.std.specs.Prelude.{◌≡◌, ◌≢◌, ℕ, ◌<◌, ◌≤◌, Bool, true, false, List, [], ◌∷◌, ◌++◌, length, codes, take, All, IsTrue, slice_index, slice_index_or, zero, suc}
+use Rattle.std.specs.Prelude.{◌≡◌, ◌≢◌, ℕ, ◌-◌, ◌<◌, ◌≤◌, Bool, true, false, List, [], ◌∷◌, ◌++◌, length, codes, take, drop, All, IsTrue, slice_index, slice_index_or}
 use Rattle.wad_dir.specs.declared.set.TheConstants.{MAX_FILES}
-use Rattle.wad_look.specs.Command.{Job, word_of}
+use Rattle.wad_look.specs.Command.{word_of}
 use Rattle.wad_look.specs.declared.command.Cmd.{Cmd}
 use Rattle.wad_look.specs.declared.command.Cmd.TheVariants.{Lumps, Levels, Show, Audit, Points, Census, Sight, Blocks, Extract, Demo, Lmp}
+use Rattle.wad_look.specs.declared.command.Job.{Job}
 use Rattle.wad_look.specs.declared.words.Form.{Form}
 
 -- whether `--wide` may follow the word, how many NAMEs stand before the files, and how many files there may be
@@ -29,20 +30,22 @@ wide_words true = codes "--wide" ∷ []
 abbrev pub IsPlain : List ℕ → Type 0
 IsPlain word = slice_index word 0 ≢ 45
 
--- the NAME of a job, where its command takes one
-abbrev pub names_of : Job → List (List ℕ)
-names_of job = take (form_of job.command).names (job.name ∷ [])
+-- the words before the first file that are a NAME: one, where the command takes one
+abbrev pub names_of : List (List ℕ) → Job → List (List ℕ)
+names_of words job = take (form_of job.command).names (drop (job.first - 1) words)
 
--- the name among the operands of a form that takes so many, and no bytes where it takes none
-abbrev pub name_in : ℕ → List (List ℕ) → List ℕ
-name_in zero operands = []
-name_in (suc n) operands = slice_index_or operands 0 []
+-- the NAME, and no bytes where there is none
+abbrev pub name_of : List (List ℕ) → Job → List ℕ
+name_of words job = slice_index_or (names_of words job) 0 []
+
+-- the paths of the files
+abbrev pub paths_of : List (List ℕ) → Job → List (List ℕ)
+paths_of words job = drop job.first words
 
 -- the words are the command's, `--wide` where the job says so, the NAME of the form, and the paths
 pub record IsJob (words : List (List ℕ)) (job : Job) : Type 0 where
-  pub spelled : words ≡ word_of job.command ∷ (wide_words job.wide ++ (names_of job ++ job.paths))
+  pub spelled : words ≡ word_of job.command ∷ (wide_words job.wide ++ (names_of words job ++ paths_of words job))
   pub may_be_wide : IsTrue job.wide → IsTrue (form_of job.command).wide
-  pub nameless : (form_of job.command).names ≡ 0 → job.name ≡ []
-  pub some_file : 0 < length job.paths
-  pub few_files : length job.paths ≤ (form_of job.command).files
-  pub plain : All IsPlain (names_of job ++ job.paths)
+  pub some_file : 0 < length (paths_of words job)
+  pub few_files : length (paths_of words job) ≤ (form_of job.command).files
+  pub plain : All IsPlain (names_of words job ++ paths_of words job)

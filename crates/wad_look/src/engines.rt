@@ -12,7 +12,7 @@ pub mod points;
 pub mod show;
 pub mod sight;
 
-ghost use Rattle.std.specs.Prelude.{◌≡◌, ◌≤◌, false, length};
+ghost use Rattle.std.specs.Prelude.{◌≡◌, ◌≤◌, false, length, map, string_bytes};
 ghost use Rattle.wad_dir.specs.declared.set.TheConstants.{MAX_FILES};
 ghost use Rattle.wad_look.specs.RunsJob.{RunsJob};
 ghost use Rattle.wad_look.specs.Opening.{bytes_of};
@@ -38,11 +38,12 @@ use std::alloc::Allocator;
 /// The most bytes of line input.
 pub const MAX_INPUT: u64 = 16_777_216;
 
-/// Runs the command of a job over what its files hold: whether it was done without a fault found. The file of `lmp` is its
+/// Runs the command of the words' job over what its files hold: whether it was done without a fault found. The file of `lmp` is its
 /// input, and no other file is looked at.
 pub fn run<A: Allocator + Copy, F: Allocator, S: Source, W: Sink>(
     alloc: A,
-    job: &Job<'_, F>,
+    words: &[String<F>],
+    job: Job,
     files: &[Vec<u8, F>],
     input: &mut S,
     out: &mut W,
@@ -50,11 +51,11 @@ pub fn run<A: Allocator + Copy, F: Allocator, S: Source, W: Sink>(
     requires few { length files.now ≤ MAX_FILES }
     requires input { (S.state input.old).failed ≡ false }
     requires out { (W.state out.old).failed ≡ false }
-    ensures { RunsJob S.state W.state job.now (bytes_of files.now) input.old input.new out.old out.new result }
+    ensures { RunsJob S.state W.state (map string_bytes words.now) job (bytes_of files.now) input.old input.new out.old out.new result }
 {
-    let name = job.name();
+    let name = job.name(words);
     let reading = job.reading();
-    match job.command() {
+    match job.command {
         Cmd::Lumps => done(lumps(alloc, files, out)),
         Cmd::Levels => done(levels(alloc, files, out)),
         Cmd::Show => done(show(alloc, files, name, reading, out)),

@@ -1,9 +1,9 @@
 //! The words of a command line.
 
-ghost use Rattle.std.specs.Prelude.{◌≡◌, ◌-◌, ◌<◌, ◌≤◌, ◌↔◌, ◌≢◌, ◌++◌, IsTrue, Some, true, false, drop, length, map, string_bytes, All, codes, slice_index_or, []};
+ghost use Rattle.std.specs.Prelude.{◌≡◌, ◌-◌, ◌<◌, ◌≤◌, ◌↔◌, ◌≢◌, ◌++◌, IsTrue, Some, true, false, length, map, string_bytes, All, codes, slice_index_or, []};
 ghost use Rattle.wad_dir.specs.declared.set.TheConstants.{MAX_FILES};
-ghost use Rattle.wad_look.specs.Command.{Job as Asked, word_of};
-ghost use Rattle.wad_look.specs.Words.{IsJob, IsPlain, form_of, name_in, wide_words};
+ghost use Rattle.wad_look.specs.Command.{word_of};
+ghost use Rattle.wad_look.specs.Words.{IsJob, IsPlain, form_of, name_of, paths_of, wide_words};
 
 use crate::command::{Cmd, Job};
 use std::alloc::Allocator;
@@ -80,24 +80,27 @@ impl Form {
             && operands.len() - self.names <= self.files
             && operands.iter().all(|word| is_plain(word.as_str()))
     }
+}
 
-    // The name among the operands, where one stands there, and else no bytes.
-    fn name_in<F: Allocator>(self, operands: &[String<F>]) -> &[u8]
-        requires { self.names < length operands.now }
-        ensures { result.now ≡ name_in self.names (map string_bytes operands.now) }
+impl Job {
+    /// The NAME among the words, where the command takes one, and else no bytes: the word before the first file.
+    pub fn name<F: Allocator>(self, words: &[String<F>]) -> &[u8]
+        ensures { result.now ≡ name_of (map string_bytes words.now) self }
     {
-        if self.names == 0 {
+        if self.command.form().names == 0 {
             return b"";
         }
-        operands[0].as_str().as_bytes()
+        match words.get(self.first.saturating_sub(1)) {
+            Some(name) => name.as_str().as_bytes(),
+            None => b"",
+        }
     }
 
-    // The paths among the operands.
-    fn paths_in<F: Allocator>(self, operands: &[String<F>]) -> &[String<F>]
-        requires { self.names < length operands.now }
-        ensures { result.now ≡ drop self.names operands.now }
+    /// The paths of the files among the words.
+    pub fn paths<F: Allocator>(self, words: &[String<F>]) -> &[String<F>]
+        ensures { map string_bytes result.now ≡ paths_of (map string_bytes words.now) self }
     {
-        &operands[self.names..]
+        &words[self.first.min(words.len())..]
     }
 }
 
@@ -120,8 +123,8 @@ pub fn after_wide<F: Allocator>(allowed: bool, words: &[String<F>]) -> (bool, &[
 }
 
 /// What the words of a command line ask for, without the name of the program: None where they are no form of a command.
-pub fn job<F: Allocator>(words: &[String<F>]) -> Option<Job<'_, F>>
-    ensures { (job : Asked) → (result ≡ Some job) ↔ IsJob (map string_bytes words.now) job }
+pub fn job<F: Allocator>(words: &[String<F>]) -> Option<Job>
+    ensures { (job : Job) → (result ≡ Some job) ↔ IsJob (map string_bytes words.now) job }
 {
     let (word, rest) = words.split_first()?;
     let command = Cmd::named(word.as_str())?;
@@ -130,12 +133,9 @@ pub fn job<F: Allocator>(words: &[String<F>]) -> Option<Job<'_, F>>
     if !form.takes(operands) {
         return None;
     }
-    let name = form.name_in(operands);
-    let paths = form.paths_in(operands);
     Some(Job {
         command,
-        name,
-        paths,
+        first: words.len() - operands.len() + form.names,
         wide,
     })
 }

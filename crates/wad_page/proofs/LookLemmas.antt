@@ -1,8 +1,8 @@
 -- Why words ask for nothing.
 use Rattle.std.proofs.Common.{◌≡◌, ℕ, List, length, Some, sym, subst, ap, ◌∙◌}
 use Rattle.std.proofs.lemmas.Option.{same_Some}
-use Rattle.wad_look.specs.Command.{Job}
-use Rattle.wad_look.specs.Words.{IsJob}
+use Rattle.wad_look.specs.Words.{IsJob, paths_of}
+use Rattle.wad_look.specs.declared.command.Job.{Job}
 use Rattle.wad_page.specs.Look.{RefusesLook}
 use Rattle.wad_page.specs.Parts.{AreWords, RefusesWords, cut}
 use Rattle.wad_page.specs.declared.parts.Parts.{Parts}
@@ -24,8 +24,8 @@ module _ (parts files : Parts) where
 
     -- there aren't as many files as they name
     pub other_count : (job : Job) (bytes : List (List ℕ)) → ((other : Job) → IsJob texts other → other ≡ job) → cut files.sizes.now files.bytes.now ≡ Some bytes
-        → (length bytes ≡ length job.paths → ⊥) → RefusesLook parts files Usage
+        → (length bytes ≡ length (paths_of texts job) → ⊥) → RefusesLook parts files Usage
     other_count job bytes only cut_is differs = λ words other given asks.
         let asked = only other (subst (λ ws. IsJob ws other) (same_words words asks.words_are) asks.asked) in
         let found = same_Some given bytes (sym asks.files_are ∙ cut_is) in
-        differs (ap length (sym found) ∙ asks.as_many ∙ ap (λ (j : Job). length j.paths) asked)
+        differs (ap length (sym found) ∙ asks.as_many ∙ ap (λ ws. length (paths_of ws other)) (same_words words asks.words_are) ∙ ap (λ j. length (paths_of texts j)) asked)

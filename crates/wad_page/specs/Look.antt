@@ -4,11 +4,11 @@ use Rattle.le_rec.specs.Sink.{SinkState}
 use Rattle.memory_ends.specs.FromSlice.{bytes_left, state_of as slice_state}
 use Rattle.memory_ends.specs.ToVec.{ToVec, state_of as vec_state}
 use Rattle.memory_ends.specs.declared.from_slice.FromSlice.{FromSlice}
-use Rattle.wad_look.specs.Command.{Job}
 use Rattle.wad_look.specs.RunsJob.{RunsJob}
-use Rattle.wad_look.specs.Words.{IsJob}
+use Rattle.wad_look.specs.Words.{IsJob, paths_of}
 use Rattle.wad_look.specs.declared.command.Cmd.{Cmd}
 use Rattle.wad_look.specs.declared.command.Cmd.TheVariants.{Lmp}
+use Rattle.wad_look.specs.declared.command.Job.{Job}
 use Rattle.wad_look.specs.declared.fault.RunFault.{RunFault}
 use Rattle.wad_look.specs.declared.fault.RunFault.TheVariants.{Memory}
 use Rattle.wad_page.specs.Ended.{HandsOut, LacksRoom, TellsFront}
@@ -24,7 +24,7 @@ pub record Asks (parts files : Parts) (words : List (List ℕ)) (job : Job) (byt
   pub words_are : AreWords parts words
   pub asked : IsJob words job
   pub files_are : cut files.sizes.now files.bytes.now ≡ Some bytes
-  pub as_many : length bytes ≡ length job.paths
+  pub as_many : length bytes ≡ length (paths_of words job)
 
 -- what a command reads as its input: `lmp` its file
 abbrev pub input_for : Cmd → List (List ℕ) → List ℕ → List ℕ
@@ -32,11 +32,11 @@ input_for Lmp files input = slice_index_or files 0 []
 input_for _ files input = input
 
 -- the job's command runs over the files and the input
-pub record RunsFiles {W : Type 0} (sink : W → SinkState) (job : Job) (files : List (List ℕ)) (input : List ℕ) (out out' : W) (result : Result Bool RunFault) : Type 0 where
+pub record RunsFiles {W : Type 0} (sink : W → SinkState) (words : List (List ℕ)) (job : Job) (files : List (List ℕ)) (input : List ℕ) (out out' : W) (result : Result Bool RunFault) : Type 0 where
   pub source : FromSlice
   pub source' : FromSlice
   pub given : bytes_left source ≡ input_for job.command files input
-  pub runs : RunsJob slice_state sink job files source source' out out' result
+  pub runs : RunsJob slice_state sink words job files source source' out out' result
 
 -- the words' job runs over the files
 pub record RunsWords {W : Type 0} (sink : W → SinkState) (parts files : Parts) (input : List ℕ) (out out' : W) (result : Result Bool Refusal) : Type 0 where
@@ -45,7 +45,7 @@ pub record RunsWords {W : Type 0} (sink : W → SinkState) (parts files : Parts)
   pub bytes : List (List ℕ)
   pub asks : Asks parts files words job bytes
   pub outcome : Result Bool RunFault
-  pub runs : RunsFiles sink job bytes input out out' outcome
+  pub runs : RunsFiles sink words job bytes input out out' outcome
   pub ended : result ≡ page_end outcome
 
 -- why none does: the words ask for none over so many files, or there is no memory

@@ -1,5 +1,5 @@
 //! What words of `wadlook` ask for.
-ghost use Rattle.std.specs.Prelude.{◌≡◌, ◌<◌, ◌≤◌, false, length};
+ghost use Rattle.std.specs.Prelude.{◌≡◌, ◌<◌, ◌≤◌, false, length, map, string_bytes};
 ghost use Rattle.wad_dir.specs.declared.set.TheConstants.{MAX_FILES};
 ghost use Rattle.wad_look.specs.Opening.{bytes_of};
 ghost use Rattle.wad_page.specs.Look.{DoesLook, RunsFiles};
@@ -29,16 +29,17 @@ pub fn do_words<A: Allocator + Copy, W: Sink>(
     let Some(bytes) = copies(alloc, files)? else {
         return Err(Refusal::Usage);
     };
-    if bytes.len() != job.paths().len() {
+    if bytes.len() != job.paths(&texts).len() {
         return Err(Refusal::Usage);
     }
-    page_end(run_files(alloc, &job, &bytes, input, out))
+    page_end(run_files(alloc, &texts, job, &bytes, input, out))
 }
 
 // Runs the command of the job over its files. The file of `lmp` is read as the input.
 fn run_files<A: Allocator + Copy, W: Sink>(
     alloc: A,
-    job: &Job<'_, A>,
+    words: &[String<A>],
+    job: Job,
     files: &[Vec<u8, A>],
     input: &[u8],
     out: &mut W,
@@ -46,13 +47,13 @@ fn run_files<A: Allocator + Copy, W: Sink>(
     requires few { length files.now ≤ MAX_FILES }
     requires some { 0 < length files.now }
     requires out { (W.state out.old).failed ≡ false }
-    ensures { RunsFiles W.state job.now (bytes_of files.now) input.now out.old out.new result }
+    ensures { RunsFiles W.state (map string_bytes words.now) job (bytes_of files.now) input.now out.old out.new result }
 {
-    let given = if job.command() == Cmd::Lmp {
+    let given = if job.command == Cmd::Lmp {
         files[0].as_slice()
     } else {
         input
     };
     let mut source = FromSlice::new(given);
-    run(alloc, job, files, &mut source, out)
+    run(alloc, words, job, files, &mut source, out)
 }

@@ -4,10 +4,10 @@ use Rattle.std.specs.Io.KnownBytes.{Keeps}
 use Rattle.le_rec.specs.Sink.{SinkState}
 use Rattle.le_rec.specs.Source.{SourceState}
 use Rattle.line_io.specs.declared.input.TheConstants.{MAX_READ}
-use Rattle.wad_look.specs.Command.{Job}
 use Rattle.wad_look.specs.RunsJob.{RunsJob}
-use Rattle.wad_look.specs.Words.{IsJob}
+use Rattle.wad_look.specs.Words.{IsJob, paths_of}
 use Rattle.wad_look.specs.declared.command.Cmd.TheVariants.{Lmp}
+use Rattle.wad_look.specs.declared.command.Job.{Job}
 use Rattle.wad_look.specs.declared.fault.RunFault.{RunFault}
 use Rattle.wad_look.specs.declared.fault.RunFault.TheVariants.{Write}
 use Rattle.wadlook.specs.Files.{AreHeld, IsTooLong, RefusesPaths, total_length}
@@ -21,25 +21,25 @@ program_end (Err fault) = Err (Run fault)
 
 -- the job's command runs over these files, from an input that has the bytes `left`, where they are known; the program
 -- ends as it does, or because the output can't be written
-pub record RunsFiles {S W : Type 0} (source : S → SourceState) (sink : W → SinkState) (left : Option (List ℕ)) (job : Job) (files : List (List ℕ)) (result : Result Bool Refusal) : Type 0 where
+pub record RunsFiles {S W : Type 0} (source : S → SourceState) (sink : W → SinkState) (left : Option (List ℕ)) (words : List (List ℕ)) (job : Job) (files : List (List ℕ)) (result : Result Bool Refusal) : Type 0 where
   pub input : S
   pub input' : S
   pub out : W
   pub out' : W
   pub given : (source input).left ≡ left
   pub outcome : Result Bool RunFault
-  pub runs : RunsJob source sink job files input input' out out' outcome
+  pub runs : RunsJob source sink words job files input input' out out' outcome
   pub ended : (result ≡ program_end outcome) ⊎ (result ≡ Err (Run Write))
 
 -- why the command of a job doesn't run: its files aren't read; that of `lmp` is never too long to be read
-abbrev pub RefusesJob : (List ℕ → Option (List ℕ)) → Job → Refusal → Type 0
-RefusesJob held job (TooLong n) = (job.command ≢ Lmp) × IsTooLong held job.paths n
-RefusesJob held job refusal = RefusesPaths held job.paths refusal
+abbrev pub RefusesJob : (List ℕ → Option (List ℕ)) → List (List ℕ) → Job → Refusal → Type 0
+RefusesJob held words job (TooLong n) = (job.command ≢ Lmp) × IsTooLong held (paths_of words job) n
+RefusesJob held words job refusal = RefusesPaths held (paths_of words job) refusal
 
 -- why no command runs: the words are no form of one, or that of their job doesn't
 abbrev pub RefusesWords : (List ℕ → Option (List ℕ)) → List (List ℕ) → Refusal → Type 0
 RefusesWords held words Usage = (job : Job) → ¬ IsJob words job
-RefusesWords held words refusal = (job : Job) × IsJob words job × RefusesJob held job refusal
+RefusesWords held words refusal = (job : Job) × IsJob words job × RefusesJob held words job refusal
 
 -- a command ran over the files of the words, or `lmp` over its file, or none did
 pub record RunsWords {S W : Type 0} (source : S → SourceState) (sink : W → SinkState) (held : List ℕ → Option (List ℕ)) (left : Option (List ℕ)) (words : List (List ℕ)) (result : Result Bool Refusal) : Type 0 where
@@ -47,28 +47,28 @@ pub record RunsWords {S W : Type 0} (source : S → SourceState) (sink : W → S
   pub asked : IsJob words job
   pub over_files : job.command ≢ Lmp
   pub files : List (List ℕ)
-  pub read : AreHeld held job.paths files
+  pub read : AreHeld held (paths_of words job) files
   pub within : total_length files ≤ MAX_READ
-  pub runs : RunsFiles source sink left job files result
+  pub runs : RunsFiles source sink left words job files result
 
 -- the input of a command is its first file
-pub record ListsPath {S W : Type 0} (source : S → SourceState) (sink : W → SinkState) (held : List ℕ → Option (List ℕ)) (job : Job) (result : Result Bool Refusal) : Type 0 where
+pub record ListsPath {S W : Type 0} (source : S → SourceState) (sink : W → SinkState) (held : List ℕ → Option (List ℕ)) (words : List (List ℕ)) (job : Job) (result : Result Bool Refusal) : Type 0 where
   pub left : Option (List ℕ)
-  pub opened : Keeps (held (slice_index_or job.paths 0 [])) left
-  pub runs : RunsFiles source sink left job [] result
+  pub opened : Keeps (held (slice_index_or (paths_of words job) 0 [])) left
+  pub runs : RunsFiles source sink left words job [] result
 
 -- the input of `lmp` is its file
 pub record ListsFile {S W : Type 0} (source : S → SourceState) (sink : W → SinkState) (held : List ℕ → Option (List ℕ)) (words : List (List ℕ)) (result : Result Bool Refusal) : Type 0 where
   pub job : Job
   pub asked : IsJob words job
   pub lists : job.command ≡ Lmp
-  pub listed : ListsPath source sink held job result
+  pub listed : ListsPath source sink held words job result
 
 -- a job ended without a run of its command
-pub record IsStopped (held : List ℕ → Option (List ℕ)) (job : Job) (result : Result Bool Refusal) : Type 0 where
+pub record IsStopped (held : List ℕ → Option (List ℕ)) (words : List (List ℕ)) (job : Job) (result : Result Bool Refusal) : Type 0 where
   pub refusal : Refusal
   pub ended : result ≡ Err refusal
-  pub holds : RefusesJob held job refusal
+  pub holds : RefusesJob held words job refusal
 
 pub record IsRefused (held : List ℕ → Option (List ℕ)) (words : List (List ℕ)) (result : Result Bool Refusal) : Type 0 where
   pub refusal : Refusal

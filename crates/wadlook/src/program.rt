@@ -2,6 +2,7 @@
 ghost use Rattle.std.specs.Prelude.{◌≡◌, ◌≤◌, ◌⊎◌, Err, length, map, string_bytes};
 ghost use Rattle.wad_dir.specs.declared.set.TheConstants.{MAX_FILES};
 ghost use Rattle.wad_look.specs.Opening.{bytes_of};
+ghost use Rattle.wad_look.specs.Words.{IsJob};
 ghost use Rattle.wad_look.specs.declared.fault.RunFault.TheVariants.{Memory, Write as WriteFault};
 ghost use Rattle.wadlook.specs.Program.{DoesWords, IsStopped, ListsPath, RunsFiles, program_end};
 ghost use Rattle.wadlook.specs.Tied.{file_source, tied_sink, tied_source};
@@ -29,45 +30,48 @@ pub fn do_words<D: Storage, I: Read + Drop, O: Write + Drop>(
     let Some(job) = job(words) else {
         return Err(Refusal::Usage);
     };
-    if job.command() == Cmd::Lmp {
-        return list_file(alloc, &job, storage, writer);
+    if job.command == Cmd::Lmp {
+        return list_file(alloc, words, job, storage, writer);
     }
-    let files = read_files(alloc, storage, job.paths())?;
-    run_files(alloc, &job, &files, reader, writer)
+    let files = read_files(alloc, storage, job.paths(words))?;
+    run_files(alloc, words, job, &files, reader, writer)
 }
 
 // Runs the command over its files, with the ends tied to one another.
 fn run_files<I: Read + Drop, O: Write + Drop>(
     alloc: Global,
-    job: &Job<'_, Global>,
+    words: &[String],
+    job: Job,
     files: &[Vec<u8>],
     reader: I,
     writer: O,
 ) -> Result<bool, Refusal>
     requires few { length files.now ≤ MAX_FILES }
     ensures { (result ≡ Err (Refusal.Run Memory)) ⊎ RunsFiles (tied_source I O I.remaining) (tied_sink O)
-        (I.remaining reader) job.now (bytes_of files.now) result }
+        (I.remaining reader) (map string_bytes words.now) job (bytes_of files.now) result }
 {
     let Ok(output) = TiedWriter::new(alloc, writer) else {
         return Err(Refusal::Run(RunFault::Memory));
     };
     let mut input = FromRead::new(TiedReader::new(reader, &output));
     let mut out = ToWrite::new(&output);
-    let outcome = run(alloc, job, files, &mut input, &mut out);
+    let outcome = run(alloc, words, job, files, &mut input, &mut out);
     program_end(closed(&output, outcome))
 }
 
 // Lists the demo in the file of the job while it is read, with standard input left alone.
 fn list_file<D: Storage, O: Write + Drop>(
     alloc: Global,
-    job: &Job<'_, Global>,
+    words: &[String],
+    job: Job,
     storage: &D,
     writer: O,
 ) -> Result<bool, Refusal>
-    ensures { IsStopped (D.held storage.now) job.now result
-        ⊎ ListsPath (file_source D.File D.File.remaining) (tied_sink O) (D.held storage.now) job.now result }
+    requires { IsJob (map string_bytes words.now) job }
+    ensures { IsStopped (D.held storage.now) (map string_bytes words.now) job result
+        ⊎ ListsPath (file_source D.File D.File.remaining) (tied_sink O) (D.held storage.now) (map string_bytes words.now) job result }
 {
-    let paths = job.paths();
+    let paths = job.paths(words);
     let Ok(file) = storage.open(paths[0].as_str()) else {
         return Err(Refusal::Unreadable(1));
     };
@@ -78,7 +82,7 @@ fn list_file<D: Storage, O: Write + Drop>(
         return Err(Refusal::Run(RunFault::Memory));
     };
     let mut listing = ToWrite::new(&output);
-    let ended = run(alloc, job, &[], &mut demo, &mut listing);
+    let ended = run(alloc, words, job, &[], &mut demo, &mut listing);
     program_end(closed(&output, ended))
 }
 

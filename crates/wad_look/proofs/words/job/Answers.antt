@@ -1,8 +1,8 @@
-use Rattle.std.proofs.Common.{Some, map, string_bytes, ◌≡◌, sym, ◌∙◌, ap, subst, refl, arith}
-use Rattle.std.proofs.lemmas.List.{drop-map, length-map}
+use Rattle.std.proofs.Common.{Some, map, string_bytes, ◌≡◌, ◌+◌, ◌-◌, length, sym, ◌∙◌, ap, subst, refl, arith}
+use Rattle.std.proofs.lemmas.List.{length-map}
 use Rattle.std.proofs.lemmas.List.Elements.{All-map}
 use Rattle.wad_look.specs.Words.{IsJob, IsPlain}
-use Rattle.wad_look.proofs.WordsLemmas.{IsRead, IsTaken, job_of, only_job, is_job, same_job, All-unmap}
+use Rattle.wad_look.proofs.WordsLemmas.{IsRead, IsTaken, job_of, only_job, is_job, All-unmap}
 use Rattle.wad_look.proofs.words.job.Goals as goal
 
 pub returns-then-not-takes : goal.returns-then-not-takes
@@ -59,9 +59,9 @@ returns g c = λ job.
       few_files = omega arith;
       plain = All-map IsPlain string_bytes _ told.2;
     } in
-    let made : job_of c.in_ok-command.command c.form-form.result.names operands c.after_wide-wide.result.0
-    ≡ record { command = c.in_ok-command.command; name = c.name_in-name.result.now; paths = map string_bytes c.paths_in-paths.result.now; wide = c.after_wide-wide.result.0 } =
-    same_job _ _ _ _ _ _ _ _ refl (sym c.name_in-name.ensures) (drop-map string_bytes c.form-form.result.names c.after_wide-wide.result.1.now ∙ ap (map string_bytes) (sym c.paths_in-paths.ensures)) refl in (
-      (λ e. let same : job_of c.in_ok-command.command c.form-form.result.names operands c.after_wide-wide.result.0 ≡ job = cc in subst (IsJob texts) same (is_job _ _ _ _ _ read taken)),
+    let made : job_of texts c.in_ok-command.command c.form-form.result.names operands c.after_wide-wide.result.0
+    ≡ record { command = c.in_ok-command.command; first = length c.args.words.now - length c.after_wide-wide.result.1.now + c.form-form.result.names; wide = c.after_wide-wide.result.0 } =
+    rw (words_count, operands_count) refl in (
+      (λ e. let same : job_of texts c.in_ok-command.command c.form-form.result.names operands c.after_wide-wide.result.0 ≡ job = cc in subst (IsJob texts) same (is_job _ _ _ _ _ read taken)),
       λ j. ap Some (sym made ∙ (only_job _ _ _ _ _ read job j).1),
     )

@@ -27,7 +27,7 @@ returns-then-len-paths g c =
     let spelled : Some (bytes_of files.items) ≡ cut c.args.files.sizes.now c.args.files.bytes.now = ap (option_map (λ copies. bytes_of copies.items)) (sym c.in-Some-2.is) ∙ c.in_ok-bytes.ensures in
     let long : length (bytes_of files.items) ≡ length files.items = length-map files.items (λ copy. copy.items) in
     let counted : c.len.result ≡ length files.items = search rules in
-    let named = ap length (sym c.paths.ensures.paths) ∙ length-map c.paths.result.now string_bytes in
+    let named = ap length (sym c.paths.ensures) ∙ length-map c.paths.result.now string_bytes in
     inl (record {
       refusal = Usage;
       ended = refl;
@@ -44,7 +44,7 @@ returns g c =
     let spelled : Some (bytes_of files.items) ≡ cut c.args.files.sizes.now c.args.files.bytes.now = ap (option_map (λ copies. bytes_of copies.items)) (sym c.in-Some-2.is) ∙ c.in_ok-bytes.ensures in
     let long : length (bytes_of files.items) ≡ length files.items = length-map files.items (λ copy. copy.items) in
     let counted : c.len.result ≡ length files.items = search rules in
-    let named = ap length (sym c.paths.ensures.paths) ∙ length-map c.paths.result.now string_bytes in
+    let named = ap length (sym c.paths.ensures) ∙ length-map c.paths.result.now string_bytes in
     inr (record {
       words = map string_bytes c.deref.result.now;
       job = job;

@@ -24,12 +24,12 @@ returns-in_err-files g c =
       refusal = c.in_err-files.field-0.0;
       ended = p.1 ∙ ap Err p.2;
       holds = job_refuses held (map string_bytes c.args.words.now) job c.in_err-files.field-0.0 ((c.job.ensures job).0 c.in-Some.is)
-          (paths_refuse held (map string_bytes c.paths.result.now) job c.in_err-files.field-0.0 other c.paths.ensures.paths c.in_err-files.ensures.refused);
+          (paths_refuse held (map string_bytes c.paths.result.now) (map string_bytes c.args.words.now) job c.in_err-files.field-0.0 other c.paths.ensures c.in_err-files.ensures.refused);
     })
 
 pub returns : goal.returns
 returns g c =
     let job = c.in-Some.job in
-    let read = subst (λ ps. AreHeld (g.D.Storage.held c.args.storage.now) ps (bytes_of c.in_ok-files.files.items)) c.paths.ensures.paths c.in_ok-files.ensures.held in
+    let read = subst (λ ps. AreHeld (g.D.Storage.held c.args.storage.now) ps (bytes_of c.in_ok-files.files.items)) c.paths.ensures c.in_ok-files.ensures.held in
     let other : job.command ≢ Lmp = search rules in
     search rules

@@ -1,6 +1,7 @@
-use Rattle.std.proofs.Common.{◌≡◌, ◌∙◌, ap, arith, inl, inr, length, refl, rules, slice_index_or, string_bytes, subst, sym, Global, List, [], ℕ}
+use Rattle.std.proofs.Common.{◌≡◌, ◌∙◌, ap, arith, inl, inr, length, map, refl, rules, slice_index_or, string_bytes, subst, sym, Global, List, [], ℕ}
 use Rattle.std.proofs.lemmas.List.{get_or-map, length-map}
 use Rattle.std.specs.Io.KnownBytes.{Keeps}
+use Rattle.wad_look.specs.Words.{paths_of}
 use Rattle.wadlook.proofs.ProgramLemmas.{first_reached}
 use Rattle.wadlook.specs.Tied.{file_source}
 use Rattle.wadlook.specs.declared.refusal.Refusal.TheVariants.{Unreadable}
@@ -8,11 +9,11 @@ use Rattle.wadlook.proofs.program.list_file.Goals as goal
 
 pub returns-in_default : goal.returns-in_default
 returns-in_default g c =
-    let counted = ap length (sym c.paths-paths.ensures.paths) ∙ length-map c.paths-paths.result.now (string_bytes {Z = Global}) in
+    let some_file = c.requires.some_file in
     inl (record {
       refusal = Unreadable 1;
       ended = refl;
-      holds = first_reached (g.D.Storage.held c.args.storage.now) c.args.job.now.paths (omega (arith, counted, c.paths-paths.ensures.some));
+      holds = first_reached (g.D.Storage.held c.args.storage.now) (paths_of (map (string_bytes {Z = Global}) c.args.words.now) c.args.job) some_file;
     })
 
 pub returns : goal.returns
@@ -22,9 +23,11 @@ returns g c =
     let left : (file_source _ remaining c.in-Ok-new.demo).left ≡ remaining c.in-Ok.file = c.in-Ok-new.ensures.left in
     let opened : Keeps (held (string_bytes {Z = Global} c.index-paths-0.result)) (remaining c.in-Ok.file) =
     subst (λ (p : List ℕ). Keeps (held p) (remaining c.in-Ok.file)) c.as_str.ensures.value c.in-Ok.ensures in
-    let named : slice_index_or c.args.job.now.paths 0 [] ≡ string_bytes {Z = Global} c.index-paths-0.result =
-    ap (λ (ps : List (List ℕ)). slice_index_or ps 0 []) (sym c.paths-paths.ensures.paths)
-    ∙ get_or-map (string_bytes {Z = Global}) c.paths-paths.result.now 0 c.index-paths-0.result [] c.paths-paths.ensures.some
+    let some = c.requires.some_file in
+    let counted = ap length (sym c.paths-paths.ensures) ∙ length-map c.paths-paths.result.now (string_bytes {Z = Global}) in
+    let named : slice_index_or (paths_of (map (string_bytes {Z = Global}) c.args.words.now) c.args.job) 0 [] ≡ string_bytes {Z = Global} c.index-paths-0.result =
+    ap (λ (ps : List (List ℕ)). slice_index_or ps 0 []) (sym c.paths-paths.ensures)
+    ∙ get_or-map (string_bytes {Z = Global}) c.paths-paths.result.now 0 c.index-paths-0.result [] (omega (arith, some, counted))
     ∙ ap (string_bytes {Z = Global}) (sym c.index-paths-0.is) in
     inr (record {
       left = (file_source _ remaining c.in-Ok-new.demo).left;

@@ -1,14 +1,16 @@
 -- The columns of a row that are in front of segs.
-use Rattle.std.proofs.Common.{◌≡◌, ◌≢◌, ◌∙◌, ◌↔◌, inl, inr, ℕ, ◌+◌, ◌-◌, ◌<◌, ◌≤◌, ℤ, pos, ◌<ℤ◌, Bool, true, false, refl, sym, subst, arith}
+use Rattle.std.proofs.Common.{◌≡◌, ◌≢◌, ◌∙◌, ◌↔◌, inl, inr, ℕ, ◌+◌, ◌-◌, ◌<◌, ◌≤◌, ℤ, pos, ◌<ℤ◌, Option, Some, IsSomeAnd, Bool, true, false, refl, sym, subst, arith}
 use Rattle.std.proofs.lemmas.Bool.{cases_lt}
 use Rattle.std.proofs.lemmas.Int.{ints}
 use Rattle.std.specs.Prelude.{int_lt}
 use Rattle.map_level.specs.Level.{Level}
-use Rattle.map_cells.specs.Front.{IsCutBy, IsFrontOf, IsFrontOfSegs, IsIn, IsThose}
+use Rattle.map_cells.specs.Ends.{seg_ends}
+use Rattle.map_cells.specs.Front.{IsCutBy, IsFrontOf, IsFrontOfRange, IsFrontOfSegs, IsIn, IsOneOf, IsThose}
 use Rattle.map_cells.specs.Row.{Row, point_of}
 use Rattle.map_cells.specs.Shown.{IsBehind, IsSegOf, cross}
 use Rattle.map_cells.specs.declared.ends.Ends.{Ends}
 use Rattle.map_cells.specs.declared.front.Span.{Span}
+use Rattle.map_cells.specs.declared.shown.SegRange.{SegRange}
 use Rattle.map_cells.proofs.RowLemmas.{behind_between}
 
 -- all of a span
@@ -131,19 +133,25 @@ cut_begin ends row span last column wide after to e before here f = record {
   );
 }
 
--- none of an ssector's segs before one has a column's point behind it
-abbrev pub IsFrontOfFirst : Level → ℕ → Row → ℕ → ℕ → Type 0
-IsFrontOfFirst level t row end i = (k : ℕ) → IsSegOf level t k → k < end → ¬ IsBehind level k (point_of row i)
+-- what the ends of a seg cut away is behind it
+pub front_known : (level : Level) (k : ℕ) (ends : Ends) (row : Row) (span those : Span) → seg_ends level k ≡ Some ends
+    → IsCutBy ends row span those → IsFrontOf level k row span those
+front_known level k ends row span those is cut =
+    subst (λ (found : Option Ends). IsThose (λ i. ¬ IsSomeAnd found (λ e. cross e (point_of row i) <ℤ pos 0)) span those) (sym is) cut
 
-pub front_none : (level : Level) (t : ℕ) (row : Row) (span : Span) (first : ℕ) → span.first ≤ span.end
-    → ((k : ℕ) → IsSegOf level t k → first ≤ k) → IsThose (IsFrontOfFirst level t row first) span span
-front_none level t row span first ordered from =
-    those_all _ span ordered (λ i within k one before. let after = from k one in absurd (omega (arith, after, before)))
+-- none of some segs before one has a column's point behind it
+abbrev pub IsFrontOfFirst : Level → SegRange → Row → ℕ → ℕ → Type 0
+IsFrontOfFirst level segs row end i = (k : ℕ) → IsOneOf segs k → k < end → ¬ IsBehind level k (point_of row i)
 
-pub front_more : (level : Level) (t : ℕ) (row : Row) (span front fewer : Span) (k : ℕ) → IsSegOf level t k
-    → IsThose (IsFrontOfFirst level t row k) span front → IsFrontOf level k row front fewer
-    → IsThose (IsFrontOfFirst level t row (k + 1)) span fewer
-front_more level t row span front fewer k one so_far more =
+pub front_none : (level : Level) (segs : SegRange) (row : Row) (span : Span) → span.first ≤ span.end
+    → IsThose (IsFrontOfFirst level segs row segs.first) span span
+front_none level segs row span ordered =
+    those_all _ span ordered (λ i within k one before. absurd (omega (arith, one.0, before)))
+
+pub front_more : (level : Level) (segs : SegRange) (row : Row) (span front fewer : Span) (k : ℕ) → IsOneOf segs k
+    → IsThose (IsFrontOfFirst level segs row k) span front → IsFrontOf level k row front fewer
+    → IsThose (IsFrontOfFirst level segs row (k + 1)) span fewer
+front_more level segs row span front fewer k one so_far more =
     those_same _ _ span fewer
     (λ i within. (
       (λ both n seg before. elim (cases_lt n k) [
@@ -156,15 +164,16 @@ front_more level t row span front fewer k one so_far more =
     ))
     (those_both _ _ span front fewer so_far more)
 
-pub front_all : (level : Level) (t : ℕ) (row : Row) (span front : Span) (end : ℕ) → ((k : ℕ) → IsSegOf level t k → k < end)
-    → IsThose (IsFrontOfFirst level t row end) span front → IsFrontOfSegs level t row span front
-front_all level t row span front end below is =
-    those_same _ _ span front (λ i within. ((λ first k one. first k one (below k one)), (λ all k one before. all k one))) is
+pub front_all : (level : Level) (segs : SegRange) (row : Row) (span front : Span) (end : ℕ) → segs.end ≤ end
+    → IsThose (IsFrontOfFirst level segs row end) span front → IsFrontOfRange level segs row span front
+front_all level segs row span front end past is =
+    those_same _ _ span front
+    (λ i within. ((λ first k one. first k one (omega (arith, one.1, past))), (λ all k one before. all k one))) is
 
--- what none of an ssector's segs so far has in front is behind one of them
-pub front_done : (level : Level) (t : ℕ) (row : Row) (span front : Span) (end : ℕ) → front.first ≡ front.end
-    → IsThose (IsFrontOfFirst level t row end) span front → IsFrontOfSegs level t row span front
-front_done level t row span front end none is = record {
+-- what none of some segs so far has in front is behind one of them
+pub front_done : (level : Level) (segs : SegRange) (row : Row) (span front : Span) (end : ℕ) → front.first ≡ front.end
+    → IsThose (IsFrontOfFirst level segs row end) span front → IsFrontOfRange level segs row span front
+front_done level segs row span front end none is = record {
   from = is.from;
   ordered = is.ordered;
   to = is.to;
@@ -173,3 +182,10 @@ front_done level t row span front end none is = record {
     (λ all. (is.exact i within).1 (λ k one before. all k one)),
   );
 }
+
+-- the segs of an ssector are those of its range
+pub front_of_range : (level : Level) (t : ℕ) (segs : SegRange) (row : Row) (span front : Span) → ((k : ℕ) → IsSegOf level t k ↔ IsOneOf segs k)
+    → IsFrontOfRange level segs row span front → IsFrontOfSegs level t row span front
+front_of_range level t segs row span front same is =
+    those_same _ _ span front
+    (λ i within. ((λ all k one. all k ((same k).0 one)), (λ all k one. all k ((same k).1 one)))) is

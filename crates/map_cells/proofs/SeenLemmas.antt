@@ -45,6 +45,12 @@ grouped numbers items first len count code from long some are =
     ∙ ap (λ (xs : List ℕ). set (xs ++ replicate (suc (count - 1)) code) first head) all
     ∙ set_at numbers code (replicate (count - 1) code) head first (sym long ∙ sym from)
 
+-- a number behind which one of a code was put
+pub pushed : (numbers items : List ℕ) (code : ℕ) → items ≡ numbers ++ code ∷ [] → items ≡ numbers ++ group code 0
+pushed numbers items code are =
+    let same : code ≡ code + 0 * 131072 = omega arith in
+    are ∙ ap (λ (head : ℕ). numbers ++ head ∷ []) same
+
 map-replicate : (n code : ℕ) → map shown_in (replicate n code) ≡ replicate n (shown_in code)
 map-replicate zero code = refl
 map-replicate (suc n) code = ap (λ xs. shown_in code ∷ xs) (map-replicate n code)

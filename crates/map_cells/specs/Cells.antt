@@ -11,6 +11,9 @@ pub record Cells : Type 0 where
   pub grid : Grid
   pub shown : List (Option ℕ)
 
+abbrev pub cells_at : Grid → List (Option ℕ) → Cells
+cells_at grid shown = record { grid = grid; shown = shown }
+
 -- as many as the grid has, which has at most 1024 in a row and in a column
 pub record IsWhole (cells : Cells) : Type 0 where
   pub long : length cells.shown ≡ rows_of cells.grid * columns_of cells.grid

@@ -4,7 +4,7 @@ ghost use Rattle.std.specs.Prelude.{◌≡◌, ◌≢◌, ◌<◌, ◌≤◌, �
 ghost use Rattle.std.specs.List.{slice_get};
 ghost use Rattle.map_cells.specs.Ends.{ListsEnds};
 ghost use Rattle.map_cells.specs.Grid.{columns_of, rows_of};
-ghost use Rattle.map_cells.specs.Cells.{cell, AddsRow, AreCells, GoesOn, TellsCell};
+ghost use Rattle.map_cells.specs.Cells.{cell, cells_at, AddsRow, AreCells, GoesOn, TellsCell};
 ghost use Rattle.map_cells.specs.Row.{IsRowInRange};
 ghost use Rattle.map_cells.specs.Way.{AllCome};
 ghost use Rattle.map_tree.specs.SectorList.{ListsSectors};
@@ -21,6 +21,9 @@ use map_level::Level;
 use map_tree::NF_SUBSECTOR;
 use std::alloc::{AllocError, Allocator, Global};
 use std::marker::Model;
+
+/// From how many columns on the points of a row go down the nodes together. Of fewer each goes by itself, since they soon part.
+const TOGETHER: usize = 8;
 
 /// The sector that each cell of a grid shows, if any: four bytes a cell.
 #[derive(Drop)]
@@ -48,8 +51,8 @@ impl<A: Allocator> Model for Cells<A> {
 impl<A: Allocator> Cells<A> {
     ghost use Rattle.map_cells.specs.Cells.{IsWhole};
 
-    /// What is shown at the points of a grid's cells. While it runs it takes ten bytes more for each seg, of no more segs than cells, where
-    /// there is memory for that.
+    /// What is shown at the points of a grid's cells. While it runs it takes ten bytes more for each seg that an ssector can name, where there
+    /// are four times as many cells and memory for that.
     pub fn of<B: Allocator>(
         alloc: A,
         shown: &Shown<'_, '_, B>,
@@ -59,12 +62,16 @@ impl<A: Allocator> Cells<A> {
     {
         let columns = usize::from(grid.columns());
         let rows = usize::from(grid.rows());
-        let mut seen = Seen::with_capacity(alloc, rows * columns)?;
-        let ends = listed_ends(shown.allocator(), shown.level(), rows * columns);
-        let mut pending = Pending::new();
-        for j in 0..grid.rows() {
-            push_row(shown, &ends, grid, j, &mut pending, &mut seen)?;
-        }
+        let together = if columns < TOGETHER {
+            0
+        } else {
+            rows_in_range(grid) * columns
+        };
+        let seen = if together == 0 {
+            seen_by_points(alloc, shown, grid)?
+        } else {
+            seen_by_rows(alloc, shown, grid, together)?
+        };
         Ok(Cells {
             grid,
             columns,
@@ -158,6 +165,52 @@ impl<A: Allocator> Cells<A> {
     }
 }
 
+// How many rows of cells have all their points in range.
+fn rows_in_range(grid: Grid) -> usize
+    ensures { result ≤ rows_of grid }
+{
+    let mut count = 0;
+    for j in 0..grid.rows() {
+        if Row::of(grid, j).is_some() {
+            count += 1;
+        }
+    }
+    count
+}
+
+// What all cells show, each by itself.
+fn seen_by_points<A: Allocator, B: Allocator>(
+    alloc: A,
+    shown: &Shown<'_, '_, B>,
+    grid: Grid,
+) -> Result<Seen<A>, AllocError>
+    ensures { IfOk result (λ seen. AreCells shown.now (cells_at grid seen)) }
+{
+    let mut seen = Seen::with_capacity(alloc, usize::from(grid.rows()) * usize::from(grid.columns()))?;
+    for j in 0..grid.rows() {
+        push_each(shown, grid, j, &mut seen)?;
+    }
+    Ok(seen)
+}
+
+// The same, row by row, where so many cells are in rows whose points go down together.
+fn seen_by_rows<A: Allocator, B: Allocator>(
+    alloc: A,
+    shown: &Shown<'_, '_, B>,
+    grid: Grid,
+    together: usize,
+) -> Result<Seen<A>, AllocError>
+    ensures { IfOk result (λ seen. AreCells shown.now (cells_at grid seen)) }
+{
+    let mut seen = Seen::with_capacity(alloc, usize::from(grid.rows()) * usize::from(grid.columns()))?;
+    let ends = listed_ends(shown.allocator(), shown.level(), together / 4);
+    let mut pending = Pending::new();
+    for j in 0..grid.rows() {
+        push_row(shown, &ends, grid, j, &mut pending, &mut seen)?;
+    }
+    Ok(seen)
+}
+
 // Adds what a row of cells shows: its points go down the nodes together, where all are in range.
 fn push_row<A: Allocator, B: Allocator>(
     shown: &Shown<'_, '_, B>,
@@ -188,7 +241,7 @@ fn push_each<A: Allocator, B: Allocator>(
     ensures { OnOk result (AddsRow shown.now grid j (columns_of grid) seen.old seen.new) }
 {
     for i in 0..grid.columns() {
-        seen.push_same(shown.at(grid.x(i), grid.y(j)), 1)?;
+        seen.push(shown.at(grid.x(i), grid.y(j)))?;
     }
     Ok(())
 }

@@ -35,13 +35,16 @@ pub fn seg_ends(level: &Level<'_>, i: usize) -> Option<Ends>
     ends_named(level, &seg.v1, &seg.v2)
 }
 
-/// The ends of the first of a level's segs, so many at most, as far as there is memory for them: ten bytes a seg.
+/// How many segs an ssector can name: its first one by 16 bits, and so many from there on by 16 others.
+const NAMED: usize = 131_070;
+
+/// The ends of all segs that an ssector can name, where they are no more than that and there is memory for them: ten bytes a seg.
 pub fn listed_ends<A: Allocator>(alloc: A, level: &Level<'_>, most: usize) -> Vec<Option<Ends>, A>
     ensures { ListsEnds level.now result.items }
 {
-    let count = level.segs().len().min(most);
+    let count = level.segs().len().min(NAMED);
     let mut list = Vec::new(alloc);
-    if list.reserve_exact(count).is_err() {
+    if count > most || list.reserve_exact(count).is_err() {
         return list;
     }
     for i in 0..count {
@@ -50,27 +53,6 @@ pub fn listed_ends<A: Allocator>(alloc: A, level: &Level<'_>, most: usize) -> Ve
         }
     }
     list
-}
-
-/// The ends of the seg of a number, by a list of the first ones.
-#[inline]
-pub fn ends_at(level: &Level<'_>, listed: &[Option<Ends>], i: usize) -> Option<Ends>
-    requires { ListsEnds level.now listed.now }
-    ensures { result ≡ seg_ends level.now i }
-{
-    match listed.get(i) {
-        Some(ends) => *ends,
-        None => unlisted_ends(level, i),
-    }
-}
-
-// Those that aren't listed, apart from the others.
-#[cold]
-#[inline(never)]
-fn unlisted_ends(level: &Level<'_>, i: usize) -> Option<Ends>
-    ensures { result ≡ seg_ends level.now i }
-{
-    seg_ends(level, i)
 }
 
 // The vertexes that two words name.

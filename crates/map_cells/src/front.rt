@@ -1,15 +1,15 @@
 //! The columns of a row that are in front of an ssector's segs.
 
-ghost use Rattle.std.specs.Prelude.{◌≡◌, ◌<◌, ◌≤◌, pos, int_lt};
-ghost use Rattle.map_cells.specs.Ends.{ListsEnds};
+ghost use Rattle.std.specs.Prelude.{◌≡◌, ◌+◌, ◌<◌, ◌≤◌, length, pos, int_lt};
+ghost use Rattle.map_cells.specs.Ends.{ListsEnds, seg_ends};
 ghost use Rattle.map_cells.specs.Grid.{columns_of};
 ghost use Rattle.map_cells.specs.Shown.{cross};
-ghost use Rattle.map_cells.specs.Front.{IsCutBy, IsFrontOf, IsFrontOfSegs};
+ghost use Rattle.map_cells.specs.Front.{IsCutBy, IsFrontOf, IsFrontOfRange, IsFrontOfSegs};
 
 use crate::change::{ColumnTest, change};
-use crate::ends::{Ends, ends_at};
+use crate::ends::{Ends, seg_ends};
 use crate::row::Row;
-use crate::shown::{cross, segs_of};
+use crate::shown::{SegRange, cross, segs_of};
 use map_geo::Point;
 use map_level::Level;
 
@@ -34,25 +34,71 @@ pub fn front_of_segs(
     ensures { IsFrontOfSegs level.now t row span result }
 {
     let segs = segs_of(level, t);
+    if segs.end <= listed.len() {
+        front_of_listed(level, listed, segs, row, span)
+    } else {
+        front_of_others(level, segs, row, span)
+    }
+}
+
+// Those that are behind none of some segs, by the list of their ends.
+#[inline]
+fn front_of_listed(
+    level: &Level<'_>,
+    listed: &[Option<Ends>],
+    segs: SegRange,
+    row: Row,
+    span: Span,
+) -> Span
+    requires listed { ListsEnds level.now listed.now }
+    requires there { segs.end ≤ length listed.now }
+    requires ordered { span.first ≤ span.end }
+    requires within { span.end ≤ columns_of row.grid }
+    ensures { IsFrontOfRange level.now segs row span result }
+{
     let mut front = span;
     for i in segs.first..segs.end {
         if front.first == front.end {
             return front;
         }
-        front = front_of_seg(level, listed, i, row, front);
+        front = front_of_seg(level, i, listed[i], row, front);
     }
     front
 }
 
-// Those that aren't behind the seg of a number.
+// The same of segs that aren't all listed.
+fn front_of_others(level: &Level<'_>, segs: SegRange, row: Row, span: Span) -> Span
+    requires ordered { span.first ≤ span.end }
+    requires within { span.end ≤ columns_of row.grid }
+    ensures { IsFrontOfRange level.now segs row span result }
+{
+    let mut left = span;
+    for i in segs.first..segs.end {
+        if left.first == left.end {
+            return left;
+        }
+        left = front_of_seg(level, i, seg_ends(level, i), row, left);
+    }
+    left
+}
+
+// Those that aren't behind the seg of a number, whose ends are these.
 #[inline]
-fn front_of_seg(level: &Level<'_>, listed: &[Option<Ends>], i: usize, row: Row, span: Span) -> Span
-    requires listed { ListsEnds level.now listed.now }
+fn front_of_seg(
+    level: &Level<'_>,
+    i: usize,
+    ends: Option<Ends>,
+    row: Row,
+    span: Span,
+) -> Span
+    requires ends { seg_ends level.now i ≡ ends }
     requires some { span.first < span.end }
     requires within { span.end ≤ columns_of row.grid }
     ensures { IsFrontOf level.now i row span result }
 {
-    match ends_at(level, listed, i) {
+    // Only the clauses speak of the level and the number.
+    let (_level, _i) = (level, i);
+    match ends {
         Some(ends) => cut_by(&ends, row, span),
         None => span,
     }
@@ -99,6 +145,9 @@ fn cut_by(ends: &Ends, row: Row, span: Span) -> Span
 {
     let Span { first, end } = span;
     let last = end - 1;
+    if first == last {
+        return cut_column(ends, row, span);
+    }
     let begins_behind = is_behind(ends, row.point(first));
     let ends_behind = is_behind(ends, row.point(last));
     match (begins_behind, ends_behind) {
@@ -114,5 +163,20 @@ fn cut_by(ends: &Ends, row: Row, span: Span) -> Span
             let first = change(&Behind { ends, row, behind }, first, last);
             Span { first, end }
         }
+    }
+}
+
+// The same of a single column, for which one test is enough.
+#[inline]
+fn cut_column(ends: &Ends, row: Row, span: Span) -> Span
+    requires one { span.end ≡ span.first + 1 }
+    requires within { span.end ≤ columns_of row.grid }
+    ensures { IsCutBy ends.now row span result }
+{
+    let Span { first, end } = span;
+    if is_behind(ends, row.point(first)) {
+        Span { first: end, end }
+    } else {
+        span
     }
 }

@@ -1,6 +1,6 @@
 //! What cells show, one after another.
 
-ghost use Rattle.std.specs.Prelude.{◌≡◌, ◌≢◌, ◌++◌, ◌<◌, ◌≤◌, ℕ, [], Some, IfOk, OnOk, length, replicate};
+ghost use Rattle.std.specs.Prelude.{◌≡◌, ◌≢◌, ◌++◌, ◌∷◌, ◌<◌, ◌≤◌, ℕ, [], Some, IfOk, OnOk, length, replicate};
 ghost use Rattle.std.specs.List.{slice_get};
 ghost use Rattle.map_cells.specs.Seen.{seen_of};
 
@@ -40,6 +40,17 @@ impl<A: Allocator> Seen<A> {
         Ok(Seen { numbers, bound: 0 })
     }
 
+    /// A cell more.
+    #[inline]
+    pub fn push(&mut self, shown: Option<u16>) -> Result<(), AllocError>
+        ensures { OnOk result (self.new ≡ self.old ++ shown ∷ []) }
+    {
+        let code = code_of(shown);
+        self.numbers.push(code)?;
+        self.bound = self.bound.max(code);
+        Ok(())
+    }
+
     /// So many cells more that show the same.
     #[inline]
     pub fn push_same(&mut self, shown: Option<u16>, count: usize) -> Result<(), AllocError>
@@ -48,6 +59,9 @@ impl<A: Allocator> Seen<A> {
     {
         if count == 0 {
             return Ok(());
+        }
+        if count == 1 {
+            return self.push(shown);
         }
         let code = code_of(shown);
         let first = self.numbers.len();

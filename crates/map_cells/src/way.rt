@@ -129,7 +129,8 @@ fn part_at(node: &Node, row: Row, from: u16, end: u16) -> Parted
     }
 }
 
-// The first column behind one on a side whose point isn't there, or the end. A single column takes no test more.
+// The first column behind one on a side whose point isn't there, or the end. A single column takes no test more, and of
+// two it is the second.
 #[inline]
 fn near_end(test: &OnSide, from: u16, end: u16) -> u16
     requires some { from < end }
@@ -145,6 +146,9 @@ fn near_end(test: &OnSide, from: u16, end: u16) -> u16
     let last = end - 1;
     if last == from || test.holds(last) {
         return end;
+    }
+    if last - from == 1 {
+        return last;
     }
     met_end(test, from, last)
 }

@@ -13,8 +13,8 @@ loop-i-preserved g c =
     let x : FitsSigned w32 c.x.result = search rules in
     let y : FitsSigned w32 c.y.result = search rules in
     let told = simp to_z-of_z at c.at.ensures.sector in
-    AddsRow-more c.args.shown.now c.args.grid c.args.j c.loop-i.i c.args.seen.now c.loop-i.seen c.push_same.new.self
-    c.at.result c.loop-i.invariant (rw (c.x.ensures, c.y.ensures) at told) c.in_ok-push_same.ensures
+    AddsRow-more c.args.shown.now c.args.grid c.args.j c.loop-i.i c.args.seen.now c.loop-i.seen c.push.new.self
+    c.at.result c.loop-i.invariant (rw (c.x.ensures, c.y.ensures) at told) c.in_ok-push.ensures
 
 pub returns : goal.returns
 returns g c =

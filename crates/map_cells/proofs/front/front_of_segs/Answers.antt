@@ -1,24 +1,12 @@
-use Rattle.std.proofs.Common.{arith}
-use Rattle.map_cells.proofs.FrontLemmas.{front_all, front_done, front_more, front_none}
+use Rattle.map_cells.proofs.FrontLemmas.{front_of_range}
 use Rattle.map_cells.proofs.front.front_of_segs.Goals as goal
 
-pub loop-i-init : goal.loop-i-init
-loop-i-init c =
-    front_none c.args.level.now c.args.t c.args.row c.args.span c.segs_of-segs.result.first c.requires.ordered
-    (λ k one. ((c.segs_of-segs.ensures k).0 one).0)
+pub returns-then-segs-listed : goal.returns-then-segs-listed
+returns-then-segs-listed c =
+    front_of_range c.args.level.now c.args.t c.segs_of-segs.result c.args.row c.args.span c.front_of_listed.result c.segs_of-segs.ensures
+    c.front_of_listed.ensures
 
-pub loop-i-preserved : goal.loop-i-preserved
-loop-i-preserved c =
-    let from = c.loop-i.auto.i in
-    front_more c.args.level.now c.args.t c.args.row c.args.span c.loop-i.front c.front_of_seg-front.result c.loop-i.i
-    ((c.segs_of-segs.ensures c.loop-i.i).1 (from, c.loop-i-test.true)) c.loop-i.invariant c.front_of_seg-front.ensures
-
-pub returns : goal.returns
-returns c =
-    let past = c.loop-i-test.false in
-    front_all c.args.level.now c.args.t c.args.row c.args.span c.loop-i.front c.loop-i.i
-    (λ k one. let within = (c.segs_of-segs.ensures k).0 one in omega (arith, within.1, past)) c.loop-i.invariant
-
-pub returns-then-front : goal.returns-then-front
-returns-then-front c =
-    front_done c.args.level.now c.args.t c.args.row c.args.span c.loop-i.front c.loop-i.i (omega (arith, c.if-front.true)) c.loop-i.invariant
+pub returns-else-segs-listed : goal.returns-else-segs-listed
+returns-else-segs-listed c =
+    front_of_range c.args.level.now c.args.t c.segs_of-segs.result c.args.row c.args.span c.front_of_others.result c.segs_of-segs.ensures
+    c.front_of_others.ensures

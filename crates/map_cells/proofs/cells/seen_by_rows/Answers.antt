@@ -1,8 +1,8 @@
-use Rattle.std.proofs.Common.{◌≡◌, refl, subst, arith}
-use Rattle.map_cells.specs.Cells.{Cells}
+use Rattle.std.proofs.Common.{◌≡◌, subst, arith}
+use Rattle.map_cells.specs.Cells.{cells_at}
 use Rattle.map_cells.specs.Grid.{rows_of}
 use Rattle.map_cells.proofs.CellLemmas.{AreRows, AreRows-none, AreRows-more, AreCells-all}
-use Rattle.map_cells.proofs.cells.Cells.of.Goals as goal
+use Rattle.map_cells.proofs.cells.seen_by_rows.Goals as goal
 
 pub loop-j-init : goal.loop-j-init
 loop-j-init g c = rw c.in_ok-seen.ensures (AreRows-none c.args.shown.now c.args.grid)
@@ -14,10 +14,8 @@ loop-j-preserved g c =
 
 pub returns : goal.returns
 returns g c =
-    let cells : Cells = record { grid = c.args.grid; shown = c.loop-j.seen } in
     let at : c.loop-j.j ≡ rows_of c.args.grid = omega (arith, c.rows-j-end.ensures.value) in
     let rows = subst (λ n. AreRows c.args.shown.now c.args.grid n c.loop-j.seen) at c.loop-j.invariant in
-    let valid = c.columns.ensures.valid in (
-      refl,
-      AreCells-all c.args.shown.now cells (record { long = rows.long; columns = valid.columns; rows = valid.rows }) rows,
-    )
+    let valid = c.columns.ensures.valid in
+    AreCells-all c.args.shown.now (cells_at c.args.grid c.loop-j.seen)
+    (record { long = rows.long; columns = valid.columns; rows = valid.rows }) rows

@@ -1,6 +1,0 @@
-use Rattle.map_cells.proofs.FrontLemmas.{IsFrontOfFirst}
-use Rattle.map_cells.specs.Front.{IsThose}
-use Rattle.map_cells.proofs.front.front_of_segs.Given as goal
-
-abbrev pub invariant-loop-i : goal.invariant-loop-i
-invariant-loop-i l = IsThose (IsFrontOfFirst l.level l.t l.row l.i) l.fn.span l.front

@@ -1,12 +1,13 @@
 -- Links from the numbers of sides to the next ones of their sectors, and counts of the numbers' ends.
-use Rattle.std.proofs.Common.{◌≡◌, ◌≢◌, ℕ, zero, suc, ◌+◌, ◌*◌, ◌/◌, ◌<◌, ◌≤◌, ◌⊎◌, inl, inr, List, [], ◌∷◌, length, get_or, set, drop, refl, sym, ap, subst, ◌∙◌, add-one, arith}
-use Rattle.std.specs.Prelude.{◌==◌, ◌%◌, All, cond, count_by}
+use Rattle.std.proofs.Common.{◌≡◌, ◌≢◌, ℕ, zero, suc, ◌+◌, ◌*◌, ◌/◌, ◌<◌, ◌≤◌, ◌⊎◌, inl, inr, List, [], ◌∷◌, length, get_or, set, drop, take, refl, sym, ap, subst, ◌∙◌, add-one, arith}
+use Rattle.std.specs.Prelude.{◌==◌, ◌%◌, ◌^◌, All, cond, count_by, sum_by}
+use Rattle.std.proofs.Math.Nat.{mod-add-mod}
 use Rattle.std.proofs.lemmas.Bool.{cases_eq, cases_lt, eq-eqb, ne_eqb}
 use Rattle.std.proofs.lemmas.List.{get_or-set_same, get_or-set_other, length-set}
 use Rattle.std.proofs.lemmas.List.Elements.{All-append, All-filter, All-head, All-nil, All-tail}
-use Rattle.std.proofs.lemmas.List.Sums.{sum_by-append, sum_by-cons}
+use Rattle.std.proofs.lemmas.List.Sums.{sum_by-append, sum_by-cons, sum_by_more}
 use Rattle.map_checks.specs.KeyLinks.{IsLink, of_key}
-use Rattle.map_checks.specs.Balance.{AreBalanced, CountEnds, HasBalance, end_in, of_sectors, sector_in, with_end}
+use Rattle.map_checks.specs.Balance.{AreBalanced, CountEnds, HasBalance, end_in, of_sectors, sector_in, square_in, squares_in, with_end}
 use Rattle.map_checks.proofs.LinkLemmas.{key_here}
 
 ends_cons : (e n : ℕ) (numbers : List ℕ) → with_end e (n ∷ numbers) ≡ cond (end_in n == e) 1 0 + with_end e numbers
@@ -173,3 +174,10 @@ balance_all numbers sectors few even pair = elim (cases_lt (pair / 65536) sector
   | inr past ↦
       times_nowhere sectors (pair * 2) numbers few (omega (arith, past)) ∙ sym (times_nowhere sectors (pair * 2 + 1) numbers few (omega (arith, past)))
 ]
+
+-- the squares of one number more
+pub squares_more : (end k : ℕ) (numbers : List ℕ) → k < length numbers
+    → (squares_in end (take k numbers) + square_in end (get_or numbers k 0)) % 2 ^ 64 ≡ squares_in end (take (k + 1) numbers)
+squares_more end k numbers inside =
+    mod-add-mod (sum_by (square_in end) (take k numbers)) (2 ^ 64) (square_in end (get_or numbers k 0))
+    ∙ ap (λ sum. sum % 2 ^ 64) (sym (sum_by_more (square_in end) numbers k 0 inside))

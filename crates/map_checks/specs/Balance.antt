@@ -1,5 +1,5 @@
 -- Whether as many sides leave each vertex as reach it, sector by sector: numbers of sides by their sectors, and counts of their ends (ours).
-use Rattle.std.specs.Prelude.{◌≡◌, ℕ, ◌+◌, ◌*◌, ◌/◌, ◌%◌, ◌<◌, ◌==◌, zero, suc, List, [], ◌++◌, length, count_by, slice_index_or}
+use Rattle.std.specs.Prelude.{◌≡◌, ℕ, ◌+◌, ◌*◌, ◌/◌, ◌%◌, ◌^◌, ◌<◌, ◌==◌, zero, suc, List, [], ◌++◌, length, count_by, sum_by, slice_index_or, if◌then◌else◌}
 use Rattle.map_checks.specs.KeyLinks.{of_key}
 
 -- the sector of a side's number
@@ -31,3 +31,11 @@ HasBalance counts n =
 -- of each pair of a sector and a vertex as many sides that leave as reach are among the numbers
 abbrev pub AreBalanced : List ℕ → Type 0
 AreBalanced numbers = (pair : ℕ) → count_by (λ n. n == pair * 2) numbers ≡ count_by (λ n. n == pair * 2 + 1) numbers
+
+-- the square of the sector and the vertex of a side's number, where it is of the vertex that the side reaches (0) or leaves (1)
+abbrev pub square_in : ℕ → ℕ → ℕ
+square_in end n = let pair = n / 2 % 2 ^ 32 in if n % 2 == end then pair * pair % 2 ^ 64 else 0
+
+-- the sum of these squares in 64 bits
+abbrev pub squares_in : ℕ → List ℕ → ℕ
+squares_in end numbers = sum_by (square_in end) numbers % 2 ^ 64

@@ -1,5 +1,5 @@
 -- Warnings, and the order in which they are told (ours).
-use Rattle.std.specs.Prelude.{◌≡◌, ℕ, ◌+◌, ◌-◌, ◌*◌, ◌^◌, ◌<◌, ◌↔◌, List, [], ◌∷◌, ◌++◌, length, take, min, nat_lt, if◌then◌else◌, AllPairs, Contains}
+use Rattle.std.specs.Prelude.{◌≡◌, ℕ, ◌+◌, ◌-◌, ◌*◌, ◌^◌, ◌<◌, List, [], ◌∷◌, ◌++◌, length, take, min, nat_lt, if◌then◌else◌}
 use Rattle.map_level.specs.Findings.{AreAllInOrder}
 use Rattle.map_checks.specs.declared.warning.Side.{Side}
 use Rattle.map_checks.specs.declared.warning.Side.TheVariants.{Front, Back}

@@ -9,15 +9,20 @@ use std::alloc::{AllocError, Allocator};
 
 const BUCKETS: usize = 4096;
 
+/// Fewer numbers than this are sooner put in order than all buckets are filled.
+const FEWEST: usize = 128;
+
+/// And so are more than this, of which a bucket has too many to be looked through.
+const MOST: usize = 2 * BUCKETS;
+
 /// How many numbers of a bucket are looked at for one, so that no bucket takes long.
 const MOST_OF_A_BUCKET: usize = 16;
 
-/// Whether no number stands twice. It may answer false of others, too: where a bucket has many, and of more than 2^32 - 1.
+/// Whether no number stands twice. It may answer false of others, too: of those that are sooner put in order, and where a bucket has many.
 pub fn are_surely_apart<A: Allocator + Copy>(alloc: A, numbers: &[u64]) -> Result<bool, AllocError>
     ensures { IfOk result (λ apart. IsTrue apart → AreApart numbers.now) }
 {
-    // Links have four bytes.
-    if numbers.len() > 0xffff_ffff {
+    if numbers.len() < FEWEST || numbers.len() > MOST {
         return Ok(false);
     }
     let mut firsts = Vec::from_elem(alloc, numbers.len() as u32, BUCKETS)?;

@@ -1,13 +1,17 @@
 //! Whether as many sides leave each vertex of each sector as reach it, told in linear time, without an order of the sides.
 
-ghost use Rattle.std.specs.Prelude.{◌≡◌, ◌+◌, ◌*◌, ◌%◌, ◌<◌, ◌≤◌, ◌↔◌, ℕ, All, IfOk, IsTrue, length, slice_index_or};
+ghost use Rattle.std.specs.Prelude.{◌≡◌, ◌+◌, ◌*◌, ◌%◌, ◌^◌, ◌<◌, ◌≤◌, ◌↔◌, ℕ, All, IfOk, IsTrue, length, slice_index_or};
 ghost use Rattle.map_checks.specs.KeyLinks.{AreLinks, of_key};
-ghost use Rattle.map_checks.specs.Balance.{AreBalanced, CountEnds, HasBalance, end_in, of_sectors, sector_in};
+ghost use Rattle.map_checks.specs.Balance.{AreBalanced, CountEnds, HasBalance, end_in, of_sectors, sector_in, square_in, squares_in};
 
 use crate::sector_links::{SectorLinks, end_in, links_of, sector_in};
 use std::alloc::{AllocError, Allocator};
 
-/// Whether the numbers of sides are balanced, of so many sectors and vertexes at most. It may answer false of balanced ones: of more than 2^32 - 1.
+/// More numbers than this, those of 65,536 sides, are sooner put in order: what counts them goes all over memory.
+const MOST: usize = 2 * 65536;
+
+/// Whether the numbers of sides are balanced, of so many sectors and vertexes at most. It may answer false of balanced ones, too, where they
+/// are more than are counted.
 pub fn are_balanced<A: Allocator + Copy>(
     alloc: A,
     numbers: &[u64],
@@ -19,13 +23,42 @@ pub fn are_balanced<A: Allocator + Copy>(
     requires few { vertexes ≤ 65536 }
     ensures { IfOk result (λ balanced. IsTrue balanced → AreBalanced numbers.now) }
 {
-    // Links and counts have four bytes.
-    if numbers.len() > 0xffff_ffff {
+    // Most of those that aren't balanced are told by their squares, and cost no counting.
+    if numbers.len() > MOST || !have_same_squares(numbers) {
         return Ok(false);
     }
     let links = links_of(alloc, numbers, sectors)?;
     let mut counts = Vec::from_elem(alloc, 0, vertexes * 2)?;
     Ok(are_sectors_balanced(&mut counts, numbers, &links, sectors))
+}
+
+// Whether the squares of the numbers that tell of sides that reach a vertex add up to those of the sides that leave one, as those of balanced
+// numbers do.
+fn have_same_squares(numbers: &[u64]) -> bool
+    ensures { IsTrue result ↔ (squares_in 0 numbers.now ≡ squares_in 1 numbers.now) }
+{
+    let mut reached = 0u64;
+    let mut left = 0u64;
+    for k in 0..numbers.len() {
+        reached = reached.wrapping_add(square_in(0, numbers[k]));
+        left = left.wrapping_add(square_in(1, numbers[k]));
+    }
+    reached == left
+}
+
+// The square of a number's sector and vertex, where the number is of such an end.
+#[inline]
+fn square_in(end: u64, number: u64) -> u64
+    ensures value { result ≡ square_in end number }
+    ensures below { result < 2 ^ 64 }
+{
+    // Numbers of 32 bits are squared side by side.
+    let pair = number / 2 % (1 << 32);
+    if number % 2 == end {
+        pair.wrapping_mul(pair)
+    } else {
+        0
+    }
 }
 
 // The same sector by sector, with counts of no number yet. They go on from one sector to the next: where those before are balanced, what

@@ -24,6 +24,9 @@ pub struct SideRun {
     pub to: u32,
 }
 
+/// Fewer numbers than this are sooner put in order than counted.
+const FEWEST_COUNTED: usize = 128;
+
 /// W1 of a level: the vertexes of its sectors that not as many sides leave as reach. It takes 24 bytes a side, and up to 40, and while
 /// it looks for a sector that isn't closed four bytes a sector and eight a vertex.
 pub fn unclosed<A: Allocator + Copy>(
@@ -50,7 +53,7 @@ fn are_closed<A: Allocator + Copy>(alloc: A, level: &Level<'_>, numbers: &[u64])
     let sectors = level.sectors().len().min(65536);
     let vertexes = level.vertexes().len().min(65536);
     // Few numbers are sooner put in order than all sectors and vertexes are looked through.
-    if numbers.len() < (sectors + vertexes) / 2 {
+    if numbers.len() < FEWEST_COUNTED.max((sectors + vertexes) / 2) {
         return false;
     }
     // Where it is refused its memory the numbers are put in order, too, which asks for none.

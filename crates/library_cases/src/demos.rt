@@ -4,8 +4,8 @@ ghost use Rattle.std.specs.Prelude.{◌≡◌, ◌<◌, ◌≤◌, All};
 ghost use Rattle.demo_lump.specs.Header.{players_in};
 ghost use Rattle.demo_lump.specs.Writable.{IsWritable};
 
-use crate::compare::check_bytes;
-use demo_lump::{Command, Header, write_demo};
+use crate::compare::{check_bytes, check_same};
+use demo_lump::{Command, Demo, Header, write_demo};
 use std::process::Abort;
 use std::test::Fail;
 use test_alloc::Refusing;
@@ -87,6 +87,50 @@ fn demo_written(rt: HostRuntime) -> Result<(), Fail> {
     check_written(&rt, 111, &long_commands(), &LONG)?;
     let none = [109, 3, 1, 1, 0, 0, 0, 0, 0, 1, 0, 0, 0, 128];
     check_written(&rt, 109, &[], &none)
+}
+
+// What is read of a demo: its commands' count, its full tics, the odd commands and the bytes behind the marker.
+fn counts_of(rt: &impl Abort, bytes: &[u8]) -> [usize; 4] {
+    let demo = Demo::read(bytes).expect(rt, "a demo");
+    [
+        demo.commands(),
+        demo.full_tics(),
+        demo.odd_commands(),
+        demo.after(),
+    ]
+}
+
+// Two players, with two commands and with three.
+const TWO_PLAYERS: [u8; 23] = [
+    109, 3, 1, 1, 0, 0, 0, 0, 0, 1, 1, 0, 0, 25, 0, 0, 0, 206, 128, 255, 128, 128, 7,
+];
+
+const THREE_OF_TWO: [u8; 27] = [
+    109, 3, 1, 1, 0, 0, 0, 0, 0, 1, 1, 0, 0, 25, 0, 0, 0, 206, 128, 255, 128, 1, 2, 3, 4, 128, 7,
+];
+
+#[test]
+fn demo_two_players(rt: HostRuntime) {
+    check_same(&rt, counts_of(&rt, &TWO_PLAYERS), [2, 1, 0, 1]);
+    check_same(&rt, counts_of(&rt, &THREE_OF_TWO), [3, 1, 1, 1]);
+}
+
+// Compares a command of a demo with what is expected.
+fn check_command(rt: &impl Abort, demo: &Demo<'_>, index: usize, expected: Option<Command>) {
+    check_same(rt, demo.command(index), expected);
+}
+
+// What is written of the two commands is read as them, and nothing is left behind the marker.
+#[test]
+fn demo_written_is_read(rt: HostRuntime) -> Result<(), Fail> {
+    let written = write_demo(rt.alloc(), &header_of(109), &two_commands())?;
+    let demo = Demo::read(&written).expect(&rt, "a demo");
+    check_same(&rt, demo.header(), header_of(109));
+    check_command(&rt, &demo, 0, Some(command_of(25, 0, 0, 0)));
+    check_command(&rt, &demo, 1, Some(command_of(-50, -128, 255, 128)));
+    check_command(&rt, &demo, 2, None);
+    check_same(&rt, demo.after(), 0);
+    Ok(())
 }
 
 // Whether writing met growth `n` refused; else the demo is written.

@@ -6,7 +6,7 @@ use std::alloc::{Allocator, Global};
 use std::process::Abort;
 use std::test::Fail;
 use test_alloc::Refusing;
-use wad_dir::{MAX_FILES, PackFault, Packer, Set, SetFault};
+use wad_dir::{LumpFault, MAX_FILES, PackFault, Packer, Set, SetFault};
 
 // A name, and a lump under it.
 type Lump = (&'static [u8], &'static [u8]);
@@ -72,9 +72,63 @@ fn total_of<A: Allocator>(alloc: A, files: &[Vec<u8>]) -> Result<usize, SetFault
     Ok(Set::new(alloc, files)?.total())
 }
 
+// No entries, and a directory behind the file's end.
+const EMPTY: &[u8] = b"PWAD\0\0\0\0\x0f\x27\0\0";
+
 #[test]
-fn no_file(rt: HostRuntime) {
+fn empty_directory(rt: HostRuntime) -> Result<(), Fail> {
+    let files = vec![in rt.alloc(); EMPTY.to_vec(rt.alloc())?]?;
+    check_same(&rt, total_of(rt.alloc(), &files), Ok(0));
     check_same(&rt, total_of(rt.alloc(), &[]), Ok(0));
+    Ok(())
+}
+
+// Directories of labels alone: one of one entry, and one of three.
+const ONE_LABEL: &[u8] = b"PWAD\x01\0\0\0\x0c\0\0\0\0\0\0\0\0\0\0\0E1M1\0\0\0\0";
+
+const THREE_LABELS: &[u8] = b"PWAD\x03\0\0\0\x0c\0\0\0\
+\0\0\0\0\0\0\0\0E1M1\0\0\0\0\
+\0\0\0\0\0\0\0\0E1M1\0\0\0\0\
+\0\0\0\0\0\0\0\0e1m1\0\0\0\0";
+
+// The entry that wins a name in these files.
+fn winner<A: Allocator>(
+    alloc: A,
+    files: &[Vec<u8>],
+    name: &[u8],
+) -> Result<Option<usize>, SetFault> {
+    if files.len() > MAX_FILES {
+        return Ok(None);
+    }
+    Ok(Set::new(alloc, files)?.find(Name8::query(name)))
+}
+
+#[test]
+fn last_label_wins(rt: HostRuntime) -> Result<(), Fail> {
+    let first = ONE_LABEL.to_vec(rt.alloc())?;
+    let files = vec![in rt.alloc(); first, THREE_LABELS.to_vec(rt.alloc())?]?;
+    check_same(&rt, winner(rt.alloc(), &files, b"e1m1"), Ok(Some(2)));
+    Ok(())
+}
+
+// Three entries: one of no bytes before the file, one of a byte behind it, and one of fewer bytes than none.
+const PLACES: &[u8] = b"PWAD\x03\0\0\0\x0c\0\0\0\
+\xfb\xff\xff\xff\0\0\0\0A\0\0\0\0\0\0\0\
+\x3c\0\0\0\x01\0\0\0B\0\0\0\0\0\0\0\
+\x0c\0\0\0\xff\xff\xff\xffC\0\0\0\0\0\0\0";
+
+fn check_lump(rt: &impl Abort, set: &Set<'_>, g: usize, expected: Result<&[u8], LumpFault>) {
+    check_same(rt, set.lump(g), expected);
+}
+
+#[test]
+fn lump_places(rt: HostRuntime) {
+    let set = Set::one(rt.alloc(), PLACES).expect(&rt, "a set of the file");
+    check_lump(&rt, &set, 0, Ok(&[]));
+    check_same(&rt, set.find(Name8::query(b"B")), Some(1));
+    check_lump(&rt, &set, 1, Err(LumpFault::Outside));
+    check_lump(&rt, &set, 2, Err(LumpFault::Outside));
+    check_lump(&rt, &set, 3, Err(LumpFault::NoSuch));
 }
 
 #[test]
@@ -83,6 +137,9 @@ fn growth_refused_in_new(rt: HostRuntime) -> Result<(), Fail> {
     let refusing = Refusing::new(rt.alloc(), 1);
     check_same(&rt, total_of(&refusing, &files), Err(SetFault::Memory));
     check_same(&rt, total_of(&refusing, &files), Ok(2));
+    let refusing = Refusing::new(rt.alloc(), 2);
+    check_same(&rt, total_of(&refusing, &files), Ok(2));
+    assert!(rt; !refusing.has_refused());
     Ok(())
 }
 
@@ -140,5 +197,8 @@ fn growth_refused_in_pack(rt: HostRuntime) -> Result<(), Fail> {
     let length = length_packed(&refusing, &packer);
     check_same(&rt, length, Err(PackFault::Memory));
     check_same(&rt, length_packed(&refusing, &packer), Ok(TWO_PACKED.len()));
+    let refusing = Refusing::new(rt.alloc(), 2);
+    check_same(&rt, length_packed(&refusing, &packer), Ok(TWO_PACKED.len()));
+    assert!(rt; !refusing.has_refused());
     Ok(())
 }

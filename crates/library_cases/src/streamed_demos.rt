@@ -5,7 +5,7 @@ ghost use Rattle.test_ends.specs.SliceSource.{pull_failed};
 
 use crate::compare::{check_bytes, check_same};
 use crate::demos::{LONG, TWO, command_of, header_of};
-use demo_lump::{Command, DemoFault, DemoReader, Header, MAX_READ, StreamFault};
+use demo_lump::{Command, Demo, DemoFault, DemoReader, Header, MAX_READ, StreamFault};
 use std::process::Abort;
 use test_ends::SliceSource;
 
@@ -44,6 +44,26 @@ impl<'a> Run<'a> {
 
     fn check_left(&self, rt: &impl Abort, expected: &[u8]) {
         check_bytes(rt, self.source.left(), expected);
+    }
+
+    // Why the next three pieces, or what is behind the marker, can't be read.
+    fn fault(&mut self) -> Option<StreamFault> {
+        for _ in 0..3 {
+            if let Err(fault) = self.reader.next(&mut self.source) {
+                return Some(fault);
+            }
+        }
+        if self.reader.ended() {
+            return self.reader.after(&mut self.source).err();
+        }
+        None
+    }
+
+    // The whole demo can't be read, and from then on no part of it can be.
+    fn check_fault(&mut self, rt: &impl Abort, fault: StreamFault) {
+        check_same(rt, self.fault(), Some(fault));
+        check_same(rt, self.fault(), Some(fault));
+        self.check_header(rt, Err(fault));
     }
 }
 
@@ -89,6 +109,47 @@ fn demo_111_byte_by_byte(rt: HostRuntime) {
     run.check_next(&rt, Ok(Some(command_of(-50, -128, 65535, 128))));
     run.check_next(&rt, Ok(None));
     run.check_after(&rt, Ok(0));
+}
+
+// Why the first bytes of the demo are no demo.
+fn fault_of_cut(length: usize) -> Option<DemoFault> {
+    match length {
+        0 => Some(DemoFault::Empty),
+        1..=12 => Some(DemoFault::ShortHeader),
+        13..=16 => Some(DemoFault::NoMarker(13)),
+        17..=20 => Some(DemoFault::NoMarker(17)),
+        21 => Some(DemoFault::NoMarker(21)),
+        _ => None,
+    }
+}
+
+// So many bytes of the demo are refused, read at once and one by one, or are a demo with nothing behind its marker.
+fn check_cut(rt: &impl Abort, length: usize) {
+    let bytes = TWO.get(..length).expect(rt, "as many bytes");
+    let mut run = Run::new(SliceSource::new(bytes).at_most(1), 100);
+    check_same(rt, Demo::read(bytes).err(), fault_of_cut(length));
+    match fault_of_cut(length) {
+        Some(fault) => run.check_fault(rt, StreamFault::Demo(fault)),
+        None => {
+            check_same(rt, run.fault(), None);
+            run.check_after(rt, Ok(0));
+        }
+    }
+}
+
+#[test]
+fn demo_cut(rt: HostRuntime) {
+    for length in 0..23 {
+        check_cut(&rt, length);
+    }
+}
+
+#[test]
+fn lmp_reader_fails(rt: HostRuntime) {
+    for call in 1..25 {
+        let source = SliceSource::new(&TWO).at_most(1).failing_at(call);
+        Run::new(source, 100).check_fault(&rt, StreamFault::Read);
+    }
 }
 
 #[test]

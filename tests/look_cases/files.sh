@@ -64,7 +64,9 @@ cases_of_files() {
     printf 'PWAD%b' "$(words -1 -1 0 0)" >count.wad
     refuses 'refused_directories: magic' 'file 1: 2 magic' lumps magic.wad
     refuses 'refused_directories: count' 'file 1: 3 count' lumps count.wad
-    refuses 'refused_directories: a second file' 'file 2: 1 short' lumps base.wad none.wad
+    head -c 11 empty.wad >eleven.wad
+    refuses 'refused_directories: a second file' 'file 2: 1 short' lumps base.wad eleven.wad
+    refuses 'refused_directories: a second file of no bytes' 'file 2: 1 short' lumps base.wad none.wad
     refuses 'a third file' 'file 3: 3 count' lumps base.wad empty.wad count.wad
     # shellcheck disable=SC2046  # words
     refuses 'the last of 64 files' 'file 64: 4 directory' lumps $(times 63 'empty.wad ') cut.wad
@@ -133,7 +135,7 @@ cases_of_ends() {
     cannot_write 'no words' ''
     cannot_write 'lumps' '' lumps base.wad
     cannot_write 'points' '0 5\n' points E1M1 base.wad
-    answers 'no input' '' '' points E1M1 base.wad
+    answers 'line_forms: no input' '' '' points E1M1 base.wad
     stops 'an input that cannot be read' '' read points E1M1 base.wad <folder
     refuses 'an input is left where the file is refused' 'file 1: 1 short' points E1M1 none.wad
     refuses 'an input is left where the NAME is not there' '8 no label' points E2M9 base.wad

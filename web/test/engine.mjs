@@ -7,7 +7,7 @@ import { join } from 'node:path';
 import { pathToFileURL } from 'node:url';
 import { seeded } from './engine_fuzz.mjs';
 import { wad } from './wads.mjs';
-import { LINES, workedDemos, workedFiles } from './worked_cases.mjs';
+import { LINES, OTHERWISE, workedDemos, workedFiles } from './worked_cases.mjs';
 
 const [folder, wadlook, wadlens, sample] = process.argv.slice(2);
 // What a page fetches lies in the folder here.
@@ -164,6 +164,7 @@ for (const [name, bytes] of workedFiles(base)) {
   }
   await draws(path);
 }
+for (const [, words, files, input] of OTHERWISE) await check(words, files.map((name) => `${name}.wad`), input);
 for (const [name, bytes] of workedDemos()) {
   const path = `${name}.lmp`, packed = `${name}.wad`;
   keep(path, bytes);

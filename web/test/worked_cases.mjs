@@ -48,6 +48,7 @@ function lumpCases(own) {
     ['children, none', { NODES: node(WALL, 32770, 32769) }],
     ['children, out of range', { NODES: node([16384, 0, 0, 64], 32768, 32769) }],
     ['too_many_nodes', { NODES: Buffer.alloc(917504) }],
+    ['too_many_nodes, 32767', { NODES: Buffer.alloc(917476) }],
     ['sight_bits', { REJECT: none }],
     ['sight_bits, blocked', { REJECT: Buffer.from([2]) }],
     ['block_lists', { BLOCKMAP: words(0, 0, 1, 1, 5, 0, 7, -1) }],
@@ -88,6 +89,15 @@ export function workedFiles(sample) {
     .../** @type {[string, Buffer][]} */ ([0, 11, 12, 233, 408].map((size) => [`wad_cut, ${size}`, sample.subarray(0, size)])),
   ];
 }
+
+/** What is asked otherwise: the words, the files by their names, and the input. @type {[string, string[], string[], string][]} */
+export const OTHERWISE = [
+  ['two_files', ['points', 'E1M1'], ['base', 'base'], '0 5\n'],
+  ['refused_directories, a second file', ['lumps'], ['base', 'wad_cut, 11'], ''],
+  ['lumps_missing, show', ['show', 'E2M9'], ['base'], ''],
+  ['lumps_missing, demo', ['demo', 'E2M9'], ['base'], ''],
+  ['line_forms, no input', ['points', 'E1M1'], ['base'], ''],
+];
 
 /** Demos. @returns {[string, Buffer][]} */
 export function workedDemos() {

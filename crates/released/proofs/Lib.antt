@@ -1,0 +1,11 @@
+pub mod WordLemmas
+pub mod SideLemmas
+pub mod SideCodeLemmas
+pub mod FileLemmas
+pub mod LeafLemmas
+pub mod SectorLemmas
+pub mod SightLemmas
+pub mod BlockLemmas
+pub mod ListLemmas
+pub mod TiccmdLemmas
+pub mod NameLemmas

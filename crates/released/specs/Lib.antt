@@ -1,0 +1,9 @@
+pub mod PointOnSide
+pub mod PointInSubsector
+pub mod GroupLines
+pub mod CheckSight
+pub mod ThingPosition
+pub mod BlockLines
+pub mod CheckName
+pub mod ReadTiccmd
+pub mod Laws

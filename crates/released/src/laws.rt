@@ -1,0 +1,54 @@
+//! What linuxdoom 1.10 computes on numbers of 32 bits is what is defined: laws, each the contract of a function that does
+//! nothing.
+
+ghost use Rattle.released.specs.Laws.{ReleasedIsSide, RangeIsWithinReach, WrapsPastRange};
+ghost use Rattle.released.specs.Laws.{ReleasedIsLeaf, ReleasedBitIsSightBit, ReleasedIsBlock, BlockWraps, ReleasedListIsBlockList, ReleasedSectorIsSector, ReleasedTiccmdIsCommand, ReleasedEndsAtMarker, ReleasedIsWinner, ReleasedIsNone, NamesStandRaw};
+
+/// The side that linuxdoom 1.10 computes on numbers of 32 bits is the side as defined, for each point and each node of
+/// which no difference wraps: so in the whole range of `map_geo`, and past it not always.
+pub fn released_side_is_side()
+    ensures same { ReleasedIsSide }
+    ensures range { RangeIsWithinReach }
+    ensures past { WrapsPastRange }
+{}
+
+/// The ssector that linuxdoom 1.10 finds for a point is its leaf, in each sound level.
+pub fn released_ssector_is_leaf()
+    ensures { ReleasedIsLeaf }
+{}
+
+/// The bit that linuxdoom 1.10 looks up on numbers of 32 bits is the sight bit as defined.
+pub fn released_bit_is_sight_bit()
+    ensures { ReleasedBitIsSightBit }
+{}
+
+/// The column or row of a block that linuxdoom 1.10 computes for a point is the one as defined where the difference from
+/// the blockmap's origin doesn't wrap; where it does, not always.
+pub fn released_block_is_block()
+    ensures same { ReleasedIsBlock }
+    ensures past { BlockWraps }
+{}
+
+/// The list that linuxdoom 1.10 walks for a block is the block's list.
+pub fn released_list_is_block_list()
+    ensures { ReleasedListIsBlockList }
+{}
+
+/// The sector that linuxdoom 1.10 finds for an ssector is the one as defined, or neither finds one.
+pub fn released_sector_is_sector()
+    ensures { ReleasedSectorIsSector }
+{}
+
+/// The command that linuxdoom 1.10 reads from four bytes is the one as defined, and it ends at the marker.
+pub fn released_ticcmd_is_command()
+    ensures command { ReleasedTiccmdIsCommand }
+    ensures marker { ReleasedEndsAtMarker }
+{}
+
+/// The number that linuxdoom 1.10 gives for a name, which it compares as two numbers of 32 bits, is that of the winner,
+/// or -1 where no entry has the name.
+pub fn released_number_is_winner()
+    ensures winner { ReleasedIsWinner }
+    ensures none { ReleasedIsNone }
+    ensures names { NamesStandRaw }
+{}

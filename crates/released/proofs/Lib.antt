@@ -4,6 +4,7 @@ pub mod SideCodeLemmas
 pub mod FileLemmas
 pub mod LeafLemmas
 pub mod SectorLemmas
+pub mod LinkLemmas
 pub mod SightLemmas
 pub mod BlockLemmas
 pub mod ListLemmas

@@ -39,7 +39,7 @@ in_turn None f g = refl
 in_turn (Some x) f g = refl
 
 module _ (level : Level) (e : level.reading ≡ Signed) where
-  segs : segs_of level ≡ level.segs.records
+  pub segs : segs_of level ≡ level.segs.records
   segs = ap (λ reading. map (seg_under reading) level.segs.records) e ∙ map-id level.segs.records
 
   ssectors : ssectors_of level ≡ level.ssectors.records
@@ -47,12 +47,12 @@ module _ (level : Level) (e : level.reading ≡ Signed) where
       ap (λ reading. map (ssector_under reading) level.ssectors.records) e
       ∙ map-id level.ssectors.records
 
-  linedefs : linedefs_of level ≡ level.linedefs.records
+  pub linedefs : linedefs_of level ≡ level.linedefs.records
   linedefs =
       ap (λ reading. map (linedef_under reading) level.linedefs.records) e
       ∙ map-id level.linedefs.records
 
-  sidedefs : sidedefs_of level ≡ level.sidedefs.records
+  pub sidedefs : sidedefs_of level ≡ level.sidedefs.records
   sidedefs =
       ap (λ reading. map (sidedef_under reading) level.sidedefs.records) e
       ∙ map-id level.sidedefs.records

@@ -87,7 +87,7 @@ sign-fixed z = sign_of_multiple (fixed z) z refl
 pub fixed_fits : (z : ℤ) → FitsSigned w16 z → FitsSigned w32 (fixed z)
 fixed_fits z h = omega (arith, ints)
 
-fixed_difference : (a b : ℤ) → fixed a -ℤ fixed b ≡ fixed (a -ℤ b)
+pub fixed_difference : (a b : ℤ) → fixed a -ℤ fixed b ≡ fixed (a -ℤ b)
 fixed_difference a b = omega (arith, ints)
 
 pub difference_of_fixed : (a b : ℤ) → FitsSigned w16 a → FitsSigned w16 b

@@ -1,10 +1,12 @@
 -- What the released game computes on numbers of 32 bits is what is defined.
-use Rattle.std.specs.Prelude.{◌≡◌, ◌≢◌, ◌↔◌, ◌<◌, ◌≤◌, ◌+◌, ◌*◌, ◌^◌, ℕ, ℤ, pos, negsuc, neg_ℤ, ◌-ℤ◌, FitsSigned, List, length, map, take, slice_index, Some, None}
+use Rattle.std.specs.Prelude.{◌≡◌, ◌≢◌, ◌↔◌, ◌⊎◌, ◌<◌, ◌≤◌, ◌+◌, ◌*◌, ◌^◌, ℕ, ℤ, pos, negsuc, neg_ℤ, ◌-ℤ◌, ◌≤ℤ◌, ◌<ℤ◌, FitsSigned, List, length, map, take, slice_index, Some, None}
 use Rattle.std.specs.Int.{w16, int_wrap}
 use Rattle.std.specs.List.{All, slice_get}
 use Rattle.le_rec.specs.Bytes.{AreBytes}
 use Rattle.le_rec.specs.Name.{name_of, query_of}
 use Rattle.le_rec.specs.declared.records.Node.{Node}
+use Rattle.le_rec.specs.declared.records.LineDef.{LineDef}
+use Rattle.le_rec.specs.declared.records.Seg.{Seg}
 use Rattle.map_geo.specs.declared.sides.Side.TheVariants.{Front, Back}
 use Rattle.map_geo.specs.Partition.{partition_of}
 use Rattle.map_geo.specs.Point.{Point, IsInRange, point_at}
@@ -12,7 +14,8 @@ use Rattle.map_geo.specs.Side.{side_of}
 use Rattle.map_level.specs.Level.{Level}
 use Rattle.map_level.specs.Opening.{IsLevelAt}
 use Rattle.map_level.specs.declared.reading.Reading.{Reading}
-use Rattle.map_level.specs.SectorOf.{sector_of}
+use Rattle.map_level.specs.SectorOf.{sector_of, IsLinked}
+use Rattle.map_level.specs.LinkFaults.{TwoSidedWithoutSide, NoSide0}
 use Rattle.map_level.specs.declared.reading.Reading.TheVariants.{Signed}
 use Rattle.demo_lump.specs.Command.{IsCommand}
 use Rattle.demo_lump.specs.declared.command.Command.{Command}
@@ -29,6 +32,7 @@ use Rattle.released.specs.PointInSubsector.{FindsSsector}
 use Rattle.released.specs.ThingPosition.{released_block}
 use Rattle.released.specs.BlockLines.{released_list}
 use Rattle.released.specs.GroupLines.{released_sector}
+use Rattle.released.specs.LoadLinks.{IsInside, IsLoadedInside, IsSegLoadedInside, FollowsBack}
 use Rattle.released.specs.ReadTiccmd.{released_ticcmd}
 use Rattle.released.specs.declared.ticcmd.Ticcmd.{Ticcmd}
 use Rattle.released.specs.CheckSight.{released_sight_bit}
@@ -105,7 +109,13 @@ ReleasedIsBlock =
     (origin z : ℤ) (k : ℕ) → FitsSigned w16 origin → FitsSigned w16 z → FitsSigned w16 (z -ℤ origin) →
     (released_block origin z ≡ pos k) ↔ IsBlockAlong origin z k
 
--- where it wraps, as it can for a point in range, the game has no block and the definition one
+-- past the origin it wraps from 32768 units on, and the game has no block
+abbrev pub ReleasedIsNoBlock : Type 0
+ReleasedIsNoBlock =
+    (origin z : ℤ) → FitsSigned w16 origin → FitsSigned w16 z → pos 32768 ≤ℤ (z -ℤ origin)
+    → released_block origin z <ℤ pos 0
+
+-- which can be so for a point in range, where the definition has one
 pub record BlockWraps : Type 0 where
   pub defined : IsBlockAlong (neg_ℤ (pos 32768)) (pos 0) 256
   pub released : released_block (neg_ℤ (pos 32768)) (pos 0) ≡ neg_ℤ (pos 256)
@@ -125,6 +135,31 @@ ReleasedListIsBlockList =
 abbrev pub ReleasedSectorIsSector : Type 0
 ReleasedSectorIsSector =
     (level : Level) (t : ℕ) → level.reading ≡ Signed → released_sector level t ≡ sector_of level t
+
+-- ---- links
+
+-- in a level without the faults F3 to F10 each index that is followed for a linedef is one of its table
+abbrev pub LinkedLineDefsInside : Type 0
+LinkedLineDefsInside =
+    (level : Level) (m : ℕ) (linedef : LineDef) → level.reading ≡ Signed → IsLinked level
+    → slice_get level.linedefs.records m ≡ Some linedef → IsLoadedInside level linedef
+
+-- and each that is followed for a seg's front
+abbrev pub LinkedSegsInside : Type 0
+LinkedSegsInside =
+    (level : Level) (i : ℕ) (seg : Seg) → level.reading ≡ Signed → IsLinked level
+    → slice_get level.segs.records i ≡ Some seg → IsSegLoadedInside level seg
+
+-- for its back the game can follow -1, and no other index outside: just where the linedef is two-sided and lacks
+-- that side, which N3 and N4 tell
+abbrev pub LinkedBackOrNoted : Type 0
+LinkedBackOrNoted =
+    (level : Level) (i : ℕ) (seg : Seg) (linedef : LineDef) (back : ℤ) → level.reading ≡ Signed
+    → IsLinked level → slice_get level.segs.records i ≡ Some seg
+    → FollowsBack level seg linedef back
+    → IsInside (length level.sidedefs.records) back
+    ⊎ ((back ≡ negsuc 0) × (m : ℕ) × (seg.linedef ≡ pos m)
+    × (TwoSidedWithoutSide level m ⊎ NoSide0 level m))
 
 -- ---- demos
 

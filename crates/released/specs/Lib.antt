@@ -1,6 +1,7 @@
 pub mod PointOnSide
 pub mod PointInSubsector
 pub mod GroupLines
+pub mod LoadLinks
 pub mod CheckSight
 pub mod ThingPosition
 pub mod BlockLines

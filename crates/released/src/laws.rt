@@ -2,7 +2,7 @@
 //! nothing.
 
 ghost use Rattle.released.specs.Laws.{ReleasedIsSide, RangeIsWithinReach, WrapsPastRange};
-ghost use Rattle.released.specs.Laws.{ReleasedIsLeaf, ReleasedBitIsSightBit, ReleasedIsBlock, BlockWraps, ReleasedListIsBlockList, ReleasedSectorIsSector, ReleasedTiccmdIsCommand, ReleasedEndsAtMarker, ReleasedIsWinner, ReleasedIsNone, NamesStandRaw};
+ghost use Rattle.released.specs.Laws.{ReleasedIsLeaf, ReleasedBitIsSightBit, ReleasedIsBlock, ReleasedIsNoBlock, BlockWraps, ReleasedListIsBlockList, ReleasedSectorIsSector, LinkedLineDefsInside, LinkedSegsInside, LinkedBackOrNoted, ReleasedTiccmdIsCommand, ReleasedEndsAtMarker, ReleasedIsWinner, ReleasedIsNone, NamesStandRaw};
 
 /// The side that linuxdoom 1.10 computes on numbers of 32 bits is the side as defined, for each point and each node of
 /// which no difference wraps: so in the whole range of `map_geo`, and past it not always.
@@ -23,9 +23,10 @@ pub fn released_bit_is_sight_bit()
 {}
 
 /// The column or row of a block that linuxdoom 1.10 computes for a point is the one as defined where the difference from
-/// the blockmap's origin doesn't wrap; where it does, not always.
+/// the blockmap's origin doesn't wrap; 32768 units or more past the origin it does, and there is none.
 pub fn released_block_is_block()
     ensures same { ReleasedIsBlock }
+    ensures none { ReleasedIsNoBlock }
     ensures past { BlockWraps }
 {}
 
@@ -37,6 +38,14 @@ pub fn released_list_is_block_list()
 /// The sector that linuxdoom 1.10 finds for an ssector is the one as defined, or neither finds one.
 pub fn released_sector_is_sector()
     ensures { ReleasedSectorIsSector }
+{}
+
+/// In a level without the faults F3 to F10 linuxdoom 1.10 follows no index of a linedef or a seg outside its table, but
+/// for -1 behind a two-sided linedef that lacks a side, which N3 and N4 tell.
+pub fn released_links_are_inside()
+    ensures linedefs { LinkedLineDefsInside }
+    ensures segs { LinkedSegsInside }
+    ensures backs { LinkedBackOrNoted }
 {}
 
 /// The command that linuxdoom 1.10 reads from four bytes is the one as defined, and it ends at the marker.

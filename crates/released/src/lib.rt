@@ -15,7 +15,7 @@ mod ticcmd;
 pub use block::released_list;
 pub use leaf::released_leaf;
 pub use name::released_number;
-pub use sector::released_sector;
+pub use sector::{released_back, released_sector};
 pub use side::{FixedNode, fixed, fixed_mul, released_side, released_side_at};
 pub use sight::{released_sight_bit, released_sight_bit_at};
 pub use ticcmd::{Ticcmd, released_ticcmd};

@@ -2,6 +2,7 @@
 
 ghost use Rattle.std.specs.Prelude.{◌≡◌, length};
 ghost use Rattle.released.specs.GroupLines.{item, sidenum, sector_place, released_seg, released_sidedef, released_sector};
+ghost use Rattle.released.specs.LoadLinks.{back_sidenum};
 
 use le_rec::{LineDef, Record, Seg, SideDef, Table};
 use map_level::Level;
@@ -52,6 +53,14 @@ fn sidenum(linedef: &LineDef, side: i16) -> Option<i16>
         1 => Some(linedef.side1),
         _ => None,
     }
+}
+
+/// The index of the sidedef behind a seg as P_LoadSegs of p_setup.c follows it where the linedef is two-sided, -1 too; None
+/// where the linedef has no number there.
+pub fn released_back(linedef: &LineDef, seg: &Seg) -> Option<i16>
+    ensures { result ≡ back_sidenum linedef.now seg.now.side }
+{
+    sidenum(linedef, seg.side ^ 1)
 }
 
 // The place of a sector among so many, or None where there are not so many.

@@ -6,7 +6,7 @@ use le_rec::{Sink, Source};
 use map_level::Reading;
 use std::alloc::Global;
 use std::process::Abort;
-use test_ends::{SliceSink, SliceSource};
+use test_ends::{RepeatSource, SliceSink, SliceSource};
 use wad_look::{MAX_READ, RunFault, points, read_all, status};
 
 const INPUT: &[u8] = b"1 5\n0 5\n-1 5\n";
@@ -34,17 +34,17 @@ fn files(rt: &(impl Abort + AllocGlobal)) -> Vec<Vec<u8>> {
 }
 
 // That `points` over the sample level ends so, and what it has written into so much room.
-fn check_end(
+fn check_end<S: Source + Drop>(
     rt: &(impl Abort + AllocGlobal),
-    mut source: SliceSource<'_>,
+    mut source: S,
     limit: u64,
     room: &mut [u8],
-    fault: RunFault,
+    ended: Result<(), RunFault>,
     text: &[u8],
 ) {
     let mut out = SliceSink::new(room);
     let result = run(rt, rt.alloc(), &files(rt), &mut source, limit, &mut out);
-    check_same(rt, result, Err(fault));
+    check_same(rt, result, ended);
     check_bytes(rt, out.taken(), text);
 }
 
@@ -53,17 +53,31 @@ const LINE: &[u8] = b"1 5 sector 0 ssector 0\n";
 fn failing_write(rt: &(impl Abort + AllocGlobal)) {
     let source = SliceSource::new(b"0 5\n");
     let text = b"0 5 sector";
-    check_end(rt, source, MAX_READ, &mut [0; 10], RunFault::Write, text);
+    check_end(
+        rt,
+        source,
+        MAX_READ,
+        &mut [0; 10],
+        Err(RunFault::Write),
+        text,
+    );
 }
 
 fn failing_read(rt: &(impl Abort + AllocGlobal)) {
     let source = SliceSource::new(b"1 5\n").failing_at(2);
-    check_end(rt, source, MAX_READ, &mut [0; 100], RunFault::Read, LINE);
+    check_end(
+        rt,
+        source,
+        MAX_READ,
+        &mut [0; 100],
+        Err(RunFault::Read),
+        LINE,
+    );
 }
 
 fn input_too_long(rt: &(impl Abort + AllocGlobal)) {
     let source = SliceSource::new(b"1 5\n0 5");
-    check_end(rt, source, 4, &mut [0; 100], RunFault::TooLong, LINE);
+    check_end(rt, source, 4, &mut [0; 100], Err(RunFault::TooLong), LINE);
 }
 
 fn read_whole(rt: &(impl Abort + AllocGlobal)) {
@@ -84,6 +98,30 @@ fn failing_ends(rt: HostRuntime) {
     input_too_long(&rt);
     read_whole(&rt);
     read_too_long(&rt);
+}
+
+// That `points` answers an input so, one byte a call.
+fn check_answered(rt: &(impl Abort + AllocGlobal), input: &[u8], text: &[u8]) {
+    let source = SliceSource::new(input).at_most(1);
+    check_end(rt, source, MAX_READ, &mut [0; 200], Ok(()), text);
+}
+
+const FORMS: &[u8] = b"x\n16384 0\n0  5\n1 2 3\n\n007 -0\r\n+1 1\n";
+
+const ANSWERS: &[u8] = b"refused: form\nrefused: range\nrefused: form\nrefused: form\n\
+refused: form\n7 0 sector 0 ssector 0\nrefused: form\n";
+
+#[test]
+fn line_forms(rt: HostRuntime) {
+    check_answered(&rt, FORMS, ANSWERS);
+    check_answered(&rt, b"", b"");
+    check_answered(&rt, b"1 5", b"1 5 sector 0 ssector 0\n");
+}
+
+#[test]
+fn endless_reader(rt: HostRuntime) {
+    let source = RepeatSource { byte: b'1' };
+    check_end(&rt, source, 64, &mut [0; 100], Err(RunFault::TooLong), b"");
 }
 
 // How many bytes of TEXT are written where call `n` fails.

@@ -3,7 +3,7 @@
 use crate::compare::{check_bytes, check_same};
 use crate::sample::{base, lumps, pack};
 use le_rec::{Name8, Seg, Vertex};
-use map_level::{Level, LevelFault, Reading};
+use map_level::{Level, LevelFault, Reading, link_findings};
 use std::process::Abort;
 use wad_dir::Set;
 
@@ -59,11 +59,22 @@ fn check_at(rt: &impl Abort, set: &Set<'_>, label: usize) {
     check_level(rt, &level, label, Reading::Wide);
 }
 
+// The sector of an ssector of the level E1M1.
+fn sector_of(rt: &(impl Abort + AllocGlobal), set: &Set<'_>, ssector: u32) -> u16 {
+    let opened = Level::open(set, Name8::query(b"E1M1"), Reading::Signed);
+    let level = opened.expect(rt, "a level");
+    let found = link_findings(rt.alloc(), &level).expect(rt, "no memory for the findings");
+    assert!(rt; level.is_linked(&found) && (ssector as usize) < level.ssectors().len());
+    level.ssector_sector(ssector)
+}
+
 #[test]
 fn level_opened(rt: HostRuntime) {
     let file = base(&rt);
     let set = Set::one(rt.alloc(), &file).expect(&rt, "a set of the file");
+    check_open(&rt, &set, b"e1m1", Reading::Signed, 0);
     check_open(&rt, &set, b"e1m1", Reading::Wide, 0);
+    check_same(&rt, sector_of(&rt, &set, 1), 1);
 }
 
 // Of two levels of one name each is opened at its label; by name only the second is.

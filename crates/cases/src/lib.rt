@@ -14,6 +14,8 @@ mod compare;
 #[cfg(test)]
 mod demo_cases;
 #[cfg(test)]
+mod directory_cases;
+#[cfg(test)]
 mod ends;
 #[cfg(test)]
 mod fault_texts;

@@ -2,7 +2,9 @@
 
 use crate::compare::check_same;
 use crate::findings::{NOT_REACHED, Pair, check_list};
-use crate::sample::{LINE_WITHOUT_SIDE_1, base, base_chain, base_not_reached, base_with};
+use crate::sample::{
+    LINE_WITHOUT_SIDE_1, base, base_chain, base_not_reached, base_two_nodes, base_with,
+};
 use le_rec::{Name8, Node, Record};
 use map_geo::Point;
 use map_level::{Level, Reading};
@@ -63,6 +65,30 @@ fn check_leaves(rt: &(impl Abort + AllocGlobal), file: Vec<u8>, expected: &[Case
     let set = Set::one(rt.alloc(), &file).expect(rt, "a set of the file");
     let opened = Level::open(&set, Name8::query(b"E1M1"), Reading::Signed);
     check_level(rt, &opened.expect(rt, "a level"), expected);
+}
+
+#[test]
+fn base_points(rt: HostRuntime) {
+    check_leaves(&rt, base(&rt), &[([0, 5], (1, 1), 1)]);
+}
+
+// Without nodes there is one ssector, and no side is tested.
+#[test]
+fn no_nodes(rt: HostRuntime) {
+    let file = base_with(&rt, &[(6, &[1, 0, 0, 0]), (7, &[])]);
+    check_leaves(&rt, file, &[([0, 5], (0, 0), 0), ([-9, 16383], (0, 0), 0)]);
+}
+
+const OF_TWO_NODES: [Case; 4] = [
+    ([1, 5], (0, 2), 0),
+    ([1, 10], (0, 2), 0),
+    ([0, 5], (1, 2), 1),
+    ([1, 11], (2, 1), 1),
+];
+
+#[test]
+fn two_nodes(rt: HostRuntime) {
+    check_leaves(&rt, base_two_nodes(&rt), &OF_TWO_NODES);
 }
 
 #[test]

@@ -32,6 +32,8 @@ mod link_cases;
 #[cfg(test)]
 mod memory;
 #[cfg(test)]
+mod picture_cases;
+#[cfg(test)]
 mod refusal_words;
 #[cfg(test)]
 mod sample;

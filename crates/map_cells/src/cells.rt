@@ -22,8 +22,11 @@ use map_tree::NF_SUBSECTOR;
 use std::alloc::{AllocError, Allocator, Global};
 use std::marker::Model;
 
-/// From how many columns on the points of a row go down the nodes together. Of fewer each goes by itself, since they soon part.
-const TOGETHER: usize = 8;
+/// Of how many columns, and cells in rows whose points are all in range, a picture has to be for its rows to go down the nodes together.
+/// Of smaller ones each point goes by itself: they gain less than the start of it takes.
+const COLUMNS_TOGETHER: usize = 8;
+
+const CELLS_TOGETHER: usize = 256;
 
 /// The sector that each cell of a grid shows, if any: four bytes a cell.
 #[derive(Drop)]
@@ -62,12 +65,12 @@ impl<A: Allocator> Cells<A> {
     {
         let columns = usize::from(grid.columns());
         let rows = usize::from(grid.rows());
-        let together = if columns < TOGETHER {
+        let together = if columns < COLUMNS_TOGETHER || rows * columns < CELLS_TOGETHER {
             0
         } else {
             rows_in_range(grid) * columns
         };
-        let seen = if together == 0 {
+        let seen = if together < CELLS_TOGETHER {
             seen_by_points(alloc, shown, grid)?
         } else {
             seen_by_rows(alloc, shown, grid, together)?
@@ -186,7 +189,10 @@ fn seen_by_points<A: Allocator, B: Allocator>(
 ) -> Result<Seen<A>, AllocError>
     ensures { IfOk result (λ seen. AreCells shown.now (cells_at grid seen)) }
 {
-    let mut seen = Seen::with_capacity(alloc, usize::from(grid.rows()) * usize::from(grid.columns()))?;
+    let mut seen = Seen::with_capacity(
+        alloc,
+        usize::from(grid.rows()) * usize::from(grid.columns()),
+    )?;
     for j in 0..grid.rows() {
         push_each(shown, grid, j, &mut seen)?;
     }
@@ -202,7 +208,10 @@ fn seen_by_rows<A: Allocator, B: Allocator>(
 ) -> Result<Seen<A>, AllocError>
     ensures { IfOk result (λ seen. AreCells shown.now (cells_at grid seen)) }
 {
-    let mut seen = Seen::with_capacity(alloc, usize::from(grid.rows()) * usize::from(grid.columns()))?;
+    let mut seen = Seen::with_capacity(
+        alloc,
+        usize::from(grid.rows()) * usize::from(grid.columns()),
+    )?;
     let ends = listed_ends(shown.allocator(), shown.level(), together / 4);
     let mut pending = Pending::new();
     for j in 0..grid.rows() {
@@ -307,7 +316,7 @@ fn push_run<A: Allocator>(
 }
 
 // Adds cells of a row that all show the same.
-#[inline]
+#[inline(always)]
 fn push_same<A: Allocator>(
     level: &Level<'_>,
     row: Row,

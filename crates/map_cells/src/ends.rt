@@ -27,7 +27,7 @@ pub fn linedef_ends(level: &Level<'_>, i: usize) -> Option<Ends>
 }
 
 /// The ends of the seg of a number; None where there is no such seg or one of its vertexes isn't there.
-#[inline]
+#[inline(always)]
 pub fn seg_ends(level: &Level<'_>, i: usize) -> Option<Ends>
     ensures { result ≡ seg_ends level.now i }
 {
@@ -56,7 +56,7 @@ pub fn listed_ends<A: Allocator>(alloc: A, level: &Level<'_>, most: usize) -> Ve
 }
 
 // The vertexes that two words name.
-#[inline]
+#[inline(always)]
 fn ends_named(level: &Level<'_>, v1: &i16, v2: &i16) -> Option<Ends>
     ensures { result ≡ ends_named level.now v1.now v2.now }
 {
@@ -66,7 +66,7 @@ fn ends_named(level: &Level<'_>, v1: &i16, v2: &i16) -> Option<Ends>
 }
 
 // The vertex that a word names.
-#[inline]
+#[inline(always)]
 fn vertex_named(level: &Level<'_>, word: &i16) -> Option<Vertex>
     ensures { result ≡ named level.now.vertexes.records (number_of level.now.reading word.now) }
 {

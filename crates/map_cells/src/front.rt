@@ -84,13 +84,7 @@ fn front_of_others(level: &Level<'_>, segs: SegRange, row: Row, span: Span) -> S
 
 // Those that aren't behind the seg of a number, whose ends are these.
 #[inline]
-fn front_of_seg(
-    level: &Level<'_>,
-    i: usize,
-    ends: Option<Ends>,
-    row: Row,
-    span: Span,
-) -> Span
+fn front_of_seg(level: &Level<'_>, i: usize, ends: Option<Ends>, row: Row, span: Span) -> Span
     requires ends { seg_ends level.now i ≡ ends }
     requires some { span.first < span.end }
     requires within { span.end ≤ columns_of row.grid }

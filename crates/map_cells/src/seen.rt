@@ -51,8 +51,8 @@ impl<A: Allocator> Seen<A> {
         Ok(())
     }
 
-    /// So many cells more that show the same.
-    #[inline]
+    /// So many cells more that show the same. Most are none or one.
+    #[inline(always)]
     pub fn push_same(&mut self, shown: Option<u16>, count: usize) -> Result<(), AllocError>
         requires { count ≤ 1024 }
         ensures { OnOk result (self.new ≡ self.old ++ replicate count shown) }
@@ -63,6 +63,15 @@ impl<A: Allocator> Seen<A> {
         if count == 1 {
             return self.push(shown);
         }
+        self.push_group(shown, count)
+    }
+
+    // The same of some cells, of which the first knows of the others.
+    fn push_group(&mut self, shown: Option<u16>, count: usize) -> Result<(), AllocError>
+        requires some { 0 < count }
+        requires few { count ≤ 1024 }
+        ensures { OnOk result (self.new ≡ self.old ++ replicate count shown) }
+    {
         let code = code_of(shown);
         let first = self.numbers.len();
         self.numbers.resize(first + count, code)?;

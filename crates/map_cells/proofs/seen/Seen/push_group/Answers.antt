@@ -1,7 +1,7 @@
 use Rattle.std.proofs.Common.{◌≡◌, ◌-◌, ◌<◌, length, arith, rules}
 use Rattle.std.specs.Vec.{vec_len}
 use Rattle.map_cells.proofs.SeenLemmas.{bound-pushed, grouped, known-pushed, seen-pushed}
-use Rattle.map_cells.proofs.seen.Seen.push_same.Goals as goal
+use Rattle.map_cells.proofs.seen.Seen.push_group.Goals as goal
 
 pub invariant_of-self : goal.invariant_of-self
 invariant_of-self g c = rw c.in_err-resize.ensures.items c.self.invariant
@@ -13,7 +13,7 @@ invariant_of-self-2 g c =
     let few = c.code_of-code.ensures.few in
     let long : vec_len numbers ≡ length numbers.items = search rules in
     let is = grouped numbers.items c.resize.new.self.items c.len-first.result (vec_len numbers) c.args.count code
-    c.len-first.ensures long (omega (arith, c.if-count-eq0.false)) c.in_ok-resize.ensures.items in
+    c.len-first.ensures long c.requires.some c.in_ok-resize.ensures.items in
     let most = c.max-self-inside.ensures in
     let bound = c.self.invariant.2 in
     rw is (
@@ -27,7 +27,7 @@ pub returns : goal.returns
 returns g c =
     let numbers = c.self.inside.numbers in
     let long : vec_len numbers ≡ length numbers.items = search rules in
-    let some : 0 < c.args.count = omega (arith, c.if-count-eq0.false) in
+    let some = c.requires.some in
     let is = grouped numbers.items c.resize.new.self.items c.len-first.result (vec_len numbers) c.args.count c.code_of-code.result
     c.len-first.ensures long some c.in_ok-resize.ensures.items in
     seen-pushed c.args.self.now numbers.items _ c.args.count c.code_of-code.result c.args.shown c.self.view_is some

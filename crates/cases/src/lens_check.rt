@@ -1,6 +1,7 @@
 //! The check of a file: what `wad_lens` writes for its levels, and what it adds up to.
 
 use crate::compare::{check_bytes, check_same};
+use crate::line_levels::{base_with_lines, round, round_and};
 use crate::sample::{
     LINE_WITHOUT_SIDE_1, base, base_many_segs, base_with, levels_of_formats, pack,
 };
@@ -305,4 +306,90 @@ fn totals_with_warnings(rt: HostRuntime) {
     let all = warned().with(warned()).with(totals(1, 2, 1, 0, 1));
     let text = b"3 levels in 2 files: 2 faults, 1 notes, 12 warnings, 1 not judged\n";
     check_totals(&rt, Warnings::Told, &all, text);
+}
+
+// Whether a check with warnings met growth `n` refused, and whether it answered all the same. Where it has no memory left, it has written a
+// front of the text.
+fn warned_end(
+    rt: &(impl Abort + AllocGlobal),
+    file: &[u8],
+    text: &[u8],
+    answer: Totals,
+    n: u64,
+) -> (bool, bool) {
+    let heap = Refusing::new(rt.alloc(), n);
+    let mut room = [0; 1024];
+    let mut out = SliceSink::new(&mut room);
+    let question = Question {
+        path: b"a.wad",
+        most: 3,
+        judging: signed(Warnings::Told),
+    };
+    let result = check(rt, &heap, &question, file, &mut out);
+    if result.is_ok() {
+        check_same(rt, result, Ok(answer));
+        check_bytes(rt, out.taken(), text);
+        return (heap.has_refused(), true);
+    }
+    check_same(rt, result, Err(FileFault::Memory));
+    assert!(rt; heap.has_refused());
+    assert!(rt; text.starts_with(out.taken()));
+    (true, false)
+}
+
+// Each growth of a check with warnings is refused in turn until none is: so many of them it does without.
+fn check_spared(
+    rt: &(impl Abort + AllocGlobal),
+    file: &[u8],
+    text: &[u8],
+    answer: Totals,
+    spared: u32,
+) {
+    let mut found = 0u32;
+    let mut granted = false;
+    for n in 1..99 {
+        let (refused, answered) = warned_end(rt, file, text, answer, n);
+        if !refused {
+            granted = true;
+            break;
+        }
+        found = found.wrapping_add(u32::from(answered));
+    }
+    assert!(rt; granted);
+    check_same(rt, found, spared);
+}
+
+const NO_STARTS: &[u8] = b"a.wad: E1M1: W7 level: no player 2 start\n\
+a.wad: E1M1: W8 level: 0 deathmatch starts\n";
+
+// So many warnings of a level that has no finding.
+fn alone(warnings: u64) -> Totals {
+    Totals {
+        warnings,
+        ..totals(1, 0, 0, 0, 0)
+    }
+}
+
+// The three lists of W1 and the two of W6 are done without.
+#[test]
+fn lists_refused(rt: HostRuntime) {
+    let file = base_with_lines(&rt, &round(&rt, 200), 200);
+    check_spared(&rt, &file, NO_STARTS, alone(2), 5);
+}
+
+const OPEN: &[u8] = b"a.wad: E1M1: W1 sector 0: isn't closed, at (0, 0)\n\
+a.wad: E1M1: W1 sector 0: isn't closed, at (5, 0)\n\
+a.wad: E1M1: W1 sector 0: isn't closed, at (12, 0)\n\
+a.wad: E1M1: W1: 1 more\n\
+a.wad: E1M1: W6 linedef 202: lies on linedef 200, from (13, 0) to (5, 0)\n\
+a.wad: E1M1: W6 linedef 203: lies on linedef 200, from (5, 0) to (13, 0)\n\
+a.wad: E1M1: W7 level: no player 2 start\n\
+a.wad: E1M1: W8 level: 0 deathmatch starts\n";
+
+// The sector is open by two linedefs whose squares add up to the same, and two lie on an earlier one.
+#[test]
+fn lists_refused_in_vain(rt: HostRuntime) {
+    let others = [(5, 13), (12, 0), (13, 5), (5, 13)];
+    let file = base_with_lines(&rt, &round_and(&rt, 200, &others), 200);
+    check_spared(&rt, &file, OPEN, alone(8), 5);
 }

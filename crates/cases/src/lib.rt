@@ -28,6 +28,8 @@ mod level_starts;
 #[cfg(test)]
 mod levels;
 #[cfg(test)]
+mod line_levels;
+#[cfg(test)]
 mod link_cases;
 #[cfg(test)]
 mod memory;
@@ -47,3 +49,5 @@ mod tallies;
 mod texts;
 #[cfg(test)]
 mod tree_cases;
+#[cfg(test)]
+mod warning_cases;

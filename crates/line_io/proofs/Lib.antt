@@ -11,6 +11,5 @@ pub mod ProgressLemmas
 pub mod ReadingLemmas
 pub mod SmallLemmas
 pub mod TextLemmas
-pub mod ThreeDigitLemmas
 pub mod WriteLemmas
 pub mod WriteProgressLemmas

@@ -4,7 +4,6 @@
 #![tactic(auto)]
 
 mod content;
-mod digits;
 mod fault;
 mod input;
 pub mod laws;

@@ -77,9 +77,30 @@ fn words_of(alloc: Global, line: &str) -> Result<Vec<String>, AllocError> {
 
 // What words ask for: the command, the place of the first file, and whether `--wide` stands. None of what is no form.
 const JOBS: [(&str, Option<Job>); 9] = [
-    ("points E1M1 a b", asks(Cmd::Points, 2, false)),
-    ("lumps a", asks(Cmd::Lumps, 1, false)),
-    ("points --wide E1M1 a", asks(Cmd::Points, 3, true)),
+    (
+        "points E1M1 a b",
+        Some(Job {
+            command: Cmd::Points,
+            first: 2,
+            wide: false,
+        }),
+    ),
+    (
+        "lumps a",
+        Some(Job {
+            command: Cmd::Lumps,
+            first: 1,
+            wide: false,
+        }),
+    ),
+    (
+        "points --wide E1M1 a",
+        Some(Job {
+            command: Cmd::Points,
+            first: 3,
+            wide: true,
+        }),
+    ),
     ("points E1M1", None),
     ("Points E1M1 a", None),
     ("lmp a b", None),
@@ -87,14 +108,6 @@ const JOBS: [(&str, Option<Job>); 9] = [
     ("sight --wide E1M1 a", None),
     ("points E1M1 --wide a", None),
 ];
-
-const fn asks(command: Cmd, first: usize, wide: bool) -> Option<Job> {
-    Some(Job {
-        command,
-        first,
-        wide,
-    })
-}
 
 #[test]
 fn jobs(rt: HostRuntime) {

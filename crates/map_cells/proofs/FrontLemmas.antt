@@ -22,6 +22,27 @@ those_all Holds span ordered all = record {
   exact = λ i within. ((λ _. all i within), (λ _. within));
 }
 
+-- a span of one column is all of it or nothing
+pub column_all : (Holds : ℕ → Type 0) (span : Span) → span.end ≡ span.first + 1 → Holds span.first → IsThose Holds span span
+column_all Holds span one holds =
+    those_all Holds span (omega (arith, one)) (λ i within.
+    let same : span.first ≡ i = omega (arith, within.0, within.1, one) in
+    subst Holds same holds)
+
+pub column_none : (Holds : ℕ → Type 0) (span : Span) → span.end ≡ span.first + 1 → ¬ Holds span.first
+    → IsThose Holds span (record { first = span.end; end = span.end })
+column_none Holds span one fails = record {
+  from = omega (arith, one);
+  ordered = omega arith;
+  to = omega arith;
+  exact = λ i within. (
+    (λ inside. absurd (omega (arith, inside.0, inside.1))),
+    (λ holds.
+        let same : i ≡ span.first = omega (arith, within.0, within.1, one) in
+        absurd (fails (subst Holds same holds))),
+  );
+}
+
 -- what holds of the same columns
 pub those_same : (P Q : ℕ → Type 0) (span those : Span) → ((i : ℕ) → IsIn span i → P i ↔ Q i) → IsThose P span those → IsThose Q span those
 those_same P Q span those same is = record {

@@ -240,6 +240,7 @@ fn push_row<A: Allocator, B: Allocator>(
 }
 
 // Adds what a row of cells shows, each by itself.
+#[inline(always)]
 fn push_each<A: Allocator, B: Allocator>(
     shown: &Shown<'_, '_, B>,
     grid: Grid,

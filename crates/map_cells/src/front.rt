@@ -9,7 +9,7 @@ ghost use Rattle.map_cells.specs.Front.{IsCutBy, IsFrontOf, IsFrontOfRange, IsFr
 use crate::change::{ColumnTest, change};
 use crate::ends::{Ends, seg_ends};
 use crate::row::Row;
-use crate::shown::{SegRange, cross, segs_of};
+use crate::shown::{SegRange, cross, is_before_segs, segs_of};
 use map_geo::Point;
 use map_level::Level;
 
@@ -36,6 +36,8 @@ pub fn front_of_segs(
     let segs = segs_of(level, t);
     if segs.end <= listed.len() {
         front_of_listed(level, listed, segs, row, span)
+    } else if span.end - span.first == 1 {
+        lone_front(level, t, row, span)
     } else {
         front_of_others(level, segs, row, span)
     }
@@ -66,7 +68,22 @@ fn front_of_listed(
     front
 }
 
-// The same of segs that aren't all listed.
+// The same of a single column, whose point is told as one alone is.
+#[inline]
+fn lone_front(level: &Level<'_>, t: u16, row: Row, span: Span) -> Span
+    requires one { span.end ≡ span.first + 1 }
+    requires within { span.end ≤ columns_of row.grid }
+    ensures { IsFrontOfSegs level.now t row span result }
+{
+    let Span { first, end } = span;
+    if is_before_segs(level, t, row.point(first)) {
+        span
+    } else {
+        Span { first: end, end }
+    }
+}
+
+// Those that are behind none of some segs that aren't all listed.
 fn front_of_others(level: &Level<'_>, segs: SegRange, row: Row, span: Span) -> Span
     requires ordered { span.first ≤ span.end }
     requires within { span.end ≤ columns_of row.grid }

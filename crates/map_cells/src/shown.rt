@@ -76,8 +76,9 @@ impl<'l, 'a, A: Allocator> Shown<'l, 'a, A> {
     }
 }
 
-// Whether the point is behind none of the segs of an ssector.
-fn is_before_segs(level: &Level<'_>, t: u16, point: Point) -> bool
+/// Whether the point is behind none of the segs of an ssector.
+#[inline(always)]
+pub fn is_before_segs(level: &Level<'_>, t: u16, point: Point) -> bool
     ensures { IsTrue result ↔ ((i : ℕ) → IsSegOf level.now t i → ¬ IsBehind level.now i point) }
 {
     let segs = segs_of(level, t);

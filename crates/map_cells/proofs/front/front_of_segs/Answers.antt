@@ -6,7 +6,7 @@ returns-then-segs-listed c =
     front_of_range c.args.level.now c.args.t c.segs_of-segs.result c.args.row c.args.span c.front_of_listed.result c.segs_of-segs.ensures
     c.front_of_listed.ensures
 
-pub returns-else-segs-listed : goal.returns-else-segs-listed
-returns-else-segs-listed c =
+pub returns-else-span-eq1 : goal.returns-else-span-eq1
+returns-else-span-eq1 c =
     front_of_range c.args.level.now c.args.t c.segs_of-segs.result c.args.row c.args.span c.front_of_others.result c.segs_of-segs.ensures
     c.front_of_others.ensures

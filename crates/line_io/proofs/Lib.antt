@@ -11,5 +11,6 @@ pub mod ProgressLemmas
 pub mod ReadingLemmas
 pub mod SmallLemmas
 pub mod TextLemmas
+pub mod ThreeDigitLemmas
 pub mod WriteLemmas
 pub mod WriteProgressLemmas

@@ -1,36 +1,27 @@
 -- The digits of a number below 256, of which three are written and the leading zeros left out.
-use Rattle.std.proofs.Common.{◌≡◌, ℕ, ℤ, pos, negsuc, ◌+◌, ◌-◌, ◌/◌, ◌%◌, ◌<◌, ◌≤◌, inl, inr, List, [], ◌∷◌, ◌++◌, decimal, length, drop, set, sym, ap, ◌∙◌, refl, true, false, arith, length-set}
+use Rattle.std.proofs.Common.{◌≡◌, ℕ, ℤ, pos, negsuc, ◌+◌, ◌-◌, ◌/◌, ◌%◌, ◌<◌, ◌≤◌, inl, inr, List, [], ◌∷◌, ◌++◌, decimal, length, drop, set, take, sym, ap, ◌∙◌, refl, true, false, arith}
 use Rattle.std.proofs.lemmas.Bool.{cases_lt}
 use Rattle.std.proofs.lemmas.Fmt.{decimal_digit, decimal_step}
 use Rattle.std.proofs.lemmas.Int.{ints}
-use Rattle.std.proofs.lemmas.List.{drop-set, drop-set-lt, drop-drop}
+use Rattle.std.proofs.lemmas.List.{drop-drop, drop-set, drop-set-lt, drop_at, length-take-le}
 use Rattle.std.specs.Fmt.{signed_decimal}
 use Rattle.std.specs.Prelude.{int_lt, unsigned_abs}
+use Rattle.line_io.proofs.ThreeDigitLemmas.{digits_by_place}
 
 -- the number of digits
 abbrev pub small_digits : ℕ → ℕ
 small_digits n = 1 + (n + 246) / 256 + (n + 156) / 256
 
--- the three digits
+-- the three digits, written so that they end at a place
 abbrev pub three_written : List ℕ → ℕ → ℕ → List ℕ
-three_written bytes end n = set (set (set bytes (end - 1) (48 + n % 10)) (end - 2) (48 + n / 10 % 10)) (end - 3) (48 + n / 100)
+three_written bytes end n = take (end - 3) bytes ++ (digits_by_place n ++ drop (end - (end - 3)) (drop (end - 3) bytes))
 
 three_stand : (bytes : List ℕ) (end n : ℕ) → 3 ≤ end → end ≤ length bytes
     → drop (end - 3) (three_written bytes end n) ≡ (48 + n / 100) ∷ (48 + n / 10 % 10) ∷ (48 + n % 10) ∷ drop end bytes
 three_stand bytes end n some fits =
-    let a = 48 + n / 100 in
-    let b = 48 + n / 10 % 10 in
-    let c = 48 + n % 10 in
-    let one = set bytes (end - 1) c in
-    let two = set one (end - 2) b in
-    let long1 : length one ≡ length bytes = length-set bytes (end - 1) c in
-    let long2 : length two ≡ length bytes = length-set one (end - 2) b ∙ long1 in
-    let e1 : end - 1 + 1 ≡ end = omega arith in
-    let e2 : end - 2 + 1 ≡ end - 1 = omega arith in
-    let e3 : end - 3 + 1 ≡ end - 2 = omega arith in
-    drop-set two (end - 3) a (omega (arith, long2)) ∙ ap (λ k. a ∷ drop k two) e3
-    ∙ ap (λ t. a ∷ t) (drop-set one (end - 2) b (omega (arith, long1)) ∙ ap (λ k. b ∷ drop k one) e2
-    ∙ ap (λ t. b ∷ t) (drop-set bytes (end - 1) c (omega arith) ∙ ap (λ k. c ∷ drop k bytes) e1))
+    let place : end - 3 + (end - (end - 3)) ≡ end = omega arith in
+    drop_at (take (end - 3) bytes) _ (end - 3) (length-take-le (end - 3) bytes (omega arith))
+    ∙ ap (λ rest. digits_by_place n ++ rest) (drop-drop (end - (end - 3)) (end - 3) bytes ∙ ap (λ k. drop k bytes) place)
 
 -- what follows the first of them
 later : (bytes : List ℕ) (end n k at : ℕ) → 3 ≤ end → end ≤ length bytes → at ≡ end - 3 + k

@@ -4,6 +4,7 @@
 #![tactic(auto)]
 
 mod content;
+mod digits;
 mod fault;
 mod input;
 pub mod laws;

@@ -3,6 +3,7 @@
 ghost use Rattle.std.specs.Prelude.{◌≡◌, ◌+◌, ◌≤◌, [], ◌++◌, decimal, drop, length};
 ghost use Rattle.std.specs.Fmt.{signed_decimal};
 
+use crate::digits::three_digits;
 use itoa::write_digits;
 use std::marker::Model;
 
@@ -124,9 +125,7 @@ fn write_small(number: u8, bytes: &mut [u8], end: usize) -> usize
     ensures written { drop result bytes.new ≡ decimal number ++ drop end bytes.old }
     ensures length { length bytes.new ≡ length bytes.old }
 {
-    bytes[end - 1] = b'0' + number % 10;
-    bytes[end - 2] = b'0' + number / 10 % 10;
-    bytes[end - 3] = b'0' + number / 100;
+    bytes[end - 3..end].copy_from_slice(three_digits(number));
     let wide = number as usize;
     // One more digit from 10 on, and one more from 100 on.
     end - 1 - (wide + 246) / 256 - (wide + 156) / 256

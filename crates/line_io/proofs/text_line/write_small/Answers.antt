@@ -11,4 +11,4 @@ pub returns-clause-written : goal.returns-clause-written
 returns-clause-written c =
     let small : c.args.number < 256 = omega arith in
     let place : c.args.end - 1 - (c.args.number + 246) / 256 - (c.args.number + 156) / 256 ≡ c.args.end - small_digits c.args.number = omega arith in
-    rw place (small_written c.args.bytes.now c.args.end c.args.number small c.requires.0 c.requires.1).1
+    rw (place, c.copy_from_slice.ensures.after, c.three_digits.ensures) (small_written c.args.bytes.now c.args.end c.args.number small c.requires.0 c.requires.1).1

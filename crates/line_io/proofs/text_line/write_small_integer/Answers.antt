@@ -1,4 +1,4 @@
-use Rattle.std.proofs.Common.{◌≡◌, ◌+◌, ◌≤◌, ◌++◌, ◌∷◌, decimal, drop, length, arith, ap, sym, ◌∙◌, pos, true, false, FitsSigned, w8, rules}
+use Rattle.std.proofs.Common.{◌≡◌, ◌≤◌, ◌++◌, ◌∷◌, decimal, drop, length, arith, ap, sym, ◌∙◌, pos, true, false, FitsSigned, w8, rules}
 use Rattle.std.proofs.lemmas.Fmt.{length-decimal-le}
 use Rattle.std.proofs.lemmas.Int.{to_z-of_z}
 use Rattle.std.specs.Prelude.{int_lt, unsigned_abs}

@@ -66,6 +66,7 @@ impl<'l, 'a, A: Allocator> Shown<'l, 'a, A> {
 
     /// The sector that is shown at the point (x, y): where both coordinates are in -16384..16383 that of the point's ssector, unless
     /// the point is behind one of the ssector's segs. None elsewhere.
+    #[inline(always)]
     pub fn at(&self, x: i32, y: i32) -> Option<u16>
         ensures sector { (s : ℕ) → (result ≡ Some s) ↔ IsShown self.now x y s }
         ensures none { (result ≡ None) ↔ ((s : ℕ) → ¬ IsShown self.now x y s) }

@@ -1,4 +1,4 @@
-use Rattle.std.proofs.Common.{sym, refl, arith}
+use Rattle.std.proofs.Common.{sym, arith}
 use Rattle.map_cells.proofs.FrontLemmas.{cut_nothing, cut_whole}
 use Rattle.map_cells.proofs.front.cut_column.Goals as goal
 

@@ -1,4 +1,4 @@
-use Rattle.std.proofs.Common.{◌≡◌, ◌++◌, ◌∷◌, [], ◌∙◌, ap, arith}
+use Rattle.std.proofs.Common.{arith}
 use Rattle.map_cells.proofs.SeenLemmas.{bound-pushed, known-pushed, pushed, seen-pushed}
 use Rattle.map_cells.proofs.seen.Seen.push.Goals as goal
 

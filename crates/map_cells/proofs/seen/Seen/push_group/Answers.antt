@@ -1,4 +1,4 @@
-use Rattle.std.proofs.Common.{◌≡◌, ◌-◌, ◌<◌, length, arith, rules}
+use Rattle.std.proofs.Common.{◌≡◌, ◌-◌, length, arith, rules}
 use Rattle.std.specs.Vec.{vec_len}
 use Rattle.map_cells.proofs.SeenLemmas.{bound-pushed, grouped, known-pushed, seen-pushed}
 use Rattle.map_cells.proofs.seen.Seen.push_group.Goals as goal

@@ -94,8 +94,10 @@ static uint32_t block(void) {
 }
 
 int main(int argc, char **argv) {
-    static const struct { const char *word; uint32_t (*call)(void); } calls[] = {
-        {"audit", audit}, {"points", points}, {"prepare", prepare}, {"point", point}, {"census", census},
+    static const struct {
+        const char *word;
+        uint32_t (*call)(void);
+    } calls[] = {{"audit", audit}, {"points", points}, {"prepare", prepare}, {"point", point}, {"census", census},
         {"census_wide", census_wide}, {"find", find}, {"sight", sight}, {"extract", extract}, {"demo", demo}, {"block", block}};
     FILE *file = argc == 3 ? fopen(argv[2], "rb") : NULL;
     if (!file || fseek(file, 0, SEEK_END)) return 100;

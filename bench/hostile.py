@@ -6,339 +6,602 @@ time, peak memory, and the ratio of the two times, which is near 2 where time
 grows with the input.
 Needs gcc (runner.c beside this file) and about 600 MB in --dir, with wadlens 4 GB, since an atlas and what is told of
 refused demos are written there; what a run prints goes to /dev/null."""
-import argparse, os, shutil, struct, subprocess, sys, tempfile
+import argparse
+import os
+import shutil
+import struct
+import subprocess
+import sys
+import tempfile
 
 A = argparse.ArgumentParser()
-A.add_argument('--wadlook', required=True)
-A.add_argument('--wadlens', default='', help='the program of the jobs from check on; they are left out without it')
-A.add_argument('--library', default='', help='the folder out/ of tools/library; the calls are left out without it')
-A.add_argument('--dir', default='', help='folder for the inputs (a temporary one, which is removed)')
-A.add_argument('--only', default='', help='jobs whose name holds one of these words (comma)')
-A.add_argument('--limit', type=int, default=300, help='seconds for one run')
-A.add_argument('--repeat', type=int, default=1, help='runs of each, of which the best counts')
-A.add_argument('--scale', type=float, default=1.0, help='part of the limits that is taken as the whole size')
-A.add_argument('--markdown', action='store_true', help='the table of RESULTS.md')
+A.add_argument("--wadlook", required=True)
+A.add_argument("--wadlens", default="", help="the program of the jobs from check on; they are left out without it")
+A.add_argument("--library", default="", help="the folder out/ of tools/library; the calls are left out without it")
+A.add_argument("--dir", default="", help="folder for the inputs (a temporary one, which is removed)")
+A.add_argument("--only", default="", help="jobs whose name holds one of these words (comma)")
+A.add_argument("--limit", type=int, default=300, help="seconds for one run")
+A.add_argument("--repeat", type=int, default=1, help="runs of each, of which the best counts")
+A.add_argument("--scale", type=float, default=1.0, help="part of the limits that is taken as the whole size")
+A.add_argument("--markdown", action="store_true", help="the table of RESULTS.md")
 o = A.parse_args()
 HERE = os.path.dirname(os.path.abspath(__file__))
-SAMPLE = os.path.join(HERE, '..', 'sample', 'base.wad')
+SAMPLE = os.path.join(HERE, "..", "sample", "base.wad")
 ROOM = tempfile.TemporaryDirectory(dir=o.dir or None)
-p = lambda n: os.path.join(ROOM.name, n)
-RUN = p('runner')
-subprocess.check_call(['gcc', '-O2', '-o', RUN, HERE + '/runner.c'])
+
+
+def p(n):
+    return os.path.join(ROOM.name, n)
+
+
+RUN = p("runner")
+subprocess.check_call(["gcc", "-O2", "-o", RUN, HERE + "/runner.c"])
 
 FILES, INPUT = 268435456, 16777216
-w = lambda *v: b''.join(struct.pack('<H', x & 65535) for x in v)
-entry = lambda at, size, name: struct.pack('<ii8s', at, size, name)
-head = lambda count, at: b'PWAD' + struct.pack('<ii', count, at)
-NAMES = [b'THINGS', b'LINEDEFS', b'SIDEDEFS', b'VERTEXES', b'SEGS', b'SSECTORS', b'NODES', b'SECTORS', b'REJECT', b'BLOCKMAP']
+
+
+def w(*v):
+    return b"".join(struct.pack("<H", x & 65535) for x in v)
+
+
+def entry(at, size, name):
+    return struct.pack("<ii8s", at, size, name)
+
+
+def head(count, at):
+    return b"PWAD" + struct.pack("<ii", count, at)
+
+
+NAMES = [b"THINGS", b"LINEDEFS", b"SIDEDEFS", b"VERTEXES", b"SEGS", b"SSECTORS", b"NODES", b"SECTORS", b"REJECT", b"BLOCKMAP"]
+
 
 # -------------------------------------------------------------------- inputs
 # Each is written piece by piece, so that this process stays small.
 def again(out, piece, size):
     """size bytes of the piece again and again"""
-    many = piece*max(1, 1048576//len(piece))
-    while size > 0: size -= out.write(many[:size])
+    many = piece * max(1, 1048576 // len(piece))
+    while size > 0:
+        size -= out.write(many[:size])
+
 
 def own():
     """the sample's lumps by name"""
-    b = open(SAMPLE, 'rb').read(); n, at = struct.unpack('<ii', b[4:12]); d = {}
+    b = open(SAMPLE, "rb").read()
+    n, at = struct.unpack("<ii", b[4:12])
+    d = {}
     for i in range(n):
-        q, size, name = struct.unpack('<ii8s', b[at + 16*i:at + 16*i + 16]); d[name.rstrip(b'\0')] = b[q:q + size]
+        q, size, name = struct.unpack("<ii8s", b[at + 16 * i : at + 16 * i + 16])
+        d[name.rstrip(b"\0")] = b[q : q + size]
     return d
+
+
 OWN = own()
+
 
 def level(out, lumps, big=None, size=0, fill=None):
     """the level E1M1: the sample's lumps, others in their place, and one or
     several big ones that share size bytes, which fill writes at the end"""
-    big = big or []; small = {**OWN, **lumps}; at = 12 + 16*11; body, d = b'', entry(0, 0, b'E1M1')
+    big = big or []
+    small = {**OWN, **lumps}
+    at = 12 + 16 * 11
+    body, d = b"", entry(0, 0, b"E1M1")
     for k in NAMES:
-        if k not in big: d += entry(at + len(body), len(small[k]), k); body += small[k]
-        else: d += entry(-1, size, k)
+        if k not in big:
+            d += entry(at + len(body), len(small[k]), k)
+            body += small[k]
+        else:
+            d += entry(-1, size, k)
     start = at + len(body)
-    d = b''.join(d[i:i + 16] if d[i:i + 4] != b'\xff'*4 else struct.pack('<i', start) + d[i + 4:i + 16] for i in range(0, len(d), 16))
+    d = b"".join(
+        d[i : i + 16] if d[i : i + 4] != b"\xff" * 4 else struct.pack("<i", start) + d[i + 4 : i + 16] for i in range(0, len(d), 16)
+    )
     out.write(head(11, 12) + d + body)
-    if fill: fill(out, size)
+    if fill:
+        fill(out, size)
+
 
 def room(lumps, big):
     """how many bytes the big lumps may have"""
-    return FILES - 12 - 16*11 - sum(len(b) for k, b in {**OWN, **lumps}.items() if k not in big)
+    return FILES - 12 - 16 * 11 - sum(len(b) for k, b in {**OWN, **lumps}.items() if k not in big)
+
 
 def big_level(lumps, big, size_of, fill):
-    def make(out, part): level(out, lumps, big, size_of(int(room(lumps, big)*part)), fill)
+    def make(out, part):
+        level(out, lumps, big, size_of(int(room(lumps, big) * part)), fill)
+
     return make
-def whole(record): return lambda n: n//record*record
+
+
+def whole(record):
+    return lambda n: n // record * record
+
 
 def directory(label, names):
     """levels or entries alone: as many entries as fit, by turns of these names, behind empty places"""
+
     def make(out, part):
-        n = int((FILES - 12)//16*part)
-        out.write(head(n, 12)); again(out, b''.join(entry(0, 0, k) for k in names), 16*n)
+        n = int((FILES - 12) // 16 * part)
+        out.write(head(n, 12))
+        again(out, b"".join(entry(0, 0, k) for k in names), 16 * n)
+
     return make
+
+
 def numbered_labels(small):
     """levels whose labels differ"""
+
     def make(out, part):
-        n = int((FILES - 12)//16*part)//11*11
-        out.write(head(n, 12)); rest = b''.join(entry(0, 0, k) for k in NAMES)
-        for i in range(n//11): out.write(entry(0, 0, (b'%08x' % i).upper() if not small else b'a%07x' % i) + rest)
+        n = int((FILES - 12) // 16 * part) // 11 * 11
+        out.write(head(n, 12))
+        rest = b"".join(entry(0, 0, k) for k in NAMES)
+        for i in range(n // 11):
+            out.write(entry(0, 0, (b"%08x" % i).upper() if not small else b"a%07x" % i) + rest)
+
     return make
+
 
 # The first 32768 nodes can be named; the others can't be reached. The root is the last one.
 def nodes(children):
     def fill(out, size):
-        n = size//28; line = w(0, 0, 0, 64, 64, 0, 0, 0, 64, 0, 0, 0)
-        out.write(b''.join(line + w(*children(i, n)) for i in range(min(n, 32768))))
-        if n > 32768: again(out, line + w(*children(32768, n)), 28*(n - 32768 - 1)); out.write(line + w(*children(n - 1, n)))
+        n = size // 28
+        line = w(0, 0, 0, 64, 64, 0, 0, 0, 64, 0, 0, 0)
+        out.write(b"".join(line + w(*children(i, n)) for i in range(min(n, 32768))))
+        if n > 32768:
+            again(out, line + w(*children(32768, n)), 28 * (n - 32768 - 1))
+            out.write(line + w(*children(n - 1, n)))
+
     return fill
+
+
 CHAIN = nodes(lambda i, n: (min(i, 32768) - 1 if i else 32768, 32768 + min(i, 32767)))
 RING = nodes(lambda i, n: ((i + 1) % 32768, 32768 + min(i, 32767)))
 ONE = nodes(lambda i, n: (0, 32768))
-MANY_SSECTORS = {b'SSECTORS': w(1, 0)*32768}
+MANY_SSECTORS = {b"SSECTORS": w(1, 0) * 32768}
+
 
 def words(width, height, body):
     """a BLOCKMAP of the whole room: its head, and these words again and again"""
-    def fill(out, size): out.write(w(0, 0, width, height)); again(out, body, size - 8)
+
+    def fill(out, size):
+        out.write(w(0, 0, width, height))
+        again(out, body, size - 8)
+
     return fill
+
+
 def one_list(out, size):
-    out.write(w(0, 0, 1, 1, 5)); again(out, w(7), size - 12); out.write(w(-1))
+    out.write(w(0, 0, 1, 1, 5))
+    again(out, w(7), size - 12)
+    out.write(w(-1))
+
+
 def text(piece):
-    def make(out, part): again(out, piece, int(INPUT*part))
+    def make(out, part):
+        again(out, piece, int(INPUT * part))
+
     return make
+
+
 def demo(version, players):
     def make(out, part):
-        k = 5 if version == 111 else 4; n = (int(FILES*part) - 14)//k
-        out.write(bytes([version, 3, 1, 1, 0, 0, 0, 0, 0] + players)); again(out, bytes([25, 206, 7, 9, 1][:k]), n*k); out.write(b'\x80')
+        k = 5 if version == 111 else 4
+        n = (int(FILES * part) - 14) // k
+        out.write(bytes([version, 3, 1, 1, 0, 0, 0, 0, 0] + players))
+        again(out, bytes([25, 206, 7, 9, 1][:k]), n * k)
+        out.write(b"\x80")
+
     return make
+
+
 def demo_lumps(count):
     """so many demos over the same bytes, which take the whole room"""
+
     def make(out, part):
-        n = (int(FILES*part) - 12 - 16*count - 14)//4*4 + 14
-        out.write(head(count, 12) + entry(12 + 16*count, n, b'DEMO1')*count + bytes([109, 3, 1, 1, 0, 0, 0, 0, 0, 1, 0, 0, 0]))
-        again(out, bytes([25, 206, 7, 9]), n - 14); out.write(b'\x80')
+        n = (int(FILES * part) - 12 - 16 * count - 14) // 4 * 4 + 14
+        out.write(head(count, 12) + entry(12 + 16 * count, n, b"DEMO1") * count + bytes([109, 3, 1, 1, 0, 0, 0, 0, 0, 1, 0, 0, 0]))
+        again(out, bytes([25, 206, 7, 9]), n - 14)
+        out.write(b"\x80")
+
     return make
+
+
 def chain(lumps, ssector=w(1, 0), direction=(0, 64)):
     """a level with these lumps and 32767 nodes in a chain, all along one line: the last ssector has the points on its right"""
+
     def make(out, part):
-        n = int(32767*part); node = w(0, 0, *direction, 64, 0, 0, 0, 64, 0, 0, 0)
-        lump = b''.join(node + (w(i - 1, 32769 + i) if i else w(32768, 32769)) for i in range(n))
-        level(out, {b'NODES': lump, b'SSECTORS': ssector*(n + 1), **lumps})
+        n = int(32767 * part)
+        node = w(0, 0, *direction, 64, 0, 0, 0, 64, 0, 0, 0)
+        lump = b"".join(node + (w(i - 1, 32769 + i) if i else w(32768, 32769)) for i in range(n))
+        level(out, {b"NODES": lump, b"SSECTORS": ssector * (n + 1), **lumps})
+
     return make
+
+
 def ring(out, part):
     """a level whose nodes, as many as a point is looked for in, lead to one another and to no ssector"""
-    n = int(32767*part)
-    level(out, {b'NODES': b''.join(w(0, 0, 0, 64, 64, 0, 0, 0, 64, 0, 0, 0, (i + 1) % n, (i + 1) % n) for i in range(n))})
+    n = int(32767 * part)
+    level(out, {b"NODES": b"".join(w(0, 0, 0, 64, 64, 0, 0, 0, 64, 0, 0, 0, (i + 1) % n, (i + 1) % n) for i in range(n))})
+
+
 def hole(out, part):
     """a demo, or an empty directory, and one byte more than may be read"""
-    out.write(head(0, 0)); out.truncate(int(FILES*part) + (part == 1))
+    out.write(head(0, 0))
+    out.truncate(int(FILES * part) + (part == 1))
+
+
 def demo_hole(out, part):
-    out.write(bytes([109, 3, 1, 1, 0, 0, 0, 0, 0, 1, 0, 0, 0, 128])); out.truncate(int(FILES*part) + (part == 1))
+    out.write(bytes([109, 3, 1, 1, 0, 0, 0, 0, 0, 1, 0, 0, 0, 128]))
+    out.truncate(int(FILES * part) + (part == 1))
+
 
 # ----------------------------------------------------------------------- jobs
 # name, words (F is the file), file, input, and how the run at the whole size ends (its status)
 J = []
-def job(name, words, make=None, lines=None, ends=0): J.append((name, words, make, lines, ends))
-one_name = directory(None, [b'NAME'])
-job('lumps: 16,777,215 entries of one name', 'lumps F', one_name)
-job('levels: the same', 'levels F', one_name)
-job('points: the same, no label', 'points E1M1 F', one_name, ends=2)
-job('levels: 1,525,201 levels of one label', 'levels F', directory(None, [b'E1M1'] + NAMES))
-job('levels: as many of different labels', 'levels F', numbered_labels(False))
-job('levels: as many of labels with small letters', 'levels F', numbered_labels(True))
-for name, fill in (('in a chain', CHAIN), ('in a ring', RING), ('that all name one', ONE)):
-    job('audit: 9.5 million nodes ' + name, 'audit E1M1 F', big_level(MANY_SSECTORS, [b'NODES'], whole(28), fill), ends=1)
-job('points: the same, refused', 'points E1M1 F', big_level(MANY_SSECTORS, [b'NODES'], whole(28), ONE), ends=2)
-b = [b'BLOCKMAP']
-job('blocks: 134 million words without an end', 'blocks E1M1 F', big_level({}, b, whole(2), words(32767, 4095, w(4))), text(b'0 5\n'))
-job('blocks: one list of 134 million words', 'blocks E1M1 F', big_level({}, b, whole(2), one_list), lambda out, part: out.write(b'0 5\n'))
-job('audit: 134 million words without an end, all of them blocks', 'audit E1M1 F', big_level({}, b, whole(2), words(32767, 4095, w(4))))
-job('audit: the same, with one block', 'audit E1M1 F', big_level({}, b, whole(2), words(1, 1, w(5))))
-job('audit: 134 million ends', 'audit E1M1 F', big_level({}, b, whole(2), words(32767, 4095, w(-1))))
-for k, record in ((b'SEGS', 12), (b'LINEDEFS', 14), (b'SSECTORS', 4)):
-    job('audit: %s of bytes 255' % k.decode(), 'audit E1M1 F', big_level({}, [k], whole(record), lambda out, n: again(out, b'\xff', n)), ends=1)
-job('audit: all lumps over the same bytes 255', 'audit E1M1 F', big_level({}, NAMES, whole(1), lambda out, n: again(out, b'\xff', n)), ends=1)
-job('show: SIDEDEFS of bytes 255', 'show E1M1 F', big_level({}, [b'SIDEDEFS'], whole(30), lambda out, n: again(out, b'\xff', n)))
-job('show: all lumps over the same bytes 255', 'show E1M1 F', big_level({}, NAMES, whole(1), lambda out, n: again(out, b'\xff', n)))
-job('extract: a level of 268 MB', 'extract E1M1 F', big_level({}, b, whole(1), lambda out, n: again(out, b'\0', n)))
-job('extract: all lumps over the same 214 MB', 'extract E1M1 F', big_level({}, NAMES, lambda n: n*4//5, lambda out, n: again(out, b'\0', n)))
-for c in ('points', 'census', 'sight', 'blocks'):
-    job(c + ': 16 MB of one line', c + ' E1M1 S', None, text(b'1'))
-    job(c + ': 16 MB of empty lines', c + ' E1M1 S', None, text(b'\n'))
-    job(c + ': 16 MB of the shortest lines', c + ' E1M1 S', None, text(b'0 0 0 0\n' if c == 'census' else b'0 0\n'))
-job('points: 1024 points down a chain of 32,767 nodes', 'points E1M1 F', chain({}), lambda out, part: out.write(b'1 5\n'*1024))
-for name, direction in (('', (0, 64)), (', slanted', (1, 64))):
-    job('census: a square of 1024 on such a chain' + name, 'census E1M1 F', chain({}, direction=direction),
-        lambda out, part: out.write(b'-512 -512 511 511\n'))
-job('lmp: 67 million commands', 'lmp D', demo(109, [1, 0, 0, 0]))
-job('lmp: 53 million commands of the long form', 'lmp D', demo(111, [1, 1, 1, 1]))
-job('demo: 67 million commands in a lump', 'demo DEMO1 F', demo_lumps(1))
-job('lumps: a byte more than may be read', 'lumps F', hole, ends=2)
-job('lmp: a byte more than may be read', 'lmp D', demo_hole, ends=2)
+
+
+def job(name, words, make=None, lines=None, ends=0):
+    J.append((name, words, make, lines, ends))
+
+
+one_name = directory(None, [b"NAME"])
+job("lumps: 16,777,215 entries of one name", "lumps F", one_name)
+job("levels: the same", "levels F", one_name)
+job("points: the same, no label", "points E1M1 F", one_name, ends=2)
+job("levels: 1,525,201 levels of one label", "levels F", directory(None, [b"E1M1"] + NAMES))
+job("levels: as many of different labels", "levels F", numbered_labels(False))
+job("levels: as many of labels with small letters", "levels F", numbered_labels(True))
+for name, fill in (("in a chain", CHAIN), ("in a ring", RING), ("that all name one", ONE)):
+    job("audit: 9.5 million nodes " + name, "audit E1M1 F", big_level(MANY_SSECTORS, [b"NODES"], whole(28), fill), ends=1)
+job("points: the same, refused", "points E1M1 F", big_level(MANY_SSECTORS, [b"NODES"], whole(28), ONE), ends=2)
+b = [b"BLOCKMAP"]
+job(
+    "blocks: 134 million words without an end",
+    "blocks E1M1 F",
+    big_level({}, b, whole(2), words(32767, 4095, w(4))),
+    text(b"0 5\n"),
+)
+job(
+    "blocks: one list of 134 million words",
+    "blocks E1M1 F",
+    big_level({}, b, whole(2), one_list),
+    lambda out, part: out.write(b"0 5\n"),
+)
+job(
+    "audit: 134 million words without an end, all of them blocks",
+    "audit E1M1 F",
+    big_level({}, b, whole(2), words(32767, 4095, w(4))),
+)
+job("audit: the same, with one block", "audit E1M1 F", big_level({}, b, whole(2), words(1, 1, w(5))))
+job("audit: 134 million ends", "audit E1M1 F", big_level({}, b, whole(2), words(32767, 4095, w(-1))))
+for k, record in ((b"SEGS", 12), (b"LINEDEFS", 14), (b"SSECTORS", 4)):
+    job(
+        "audit: %s of bytes 255" % k.decode(),
+        "audit E1M1 F",
+        big_level({}, [k], whole(record), lambda out, n: again(out, b"\xff", n)),
+        ends=1,
+    )
+job(
+    "audit: all lumps over the same bytes 255",
+    "audit E1M1 F",
+    big_level({}, NAMES, whole(1), lambda out, n: again(out, b"\xff", n)),
+    ends=1,
+)
+job("show: SIDEDEFS of bytes 255", "show E1M1 F", big_level({}, [b"SIDEDEFS"], whole(30), lambda out, n: again(out, b"\xff", n)))
+job("show: all lumps over the same bytes 255", "show E1M1 F", big_level({}, NAMES, whole(1), lambda out, n: again(out, b"\xff", n)))
+job("extract: a level of 268 MB", "extract E1M1 F", big_level({}, b, whole(1), lambda out, n: again(out, b"\0", n)))
+job(
+    "extract: all lumps over the same 214 MB",
+    "extract E1M1 F",
+    big_level({}, NAMES, lambda n: n * 4 // 5, lambda out, n: again(out, b"\0", n)),
+)
+for c in ("points", "census", "sight", "blocks"):
+    job(c + ": 16 MB of one line", c + " E1M1 S", None, text(b"1"))
+    job(c + ": 16 MB of empty lines", c + " E1M1 S", None, text(b"\n"))
+    job(c + ": 16 MB of the shortest lines", c + " E1M1 S", None, text(b"0 0 0 0\n" if c == "census" else b"0 0\n"))
+job("points: 1024 points down a chain of 32,767 nodes", "points E1M1 F", chain({}), lambda out, part: out.write(b"1 5\n" * 1024))
+for name, direction in (("", (0, 64)), (", slanted", (1, 64))):
+    job(
+        "census: a square of 1024 on such a chain" + name,
+        "census E1M1 F",
+        chain({}, direction=direction),
+        lambda out, part: out.write(b"-512 -512 511 511\n"),
+    )
+job("lmp: 67 million commands", "lmp D", demo(109, [1, 0, 0, 0]))
+job("lmp: 53 million commands of the long form", "lmp D", demo(111, [1, 1, 1, 1]))
+job("demo: 67 million commands in a lump", "demo DEMO1 F", demo_lumps(1))
+job("lumps: a byte more than may be read", "lumps F", hole, ends=2)
+job("lmp: a byte more than may be read", "lmp D", demo_hole, ends=2)
 
 # ------------------------------------------------------- inputs for wadlens
-SIDE, SEG, THING = OWN[b'SIDEDEFS'][:30], OWN[b'SEGS'][:12], OWN[b'THINGS']
+SIDE, SEG, THING = OWN[b"SIDEDEFS"][:30], OWN[b"SEGS"][:12], OWN[b"THINGS"]
 # The second sector is a step up under a lower ceiling, so the wall to it lacks two textures.
-STEP = {b'SECTORS': OWN[b'SECTORS'][:26] + w(8, 100) + OWN[b'SECTORS'][30:]}
-TAGGED = w(0, 1, 1)                     # of a linedef: no flags, a special, and a tag that no sector has
-def vertexes(n): return {b'VERTEXES': b''.join(w(40503*i, 30011*i) for i in range(n))}
+STEP = {b"SECTORS": OWN[b"SECTORS"][:26] + w(8, 100) + OWN[b"SECTORS"][30:]}
+TAGGED = w(0, 1, 1)  # of a linedef: no flags, a special, and a tag that no sector has
+
+
+def vertexes(n):
+    return {b"VERTEXES": b"".join(w(40503 * i, 30011 * i) for i in range(n))}
+
+
 def linedefs(lumps, lines):
     """as many linedefs as fit, by turns of these: from where to where, and their sides"""
-    block = b''.join(w(a, b) + TAGGED + w(c, d) for a, b, c, d in lines)
-    return big_level(lumps, [b'LINEDEFS'], whole(14), lambda out, n: again(out, block, n))
+    block = b"".join(w(a, b) + TAGGED + w(c, d) for a, b, c, d in lines)
+    return big_level(lumps, [b"LINEDEFS"], whole(14), lambda out, n: again(out, block, n))
+
+
 def apart(out, size):
     """linedefs of which no two have the same places: from each of 32768 vertexes to the next, then to the one behind that"""
-    block = bytearray(b''.join(w(i, 0) + TAGGED + w(0, 1) for i in range(32768))); low, high = block[0::14], block[1::14]; k = 1
+    block = bytearray(b"".join(w(i, 0) + TAGGED + w(0, 1) for i in range(32768)))
+    low, high = block[0::14], block[1::14]
+    k = 1
     while size > 0:
-        block[2::14] = low[k:] + low[:k]; block[3::14] = high[k:] + high[:k]
-        size -= out.write(block[:size]); k += 1
+        block[2::14] = low[k:] + low[:k]
+        block[3::14] = high[k:] + high[:k]
+        size -= out.write(block[:size])
+        k += 1
+
+
 def of_bytes(byte, lumps=NAMES):
     """lumps that share as many such bytes as fit"""
     return big_level({}, lumps, whole(1), lambda out, n: again(out, byte, n))
+
+
 def levels_over(count, byte):
     """so many levels, all lumps of all of them over the same bytes"""
+
     def make(out, part):
-        start = 12 + 16*11*count; n = int((FILES - start)*part)
-        out.write(head(11*count, 12) + (entry(0, 0, b'E1M1') + b''.join(entry(start, n, k) for k in NAMES))*count); again(out, byte, n)
+        start = 12 + 16 * 11 * count
+        n = int((FILES - start) * part)
+        out.write(head(11 * count, 12) + (entry(0, 0, b"E1M1") + b"".join(entry(start, n, k) for k in NAMES)) * count)
+        again(out, byte, n)
+
     return make
+
+
 def samples(count):
     """so many levels over the sample's lumps"""
+
     def make(out, part):
-        body, d = b'', entry(0, 0, b'E1M1')
-        for k in NAMES: d += entry(12 + len(body), len(OWN[k]), k); body += OWN[k]
-        out.write(head(11*int(count*part), 12 + len(body)) + body + d*int(count*part))
+        body, d = b"", entry(0, 0, b"E1M1")
+        for k in NAMES:
+            d += entry(12 + len(body), len(OWN[k]), k)
+            body += OWN[k]
+        out.write(head(11 * int(count * part), 12 + len(body)) + body + d * int(count * part))
+
     return make
-LEAF = {b'SEGS': SEG*32767, b'SSECTORS': w(32766, 0, 1, 32766)}  # the thing is in the first ssector, before all of its segs
-def things(lumps, count): return lambda out, part: level(out, {**lumps, b'THINGS': THING*int(count*part)})
-ROW = {b'VERTEXES': w(0, 0, 1023, 0)}   # a frame of 1024 points
-def leaf_row(out, part): level(out, {**ROW, b'SEGS': SEG*int(32767*part), b'SSECTORS': w(int(32767*part), 0)*2})
+
+
+LEAF = {b"SEGS": SEG * 32767, b"SSECTORS": w(32766, 0, 1, 32766)}  # the thing is in the first ssector, before all of its segs
+
+
+def things(lumps, count):
+    return lambda out, part: level(out, {**lumps, b"THINGS": THING * int(count * part)})
+
+
+ROW = {b"VERTEXES": w(0, 0, 1023, 0)}  # a frame of 1024 points
+
+
+def leaf_row(out, part):
+    level(out, {**ROW, b"SEGS": SEG * int(32767 * part), b"SSECTORS": w(int(32767 * part), 0) * 2})
+
+
 def slanted(out, part):
     """1024 columns and up to 1023 rows, in bands of 33 rows, each of them in stripes from corner to corner. Each stripe of a band is a sector: 33 cells,
     of which no two are beside one another, so each is a block. Sectors of even numbers show nowhere"""
-    bands, lines = int(31*part), []
-    def node(x, y, dx, dy, front, back): lines.append(w(x, y, dx, dy, 64, 0, 0, 0, 64, 0, 0, 0, front, back)); return len(lines) - 1
-    def stripes(band, a, b):             # of a band those from a to b - 1
-        if b - a == 1: return 32768 + 1056*band + a
-        m = (a + b)//2; back, front = stripes(band, a, m), stripes(band, m, b)
-        return node(m - 33*band - 33, 0, 64, 64, front, back)
-    def between(a, b):                   # the bands from a to b - 1
-        if b - a == 1: return stripes(a, 0, 1056)
-        m = (a + b)//2; back, front = between(m, b), between(a, m)
-        return node(0, 33*m - 1, 64, 0, front, back)
-    between(0, bands); n = 1056*bands    # ssector i has a seg along sidedef i, of sector 2*i + 1
-    level(out, {b'NODES': b''.join(lines), b'SSECTORS': b''.join(w(1, i) for i in range(n)), b'SEGS': b''.join(w(0, 0, 0, i//2, i%2, 0) for i in range(n)),
-                b'LINEDEFS': b''.join(w(0, 1, 4, 0, 0, i, i + 1) for i in range(0, n, 2)), b'SIDEDEFS': b''.join(SIDE[:28] + w(2*i + 1) for i in range(n)),
-                b'SECTORS': OWN[b'SECTORS'][:26]*(2*n), b'VERTEXES': w(0, 0, 1023, 33*bands - 1)})
+    bands, lines = int(31 * part), []
+
+    def node(x, y, dx, dy, front, back):
+        lines.append(w(x, y, dx, dy, 64, 0, 0, 0, 64, 0, 0, 0, front, back))
+        return len(lines) - 1
+
+    def stripes(band, a, b):  # of a band those from a to b - 1
+        if b - a == 1:
+            return 32768 + 1056 * band + a
+        m = (a + b) // 2
+        back, front = stripes(band, a, m), stripes(band, m, b)
+        return node(m - 33 * band - 33, 0, 64, 64, front, back)
+
+    def between(a, b):  # the bands from a to b - 1
+        if b - a == 1:
+            return stripes(a, 0, 1056)
+        m = (a + b) // 2
+        back, front = between(m, b), between(a, m)
+        return node(0, 33 * m - 1, 64, 0, front, back)
+
+    between(0, bands)
+    n = 1056 * bands  # ssector i has a seg along sidedef i, of sector 2*i + 1
+    level(
+        out,
+        {
+            b"NODES": b"".join(lines),
+            b"SSECTORS": b"".join(w(1, i) for i in range(n)),
+            b"SEGS": b"".join(w(0, 0, 0, i // 2, i % 2, 0) for i in range(n)),
+            b"LINEDEFS": b"".join(w(0, 1, 4, 0, 0, i, i + 1) for i in range(0, n, 2)),
+            b"SIDEDEFS": b"".join(SIDE[:28] + w(2 * i + 1) for i in range(n)),
+            b"SECTORS": OWN[b"SECTORS"][:26] * (2 * n),
+            b"VERTEXES": w(0, 0, 1023, 33 * bands - 1),
+        },
+    )
+
+
 def many_demos(body):
     """as many demos as fit, all over the same few bytes"""
+
     def make(out, part):
-        n = int((FILES - 12 - len(body))//16*part)
-        out.write(head(n, 12 + len(body)) + body); again(out, entry(12, len(body), b'DEMO1'), 16*n)
-    return make
-def listing(more):
-    """the longest listing, whose last line tells of so many tics more than there are"""
-    def make(out, part):
-        left, n, block = int(FILES*part) - 200, -4096, b''
-        out.write(b'demo version 109 skill 3 episode 1 map 1 deathmatch 0 respawn 0 fast 0 nomonsters 0 viewpoint 0 players 1 0 0 0\n')
-        while len(block) <= left:
-            left -= out.write(block); n += 4096
-            block = ''.join('%d 1 0 0 0 00\n' % i for i in range(n, n + 4096)).encode()
-        out.write(b'tics %d odd 0 after 0\n' % (n + more))
+        n = int((FILES - 12 - len(body)) // 16 * part)
+        out.write(head(n, 12 + len(body)) + body)
+        again(out, entry(12, len(body), b"DEMO1"), 16 * n)
+
     return make
 
-LENS = ('check', 'survey', 'picture', 'atlas', 'demos', 'compare', 'assemble')
-one_byte = of_bytes(b'\xff')
-for word in ('check', 'survey') if o.wadlens else ():
-    job(word + ': 16,777,215 entries of one name', word + ' F', one_name)
-    job(word + ': 1,525,201 levels of one label', word + ' F', directory(None, [b'E1M1'] + NAMES), ends=1)
-    job(word + ': 9.5 million nodes in a chain', word + ' F', big_level(MANY_SSECTORS, [b'NODES'], whole(28), CHAIN), ends=1)
-    job(word + ': 134 million words without an end', word + ' F', big_level({}, b, whole(2), words(32767, 4095, w(4))))
-    for k, record in ((b'LINEDEFS', 14), (b'SIDEDEFS', 30), (b'SSECTORS', 4)):
-        job('%s: %s of bytes 255' % (word, k.decode()), word + ' F', big_level({}, [k], whole(record), lambda out, n: again(out, b'\xff', n)), ends=1)
-    job(word + ': all lumps over the same bytes 255', word + ' F', one_byte, ends=1)
-    job(word + ': 8 levels, all lumps over the same bytes 255', word + ' F', levels_over(8, b'\xff'), ends=1)
-    word += ' --map'
-    job(word + ': 19 million linedefs at one place', word + ' F', linedefs(STEP, [(0, 1, 0, 1)]))
-    job(word + ': 19 million linedefs, all from one vertex', word + ' F', linedefs({**STEP, **vertexes(32768)}, [(0, i, 0, 1) for i in range(1, 32768)]))
-    job(word + ': 65,535 sidedefs of one sector', word + ' --wide F',
-        linedefs({b'SIDEDEFS': SIDE*65535, b'SEGS': SEG*2, **vertexes(65536)}, [(i//2*2, i//2*2 + 1, i, -1) for i in range(65535)]))
-    job(word + ': 19 million linedefs at different places', word + ' F', big_level({**STEP, **vertexes(32768)}, [b'LINEDEFS'], whole(14), apart))
-    job(word + ': 26.8 million things', word + ' F', big_level({}, [b'THINGS'], whole(10), lambda out, n: again(out, THING, n)))
-    job(word + ': 65,536 things before 32,766 segs', word + ' F', things(LEAF, 65536))
-    job(word + ': 1024 things down a chain of 32,767 nodes', word + ' F', chain({b'THINGS': THING*1024}))
-    job(word + ': 32,768 ssectors of the same 32,767 segs', word + ' F', chain({b'SEGS': SEG*32767}, w(32767, 0)))
-    job(word + ': all lumps over the same bytes 0', word + ' F', of_bytes(b'\0'), ends=1)
+
+def listing(more):
+    """the longest listing, whose last line tells of so many tics more than there are"""
+
+    def make(out, part):
+        left, n, block = int(FILES * part) - 200, -4096, b""
+        out.write(
+            b"demo version 109 skill 3 episode 1 map 1 deathmatch 0 respawn 0 fast 0 nomonsters 0 viewpoint 0 players 1 0 0 0\n"
+        )
+        while len(block) <= left:
+            left -= out.write(block)
+            n += 4096
+            block = "".join("%d 1 0 0 0 00\n" % i for i in range(n, n + 4096)).encode()
+        out.write(b"tics %d odd 0 after 0\n" % (n + more))
+
+    return make
+
+
+LENS = ("check", "survey", "picture", "atlas", "demos", "compare", "assemble")
+one_byte = of_bytes(b"\xff")
+for word in ("check", "survey") if o.wadlens else ():
+    job(word + ": 16,777,215 entries of one name", word + " F", one_name)
+    job(word + ": 1,525,201 levels of one label", word + " F", directory(None, [b"E1M1"] + NAMES), ends=1)
+    job(word + ": 9.5 million nodes in a chain", word + " F", big_level(MANY_SSECTORS, [b"NODES"], whole(28), CHAIN), ends=1)
+    job(word + ": 134 million words without an end", word + " F", big_level({}, b, whole(2), words(32767, 4095, w(4))))
+    for k, record in ((b"LINEDEFS", 14), (b"SIDEDEFS", 30), (b"SSECTORS", 4)):
+        job(
+            "%s: %s of bytes 255" % (word, k.decode()),
+            word + " F",
+            big_level({}, [k], whole(record), lambda out, n: again(out, b"\xff", n)),
+            ends=1,
+        )
+    job(word + ": all lumps over the same bytes 255", word + " F", one_byte, ends=1)
+    job(word + ": 8 levels, all lumps over the same bytes 255", word + " F", levels_over(8, b"\xff"), ends=1)
+    word += " --map"
+    job(word + ": 19 million linedefs at one place", word + " F", linedefs(STEP, [(0, 1, 0, 1)]))
+    job(
+        word + ": 19 million linedefs, all from one vertex",
+        word + " F",
+        linedefs({**STEP, **vertexes(32768)}, [(0, i, 0, 1) for i in range(1, 32768)]),
+    )
+    job(
+        word + ": 65,535 sidedefs of one sector",
+        word + " --wide F",
+        linedefs(
+            {b"SIDEDEFS": SIDE * 65535, b"SEGS": SEG * 2, **vertexes(65536)},
+            [(i // 2 * 2, i // 2 * 2 + 1, i, -1) for i in range(65535)],
+        ),
+    )
+    job(
+        word + ": 19 million linedefs at different places",
+        word + " F",
+        big_level({**STEP, **vertexes(32768)}, [b"LINEDEFS"], whole(14), apart),
+    )
+    job(word + ": 26.8 million things", word + " F", big_level({}, [b"THINGS"], whole(10), lambda out, n: again(out, THING, n)))
+    job(word + ": 65,536 things before 32,766 segs", word + " F", things(LEAF, 65536))
+    job(word + ": 1024 things down a chain of 32,767 nodes", word + " F", chain({b"THINGS": THING * 1024}))
+    job(word + ": 32,768 ssectors of the same 32,767 segs", word + " F", chain({b"SEGS": SEG * 32767}, w(32767, 0)))
+    job(word + ": all lumps over the same bytes 0", word + " F", of_bytes(b"\0"), ends=1)
 if o.wadlens:
-    job('check --map --max 0: 19 million linedefs at one place', 'check --map --max 0 F', linedefs(STEP, [(0, 1, 0, 1)]))
-    p1024 = 'picture --cells 1024 '
-    job('picture: 1,047,552 cells, each a block, of 32,736 sectors', p1024 + '--wide E1M1 F', slanted)
-    job('picture: 1024 cells down a chain of 32,767 nodes', p1024 + 'E1M1 F', chain(ROW))
-    job('picture: 1024 cells before 32,767 segs', p1024 + 'E1M1 F', leaf_row)
-    job('picture: 19 million linedefs without length', p1024 + 'E1M1 F', of_bytes(b'\0', [b'LINEDEFS']))
-    job('picture: 26.8 million things', p1024 + 'E1M1 F', big_level({}, [b'THINGS'], whole(10), lambda out, n: again(out, THING, n)))
-    frame = p1024 + '--frame=-32768,-32768,32767,32767 E1M1 F'
-    job('picture: LINEDEFS of bytes 255', frame, of_bytes(b'\xff', [b'LINEDEFS']), ends=1)
-    job('picture: all lumps over the same bytes 255', frame, one_byte, ends=1)
-    job('atlas: 50,000 levels over the same bytes', 'atlas --out O F', samples(50000))
-    job('atlas: 1,525,201 levels with nothing to draw', 'atlas --out O F', directory(None, [b'E1M1'] + NAMES), ends=1)
-    job('demos: 16,777,215 entries of one name', 'demos F', one_name)
-    job('demos: 16,777,214 demos over the same 14 bytes', 'demos F', many_demos(bytes([109, 3, 1, 1, 0, 0, 0, 0, 0, 1, 0, 0, 0, 128])))
-    job('demos: 16,777,215 refused demos', 'demos F', many_demos(b'\xff'), ends=2)
-    job('demos: a demo of 67 million commands', 'demos D', demo(109, [1, 0, 0, 0]))
-    job('demos: 8 demos over the same 67 million commands', 'demos F', demo_lumps(8))
-    job('compare: 67 million commands with themselves', 'compare D D', demo(109, [1, 0, 0, 0]))
-    job('assemble: the longest listing', 'assemble', None, listing(0))
-    job('assemble: the same, with a last line that is wrong', 'assemble', None, listing(1), ends=2)
-    job('assemble: 268 MB of one line', 'assemble', None, lambda out, part: again(out, b'1', int(FILES*part)), ends=2)
+    job("check --map --max 0: 19 million linedefs at one place", "check --map --max 0 F", linedefs(STEP, [(0, 1, 0, 1)]))
+    p1024 = "picture --cells 1024 "
+    job("picture: 1,047,552 cells, each a block, of 32,736 sectors", p1024 + "--wide E1M1 F", slanted)
+    job("picture: 1024 cells down a chain of 32,767 nodes", p1024 + "E1M1 F", chain(ROW))
+    job("picture: 1024 cells before 32,767 segs", p1024 + "E1M1 F", leaf_row)
+    job("picture: 19 million linedefs without length", p1024 + "E1M1 F", of_bytes(b"\0", [b"LINEDEFS"]))
+    job(
+        "picture: 26.8 million things", p1024 + "E1M1 F", big_level({}, [b"THINGS"], whole(10), lambda out, n: again(out, THING, n))
+    )
+    frame = p1024 + "--frame=-32768,-32768,32767,32767 E1M1 F"
+    job("picture: LINEDEFS of bytes 255", frame, of_bytes(b"\xff", [b"LINEDEFS"]), ends=1)
+    job("picture: all lumps over the same bytes 255", frame, one_byte, ends=1)
+    job("atlas: 50,000 levels over the same bytes", "atlas --out O F", samples(50000))
+    job("atlas: 1,525,201 levels with nothing to draw", "atlas --out O F", directory(None, [b"E1M1"] + NAMES), ends=1)
+    job("demos: 16,777,215 entries of one name", "demos F", one_name)
+    job(
+        "demos: 16,777,214 demos over the same 14 bytes",
+        "demos F",
+        many_demos(bytes([109, 3, 1, 1, 0, 0, 0, 0, 0, 1, 0, 0, 0, 128])),
+    )
+    job("demos: 16,777,215 refused demos", "demos F", many_demos(b"\xff"), ends=2)
+    job("demos: a demo of 67 million commands", "demos D", demo(109, [1, 0, 0, 0]))
+    job("demos: 8 demos over the same 67 million commands", "demos F", demo_lumps(8))
+    job("compare: 67 million commands with themselves", "compare D D", demo(109, [1, 0, 0, 0]))
+    job("assemble: the longest listing", "assemble", None, listing(0))
+    job("assemble: the same, with a last line that is wrong", "assemble", None, listing(1), ends=2)
+    job("assemble: 268 MB of one line", "assemble", None, lambda out, part: again(out, b"1", int(FILES * part)), ends=2)
 
 # A call ends with its status: 1 where the level isn't sound, 8 where no entry has the name.
 for word, name, make, ends in (
-    ('audit', '9.5 million nodes in a chain', big_level(MANY_SSECTORS, [b'NODES'], whole(28), CHAIN), 0),
-    ('audit', 'all lumps over the same bytes 255', one_byte, 0),
-    ('points', '9.5 million nodes that all name one, refused', big_level(MANY_SSECTORS, [b'NODES'], whole(28), ONE), 1),
-    ('points', '1024 points down a chain of 32,767 nodes', chain({}), 0),
-    ('prepare', '22 million segs', big_level({}, [b'SEGS'], whole(12), lambda out, n: again(out, SEG, n)), 0),
-    ('prepare', 'a chain of 32,767 nodes', chain({}), 0),
-    ('point', '1024 calls down such a chain', chain({}), 0),
-    ('point', '1024 calls round a ring of 32,767 nodes', ring, 0),
-    ('census', 'a square of 1024 on a chain of 32,767 nodes', chain({}), 0),
-    ('census', 'a square of 1024 on a chain of 32,767 slanted nodes', chain({}, direction=(1, 64)), 0),
-    ('census_wide', '1,047,552 points in 32,736 sectors', slanted, 0),
-    ('find', '16,777,215 entries of another name', one_name, 8),
-    ('find', '1,525,201 levels of one label', directory(None, [b'E1M1'] + NAMES), 0),
-    ('sight', '1,048,576 bits of a REJECT of 268 MB', of_bytes(b'\x55', [b'REJECT']), 0),
-    ('extract', 'a level of 268 MB', of_bytes(b'\0', b), 0),
-    ('demo', '67 million commands', demo(109, [1, 0, 0, 0]), 0),
-    ('block', 'one list of 134 million words', big_level({}, b, whole(2), one_list), 0),
-) if o.library else (): job('wadlook_%s: %s' % (word.split('_')[0], name), 'wadlook_%s F' % word, make, ends=ends)
+    (
+        ("audit", "9.5 million nodes in a chain", big_level(MANY_SSECTORS, [b"NODES"], whole(28), CHAIN), 0),
+        ("audit", "all lumps over the same bytes 255", one_byte, 0),
+        ("points", "9.5 million nodes that all name one, refused", big_level(MANY_SSECTORS, [b"NODES"], whole(28), ONE), 1),
+        ("points", "1024 points down a chain of 32,767 nodes", chain({}), 0),
+        ("prepare", "22 million segs", big_level({}, [b"SEGS"], whole(12), lambda out, n: again(out, SEG, n)), 0),
+        ("prepare", "a chain of 32,767 nodes", chain({}), 0),
+        ("point", "1024 calls down such a chain", chain({}), 0),
+        ("point", "1024 calls round a ring of 32,767 nodes", ring, 0),
+        ("census", "a square of 1024 on a chain of 32,767 nodes", chain({}), 0),
+        ("census", "a square of 1024 on a chain of 32,767 slanted nodes", chain({}, direction=(1, 64)), 0),
+        ("census_wide", "1,047,552 points in 32,736 sectors", slanted, 0),
+        ("find", "16,777,215 entries of another name", one_name, 8),
+        ("find", "1,525,201 levels of one label", directory(None, [b"E1M1"] + NAMES), 0),
+        ("sight", "1,048,576 bits of a REJECT of 268 MB", of_bytes(b"\x55", [b"REJECT"]), 0),
+        ("extract", "a level of 268 MB", of_bytes(b"\0", b), 0),
+        ("demo", "67 million commands", demo(109, [1, 0, 0, 0]), 0),
+        ("block", "one list of 134 million words", big_level({}, b, whole(2), one_list), 0),
+    )
+    if o.library
+    else ()
+):
+    job("wadlook_%s: %s" % (word.split("_")[0], name), "wadlook_%s F" % word, make, ends=ends)
 
 # ----------------------------------------------------------------------- runs
-CALLS = p('calls')
-if o.library: subprocess.check_call(['gcc', '-O3', '-I%s/include' % o.library, '-o', CALLS, HERE + '/calls.c', o.library + '/lib/libwadlook.a'])
+CALLS = p("calls")
+if o.library:
+    subprocess.check_call(
+        ["gcc", "-O3", "-I%s/include" % o.library, "-o", CALLS, HERE + "/calls.c", o.library + "/lib/libwadlook.a"]
+    )
+
+
 def once(args, inp):
     """user plus system seconds, peak KB, status, first word on standard error"""
     words = [o.wadlens if args[0] in LENS else o.wadlook] + args
-    if args[0].startswith('wadlook_'): words = [CALLS, args[0][8:]] + args[1:]
-    q = subprocess.run([RUN, str(o.limit), inp, '/dev/null', p('err')] + words, stdout=subprocess.PIPE).stdout.split()
-    if len(q) != 6 or q[5] == b'127': sys.exit('cannot run %s' % words[0])
-    shutil.rmtree(p('atlas'), ignore_errors=True)
-    with open(p('err'), errors='replace') as err: return float(q[0]) + float(q[1]), int(q[3]), int(q[5]), err.readline().strip()
+    if args[0].startswith("wadlook_"):
+        words = [CALLS, args[0][8:]] + args[1:]
+    q = subprocess.run([RUN, str(o.limit), inp, "/dev/null", p("err")] + words, stdout=subprocess.PIPE).stdout.split()
+    if len(q) != 6 or q[5] == b"127":
+        sys.exit("cannot run %s" % words[0])
+    shutil.rmtree(p("atlas"), ignore_errors=True)
+    with open(p("err"), errors="replace") as err:
+        return float(q[0]) + float(q[1]), int(q[3]), int(q[5]), err.readline().strip()
+
+
 def best(words, make, lines, part):
-    file, inp = p('file.wad'), '/dev/null'
+    file, inp = p("file.wad"), "/dev/null"
     if make:
-        with open(file, 'wb') as out: make(out, part)
+        with open(file, "wb") as out:
+            make(out, part)
     if lines:
-        inp = p('lines')
-        with open(inp, 'wb') as out: lines(out, part)
-    args = [{'F': file, 'D': file, 'S': SAMPLE, 'O': p('atlas')}.get(q, q) for q in words.split()]
+        inp = p("lines")
+        with open(inp, "wb") as out:
+            lines(out, part)
+    args = [{"F": file, "D": file, "S": SAMPLE, "O": p("atlas")}.get(q, q) for q in words.split()]
     runs = [once(args, inp) for _ in range(o.repeat)]
-    for n in (file, p('lines')):
-        if os.path.exists(n): os.remove(n)
+    for n in (file, p("lines")):
+        if os.path.exists(n):
+            os.remove(n)
     return min(runs, key=lambda r: r[0])
-if o.markdown: print('| Input | Half | Whole | Ratio | Peak memory |\n|---|---|---|---|---|')
-else: print('%-58s %9s %9s %6s %9s  %s' % ('input', 'half, s', 'whole, s', 'ratio', 'peak, MB', 'ends'))
+
+
+if o.markdown:
+    print("| Input | Half | Whole | Ratio | Peak memory |\n|---|---|---|---|---|")
+else:
+    print("%-58s %9s %9s %6s %9s  %s" % ("input", "half, s", "whole, s", "ratio", "peak, MB", "ends"))
 for name, words, make, lines, ends in J:
-    if o.only and not any(k in name for k in o.only.split(',')): continue
-    half, all_ = best(words, make, lines, o.scale/2), best(words, make, lines, o.scale)
+    if o.only and not any(k in name for k in o.only.split(",")):
+        continue
+    half, all_ = best(words, make, lines, o.scale / 2), best(words, make, lines, o.scale)
     slow = -1 in (half[2], all_[2])
-    ratio = '%.2f' % (all_[0]/half[0]) if min(half[0], all_[0]) >= 0.02 and not slow else '-'
-    told = 'over %d s' % o.limit if slow else 'status %d%s%s' % (all_[2], ' ' + all_[3] if all_[3] else '', '' if all_[2] == ends else ' (NOT %d)' % ends)
-    if o.markdown: print('| %s | %.2f s | %.2f s | %s | %.0f MB |' % (name, half[0], all_[0], ratio, all_[1]/1024), flush=True)
-    else: print('%-58s %9.3f %9.3f %6s %9.1f  %s' % (name, half[0], all_[0], ratio, all_[1]/1024, told), flush=True)
+    ratio = "%.2f" % (all_[0] / half[0]) if min(half[0], all_[0]) >= 0.02 and not slow else "-"
+    told = (
+        "over %d s" % o.limit
+        if slow
+        else "status %d%s%s" % (all_[2], " " + all_[3] if all_[3] else "", "" if all_[2] == ends else " (NOT %d)" % ends)
+    )
+    if o.markdown:
+        print("| %s | %.2f s | %.2f s | %s | %.0f MB |" % (name, half[0], all_[0], ratio, all_[1] / 1024), flush=True)
+    else:
+        print("%-58s %9.3f %9.3f %6s %9.1f  %s" % (name, half[0], all_[0], ratio, all_[1] / 1024, told), flush=True)

@@ -1,9 +1,9 @@
 /* library.c: libwadlook beside plain C, on the points of a file. Build, after tools/library:
        gcc -O3 -Iout/include -o library bench/library.c out/lib/libwadlook.a
    library BASELINE NAME WAD POINTS [ROUNDS]
-   tells the least processor time, in seconds, of so many rounds (15) in turn: of the program BASELINE (baseline.c), which
+   tells the least processor time, in seconds, of so many rounds (15) in turn: of the program BASELINE (baseline/), which
    answers the points as text; of one call of wadlook_points; of a call of wadlook_point for each; and of three descents in
-   plain C: tuned, over NODES' bytes and the list of sectors, too; the same untuned; and that of baseline.c, `leaf`, over nodes
+   plain C: tuned, over NODES' bytes and the list of sectors, too; the same untuned; and that of the baseline, `leaf`, over nodes
    that were decoded before. It ends with 1 where two of them differ. */
 #include "wadlook.h"
 #include <fcntl.h>
@@ -27,17 +27,30 @@ static const uint8_t *nodes;
 static size_t nodes_len;
 static char **words;
 
-typedef struct { int16_t x, y, dx, dy; uint16_t kid[2]; uint8_t tie, org; } node; /* as in baseline.c */
+typedef struct {
+    int16_t x, y, dx, dy;
+    uint16_t kid[2];
+    uint8_t tie, org;
+} node; /* as in the baseline */
 static node *decoded;
 
-static double now(void) { struct timespec t; clock_gettime(CLOCK_PROCESS_CPUTIME_ID, &t); return (double)t.tv_sec + 1e-9 * (double)t.tv_nsec; }
-static void must(int holds, const char *what) { if (!holds) { fprintf(stderr, "%s\n", what); exit(1); } }
+static double now(void) {
+    struct timespec t;
+    clock_gettime(CLOCK_PROCESS_CPUTIME_ID, &t);
+    return (double)t.tv_sec + 1e-9 * (double)t.tv_nsec;
+}
+static void must(int holds, const char *what) {
+    if (!holds) {
+        fprintf(stderr, "%s\n", what);
+        exit(1);
+    }
+}
 
 static inline uint32_t le16(const uint8_t *p) { return p[0] | (uint32_t)p[1] << 8; }
 static inline int32_t s16(const uint8_t *p) { return (int16_t)le16(p); }
 static inline int far(int32_t v) { return v < -16384 || v > 16383; }
 
-/* 0 front, 1 back, as in baseline.c. */
+/* 0 front, 1 back, as in the baseline. */
 static inline uint32_t side(const uint8_t *p, int32_t x, int32_t y) {
     int32_t nx = s16(p), ny = s16(p + 2), dx = s16(p + 4), dy = s16(p + 6);
     int32_t l = dy * (x - nx), r = dx * (y - ny);
@@ -47,9 +60,12 @@ static inline uint32_t side(const uint8_t *p, int32_t x, int32_t y) {
 
 /* None of these is inlined, since no call of a library is. */
 static const wadlook_place nowhere = {WADLOOK_NOWHERE, WADLOOK_NOWHERE};
-static inline wadlook_place found(uint32_t word, const uint16_t *list) { return (wadlook_place){(uint16_t)(word - 32768), list[word - 32768]}; }
+static inline wadlook_place found(uint32_t word, const uint16_t *list) {
+    return (wadlook_place){(uint16_t)(word - 32768), list[word - 32768]};
+}
 
-static __attribute__((noinline)) wadlook_place c_point(const uint8_t *bytes, size_t len, const uint16_t *list, wadlook_point_at at) {
+static __attribute__((noinline)) wadlook_place c_point(
+    const uint8_t *bytes, size_t len, const uint16_t *list, wadlook_point_at at) {
     if (far(at.x) || far(at.y)) return nowhere;
     uint32_t word = len < 28 ? 32768 : (uint32_t)(len / 28) - 1;
     while (word < 32768) {
@@ -60,7 +76,8 @@ static __attribute__((noinline)) wadlook_place c_point(const uint8_t *bytes, siz
     return found(word, list);
 }
 
-static __attribute__((noinline)) wadlook_place c_untuned(const uint8_t *bytes, size_t len, const uint16_t *list, wadlook_point_at at) {
+static __attribute__((noinline)) wadlook_place c_untuned(
+    const uint8_t *bytes, size_t len, const uint16_t *list, wadlook_point_at at) {
     if (far(at.x) || far(at.y)) return nowhere;
     uint32_t word = len < 28 ? 32768 : (uint32_t)(len / 28) - 1;
     while (word < 32768) {
@@ -80,7 +97,8 @@ static __attribute__((noinline)) wadlook_place c_leaf(size_t count, const uint16
     if (far(at.x) || far(at.y)) return nowhere;
     if (!count) return found(32768, list);
     uint32_t w = (uint32_t)count - 1;
-    do w = decoded[w].kid[side_of(&decoded[w], at.x, at.y)]; while (w < 32768);
+    do w = decoded[w].kid[side_of(&decoded[w], at.x, at.y)];
+    while (w < 32768);
     return found(w, list);
 }
 
@@ -89,7 +107,8 @@ static void decode(void) {
     must(decoded != NULL, "no memory");
     for (size_t i = 0; i < nodes_len / 28; i++) {
         const uint8_t *p = nodes + 28 * i;
-        node q = {(int16_t)s16(p), (int16_t)s16(p + 2), (int16_t)s16(p + 4), (int16_t)s16(p + 6), {(uint16_t)le16(p + 24), (uint16_t)le16(p + 26)}, 0, 0};
+        node q = {(int16_t)s16(p), (int16_t)s16(p + 2), (int16_t)s16(p + 4), (int16_t)s16(p + 6),
+            {(uint16_t)le16(p + 24), (uint16_t)le16(p + 26)}, 0, 0};
         q.tie = q.dx == 0 ? q.dy > 0 : q.dy == 0 ? q.dx < 0 : 1;
         q.org = q.dx < 0 && q.dy > 0;
         decoded[i] = q;
@@ -109,8 +128,8 @@ static double text(void) {
     int status;
     must(waitpid(pid, &status, 0) == pid && status == 0, "the baseline failed");
     getrusage(RUSAGE_CHILDREN, &after);
-    return (double)(after.ru_utime.tv_sec - before.ru_utime.tv_sec + after.ru_stime.tv_sec - before.ru_stime.tv_sec)
-        + 1e-6 * (double)(after.ru_utime.tv_usec - before.ru_utime.tv_usec + after.ru_stime.tv_usec - before.ru_stime.tv_usec);
+    return (double)(after.ru_utime.tv_sec - before.ru_utime.tv_sec + after.ru_stime.tv_sec - before.ru_stime.tv_sec) +
+           1e-6 * (double)(after.ru_utime.tv_usec - before.ru_utime.tv_usec + after.ru_stime.tv_usec - before.ru_stime.tv_usec);
 }
 
 static double one_call(void) {
@@ -183,13 +202,17 @@ int main(int argc, char **argv) {
     decode();
 
     /* Each job, and the one beside which its time is told. */
-    const struct { const char *name; double (*run)(void); int beside; } jobs[] = {
-        {"text in and out, by baseline.c", text, -1},
+    const struct {
+        const char *name;
+        double (*run)(void);
+        int beside;
+    } jobs[] = {
+        {"text in and out, by the baseline", text, -1},
         {"one call of wadlook_points", one_call, 0},
         {"a call of wadlook_point for each", each_point, 3},
         {"descent in C, tuned", in_c, -1},
         {"descent in C, children loaded behind the test", in_untuned, 3},
-        {"leaf of baseline.c, over decoded nodes", in_leaf, 3},
+        {"leaf of the baseline, over decoded nodes", in_leaf, 3},
     };
     enum { JOBS = sizeof jobs / sizeof *jobs };
     double least[JOBS];

@@ -96,9 +96,7 @@ def comb():
         nodes += words(x0, low, x1 - x0, HEIGHT)
         nodes += words(high, low, x0 - 32, min(x0 + 2 * WIDTH, right), high, low, left, x0 + 32)
         nodes += words(0x8000 | (n + 1), n - 1 if n else 0x8000)
-    sectors = b"".join(
-        words(0, 128) + b"FLOOR4_8CEIL3_5\0" + words(96 + s % 8 * 16, 0, 0) for s in range(STRIPS)
-    )
+    sectors = b"".join(words(0, 128) + b"FLOOR4_8CEIL3_5\0" + words(96 + s % 8 * 16, 0, 0) for s in range(STRIPS))
     columns, rows = WIDTH * STRIPS // 128 + 2, HEIGHT // 128 + 1
     x, y = column_of(0, False) - 64, low
     places = [struct.unpack_from("<hh", vertexes, 4 * v) for v in range(2 * STRIPS + 2)]

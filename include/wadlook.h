@@ -66,8 +66,13 @@ enum wadlook_status {
 
 /* ---- Points ------------------------------------------------------------------------------------------------------ */
 
-typedef struct { int32_t x, y; } wadlook_point_at;           /* in map units, -16384 to 16383 */
-typedef struct { uint16_t ssector, sector; } wadlook_place;
+/* In map units, -16384 to 16383. */
+typedef struct {
+    int32_t x, y;
+} wadlook_point_at;
+typedef struct {
+    uint16_t ssector, sector;
+} wadlook_place;
 
 /* The ssector and the sector of a point that is out of range. No level has such an ssector; under `wide` the last of 65,536
  * sectors has the number, too. */
@@ -76,53 +81,64 @@ typedef struct { uint16_t ssector, sector; } wadlook_place;
 /* Writes to places[i] the ssector and the sector in which points[i] lies, for each point; the file is read and the level
  * audited once. NO_ROOM: places_len < points_len. Else DONE, UNSOUND, MEMORY, SHORT to LUMP_OUTSIDE. */
 uint32_t wadlook_points(const uint8_t *wad, size_t wad_len, const uint8_t *name, size_t name_len, bool wide,
-                        const wadlook_point_at *points, size_t points_len, wadlook_place *places, size_t places_len);
+    const wadlook_point_at *points, size_t points_len, wadlook_place *places, size_t places_len);
 
 /* Audits a level once for many calls of wadlook_point: writes the sector of each ssector to the front of sectors, and how
  * many there are to *count, also at NO_ROOM. That is told before the audit, so the level may be UNSOUND where there is room; no
  * sound level has more than 32,768. Else DONE, UNSOUND, MEMORY, SHORT to LUMP_OUTSIDE. */
-uint32_t wadlook_prepare(const uint8_t *wad, size_t wad_len, const uint8_t *name, size_t name_len, bool wide,
-                         uint16_t *sectors, size_t sectors_len, size_t *count);
+uint32_t wadlook_prepare(const uint8_t *wad, size_t wad_len, const uint8_t *name, size_t name_len, bool wide, uint16_t *sectors,
+    size_t sectors_len, size_t *count);
 
 /* The place of one point, by the bytes of a level's NODES (wadlook_find with 7) and the *count sectors that
  * wadlook_prepare listed. Takes no memory. Any bytes and numbers may be handed in; where they are no sound level's, the
  * answer is some place or nowhere. */
-wadlook_place wadlook_point(const uint8_t *nodes, size_t nodes_len, const uint16_t *sectors, size_t sectors_len,
-                            wadlook_point_at point);
+wadlook_place wadlook_point(
+    const uint8_t *nodes, size_t nodes_len, const uint16_t *sectors, size_t sectors_len, wadlook_point_at point);
 
-typedef struct { int32_t x0, y0, x1, y1; } wadlook_rect;     /* columns x0 to x1 and rows y0 to y1, with both ends */
-typedef struct { uint32_t sector, points; } wadlook_count;
+/* Columns x0 to x1 and rows y0 to y1, with both ends. */
+typedef struct {
+    int32_t x0, y0, x1, y1;
+} wadlook_rect;
+typedef struct {
+    uint32_t sector, points;
+} wadlook_count;
 
 /* How many whole points of a rectangle lie in each sector, by sectors, of those that have some: as many pairs as there is
  * room for, and how many there are to *count. NO_RECT; else DONE, UNSOUND, MEMORY, SHORT to LUMP_OUTSIDE. */
 uint32_t wadlook_census(const uint8_t *wad, size_t wad_len, const uint8_t *name, size_t name_len, bool wide,
-                        const wadlook_rect *rect, wadlook_count *counts, size_t counts_len, size_t *count);
+    const wadlook_rect *rect, wadlook_count *counts, size_t counts_len, size_t *count);
 
 /* ---- What is wrong with a level ---------------------------------------------------------------------------------- */
 
-typedef struct { uint32_t code, index; } wadlook_finding;    /* code: 0 to 17 for F1 to F18, 18 to 29 for N1 to N12 */
-typedef struct { size_t faults, notes; } wadlook_totals;
+/* `code` is 0 to 17 for F1 to F18, 18 to 29 for N1 to N12. */
+typedef struct {
+    uint32_t code, index;
+} wadlook_finding;
+typedef struct {
+    size_t faults, notes;
+} wadlook_totals;
 
 /* The faults and notes of a level, by code and then by index: as many findings as there is room for, and how many there
  * are. A lump that is missing or outside the file is the only finding, F1 or F2 with the lump's number. DONE, MEMORY,
  * SHORT to NO_NAME. */
 uint32_t wadlook_audit(const uint8_t *wad, size_t wad_len, const uint8_t *name, size_t name_len, bool wide,
-                       wadlook_finding *findings, size_t findings_len, wadlook_totals *totals);
+    wadlook_finding *findings, size_t findings_len, wadlook_totals *totals);
 
 /* ---- Lumps, sight and blocks ------------------------------------------------------------------------------------- */
 
-typedef struct { size_t entry, place, size; } wadlook_lump;  /* entry: from 0; its lump is the `size` bytes from wad + place */
+/* `entry` counts from 0; its lump is the `size` bytes from wad + place. */
+typedef struct {
+    size_t entry, place, size;
+} wadlook_lump;
 
 /* The entry that stands `after` entries behind the last one of a name, and its lump. Behind a level's label 1 to 10 are
  * THINGS, LINEDEFS, SIDEDEFS, VERTEXES, SEGS, SSECTORS, NODES, SECTORS, REJECT and BLOCKMAP. DONE, MEMORY, SHORT to
  * LUMP_OUTSIDE. */
-uint32_t wadlook_find(const uint8_t *wad, size_t wad_len, const uint8_t *name, size_t name_len, size_t after,
-                      wadlook_lump *lump);
+uint32_t wadlook_find(const uint8_t *wad, size_t wad_len, const uint8_t *name, size_t name_len, size_t after, wadlook_lump *lump);
 
 /* Whether REJECT's bytes, of a level of so many sectors (SECTORS has 26 bytes for each), refuse the sight from a sector to
  * another: *blocked is 1 or 0. NO_SECTOR, UNKNOWN, DONE. Takes no memory. */
-uint32_t wadlook_sight(const uint8_t *reject, size_t reject_len, uint32_t sectors, uint32_t from, uint32_t to,
-                       uint32_t *blocked);
+uint32_t wadlook_sight(const uint8_t *reject, size_t reject_len, uint32_t sectors, uint32_t from, uint32_t to, uint32_t *blocked);
 
 typedef struct {
     uint32_t column, row;
@@ -131,15 +147,14 @@ typedef struct {
 
 /* The block that holds a point, and where its list stands in BLOCKMAP's bytes, up to its end word: little-endian words,
  * signed unless wide. The first word of a list is mostly 0 and no linedef. OUT_OF_RANGE to NO_END, DONE. Takes no memory. */
-uint32_t wadlook_block(const uint8_t *blockmap, size_t blockmap_len, bool wide, wadlook_point_at point,
-                       wadlook_block_at *block);
+uint32_t wadlook_block(const uint8_t *blockmap, size_t blockmap_len, bool wide, wadlook_point_at point, wadlook_block_at *block);
 
 /* ---- A level alone, and demos ------------------------------------------------------------------------------------ */
 
 /* Writes a PWAD of the level alone, its label and its ten lumps, to the front of out, and its length to *written, also at
  * NO_ROOM. Else DONE, MEMORY, TOO_LARGE, SHORT to LUMP_OUTSIDE. */
-uint32_t wadlook_extract(const uint8_t *wad, size_t wad_len, const uint8_t *name, size_t name_len,
-                         uint8_t *out, size_t out_len, size_t *written);
+uint32_t wadlook_extract(
+    const uint8_t *wad, size_t wad_len, const uint8_t *name, size_t name_len, uint8_t *out, size_t out_len, size_t *written);
 
 typedef struct {
     size_t commands; /* how many, of all players; a full tic has one of each */
@@ -148,12 +163,16 @@ typedef struct {
     uint8_t version, skill, episode, map, deathmatch, respawn, fast, no_monsters, viewpoint;
     uint8_t player[4]; /* whether each takes part */
 } wadlook_demo_info;
-typedef struct { uint16_t turn; int8_t forward, side; uint8_t buttons; } wadlook_command;
+typedef struct {
+    uint16_t turn;
+    int8_t forward, side;
+    uint8_t buttons;
+} wadlook_command;
 
 /* What a demo's bytes say, and as many commands as there is room for, in order. DONE, DEMO_EMPTY to DEMO_NO_MARKER. Takes
  * no memory. */
-uint32_t wadlook_demo(const uint8_t *bytes, size_t bytes_len, wadlook_command *commands, size_t commands_len,
-                      wadlook_demo_info *info);
+uint32_t wadlook_demo(
+    const uint8_t *bytes, size_t bytes_len, wadlook_command *commands, size_t commands_len, wadlook_demo_info *info);
 
 #ifdef __cplusplus
 }

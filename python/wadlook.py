@@ -5,9 +5,9 @@
     level.faults                      # [] for a sound level
     level.sectors([(0, 5), (64, 8)])  # the sector of each point, None where one is out of range
 
-The module calls libwadlook through ctypes; `include/wadlook.h` says what each call promises. It takes the library of the
-checkout that it stands in (`tools/library` builds it into out/lib), and else the one that the system's loader finds. The
-calls keep no state and let other threads of Python run.
+The module calls libwadlook through ctypes; `include/wadlook.h` says what each call promises. It takes the library beside it, as
+in a release's wheel, or that of the checkout that it stands in (`tools/library` builds it into out/lib), and else the one that
+the system's loader finds. The calls keep no state and let other threads of Python run.
 """
 
 from __future__ import annotations
@@ -19,7 +19,18 @@ from array import array
 from typing import Iterable, NamedTuple, Sequence, Union
 
 __all__ = [
-    "Block", "Command", "Demo", "Finding", "Level", "Lump", "NOWHERE", "Place", "Status", "Wad", "WadlookError", "read_demo",
+    "Block",
+    "Command",
+    "Demo",
+    "Finding",
+    "Level",
+    "Lump",
+    "NOWHERE",
+    "Place",
+    "Status",
+    "Wad",
+    "WadlookError",
+    "read_demo",
 ]
 
 NOWHERE = 65535
@@ -241,8 +252,8 @@ class _Command(ctypes.Structure):
 
 def _library() -> ctypes.CDLL:
     here = os.path.dirname(os.path.abspath(__file__))
-    beside = os.path.join(here, os.pardir, "out", "lib", "libwadlook.so")
-    so = ctypes.CDLL(beside if os.path.exists(beside) else "libwadlook.so")
+    places = (os.path.join(here, *folder, "libwadlook.so") for folder in ([], [os.pardir, "out", "lib"]))
+    so = ctypes.CDLL(next(filter(os.path.exists, places), "libwadlook.so"))
     bytes_in = [ctypes.c_void_p, ctypes.c_size_t]
     level = [*bytes_in, *bytes_in, ctypes.c_bool]
     takes = {

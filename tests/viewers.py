@@ -74,13 +74,19 @@ def places(look: Path, name: str, wad: Path, clear: int, step: int) -> Iterator[
     leaves = [(int(row[0]), int(row[1])) for row in rows["SSECTORS"]]
     things = [(int(row[0]), int(row[1])) for row in rows["THINGS"]]
     xs, ys = [line[k] for line in lines for k in (0, 2)], [line[k] for line in lines for k in (1, 3)]
-    grid = [(x, y) for y in range(min(ys) - clear - 1, max(ys) + clear + 2, step) for x in range(min(xs) - clear - 1, max(xs) + clear + 2, step)]
+    grid = [
+        (x, y)
+        for y in range(min(ys) - clear - 1, max(ys) + clear + 2, step)
+        for x in range(min(xs) - clear - 1, max(xs) + clear + 2, step)
+    ]
     answers = ask(look, ["points", name, str(wad)], "".join(f"{x} {y}\n" for x, y in grid)).splitlines()
     for (x, y), answer in zip(grid, answers, strict=True):
         sector, leaf = int(answer.split(" ")[3]), int(answer.split(" ")[5])
         count, first = leaves[leaf]
         inside = all((by - ay) * (x - ax) - (bx - ax) * (y - ay) >= 0 for ax, ay, bx, by in segs[first : first + count])
-        free = all(distance(x, y, *line) >= clear for line in lines) and all(abs(x - tx) + abs(y - ty) >= 2 * clear for tx, ty in things)
+        free = all(distance(x, y, *line) >= clear for line in lines) and all(
+            abs(x - tx) + abs(y - ty) >= 2 * clear for tx, ty in things
+        )
         if inside and free:
             yield Place(x, y, int(rows["SECTORS"][sector][4]))
 
@@ -152,7 +158,9 @@ def by_chromium(program: str, picture: Path, width: int, height: int, shown: Pat
     options = ["--headless", "--no-sandbox", "--disable-gpu", "--hide-scrollbars", "--force-device-scale-factor=1"]
     window = f"--window-size={width},{height + 200}"
     profile = f"--user-data-dir={picture.with_suffix('.profile')}"
-    subprocess.run([program, *options, window, profile, f"--screenshot={shown}", page.as_uri()], check=True, timeout=120, capture_output=True)
+    subprocess.run(
+        [program, *options, window, profile, f"--screenshot={shown}", page.as_uri()], check=True, timeout=120, capture_output=True
+    )
 
 
 class Viewer(NamedTuple):

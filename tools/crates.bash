@@ -1,4 +1,5 @@
-# What the scripts that build share: how they end, the crates by their lines of crates.txt, and their proofs by the commands of `rt`.
+# What the scripts that build or copy crates share: how they end, the crates by their lines of crates.txt, and their proofs by the commands
+# of `rt`.
 # A script sources it at the top of the repository. As it ends, also by a signal, its proof and its temporary folders end with it.
 
 # What a script is called, and its status where it built nothing.
@@ -93,6 +94,12 @@ below() {
     printf '%s\n' "${!seen[@]}"
 }
 
+# lines_of NAME...: the lines of crates.txt for these crates, in its order.
+lines_of() {
+    local IFS='|'
+    grep -E "^($*)( staticlib)?:" crates.txt
+}
+
 # is_older FILE NAME...: whether a file isn't there, or is older than crates.txt or some source of these crates and those below.
 is_older() {
     local file=$1 sources
@@ -105,14 +112,18 @@ is_older() {
 
 # ---- Their proofs ---------------------------------------------------------------------------------------------------
 
-# want_rt: ends where there is no rt, or that of another kit than the README names.
+# want_rt: ends where there is no rt, or that of a kit with another logic than that which README.md names; tells of another kit with
+# the same.
 want_rt() {
     local found wanted
     [[ -n $(type -P rt) ]] || fail 'there is no rt on the PATH, which the Rattle kit brings'
     # shellcheck disable=SC2016  # Markdown's marks
     wanted=$(sed -n 's/^Proved with `\(rattle-kit-[^`]*\)`.*/\1/p' README.md)
     found=$(rt version) || fail 'rt version ended with an error'
-    [[ $found == "$wanted" ]] || fail "rt is of the kit '$found', and README.md names '$wanted'"
+    [[ $found != "$wanted" ]] || return 0
+    [[ $found == *' logic '* && ${found#* logic } == "${wanted#* logic }" ]] ||
+        fail "rt is of the kit '$found', and README.md names '$wanted'"
+    say "rt is '$found', README.md names '$wanted': the logic is the same"
 }
 
 # How many crates are to be proved, and those that are done.

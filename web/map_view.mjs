@@ -284,7 +284,8 @@ export class MapView {
   }
 
   #ink() {
-    for (const ground of [this.ground, this.fine]) ground?.paint(({ sector, light }) => cellColour(this.theme, light, this.#sightOf(sector), sector === this.hovered));
+    const colour = ({ sector, light }) => cellColour(this.theme, light, this.#sightOf(sector), sector === this.hovered);
+    for (const ground of [this.ground, this.fine]) ground?.paint(colour);
     this.#redraw();
   }
 
@@ -418,7 +419,9 @@ export class MapView {
   #drawPin(pen) {
     const { pinned } = this, { inks } = this.theme, unit = 1 / this.view.zoom;
     if (!pinned) return;
-    for (const [radius, colour] of /** @type {[number, string][]} */ ([[10, css(inks.void)], [8, css(inks.ink)], [5.6, css(inks.void)], [2.6, css(inks.ink)]])) {
+    /** @type {[number, string][]} */
+    const rings = [[10, css(inks.void)], [8, css(inks.ink)], [5.6, css(inks.void)], [2.6, css(inks.ink)]];
+    for (const [radius, colour] of rings) {
       pen.fillStyle = colour;
       pen.beginPath();
       pen.arc(pinned.x, pinned.y, radius * unit, 0, 2 * Math.PI);

@@ -1,157 +1,247 @@
-// The host's side of the engine: one run of one command, in an instance of its own, whose memory is let go with it.
+// The host's side of the engine: each call in an instance of its own, whose memory is let go with it.
 
-/** The words of `wadlens`; all others are those of `wadlook`. */
-const LENS = ['survey', 'check', 'picture', 'cut', 'demos'];
 /** Room that runs need beside their files and their answer. */
 const ROOM = 32 << 20;
+/** Room of a first answer, where nobody knows better. */
+const ANSWER = 1 << 20;
+/** Room for what is told besides, beside the words or paths that are in it. */
+const TOLD = 4096;
+/** An answer of more room than this isn't tried again with more. */
+const MOST_ROOM = 1 << 30;
+/** How warnings are asked for: not at all, or one of these. */
+const WARNINGS = ['', 'told', 'strict'];
 
-/** @typedef {{ status: number, answer: Uint8Array, refused: string }} Ended  how a run ended, as the program would have */
+/**
+ * @typedef {{ status: number, answer: Uint8Array, refused: string }} Ended  how a run ended, as the program would have
+ * @typedef {{ wide?: boolean, warnings?: 'told' | 'strict' }} Judging  `--wide`; `--map`, or `--map --strict`: of `check` and `survey`
+ * @typedef {{ command: 'check', max: number | bigint } | { command: 'survey' } | { command: 'demos', json?: boolean } |
+ *   { command: 'cut', entry: number | bigint }} Command  `max` is 0 for all findings
+ * @typedef {Command & Judging} LensQuestion  what is asked of files
+ * @typedef {{ cells: number, wide?: boolean, frame?: number[] }} DrawQuestion  `frame` is x0 y0 x1 y1
+ */
 
 /** Whether this browser has the 64-bit memory that the engine needs: the smallest module with one. */
 export const canRun = () => typeof WebAssembly === 'object' &&
   WebAssembly.validate(new Uint8Array([0, 0x61, 0x73, 0x6d, 1, 0, 0, 0, 5, 3, 1, 4, 0]));
 
-const utf8 = new TextEncoder();
+const utf8 = (/** @type {string} */ text) => new TextEncoder().encode(text);
 const total = (/** @type {Uint8Array[]} */ parts) => parts.reduce((sum, part) => sum + part.length, 0);
 
-/** @type {Map<string, Promise<WebAssembly.Module>>} */
-const compiled = new Map();
+// The module ---------------------------------------------------------------------------------------------------------------------
 
-/**
- * A module, compiled once.
- * @param {string} name
- */
-function load(name) {
-  const found = compiled.get(name) ?? compile(`${name}.wasm`);
-  compiled.set(name, found);
-  found.catch(() => compiled.delete(name)); // it may be there the next time
-  return found;
+/** @type {Promise<WebAssembly.Module> | null} */
+let compiled = null;
+
+/** The module, compiled once. */
+function load() {
+  compiled ??= compile();
+  compiled.catch(() => { compiled = null; }); // it may be there the next time
+  return compiled;
 }
 
-/** @param {string} name */
-async function compile(name) {
-  const url = new URL(name, import.meta.url);
+async function compile() {
+  const url = new URL('wad_page.wasm', import.meta.url);
   try {
     return await WebAssembly.compileStreaming(fetch(url));
   } catch { // a host that serves it as another type, or has none
     const told = await fetch(url).catch(() => null);
-    if (!told?.ok) throw new Error(`the engine of this page, ${name}, isn't beside its files`);
+    if (!told?.ok) throw new Error("the engine of this page, wad_page.wasm, isn't beside its files");
     return WebAssembly.compile(await told.arrayBuffer());
   }
 }
 
-/** An instance's memory behind what the module itself has: places first, and then what stands there. */
-class Room {
-  /** @param {WebAssembly.Module} module */
-  constructor(module) {
+// A call -------------------------------------------------------------------------------------------------------------------------
+
+/** Numbers of 64 bits, as they stand in memory. @param {(number | bigint)[]} numbers */
+function bytesOf(numbers) {
+  const view = new DataView(new ArrayBuffer(8 * numbers.length));
+  numbers.forEach((number, k) => view.setBigUint64(8 * k, BigInt(number), true));
+  return new Uint8Array(view.buffer);
+}
+
+/** @param {WebAssembly.Memory} memory @param {number} size */
+function grow(memory, size) {
+  const pages = Math.ceil(size / 65536) - memory.buffer.byteLength / 65536;
+  if (pages <= 0) return;
+  try {
+    memory.grow(/** @type {any} */ (BigInt(pages)));
+  } catch (error) {
+    if (!(error instanceof TypeError)) throw error;
+    memory.grow(pages); // Node 20 takes a number here, and browsers a BigInt
+  }
+}
+
+/**
+ * A call of an export, in a fresh instance. What is handed over, in the export's order, has its place behind what the module itself has
+ * in the instance's memory.
+ */
+export class Call {
+  /** @param {WebAssembly.Module} module @param {number} heap the bytes that the engine may take */
+  constructor(module, heap) {
     this.exports = /** @type {any} */ (new WebAssembly.Instance(module, {}).exports);
     this.end = Number(this.exports.__heap_base.value);
+    /** @type {number[]} places and lengths, as the export takes them */
+    this.handed = [];
+    /** @type {[number, Uint8Array][]} what stands at places as the call begins */
+    this.held = [];
+    this.reference(bytesOf([this.#place(heap, 16), heap]));
   }
 
   /** @param {number} size @param {number} align */
-  place(size, align) {
+  #place(size, align) {
     const at = Math.ceil(this.end / align) * align;
     this.end = at + size;
     return at;
   }
 
-  /** Makes the memory as large as the places want. */
-  open() {
-    const { memory } = this.exports, pages = Math.ceil(this.end / 65536) - memory.buffer.byteLength / 65536;
-    if (pages > 0) {
-      try { memory.grow(BigInt(pages)); } catch (error) {
-        if (!(error instanceof TypeError)) throw error;
-        memory.grow(pages); // Node 20 takes a number here, and browsers a BigInt
-      }
-    }
-    this.view = new DataView(memory.buffer);
-    this.bytes = new Uint8Array(memory.buffer);
+  /** @param {Uint8Array} bytes @param {number} align */
+  #hold(bytes, align) {
+    const at = this.#place(bytes.length, align);
+    this.held.push([at, bytes]);
+    return at;
   }
 
-  /** @param {number} at @param {number} value */
-  put(at, value) { this.view?.setBigUint64(at, BigInt(value), true); }
+  /** A reference to a record. @param {Uint8Array} bytes */
+  reference(bytes) {
+    this.handed.push(this.#hold(bytes, 8));
+  }
 
-  /** @param {number} at @param {number} size */
-  take(at, size) { return /** @type {Uint8Array} */ (this.bytes).slice(at, at + size); }
+  /** A slice of bytes. @param {Uint8Array} bytes */
+  slice(bytes) {
+    this.handed.push(this.#hold(bytes, 1), bytes.length);
+  }
 
-  /** @param {number} at */
-  count(at) { return Number(this.view?.getBigUint64(at, true)); }
+  /** A slice of sizes. @param {(number | bigint)[]} sizes */
+  sizes(sizes) {
+    this.handed.push(this.#hold(bytesOf(sizes), 8), sizes.length);
+  }
+
+  /** Parts, one behind the other in a slice, and the slice of their sizes. @param {Uint8Array[]} parts */
+  parts(parts) {
+    this.handed.push(this.end, total(parts));
+    for (const part of parts) this.#hold(part, 1);
+    this.sizes(parts.map(({ length }) => length));
+  }
+
+  /** A slice of so many bytes, to be written; where it stands. @param {number} size */
+  room(size) {
+    const at = this.#place(size, 1);
+    this.handed.push(at, size);
+    return at;
+  }
+
+  /**
+   * Calls the export.
+   * @param {string} name @param {number} out where the answer stands @param {number} [why] where what is told besides stands; not every
+   *   export tells something
+   * @returns {Ended}
+   */
+  run(name, out, why = out) {
+    const { memory } = this.exports, ended = this.#place(24, 8);
+    grow(memory, this.end);
+    const bytes = new Uint8Array(memory.buffer), view = new DataView(memory.buffer);
+    for (const [at, held] of this.held) bytes.set(held, at);
+    this.exports[name](...[...this.handed, ended].map(BigInt));
+    const [answered, told] = [8, 16].map((at) => Number(view.getBigUint64(ended + at, true)));
+    return {
+      status: view.getUint8(ended),
+      answer: bytes.slice(out, out + answered),
+      refused: new TextDecoder().decode(bytes.subarray(why, why + told)),
+    };
+  }
 }
 
 /**
- * Runs `words` over `files` and `input`, with `room` bytes for the answer and `heap` bytes of memory.
- * @param {WebAssembly.Module} module @param {string[]} words @param {Uint8Array[]} files @param {Uint8Array} input
- * @param {number} room @param {number} heap @returns {Ended}
+ * Calls with more room until there is enough: where the answer or the memory is full the call ends with 3.
+ * @param {number} given how many bytes are handed over @param {number} first a first guess of the answer's
+ * @param {(call: Call, room: number) => Ended} run @returns {Promise<Ended>}
  */
-function runOnce(module, words, files, input, room, heap) {
-  const memory = new Room(module), isLens = LENS.includes(words[0]), program = isLens ? memory.exports.lens_run : memory.exports.wad_run;
-  const texts = words.map((word) => utf8.encode(word));
-  const block = memory.place(16, 8), ended = memory.place(24, 8);
-  const wordSizes = memory.place(8 * texts.length, 8), fileSizes = memory.place(8 * files.length, 8);
-  const wordBytes = memory.place(total(texts), 1), fileBytes = memory.place(total(files), 1), given = memory.place(input.length, 1);
-  const whyRoom = 4096 + 2 * total(texts) + (isLens ? room : 0);
-  const why = memory.place(whyRoom, 1), answer = memory.place(room, 1), arena = memory.place(heap, 16);
-  memory.open();
-  const putParts = (/** @type {number} */ at, /** @type {number} */ sizes, /** @type {Uint8Array[]} */ parts) => {
-    parts.forEach((part, i) => {
-      memory.bytes?.set(part, at);
-      at += part.length;
-      memory.put(sizes + 8 * i, part.length);
-    });
-  };
-  memory.put(block, arena);
-  memory.put(block + 8, heap);
-  putParts(wordBytes, wordSizes, texts);
-  putParts(fileBytes, fileSizes, files);
-  memory.bytes?.set(input, given);
-  program(...[block, wordBytes, total(texts), wordSizes, texts.length, fileBytes, total(files), fileSizes, files.length,
-    given, input.length, answer, room, why, whyRoom, ended].map(BigInt));
-  return {
-    status: memory.view?.getUint8(ended) ?? 3,
-    answer: memory.take(answer, memory.count(ended + 8)),
-    refused: new TextDecoder().decode(memory.take(why, memory.count(ended + 16))),
-  };
-}
-
-/** The value of an option. @param {string[]} words @param {string} option */
-const valueOf = (words, option) => words.includes(option) ? words[words.indexOf(option) + 1] : '';
-
-/**
- * Draws the level that a file alone holds: `picture [--wide] [--cells N] [--frame X0,Y0,X1,Y1] NAME FILE`. The module doesn't tell why it
- * drew nothing: with status 2 there is nothing to draw, the file's first entry is no level's label, or a number is out of its bounds.
- * @param {WebAssembly.Module} module @param {string[]} words @param {Uint8Array} file @param {number} room @param {number} heap @returns {Ended}
- */
-function drawOnce(module, words, file, room, heap) {
-  const memory = new Room(module), frame = valueOf(words, '--frame').split(',').filter(Boolean).map(Number);
-  const block = memory.place(16, 8), ended = memory.place(16, 8), question = memory.place(16, 8), bytes = memory.place(file.length, 1);
-  const answer = memory.place(room, 1), arena = memory.place(heap, 16);
-  memory.open();
-  memory.put(block, arena);
-  memory.put(block + 8, heap);
-  memory.bytes?.set(file, bytes);
-  memory.view?.setUint32(question, Number(valueOf(words, '--cells') || 512), true);
-  memory.view?.setUint8(question + 4, Number(words.includes('--wide')));
-  memory.view?.setUint8(question + 5, Number(frame.length === 4));
-  frame.forEach((bound, k) => memory.view?.setInt16(question + 6 + 2 * k, bound, true));
-  memory.exports.draw_run(...[block, bytes, file.length, question, answer, room, ended].map(BigInt));
-  return { status: memory.view?.getUint8(ended) ?? 3, answer: memory.take(answer, memory.count(ended + 8)), refused: '' };
-}
-
-/**
- * The same, with more room until there is enough: where the answer or the memory is full the run ends with 3.
- * @param {string[]} words @param {Uint8Array[]} files @param {Uint8Array} [input] @param {number} [room] a first guess
- * @returns {Promise<Ended>}
- */
-export async function run(words, files, input = new Uint8Array(), room = 1 << 20) {
-  const draws = words[0] === 'picture', module = await load(draws ? 'draw_page' : 'wad_page'), held = total(files) + input.length;
-  for (let heap = 2 * held + 2 * room + ROOM; ; room *= 4, heap = 2 * heap + 2 * room) {
+async function withRoom(given, first, run) {
+  const module = await load();
+  for (let room = first, heap = 2 * given + 2 * room + ROOM; ; room *= 4, heap = 2 * heap + 2 * room) {
     let ended;
     try {
-      ended = draws ? drawOnce(module, words, files[0], room, heap) : runOnce(module, words, files, input, room, heap);
+      ended = run(new Call(module, heap), room);
     } catch (error) {
       if (!(error instanceof RangeError)) throw error;
       return { status: 3, answer: new Uint8Array(), refused: 'memory' }; // the browser gives no more
     }
-    if (ended.status !== 3 || room > 1 << 30) return ended;
+    if (ended.status !== 3 || room > MOST_ROOM) return ended;
   }
+}
+
+// What is asked ------------------------------------------------------------------------------------------------------------------
+
+/**
+ * What words of `wadlook` ask for, over the files of their paths and an input.
+ * @param {string[]} words @param {Uint8Array[]} files @param {Uint8Array} [input] @param {number} [room] a first guess of the answer's
+ */
+export async function runWadlook(words, files, input = new Uint8Array(), room = ANSWER) {
+  const texts = words.map(utf8);
+  return withRoom(total(files) + input.length, room, (call, size) => {
+    call.parts(texts);
+    call.parts(files);
+    call.slice(input);
+    const out = call.room(size), why = call.room(TOLD + 2 * total(texts));
+    return call.run('run_wadlook', out, why);
+  });
+}
+
+/**
+ * What `wadlens` answers a question over files, of which there is one for each path.
+ * @param {LensQuestion} question @param {string[]} paths @param {Uint8Array[]} files @param {number} [room] a first guess of the answer's
+ */
+export async function runWadlens(question, paths, files, room = ANSWER) {
+  const asked = lensBytes(question), names = paths.map(utf8);
+  return withRoom(total(files), room, (call, size) => {
+    call.reference(asked);
+    call.parts(names);
+    call.parts(files);
+    const out = call.room(size), why = call.room(TOLD + 2 * total(names) + size);
+    return call.run('run_wadlens', out, why);
+  });
+}
+
+/**
+ * The picture of the level whose label is a file's first entry. Nothing is told of why there is none: with status 2 there is nothing to
+ * draw, the first entry is no level's label, or a number is out of its bounds.
+ * @param {DrawQuestion} question @param {Uint8Array} file @param {number} [room] a first guess of the picture's
+ */
+export async function drawPicture(question, file, room = ANSWER) {
+  const asked = drawBytes(question);
+  return withRoom(file.length, room, (call, size) => {
+    call.slice(file);
+    call.reference(asked);
+    return call.run('draw_picture', call.room(size));
+  });
+}
+
+/** A command's number, and what number goes with it. @param {LensQuestion} question @returns {[number, number | bigint]} */
+function commandOf(question) {
+  switch (question.command) {
+    case 'check': return [0, question.max];
+    case 'survey': return [1, 0];
+    case 'demos': return [question.json ? 3 : 2, 0];
+    case 'cut': return [4, question.entry];
+  }
+}
+
+/** A question as `LensQuestion` of the engine is laid out. @param {LensQuestion} question */
+function lensBytes(question) {
+  const view = new DataView(new ArrayBuffer(16)), [command, number] = commandOf(question);
+  view.setBigUint64(0, BigInt(number), true);
+  view.setUint8(8, command);
+  view.setUint8(9, Number(question.wide ?? false));
+  view.setUint8(10, WARNINGS.indexOf(question.warnings ?? ''));
+  return new Uint8Array(view.buffer);
+}
+
+/** A question as `DrawQuestion` of the engine is laid out. @param {DrawQuestion} question */
+function drawBytes({ cells, wide = false, frame }) {
+  const view = new DataView(new ArrayBuffer(16));
+  view.setUint32(0, cells, true);
+  view.setUint8(4, Number(wide));
+  view.setUint8(5, Number(!!frame));
+  frame?.forEach((bound, k) => view.setInt16(6 + 2 * k, bound, true));
+  return new Uint8Array(view.buffer);
 }

@@ -1,11 +1,12 @@
 // The worker: holds the files that it was handed, asks the engine, and answers one message for each. What it tells are the engine's
 // answers; it only cuts them into lines and picks the places out of them.
-import { run } from './wad_page.mjs';
 import { contents, isName } from './entries.mjs';
 import { linesOf } from './lines.mjs';
 import { read } from './picture.mjs';
+import { drawPicture, runWadlens, runWadlook } from './wad_page.mjs';
 
 /** @typedef {import('./wad_page.mjs').Ended} Ended */
+/** @typedef {import('./wad_page.mjs').LensQuestion} LensQuestion */
 /** @typedef {import('./lines.mjs').LinesData} LinesData */
 /** @typedef {{ bytes: Uint8Array, named: Uint8Array, name: string }} Alone  a level's own file, and one in which `name` finds it */
 /** @typedef {{ bytes: Uint8Array, levels: Map<number, Alone> }} Held */
@@ -15,6 +16,7 @@ import { read } from './picture.mjs';
 const MOST_BYTES = 268435456; // of a file, and of all that are held
 const MOST_ALONE = 8; // levels of a file that are kept cut out
 const NOWHERE = 0x7fffffff; // the ends of a linedef without both vertexes
+const PATH = 'f'; // of a file whose name isn't shown
 const NO_MEMORY = 'there is not enough memory for it';
 
 const utf8 = (/** @type {string} */ words) => new TextEncoder().encode(words);
@@ -24,19 +26,31 @@ const reason = (/** @type {Ended} */ ended) => ended.refused.replace(/^wadlens: 
 
 /**
  * A run that has an answer: of `wadlens` also where it found faults or didn't judge a level.
- * @param {string[]} words @param {Uint8Array[]} files @param {Uint8Array} [input] @param {number} [room]
+ * @param {Promise<Ended>} run
  */
-async function ask(words, files, input, room) {
-  const ended = await run(words, files, input, room);
+async function answered(run) {
+  const ended = await run;
   if (ended.status === 3) throw new Error(NO_MEMORY);
   return ended;
 }
 
+/**
+ * What words of `wadlook` answer of one file.
+ * @param {string[]} words @param {Uint8Array} file @param {Uint8Array} [input] @param {number} [room]
+ */
+const askLook = (words, file, input, room) => answered(runWadlook([...words, PATH], [file], input, room));
+
+/**
+ * What `wadlens` answers of one file.
+ * @param {LensQuestion} question @param {Uint8Array} file @param {number} [room] @param {string} [path]
+ */
+const askLens = (question, file, room, path = PATH) => answered(runWadlens(question, [path], [file], room));
+
 /** @param {Asked} asked */
 const reading = ({ wide }) => wide ? ['--wide'] : [];
 
-/** How levels are looked at: warnings stand beside the findings. @param {Asked} asked */
-const looking = (asked) => [...reading(asked), '--map'];
+/** How levels are judged: warnings stand beside the findings. @param {Asked} asked @returns {import('./wad_page.mjs').Judging} */
+const judging = ({ wide }) => ({ wide, warnings: 'told' });
 
 // Files ------------------------------------------------------------------------------------------------------------------------
 
@@ -58,7 +72,7 @@ async function hold({ key, file }) {
   held.delete(key);
   held.set(key, found);
   let sum = 0;
-  for (const [other, { bytes }] of [...held].reverse()) if ((sum += bytes.length) > MOST_BYTES && other !== key) held.delete(other);
+  for (const [each, { bytes }] of [...held].reverse()) if ((sum += bytes.length) > MOST_BYTES && each !== key) held.delete(each);
   return found;
 }
 
@@ -67,10 +81,10 @@ async function hold({ key, file }) {
  * @param {Uint8Array} bytes @param {string} name
  */
 async function other(bytes, name) {
-  const demo = await ask(['demos', 'f'], [bytes]);
+  const demo = await askLens({ command: 'demos' }, bytes);
   const nothing = linesOf(new Uint8Array()), line = linesOf(utf8(`0 0 ${bytes.length} demo\n`));
   if (demo.status === 0) return { kind: 'demo', levels: nothing, demos: line };
-  return { refused: /\.lmp$/i.test(name) ? reason(demo) : JSON.parse(firstLine(await ask(['survey', 'f'], [bytes]))).refused };
+  return { refused: /\.lmp$/i.test(name) ? reason(demo) : JSON.parse(firstLine(await askLens({ command: 'survey' }, bytes))).refused };
 }
 
 // Levels -----------------------------------------------------------------------------------------------------------------------
@@ -85,7 +99,7 @@ async function alone(asked) {
   const { bytes, levels } = await hold(asked);
   const found = levels.get(asked.entry);
   if (found) return found;
-  const ended = await ask(['cut', '--entry', String(asked.entry), 'f'], [bytes], undefined, 1 << 22);
+  const ended = await askLens({ command: 'cut', entry: asked.entry }, bytes, 1 << 22);
   if (!ended.answer.length) throw new Error(`the level can't be cut out: ${reason(ended)}`);
   const level = { bytes: ended.answer, named: ended.answer, name: asked.name };
   if (!/^[A-Z][A-Z0-9_]*$/.test(level.name) || USUAL.test(level.name)) Object.assign(level, { named: labelled(level.bytes), name: 'LEVEL' });
@@ -149,7 +163,7 @@ const jobs = {
   /** What a file is: its kind, its levels and demos as lines of `lumps`; or why it is refused. @param {Asked} asked */
   async open(asked) {
     const { bytes } = await hold(asked), entries = bytes.length < 12 ? 0 : new DataView(bytes.buffer).getUint32(4, true); // room for so many lines
-    const lumps = await ask(['lumps', 'f'], [bytes], undefined, 65536 + 40 * Math.min(entries, bytes.length >> 4));
+    const lumps = await askLook(['lumps'], bytes, undefined, 65536 + 40 * Math.min(entries, bytes.length >> 4));
     if (lumps.status !== 0) return other(bytes, asked.file.name);
     return { kind: firstLine(lumps).split(' ')[2], ...contents(lumps.answer) };
   },
@@ -157,13 +171,13 @@ const jobs = {
   /** An object of each level, as lines. @param {Asked & { path: string, count: number }} asked */
   async survey(asked) {
     const { bytes } = await hold(asked);
-    return linesOf((await ask(['survey', ...looking(asked), asked.path], [bytes], undefined, 65536 + 400 * asked.count)).answer);
+    return linesOf((await askLens({ command: 'survey', ...judging(asked) }, bytes, 65536 + 400 * asked.count, asked.path)).answer);
   },
 
   /** All findings of all levels, as text. @param {Asked & { path: string }} asked */
   async report(asked) {
     const { bytes } = await hold(asked);
-    return (await ask(['check', ...looking(asked), '--max', '0', asked.path], [bytes])).answer;
+    return (await askLens({ command: 'check', max: 0, ...judging(asked) }, bytes, undefined, asked.path)).answer;
   },
 
   /** The level's own file. @param {AskedLevel} asked */
@@ -174,17 +188,19 @@ const jobs = {
   /** The level's object, and `check`'s lines with how much stands before each. @param {AskedLevel & { max: number }} asked */
   async look(asked) {
     const { bytes } = await alone(asked);
-    const level = JSON.parse(firstLine(await ask(['survey', ...looking(asked), 'f'], [bytes])));
+    const level = JSON.parse(firstLine(await askLens({ command: 'survey', ...judging(asked) }, bytes)));
     const found = asked.max ? 0 : Object.values({ ...level.findings, ...level.warnings }).reduce((sum, n) => sum + n, 0); // so many lines need room
-    const check = await ask(['check', ...looking(asked), '--max', String(asked.max), 'f'], [bytes], undefined, Math.max(1 << 20, 80 * found));
-    return { level, before: `f: ${level.level}: `.length, findings: linesOf(check.answer) };
+    const check = await askLens({ command: 'check', max: asked.max, ...judging(asked) }, bytes, Math.max(1 << 20, 80 * found));
+    // Even here a look-up misses a label in small letters.
+    const shown = `${PATH}: ${level.level}: `, hidden = `${PATH}: ${level.level} (entry 0): `;
+    const heading = text(check.answer.subarray(0, hidden.length)) === hidden ? hidden : shown;
+    return { level, before: heading.length, findings: linesOf(check.answer) };
   },
 
   /** The picture as numbers and as text, or why there is none. @param {AskedLevel & { cells: number, frame?: number[] }} asked */
   async picture(asked) {
-    const { named, name } = await alone(asked), frame = asked.frame ? ['--frame', asked.frame.join(',')] : [];
-    const words = ['picture', ...reading(asked), '--cells', String(asked.cells), ...frame, name, 'f'];
-    const ended = await ask(words, [named], undefined, 1 << 22);
+    const { bytes } = await alone(asked), { cells, wide, frame } = asked;
+    const ended = await answered(drawPicture({ cells, wide, frame }, bytes, 1 << 22));
     // Only levels that `survey` tells as Doom's are asked for, and only frames and cells in their bounds.
     if (ended.status === 2) return { why: 'nothing to draw: no linedef has both of its vertexes' };
     const picture = read(ended.answer);
@@ -194,13 +210,13 @@ const jobs = {
   /** The ends of all linedefs. @param {AskedLevel} asked */
   async ends(asked) {
     const { named, name } = await alone(asked);
-    return endsOf((await ask(['show', ...reading(asked), name, 'f'], [named], undefined, 65536 + 3 * named.length)).answer);
+    return endsOf((await askLook(['show', ...reading(asked), name], named, undefined, 65536 + 3 * named.length)).answer);
   },
 
   /** The line of `points` or of `blocks` at a place, or why there is none. @param {AskedLevel & { word: string, x: number, y: number }} asked */
   async pin(asked) {
     const { named, name } = await alone(asked);
-    const told = await ask([asked.word, ...reading(asked), name, 'f'], [named], utf8(`${asked.x} ${asked.y}\n`));
+    const told = await askLook([asked.word, ...reading(asked), name], named, utf8(`${asked.x} ${asked.y}\n`));
     return firstLine(told) || told.refused;
   },
 
@@ -208,7 +224,7 @@ const jobs = {
   async sight(asked) {
     const { named, name } = await alone(asked), pairs = [];
     for (let sector = 0; sector < asked.sectors; sector++) pairs.push(`${asked.sector} ${sector}\n`);
-    const ended = await ask(['sight', name, 'f'], [named], utf8(pairs.join('')));
+    const ended = await askLook(['sight', name], named, utf8(pairs.join('')));
     if (ended.status !== 0) throw new Error(ended.refused);
     return text(ended.answer).split('\n').slice(0, -1).map((line) => line.slice(line.lastIndexOf(' ') + 1));
   },
@@ -218,10 +234,10 @@ const jobs = {
     const { bytes } = await hold(asked);
     if (asked.at < 0 || asked.at + asked.size > bytes.length) return { refused: 'outside its file' };
     const demo = bytes.slice(asked.at, asked.at + asked.size);
-    const listing = await ask(['lmp', 'f'], [demo], undefined, 65536 + 8 * demo.length);
-    const told = await ask(['demos', 'f'], [demo]);
+    const listing = await askLook(['lmp'], demo, undefined, 65536 + 8 * demo.length);
+    const told = await askLens({ command: 'demos' }, demo);
     if (listing.status !== 0) return { refused: reason(told) || listing.refused }; // bytes that begin as a WAD file's are told as one
-    return { line: firstLine(told).replace(/^f: /, ''), listing: linesOf(listing.answer) };
+    return { line: firstLine(told).slice(`${PATH}: `.length), listing: linesOf(listing.answer) };
   },
 };
 

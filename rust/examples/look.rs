@@ -73,7 +73,9 @@ fn read_lines<const N: usize>() -> io::Result<Lines<N>> {
 
 /// Writes the answer to each line, which is None where its numbers are out of range.
 fn each_line<const N: usize>(
-    out: &mut impl Write, lines: &Lines<N>, mut answer: impl FnMut([i32; N]) -> Result<Option<String>, Stop>,
+    out: &mut impl Write,
+    lines: &Lines<N>,
+    mut answer: impl FnMut([i32; N]) -> Result<Option<String>, Stop>,
 ) -> Told {
     for line in lines {
         match line {
@@ -133,7 +135,13 @@ fn sight(level: Level<'_>, out: &mut impl Write) -> Told {
         let told = match level.is_blocked(a as u32, b as u32) {
             Err(Refused::NoSector) => return Ok(None),
             Err(Refused::Unknown) => "unknown",
-            blocked => if blocked? { "blocked" } else { "clear" },
+            blocked => {
+                if blocked? {
+                    "blocked"
+                } else {
+                    "clear"
+                }
+            }
         };
         Ok(Some(format!("{a} {b} {told}")))
     })

@@ -136,7 +136,11 @@ impl<'a> Block<'a> {
         let wide = self.wide;
         self.bytes.chunks_exact(2).map(move |word| {
             let number = u16::from_le_bytes([word[0], word[1]]);
-            if wide { i32::from(number) } else { i32::from(number as i16) }
+            if wide {
+                i32::from(number)
+            } else {
+                i32::from(number as i16)
+            }
         })
     }
 }
@@ -207,9 +211,8 @@ impl<'a> Wad<'a> {
     fn entry(self, name: &[u8], after: usize) -> Result<Lump, Refused> {
         let mut lump = Lump::default();
         // SAFETY: each pointer and length are those of one slice that is borrowed for the call; `lump` is borrowed mutably.
-        let status = unsafe {
-            raw::wadlook_find(self.bytes.as_ptr(), self.bytes.len(), name.as_ptr(), name.len(), after, &mut lump)
-        };
+        let status =
+            unsafe { raw::wadlook_find(self.bytes.as_ptr(), self.bytes.len(), name.as_ptr(), name.len(), after, &mut lump) };
         Refused::of(status).map(|()| lump)
     }
 
@@ -245,8 +248,15 @@ impl<'a> Level<'a> {
         // SAFETY: as in `entry`.
         Refused::of(unsafe {
             raw::wadlook_points(
-                wad.as_ptr(), wad.len(), name.as_ptr(), name.len(), self.wide,
-                points.as_ptr(), points.len(), places.as_mut_ptr(), places.len(),
+                wad.as_ptr(),
+                wad.len(),
+                name.as_ptr(),
+                name.len(),
+                self.wide,
+                points.as_ptr(),
+                points.len(),
+                places.as_mut_ptr(),
+                places.len(),
             )
         })
     }
@@ -266,8 +276,14 @@ impl<'a> Level<'a> {
         // SAFETY: as in `entry`.
         let status = unsafe {
             raw::wadlook_prepare(
-                wad.as_ptr(), wad.len(), name.as_ptr(), name.len(), self.wide,
-                sectors.as_mut_ptr(), sectors.len(), &mut count,
+                wad.as_ptr(),
+                wad.len(),
+                name.as_ptr(),
+                name.len(),
+                self.wide,
+                sectors.as_mut_ptr(),
+                sectors.len(),
+                &mut count,
             )
         };
         match Refused::of(status) {
@@ -288,8 +304,15 @@ impl<'a> Level<'a> {
             // SAFETY: as in `entry`.
             Refused::of(unsafe {
                 raw::wadlook_census(
-                    wad.as_ptr(), wad.len(), name.as_ptr(), name.len(), self.wide,
-                    &rect, counts.as_mut_ptr(), counts.len(), &mut count,
+                    wad.as_ptr(),
+                    wad.len(),
+                    name.as_ptr(),
+                    name.len(),
+                    self.wide,
+                    &rect,
+                    counts.as_mut_ptr(),
+                    counts.len(),
+                    &mut count,
                 )
             })?;
             let all = count <= counts.len();
@@ -309,8 +332,14 @@ impl<'a> Level<'a> {
             // SAFETY: as in `entry`.
             Refused::of(unsafe {
                 raw::wadlook_audit(
-                    wad.as_ptr(), wad.len(), name.as_ptr(), name.len(), self.wide,
-                    found.as_mut_ptr(), found.len(), &mut totals,
+                    wad.as_ptr(),
+                    wad.len(),
+                    name.as_ptr(),
+                    name.len(),
+                    self.wide,
+                    found.as_mut_ptr(),
+                    found.len(),
+                    &mut totals,
                 )
             })?;
             let count = totals.faults + totals.notes;
@@ -327,8 +356,7 @@ impl<'a> Level<'a> {
         let sectors = self.wad.entry(&self.name, 8)?.size / 26;
         let mut blocked = 0;
         // SAFETY: as in `entry`.
-        let status =
-            unsafe { raw::wadlook_sight(reject.as_ptr(), reject.len(), sectors as u32, from, to, &mut blocked) };
+        let status = unsafe { raw::wadlook_sight(reject.as_ptr(), reject.len(), sectors as u32, from, to, &mut blocked) };
         Refused::of(status).map(|()| blocked == 1)
     }
 
@@ -350,10 +378,7 @@ impl<'a> Level<'a> {
             let mut written = 0;
             // SAFETY: as in `entry`.
             let status = unsafe {
-                raw::wadlook_extract(
-                    wad.as_ptr(), wad.len(), name.as_ptr(), name.len(),
-                    out.as_mut_ptr(), out.len(), &mut written,
-                )
+                raw::wadlook_extract(wad.as_ptr(), wad.len(), name.as_ptr(), name.len(), out.as_mut_ptr(), out.len(), &mut written)
             };
             match Refused::of(status) {
                 Err(Refused::NoRoom) => out.resize(written, 0),
@@ -391,11 +416,8 @@ impl Prepared<'_> {
     /// The place of a point, None where it is out of range. Takes no memory.
     pub fn place(&self, point: Point) -> Option<Place> {
         // SAFETY: as in `entry`.
-        let place = unsafe {
-            raw::wadlook_point(
-                self.nodes.as_ptr(), self.nodes.len(), self.sectors.as_ptr(), self.sectors.len(), point,
-            )
-        };
+        let place =
+            unsafe { raw::wadlook_point(self.nodes.as_ptr(), self.nodes.len(), self.sectors.as_ptr(), self.sectors.len(), point) };
         place.somewhere()
     }
 }
@@ -412,9 +434,7 @@ pub fn read_demo(bytes: &[u8]) -> Result<(DemoInfo, Vec<Command>), Refused> {
     loop {
         let mut info = DemoInfo::default();
         // SAFETY: as in `entry`.
-        Refused::of(unsafe {
-            raw::wadlook_demo(bytes.as_ptr(), bytes.len(), commands.as_mut_ptr(), commands.len(), &mut info)
-        })?;
+        Refused::of(unsafe { raw::wadlook_demo(bytes.as_ptr(), bytes.len(), commands.as_mut_ptr(), commands.len(), &mut info) })?;
         let all = info.commands <= commands.len();
         commands.resize(info.commands, Command::default());
         if all {

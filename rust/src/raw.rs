@@ -25,39 +25,78 @@ pub struct Block {
 
 extern "C" {
     pub fn wadlook_points(
-        wad: *const u8, wad_len: usize, name: *const u8, name_len: usize, wide: bool,
-        points: *const crate::Point, points_len: usize, places: *mut crate::Place, places_len: usize,
+        wad: *const u8,
+        wad_len: usize,
+        name: *const u8,
+        name_len: usize,
+        wide: bool,
+        points: *const crate::Point,
+        points_len: usize,
+        places: *mut crate::Place,
+        places_len: usize,
     ) -> u32;
     pub fn wadlook_prepare(
-        wad: *const u8, wad_len: usize, name: *const u8, name_len: usize, wide: bool,
-        sectors: *mut u16, sectors_len: usize, count: *mut usize,
+        wad: *const u8,
+        wad_len: usize,
+        name: *const u8,
+        name_len: usize,
+        wide: bool,
+        sectors: *mut u16,
+        sectors_len: usize,
+        count: *mut usize,
     ) -> u32;
     pub fn wadlook_point(
-        nodes: *const u8, nodes_len: usize, sectors: *const u16, sectors_len: usize, point: crate::Point,
+        nodes: *const u8,
+        nodes_len: usize,
+        sectors: *const u16,
+        sectors_len: usize,
+        point: crate::Point,
     ) -> crate::Place;
     pub fn wadlook_census(
-        wad: *const u8, wad_len: usize, name: *const u8, name_len: usize, wide: bool,
-        rect: *const crate::Rect, counts: *mut crate::Count, counts_len: usize, count: *mut usize,
+        wad: *const u8,
+        wad_len: usize,
+        name: *const u8,
+        name_len: usize,
+        wide: bool,
+        rect: *const crate::Rect,
+        counts: *mut crate::Count,
+        counts_len: usize,
+        count: *mut usize,
     ) -> u32;
     pub fn wadlook_audit(
-        wad: *const u8, wad_len: usize, name: *const u8, name_len: usize, wide: bool,
-        findings: *mut Finding, findings_len: usize, totals: *mut Totals,
+        wad: *const u8,
+        wad_len: usize,
+        name: *const u8,
+        name_len: usize,
+        wide: bool,
+        findings: *mut Finding,
+        findings_len: usize,
+        totals: *mut Totals,
     ) -> u32;
     pub fn wadlook_find(
-        wad: *const u8, wad_len: usize, name: *const u8, name_len: usize, after: usize, lump: *mut crate::Lump,
+        wad: *const u8,
+        wad_len: usize,
+        name: *const u8,
+        name_len: usize,
+        after: usize,
+        lump: *mut crate::Lump,
     ) -> u32;
-    pub fn wadlook_sight(
-        reject: *const u8, reject_len: usize, sectors: u32, from: u32, to: u32, blocked: *mut u32,
-    ) -> u32;
-    pub fn wadlook_block(
-        blockmap: *const u8, blockmap_len: usize, wide: bool, point: crate::Point, block: *mut Block,
-    ) -> u32;
+    pub fn wadlook_sight(reject: *const u8, reject_len: usize, sectors: u32, from: u32, to: u32, blocked: *mut u32) -> u32;
+    pub fn wadlook_block(blockmap: *const u8, blockmap_len: usize, wide: bool, point: crate::Point, block: *mut Block) -> u32;
     pub fn wadlook_extract(
-        wad: *const u8, wad_len: usize, name: *const u8, name_len: usize,
-        out: *mut u8, out_len: usize, written: *mut usize,
+        wad: *const u8,
+        wad_len: usize,
+        name: *const u8,
+        name_len: usize,
+        out: *mut u8,
+        out_len: usize,
+        written: *mut usize,
     ) -> u32;
     pub fn wadlook_demo(
-        bytes: *const u8, bytes_len: usize, commands: *mut crate::Command, commands_len: usize,
+        bytes: *const u8,
+        bytes_len: usize,
+        commands: *mut crate::Command,
+        commands_len: usize,
         info: *mut crate::DemoInfo,
     ) -> u32;
 }

@@ -203,11 +203,30 @@ fn statuses_are_the_headers() {
         .filter(|(_, number)| *number > 0)
         .collect();
     let all = [
-        Refused::Unsound, Refused::Memory, Refused::NoRoom, Refused::Short, Refused::Magic, Refused::Count,
-        Refused::Directory, Refused::NoName, Refused::LumpMissing, Refused::LumpOutside, Refused::TooLarge,
-        Refused::DemoEmpty, Refused::DemoVersion, Refused::DemoShort, Refused::DemoNoPlayer, Refused::DemoNoMarker,
-        Refused::NoRect, Refused::OutOfRange, Refused::NoBlockMap, Refused::NoBlock, Refused::OffsetOutside,
-        Refused::NoEnd, Refused::NoSector, Refused::Unknown,
+        Refused::Unsound,
+        Refused::Memory,
+        Refused::NoRoom,
+        Refused::Short,
+        Refused::Magic,
+        Refused::Count,
+        Refused::Directory,
+        Refused::NoName,
+        Refused::LumpMissing,
+        Refused::LumpOutside,
+        Refused::TooLarge,
+        Refused::DemoEmpty,
+        Refused::DemoVersion,
+        Refused::DemoShort,
+        Refused::DemoNoPlayer,
+        Refused::DemoNoMarker,
+        Refused::NoRect,
+        Refused::OutOfRange,
+        Refused::NoBlockMap,
+        Refused::NoBlock,
+        Refused::OffsetOutside,
+        Refused::NoEnd,
+        Refused::NoSector,
+        Refused::Unknown,
     ];
     let own: Vec<(String, u32)> = all.iter().map(|why| (format!("{why:?}").to_lowercase(), *why as u32)).collect();
     assert_eq!(own, told);

@@ -34,10 +34,10 @@ static void put(size_t place, int count, const int *words) {
         wad[place + 2 * i + 1] = words[i] >> 8 & 255;
     }
 }
-#define PUT(place, ...) \
-    do { \
-        const int these[] = {__VA_ARGS__}; \
-        put(place, sizeof these / sizeof *these, these); \
+#define PUT(place, ...)                                                                                                            \
+    do {                                                                                                                           \
+        const int these[] = {__VA_ARGS__};                                                                                         \
+        put(place, sizeof these / sizeof *these, these);                                                                           \
     } while (0)
 
 /* Where the directory says of lump k, 0 for the label, that it lies; its size stands 4 bytes on, its name 8. */
@@ -276,7 +276,8 @@ static void demo(void) {
     wadlook_demo_info info;
     CHECK(wadlook_demo(bytes, sizeof bytes, commands, 1, &info) == WADLOOK_DONE);
     CHECK(info.commands == 2 && info.after == 1 && info.players == 1 && commands[0].forward == 25 && commands[1].turn == 7);
-    CHECK(info.version == 109 && info.skill == 3 && info.episode == 1 && info.map == 1 && info.player[0] == 1 && info.player[3] == 0);
+    CHECK(
+        info.version == 109 && info.skill == 3 && info.episode == 1 && info.map == 1 && info.player[0] == 1 && info.player[3] == 0);
     CHECK(wadlook_demo(bytes, sizeof bytes, commands, 3, &info) == WADLOOK_DONE);
     CHECK(commands[1].forward == -50 && commands[1].side == -128 && commands[1].turn == 255 && commands[1].buttons == 128);
     CHECK(commands[2].forward == 7);

@@ -47,7 +47,10 @@ def cases(path):
     check("sectors of no points", level.sectors([]) == [])
     flat = array("i", [1, 5, 0, 5, -1, 5, 16384, 0])
     check("sectors of an array", level.sectors(flat).tolist() == [0, 1, 1, NOWHERE])
-    check("sectors of a view of two columns", level.sectors(memoryview(flat).cast("B").cast("i", (4, 2))).tolist() == [0, 1, 1, NOWHERE])
+    check(
+        "sectors of a view of two columns",
+        level.sectors(memoryview(flat).cast("B").cast("i", (4, 2))).tolist() == [0, 1, 1, NOWHERE],
+    )
     check("sectors of a view that can't be written", level.sectors(memoryview(flat).toreadonly()).tolist() == [0, 1, 1, NOWHERE])
     check("sectors of an empty array", level.sectors(array("i")).tolist() == [])
     check("an array is lent", lends(flat))
@@ -94,7 +97,12 @@ def cases(path):
     check("faults stay, whatever is done to the list", len(twice.findings) == 2 and not twice.is_sound)
     for call, words in ((twice.sectors, ([(0, 5)],)), (twice.place, (0, 5)), (twice.census, (0, 0, 1, 1))):
         check("a level with faults", refused(Status.UNSOUND, call, *words))
-    for status, bytes_ in ((Status.SHORT, base[:11]), (Status.MAGIC, b"X" + base[1:]), (Status.DIRECTORY, base[:-1]), (Status.SHORT, b"")):
+    for status, bytes_ in (
+        (Status.SHORT, base[:11]),
+        (Status.MAGIC, b"X" + base[1:]),
+        (Status.DIRECTORY, base[:-1]),
+        (Status.SHORT, b""),
+    ):
         check(f"no file: {status.name}", refused(status, Wad(bytes_).level, "E1M1"))
     for empty in (bytearray(), array("B"), memoryview(bytearray(base))[:0], memoryview(base)[:0]):
         check("a buffer of no bytes", refused(Status.SHORT, lambda source: Wad(source).level("E1M1"), empty))
@@ -128,7 +136,10 @@ def cases(path):
         check(f"demo_cut {size}", refused(why, wadlook.read_demo, two[:size]))
     check("demo_cut 22", wadlook.read_demo(two[:22]) == demo._replace(after=0))
     check("no demo", refused(Status.DEMO_EMPTY, level.wad.demo, "E1M1"))
-    check("many commands", len(wadlook.read_demo(bytes([109, 3, 1, 1, 0, 0, 0, 0, 0, 1, 0, 0, 0]) + bytes(40000) + b"\x80").commands) == 10000)
+    check(
+        "many commands",
+        len(wadlook.read_demo(bytes([109, 3, 1, 1, 0, 0, 0, 0, 0, 1, 0, 0, 0]) + bytes(40000) + b"\x80").commands) == 10000,
+    )
 
     with open("crates/wad_look/specs/Engines/Audit.antt", encoding="utf-8") as file:
         texts = dict(re.findall(r'^meaning ([FN]\d+) = codes "(.*)"$', file.read(), re.M))
@@ -137,7 +148,13 @@ def cases(path):
         numbers = dict(re.findall(r"^    WADLOOK_(\w+) = (\d+)", file.read(), re.M))
     check("the statuses", {it.name: str(it.value) for it in Status} == numbers)
     public = [getattr(wadlook, name) for name in wadlook.__all__ if callable(getattr(wadlook, name))]
-    members = [it for kind in public if isinstance(kind, type) for name, it in vars(kind).items() if name[0] != "_" and (callable(it) or isinstance(it, property))]
+    members = [
+        it
+        for kind in public
+        if isinstance(kind, type)
+        for name, it in vars(kind).items()
+        if name[0] != "_" and (callable(it) or isinstance(it, property))
+    ]
     check("docstrings", all(it.__doc__ for it in public + members))
 
 

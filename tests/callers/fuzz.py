@@ -159,7 +159,11 @@ def numbers_in(run):
     """The numbers of each line of a run's input, of those that have as many as its command takes and that fit the calls."""
     count = NUMBERS.get(run.words[0], 0) if run.words else 0
     lines = [line.split(b" ") for line in look.contents(run.given)]
-    found = [tuple(map(int, line)) for line in lines if len(line) == count and all(re.fullmatch(rb"-?[0-9]{1,18}", word) for word in line)]
+    found = [
+        tuple(map(int, line))
+        for line in lines
+        if len(line) == count and all(re.fullmatch(rb"-?[0-9]{1,18}", word) for word in line)
+    ]
     return [numbers for numbers in found if all(-(2**31) <= number < 2**31 for number in numbers)]
 
 

@@ -42,11 +42,23 @@ static uint8_t wad[SAMPLE];
 static union {
     uint8_t bytes[ROOM];
     wadlook_place places[2];
-    struct { uint16_t sectors[8]; size_t count; } listed;
-    struct { wadlook_count counts[4]; size_t count; } census;
-    struct { wadlook_finding findings[4]; wadlook_totals totals; } audit;
+    struct {
+        uint16_t sectors[8];
+        size_t count;
+    } listed;
+    struct {
+        wadlook_count counts[4];
+        size_t count;
+    } census;
+    struct {
+        wadlook_finding findings[4];
+        wadlook_totals totals;
+    } audit;
     wadlook_lump lump;
-    struct { size_t written; uint8_t bytes[ROOM - sizeof(size_t)]; } level;
+    struct {
+        size_t written;
+        uint8_t bytes[ROOM - sizeof(size_t)];
+    } level;
 } out;
 
 static uint32_t points(void) {
@@ -60,9 +72,7 @@ static uint32_t prepare(void) {
     return wadlook_prepare(wad, SAMPLE, NAME("E1M1"), false, out.listed.sectors, 8, &out.listed.count);
 }
 
-static bool sectors_are_right(void) {
-    return out.listed.count == 2 && out.listed.sectors[0] == 0 && out.listed.sectors[1] == 1;
-}
+static bool sectors_are_right(void) { return out.listed.count == 2 && out.listed.sectors[0] == 0 && out.listed.sectors[1] == 1; }
 
 static uint32_t census(void) {
     static const wadlook_rect rect = {-1, 0, 1, 1};
@@ -75,9 +85,7 @@ static bool counts_are_right(void) {
            counts[1].points == 4;
 }
 
-static uint32_t audit(void) {
-    return wadlook_audit(wad, SAMPLE, NAME("E1M1"), false, out.audit.findings, 4, &out.audit.totals);
-}
+static uint32_t audit(void) { return wadlook_audit(wad, SAMPLE, NAME("E1M1"), false, out.audit.findings, 4, &out.audit.totals); }
 
 static bool totals_are_right(void) { return out.audit.totals.faults == 0 && out.audit.totals.notes == 0; }
 
@@ -96,8 +104,12 @@ static const struct call {
     uint32_t (*make)(void);
     bool (*is_right)(void);
 } calls[] = {
-    {"points", points, points_are_right}, {"prepare", prepare, sectors_are_right}, {"census", census, counts_are_right},
-    {"audit", audit, totals_are_right},   {"find", find, lump_is_right},           {"extract", extract, level_is_right},
+    {"points", points, points_are_right},
+    {"prepare", prepare, sectors_are_right},
+    {"census", census, counts_are_right},
+    {"audit", audit, totals_are_right},
+    {"find", find, lump_is_right},
+    {"extract", extract, level_is_right},
 };
 
 /* Makes a call with growth n refused, with 0 none: its status. */

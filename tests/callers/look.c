@@ -54,10 +54,9 @@ static void refuse_with(const char *why, size_t number) {
 
 /* Ends the run where a call was refused, in the program's words for its status. */
 static void stop_at(uint32_t status) {
-    static const char *const words[] = {
-        "", "audit", "memory", "room", "file 1: 1 short", "file 1: 2 magic", "file 1: 3 count", "file 1: 4 directory",
-        "8 no label", "F1", "F2", "7 too large", "demo 1", "demo 2", "demo 3", "demo 4", "demo 5", "rectangle", "range",
-        "no blockmap", "no block", "offset", "end", "sector", "unknown"};
+    static const char *const words[] = {"", "audit", "memory", "room", "file 1: 1 short", "file 1: 2 magic", "file 1: 3 count",
+        "file 1: 4 directory", "8 no label", "F1", "F2", "7 too large", "demo 1", "demo 2", "demo 3", "demo 4", "demo 5",
+        "rectangle", "range", "no blockmap", "no block", "offset", "end", "sector", "unknown"};
     if (status == WADLOOK_DONE) return;
     fprintf(stderr, "refused: %s\n", words[status]);
     exit(status == WADLOOK_MEMORY ? 3 : 2);
@@ -119,14 +118,13 @@ static void each_line(bool (*answer)(const int32_t *)) {
 /* ---- Commands ---------------------------------------------------------------------------------------------------- */
 
 static int audit(void) {
-    static const char *const texts[] = {
-        "lump missing after the label", "lump outside its file", "linedef vertex names none", "linedef side names none",
-        "sidedef sector names none", "seg vertex names none", "seg linedef names none", "seg side is not 0 or 1",
-        "seg's linedef has no side there", "ssector's segs out of range", "child names nothing", "node origin out of range",
-        "node named twice or root named", "node not reached", "ssector named more than once", "ssector not reached",
-        "no ssector", "more than 32767 nodes", "lump name differs", "bytes left over", "two-sided flag without side 1",
-        "no side 0", "linedef of no length", "ssector without segs", "partition without direction", "REJECT size",
-        "BLOCKMAP short", "block list faulty", "no player 1 start", "vertex out of range"};
+    static const char *const texts[] = {"lump missing after the label", "lump outside its file", "linedef vertex names none",
+        "linedef side names none", "sidedef sector names none", "seg vertex names none", "seg linedef names none",
+        "seg side is not 0 or 1", "seg's linedef has no side there", "ssector's segs out of range", "child names nothing",
+        "node origin out of range", "node named twice or root named", "node not reached", "ssector named more than once",
+        "ssector not reached", "no ssector", "more than 32767 nodes", "lump name differs", "bytes left over",
+        "two-sided flag without side 1", "no side 0", "linedef of no length", "ssector without segs", "partition without direction",
+        "REJECT size", "BLOCKMAP short", "block list faulty", "no player 1 start", "vertex out of range"};
     wadlook_finding none;
     wadlook_totals totals = audited(&none, 0);
     size_t count = totals.faults + totals.notes;
@@ -190,7 +188,7 @@ static bool tell_census(const int32_t *of) {
     if (status == WADLOOK_NO_RECT) return false;
     stop_at(status);
     printf("%" PRId32 " %" PRId32 " %" PRId32 " %" PRId32 " points %" PRId32, of[0], of[1], of[2], of[3],
-           (of[2] - of[0] + 1) * (of[3] - of[1] + 1));
+        (of[2] - of[0] + 1) * (of[3] - of[1] + 1));
     for (size_t k = 0; k < count; k++) printf(" %" PRIu32 ":%" PRIu32, counts[k].sector, counts[k].points);
     puts("");
     return true;
@@ -273,14 +271,14 @@ static void demo(void) {
     if (status == WADLOOK_DEMO_NO_MARKER) refuse_with("demo 5 at", 13 + (lump.size - 13) / each * each); /* behind whole commands */
     stop_at(status);
     printf("demo version %u skill %u episode %u map %u deathmatch %u respawn %u fast %u nomonsters %u viewpoint %u", info.version,
-           info.skill, info.episode, info.map, info.deathmatch, info.respawn, info.fast, info.no_monsters, info.viewpoint);
+        info.skill, info.episode, info.map, info.deathmatch, info.respawn, info.fast, info.no_monsters, info.viewpoint);
     printf(" players %u %u %u %u\n", info.player[0], info.player[1], info.player[2], info.player[3]);
     int playing[4], players = 0;
     for (int k = 0; k < 4; k++)
         if (info.player[k]) playing[players++] = k + 1;
     for (size_t k = 0; k < info.commands; k++)
         printf("%zu %d %d %d %u %02x\n", k / info.players, playing[k % info.players], commands[k].forward, commands[k].side,
-               commands[k].turn, commands[k].buttons);
+            commands[k].turn, commands[k].buttons);
     printf("tics %zu odd %zu after %zu\n", info.commands / info.players, info.commands % info.players, info.after);
     free(commands);
 }
@@ -301,8 +299,11 @@ static void find(void) {
 }
 
 int main(int argc, char **argv) {
-    static const struct { const char *word; void (*call)(void); int numbers; } commands[] = {
-        {"points", points, 2}, {"point", point, 2}, {"census", census, 4}, {"sight", sight, 2}, {"blocks", blocks, 2},
+    static const struct {
+        const char *word;
+        void (*call)(void);
+        int numbers;
+    } commands[] = {{"points", points, 2}, {"point", point, 2}, {"census", census, 4}, {"sight", sight, 2}, {"blocks", blocks, 2},
         {"extract", extract, 0}, {"demo", demo, -1}, {"find", find, -1}};
     wide = argc == 5 && !strcmp(argv[2], "--wide");
     if (argc != 4 + wide) refuse("usage");

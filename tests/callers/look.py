@@ -12,7 +12,6 @@ import sys
 from array import array
 from contextlib import redirect_stderr, redirect_stdout
 
-import wadlook
 from wadlook import NOWHERE, Status, Wad, WadlookError
 
 WORDS = {

@@ -8,6 +8,20 @@ demo() { printf '%b' "$(bytes "${header[@]}" "$@")"; }
 # listed PATH MEMBERS: the object of a demo of skill 3 on E1M1, from its players on.
 listed() { printf '{"file":"%s","version":109,"skill":3,"episode":1,"map":1,%s}\\n' "$@"; }
 
+# unlisted PATH LUMP TEXT: the object of a demo that isn't read.
+unlisted() { printf '{"file":"%s","lump":"%s","refused":"%s"}\\n' "$@"; }
+
+# refused_object PATH TEXT: the object of a file that is refused.
+refused_object() { printf '{"file":"%s","refused":"%s"}\\n' "$@"; }
+
+# logged NAME STATUS LOG WORD...: what stands in one log of standard output and standard error.
+logged() {
+    timeout 60 "$program" "${@:4}" >output 2>&1
+    printf '%s' $? >status
+    : >error
+    judge "$1" "$2" "$3" ''
+}
+
 two_commands=(25 0 0 0 206 128 255 128)
 
 # The files that the cases of demos ask.
@@ -25,6 +39,7 @@ demo_files() {
     header[0]=109 header[2]=1 header[3]=1
     more=$(bytes "${header[@]}" "${two_commands[@]}" 128)
     pack E1M1 '\x01' DEMO1 "$more" DEMO2 '' DEMONS "$(bytes 203 1)" DEMO "$(bytes "${header[@]}" 1)" demo3 "$more" XDEMO1 "$more" >demos.wad
+    pack DEMO1 "$(bytes 203)" DEMO2 "$more" DEMO3 "$(bytes 109)" DEMO4 "$more" >mixed.wad
     pack DEMO1 "$more" DEMO2 "$more" >gone.wad
     printf '\xff\xff\xff\x7f' | dd of=gone.wad bs=1 seek=$((12 + 44 + 16)) conv=notrunc status=none
 }
@@ -40,6 +55,8 @@ cases_of_demos() {
     says 'the long form' 0 'long.lmp: version 111, skill 3, episode 0, map 32, 1 player, 2 tics, 0:00.05\n' '' demos long.lmp
     says 'two files, in order' 0 "still.lmp: $game, 1 player, 0 tics, 0:00.00\ntwo.lmp: $game, 1 player, 2 tics, 0:00.05, after 1\n" \
         '' demos still.lmp two.lmp
+    cp two.lmp $'t\ewo.lmp'
+    says 'demos: controls in a path' 2 "t\\\\x1bwo.lmp: $game, 1 player, 2 tics, 0:00.05, after 1\n" "$(told 'n\\x09o' "$missing")" demos $'t\ewo.lmp' $'n\to'
     mark='no end marker: the bytes from place 13 on make no whole command'
     # The game finds no lump of small letters, so demo3 is none.
     says 'the demos of a WAD file' 2 "demos.wad: DEMO1: $game, 1 player, 2 tics, 0:00.05\n" \
@@ -49,8 +66,13 @@ cases_of_demos() {
     says 'a WAD file without a demo' 0 '' '' demos base.wad
     says 'demos: the objects' 2 "$(listed two.lmp '"players":1,"tics":2,"odd":0,"after":1')$(
         printf '{"file":"demos.wad","lump":"DEMO1","version":109,"skill":3,"episode":1,"map":1,"players":1,"tics":2,"odd":0,"after":0}\\n'
-    )$(listed odd.lmp '"players":2,"tics":1,"odd":1,"after":1')" \
+    )$(unlisted demos.wad DEMONS 'version 203 (MBF): not read')$(unlisted demos.wad DEMO "$mark")$(
+        listed odd.lmp '"players":2,"tics":1,"odd":1,"after":1')" \
         "wadlens: demos.wad: DEMONS: version 203 (MBF): not read\nwadlens: demos.wad: DEMO: $mark\n" demos --json two.lmp demos.wad odd.lmp
+    says 'demos: the object of one outside its file' 2 "$(printf '{"file":"gone.wad","lump":"DEMO1","version":109,"skill":3,"episode":1,"map":1,')$(
+        printf '"players":1,"tics":2,"odd":0,"after":0}\\n')$(unlisted gone.wad DEMO2 'outside its file')" \
+        'wadlens: gone.wad: DEMO2: outside its file\n' demos --json gone.wad
+    cases_of_logged_demos
     cases_of_refused_demos
     cases_of_lists_of_demos
     cases_of_large_demos
@@ -58,6 +80,20 @@ cases_of_demos() {
     mistaken 'demos alone' 'FILE' demos
     mistaken '--wide of demos' "unexpected argument '--wide'" demos --wide two.lmp
     mistaken '--json of a survey' "unexpected argument '--json'" survey --json base.wad
+}
+
+# The message about a demo or a file that is refused stands behind what was answered before, and before its object.
+cases_of_logged_demos() {
+    local sound="$game, 1 player, 2 tics, 0:00.05" object first third
+    first='wadlens: mixed.wad: DEMO1: version 203 (MBF): not read\n' third="wadlens: mixed.wad: DEMO3: 1 bytes of a header's 13\n"
+    logged 'demos: one log' 2 "still.lmp: $game, 1 player, 0 tics, 0:00.00\n${first}mixed.wad: DEMO2: $sound\n${third}mixed.wad: DEMO4: $sound\n$(
+        told no.lmp "$missing")still.lmp: $game, 1 player, 0 tics, 0:00.00\n" demos still.lmp mixed.wad no.lmp still.lmp
+    object='"version":109,"skill":3,"episode":1,"map":1,"players":1,"tics":2,"odd":0,"after":0}\n'
+    logged 'demos: one log of objects' 2 "$first$(unlisted mixed.wad DEMO1 'version 203 (MBF): not read'){\"file\":\"mixed.wad\",\"lump\":\"DEMO2\",$object$third$(
+        unlisted mixed.wad DEMO3 "1 bytes of a header's 13"){\"file\":\"mixed.wad\",\"lump\":\"DEMO4\",$object$(
+        told no.lmp "$missing")$(refused_object no.lmp "$missing")" demos --json mixed.wad no.lmp
+    logged 'survey: one log' 2 "$(told no.wad "$missing")$(refused_object no.wad "$missing")$(told folder "$unread")$(refused_object folder "$unread")" \
+        survey no.wad folder
 }
 
 cases_of_lists_of_demos() {
@@ -80,7 +116,7 @@ cases_of_large_demos() {
     memory=400000 says 'demos: memory of one file at a time' 0 "$most$most" '' demos most.lmp most.lmp
     printf x >>most.lmp
     says 'demos: one byte more' 2 "$still" "$(told most.lmp "$large")" demos most.lmp still.lmp
-    says 'demos: a device without end' 2 '' "$(told /dev/zero "$large")" demos --json /dev/zero
+    says 'demos: a device without end' 2 "$(refused_object /dev/zero "$large")" "$(told /dev/zero "$large")" demos --json /dev/zero
     rm most.lmp
 }
 
@@ -94,12 +130,14 @@ cases_of_ends_of_demos() {
     repeated one.wad 1024 >many.wad
     ends 'demos: a full disk' 2 "$full" demos still.lmp >/dev/full
     ends 'demos: a full disk within a file' 2 "$full" demos many.wad one.lmp >/dev/full
+    ends 'demos: a full disk before a message' 2 "$full" demos still.lmp one.lmp >/dev/full
     ends 'demos: no standard output' 2 "$full" demos still.lmp >&-
     exec {pipe}> >(:)
     wait $!
     ends 'demos: a closed pipe' 0 '' demos still.lmp >&"$pipe"
     ends 'demos: a closed pipe, the objects' 0 '' demos --json still.lmp >&"$pipe"
     ends 'demos: a closed pipe, and a refused demo' 2 "$(told one.lmp empty)" demos one.lmp still.lmp >&"$pipe"
+    ends 'demos: a closed pipe before a message' 2 '' demos still.lmp one.lmp >&"$pipe"
     ends 'demos: a closed pipe within a file ends the run' 0 '' demos many.wad one.lmp >&"$pipe"
     ends 'demos: .. with what was found before' 2 "$(told one.lmp empty)" demos one.lmp many.wad no.lmp >&"$pipe"
     exec {pipe}>&-
@@ -107,12 +145,16 @@ cases_of_ends_of_demos() {
     printf '%s' $? >status
     : >error
     judge 'demos: a full standard error' 2 '' ''
+    timeout 60 "$program" demos --json still.lmp one.lmp two.lmp >output 2>/dev/full
+    printf '%s' $? >status
+    judge 'demos: .. behind what was answered' 2 "$(listed still.lmp '"players":1,"tics":0,"odd":0,"after":0')" ''
 }
 
 # refused_demo TEXT BYTE...: why a demo of these bytes is refused.
 refused_demo() {
     printf '%b' "$(bytes "${@:2}")" >one.lmp
     says "demos: $1" 2 '' "wadlens: one.lmp: $1\n" demos one.lmp
+    says "demos: $1, the object" 2 "$(refused_object one.lmp "$1")" "wadlens: one.lmp: $1\n" demos --json one.lmp
 }
 
 cases_of_refused_demos() {
@@ -143,9 +185,12 @@ cases_of_refused_demos() {
     refused_demo 'version 255: not read' 255
     : >one.lmp
     says 'demos: empty' 2 '' 'wadlens: one.lmp: empty\n' demos one.lmp
+    says 'demos: empty, the object' 2 "$(refused_object one.lmp empty)" 'wadlens: one.lmp: empty\n' demos --json one.lmp
     says 'demos: no file' 2 '' "$(told no.lmp "$missing")" demos no.lmp
-    says 'demos: a folder' 2 '' "$(told folder "$unread")" demos --json folder
-    says 'demos: a WAD file that is cut' 2 '' "$(told cut.wad "its directory isn't inside the file")" demos --json cut.wad
+    says 'demos: no file, the object' 2 "$(refused_object no.lmp "$missing")" "$(told no.lmp "$missing")" demos --json no.lmp
+    says 'demos: a folder' 2 "$(refused_object folder "$unread")" "$(told folder "$unread")" demos --json folder
+    says 'demos: a WAD file that is cut' 2 "$(refused_object cut.wad "its directory isn't inside the file")" \
+        "$(told cut.wad "its directory isn't inside the file")" demos --json cut.wad
     says 'demos: a WAD file of a negative count' 2 '' "$(told count.wad 'a negative count of lumps')" demos count.wad
     printf IWAD >one.wad
     says 'demos: a WAD file of four bytes' 2 '' "$(told one.wad 'shorter than a WAD header')" demos one.wad
@@ -261,7 +306,7 @@ cases_of_refused_compares() {
     says 'compare: no player' 2 '' "$(told void.lmp 'no player in the game')" compare two.lmp void.lmp
     says 'compare: both are refused' 2 '' "$(told void.lmp 'no player in the game')$(told part.lmp "7 bytes of a header's 13")" \
         compare void.lmp part.lmp
-    says 'compare: a path as its bytes' 2 '' "wadlens: no\\n\\x1f: $missing\\n" compare $'no\n\x1f' two.lmp
+    says 'compare: controls in a path' 2 '' "$(told 'no\\x0a\\x1f' "$missing")" compare $'no\n\x1f' two.lmp
     says 'compare: a device without end' 2 '' "$(told /dev/zero "$large")" compare /dev/zero two.lmp
     { cat plain.lmp; head -c $((268435456 - 22)) /dev/zero; } >most.lmp
     says 'compare: as many bytes as there may be' 0 '' '' compare most.lmp plain.lmp
@@ -282,10 +327,15 @@ assembled() {
     says_on "assemble: $1" "$2" 0 "$(bytes "${header[@]}" "${@:3}")" '' assemble
 }
 
-# wrong NAME LINE INPUT: a text that is no listing, told by its first wrong line.
+# wrong NAME LINE WANTED INPUT: a text that is no listing, told by its first wrong line and what is wanted there.
 wrong() {
-    says_on "assemble: $1" "$3" 2 '' "wadlens: standard input: line $2 is no line of a listing\\n" assemble
+    says_on "assemble: $1" "$4" 2 '' "wadlens: standard input: line $2 is no line of a listing: $3\\n" assemble
 }
+
+# What is wanted, but for a line's end.
+header_wanted="a demo's header is wanted" end_wanted='the last line has no end' nothing_wanted='nothing more is wanted'
+turn_wanted() { printf 'tic %s player %s or the totals are wanted' "$@"; }
+totals_wanted() { printf 'the totals are tics %s odd %s after 0' "$@"; }
 
 cases_of_assemble() {
     local top commands='0 1 25 0 0 00\n1 1 -50 -128 255 80\n' last='tics 2 odd 0 after 0\n'
@@ -299,6 +349,10 @@ cases_of_assemble() {
     header=(109 0 255 99 1 2 3 4 3 0 255 0 1)
     assembled 'numbers of the header, and two players' \
         "$(head_line "${header[@]}")\n0 2 1 0 0 00\n0 4 2 0 0 00\n1 2 3 0 0 00\ntics 1 odd 1 after 0\n" 1 0 0 0 2 0 0 0 3 0 0 0 128
+    wrong 'two players: who is next' 3 "$(turn_wanted 0 4)" "$(head_line "${header[@]}")\\n0 2 1 0 0 00\\n1 2 3 0 0 00\\n"
+    wrong 'two players: the totals' 5 "$(totals_wanted 1 1)" \
+        "$(head_line "${header[@]}")\\n0 2 1 0 0 00\\n0 4 2 0 0 00\\n1 2 3 0 0 00\\ntics 1 odd 0 after 0\\n"
+    cases_of_other_versions
     header=(109 3 1 1 0 0 0 0 0 1 0 0 0)
     cases_of_wrong_headers
     cases_of_wrong_lines
@@ -307,6 +361,24 @@ cases_of_assemble() {
     mistaken 'assemble of a file' "unexpected argument 'listing'" assemble listing
     mistaken '--json of assemble' "unexpected argument '--json'" assemble --json
     tells '--help of assemble' 'Usage: wadlens assemble' assemble --help
+}
+
+# A turn is one byte but under version 111, where it is two.
+cases_of_other_versions() {
+    local top version
+    for version in 110 111; do
+        header=("$version" 3 1 1 0 0 0 0 0 1 0 0 0)
+        assembled "version $version without a tic" "$(head_line "${header[@]}")\\ntics 0 odd 0 after 0\\n" 128
+    done
+    top=$(head_line "${header[@]}")'\n'
+    assembled 'turns of the long form' "${top}0 1 25 0 4660 00\\n1 1 -50 -128 65535 80\\n2 1 0 0 0 00\\ntics 3 odd 0 after 5\\n" \
+        25 0 52 18 0 206 128 255 255 128 0 0 0 0 0 128
+    wrong 'a turn above those of the long form' 2 "$(turn_wanted 0 1)" "${top}0 1 25 0 65536 00\\ntics 1 odd 0 after 0\\n"
+    wrong 'the marker in the long form' 2 "$(turn_wanted 0 1)" "${top}0 1 -128 0 0 00\\ntics 1 odd 0 after 0\\n"
+    header=(110 3 1 1 0 0 0 0 0 1 0 0 0)
+    top=$(head_line "${header[@]}")'\n'
+    assembled 'commands of version 110' "${top}0 1 25 0 255 00\\ntics 1 odd 0 after 0\\n" 25 0 255 0 128
+    wrong 'a turn of the long form alone' 2 "$(turn_wanted 0 1)" "${top}0 1 25 0 256 00\\ntics 1 odd 0 after 0\\n"
 }
 
 # What is read, and where that or what is written fails.
@@ -320,7 +392,7 @@ cases_of_ends_of_assemble() {
     judge 'assemble: a byte too many' 2 '' "$(told 'standard input' 'larger than 268435456 bytes')"
     head -c 268435456 /dev/zero | timeout 60 "$program" assemble >output 2>error
     printf '%s' $? >status
-    judge 'assemble: as many bytes as there may be' 2 '' 'wadlens: standard input: line 1 is no line of a listing\n'
+    judge 'assemble: as many bytes as there may be' 2 '' "wadlens: standard input: line 1 is no line of a listing: $end_wanted\\n"
     head -c 268435456 /dev/zero | timeout 60 bash -c "$limited" 200000 "$program" assemble >output 2>error
     printf '%s' $? >status
     judge 'assemble: no memory' 3 '' 'wadlens: no memory left\n'
@@ -339,24 +411,25 @@ cases_of_ends_of_assemble() {
 cases_of_wrong_headers() {
     local good
     good=$(head_line "${header[@]}")
-    wrong 'nothing' 1 ''
-    wrong 'an empty line' 1 '\n'
-    wrong 'a header alone, without an end' 1 "$good"
-    wrong 'a header alone' 2 "$good\n"
-    wrong 'a header and a line without an end' 2 "$good\n0 1 25 0 0 00"
-    wrong 'version 110' 1 "${good/109/110}\ntics 0 odd 0 after 0\n"
-    wrong 'no player' 1 "${good/players 1/players 0}\ntics 0 odd 0 after 0\n"
-    wrong 'a number above 255' 1 "${good/skill 3/skill 256}\ntics 0 odd 0 after 0\n"
-    wrong 'a leading zero' 1 "${good/skill 3/skill 03}\ntics 0 odd 0 after 0\n"
-    wrong 'no number' 1 "${good/skill 3/skill}\ntics 0 odd 0 after 0\n"
-    wrong 'a sign' 1 "${good/skill 3/skill -3}\ntics 0 odd 0 after 0\n"
-    wrong 'two spaces' 1 "${good/skill 3/skill  3}\ntics 0 odd 0 after 0\n"
-    wrong 'another label' 1 "${good/skill/Skill}\ntics 0 odd 0 after 0\n"
-    wrong 'fields in another order' 1 "${good/skill 3 episode 1/episode 1 skill 3}\ntics 0 odd 0 after 0\n"
-    wrong 'a space at the end' 1 "$good \ntics 0 odd 0 after 0\n"
-    wrong 'byte 13' 1 "$good\r\ntics 0 odd 0 after 0\r\n"
-    wrong 'a line before it' 1 "\n$good\ntics 0 odd 0 after 0\n"
-    wrong 'byte 0' 1 "\0$good\ntics 0 odd 0 after 0\n"
+    wrong 'nothing' 1 "$header_wanted" ''
+    wrong 'an empty line' 1 "$header_wanted" '\n'
+    wrong 'a header alone, without an end' 1 "$end_wanted" "$good"
+    wrong 'a header alone' 2 "$(turn_wanted 0 1)" "$good\n"
+    wrong 'a header and a line without an end' 2 "$end_wanted" "$good\n0 1 25 0 0 00"
+    wrong 'version 108' 1 "$header_wanted" "${good/109/108}\ntics 0 odd 0 after 0\n"
+    wrong 'version 112' 1 "$header_wanted" "${good/109/112}\ntics 0 odd 0 after 0\n"
+    wrong 'no player' 1 "$header_wanted" "${good/players 1/players 0}\ntics 0 odd 0 after 0\n"
+    wrong 'a number above 255' 1 "$header_wanted" "${good/skill 3/skill 256}\ntics 0 odd 0 after 0\n"
+    wrong 'a leading zero' 1 "$header_wanted" "${good/skill 3/skill 03}\ntics 0 odd 0 after 0\n"
+    wrong 'no number' 1 "$header_wanted" "${good/skill 3/skill}\ntics 0 odd 0 after 0\n"
+    wrong 'a sign' 1 "$header_wanted" "${good/skill 3/skill -3}\ntics 0 odd 0 after 0\n"
+    wrong 'two spaces' 1 "$header_wanted" "${good/skill 3/skill  3}\ntics 0 odd 0 after 0\n"
+    wrong 'another label' 1 "$header_wanted" "${good/skill/Skill}\ntics 0 odd 0 after 0\n"
+    wrong 'fields in another order' 1 "$header_wanted" "${good/skill 3 episode 1/episode 1 skill 3}\ntics 0 odd 0 after 0\n"
+    wrong 'a space at the end' 1 "$header_wanted" "$good \ntics 0 odd 0 after 0\n"
+    wrong 'byte 13' 1 "$header_wanted" "$good\r\ntics 0 odd 0 after 0\r\n"
+    wrong 'a line before it' 1 "$header_wanted" "\n$good\ntics 0 odd 0 after 0\n"
+    wrong 'byte 0' 1 "$header_wanted" "\0$good\ntics 0 odd 0 after 0\n"
 }
 
 # Lines of commands and totals, each in place of a right one.
@@ -367,20 +440,21 @@ cases_of_wrong_lines() {
         '0 1 25 -129 0 00' '0 1 25 128 0 00' '0 1 25 0 256 00' '0 1 25 0 -1 00' '0 1 025 0 0 00' '0 1 25 0 0 0' '0 1 25 0 0 000' \
         '0 1 25 0 0 0A' '0 1 25 0 0 0g' '0 1 25 0 0 00 ' ' 0 1 25 0 0 00' '0 1 25  0 0 00' '0 1 25 0 0' '0 1 25 0 0 00 1' '' \
         '0 1 25 0 0 00\r' '0 1 25 0 0 \x8000' 'demo version 109' 'tic 0 odd 0 after 0'; do
-        wrong "the command $line" 2 "$top$line\ntics 1 odd 0 after 0\n"
-        wrong "a second command $line" 3 "${top}0 1 25 0 0 00\n${line/#0 1/1 1}\ntics 2 odd 0 after 0\n"
+        wrong "the command $line" 2 "$(turn_wanted 0 1)" "$top$line\ntics 1 odd 0 after 0\n"
+        wrong "a second command $line" 3 "$(turn_wanted 1 1)" "${top}0 1 25 0 0 00\n${line/#0 1/1 1}\ntics 2 odd 0 after 0\n"
     done
     top+='0 1 25 0 0 00\n'
     for line in 'tics 2 odd 0 after 0' 'tics 1 odd 1 after 0' 'tics 01 odd 0 after 0' 'tics 1 odd 0 after 00' 'tics 1 odd 0 after -1' \
         'tics 1 odd 0 after' 'tics 1 odd 0 after ' 'tics 1 odd 0 after 18446744073709551616' 'tics 1 odd 0 after 0 ' 'tics 1 odd 0' \
-        'Tics 1 odd 0 after 0' 'tics 1 odd 0 after 0x'; do
-        wrong "the totals $line" 3 "$top$line\n"
+        'tics 1 odd 0 after 0x' 'tics' 'tics are told'; do
+        wrong "the totals $line" 3 "$(totals_wanted 1 0)" "$top$line\n"
     done
-    wrong 'no totals' 3 "$top"
-    wrong 'totals without an end' 3 "${top}tics 1 odd 0 after 0"
-    wrong 'a line behind the totals' 4 "${top}tics 1 odd 0 after 0\ntics 1 odd 0 after 0\n"
-    wrong 'an empty line behind the totals' 4 "${top}tics 1 odd 0 after 0\n\n"
-    wrong 'a part of a line behind the totals' 4 "${top}tics 1 odd 0 after 0\n1"
+    wrong 'totals in another letter' 3 "$(turn_wanted 1 1)" "${top}Tics 1 odd 0 after 0\n"
+    wrong 'no totals' 3 "$(turn_wanted 1 1)" "$top"
+    wrong 'totals without an end' 3 "$end_wanted" "${top}tics 1 odd 0 after 0"
+    wrong 'a line behind the totals' 4 "$nothing_wanted" "${top}tics 1 odd 0 after 0\ntics 1 odd 0 after 0\n"
+    wrong 'an empty line behind the totals' 4 "$nothing_wanted" "${top}tics 1 odd 0 after 0\n\n"
+    wrong 'a part of a line behind the totals' 4 "$end_wanted" "${top}tics 1 odd 0 after 0\n1"
 }
 
 # The demos of Freedoom 0.12.1, where it is there, four in each file: each is told by its length, is listed, put together again, and compared.

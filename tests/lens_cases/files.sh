@@ -13,6 +13,14 @@ cases_of_words() {
     mistaken '--strict without --map' '--map' check --strict base.wad
     mistaken '--strict of a survey, without --map' '--map' survey --strict base.wad
     mistaken '--map of demos' "unexpected argument '--map'" demos --map base.wad
+    mistaken '--json with --quiet' '--quiet' check --json --quiet base.wad
+    mistaken '--json of a survey' "unexpected argument '--json'" survey --json base.wad
+    mistaken '--quiet of demos' "unexpected argument '--quiet'" demos --quiet base.wad
+    mistaken 'the usage of check' 'Usage: wadlens check' check --max three base.wad
+    mistaken 'the usage of picture' 'Usage: wadlens picture' picture --cells 5000 E1M1 base.wad
+    mistaken 'the usage of picture, of a frame' 'Usage: wadlens picture' picture --frame 1,2 E1M1 base.wad
+    mistaken 'the usage of cut' 'Usage: wadlens cut' cut --entry x base.wad
+    mistaken 'the usage of atlas' 'Usage: wadlens atlas' atlas --out new --cells 0 base.wad
     mistaken 'a negative --max' '-1' check --max=-1 base.wad
     mistaken 'a negative --max, apart' '-1' check --max -1 base.wad
     mistaken 'a --max that is no number' 'three' check --max three base.wad
@@ -28,11 +36,12 @@ cases_of_words() {
     tells '--help of demos' '--json' demos --help
     # The file is there, so it's the word that is refused.
     cp base.wad $'\xff.wad'
-    says 'a word that is not UTF-8' 2 '' "wadlens: a word isn't UTF-8\\n" survey $'\xff.wad'
+    local no_text="wadlens: a word isn't UTF-8, so the whole run is refused: hand such a file over as /dev/stdin <FILE\\n"
+    says 'a word that is not UTF-8' 2 '' "$no_text" survey $'\xff.wad'
     timeout 60 "$program" survey /dev/stdin <$'\xff.wad' >output 2>error
     printf '%s' $? >status
     judge 'a path that is not UTF-8, on standard input' 0 "$(sound /dev/stdin E1M1 0)" ''
-    says 'a word that is not UTF-8, behind others' 2 '' "wadlens: a word isn't UTF-8\\n" check base.wad --max 3 $'a\xc0\xaf'
+    says 'a word that is not UTF-8, behind others' 2 '' "$no_text" check base.wad --max 3 $'a\xc0\xaf'
 }
 
 cases_of_paths() {
@@ -51,12 +60,23 @@ cases_of_paths() {
         "$(told /dev/zero 'larger than 268435456 bytes')" survey /dev/zero
     cp base.wad $'a"b\\c\x1f.wad'
     says 'a path with what JSON escapes' 0 "$(sound 'a\\"b\\\\c\\u001f.wad' E1M1 0)" '' survey $'a"b\\c\x1f.wad'
-    says 'a path is written as its bytes' 0 '1 levels in 1 files: 0 faults, 0 notes, 0 not judged\n' '' check $'a"b\\c\x1f.wad'
-    says 'a path is written as its bytes, refused' 2 '0 levels in 1 files: 0 faults, 0 notes, 0 not judged\n' \
-        "wadlens: no\\n\\x1f: $missing\\n" check $'no\n\x1f'
     cp base.wad ü.wad
     says 'a path with a line break' 0 "$(sound 'two\\u000alines.wad' E1M1 0)" '' survey $'two\nlines.wad'
     says 'a path that is not ASCII' 0 "$(sound 'ü.wad' E1M1 0)" '' survey ü.wad
+}
+
+# A line's end, an escape, a control of eight bits and 127 are told by their digits; a backslash and other letters stand as they are.
+cases_of_controls() {
+    local path=$'a\n\e[31m\xc2\x85\x7f\\ü\xc2\xa0.wad' shown='a\\x0a\\x1b[31m\\xc2\\x85\\x7f\\ü\xc2\xa0.wad'
+    cp faulty.wad "$path"
+    says 'controls in a path: findings' 1 "${faults_of_faulty//faulty.wad/"$shown"}1 levels in 1 files: 1 faults, 1 notes, 0 not judged\\n" '' check "$path"
+    says 'controls in a path: cut' 2 '' "$(told "$shown" 'no level starts at entry 7')" cut --entry 7 "$path"
+    says 'controls in a path: refused' 2 '0 levels in 1 files: 0 faults, 0 notes, 0 not judged\n' "$(told 'no\\x0a\\x1f' "$missing")" check $'no\n\x1f'
+    says_on 'controls in paths of a list' 'x\xc2\ny\xc2\x9f\xff\n' 2 '0 levels in 2 files: 0 faults, 0 notes, 0 not judged\n' \
+        "$(told 'x\xc2' "$missing")$(told 'y\\xc2\\x9f\xff' "$missing")" check --files-from -
+    says 'controls in a name' 2 '' "$(told 'E\\x07' 'no level of this name')" picture $'E\a' base.wad
+    mkdir $'full\r' && touch $'full\r/file'
+    says 'controls in a folder' 2 '' "$(told 'full\\x0d' "it isn't empty")" atlas --out $'full\r' base.wad
 }
 
 cases_of_lists() {
@@ -215,20 +235,25 @@ cases_of_cut() {
     pack E1M1 '' "${parts[@]}" >first.wad
     pack JUNK '\x01\x02' E1M1 '\x03' "${parts[@]}" MORE '\x04' >between.wad
     cuts 'between other lumps, and a label with bytes' first.wad --entry=1 between.wad
+    cases_of_cut_formats
+    says 'cut: incomplete' 1 '' 'wadlens: hole.wad: MAP01: incomplete: no BLOCKMAP where it belongs\n' cut --entry 0 hole.wad
+    lumps 10
     renamed NODES NODEZ
-    pack MAP07 '' "${parts[@]}" >renamed.wad
-    cuts 'lumps under the names that they have' renamed.wad --entry 0 renamed.wad
-    says 'cut: incomplete' 1 '' 'wadlens: hole.wad: incomplete: no BLOCKMAP where it belongs\n' cut --entry 0 hole.wad
-    says 'cut: the last entry' 1 '' 'wadlens: hole.wad: incomplete: no THINGS where it belongs\n' cut --entry 9 hole.wad
+    pack map07 '' "${parts[@]}" >renamed.wad
+    says 'cut: a lump under another name, of a label that is not found' 1 '' \
+        'wadlens: renamed.wad: map07 (entry 0): incomplete: no NODES where it belongs\n' cut --entry 0 renamed.wad
     for tag in THINGS BLOCKMAP; do
         lumps 10
         pack MAP01 '' "${parts[@]}" >format.wad
         outside "$tag"
-        says "cut: outside, $tag" 1 '' "wadlens: format.wad: outside: $tag\\n" cut --entry 0 format.wad
+        says "cut: outside, $tag" 1 '' "wadlens: format.wad: MAP01: outside: $tag\\n" cut --entry 0 format.wad
     done
-    says 'cut: no such entry' 2 '' 'wadlens: hole.wad: no entry of this number\n' cut --entry 10 hole.wad
-    says 'cut: no entry of a file without any' 2 '' 'wadlens: empty.wad: no entry of this number\n' cut --entry 0 empty.wad
-    says 'cut: the greatest number' 2 '' 'wadlens: hole.wad: no entry of this number\n' cut --entry 18446744073709551615 hole.wad
+    says 'cut: the last entry' 2 '' 'wadlens: hole.wad: no level starts at entry 9\n' cut --entry 9 hole.wad
+    says 'cut: no such entry' 2 '' 'wadlens: hole.wad: no level starts at entry 10\n' cut --entry 10 hole.wad
+    says 'cut: an entry before a level' 2 '' 'wadlens: between.wad: no level starts at entry 0\n' cut --entry 0 between.wad
+    says 'cut: no entry of a file without any' 2 '' 'wadlens: empty.wad: no level starts at entry 0\n' cut --entry 0 empty.wad
+    says 'cut: the greatest number' 2 '' 'wadlens: hole.wad: no level starts at entry 18446744073709551615\n' \
+        cut --entry 18446744073709551615 hole.wad
     says 'cut: no file' 2 '' "$(told no.wad "$missing")" cut --entry 0 no.wad
     says 'cut: a folder' 2 '' "$(told folder "$unread")" cut --entry 0 folder
     says 'cut: no WAD file' 2 '' "$(told magic.wad 'not a WAD file: it begins with neither IWAD nor PWAD')" cut --entry 0 magic.wad
@@ -240,6 +265,43 @@ cases_of_cut() {
     mistaken 'an entry that is no number' 'E1M1' cut --entry E1M1 base.wad
     mistaken 'an entry of more than 64 bits' '18446744073709551616' cut --entry 18446744073709551616 base.wad
     mistaken '--wide of cut' "unexpected argument '--wide'" cut --wide --entry 0 base.wad
+}
+
+# Levels of other formats are cut out whole, and none takes what belongs to the next.
+cases_of_cut_formats() {
+    local parts text=(TEXTMAP '\x7b\x7d' BLOCKMAP '' ZNODES '\x58\x47\x4c\x33' ENDMAP '')
+    lumps 10
+    begins NODES '\x58\x4e\x4f\x44'
+    pack MAP04 '' "${parts[@]}" >alone.wad
+    pack MAP04 '\x09' "${parts[@]}" BEHAVIOR '\x01' >format.wad
+    says 'cut: the format of a test, hexen' 2 'format.wad: MAP04: hexen: not read\n1 levels in 1 files: 0 faults, 0 notes, 1 not judged\n' '' \
+        check format.wad
+    pack MAP04 '' "${parts[@]}" BEHAVIOR '\x01' >alone.wad
+    cuts 'hexen' alone.wad --entry 0 format.wad
+    pack MAP04 '' "${parts[@]}" BEHAVIOR '\x01' MAP05 '' "${parts[@]}" SCRIPTS '\x02' >format.wad
+    cuts 'hexen, and a level behind it' alone.wad --entry 0 format.wad
+    pack MAP05 '' "${parts[@]}" >alone.wad
+    cuts 'extended nodes' alone.wad --entry 12 format.wad
+    pack MAP04 '' "${parts[@]}" BEHAVIOR '\x01' SCRIPTS '\x02' DIALOGUE '\x03' >format.wad
+    pack MAP04 '' "${parts[@]}" BEHAVIOR '\x01' SCRIPTS '\x02' >alone.wad
+    cuts 'hexen with SCRIPTS' alone.wad --entry 0 format.wad
+    pack MAP06 '' "${text[@]}" >alone.wad
+    pack MAP06 '\x01' "${text[@]}" MAP07 '' "${text[@]}" >format.wad
+    cuts 'UDMF to its first ENDMAP' alone.wad --entry 0 format.wad
+    pack MAP06 '' TEXTMAP '\x01' MAP07 '' TEXTMAP '\x02' ENDMAP '' >format.wad
+    pack MAP06 '' TEXTMAP '\x01' MAP07 '' TEXTMAP '\x02' ENDMAP '' >alone.wad
+    cuts 'UDMF, to an ENDMAP behind the next label' alone.wad --entry 0 format.wad
+    says 'cut: no ENDMAP' 2 '' 'wadlens: udmf.wad: MAP03: udmf: no ENDMAP\n' cut --entry 0 udmf.wad
+    lumps 10
+    pack MAP01 '' "${parts[@]}" BEHAVIOR '\x01' >format.wad
+    entry_outside 11
+    says 'cut: hexen, outside' 1 '' 'wadlens: format.wad: MAP01: outside: BEHAVIOR\n' cut --entry 0 format.wad
+    pack MAP01 '' TEXTMAP '\x01' ENDMAP '' >format.wad
+    entry_outside 1
+    says 'cut: UDMF, outside' 1 '' 'wadlens: format.wad: MAP01: outside: TEXTMAP\n' cut --entry 0 format.wad
+    pack MAP01 '' TEXTMAP '\x01' MAP01 '' TEXTMAP '\x02' >format.wad
+    says 'cut: a hidden level is told with its entry' 2 '' 'wadlens: format.wad: MAP01 (entry 0): udmf: no ENDMAP\n' \
+        cut --entry 0 format.wad
 }
 
 cases_of_cut_ends() {
@@ -264,7 +326,7 @@ cases_of_cut_ends() {
     printf 'PWAD%b' "$(words 11 0 12 0)$directory" >large.wad
     truncate -s "$size" large.wad
     memory=1048576 says 'cut: a level that is too large' 2 '' \
-        'wadlens: large.wad: the level is larger than 2147483647 bytes\n' cut --entry 0 large.wad
+        'wadlens: large.wad: E1M1: larger than 2147483647 bytes\n' cut --entry 0 large.wad
     rm large.wad
 }
 

@@ -9,6 +9,22 @@ many_segs() {
         SSECTORS "$(words 1 0 1 -32768)" >wide.wad
 }
 
+# A label that a look-up of its name doesn't give is told with its entry.
+cases_of_labels() {
+    local parts
+    lumps 10
+    pack MAP02 '' "${parts[@]}" MAP02 '' "${parts[@]}" >twice.wad
+    says 'two labels of one name, sound' 0 '2 levels in 1 files: 0 faults, 0 notes, 0 not judged\n' '' check twice.wad
+    pack MAP02 '' "${parts[@]:0:2}" MAP02 '' "${parts[@]:0:4}" map03 '' "${parts[@]:0:6}" MAP04 '' TEXTMAP '' MAP04 '' >twice.wad
+    says 'labels that are not found' 1 "$(
+        printf '%s' 'twice.wad: MAP02 (entry 0): incomplete: no LINEDEFS where it belongs\n' \
+            'twice.wad: MAP02: incomplete: no SIDEDEFS where it belongs\n' \
+            'twice.wad: map03 (entry 5): incomplete: no VERTEXES where it belongs\n' \
+            'twice.wad: MAP04 (entry 9): udmf: not read\n' \
+            '4 levels in 1 files: 0 faults, 0 notes, 4 not judged\n'
+    )" '' check twice.wad
+}
+
 cases_of_check() {
     says 'nothing found' 0 '1 levels in 1 files: 0 faults, 0 notes, 0 not judged\n' '' check base.wad
     says 'a fault and a note' 1 "${faults_of_faulty}1 levels in 1 files: 1 faults, 1 notes, 0 not judged\\n" '' check faulty.wad
@@ -17,6 +33,7 @@ cases_of_check() {
             'udmf.wad: MAP03: udmf: not read\n' 'extended.wad: E1M1: extended nodes XNOD: not read\n' \
             '4 levels in 4 files: 0 faults, 0 notes, 4 not judged\n'
     )" '' check hole.wad hexen.wad udmf.wad extended.wad
+    cases_of_labels
     local i three="${own[LINEDEFS]}" lines='' end='1 levels in 1 files: 3 faults, 0 notes, 0 not judged\n'
     for i in 1 2 3; do
         three+=$(words 9 1 4 0 0 0 1)
@@ -41,6 +58,72 @@ cases_of_check() {
 }
 
 # How many findings of a code are told where nothing is said: 20.
+# told_of FILE LEVEL MEMBERS: an object of a level at entry 0.
+told_of() { printf '{"file":"%s","level":"%s","entry":0,%s}\\n' "$1" "$2" "$3"; }
+
+# totals_of LEVELS FILES FAULTS NOTES UNJUDGED: the object of the totals.
+totals_of() { printf '{"levels":%s,"files":%s,"faults":%s,"notes":%s,"not_judged":%s}\\n' "$@"; }
+
+cases_of_json() {
+    local object='"code":"F9","kind":"seg","index":1,"message":"linedef 0 has no sidedef on side 1","place":{"from":[0,64],"to":[0,0]}'
+    local noted='"code":"N3","kind":"linedef","index":0,"message":"two-sided, without a back sidedef","place":{"from":[0,0],"to":[0,64]}'
+    says 'json: nothing found' 0 "$(totals_of 1 1 0 0 0)" '' check --json base.wad
+    says 'json: no file' 0 "$(totals_of 0 0 0 0 0)" '' check --json --files-from /dev/null
+    says 'json: a fault and a note' 1 "$(told_of faulty.wad E1M1 "$object")$(told_of faulty.wad E1M1 "$noted")$(totals_of 1 1 1 1 0)" '' \
+        check --json faulty.wad
+    says 'json: refused, and not judged' 1 "$(
+        refused no.wad "$missing"
+        told_of hole.wad MAP01 '"format":"incomplete","lump":"BLOCKMAP"'
+        told_of udmf.wad MAP03 '"format":"udmf"'
+        told_of extended.wad E1M1 '"format":"extended","tag":"XNOD"'
+        totals_of 3 4 0 0 3
+    )" "$(told no.wad "$missing")" check --json no.wad hole.wad udmf.wad extended.wad
+    local three="${own[LINEDEFS]}"
+    three+=$(words 9 1 4 0 0 0 1)$(words 9 1 4 0 0 0 1)
+    level LINEDEFS "$three" >many.wad
+    says 'json: of one code more than are shown' 1 "$(
+        told_of many.wad E1M1 '"code":"F3","kind":"linedef","index":1,"message":"start vertex 9 isn'\''t there (2 vertexes)"'
+        told_of many.wad E1M1 '"code":"F3","more":1'
+        totals_of 1 1 2 0 0
+    )" '' check --max 1 --json many.wad
+    many_segs
+    says 'json: sound with --wide' 1 "$(
+        told_of wide.wad E1M1 '"code":"F10","kind":"ssector","index":1,"message":"segs from -32768, 1 of them, aren'\''t all there (32769 segs)"'
+        told_of wide.wad E1M1 '"sound_with_wide":true'
+        totals_of 1 1 1 0 0
+    )" '' check --json wide.wad
+    level THINGS '' SIDEDEFS "$(sidedef 0)$(sidedef 7)" BLOCKMAP "$(words -8 -8 1 1 9 0 0 -1)" >places.wad
+    says 'json: of a linedef, of a block, of the level' 1 "$(
+        told_of places.wad E1M1 '"code":"F5","kind":"sidedef","index":1,"message":"sector 7 isn'\''t there (2 sectors)","place":{"linedef":0}'
+        told_of places.wad E1M1 '"code":"N10","kind":"block","index":[0,0],"message":"its list isn'\''t inside BLOCKMAP"'
+        told_of places.wad E1M1 '"code":"N11","kind":"level","message":"no player 1 start"'
+        totals_of 1 1 1 2 0
+    )" '' check --json places.wad
+    says 'json: warnings' 0 "$(
+        told_of base.wad E1M1 '"code":"W1","kind":"sector","index":0,"message":"isn'\''t closed","place":{"at":[0,0]}'
+        told_of base.wad E1M1 '"code":"W1","more":3'
+        told_of base.wad E1M1 '"code":"W7","kind":"level","message":"no player 2 start"'
+        told_of base.wad E1M1 '"code":"W8","kind":"level","message":"0 deathmatch starts"'
+        printf '%s' '{"levels":1,"files":1,"faults":0,"notes":0,"warnings":6,"not_judged":0,"unlooked":["W9","W10"]}\n'
+    )" "$neither" check --json --map --max 1 base.wad
+    cp base.wad $'a"b\\c\x1f.wad'
+    says 'json: a path with what JSON escapes' 2 "$(refused 'no\\"b' "$missing")$(totals_of 0 1 0 0 0)" "$(told 'no"b' "$missing")" check --json 'no"b'
+    lumps 2
+    pack map01 '' "${parts[@]}" >twice.wad
+    says 'json: a label that is not found is told by its entry alone' 1 \
+        "$(told_of twice.wad map01 '"format":"incomplete","lump":"SIDEDEFS"')$(totals_of 1 1 0 0 1)" '' check --json twice.wad
+}
+
+# --quiet: the status and standard error alone.
+cases_of_quiet() {
+    says 'quiet: nothing found' 0 '' '' check --quiet base.wad
+    says 'quiet: a fault' 1 '' '' check --quiet faulty.wad
+    says 'quiet: each file is read' 1 '' "$(told no.wad "$missing")$(told none.wad 'shorter than a WAD header')" check --quiet no.wad faulty.wad none.wad
+    says 'quiet: not judged' 2 '' '' check --quiet udmf.wad
+    says 'quiet: strict' 1 '' "$neither" check --quiet --map --strict base.wad
+    ends 'quiet: a full disk is of no use to it' 0 '' check --quiet base.wad >/dev/full
+}
+
 cases_of_most() {
     local i lines="${own[LINEDEFS]}" told='' end='1 levels in 1 files: 0 faults, 22 notes, 0 not judged\n'
     for i in {1..22}; do
@@ -191,26 +274,31 @@ rooms=(THINGS "$starts" VERTEXES "$(words 0 0 0 64 64 64 64 0 128 64 128 0)" SEC
     SSECTORS "$(words 4 0 4 4)" NODES "$(node 64 64 0 -64 32768 32769)")
 
 # warns NAME LINES COUNT [LUMP BYTES]...: what `check --map` tells of the sample level with these lumps, each line without its
-# path and level; then of that file `--strict` and a survey. `notes` are told first.
+# path and level; then of that file `--strict` and a survey. `notes` are told first, and which names of `behind` textures and flats
+# aren't looked for without is told at last.
 notes=()
 warns() {
-    local line text='' status=0 codes='' code
+    local line text='' status=0 codes='' code lacking=$neither member=',"unlooked":["W9","W10"]'
+    case " ${behind[*]} " in
+        *' TEXTURE1 '*) lacking=$no_flats member=',"unlooked":["W10"]' ;;
+        *' F_START '*) lacking=$no_textures member=',"unlooked":["W9"]' ;;
+    esac
     for line in "${notes[@]}"; do text+="warned.wad: E1M1: $line\\n"; done
     while read -r line; do [[ -z $line ]] || text+="warned.wad: E1M1: $line\\n"; done <<<"$2"
     text+="1 levels in 1 files: 0 faults, ${#notes[@]} notes, $3 warnings, 0 not judged\\n"
     level "${@:4}" >warned.wad
-    says "$1" 0 "$text" '' check --map --max 0 warned.wad
+    says "$1" 0 "$text" "$lacking" check --map --max 0 warned.wad
     (($3 == 0)) || status=1
-    says "$1, strict" "$status" "$text" '' check --strict --max 0 --map warned.wad
-    for code in W1 W2 W3 W4 W5 W6 W7 W8; do
+    says "$1, strict" "$status" "$text" "$lacking" check --strict --max 0 --map warned.wad
+    for code in W1 W2 W3 W4 W5 W6 W7 W8 W9 W10 W11; do
         line=$(grep -c "^$code " <<<"$2")
         ((line == 0)) || codes+=",\"$code\":$line"
     done
     run_on '' survey --map warned.wad
-    [[ $(<output) != *"},\"warnings\":{${codes#,}}}" ]] || : >output
+    [[ $(<output) != *"},\"warnings\":{${codes#,}}$member}" ]] || : >output
     judge "$1, surveyed" 0 '' ''
     run_on '' survey --map --strict warned.wad
-    [[ $(<output) != *"},\"warnings\":{${codes#,}}}" ]] || : >output
+    [[ $(<output) != *"},\"warnings\":{${codes#,}}$member}" ]] || : >output
     judge "$1, surveyed strictly" "$status" '' ''
 }
 
@@ -246,6 +334,9 @@ cases_of_warnings() {
         VERTEXES "$(words 0 0 0 64 64 64 64 0 0 0 0 64)" LINEDEFS "$walls$(words 3 0 1 0 0 3 -1)$(words 4 5 4 0 0 0 0)"
     warns W7 'W7 level: no player 3 start' 1 "${closed[@]}" THINGS "$(for kind in 1 2 4 11 11 11 11; do words 32 32 0 $kind 7; done)"
     warns W8 'W8 level: 3 deathmatch starts' 1 "${closed[@]}" THINGS "$(for kind in 1 2 3 4 11 11 11; do words 32 32 0 $kind 7; done)"
+    cases_of_unknown_textures
+    cases_of_unknown_flats
+    cases_of_unknown_things
     cases_of_warned_levels
 }
 
@@ -291,6 +382,79 @@ cases_of_bare_rooms() {
     bare 'W2, the textures that are not seen: none' '' '0 128' '8 120' WALL WALL - -
 }
 
+# textures NAME...: a lump that lists them.
+textures() {
+    local name at=$((4 + 4 * $#))
+    words $# 0
+    for name; do
+        words "$at" 0
+        at=$((at + 8))
+    done
+    for name; do name8 "$name"; done
+}
+
+# Textures of the closed room, whose four walls are WALL.
+cases_of_unknown_textures() {
+    local i all behind
+    all=$(for i in 0 1 2 3; do printf '%s\n' "W9 sidedef $i: middle texture WALL isn't there, of linedef $i"; done)
+    behind=(TEXTURE1 "$(textures DOOR wall)")
+    warns 'W9, a texture without case: none' '' 0 "${closed[@]}"
+    behind=(TEXTURE1 "$(textures DOOR)" TEXTURE2 "$(textures WALL)")
+    warns 'W9, a texture of TEXTURE2: none' '' 0 "${closed[@]}"
+    behind=(TEXTURE1 "$(textures DOOR)")
+    warns W9 "$all" 4 "${closed[@]}"
+    behind=(TEXTURE1 "$(words -1 -1 8 0)$(name8 WALL)")
+    warns 'W9, of a negative count' "$all" 4 "${closed[@]}"
+    behind=(TEXTURE1 "$(words 0 0 8 0)$(name8 WALL)")
+    warns 'W9, behind the count' "$all" 4 "${closed[@]}"
+    behind=(TEXTURE1 "$(words -1 32767 8 0)$(name8 WALL)")
+    warns 'W9, of the greatest count: none' '' 0 "${closed[@]}"
+    behind=(TEXTURE1 "$(words 1 0 9 0)$(name8 WALL)")
+    warns 'W9, a name across the end' "$all" 4 "${closed[@]}"
+    behind=(TEXTURE1 "$(words 1 0 -8 -1)$(name8 WALL)")
+    warns 'W9, a name before the start' "$all" 4 "${closed[@]}"
+    behind=(TEXTURE1 "$(bytes 1 0)" TEXTURE2 "$(textures WALL)")
+    warns 'W9, of a lump without a count: none' '' 0 "${closed[@]}"
+    behind=(TEXTURE1 "$(textures WALL)" TEXTURE1 "$(textures DOOR)")
+    warns 'W9, of the winner' "$all" 4 "${closed[@]}"
+    behind=(TEXTURE2 "$(textures DOOR)")
+    warns 'W9, without TEXTURE1: not looked for' '' 0 "${closed[@]}"
+    behind=(TEXTURE1 "$(textures WALL)")
+    warns 'W9, of three parts' "$(two "W9 sidedef 0: upper texture (empty) isn't there, of linedef 0" \
+        "W9 sidedef 0: lower texture q isn't there, of linedef 0")" 2 "${closed[@]}" \
+        SIDEDEFS "$(words 0 0)$(name8 '')$(name8 q)$(name8 -X)$(words 0)${room_sides:120}"
+    warns 'W9, of no linedef' "W9 sidedef 4: middle texture DOOR isn't there" 1 "${closed[@]}" \
+        SIDEDEFS "$room_sides$(words 0 0)$(name8 -)$(name8 -)$(name8 DOOR)$(words 0)"
+}
+
+# Flats of the closed room, whose floor and ceiling are FLAT1.
+cases_of_unknown_flats() {
+    local behind
+    behind=(F_START '' FLAT1 '')
+    warns 'W10, all flats are there: none' '' 0 "${closed[@]}"
+    warns 'W10, a flat without case: none' '' 0 "${closed[@]}" SECTORS "$(sector_of 0 128 flat1)"
+    warns W10 "W10 sector 0: ceiling flat FLAT2 isn't there" 1 "${closed[@]}" SECTORS "$(sector_of 0 128 FLAT2)"
+    warns 'W10, of an empty name' "W10 sector 0: ceiling flat (empty) isn't there" 1 "${closed[@]}" SECTORS "$(sector_of 0 128 '')"
+    behind=(F_START '' flat1 '')
+    warns 'W10, entries as they stand' "$(two "W10 sector 0: floor flat FLAT1 isn't there" \
+        "W10 sector 0: ceiling flat FLAT1 isn't there")" 2 "${closed[@]}"
+    behind=(FLAT2 '')
+    warns 'W10, without F_START: not looked for' '' 0 "${closed[@]}"
+}
+
+# A thing more in the closed room.
+cases_of_unknown_things() {
+    local kind
+    for kind in 2009 2016 90 3007 32000; do
+        warns "W11, $kind" "W11 thing 8: type $kind is none of the game's, at (32, 32)" 1 "${closed[@]}" \
+            THINGS "$starts$(words 32 32 0 "$kind" 4)"
+    done
+    for kind in -1 0 4 5 89 2008 2028 3006; do
+        warns "W11, $kind: none" '' 0 "${closed[@]}" THINGS "$starts$(words 32 32 0 "$kind" 7)"
+    done
+    warns 'W11, in no skill: none' '' 0 "${closed[@]}" THINGS "$starts$(words 32 32 0 32000 24)"
+}
+
 # How many are shown, what stands behind them, and levels in which they aren't looked for.
 cases_of_warned_levels() {
     local i few two_levels
@@ -299,20 +463,20 @@ cases_of_warned_levels() {
         printf '%s' 'base.wad: E1M1: W1: 2 more\n' 'base.wad: E1M1: W7 level: no player 2 start\n' \
             'base.wad: E1M1: W8 level: 0 deathmatch starts\n'
     )
-    says '--max of warnings' 0 "${few}1 levels in 1 files: 0 faults, 0 notes, 6 warnings, 0 not judged\\n" '' check --map --max 2 base.wad
-    says 'not looked for' 1 "${faults_of_faulty}1 levels in 1 files: 1 faults, 1 notes, 0 warnings, 0 not judged\\n" '' check --map faulty.wad
+    says '--max of warnings' 0 "${few}1 levels in 1 files: 0 faults, 0 notes, 6 warnings, 0 not judged\\n" "$neither" check --map --max 2 base.wad
+    says 'not looked for' 1 "${faults_of_faulty}1 levels in 1 files: 1 faults, 1 notes, 0 warnings, 0 not judged\\n" "$neither" check --map faulty.wad
     two_levels="${few//base.wad/.\/base.wad}udmf.wad: MAP03: udmf: not read\\n"
     two_levels+='2 levels in 2 files: 0 faults, 0 notes, 6 warnings, 1 not judged\n'
-    says 'a level that is not judged, too' 2 "$two_levels" '' check --map --max 2 ./base.wad udmf.wad
-    says '1 goes before 2, of a warning' 1 "$two_levels" '' check --map --strict --max 2 ./base.wad udmf.wad
+    says 'a level that is not judged, too' 2 "$two_levels" "$neither" check --map --max 2 ./base.wad udmf.wad
+    says '1 goes before 2, of a warning' 1 "$two_levels" "$neither" check --map --strict --max 2 ./base.wad udmf.wad
     many_segs
     says 'before what the wide reading finds' 1 "$(
         printf '%s' "wide.wad: E1M1: F10 ssector 1: segs from -32768, 1 of them, aren't all there (32769 segs)\\n" \
             "${few//base.wad/wide.wad}" 'wide.wad: E1M1: sound with --wide\n' \
             '1 levels in 1 files: 1 faults, 0 notes, 6 warnings, 0 not judged\n'
-    )" '' check --map --max 2 wide.wad
+    )" "$neither" check --map --max 2 wide.wad
     says 'surveyed, where they are not looked for' 1 \
-        '{"file":"faulty.wad","level":"E1M1","entry":0,"format":"doom",'"$counts"',"sound":false,"faults":1,"notes":1,"findings":{"F9":1,"N3":1},"warnings":{}}\n' \
+        '{"file":"faulty.wad","level":"E1M1","entry":0,"format":"doom",'"$counts"',"sound":false,"faults":1,"notes":1,"findings":{"F9":1,"N3":1},"warnings":{},"unlooked":["W9","W10"]}\n' \
         '' survey --map faulty.wad
     says 'surveyed, of another format' 2 '{"file":"udmf.wad","level":"MAP03","entry":0,"format":"udmf"}\n' '' survey --map udmf.wad
 }
@@ -331,7 +495,7 @@ cases_of_warned_games() {
     run_on '' survey --map "${files[@]}"
     mv output surveyed
     wc -l <surveyed >output
-    for code in W1 W2 W3 W4 W5 W6 W7 W8; do
+    for code in W1 W2 W3 W4 W5 W6 W7 W8 W9 W10 W11; do
         mapfile -t counts < <(grep -o "\"$code\":[0-9]*" surveyed | cut -d : -f 2)
         sum=0
         for count in "${counts[@]}"; do sum=$((sum + count)); done
@@ -339,7 +503,8 @@ cases_of_warned_games() {
     done
     grep '"W6"' surveyed | grep -o '"level":"[^"]*"' >>output
     judge 'warnings of 100 levels' 0 "$(
-        printf '%s\\n' 100 'W1 0 0' 'W2 1288 52' 'W3 0 0' 'W4 45 11' 'W5 33 10' 'W6 1 1' 'W7 0 0' 'W8 1 1' '"level":"E3M6"'
+        printf '%s\\n' 100 'W1 0 0' 'W2 1288 52' 'W3 0 0' 'W4 45 11' 'W5 33 10' 'W6 1 1' 'W7 0 0' 'W8 1 1' 'W9 0 0' 'W10 0 0' 'W11 0 0' \
+            '"level":"E3M6"'
     )" ''
 }
 

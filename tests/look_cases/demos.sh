@@ -1,5 +1,5 @@
-# Cases of demos, as lumps and as files, which tests/program runs.
-# shellcheck shell=bash disable=SC2034,SC2059,SC2154  # what tests/program sets and reads; texts are as printf takes them
+# Cases of demos, as lumps and as files, which tests/wadlook runs.
+# shellcheck shell=bash disable=SC2034,SC2059,SC2154  # what tests/wadlook sets and reads; texts are as printf takes them
 
 # the_demos LISTS REFUSES: calls `LISTS NAME BYTES LISTING` for each demo that is one, and for each other
 # `REFUSES NAME BYTES LISTING REASON`, where the listing goes as far as the bytes do.

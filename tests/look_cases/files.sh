@@ -1,5 +1,5 @@
-# Cases of the sample, words, files, failed ends, `lumps`, `levels` and `extract`, which tests/program runs.
-# shellcheck shell=bash disable=SC2034,SC2059,SC2154  # what tests/program sets and reads; texts are as printf takes them
+# Cases of the sample, words, files, failed ends, `lumps`, `levels` and `extract`, which tests/wadlook runs.
+# shellcheck shell=bash disable=SC2034,SC2059,SC2154  # what tests/wadlook sets and reads; texts are as printf takes them
 
 cases_of_sample() {
     level >output

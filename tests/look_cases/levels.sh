@@ -1,5 +1,5 @@
-# Cases of what is asked of a level, which tests/program runs.
-# shellcheck shell=bash disable=SC2034,SC2059,SC2154  # what tests/program sets and reads; texts are as printf takes them
+# Cases of what is asked of a level, which tests/wadlook runs.
+# shellcheck shell=bash disable=SC2034,SC2059,SC2154  # what tests/wadlook sets and reads; texts are as printf takes them
 
 cases_of_points() {
     local base=$'1 5 sector 0 ssector 0\n0 5 sector 1 ssector 1\n-1 5 sector 1 ssector 1\n'

@@ -40,6 +40,7 @@ PATHS = (
     "é\\.wad",
     "e\x01.wad",
     "f\n.wad",
+    "h\x7f\x85\x1b[31m.wad",
     "g 😀.wad",
     "<b>&amp;'.wad",
 )
@@ -75,6 +76,33 @@ MISTAKEN = (
     "compare a.wad a.wad a.wad",
     "assemble a.wad",
     "look a.wad",
+    "check --ignore= a.wad",
+    "check --ignore F3 a.wad",
+    "check --ignore N0 a.wad",
+    "check --ignore N13 a.wad",
+    "check --ignore n2 a.wad",
+    "check --ignore N02 a.wad",
+    "check --ignore ,W7 a.wad",
+    "check --ignore N2,,W7 a.wad",
+    "check --ignore N2 --ignore W0 a.wad",
+    "check --ignore N2",
+    "check a.wad --ignore",
+    "survey --ignore W12 a.wad",
+    "survey --ignore N2, a.wad",
+    "survey --ignore N2,F18,W7 a.wad",
+    "demos --ignore N2 a.wad",
+    "picture --ignore N2 E1M1 a.wad",
+    "atlas --out atlas --ignore N2 a.wad",
+    "check --base a.wad a.wad",
+    "check --map --base a.wad",
+    "survey --base a.wad a.wad",
+    "survey --map a.wad --base",
+    "demos --base a.wad a.wad",
+    "picture --base a.wad E1M1 a.wad",
+    "atlas --out atlas --base a.wad a.wad",
+    "check --map a.wad" + 64 * " --base a.wad",
+    "survey --map" + 64 * " --base=a.wad" + " a.wad",
+    "atlas --out atlas --map" + 64 * " --base a.wad" + " a.wad",
 )
 """Words of `wadlens` that ask for nothing."""
 
@@ -108,9 +136,7 @@ def drafted(random: Random, most: int) -> make.Draft:
 
 def name_in(random: Random, lumps: make.Lumps) -> str:
     """A name to be asked for: mostly one that a label among lumps has."""
-    labels = [
-        name for (name, _), (after, _) in zip(lumps, lumps[1:]) if after == b"THINGS"
-    ]
+    labels = [name for (name, _), (after, _) in zip(lumps, lumps[1:]) if after == b"THINGS"]
     words = [name.decode() for name in labels if name.isascii() and b"\0" not in name]
     return random.choice(words if words and random.random() < 0.8 else OTHER_NAMES)
 
@@ -128,6 +154,15 @@ def of_level(random: Random) -> Case:
     return Case(files, [*runs, picture_run(random, draft, name, [path], files)])
 
 
+def games(random: Random) -> Files:
+    """Files with textures and flats, as those of games, a few of them damaged."""
+    found: Files = {}
+    for name in ("game.wad", "patch.wad"):
+        data = make.file(random, make.resources(random))
+        found[name] = harm.file(random, data) if random.random() < 0.2 else data
+    return found
+
+
 def of_oversights(random: Random) -> Case:
     """A level in which every reference holds, with a few oversights or none."""
     draft = make.neat(random)
@@ -136,11 +171,13 @@ def of_oversights(random: Random) -> Case:
     if random.random() < 0.2:
         harm.level(random, draft)
     path = random.choice(PATHS)
-    files: Files = {path: make.file(random, make.named(draft, b"E1M1"))}
-    runs = [
-        lens_run(random, command, [path], mapped=True)
-        for command in ("check", "survey")
-    ]
+    lumps = make.named(draft, b"E1M1")
+    if random.random() < 0.6:
+        lumps += make.resources(random)
+    files: Files = {path: make.file(random, lumps)} | games(random)
+    bases = [*files, FOLDER] if random.random() < 0.1 else [*files]
+    files |= {FOLDER: None} if FOLDER in bases else {}
+    runs = [lens_run(random, command, [path], mapped=True, bases=bases) for command in ("check", "survey") for _ in "ab"]
     return Case(files, [*runs, picture_run(random, draft, "E1M1", [path], files)])
 
 
@@ -239,10 +276,7 @@ def of_pairs(random: Random) -> Case:
 
 def listing_of(random: Random) -> bytes:
     """The listing of a demo, or a text that is almost one."""
-    data = make.demo(random)
-    if random.random() < 0.9:
-        data = bytes([109]) + data[1:]
-    demo = demos.read(data)
+    demo = demos.read(make.demo(random))
     told = [*demos.front_lines(demo), demos.last_line(demo)]
     text = "".join(line + "\n" for line in told).encode()
     for _ in range(random.choice((0, 1, 1, 1, 2))):
@@ -266,7 +300,7 @@ def of_words(random: Random) -> Case:
         words = words[: random.randrange(1, 5)]
         words += ["a.wad"] * random.choice((0, 0, 1, 63, 64))
         runs.append(Run("wadlook", words, b"0 0\n"))
-    mistaken = random.sample(MISTAKEN, 6)
+    mistaken = random.sample(MISTAKEN, 10)
     runs += [Run("wadlens", words.split()) for words in mistaken]
     odd = no_text(random)
     files[odd] = files["a.wad"]
@@ -311,9 +345,11 @@ def of_formats(random: Random) -> Case:
         own = make.named(draft, random.choice(LABELS))
         match random.randrange(8):
             case 0:
-                own[1:] = [(b"TEXTMAP", b"namespace"), (b"ENDMAP", b"")]
+                own[1:] = [(b"TEXTMAP", b"namespace"), (b"ZNODES", b"XGL3"), (b"ENDMAP", b"")]
+                del own[random.choice((2, 3, 4)) :]
             case 1:
-                own.append((b"BEHAVIOR", b""))
+                own += [(b"BEHAVIOR", b"ACS"), (b"SCRIPTS", b"script 1")]
+                del own[random.choice((12, 13)) :]
             case 2:
                 k = random.choice((6, 7))
                 own[k] = own[k][0], random.choice(harm.TAGS) + own[k][1]

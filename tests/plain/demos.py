@@ -139,34 +139,32 @@ def difference(a: Demo, b: Demo) -> str:
 
 NUMBER = "(0|[1-9][0-9]*)"
 SIGNED = "(0|-?[1-9][0-9]*)"
-HEADER_LINE = " ".join(
-    ["demo", *(f"{name} {NUMBER}" for name in FIELDS.split()), "players", *[NUMBER] * 4]
-)
+HEADER_LINE = " ".join(["demo", *(f"{name} {NUMBER}" for name in FIELDS.split()), "players", *[NUMBER] * 4])
 COMMAND_LINE = f"{NUMBER} {NUMBER} {SIGNED} {SIGNED} {NUMBER} ([0-9a-f]{{2}})"
 LAST_LINE = f"tics {NUMBER} odd {NUMBER} after {NUMBER}"
 MOST_AFTER = 2**64 - 1
 
 
 def header_in(line: str) -> bytes | None:
-    """The header of version 109 that a line of a listing tells."""
+    """The header that a line of a listing tells."""
     form = re.fullmatch(HEADER_LINE, line)
     numbers = [int(told) for told in form.groups()] if form else []
-    if not numbers or max(numbers) > 255 or numbers[0] != 109:
+    if not numbers or max(numbers) > 255 or numbers[0] not in VERSIONS:
         return None
     return bytes(numbers) if any(numbers[9:]) else None
 
 
-def command_in(line: str, turn: tuple[int, int]) -> bytes | None:
-    """The four bytes of the command that a line tells, whose turn has to be that."""
+def command_in(line: str, version: int, turn: tuple[int, int]) -> bytes | None:
+    """The bytes of the command of a version that a line tells, whose turn has to be that."""
     form = re.fullmatch(COMMAND_LINE, line)
     if form is None:
         return None
     tic, player, forward, side, angle = (int(told) for told in form.groups()[:5])
-    buttons = int(form[6], 16)
-    fits = -127 <= forward <= 127 and -128 <= side <= 127 and angle <= 255
+    buttons, width = int(form[6], 16), 2 if version == 111 else 1
+    fits = -127 <= forward <= 127 and -128 <= side <= 127 and angle < 256**width
     if (tic, player) != turn or not fits:
         return None
-    return bytes([forward % 256, side % 256, angle, buttons])
+    return bytes([forward % 256, side % 256, *angle.to_bytes(width, "little"), buttons])
 
 
 def is_last(line: str, demo: Demo) -> bool:
@@ -177,22 +175,44 @@ def is_last(line: str, demo: Demo) -> bool:
     return (tics, odd) == (demo.tics, demo.odd) and after <= MOST_AFTER
 
 
-def assembled(text: bytes) -> bytes | int:
-    """The demo of version 109 of which a text is the listing, without what came after its
-    marker; or the number of the first line with which the lines begin no listing."""
+class Wrong(NamedTuple):
+    """The number of the first line with which the lines begin no listing, and what is wanted
+    there."""
+
+    line: int
+    wanted: str
+
+
+def wanted(line: str, demo: Demo) -> str:
+    """What is wanted behind the lines of a header and of commands."""
+    if line.startswith("tics"):
+        return f"the totals are tics {demo.tics} odd {demo.odd} after 0"
+    tic, player = turn_of(demo, len(demo.commands))
+    return f"tic {tic} player {player} or the totals are wanted"
+
+
+def wrong(n: int, lines: list[str], rest: bytes, wanted: str) -> Wrong:
+    """The fault of a line: where it is the last and has no end, that goes first."""
+    unended = n == len(lines) + 1 and rest
+    return Wrong(n, "the last line has no end" if unended else wanted)
+
+
+def assembled(text: bytes) -> bytes | Wrong:
+    """The demo of which a text is the listing, without what came after its marker; or where
+    the text is none."""
     *parts, rest = text.split(b"\n")
     lines = [part.decode(errors="replace") for part in parts]
     header = header_in(lines[0]) if lines else None
     if header is None:
-        return 1
+        return wrong(1, lines, rest, "a demo's header is wanted")
     demo, data = Demo(header, [], 0, None), header
     for n, line in enumerate(lines[1:], 2):
         if is_last(line, demo):
             ended = n == len(lines) and not rest
-            return data + bytes([MARKER]) if ended else n + 1
-        told = command_in(line, turn_of(demo, len(demo.commands)))
+            return data + bytes([MARKER]) if ended else wrong(n + 1, lines, rest, "nothing more is wanted")
+        told = command_in(line, header[0], turn_of(demo, len(demo.commands)))
         if told is None:
-            return n
+            return wrong(n, lines, rest, wanted(line, demo))
         demo.commands.append(command(told))
         data += told
-    return len(lines) + 1
+    return wrong(len(lines) + 1, lines, rest, wanted("", demo))

@@ -1,7 +1,7 @@
 """What tests/fuzz runs: the built programs on cases that are made up from a seed, whose
 status, standard output, standard error and folders are compared with what a plain reading
 of the definitions gives. The last line is `N passed, M failed`. With --json first the cases
-are written down for the page's modules."""
+are written down for the page's module."""
 
 import os
 import shlex
@@ -20,10 +20,7 @@ from plain.wadlens import MISTAKEN
 
 ROOT = Path(__file__).resolve().parent.parent.parent
 CASES, SEED, MOST_TOLD, SECONDS = 800, 1, 20, 120
-PROGRAMS = {
-    name: os.environ.get(name.upper(), str(ROOT / f"crates/{name}/out/{name}"))
-    for name in ("wadlook", "wadlens")
-}
+PROGRAMS = {name: os.environ.get(name.upper(), str(ROOT / f"crates/{name}/out/{name}")) for name in ("wadlook", "wadlens")}
 
 
 def gathered(folder: Path) -> dict[str, bytes] | None:

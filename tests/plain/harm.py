@@ -58,9 +58,7 @@ def change_line(random: Random, draft: Draft) -> None:
 
 def lose_lines(random: Random, draft: Draft) -> None:
     """No linedef, or none that has both of its ends."""
-    draft.tables[LINEDEFS] = [
-        [*record[:1], -2, *record[2:]] for record in draft.tables[LINEDEFS]
-    ]
+    draft.tables[LINEDEFS] = [[*record[:1], -2, *record[2:]] for record in draft.tables[LINEDEFS]]
     if random.random() < 0.5:
         draft.tables[LINEDEFS].clear()
 
@@ -181,6 +179,13 @@ def lose_start(random: Random, draft: Draft) -> None:
         things.remove(start)
 
 
+def add_stranger(random: Random, draft: Draft) -> None:
+    """A thing of a kind at an end of the game's kinds, in some skills or in none."""
+    x, y = draft.tables[THINGS][-1][:2] if draft.tables[THINGS] else (0, 0)
+    edges = (4, 5, 10, 11, 12, 89, 90, 2009, 2016, 2018, 2021, 2027, 2034, 2050, 3000, 3006, 3007, 32000, 0, -1)
+    draft.tables[THINGS].insert(0, [x, y, 0, random.choice(edges), random.choice((7, 1, 2, 4, 8, 0, -8, -1))])
+
+
 OVERSIGHTS = (
     turn_line,
     strip_wall,
@@ -191,6 +196,7 @@ OVERSIGHTS = (
     turn_segs,
     lay_line,
     lose_start,
+    add_stranger,
 )
 
 
@@ -259,9 +265,7 @@ def file(random: Random, data: bytes) -> bytes:
     inside = len(data) - place
     edges = (-1, 0, 1, size, inside, inside + 1, 2147483647, -2147483648)
     if random.random() < 0.5:
-        place = random.choice(
-            (-1, 0, len(data), len(data) - size, len(data) - size + 1)
-        )
+        place = random.choice((-1, 0, len(data), len(data) - size, len(data) - size + 1))
     else:
         size = random.choice(edges)
     return data[:at] + entry(place, size, data[at + 8 : at + 16]) + data[at + 16 :]

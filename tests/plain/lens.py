@@ -1,19 +1,21 @@
 """What `wadlens` tells of files one after another, by docs/wadlens.1 and the definitions it
 stands on: check, survey, cut and demos."""
 
+import re
 from typing import NamedTuple
 
 from plain import demos
-from plain.levels import Level, LineDef, Seg, opening_fault
+from plain.levels import Level, LineDef, Seg
 from plain.look import Answer
 from plain.picture import CELLS, Frame
-from plain.warnings import Warned, warnings
+from plain.warnings import Warned, unlooked, warnings
 from plain.wads import (
     USUAL,
     Entry,
     Files,
     entries,
     is_text,
+    joined,
     lump,
     packed,
     refusal,
@@ -43,6 +45,9 @@ KIND_OF = {code: kind for kind, codes in KINDS.items() for code in codes}
 NODE_TAGS = (b"XNOD", b"ZNOD", b"xNd4\0\0\0\0")
 SSECTOR_TAGS = (b"XGLN", b"ZGLN", b"XGL2", b"ZGL2", b"XGL3", b"ZGL3")
 
+WANTS = {"W9": "TEXTURE1", "W10": "F_START"}
+"""What has to be in a file, or these warnings aren't looked for."""
+
 CLEAN, FAULTY, UNJUDGED = 0, 1, 2
 
 
@@ -51,9 +56,19 @@ def graver(a: int, b: int) -> int:
     return FAULTY if FAULTY in (a, b) else max(a, b)
 
 
+def shown_path(path: str) -> str:
+    """A path as lines show it: no control character of ISO 6429 stands as it is."""
+    told = re.sub(
+        rb"[\x00-\x1f\x7f]|\xc2[\x80-\x9f]",
+        lambda control: b"".join(b"\\x%02x" % byte for byte in control[0]),
+        path.encode(errors="surrogateescape"),
+    )
+    return told.decode(errors="surrogateescape")
+
+
 class Asked(NamedTuple):
     """What words ask for: the paths are those of the words, then those of a list. `lost` is
-    a list that can't be read."""
+    a list that can't be read, and `bases` are the files on which each file stands."""
 
     command: str
     paths: list[str]
@@ -63,6 +78,8 @@ class Asked(NamedTuple):
     entry: int = 0
     map: bool = False
     strict: bool = False
+    ignored: frozenset[str] = frozenset()
+    bases: tuple[str, ...] = ()
     lost: str = ""
     name: str = ""
     cells: int = CELLS
@@ -71,20 +88,22 @@ class Asked(NamedTuple):
 
 
 class Run:
-    """What is told, and what was found."""
+    """What is told, and what was found. The entries are those of the base files."""
 
-    def __init__(self) -> None:
+    def __init__(self, base: list[Entry] | None = None) -> None:
+        self.base = base or []
         self.out: list[str] = []
         self.errors: list[str] = []
         self.data = b""
         self.verdict = CLEAN
         self.levels = self.faults = self.notes = self.warnings = self.unjudged = 0
+        self.unlooked: set[str] = set()
 
     def finds(self, verdict: int) -> None:
         self.verdict = graver(self.verdict, verdict)
 
     def refuses(self, path: str, why: str, verdict: int = UNJUDGED) -> None:
-        self.errors.append(f"wadlens: {path}: {why}")
+        self.errors.append(f"wadlens: {shown_path(path)}: {why}")
         self.finds(verdict)
 
     def answer(self) -> Answer:
@@ -120,6 +139,13 @@ class Format(NamedTuple):
 
 def is_start(listed: list[Entry], g: int) -> bool:
     return g + 1 < len(listed) and listed[g + 1].name in (b"THINGS", b"TEXTMAP")
+
+
+def label_of(listed: list[Entry], g: int) -> str:
+    """A level's label, and its entry, where looking its name up gives another or none."""
+    name = listed[g].name
+    named = [h for h, entry in enumerate(listed) if entry.name == name.upper()]
+    return shown(name) + ("" if named[-1:] == [g] else f" (entry {g})")
 
 
 def format_of(listed: list[Entry], g: int) -> Format:
@@ -173,9 +199,7 @@ def child_words(level: Level, n: int) -> str:
 
 def segs_words(level: Level, t: int) -> str:
     count, first = level.ssectors[t]
-    return (
-        f"segs from {first}, {count} of them, aren't all there ({len(level.segs)} segs)"
-    )
+    return f"segs from {first}, {count} of them, aren't all there ({len(level.segs)} segs)"
 
 
 def seg_words(level: Level, code: str, i: int) -> str:
@@ -308,62 +332,156 @@ def index_words(level: Level, code: str, i: int) -> str:
 
 # ---- check ---------------------------------------------------------------------------
 
+TOLD = re.compile(r"([FNW]\d+) (\w+)(?: (\d+)| \((\d+), (\d+)\))?: (.*)")
+LEFT_OUT = re.compile(r"([FNW]\d+): (\d+) more")
+BETWEEN = re.compile(r", from \((-?\d+), (-?\d+)\) to \((-?\d+), (-?\d+)\)$")
+AT = re.compile(r", at \((-?\d+), (-?\d+)\)$")
+OF_LINEDEF = re.compile(r", of linedef (\d+)$")
 
-def check_warned(
-    run: Run, front: str, warned: dict[str, list[Warned]], most: int
-) -> None:
-    """The lines of a level's warnings."""
+
+def placed(text: str) -> tuple[str, dict[str, object]]:
+    """A message, and its place in numbers."""
+    if found := BETWEEN.search(text):
+        x0, y0, x1, y1 = map(int, found.groups())
+        return text[: found.start()], {"place": {"from": [x0, y0], "to": [x1, y1]}}
+    if found := AT.search(text):
+        return text[: found.start()], {"place": {"at": [int(n) for n in found.groups()]}}
+    if found := OF_LINEDEF.search(text):
+        return text[: found.start()], {"place": {"linedef": int(found[1])}}
+    return text, {}
+
+
+def as_members(line: str) -> dict[str, object]:
+    """What a line says behind the level's label, as members of an object."""
+    if found := LEFT_OUT.fullmatch(line):
+        return {"code": found[1], "more": int(found[2])}
+    if found := TOLD.fullmatch(line):
+        code, kind, index, column, row, text = found.groups()
+        members: dict[str, object] = {"code": code, "kind": kind}
+        if index is not None:
+            members["index"] = int(index)
+        if column is not None:
+            members["index"] = [int(column), int(row)]
+        told, where = placed(text)
+        return members | {"message": told} | where
+    return {"sound_with_wide": True}
+
+
+class Front(NamedTuple):
+    """What stands before all that is told of a level: its file, its label and its entry."""
+
+    path: str
+    label: str
+    name: str
+    entry: int
+    json: bool
+
+    def tell(self, run: Run, line: str) -> None:
+        if not self.json:
+            run.out.append(f"{shown_path(self.path)}: {self.label}: {line}")
+            return
+        members: dict[str, object] = {"file": self.path, "level": self.name}
+        run.out.append(written(members | {"entry": self.entry} | as_members(line)))
+
+
+def check_warned(run: Run, front: Front, warned: dict[str, list[Warned]], most: int) -> None:
+    """What is told of a level's warnings."""
     for code, all_told in warned.items():
         shown_count = len(all_told) if most == 0 else min(most, len(all_told))
         for one in all_told[:shown_count]:
-            run.out.append(f"{front}: {code} {one.index}: {one.message}{one.place}")
+            front.tell(run, f"{code} {one.index}: {one.message}{one.place}")
         if shown_count < len(all_told):
-            run.out.append(f"{front}: {code}: {len(all_told) - shown_count} more")
+            front.tell(run, f"{code}: {len(all_told) - shown_count} more")
 
 
-def check_level(run: Run, front: str, level: Level, most: int) -> None:
-    """The lines of a judged level's findings."""
-    for code, where in level.findings.items():
+def check_level(run: Run, front: Front, level: Level, found: dict[str, list[int]], most: int) -> None:
+    """What is told of a judged level's findings."""
+    for code, where in found.items():
         shown_count = len(where) if most == 0 else min(most, len(where))
         for i in where[:shown_count]:
             index, told = index_words(level, code, i), message(level, code, i)
-            run.out.append(f"{front}: {code} {index}: {told}{place(level, code, i)}")
+            front.tell(run, f"{code} {index}: {told}{place(level, code, i)}")
         if shown_count < len(where):
-            run.out.append(f"{front}: {code}: {len(where) - shown_count} more")
+            front.tell(run, f"{code}: {len(where) - shown_count} more")
 
 
-def warned_of(run: Run, asked: Asked, level: Level) -> dict[str, list[Warned]]:
-    """A level's warnings, where they are asked for, counted."""
-    warned = warnings(level) if asked.map else {}
-    count = sum(len(all_told) for all_told in warned.values())
-    run.warnings += count
-    run.finds(FAULTY if asked.strict and count else CLEAN)
-    return warned
+class Judged(NamedTuple):
+    """What of a level isn't ignored: where each code holds, its warnings, and the codes of those
+    that weren't looked for."""
+
+    findings: dict[str, list[int]]
+    warned: dict[str, list[Warned]]
+    unlooked: list[str]
+
+    @property
+    def notes(self) -> int:
+        return sum(len(where) for code, where in self.findings.items() if code[0] == "N")
+
+
+def judged(asked: Asked, level: Level, listed: list[Entry]) -> Judged:
+    """A level by what is asked. The entries are those of the files in which the game finds
+    textures and flats."""
+    findings = {code: where for code, where in level.findings.items() if code not in asked.ignored}
+    if not asked.map:
+        return Judged(findings, {}, [])
+    warned = {code: told for code, told in warnings(level, listed).items() if code not in asked.ignored}
+    return Judged(findings, warned, [code for code in unlooked(listed) if code not in asked.ignored])
+
+
+def judge(run: Run, asked: Asked, level: Level, listed: list[Entry]) -> Judged:
+    """A level of a file with these entries, by what is asked, counted."""
+    found = judged(asked, level, run.base + listed)
+    warned = sum(len(all_told) for all_told in found.warned.values())
+    run.faults += level.faults
+    run.notes += found.notes
+    run.warnings += warned
+    run.unlooked |= {*found.unlooked}
+    run.finds(FAULTY if level.faults or asked.strict and warned else CLEAN)
+    return found
 
 
 def check_file(run: Run, asked: Asked, path: str, listed: list[Entry]) -> None:
     for g in range(len(listed)):
         if not is_start(listed, g):
             continue
-        front = f"{path}: {shown(listed[g].name)}"
+        name = shown(listed[g].name)
+        front = Front(path, label_of(listed, g), name, g, asked.json)
         form = format_of(listed, g)
         run.levels += 1
         if form.name != "doom":
-            run.out.append(f"{front}: {form.words}")
+            if asked.json:
+                run.out.append(written(level_front(path, name, g, form)))
+            else:
+                front.tell(run, form.words)
             run.unjudged += 1
             run.finds(form.verdict)
             continue
         level = Level(listed, g, asked.wide)
-        check_level(run, front, level, asked.most)
-        check_warned(run, front, warned_of(run, asked, level), asked.most)
+        found = judge(run, asked, level, listed)
+        check_level(run, front, level, found.findings, asked.most)
+        check_warned(run, front, found.warned, asked.most)
         if level.faults and not Level(listed, g, True).faults:
-            run.out.append(f"{front}: sound with --wide")
-        run.faults += level.faults
-        run.notes += level.notes_found
-        run.finds(FAULTY if level.faults else CLEAN)
+            front.tell(run, "sound with --wide")
+
+
+def unlooked_codes(run: Run) -> list[str]:
+    """The codes for which one level at least wasn't looked at, in their order."""
+    return [code for code in WANTS if code in run.unlooked]
+
+
+def unlooked_line(codes: list[str]) -> str:
+    lacking = ", ".join(WANTS[code] for code in codes)
+    return f"wadlens: {', '.join(codes)} weren't looked for: no file has {lacking}; name the game's with --base"
 
 
 def totals(run: Run, asked: Asked, files: int) -> str:
+    if asked.json:
+        members: dict[str, object] = {"levels": run.levels, "files": files}
+        members |= {"faults": run.faults, "notes": run.notes}
+        members |= {"warnings": run.warnings} if asked.map else {}
+        members |= {"not_judged": run.unjudged}
+        codes = unlooked_codes(run)
+        return written(members | ({"unlooked": codes} if codes else {}))
     found = f"{run.faults} faults, {run.notes} notes, "
     found += f"{run.warnings} warnings, " if asked.map else ""
     found += f"{run.unjudged} not judged"
@@ -378,36 +496,48 @@ def string(text: str) -> str:
     stands as U+FFFD."""
     text = text.encode(errors="surrogateescape").decode(errors="replace")
     escaped = {'"': '\\"', "\\": "\\\\"}
-    told = [
-        f"\\u{ord(one):04x}" if ord(one) < 32 else escaped.get(one, one) for one in text
-    ]
+    told = [f"\\u{ord(one):04x}" if ord(one) < 32 else escaped.get(one, one) for one in text]
     return '"' + "".join(told) + '"'
+
+
+def value_text(value: object) -> str:
+    if isinstance(value, dict):
+        return written(value)
+    if isinstance(value, list):
+        return "[" + ",".join(map(value_text, value)) + "]"
+    if isinstance(value, bool):
+        return "true" if value else "false"
+    return string(value) if isinstance(value, str) else str(value)
 
 
 def written(members: dict[str, object]) -> str:
     """An object in one line without blanks."""
-    told = []
-    for name, value in members.items():
-        if isinstance(value, dict):
-            text = written(value)
-        elif isinstance(value, bool):
-            text = "true" if value else "false"
-        else:
-            text = string(value) if isinstance(value, str) else str(value)
-        told.append(f"{string(name)}:{text}")
-    return "{" + ",".join(told) + "}"
+    return "{" + ",".join(f"{string(name)}:{value_text(value)}" for name, value in members.items()) + "}"
 
 
-def level_members(level: Level) -> dict[str, object]:
-    members: dict[str, object] = {
-        name.decode().lower(): len(table) for name, table in zip(USUAL, level.tables)
-    }
+def level_members(level: Level, found: Judged) -> dict[str, object]:
+    members: dict[str, object] = {name.decode().lower(): len(table) for name, table in zip(USUAL, level.tables)}
     members["reject"] = len(level.reject)
     members["blockmap"] = len(level.blockmap)
     members["sound"] = level.faults == 0
     members["faults"] = level.faults
-    members["notes"] = level.notes_found
-    members["findings"] = {code: len(where) for code, where in level.findings.items()}
+    members["notes"] = found.notes
+    members["findings"] = {code: len(where) for code, where in found.findings.items()}
+    return members
+
+
+def warned_members(found: Judged) -> dict[str, object]:
+    """What stands behind these of a level where warnings are asked for."""
+    members: dict[str, object] = {"warnings": {code: len(told) for code, told in found.warned.items()}}
+    return members | ({"unlooked": found.unlooked} if found.unlooked else {})
+
+
+def level_front(path: str, name: str, g: int, form: Format) -> dict[str, object]:
+    """What the object of a level begins with, which is all of one that isn't judged."""
+    members: dict[str, object] = {"file": path, "level": name, "entry": g}
+    members["format"] = form.name
+    if form.told_by:
+        members["tag" if form.name == "extended" else "lump"] = form.told_by
     return members
 
 
@@ -416,19 +546,12 @@ def survey_file(run: Run, asked: Asked, path: str, listed: list[Entry]) -> None:
         if not is_start(listed, g):
             continue
         form = format_of(listed, g)
-        members: dict[str, object] = {"file": path, "level": shown(listed[g].name)}
-        members |= {"entry": g, "format": form.name}
+        members = level_front(path, shown(listed[g].name), g, form)
         if form.name == "doom":
             level = Level(listed, g, asked.wide)
-            members |= level_members(level)
-            warned = warned_of(run, asked, level)
-            if asked.map:
-                members["warnings"] = {code: len(told) for code, told in warned.items()}
-            run.finds(FAULTY if level.faults else CLEAN)
+            found = judge(run, asked, level, listed)
+            members |= level_members(level, found) | (warned_members(found) if asked.map else {})
         else:
-            if form.told_by:
-                kind = "tag" if form.name == "extended" else "lump"
-                members[kind] = form.told_by
             run.finds(form.verdict)
         run.out.append(written(members))
 
@@ -436,17 +559,37 @@ def survey_file(run: Run, asked: Asked, path: str, listed: list[Entry]) -> None:
 # ---- cut -----------------------------------------------------------------------------
 
 
+def belonging(listed: list[Entry], g: int, form: Format) -> int | None:
+    """How many entries behind a level's label belong to it; none without an ENDMAP."""
+    behind = [entry.name for entry in listed[g + 1 :]]
+    if form.name == "udmf":
+        return behind.index(b"ENDMAP", 1) + 1 if b"ENDMAP" in behind[1:] else None
+    if form.name == "hexen":
+        return 12 if behind[11:12] == [b"SCRIPTS"] else 11
+    return 10
+
+
 def cut(run: Run, asked: Asked, path: str, listed: list[Entry]) -> None:
     g = asked.entry
-    if g >= len(listed):
-        run.refuses(path, "no entry of this number")
-    elif fault := opening_fault(listed, g):
-        name = {"F1": "incomplete", "F2": "outside"}[fault[0]]
-        form = Format(name, USUAL[fault[1] - 1].decode())
-        run.refuses(path, form.words, form.verdict)
-    else:
-        level = Level(listed, g, False)
-        run.data = packed(list(zip(level.names, [b"", *level.lumps])))
+    if not is_start(listed, g):
+        run.refuses(path, f"no level starts at entry {g}")
+        return
+    form, front = format_of(listed, g), f"{path}: {label_of(listed, g)}"
+    if form.name == "incomplete":
+        run.refuses(front, form.words, form.verdict)
+        return
+    count = belonging(listed, g, form)
+    if count is None:
+        run.refuses(front, "udmf: no ENDMAP")
+        return
+    parts = [(listed[g].name, b"")]
+    for entry in listed[g + 1 : g + 1 + count]:
+        data = lump(entry)
+        if data is None:
+            run.refuses(front, f"outside: {shown(entry.name)}", FAULTY)
+            return
+        parts.append((entry.name, data))
+    run.data = packed(parts)
 
 
 # ---- demos ---------------------------------------------------------------------------
@@ -509,12 +652,17 @@ def demo_object(path: str, name: bytes | None, demo: demos.Demo) -> str:
     return written(members)
 
 
-def tell_demo(
-    run: Run, asked: Asked, path: str, name: bytes | None, data: bytes
-) -> None:
-    front = path if name is None else f"{path}: {shown(name)}"
+def refuse_demo(run: Run, asked: Asked, path: str, name: bytes | None, why: str) -> None:
+    run.refuses(path if name is None else f"{path}: {shown(name)}", why)
+    if asked.json:
+        lump_member = {} if name is None else {"lump": shown(name)}
+        run.out.append(written({"file": path, **lump_member, "refused": why}))
+
+
+def tell_demo(run: Run, asked: Asked, path: str, name: bytes | None, data: bytes) -> None:
+    front = shown_path(path) if name is None else f"{shown_path(path)}: {shown(name)}"
     if why := refusal_of(data):
-        run.refuses(front, why)
+        refuse_demo(run, asked, path, name, why)
     elif asked.json:
         run.out.append(demo_object(path, name, demos.read(data)))
     else:
@@ -527,7 +675,7 @@ def tell_demos(run: Run, asked: Asked, path: str, listed: list[Entry]) -> None:
             continue
         data = lump(entry)
         if data is None:
-            run.refuses(f"{path}: {shown(entry.name)}", "outside its file")
+            refuse_demo(run, asked, path, entry.name, "outside its file")
         else:
             tell_demo(run, asked, path, entry.name, data)
 
@@ -544,7 +692,7 @@ TELLS = {
 
 def refuse_file(run: Run, asked: Asked, path: str, why: str) -> None:
     run.refuses(path, why)
-    if asked.command == "survey":
+    if asked.command == "survey" or (asked.command in ("check", "demos") and asked.json):
         run.out.append(written({"file": path, "refused": why}))
 
 
@@ -556,19 +704,30 @@ def unread(path: str, held: Files) -> str:
     return "can't be read" if held[path] is None else ""
 
 
+def untaken(path: str, held: Files) -> str:
+    """Why what is held under a path isn't taken as a WAD file; nothing where it is."""
+    return unread(path, held) or FILE_REFUSALS.get(refusal(held[path] or b""), "")
+
+
+def base_of(asked: Asked, held: Files) -> list[Entry]:
+    """The entries of the base files, all of which are taken."""
+    return joined([held[path] or b"" for path in asked.bases])
+
+
 def run(asked: Asked, held: Files) -> Answer:
     """What is told of files by their paths, one after another."""
-    told = Run()
+    told = Run(base_of(asked, held))
     for path in asked.paths:
         file = held.get(path) or b""
-        if why := unread(path, held):
+        is_demo = asked.command == "demos" and file[:4] not in (b"IWAD", b"PWAD")
+        why = unread(path, held) if is_demo else untaken(path, held)
+        if why:
             refuse_file(told, asked, path, why)
-        elif asked.command == "demos" and file[:4] not in (b"IWAD", b"PWAD"):
+        elif is_demo:
             tell_demo(told, asked, path, None, file)
-        elif number := refusal(file):
-            refuse_file(told, asked, path, FILE_REFUSALS[number])
         else:
             TELLS[asked.command](told, asked, path, entries(file))
     if asked.command == "check":
         told.out.append(totals(told, asked, len(asked.paths)))
+        told.errors += [unlooked_line(codes)] if (codes := unlooked_codes(told)) else []
     return told.answer()

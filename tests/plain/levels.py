@@ -153,14 +153,8 @@ class Level:
         self.none = 65535 if wide else -1
         self.names = [entry.name for entry in listed[label : label + 11]]
         self.lumps = [lump(entry) or b"" for entry in listed[label + 1 : label + 11]]
-        self.tables = [
-            records(data, form, layout, wide)
-            for data, (form, layout) in zip(self.lumps, LAYOUTS)
-        ]
-        self.rests = [
-            len(data) % size_of(layout)
-            for data, (_, layout) in zip(self.lumps, LAYOUTS)
-        ]
+        self.tables = [records(data, form, layout, wide) for data, (form, layout) in zip(self.lumps, LAYOUTS)]
+        self.rests = [len(data) % size_of(layout) for data, (_, layout) in zip(self.lumps, LAYOUTS)]
         self.things: list[Thing] = self.tables[0]
         self.linedefs: list[LineDef] = self.tables[1]
         self.sidedefs: list[SideDef] = self.tables[2]
@@ -195,11 +189,7 @@ class Level:
         return (linedef.side0, linedef.side1)[seg.side]
 
     def lacks_segs(self, ssector: SSector) -> bool:
-        return (
-            ssector.count < 0
-            or not names(self.segs, ssector.first)
-            or ssector.first + ssector.count > len(self.segs)
-        )
+        return ssector.count < 0 or not names(self.segs, ssector.first) or ssector.first + ssector.count > len(self.segs)
 
     def sector_of(self, ssector: int) -> int:
         """The sector of an ssector, in a level whose links hold."""
@@ -291,39 +281,24 @@ class Level:
 
     @property
     def faults(self) -> int:
-        return sum(
-            len(where) for code, where in self.findings.items() if code[0] == "F"
-        )
+        return sum(len(where) for code, where in self.findings.items() if code[0] == "F")
 
     @property
     def notes_found(self) -> int:
-        return sum(
-            len(where) for code, where in self.findings.items() if code[0] == "N"
-        )
+        return sum(len(where) for code, where in self.findings.items() if code[0] == "N")
 
     def link_faults(self) -> dict[str, list[int]]:
         linedefs = list(enumerate(self.linedefs))
         segs = list(enumerate(self.segs))
         return {
             "F3": [i for i, linedef in linedefs if self.lacks_vertex(linedef)],
-            "F4": [
-                i
-                for i, linedef in linedefs
-                if self.lacks_sidedef(linedef.side0)
-                or self.lacks_sidedef(linedef.side1)
-            ],
-            "F5": [
-                i
-                for i, sidedef in enumerate(self.sidedefs)
-                if not names(self.sectors, sidedef.sector)
-            ],
+            "F4": [i for i, linedef in linedefs if self.lacks_sidedef(linedef.side0) or self.lacks_sidedef(linedef.side1)],
+            "F5": [i for i, sidedef in enumerate(self.sidedefs) if not names(self.sectors, sidedef.sector)],
             "F6": [i for i, seg in segs if self.lacks_vertex(seg)],
             "F7": [i for i, seg in segs if not names(self.linedefs, seg.linedef)],
             "F8": [i for i, seg in segs if seg.side not in (0, 1)],
             "F9": [i for i, seg in segs if self.side_of(seg) == self.none],
-            "F10": [
-                i for i, ssector in enumerate(self.ssectors) if self.lacks_segs(ssector)
-            ],
+            "F10": [i for i, ssector in enumerate(self.ssectors) if self.lacks_segs(ssector)],
             "F17": [] if self.ssectors else [0],
             "F18": [0] if len(self.nodes) > MOST_NODES else [],
         }
@@ -331,22 +306,9 @@ class Level:
     def tree_faults(self) -> dict[str, list[int]]:
         nodes, ssectors = range(len(self.nodes)), range(len(self.ssectors))
         return {
-            "F11": [
-                n
-                for n in nodes
-                if (n, 0) not in self.children or (n, 1) not in self.children
-            ],
-            "F12": [
-                n
-                for n, node in enumerate(self.nodes)
-                if not is_in_range(node.x, node.y)
-            ],
-            "F13": [
-                n
-                for n in nodes
-                if self.named.get(("node", n), 0)
-                > (0 if ("node", n) == self.root else 1)
-            ],
+            "F11": [n for n in nodes if (n, 0) not in self.children or (n, 1) not in self.children],
+            "F12": [n for n, node in enumerate(self.nodes) if not is_in_range(node.x, node.y)],
+            "F13": [n for n in nodes if self.named.get(("node", n), 0) > (0 if ("node", n) == self.root else 1)],
             "F14": [n for n in nodes if ("node", n) not in self.reached],
             "F15": [t for t in ssectors if self.named.get(("ssector", t), 0) > 1],
             "F16": [t for t in ssectors if ("ssector", t) not in self.reached],
@@ -360,11 +322,7 @@ class Level:
         return {
             "N1": [k for k in range(1, 11) if self.names[k] != USUAL[k - 1]],
             "N2": [k for k, rest in enumerate(self.rests, 1) if rest > 0],
-            "N3": [
-                i
-                for i, linedef in linedefs
-                if linedef.flags & 4 and linedef.side1 == self.none
-            ],
+            "N3": [i for i, linedef in linedefs if linedef.flags & 4 and linedef.side1 == self.none],
             "N4": [i for i, linedef in linedefs if linedef.side0 == self.none],
             "N5": [i for i, linedef in linedefs if self.has_no_length(linedef)],
             "N6": [i for i, ssector in enumerate(self.ssectors) if ssector.count == 0],
@@ -373,11 +331,7 @@ class Level:
             "N9": [] if has_blocks and not short else [0],
             "N10": [b for b in range(lists) if isinstance(self.block_list(b), int)],
             "N11": [] if any(thing.kind == 1 for thing in self.things) else [0],
-            "N12": [
-                i
-                for i, vertex in enumerate(self.vertexes)
-                if not is_in_range(vertex.x, vertex.y)
-            ],
+            "N12": [i for i, vertex in enumerate(self.vertexes) if not is_in_range(vertex.x, vertex.y)],
         }
 
     # ---- Points --------------------------------------------------------------------
@@ -386,19 +340,11 @@ class Level:
     def sides_above(self) -> dict[int, list[tuple[int, int]]]:
         """For each ssector that the root leads to the nodes and sides that lead to it."""
         below = {word: self.led_to(place) for word, place in self.children.items()}
-        return {
-            t: [word for word, led in below.items() if ("ssector", t) in led]
-            for kind, t in self.reached
-            if kind == "ssector"
-        }
+        return {t: [word for word, led in below.items() if ("ssector", t) in led] for kind, t in self.reached if kind == "ssector"}
 
     def leaf(self, x: int, y: int) -> int:
         """The one ssector on whose side of every node above it the point lies."""
-        leaves = [
-            t
-            for t, above in self.sides_above.items()
-            if all(side(self.nodes[n], x, y) == s for n, s in above)
-        ]
+        leaves = [t for t, above in self.sides_above.items() if all(side(self.nodes[n], x, y) == s for n, s in above)]
         (only,) = leaves
         return only
 

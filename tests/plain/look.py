@@ -234,11 +234,7 @@ def census_answer(level: Level, x0: int, y0: int, x1: int, y1: int) -> str | Non
     points = (x1 - x0 + 1) * (y1 - y0 + 1)
     if points > MOST_POINTS:
         return None
-    found = [
-        level.sector_of(level.leaf(x, y))
-        for x in range(x0, x1 + 1)
-        for y in range(y0, y1 + 1)
-    ]
+    found = [level.sector_of(level.leaf(x, y)) for x in range(x0, x1 + 1) for y in range(y0, y1 + 1)]
     pairs = [f" {sector}:{found.count(sector)}" for sector in sorted(set(found))]
     return f"points {points}{''.join(pairs)}"
 

@@ -176,9 +176,7 @@ class Builder:
         for i, (v1, v2, *_) in enumerate(self.draft.tables[LINEDEFS]):
             over, under, west, east = box([tuple(places[v]) for v in (v1, v2)])
             for row in range((under - y) // 128, min((over - y) // 128 + 1, height)):
-                for column in range(
-                    (west - x) // 128, min((east - x) // 128 + 1, width)
-                ):
+                for column in range((west - x) // 128, min((east - x) // 128 + 1, width)):
                     lists[row * width + column].append(i)
         self.draft.words = [x, y, width, height]
         at = 4 + len(lists)
@@ -226,10 +224,7 @@ def tangle(random: Random, draft: Draft) -> None:
     """Nodes that lead anywhere."""
     count = random.randrange(1, 9)
     words = [*range(count), *range(32768, 32768 + len(draft.tables[SSECTORS]))]
-    draft.tables[NODES] = [
-        [0, 0, 0, 64, *[0] * 8, random.choice(words), random.choice(words)]
-        for _ in range(count)
-    ]
+    draft.tables[NODES] = [[0, 0, 0, 64, *[0] * 8, random.choice(words), random.choice(words)] for _ in range(count)]
 
 
 def enlarge(random: Random, draft: Draft) -> None:
@@ -254,9 +249,7 @@ def enlarge(random: Random, draft: Draft) -> None:
                 record[field] += before if record[field] != -1 else 0
     head = 4 + draft.words[2] * draft.words[3]
     if table == LINEDEFS:
-        draft.words[head:] = [
-            value if value == -1 else value + before for value in draft.words[head:]
-        ]
+        draft.words[head:] = [value if value == -1 else value + before for value in draft.words[head:]]
     if random.random() < 0.5:
         offsets = [value + before for value in draft.words[4:head]]
         draft.words[4:] = [*offsets, *[0] * before, *draft.words[head:]]
@@ -328,6 +321,30 @@ def file(random: Random, lumps: Lumps) -> bytes:
     start = 12 if directory_first else at + len(body)
     head = kind + len(lumps).to_bytes(4, "little") + start.to_bytes(4, "little")
     return head + (table + body if directory_first else body + table)
+
+
+def textures(random: Random, listed: list[bytes]) -> bytes:
+    """A lump that lists textures, at times with another count or an offset that leads out of it."""
+    count = random.choice((len(listed), len(listed), len(listed) - 1, 2**31 - 1, -1))
+    places = [4 + 4 * len(listed) + 8 * k for k in range(len(listed))]
+    if listed and random.random() < 0.3:
+        places[random.randrange(len(places))] += random.choice((1, 4, 8, -8, 2**30, -(2**31)))
+    places = [place if -(2**31) <= place < 2**31 else 0 for place in places]
+    words = b"".join((value & 0xFFFFFFFF).to_bytes(4, "little") for value in (count, *places))
+    return words + b"".join(name[:8].ljust(8, b"\0") for name in listed)
+
+
+def resources(random: Random) -> Lumps:
+    """Lumps of textures, and entries of flats, some of those that levels name, at times in small letters."""
+    found: Lumps = []
+    for name in (b"TEXTURE1", b"TEXTURE2"):
+        if random.random() < 0.8:
+            listed = [wall.lower() if random.random() < 0.2 else wall for wall in WALLS if random.random() < 0.8]
+            found.append((name, textures(random, listed)))
+    if random.random() < 0.8:
+        flats = [flat.lower() if random.random() < 0.1 else flat for flat in FLATS if random.random() < 0.8]
+        found += [(b"F_START", b""), *((flat, b"") for flat in flats), (b"F_END", b"")]
+    return found
 
 
 def named(draft: Draft, label: bytes) -> Lumps:

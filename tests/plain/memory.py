@@ -1,6 +1,6 @@
-"""Seeded cases as the page's modules take them, over memory: of each case the runs whose
-files are bytes under paths that are text, without a list or a folder, in the page's words;
-and pictures of the first level of a file. Each with what the plain reading gives."""
+"""Seeded cases as the page's module takes them, over memory: of each case the runs whose
+files are bytes under paths that are text, without a list or a folder; and pictures of the
+first level of a file. Each with what the plain reading gives."""
 
 import json
 from base64 import b64encode
@@ -17,7 +17,7 @@ from plain.wads import Files, entries, is_text, joined, packed, refusal, winner
 
 LENS_COMMANDS = ("check", "survey", "demos", "cut")
 MISTAKEN = Answer(2, b"", b"usage")
-"""What words that are mistaken give: the command line's own text is the program's."""
+"""What a mistaken question gives: the command line's own text is the program's."""
 NOT_DRAWN = Answer(2)
 
 
@@ -56,7 +56,7 @@ def of_look(run: Run, held: Files) -> Iterator[Asked]:
 
 
 def lens_words(asked: lens.Asked) -> list[str]:
-    """What is asked in the one order in which the page asks it."""
+    """What is asked in one order, with each option once."""
     flags = {"--wide": asked.wide, "--map": asked.map, "--strict": asked.strict}
     flags["--json"] = asked.json
     words = [asked.command, *(name for name, is_set in flags.items() if is_set)]
@@ -68,29 +68,35 @@ def lens_words(asked: lens.Asked) -> list[str]:
 
 
 def of_lens(asked: lens.Asked, held: Files) -> Iterator[Asked]:
-    """What is asked of those of its files that have bytes, the listed ones among them."""
+    """What is asked of those of its files that have bytes, the listed ones among them. The
+    page asks for no check in objects, ignores no code and has no base files."""
+    if asked.command == "check" and asked.json:
+        return
     there = [path for path in asked.paths if bytes_under(path, held) is not None]
     if there and not asked.lost:
-        asked = asked._replace(paths=there)
+        asked = asked._replace(paths=there, ignored=frozenset(), bases=())
         files = [held[path] or b"" for path in there]
         yield Asked(lens_words(asked), files, b"", lens.run(asked, held))
 
 
 def is_question(words: list[str]) -> bool:
-    """Words of a picture whose numbers are there, in or out of their bounds."""
+    """Words whose question the page can ask: a picture whose numbers are there, in or out
+    of their bounds, and else so many files."""
     command, option, numbers = (*words, "", "", "")[:3]
-    commas = {"--cells": 0, "--frame": 3}.get(option)
-    return command == "picture" and numbers.count(",") == commas
+    match command:
+        case "picture":
+            return numbers.count(",") == {"--cells": 0, "--frame": 3}.get(option)
+        case "cut":
+            return option == "--entry" and numbers.isdecimal()
+        case _:
+            return words == [command] and command in LENS_COMMANDS
 
 
 def of_mistaken(run: Run, held: Files) -> Iterator[Asked]:
     files = [held[word] or b"" for word in run.words if word in held]
-    if not all(is_text(word) for word in run.words):
-        return
-    if run.words[0] in LENS_COMMANDS:
-        yield Asked(run.words, files, b"", MISTAKEN)
-    elif is_question(run.words):
-        yield Asked(run.words, files, b"", NOT_DRAWN)
+    if all(is_text(word) for word in run.words) and is_question(run.words):
+        ended = NOT_DRAWN if run.words[0] == "picture" else MISTAKEN
+        yield Asked(run.words, files, b"", ended)
 
 
 # ---- Pictures ------------------------------------------------------------------------

@@ -138,9 +138,7 @@ def row_events(row: Row) -> list[str]:
     return [*events, *level_events(row.level, row.warned or {})]
 
 
-def wanted(
-    rows: list[Row], refused: list[tuple[str, str]], files: int, mapped: bool
-) -> bytes:
+def wanted(rows: list[Row], refused: list[tuple[str, str]], files: int, mapped: bool) -> bytes:
     """The events of the page of so many files, with warnings if these are asked for: those
     with a fault first."""
     title = f"Atlas: {len(rows)} levels in {files} files"

@@ -127,10 +127,7 @@ def grey(light: int) -> str:
 
 
 def sector_line(index: int, sector: Sector, blocks: list[Block]) -> str:
-    paths = [
-        f"M{block.column} {block.row}h{block.width}v{block.height}h-{block.width}z"
-        for block in blocks
-    ]
+    paths = [f"M{block.column} {block.row}h{block.width}v{block.height}h-{block.width}z" for block in blocks]
     cells = sum(block.width * block.height for block in blocks)
     floor, ceiling = (
         f"{height} {escaped(shown(flat))}"
@@ -167,8 +164,7 @@ def line_lines(level: Level) -> list[str]:
     two = [linedef for linedef in level.linedefs if linedef.side1 != level.none]
     others = [linedef for linedef in level.linedefs if linedef.side1 == level.none]
     return [
-        f'<path class="{name}" d="{"".join(path(level, one) for one in drawn)}"/>'
-        for name, drawn in (("t", two), ("w", others))
+        f'<path class="{name}" d="{"".join(path(level, one) for one in drawn)}"/>' for name, drawn in (("t", two), ("w", others))
     ]
 
 
@@ -184,9 +180,7 @@ def mark_lines(level: Level) -> list[str]:
                 way = path(level, level.segs[i])
             if way:
                 title = escaped(f"{code} {i} {TEXTS[code]}")
-                lines.append(
-                    f'<path class="f" d="{way}"><title>{title}</title></path>'
-                )
+                lines.append(f'<path class="f" d="{way}"><title>{title}</title></path>')
     return lines
 
 
@@ -209,8 +203,7 @@ def picture(level: Level, cells: int, frame: Frame | None) -> list[str] | None:
     ground = f'x="{left}" y="{top}" width="{width}" height="{height}"'
     matrix = f"matrix({size} 0 0 {-size} {frame.x0} {-frame.y0})"
     return [
-        '<svg xmlns="http://www.w3.org/2000/svg"'
-        f' viewBox="{left} {top} {width} {height}">',
+        '<svg xmlns="http://www.w3.org/2000/svg"' f' viewBox="{left} {top} {width} {height}">',
         f"<title>{label}: {found}</title>",
         f"<style>{STYLE}</style>",
         f'<rect {ground} fill="#14161a"/>',

@@ -11,6 +11,9 @@ CELLS = 40
 """So many cells along a side at most: a plain reading of more takes long."""
 CELL_COUNTS = (1, 2, 7, 16, 32, CELLS)
 MISSING = "missing.wad"
+CODES = [*(f"N{n}" for n in range(1, 13)), *(f"W{n}" for n in range(1, 12))]
+"""The codes that can be ignored."""
+MOST_BASES = 63
 FOLDERS = {
     "atlas": [],
     "empty": ["empty"],
@@ -99,9 +102,7 @@ def sector_lines(random: Random, draft: make.Draft) -> list[str]:
 # ---- Runs ----------------------------------------------------------------------------
 
 
-def look_runs(
-    random: Random, draft: make.Draft, name: str, paths: list[str]
-) -> list[Run]:
+def look_runs(random: Random, draft: make.Draft, name: str, paths: list[str]) -> list[Run]:
     """One command of each that opens a level, some under the wide reading."""
     inputs = {
         "points": given(random, point_lines(random, draft)),
@@ -126,26 +127,46 @@ def mixed(random: Random, paths: list[str], options: list[str]) -> list[str]:
     return [*paths[:at], *options, *paths[at:]]
 
 
-def number_words(random: Random, option: str, value: int) -> list[str]:
+def value_words(random: Random, option: str, value: int | str) -> list[str]:
     return random.choice(([option, str(value)], [f"{option}={value}"]))
 
 
-def flags(
-    random: Random, command: str, mapped: bool
-) -> tuple[list[str], lens.Asked]:
+def ignored_codes(random: Random) -> tuple[list[str], frozenset[str]]:
+    """Options that ignore codes, one code in several of them at times, and these codes."""
+    told = [random.choices(CODES, k=random.choice((1, 2, 4, 12))) for _ in range(random.choice((1, 1, 2, 3)))]
+    words = [word for codes in told for word in value_words(random, "--ignore", ",".join(codes))]
+    return words, frozenset(code for codes in told for code in codes)
+
+
+def base_files(random: Random, paths: list[str]) -> tuple[list[str], tuple[str, ...]]:
+    """Options that name base files, some of these paths, and these."""
+    count = MOST_BASES if random.random() < 0.03 else random.choice((1, 1, 2, 3))
+    bases = random.choices(paths, k=count)
+    if random.random() < 0.1:
+        bases[random.randrange(count)] = MISSING
+    return [word for path in bases for word in value_words(random, "--base", path)], tuple(bases)
+
+
+def flags(random: Random, command: str, mapped: bool, bases: list[str]) -> tuple[list[str], lens.Asked]:
     """Options of what goes over files one after another, and what they ask for."""
     judges = command in ("check", "survey", "atlas")
     wide = judges and random.random() < 0.3
     with_map = judges and (mapped or random.random() < 0.4)
     strict = with_map and random.random() < 0.5
-    json = command == "demos" and random.random() < 0.5
+    json = command in ("check", "demos") and random.random() < 0.5
     most = random.choice((0, 1, 2, 3, 20)) if command == "check" else 20
     asked = lens.Asked(command, [], wide, most, json, map=with_map, strict=strict)
     named = {"--wide": wide, "--map": with_map, "--strict": strict, "--json": json}
     options = [name for name, is_set in named.items() if is_set]
     random.shuffle(options)
     if command == "check" and (most != 20 or random.random() < 0.3):
-        options += number_words(random, "--max", most)
+        options += value_words(random, "--max", most)
+    if command in ("check", "survey") and random.random() < 0.3:
+        words, ignored = ignored_codes(random)
+        options, asked = options + words, asked._replace(ignored=ignored)
+    if with_map and bases and random.random() < 0.5:
+        words, named = base_files(random, bases)
+        options, asked = words + options, asked._replace(bases=named)
     return options, asked
 
 
@@ -169,9 +190,11 @@ def lens_run(
     paths: list[str],
     more: tuple[str, ...] = (),
     mapped: bool = False,
+    bases: list[str] | None = None,
 ) -> Run:
-    """A command over files one after another, with more words among its own."""
-    options, asked = flags(random, command, mapped)
+    """A command over files one after another, with more words among its own. The base files are
+    some of these, or of the files."""
+    options, asked = flags(random, command, mapped, paths if bases is None else bases)
     options += more
     own, listed, data = paths, [], b""
     chance = random.random()
@@ -231,9 +254,7 @@ def frame_in(random: Random, draft: make.Draft) -> picture.Frame:
     return picture.Frame(x0, y0, x0 + width, y0 + height)
 
 
-def picture_run(
-    random: Random, draft: make.Draft, name: str, paths: list[str], files: Files
-) -> Run:
+def picture_run(random: Random, draft: make.Draft, name: str, paths: list[str], files: Files) -> Run:
     wide, framed = random.random() < 0.2, random.random() < 0.4
     frame = frame_in(random, draft) if framed else None
     side = longest(files)
@@ -242,7 +263,7 @@ def picture_run(
     cells = cell_count(random, side)
     options = ["--wide"] if wide else []
     if cells is not None:
-        options += number_words(random, "--cells", cells)
+        options += value_words(random, "--cells", cells)
     if frame is not None:
         told = ",".join(str(bound) for bound in frame)
         options += random.choice((["--frame", told], [f"--frame={told}"]))
@@ -260,7 +281,7 @@ def atlas_run(random: Random, paths: list[str], files: Files) -> Run:
     cells = cell_count(random, longest(files))
     more = random.choice((["--out", folder], [f"--out={folder}"]))
     if cells is not None:
-        more += number_words(random, "--cells", cells)
+        more += value_words(random, "--cells", cells)
     run = lens_run(random, "atlas", paths, tuple(more))
     assert run.asked is not None
     cells = cells or picture.CELLS

@@ -9,11 +9,14 @@ from plain.levels import Level
 from plain.look import Answer
 from plain.picture import picture
 from plain.wads import Entry, Files, entries, joined, refusal, shown, winner
-from plain.warnings import warnings
 
 MISTAKEN = Answer(2, b"", b"the usage\n")
 """What words that are mistaken give, whatever the message before the usage says."""
-NO_TEXT = Answer(2, b"", b"wadlens: a word isn't UTF-8\n")
+NO_TEXT = Answer(
+    2,
+    b"",
+    b"wadlens: a word isn't UTF-8, so the whole run is refused: hand such a file over as /dev/stdin <FILE\n",
+)
 """What words give of which one isn't UTF-8."""
 
 
@@ -76,8 +79,8 @@ def compare(run: Run, asked: Asked, held: Files) -> None:
 
 def assemble(run: Run, given: bytes) -> None:
     made = demos.assembled(given)
-    if isinstance(made, int):
-        run.refuses("standard input", f"line {made} is no line of a listing")
+    if isinstance(made, demos.Wrong):
+        run.refuses("standard input", f"line {made.line} is no line of a listing: {made.wanted}")
     else:
         run.data = made
 
@@ -106,10 +109,8 @@ def folder_refusal(folder: str, held: Files) -> str:
     return "it isn't empty" if inside else ""
 
 
-def file_rows(
-    asked: Asked, n: int, listed: list[Entry], made: dict[str, bytes]
-) -> list[page.Row]:
-    """The rows of a file's levels; their pictures are made."""
+def file_rows(asked: Asked, n: int, base: list[Entry], listed: list[Entry], made: dict[str, bytes]) -> list[page.Row]:
+    """The rows of a file's levels, over the entries of the base files; their pictures are made."""
     rows = []
     for g in range(len(listed)):
         if not lens.is_start(listed, g):
@@ -118,7 +119,7 @@ def file_rows(
         row = page.Row(asked.paths[n - 1], g, name, form)
         if form.name == "doom":
             level = Level(listed, g, asked.wide)
-            warned = warnings(level) if asked.map else {}
+            warned = lens.judged(asked, level, base + listed).warned
             counts = {code: len(all_told) for code, all_told in warned.items()}
             row = row._replace(level=level, warned=counts)
             if drawn := picture(level, asked.cells, None):
@@ -128,23 +129,17 @@ def file_rows(
     return rows
 
 
-def atlas(run: Run, asked: Asked, held: Files) -> Answer:
+def atlas(asked: Asked, held: Files) -> Answer:
     """The survey, and a folder with it, the pictures and the events of the page."""
-    if why := folder_refusal(asked.folder, held):
-        run.refuses(asked.folder, why)
-        return run.answer()._replace(folder=contents(asked.folder, held))
     survey = lens.run(asked._replace(command="survey"), held)
     made = {"survey.jsonl": survey.out}
     rows: list[page.Row] = []
     refused = []
     for n, path in enumerate(asked.paths, 1):
-        file = held.get(path) or b""
-        if why := lens.unread(path, held):
+        if why := lens.untaken(path, held):
             refused.append((path, why))
-        elif number := refusal(file):
-            refused.append((path, lens.FILE_REFUSALS[number]))
         else:
-            rows += file_rows(asked, n, entries(file), made)
+            rows += file_rows(asked, n, lens.base_of(asked, held), entries(held[path] or b""), made)
     made["index.html"] = page.wanted(rows, refused, len(asked.paths), asked.map)
     return Answer(survey.status, b"", survey.error, made)
 
@@ -152,11 +147,27 @@ def atlas(run: Run, asked: Asked, held: Files) -> Answer:
 # ---- The program ---------------------------------------------------------------------
 
 
+def refused_first(asked: Asked, held: Files) -> tuple[str, str] | None:
+    """What ends a run before any file is read, and why: a list, then an atlas' folder, then base
+    files, each of which is read and judged before the next."""
+    looked_at = [(asked.lost, lens.unread(asked.lost, held))] if asked.lost else []
+    looked_at += [(asked.folder, folder_refusal(asked.folder, held))] if asked.command == "atlas" else []
+    looked_at += [(path, lens.untaken(path, held)) for path in asked.bases]
+    return next(((path, why) for path, why in looked_at if why), None)
+
+
+def left_folder(asked: Asked, held: Files) -> dict[str, bytes] | None:
+    """The folder of a run that ended before any file was read: one that is taken is made before the base files are read."""
+    unread = asked.lost and lens.unread(asked.lost, held)
+    taken = asked.command == "atlas" and not unread and not folder_refusal(asked.folder, held)
+    return {} if taken else contents(asked.folder, held)
+
+
 def run(asked: Asked, held: Files, given: bytes) -> Answer:
     told = Run()
-    if asked.lost:
-        told.refuses(asked.lost, lens.unread(asked.lost, held))
-        return told.answer()._replace(folder=contents(asked.folder, held))
+    if first := refused_first(asked, held):
+        told.refuses(*first)
+        return told.answer()._replace(folder=left_folder(asked, held))
     match asked.command:
         case "picture":
             listed = read_set(told, asked, held)
@@ -167,7 +178,7 @@ def run(asked: Asked, held: Files, given: bytes) -> Answer:
         case "assemble":
             assemble(told, given)
         case "atlas":
-            return atlas(told, asked, held)
+            return atlas(asked, held)
         case _:
             return lens.run(asked, held)
     return told.answer()

@@ -53,10 +53,7 @@ def query(asked: bytes) -> bytes:
 
 def shown(name: bytes) -> str:
     """Visible ASCII but the backslash as it is, other bytes by two digits."""
-    return "".join(
-        chr(byte) if 33 <= byte <= 126 and byte != 92 else f"\\x{byte:02x}"
-        for byte in name
-    )
+    return "".join(chr(byte) if 33 <= byte <= 126 and byte != 92 else f"\\x{byte:02x}" for byte in name)
 
 
 def refusal(file: bytes) -> int:
@@ -77,10 +74,7 @@ def entries(file: bytes) -> list[Entry]:
     """The entries of a file's directory."""
     count, place = number(file[4:8]), number(file[8:12])
     records = [file[place + 16 * i : place + 16 * i + 16] for i in range(count)]
-    return [
-        Entry(file, number(record[:4]), number(record[4:8]), name_of(record[8:]))
-        for record in records
-    ]
+    return [Entry(file, number(record[:4]), number(record[4:8]), name_of(record[8:])) for record in records]
 
 
 def joined(files: list[bytes]) -> list[Entry]:

@@ -1,13 +1,26 @@
 """What mappers and node builders get wrong though every reference holds: the warnings W1 to
-W8, as docs/DEFINITIONS.md has them. Each is looked for at every record."""
+W11, as docs/DEFINITIONS.md has them. Each is looked for at every record."""
 
 from collections.abc import Iterator
 from typing import NamedTuple
 
 from plain.levels import Level, LineDef, is_in_range
+from plain.wads import Entry, lump, number, query, shown, winner
 
 REFERENCES = [f"F{n}" for n in range(3, 10)]
 WANT_SOUND = ("W3", "W5")
+
+GAME_KINDS = {
+    *range(5, 11),
+    *range(12, 90),
+    *range(2001, 2009),
+    *range(2010, 2016),
+    *(2018, 2019, 2028, 2035),
+    *range(2022, 2027),
+    *range(2045, 2050),
+    *range(3001, 3007),
+}
+"""The kinds of the game's things, 118 of them."""
 
 
 class Warned(NamedTuple):
@@ -127,6 +140,47 @@ def few_starts(level: Level) -> Iterator[Warned]:
         yield Warned("level", f"{starts} deathmatch starts")
 
 
+def named_lump(listed: list[Entry], name: bytes) -> bytes | None:
+    """The bytes of the lump that the game finds under a name."""
+    g = winner(listed, name)
+    return None if g is None else lump(listed[g])
+
+
+def textures_of(data: bytes) -> Iterator[bytes]:
+    """The names of the textures that a lump lists."""
+    for k in range(number(data[:4]) if len(data) >= 4 else 0):
+        if 4 * k + 8 > len(data):
+            return
+        place = number(data[4 * k + 4 : 4 * k + 8])
+        if 0 <= place <= len(data) - 8:
+            yield query(data[place : place + 8])
+
+
+def unknown_textures(level: Level, listed: list[Entry]) -> Iterator[Warned]:
+    first, second = named_lump(listed, b"TEXTURE1"), named_lump(listed, b"TEXTURE2")
+    there = {*textures_of(first or b""), *textures_of(second or b"")}
+    for i, sidedef in enumerate(level.sidedefs):
+        owners = [n for n, linedef in enumerate(level.linedefs) if i in (linedef.side0, linedef.side1)]
+        place = f", of linedef {owners[0]}" if owners else ""
+        for part, name in (("upper", sidedef.top), ("lower", sidedef.bottom), ("middle", sidedef.middle)):
+            if name[:1] != b"-" and query(name) not in there:
+                yield Warned(f"sidedef {i}", f"{part} texture {shown(name) or '(empty)'} isn't there", place)
+
+
+def unknown_flats(level: Level, listed: list[Entry]) -> Iterator[Warned]:
+    there = {entry.name for entry in listed}
+    for i, sector in enumerate(level.sectors):
+        for plane, name in (("floor", sector.floor_name), ("ceiling", sector.ceiling_name)):
+            if query(name) not in there:
+                yield Warned(f"sector {i}", f"{plane} flat {shown(name) or '(empty)'} isn't there")
+
+
+def unknown_things(level: Level) -> Iterator[Warned]:
+    for i, thing in enumerate(level.things):
+        if thing.kind > 4 and thing.kind != 11 and thing.kind not in GAME_KINDS and thing.options & 7:
+            yield Warned(f"thing {i}", f"type {thing.kind} is none of the game's", at(thing.x, thing.y))
+
+
 LOOKED_FOR = {
     "W1": unclosed,
     "W2": bare,
@@ -138,14 +192,25 @@ LOOKED_FOR = {
     "W8": few_starts,
 }
 
+LOOKED_FOR_IN = {
+    "W9": unknown_textures,
+    "W10": unknown_flats,
+}
 
-def warnings(level: Level) -> dict[str, list[Warned]]:
-    """The warnings of each code of which there are some, in their order."""
+
+def unlooked(listed: list[Entry]) -> list[str]:
+    """The codes that aren't looked for, as no file has the lump of TEXTURE1, or the entry F_START."""
+    there = {"W9": named_lump(listed, b"TEXTURE1") is not None, "W10": winner(listed, b"F_START") is not None}
+    return [code for code, is_there in there.items() if not is_there]
+
+
+def warnings(level: Level, listed: list[Entry]) -> dict[str, list[Warned]]:
+    """The warnings of each code of which there are some, in their order. The entries are those of
+    the files in which the game finds textures and flats."""
     if any(code in level.findings for code in REFERENCES):
         return {}
-    found = {
-        code: list(look(level))
-        for code, look in LOOKED_FOR.items()
-        if not level.faults or code not in WANT_SOUND
-    }
+    found = {code: list(look(level)) for code, look in LOOKED_FOR.items() if not level.faults or code not in WANT_SOUND}
+    skipped = unlooked(listed)
+    found |= {code: list(look(level, listed)) for code, look in LOOKED_FOR_IN.items() if code not in skipped}
+    found["W11"] = list(unknown_things(level))
     return {code: told for code, told in found.items() if told}

@@ -6,7 +6,9 @@ import { join } from 'node:path';
 export const wait = (/** @type {number} */ ms) => new Promise((go) => setTimeout(go, ms));
 
 /** The codes of keys that are no signs. */
-const KEYS = /** @type {Record<string, number>} */ ({ ArrowDown: 40, ArrowUp: 38, ArrowLeft: 37, ArrowRight: 39, Enter: 13, Escape: 27, Tab: 9, End: 35, Home: 36 });
+const KEYS = /** @type {Record<string, number>} */ ({
+  ArrowDown: 40, ArrowUp: 38, ArrowLeft: 37, ArrowRight: 39, Enter: 13, Escape: 27, Tab: 9, End: 35, Home: 36,
+});
 
 // What an expression ends with whose page is left while it is computed.
 const LEFT = /navigated or closed|context was destroyed|Cannot find .*context/;

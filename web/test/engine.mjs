@@ -1,20 +1,23 @@
 // engine.mjs FOLDER WADLOOK WADLENS SAMPLE: runs each command in the module of FOLDER and in the native programs, and compares them; then
-// the seeded cases on standard input, beside what they tell is wanted.
+// what asks for nothing, and the seeded cases on standard input, beside what they tell is wanted.
 import { readFileSync, mkdtempSync, rmSync, writeFileSync } from 'node:fs';
 import { spawnSync } from 'node:child_process';
 import { tmpdir } from 'node:os';
 import { join } from 'node:path';
 import { pathToFileURL } from 'node:url';
+import { byWords } from './asked.mjs';
 import { seeded } from './engine_fuzz.mjs';
+import { refusals } from './engine_refusals.mjs';
 import { wad } from './wads.mjs';
 import { LINES, OTHERWISE, workedDemos, workedFiles } from './worked_cases.mjs';
 
 const [folder, wadlook, wadlens, sample] = process.argv.slice(2);
 // What a page fetches lies in the folder here.
 globalThis.fetch = async (url) => new Response(readFileSync(new URL(url)), { headers: { 'Content-Type': 'application/wasm' } });
-/** @param {string} name a module of the page */
+/** @param {string} name of a file of the page */
 const part = (name) => import(pathToFileURL(join(folder, name)).href);
-const { run } = await part('wad_page.mjs'), { contents } = await part('entries.mjs'), { Lines } = await part('lines.mjs');
+const host = await part('wad_page.mjs'), { contents } = await part('entries.mjs'), { Lines } = await part('lines.mjs');
+const run = byWords(host);
 
 const room = mkdtempSync(join(tmpdir(), 'engine-'));
 process.on('exit', () => rmSync(room, { recursive: true, force: true }));
@@ -101,7 +104,15 @@ async function drawsAs(words) {
   compare(words, native(wadlens, words, ''), page, page.status === 2 ? 'wadlens: E1M1: nothing to draw\n' : '');
 }
 
-/** Words of `wadlens` that are mistaken: the command line's own text is the program's alone. */
+/** A level whose label no NAME finds is drawn under that. */
+async function drawsOddLabel() {
+  const file = Buffer.from(base);
+  file.write('e<1', file.readInt32LE(8) + 8, 'latin1');
+  const page = await run(['picture', 'any', 'odd.wad'], [file]), drawn = native(wadlens, ['picture', 'E1M1', 'base.wad'], '').stdout.toString();
+  same('a label that no NAME finds', Buffer.from(page.answer).toString(), drawn.replace('<title>E1M1: ', '<title>e&lt;11: '));
+}
+
+/** Words of `wadlens` with other numbers of files than they take: the command line's own text is the program's alone. */
 async function refuses(words, paths) {
   const all = [...words, ...paths], { stdout, status } = native(wadlens, all, '');
   const page = await run(all, paths.map((path) => names.get(path)));
@@ -144,10 +155,9 @@ for (let i = 0; i < 40; i++) for (const words of [['check'], ['survey', '--wide'
 for (const entry of ['0', '1', '5', '11', '12', '18446744073709551615']) {
   for (const path of ['base.wad', 'other.wad', 'demo.wad', 'short.wad', 'empty.wad']) await checkLens(['cut', '--entry', entry], [path]);
 }
-for (const words of [['check', '--max', '-1'], ['check', '--max', 'x'], ['check', '--max'], ['check', '--wider'], ['check', '--strict'], ['demos', '--map'], ['survey', '--max', '1'], ['demos', '--wide'], ['demos', '--json', '--json'], ['cut'],
-  ['cut', '--entry', '18446744073709551616'], ['cut', '--wide', '--entry', '0']]) await refuses(words, ['base.wad']);
 await refuses(['cut', '--entry', '0'], ['base.wad', 'base.wad']);
-await refuses(['check'], []);
+for (const words of [['check'], ['survey'], ['demos'], ['demos', '--json'], ['cut', '--entry', '0']]) await refuses(words, []);
+refusals(await WebAssembly.compile(readFileSync(join(folder, 'wad_page.wasm'))), host.Call, base, same);
 
 // The worked cases: each file under each command that takes one, and its level's pictures; and each demo.
 const readings = (command) => [[command, 'E1M1'], ...['points', 'census', 'blocks', 'show', 'audit'].includes(command) ? [[command, '--wide', 'e1m1']] : []];
@@ -164,7 +174,7 @@ for (const [name, bytes] of workedFiles(base)) {
   }
   await draws(path);
 }
-for (const [, words, files, input] of OTHERWISE) await check(words, files.map((name) => `${name}.wad`), input);
+for (const [, words, given, input] of OTHERWISE) await check(words, given.map((name) => `${name}.wad`), input);
 for (const [name, bytes] of workedDemos()) {
   const path = `${name}.lmp`, packed = `${name}.wad`;
   keep(path, bytes);
@@ -175,6 +185,7 @@ for (const [name, bytes] of workedDemos()) {
 }
 
 for (const path of ['base.wad', ...Array.from({ length: 40 }, (_, i) => `damaged${i}.wad`)]) await draws(path);
+await drawsOddLabel();
 for (const path of [...names.keys()].filter((name) => name.endsWith('.wad'))) await lists(path);
 const fuzzed = await seeded(process.stdin, run);
 passed += fuzzed.passed;

@@ -1,19 +1,20 @@
 // Seeded cases beside a plain reading of the definitions: lines of JSON, as `tests/fuzz --json` writes them, a case each.
 import { createInterface } from 'node:readline';
+import { isLens } from './asked.mjs';
 
 /** @typedef {import('../wad_page.mjs').Ended} Ended */
+/** @typedef {import('./asked.mjs').Run} Run */
 /** @typedef {{ status: number, out: string, error: string }} Wanted  with bytes in base 64, as all bytes of a case */
 /** @typedef {{ words: string[], files: number[], input: string, wanted: Wanted }} Asked  with the places of its files among the case's */
 /** @typedef {{ seed: number, case: number, files: string[], runs: Asked[] }} Case */
 
-const LENS = ['check', 'survey', 'demos', 'cut', 'picture'];
 const MOST_TOLD = 20;
 const ROOM = 1 << 16; // small, so that longer answers take a second run
 
 const bytes = (/** @type {string} */ text) => Buffer.from(text, 'base64');
 
 /** What is told besides, as the program writes it to standard error. @param {string[]} words @param {string} refused */
-const told = ([first], refused) => refused && !LENS.includes(first) ? `refused: ${refused}\n` : refused;
+const told = (words, refused) => refused && !isLens(words) ? `refused: ${refused}\n` : refused;
 
 /**
  * The first line that differs of two texts; nothing where the texts are the same.
@@ -35,7 +36,7 @@ function difference({ words, wanted }, came) {
 
 /**
  * Whether all runs of a case give what is wanted; the first that doesn't is told.
- * @param {Case} one @param {(words: string[], files: Buffer[], input: Buffer, room: number) => Promise<Ended>} run
+ * @param {Case} one @param {Run} run
  */
 async function judge(one, run) {
   const files = one.files.map(bytes);
@@ -51,7 +52,7 @@ async function judge(one, run) {
 
 /**
  * Judges the cases of a stream of lines.
- * @param {NodeJS.ReadableStream} lines @param {(words: string[], files: Buffer[], input: Buffer, room: number) => Promise<Ended>} run
+ * @param {NodeJS.ReadableStream} lines @param {Run} run
  */
 export async function seeded(lines, run) {
   let passed = 0, failed = 0;

@@ -1,10 +1,11 @@
-// engine_hostile.mjs FOLDER [WORD]: what the page asks of whole files, in the modules of FOLDER, on inputs that no editor writes, each at
+// engine_hostile.mjs FOLDER [WORD]: what the page asks of whole files, in the module of FOLDER, on inputs that no editor writes, each at
 // half its size and whole, the better of two answers: the processor's time, its ratio, which is near 2 where time grows with the input,
 // how many runs there were until one had room (two numbers where they differ), and that one's memory, as rows of bench/RESULTS.md. With
 // WORD those alone in whose names it stands.
 import { readFileSync } from 'node:fs';
 import { join } from 'node:path';
 import { pathToFileURL } from 'node:url';
+import { byWords } from './asked.mjs';
 import { rooms, wad, words } from './wads.mjs';
 
 const [folder, only = ''] = process.argv.slice(2);
@@ -19,7 +20,7 @@ WebAssembly.Instance = class extends Plain {
     instances++;
   }
 };
-const { run } = await import(pathToFileURL(join(folder, 'wad_page.mjs')).href);
+const run = byWords(await import(pathToFileURL(join(folder, 'wad_page.mjs')).href));
 
 // Files -------------------------------------------------------------------------------------------------------------------------
 
@@ -49,9 +50,11 @@ const filled = (name, record) => (size) => level({ [name]: Buffer.alloc(size - s
 const node = (front, back) => words(0, 0, 0, 64, ...Array(8).fill(0), front, back);
 /** Nodes in a chain, of which the last ssector has the points with x above 0. */
 const chain = (count) => level({
-  NODES: Buffer.concat(Array.from({ length: count }, (_, i) => i ? node(i - 1, 32769 + i) : node(32768, 32769))), SSECTORS: Buffer.alloc(4 * count + 4, words(1, 0)),
+  NODES: Buffer.concat(Array.from({ length: count }, (_, i) => i ? node(i - 1, 32769 + i) : node(32768, 32769))),
+  SSECTORS: Buffer.alloc(4 * count + 4, words(1, 0)),
 });
-const commands = (size) => Buffer.concat([Buffer.from([109, 3, 1, 1, 0, 0, 0, 0, 0, 1, 0, 0, 0]), Buffer.alloc(size - size % 4, Buffer.from([25, 206, 7, 9])), Buffer.from([128])]);
+const header = [109, 3, 1, 1, 0, 0, 0, 0, 0, 1, 0, 0, 0];
+const commands = (size) => Buffer.concat([Buffer.from(header), Buffer.alloc(size - size % 4, Buffer.from([25, 206, 7, 9])), Buffer.from([128])]);
 const demos = (size) => {
   const body = commands(0), count = Math.floor(size / 16);
   return Buffer.concat([head(count), Buffer.alloc(16 * count, entry(12 + 16 * count, body.length, 'DEMO1')), body]);
@@ -60,7 +63,10 @@ const list = (size) => level({ BLOCKMAP: Buffer.concat([words(0, 0, 1, 1, 5), Bu
 
 // Rows --------------------------------------------------------------------------------------------------------------------------
 
-/** @type {[string, string[], number, (size: number) => Buffer, (file: Buffer) => number, string?][]} a name, words, the whole size, the file, room as the page asks for it, input */
+/**
+ * A name, words, the whole size, the file, room as the page asks for it, input.
+ * @type {[string, string[], number, (size: number) => Buffer, (file: Buffer) => number, string?][]}
+ */
 const rows = [
   ['`lumps`: 4,000,000 entries of one name', ['lumps'], FILE, directory('NAME'), (file) => 65536 + 2.5 * file.length],
   ['`survey --map`: 363,636 levels of one label', ['survey', '--map'], FILE, directory('MAP01', ...USUAL), (file) => 65536 + 400 * file.length / 176],

@@ -4,9 +4,15 @@ import { writeFileSync } from 'node:fs';
 import { join } from 'node:path';
 import { wait } from './browser.mjs';
 
-/** @typedef {{ browser: import('./browser.mjs').Browser, address: string, games: string, pictures: string, programs: import('./server.mjs').Programs, check: (what: string, came: unknown, wanted: unknown) => void }} Given */
+/**
+ * @typedef {{ browser: import('./browser.mjs').Browser, address: string, games: string, pictures: string,
+ *   programs: import('./server.mjs').Programs, check: (what: string, came: unknown, wanted: unknown) => void }} Given
+ */
 
-/** Runs `act`, and waits for a condition in the page; answers the milliseconds. @param {Given} given @param {() => Promise<unknown>} act @param {string} condition */
+/**
+ * Runs `act`, and waits for a condition in the page; answers the milliseconds.
+ * @param {Given} given @param {() => Promise<unknown>} act @param {string} condition
+ */
 async function timed({ browser }, act, condition) {
   const began = performance.now();
   await act();

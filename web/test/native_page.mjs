@@ -1,12 +1,53 @@
-// For tests without the module: stands in the place of wad_page.mjs and asks the server, which runs the programs.
+// For tests without the module: stands in the place of wad_page.mjs and asks the server, which runs the programs on words.
+
+/** @typedef {import('../wad_page.mjs').Ended} Ended */
+/** @typedef {import('../wad_page.mjs').LensQuestion} LensQuestion */
+/** @typedef {import('../wad_page.mjs').DrawQuestion} DrawQuestion */
 
 export const canRun = () => WebAssembly.validate(new Uint8Array([0, 0x61, 0x73, 0x6d, 1, 0, 0, 0]));
 
-/** @param {string[]} words @param {Uint8Array[]} files @param {Uint8Array} [input] */
-export async function run(words, files, input = new Uint8Array()) {
+/**
+ * What a program answers of words, of which the last are the paths of the files.
+ * @param {string[]} words @param {Uint8Array[]} files @param {Uint8Array} [input] @returns {Promise<Ended>}
+ */
+export async function runWadlook(words, files, input = new Uint8Array()) {
   const head = new TextEncoder().encode(JSON.stringify({ words, files: files.map(({ length }) => length), input: input.length }));
   const body = new Blob([Uint32Array.of(head.length), head, .../** @type {BlobPart[]} */ (files), /** @type {BlobPart} */ (input)]);
   const told = new Uint8Array(await (await fetch('run', { method: 'POST', body })).arrayBuffer());
   const from = 4 + new DataView(told.buffer).getUint32(0, true);
   return { ...JSON.parse(new TextDecoder().decode(told.subarray(4, from))), answer: told.slice(from) };
+}
+
+/** @param {LensQuestion} question @param {string[]} paths @param {Uint8Array[]} files */
+export const runWadlens = (question, paths, files) => runWadlook([...wordsOf(question), ...paths], files);
+
+/** @param {DrawQuestion} question @param {Uint8Array} file */
+export function drawPicture({ cells, wide, frame }, file) {
+  const { name, bytes } = named(file), framed = frame ? ['--frame', frame.join(',')] : [];
+  return runWadlook(['picture', ...(wide ? ['--wide'] : []), '--cells', String(cells), ...framed, name, 'f'], [bytes]);
+}
+
+/** @param {LensQuestion} question */
+function wordsOf(question) {
+  const wide = question.wide ? ['--wide'] : [], warnings = { told: ['--map'], strict: ['--map', '--strict'] };
+  const judging = [...wide, ...(question.warnings ? warnings[question.warnings] : [])];
+  switch (question.command) {
+    case 'check': return ['check', ...judging, '--max', String(question.max)];
+    case 'survey': return ['survey', ...judging];
+    case 'demos': return ['demos', ...(question.json ? ['--json'] : [])];
+    case 'cut': return ['cut', '--entry', String(question.entry)];
+  }
+}
+
+/**
+ * The name by which the program finds a file's first level: its label where that is one of Doom's own, and else one that is put there.
+ * @param {Uint8Array} file
+ */
+function named(file) {
+  const label = new DataView(file.buffer, file.byteOffset).getInt32(8, true) + 8;
+  const name = new TextDecoder().decode(file.subarray(label, label + 8)).split('\0')[0];
+  if (/^(E\dM\d|MAP\d\d)$/.test(name)) return { name, bytes: file };
+  const bytes = file.slice();
+  bytes.set(new TextEncoder().encode('LEVEL\0\0\0'), label);
+  return { name: 'LEVEL', bytes };
 }

@@ -216,8 +216,16 @@ async function findings() {
   check('and is marked there', await hasInk('fault', 384, 256, 19), true);
 }
 
-/** Whether the mark of a chosen finding is about a place: an arm of it stands above. @param {number} x @param {number} y */
-const isMarked = async (x, y) => hasInk('fault', x, y + 24 / (await viewOf())[2]);
+/**
+ * Whether the mark of a chosen finding is about a place: an arm of it stands above. A slow machine draws it only once the map stands still.
+ * @param {number} x @param {number} y
+ */
+const isMarked = async (x, y) => {
+  for (const end = Date.now() + 60000; Date.now() < end; await drawnAnew()) {
+    if (await hasInk('fault', x, y + 24 / (await viewOf())[2])) return true;
+  }
+  return false;
+};
 
 /** What is chosen before the picture is there is marked in it. */
 async function early() {
@@ -437,7 +445,10 @@ async function markup() {
 /** Begins to watch for how long the page doesn't answer. */
 const watch = () => browser.run(`{ window.longest = 0; let last = performance.now();
   window.watched ??= requestAnimationFrame(function tick() { const now = performance.now(); window.longest = Math.max(window.longest, now - last); last = now; requestAnimationFrame(tick); }); }`);
-/** Does something, tells how long it took, and checks that the page answered all the while. @param {string} what @param {() => Promise<unknown>} act @param {string} condition */
+/**
+ * Does something, tells how long it took, and checks that the page answered all the while.
+ * @param {string} what @param {() => Promise<unknown>} act @param {string} condition
+ */
 async function answering(what, act, condition) {
   await watch();
   const began = performance.now();
@@ -673,7 +684,7 @@ async function phone() {
   await browser.press('.tabs [data-to=notes]');
   await browser.press('#findings .row');
   await browser.until("document.querySelector('#map').dataset.view.startsWith('384.000 256.000')", 'the finding on a phone');
-  check('a finding leads to the map', await browser.run("document.body.dataset.pane"), 'map');
+  check('a finding leads to the map', await browser.run('document.body.dataset.pane'), 'map');
 }
 
 async function unable() {
@@ -698,12 +709,12 @@ async function unserved() {
   keepServed(browser.complaints, complained);
 }
 
-/** Without its modules the page says which one isn't there. */
+/** Without its module the page says that it isn't there. */
 async function engineless() {
   const bare = await serve(join(root, 'web'), room), before = browser.complaints.length;
   await fresh(bare.address);
   await browser.drop(roomsFile);
-  await browser.until("document.querySelector('#files .row-state')?.textContent === 'refused'", 'a page without its modules');
+  await browser.until("document.querySelector('#files .row-state')?.textContent === 'refused'", 'a page without its module');
   check('a module that is not there', await textOf('#files .row-more'), "the engine of this page, wad_page.wasm, isn't beside its files");
   check('which the browser tells too', browser.complaints.splice(before).filter((told) => !/404.*wad_page\.wasm$/.test(told)), []);
   hosts.push(bare.address);
@@ -773,8 +784,8 @@ const isThere = await Promise.race([browser.attach().then(() => true, () => fals
 if (!isThere) console.log("skipped, as Chromium doesn't start here: the page");
 let at = 'the start';
 try {
-  const all = [files, levels, picture, point, moves, finer, findings, reading, early, late, edge, unknown, warnings, faults, undrawn, demos, saves, markup, hostile, manyFindings, large, stop, stopAll, refusals,
-    wide, contrast, labels, keys, phone, unable, unserved, engineless, anyHost, alone, policy];
+  const all = [files, levels, picture, point, moves, finer, findings, reading, early, late, edge, unknown, warnings, faults, undrawn, demos, saves, markup,
+    hostile, manyFindings, large, stop, stopAll, refusals, wide, contrast, labels, keys, phone, unable, unserved, engineless, anyHost, alone, policy];
   const only = valueOf('--only').split(',');
   for (const one of all.filter(({ name }) => isThere && (!only[0] || only.includes(name)))) {
     at = one.name;

@@ -12,7 +12,7 @@ export const built = join(root, 'web/out');
 export const isNative = options.includes('--native') || !existsSync(join(built, 'wad_page.wasm'));
 export const pictures = valueOf('--pictures');
 if (pictures) mkdirSync(pictures, { recursive: true });
-if (isNative) console.log("the programs answer in the modules' place");
+if (isNative) console.log("the programs answer in the module's place");
 
 export const room = mkdtempSync(join(tmpdir(), 'page-'));
 export const server = isNative ? await serve(join(root, 'web'), room, programs) : await serve(built, room);

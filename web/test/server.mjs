@@ -3,25 +3,24 @@ import { spawn, spawnSync } from 'node:child_process';
 import { existsSync, mkdirSync, readFileSync, rmSync, statSync, writeFileSync } from 'node:fs';
 import { createServer } from 'node:http';
 import { basename, extname, join, normalize } from 'node:path';
+import { isLens } from './asked.mjs';
 
 const TYPES = /** @type {Record<string, string>} */ ({
   '.html': 'text/html', '.css': 'text/css', '.mjs': 'text/javascript', '.svg': 'image/svg+xml',
 });
-const LENS = ['check', 'survey', 'picture', 'cut', 'demos'];
 
 /** @typedef {{ wadlook: string, wadlens: string }} Programs */
 /** @typedef {{ status: number, answer: Buffer, refused: string }} Ended */
 
 /**
- * Runs a program on words as the engine takes them: files and input are bytes.
+ * Runs a program on words, of which the last are the paths of its files: these and the input are bytes.
  * @param {Programs} programs @param {string} room @param {string[]} words @param {Buffer[]} files @param {Buffer} input @returns {Ended}
  */
 export function runProgram({ wadlook, wadlens }, room, words, files, input) {
   const paths = words.slice(words.length - files.length), folder = join(room, 'run');
   mkdirSync(folder, { recursive: true });
   paths.forEach((path, k) => writeFileSync(join(folder, basename(path)), files[k]));
-  const isLens = LENS.includes(words[0]);
-  const ran = spawnSync(isLens ? wadlens : wadlook, words, { cwd: folder, input, maxBuffer: 1 << 30 });
+  const ran = spawnSync(isLens(words) ? wadlens : wadlook, words, { cwd: folder, input, maxBuffer: 1 << 30 });
   paths.forEach((path) => rmSync(join(folder, basename(path)), { force: true }));
   return { status: ran.status ?? 3, answer: ran.stdout, refused: ran.stderr.toString().replace(/^refused: /, '').trimEnd() };
 }
@@ -42,7 +41,7 @@ function answer({ status, answer: bytes, refused }) {
 }
 
 /**
- * @param {string} folder the page's @param {string} room for files of runs @param {Programs} [programs] @param {string} [wasm] the type of modules
+ * @param {string} folder the page's @param {string} room for files of runs @param {Programs} [programs] @param {string} [wasm] the type of the module
  * @returns {Promise<{ address: string, close: () => void }>}
  */
 export async function serve(folder, room, programs, wasm = 'application/wasm') {

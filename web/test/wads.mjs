@@ -2,8 +2,8 @@
 
 /** @param {string} name */
 const eight = (name) => Buffer.concat([Buffer.from(name, 'latin1'), Buffer.alloc(8)]).subarray(0, 8);
-/** @param {number[]} words of 16 bits */
-export const words = (...words) => Buffer.from(Uint8Array.from(words.flatMap((word) => [word & 255, (word >> 8) & 255])));
+/** @param {number[]} numbers of 16 bits */
+export const words = (...numbers) => Buffer.from(Uint8Array.from(numbers.flatMap((word) => [word & 255, (word >> 8) & 255])));
 
 /** @param {[string, Buffer][]} lumps @param {string} [kind] */
 export function wad(lumps, kind = 'PWAD') {

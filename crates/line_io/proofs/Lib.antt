@@ -10,6 +10,7 @@ pub mod PrintedLemmas
 pub mod ProgressLemmas
 pub mod ReadingLemmas
 pub mod SmallLemmas
+pub mod StorageLemmas
 pub mod TextLemmas
 pub mod ThreeDigitLemmas
 pub mod WriteLemmas

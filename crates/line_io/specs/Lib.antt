@@ -7,5 +7,6 @@ pub mod NumberAnswers
 pub mod Numbers
 pub mod ReadsAll
 pub mod Scan
+pub mod Storage
 pub mod Tied
 pub mod Writes

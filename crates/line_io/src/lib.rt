@@ -1,6 +1,7 @@
 //! Lines in, lines out, for any program: sources read in blocks, lines cut and kept, the
 //! numbers of a line, decimal text, the one loop over `put`, the engine of lines on which a
-//! command over lines of input stands, and an input and an output tied to one another.
+//! command over lines of input stands, an input and an output tied to one another, and files
+//! read whole under their paths.
 #![tactic(auto)]
 
 mod content;
@@ -12,6 +13,7 @@ mod line_part;
 mod lines;
 mod output;
 mod refusal;
+mod storage;
 mod text_line;
 mod tied;
 
@@ -21,5 +23,8 @@ pub use input::{MAX_READ, read_again, read_all};
 pub use lines::{LineCommand, MAX_CONTENT, answer_lines, split_content};
 pub use output::emit;
 pub use refusal::LineRefusal;
+pub use storage::{
+    Disk, FilePath, FirstUnread, Storage, StorageFault, read_file, read_files, read_whole,
+};
 pub use text_line::{ROOM, TextLine};
 pub use tied::{BUFFER, TiedReader, TiedWriter};

@@ -7,7 +7,8 @@ pub mod Way
 pub mod Front
 pub mod Seen
 pub mod Cells
-pub mod Counts
+pub mod CellCount
+pub mod SectorCounts
 pub mod Blocks
 pub mod Groups
 pub mod Laws

@@ -3,6 +3,7 @@
 ghost use Rattle.std.specs.Prelude.{◌≡◌, ◌+◌, ◌*◌, ◌/◌, ◌<◌, ◌≤◌, ◌≤ℤ◌, ◌-ℤ◌, pos, unsigned_abs};
 ghost use Rattle.map_cells.specs.Grid.{IsSize, cell_x, cell_y, columns_of, longer_side, rows_of};
 
+use crate::cell_count::CellCount;
 use crate::frame::Frame;
 use std::marker::Model;
 
@@ -30,15 +31,13 @@ impl Grid {
     ghost use Rattle.map_cells.specs.Grid.{IsGrid};
 
     /// The cells of the least size at which the frame's longer side has at most so many of them.
-    pub fn new(frame: Frame, cells: u32) -> Grid
-        requires least { 1 ≤ cells }
-        requires most { cells ≤ 1024 }
+    pub fn new(frame: Frame, cells: CellCount) -> Grid
         ensures frame { result.frame ≡ frame }
         ensures size { IsSize frame cells result.size }
     {
         Grid {
             frame,
-            size: longer_side(frame) / cells + 1,
+            size: longer_side(frame) / cells.get() + 1,
         }
     }
 

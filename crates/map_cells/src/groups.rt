@@ -8,7 +8,7 @@ ghost use Rattle.map_cells.specs.Groups.{AddsBlock, AreBlocksBefore, PushesBlock
 
 use crate::block::Block;
 use crate::cells::Cells;
-use crate::counts::Counts;
+use crate::sector_counts::SectorCounts;
 use std::alloc::{AllocError, Allocator, Global};
 use std::marker::Model;
 
@@ -37,7 +37,7 @@ impl<A: Allocator + Copy> Groups<A> {
     pub fn of<B: Allocator>(alloc: A, cells: &Cells<B>) -> Result<Groups<A>, AllocError>
         ensures { IfOk result (AreGroups (cell cells.now)) }
     {
-        let counts = Counts::of(alloc, cells)?;
+        let counts = SectorCounts::of(alloc, cells)?;
         let mut lists = empty_lists(alloc, &counts, cells.sector_bound())?;
         for j in 0..cells.rows() {
             add_row(cells, j, &mut lists)?;
@@ -67,7 +67,7 @@ impl<A: Allocator> Groups<A> {
 // So many lists of no block, each with room for as many as cells show its sector: it has no more blocks, so none of them grows.
 fn empty_lists<A: Allocator + Copy>(
     alloc: A,
-    counts: &Counts<A>,
+    counts: &SectorCounts<A>,
     count: usize,
 ) -> Result<Vec<Vec<Block, A>, A>, AllocError>
     ensures long { IfOk result (λ lists. length lists.items ≡ count) }

@@ -3,9 +3,9 @@
 #![tactic(auto)]
 
 mod block;
+mod cell_count;
 mod cells;
 mod change;
-mod counts;
 mod ends;
 mod frame;
 mod front;
@@ -13,15 +13,17 @@ mod grid;
 mod groups;
 pub mod laws;
 mod row;
+mod sector_counts;
 mod seen;
 mod shown;
 mod way;
 
 pub use block::Block;
+pub use cell_count::CellCount;
 pub use cells::Cells;
-pub use counts::Counts;
 pub use ends::{Ends, linedef_ends, seg_ends};
 pub use frame::Frame;
 pub use grid::Grid;
 pub use groups::Groups;
+pub use sector_counts::SectorCounts;
 pub use shown::Shown;

@@ -37,6 +37,41 @@ product_fits step from to s f t =
     fits_signed_mul w32 step (to -ℤ from) 32768 32767 s (unsigned_abs-difference from to f t)
     (omega arith)
 
+-- a coordinate and a component of a direction as the code reads them
+pub coordinate_read : (z : ℤ) → IsInRange z → IsInRange (to_z w32 (of_z w32 z))
+coordinate_read z h =
+    let fits : FitsSigned w32 z = omega (arith, ints, h.least, h.greatest) in simp to_z-of_z h
+
+pub step_read : (z : ℤ) → unsigned_abs z ≤ 32768 → unsigned_abs (to_z w32 (of_z w32 z)) ≤ 32768
+step_read z h = let fits : FitsSigned w32 z = omega (arith, ints) in simp to_z-of_z h
+
+-- a product that the code was told of what it reads
+pub product_told : (step from to told : ℤ) → unsigned_abs step ≤ 32768 → IsInRange from → IsInRange to
+    → told ≡ to_z w32 (of_z w32 step) *ℤ (to_z w32 (of_z w32 to) -ℤ to_z w32 (of_z w32 from))
+    → told ≡ step *ℤ (to -ℤ from)
+product_told step from to told s f t e =
+    let step_fits : FitsSigned w32 step = omega (arith, ints) in
+    let from_fits : FitsSigned w32 from = omega (arith, ints, f.least, f.greatest) in
+    let to_fits : FitsSigned w32 to = omega (arith, ints, t.least, t.greatest) in
+    simp to_z-of_z at e
+
+-- what the code reads at the difference of two such products
+module _ (a b : ℤ) (h : unsigned_abs a ≤ 1073709056) (k : unsigned_abs b ≤ 1073709056) where
+  a_fits : FitsSigned w32 a
+  a_fits = omega (arith, ints)
+
+  b_fits : FitsSigned w32 b
+  b_fits = omega (arith, ints)
+
+  products_fit : FitsSigned w32 (a -ℤ b)
+  products_fit = omega (arith, ints)
+
+  pub products_read_fit : FitsSigned w32 (to_z w32 (of_z w32 a) -ℤ to_z w32 (of_z w32 b))
+  products_read_fit = let f = a_fits in let g = b_fits in simp to_z-of_z products_fit
+
+  pub products_read : to_z w32 (of_z w32 (to_z w32 (of_z w32 a) -ℤ to_z w32 (of_z w32 b))) ≡ a -ℤ b
+  products_read = let f = a_fits in let g = b_fits in let d = products_fit in simp to_z-of_z
+
 -- a positive factor keeps the order
 pub mul-lt_positive : (k a b : ℤ) → pos 0 <ℤ k → a <ℤ b → (k *ℤ a) <ℤ (k *ℤ b)
 mul-lt_positive (pos zero) a b above h = absurd (omega (arith, ints))

@@ -1,7 +1,8 @@
 -- How many points a rectangle has, from the lengths of its sides.
-use Rattle.std.proofs.Common.{ℤ, pos, ◌≤ℤ◌, ◌*ℤ◌, ◌≡◌, ◌≤◌, true, false, FitsSigned, to_z, of_z, w32, arith}
+use Rattle.std.proofs.Common.{ℤ, pos, ◌≤ℤ◌, ◌*ℤ◌, ◌-ℤ◌, ◌≡◌, ◌≤◌, true, false, FitsSigned, to_z, of_z, w32, arith}
 use Rattle.std.proofs.lemmas.Int.{ints, to_z-of_z, fits_signed_mul}
-use Rattle.std.specs.Prelude.{unsigned_abs, int_le}
+use Rattle.std.specs.Prelude.{◌+ℤ◌, unsigned_abs, int_le}
+use Rattle.map_geo.specs.Point.{IsInRange}
 use Rattle.map_geo.specs.Rect.{IsSpan, IsRect, rect_at, span}
 
 -- n whole numbers go from a to b
@@ -71,3 +72,40 @@ module _ (x0 y0 x1 y1 columns rows : ℤ) (across : HasLength x0 x1 columns)
   not_IsRect-from_test test is_rect =
       gt_from_test (columns *ℤ rows) (pos 1048576) (rw area_read at test)
       (rw (across.length, up.length) is_rect.points)
+
+-- the span whose ends the code reads and tests
+pub IsSpan-from_tests : (a b : ℤ) → FitsSigned w32 a → FitsSigned w32 b
+    → IsInRange (to_z w32 (of_z w32 a)) → IsInRange (to_z w32 (of_z w32 b))
+    → int_le (to_z w32 (of_z w32 a)) (to_z w32 (of_z w32 b)) ≡ true → IsSpan a b
+IsSpan-from_tests a b a_fits b_fits first_in last_in test = record {
+  first_in = simp to_z-of_z at first_in;
+  last_in = simp to_z-of_z at last_in;
+  ordered = le_from_test a b (simp to_z-of_z at test);
+}
+
+-- what the code reads at `last - first + 1`
+module _ (a b : ℤ) (h : IsSpan a b) where
+  first_fits : FitsSigned w32 a
+  first_fits = omega (arith, ints, h.first_in.least, h.first_in.greatest)
+
+  last_fits : FitsSigned w32 b
+  last_fits = omega (arith, ints, h.last_in.least, h.last_in.greatest)
+
+  difference_fits : FitsSigned w32 (b -ℤ a)
+  difference_fits = omega (arith, ints, h.first_in.least, h.last_in.greatest, h.ordered)
+
+  span_fits : FitsSigned w32 (span a b)
+  span_fits = omega (arith, ints, h.first_in.least, h.last_in.greatest, h.ordered)
+
+  pub difference_read_fits : FitsSigned w32 (to_z w32 (of_z w32 b) -ℤ to_z w32 (of_z w32 a))
+  difference_read_fits = let f = first_fits in let l = last_fits in simp to_z-of_z difference_fits
+
+  pub span_read_fits : FitsSigned w32
+      (to_z w32 (of_z w32 (to_z w32 (of_z w32 b) -ℤ to_z w32 (of_z w32 a))) +ℤ pos 1)
+  span_read_fits =
+      let f = first_fits in let l = last_fits in let d = difference_fits in simp to_z-of_z span_fits
+
+  pub span_read : to_z w32 (of_z w32
+      (to_z w32 (of_z w32 (to_z w32 (of_z w32 b) -ℤ to_z w32 (of_z w32 a))) +ℤ pos 1)) ≡ span a b
+  span_read =
+      let f = first_fits in let l = last_fits in let d = difference_fits in let s = span_fits in simp to_z-of_z

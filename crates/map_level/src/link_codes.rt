@@ -1,6 +1,6 @@
 //! The link part of a report.
 
-ghost use Rattle.std.specs.Prelude.{◌≡◌, ◌+◌, ◌<◌, ◌≤◌, ◌^◌, ℕ, IfNone, IfOk, IfSome};
+ghost use Rattle.std.specs.Prelude.{◌≡◌, ◌+◌, ◌<◌, ◌≤◌, ◌^◌, ◌↔◌, ℕ, IfNone, IfOk, IfSome, IsTrue};
 ghost use Rattle.map_level.specs.Findings.{AreFindings, IsFirst};
 ghost use Rattle.map_level.specs.LinkFaults.{LinkHolds};
 ghost use Rattle.map_level.specs.LinkBounds.{AreBounds};
@@ -81,66 +81,59 @@ fn first_at(level: &Level<'_>, bounds: &Bounds, code: Code, from: u32) -> Option
     ensures none { IfNone result ((i : ℕ) → from ≤ i → ¬ LinkHolds level.now code i) }
     ensures below { IfSome result (λ at. at + 1 < 2 ^ 32) }
 {
-    let linedefs = bounds.linedefs;
-    let sidedefs = level.sidedefs().len() as u32;
-    let segs = bounds.segs;
-    let ssectors = bounds.ssectors;
-    let vertexes = level.vertexes().len() as u32;
+    let count = index_bound(level, bounds, code);
     match code {
-        Code::F3 => first_where(level, code, from, linedefs, |i| {
-            linedef_vertex_names_none(level, i)
-        }),
-        Code::F4 => first_where(level, code, from, linedefs, |i| {
-            linedef_side_names_none(level, i)
-        }),
-        Code::F5 => first_where(level, code, from, sidedefs, |i| {
+        // No pass told of these two tables, so they are searched at each level: with a test of their own.
+        Code::F5 => first_where(level, code, from, count, |i| {
             sidedef_sector_names_none(level, i)
         }),
-        Code::F6 => first_where(level, code, from, segs, |i| seg_vertex_names_none(level, i)),
-        Code::F7 => first_where(
-            level,
-            code,
-            from,
-            segs,
-            |i| seg_linedef_names_none(level, i),
-        ),
-        Code::F8 => first_where(level, code, from, segs, |i| seg_side_other(level, i)),
-        Code::F9 => first_where(level, code, from, segs, |i| seg_without_side(level, i)),
-        Code::F10 => first_where(
-            level,
-            code,
-            from,
-            ssectors,
-            |i| ssector_out_of_range(level, i),
-        ),
-        Code::F17 => first_where(level, code, from, 1, |i| no_ssector(level, i)),
-        Code::F18 => first_where(level, code, from, 1, |i| too_many_nodes(level, i)),
-        Code::N1 => first_where(level, code, from, 11, |i| lump_name_differs(level, i)),
-        Code::N2 => first_where(level, code, from, 9, |i| bytes_left_over(level, i)),
-        Code::N3 => first_where(
-            level,
-            code,
-            from,
-            linedefs,
-            |i| two_sided_without_side(level, i),
-        ),
-        Code::N4 => first_where(level, code, from, linedefs, |i| no_side0(level, i)),
-        Code::N5 => first_where(
-            level,
-            code,
-            from,
-            linedefs,
-            |i| linedef_of_no_length(level, i),
-        ),
-        Code::N6 => first_where(
-            level,
-            code,
-            from,
-            ssectors,
-            |i| ssector_without_segs(level, i),
-        ),
-        Code::N11 => first_where(level, code, from, 1, |i| no_start(level, i)),
-        Code::N12 => first_where(level, code, from, vertexes, |i| vertex_outside(level, i)),
-        _ => None,
+        Code::N12 => first_where(level, code, from, count, |i| vertex_outside(level, i)),
+        _ => first_where(level, code, from, count, |i| holds_at(level, code, i)),
+    }
+}
+
+// A number above all indexes at which a code holds.
+fn index_bound(level: &Level<'_>, bounds: &Bounds, code: Code) -> u32
+    requires { AreBounds level.now bounds.now }
+    ensures { (i : ℕ) → LinkHolds level.now code i → i < result }
+{
+    match code {
+        Code::F3 | Code::F4 | Code::N3 | Code::N4 | Code::N5 => bounds.linedefs,
+        Code::F5 => level.sidedefs().len() as u32,
+        Code::F6 | Code::F7 | Code::F8 | Code::F9 => bounds.segs,
+        Code::F10 | Code::N6 => bounds.ssectors,
+        Code::F17 | Code::F18 | Code::N11 => 1,
+        Code::N1 => 11,
+        Code::N2 => 9,
+        Code::N12 => level.vertexes().len() as u32,
+        _ => 0,
+    }
+}
+
+// Whether a code holds at an index.
+#[inline(always)]
+fn holds_at(level: &Level<'_>, code: Code, i: u32) -> bool
+    ensures { IsTrue result ↔ LinkHolds level.now code i }
+{
+    match code {
+        Code::F3 => linedef_vertex_names_none(level, i),
+        Code::F4 => linedef_side_names_none(level, i),
+        Code::F5 => sidedef_sector_names_none(level, i),
+        Code::F6 => seg_vertex_names_none(level, i),
+        Code::F7 => seg_linedef_names_none(level, i),
+        Code::F8 => seg_side_other(level, i),
+        Code::F9 => seg_without_side(level, i),
+        Code::F10 => ssector_out_of_range(level, i),
+        Code::F17 => no_ssector(level, i),
+        Code::F18 => too_many_nodes(level, i),
+        Code::N1 => lump_name_differs(level, i),
+        Code::N2 => bytes_left_over(level, i),
+        Code::N3 => two_sided_without_side(level, i),
+        Code::N4 => no_side0(level, i),
+        Code::N5 => linedef_of_no_length(level, i),
+        Code::N6 => ssector_without_segs(level, i),
+        Code::N11 => no_start(level, i),
+        Code::N12 => vertex_outside(level, i),
+        _ => false,
     }
 }

@@ -11,7 +11,7 @@ use Rattle.le_rec.specs.declared.records.Vertex.{Vertex}
 use Rattle.map_audit.specs.Findings.{AuditHolds}
 use Rattle.map_audit.proofs.ReportLemmas.{sound_by_report}
 use Rattle.map_cells.specs.Cells.{AreCells, Cells, cell}
-use Rattle.map_cells.specs.Counts.{AreCounts, cells_of, shows}
+use Rattle.map_cells.specs.SectorCounts.{AreCounts, cells_of, shows}
 use Rattle.map_cells.specs.Ends.{IsEnd}
 use Rattle.map_cells.specs.Frame.{Encloses, Frame}
 use Rattle.map_cells.specs.Grid.{Grid, columns_of}
@@ -22,11 +22,11 @@ use Rattle.map_level.specs.Findings.{AreFindings, is_fault}
 use Rattle.map_level.specs.Level.{Level}
 use Rattle.map_level.specs.declared.finding.Finding.{Finding}
 use Rattle.map_tree.specs.Sound.{IsSound}
-use Rattle.map_picture.specs.Drawing.{AreSectorsOf, HasNothing, IsDrawn, IsFrameOf, IsSectorOf, StopsDrawing, TakesWhole}
+use Rattle.map_picture.specs.Drawing.{AreSectorsOf, HasNothing, IsDrawn, IsFrameOf, IsSectorOf, StopsText, TakesWhole}
 use Rattle.map_picture.specs.Listing.{AreListed, IsListed}
 use Rattle.map_picture.specs.Picture.{picture_text}
-use Rattle.map_picture.specs.declared.draw.DrawFault.{DrawFault}
-use Rattle.map_picture.specs.declared.draw.DrawFault.TheVariants.{NothingToDraw, Memory, Write}
+use Rattle.map_picture.specs.declared.draw.TextFault.{TextFault}
+use Rattle.map_picture.specs.declared.draw.TextFault.TheVariants as fault
 use Rattle.map_picture.specs.declared.sectors.SectorCells.{SectorCells}
 
 -- the frame of a level of which none is asked for
@@ -57,11 +57,10 @@ faulty_told level found n are counts =
 pub takes_as : (P Q : List ℕ → Type 0) (before after : SinkState) → ((text : List ℕ) → P text → Q text) → TakesWhole P before after → TakesWhole Q before after
 takes_as P Q before after turns took = record { text = took.text; is = turns took.text took.is; whole = took.whole; sound = took.sound }
 
-pub stops_as : {W : Type 0} (state : W → SinkState) (M N : Type 0) (P Q : List ℕ → Type 0) (out out' : W) (fault : DrawFault)
-    → (M → N) → ((text : List ℕ) → P text → Q text) → StopsDrawing state M P out out' fault → StopsDrawing state N Q out out' fault
-stops_as state M N P Q out out' NothingToDraw nothing turns stops = (nothing stops.0, stops.1)
-stops_as state M N P Q out out' Memory nothing turns stops = stops
-stops_as state M N P Q out out' Write nothing turns stops =
+pub stops_as : {W : Type 0} (state : W → SinkState) (P Q : List ℕ → Type 0) (out out' : W) (fault : TextFault)
+    → ((text : List ℕ) → P text → Q text) → StopsText state P out out' fault → StopsText state Q out out' fault
+stops_as state P Q out out' fault.Memory turns stops = stops
+stops_as state P Q out out' fault.Write turns stops =
     record { text = stops.text; is = turns stops.text stops.is; front = stops.front; failed = stops.failed }
 
 -- the picture by the sectors that the cells show

@@ -1,12 +1,12 @@
 -- The picture of a level by what is asked for alone (ours): its frame, its cells, and what they show.
-use Rattle.std.specs.Prelude.{◌≡◌, ◌⊎◌, ℕ, ◌<◌, false, true, List, [], All, AllPairs, Contains, Option, Some, None}
+use Rattle.std.specs.Prelude.{◌≡◌, ◌↔◌, ◌⊎◌, ℕ, ◌<◌, IsTrue, false, true, List, [], All, AllPairs, Contains, Option, Some, None}
 use Rattle.std.specs.Io.KnownBytes.{Appends}
 use Rattle.le_rec.specs.Sink.{SinkState}
 use Rattle.le_rec.specs.declared.records.Vertex.{Vertex}
 use Rattle.line_io.specs.Writes.{TakesFront}
 use Rattle.map_audit.specs.Findings.{AuditHolds}
 use Rattle.map_cells.specs.Cells.{AreCells, Cells, cell}
-use Rattle.map_cells.specs.Counts.{cells_of}
+use Rattle.map_cells.specs.SectorCounts.{cells_of}
 use Rattle.map_cells.specs.Ends.{IsEnd}
 use Rattle.map_cells.specs.Frame.{Encloses, Frame}
 use Rattle.map_cells.specs.Grid.{Grid, IsSize, grid_at}
@@ -16,9 +16,11 @@ use Rattle.map_level.specs.Level.{Level}
 use Rattle.map_level.specs.declared.finding.Finding.{Finding}
 use Rattle.map_tree.specs.Sound.{IsSound}
 use Rattle.map_picture.specs.Picture.{picture_text}
-use Rattle.map_picture.specs.declared.draw.Asked.{Asked}
+use Rattle.map_picture.specs.declared.draw.View.{View}
 use Rattle.map_picture.specs.declared.draw.DrawFault.{DrawFault}
 use Rattle.map_picture.specs.declared.draw.DrawFault.TheVariants.{NothingToDraw, Memory, Write}
+use Rattle.map_picture.specs.declared.draw.TextFault.{TextFault}
+use Rattle.map_picture.specs.declared.draw.TextFault.TheVariants as text
 use Rattle.map_picture.specs.declared.sectors.SectorCells.{SectorCells}
 
 -- the part that is drawn: the one that is asked for, and else that of the ends of the level's linedefs
@@ -62,7 +64,7 @@ pub record IsDrawn (level : Level) (found : List Finding) (grid : Grid) (text : 
 
 -- the picture's text: of the level's findings, its frame or the one that is asked for, and cells of the least size at which the longer
 -- side has at most as many as are asked for
-pub record IsPicture (level : Level) (asked : Asked) (text : List ℕ) : Type 0 where
+pub record IsPicture (level : Level) (asked : View) (text : List ℕ) : Type 0 where
   pub found : List Finding
   pub audited : AreFindings (AuditHolds level) found
   pub frame : Frame
@@ -85,8 +87,15 @@ pub record TakesSome (IsText : List ℕ → Type 0) (before after : SinkState) :
   pub front : TakesFront before after text
   pub failed : after.failed ≡ true
 
--- why no text of this kind was written: there is nothing to draw, or memory was refused, and then none of it was; or the sink failed
-abbrev pub StopsDrawing : {W : Type 0} → (W → SinkState) → Type 0 → (List ℕ → Type 0) → W → W → DrawFault → Type 0
-StopsDrawing state Nothing IsText out out' NothingToDraw = Nothing × (out' ≡ out)
-StopsDrawing state Nothing IsText out out' Memory = out' ≡ out
-StopsDrawing state Nothing IsText out out' Write = TakesSome IsText (state out) (state out')
+-- why no text of this kind was written: memory was refused, and then none of it was; or the sink failed
+abbrev pub StopsText : {W : Type 0} → (W → SinkState) → (List ℕ → Type 0) → W → W → TextFault → Type 0
+StopsText state IsText out out' text.Memory = out' ≡ out
+StopsText state IsText out out' text.Write = TakesSome IsText (state out) (state out')
+
+-- why no picture of a level was: there is nothing to draw, or memory was refused, and then nothing was written; or the sink failed, and
+-- the level has a fault or none
+abbrev pub StopsDrawing : {W : Type 0} → (W → SinkState) → Level → View → W → W → DrawFault → Type 0
+StopsDrawing state level asked out out' NothingToDraw = HasNothing level asked.frame × (out' ≡ out)
+StopsDrawing state level asked out out' Memory = out' ≡ out
+StopsDrawing state level asked out out' (Write faulty) =
+    (IsTrue faulty ↔ (¬ IsSound level)) × TakesSome (IsPicture level asked) (state out) (state out')

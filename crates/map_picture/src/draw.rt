@@ -3,11 +3,11 @@
 ghost use Rattle.std.specs.Prelude.{◌≡◌, ◌↔◌, ◌≤◌, ◌<◌, [], false, Some, None, Err, IsTrue, IfOk, IfErr, IfSome, OnOk, length};
 ghost use Rattle.map_audit.specs.Findings.{AuditHolds};
 ghost use Rattle.map_cells.specs.Cells.{AreCells, cell};
-ghost use Rattle.map_cells.specs.Counts.{AreCounts};
+ghost use Rattle.map_cells.specs.SectorCounts.{AreCounts};
 ghost use Rattle.map_cells.specs.Groups.{AreGroups};
 ghost use Rattle.map_level.specs.Findings.{AreFindings};
 ghost use Rattle.map_tree.specs.Sound.{IsSound};
-ghost use Rattle.map_picture.specs.Drawing.{AreSectorsOf, HasNothing, IsDrawn, IsFrameOf, IsPicture, StopsDrawing, TakesWhole};
+ghost use Rattle.map_picture.specs.Drawing.{AreSectorsOf, HasNothing, IsDrawn, IsFrameOf, IsPicture, StopsDrawing, StopsText, TakesWhole};
 ghost use Rattle.map_picture.specs.Picture.{picture_text};
 ghost use Rattle.map_picture.specs.declared.draw.DrawFault.TheVariants.{NothingToDraw};
 
@@ -16,18 +16,18 @@ use crate::picture::{Drawn, write_picture};
 use crate::sectors::SectorCells;
 use le_rec::Sink;
 use map_audit::{Report, audit};
-use map_cells::{Cells, Counts, Frame, Grid, Groups, Shown};
+use map_cells::{CellCount, Cells, Frame, Grid, Groups, SectorCounts, Shown};
 use map_level::Level;
 use std::alloc::{AllocError, Allocator};
 use thiserror::Error;
 
 /// What of a level is drawn, and how finely.
 #[derive(Clone, Copy, Debug, PartialEq, Eq)]
-pub struct Asked {
+pub struct View {
     /// The part that is drawn in cells; where there is none, that of the level's linedefs.
     pub frame: Option<Frame>,
-    /// How many cells the frame's longer side has at most, from 1 to 1024.
-    pub cells: u32,
+    /// How many cells the frame's longer side has at most.
+    pub cells: CellCount,
 }
 
 /// Why a level isn't drawn.
@@ -39,9 +39,26 @@ pub enum DrawFault {
     /// A growth was refused.
     #[error("no memory left")]
     Memory,
-    /// The output failed.
+    /// The output failed. Whether the level has a fault.
     #[error("the output can't be written")]
+    Write(bool),
+}
+
+// Why a picture isn't written to its end.
+#[derive(Clone, Copy)]
+enum TextFault {
+    Memory,
     Write,
+}
+
+impl From<AllocError> for TextFault {
+    ghost use Rattle.map_picture.specs.declared.draw.TextFault.TheVariants.{Memory};
+
+    ghost from_gives = { λ _ fault. fault ≡ Memory };
+
+    fn from(_error: AllocError) -> TextFault {
+        TextFault::Memory
+    }
 }
 
 impl From<AllocError> for DrawFault {
@@ -60,23 +77,25 @@ impl From<AllocError> for DrawFault {
 pub fn draw_level<A: Allocator + Copy, W: Sink>(
     alloc: A,
     level: &Level<'_>,
-    asked: Asked,
+    asked: View,
     out: &mut W,
 ) -> Result<bool, DrawFault>
-    requires least { 1 ≤ asked.cells }
-    requires most { asked.cells ≤ 1024 }
     requires sound { (W.state out.old).failed ≡ false }
     ensures drawn { OnOk result (TakesWhole (IsPicture level.now asked) (W.state out.old) (W.state out.new)) }
     ensures faulty { IfOk result (λ faulty. IsTrue faulty ↔ (¬ IsSound level.now)) }
-    ensures stopped { IfErr result (StopsDrawing W.state (HasNothing level.now asked.frame) (IsPicture level.now asked) out.old out.new) }
+    ensures stopped { IfErr result (StopsDrawing W.state level.now asked out.old out.new) }
     ensures nothing { (result ≡ Err NothingToDraw) ↔ HasNothing level.now asked.frame }
 {
     let Some(frame) = frame_of(level, asked.frame) else {
         return Err(DrawFault::NothingToDraw);
     };
     let report = audit(alloc, level)?;
-    draw_report(alloc, level, &report, Grid::new(frame, asked.cells), out)?;
-    Ok(report.faults() > 0)
+    let faulty = report.faults() > 0;
+    match draw_report(alloc, level, &report, Grid::new(frame, asked.cells), out) {
+        Ok(()) => Ok(faulty),
+        Err(TextFault::Memory) => Err(DrawFault::Memory),
+        Err(TextFault::Write) => Err(DrawFault::Write(faulty)),
+    }
 }
 
 // The part that is drawn: the one that is asked for, and else the level's.
@@ -97,11 +116,11 @@ fn draw_report<A: Allocator + Copy, W: Sink>(
     report: &Report<A>,
     grid: Grid,
     out: &mut W,
-) -> Result<(), DrawFault>
+) -> Result<(), TextFault>
     requires audited { AreFindings (AuditHolds level.now) report.now }
     requires sound { (W.state out.old).failed ≡ false }
     ensures drawn { OnOk result (TakesWhole (IsDrawn level.now report.now grid) (W.state out.old) (W.state out.new)) }
-    ensures stopped { IfErr result (StopsDrawing W.state ⊥ (IsDrawn level.now report.now grid) out.old out.new) }
+    ensures stopped { IfErr result (StopsText W.state (IsDrawn level.now report.now grid) out.old out.new) }
 {
     if report.faults() > 0 {
         draw_shown(level, report, grid, &[], out)
@@ -117,11 +136,11 @@ fn draw_sound<A: Allocator + Copy, W: Sink>(
     report: &Report<A>,
     grid: Grid,
     out: &mut W,
-) -> Result<(), DrawFault>
+) -> Result<(), TextFault>
     requires level_sound { IsSound level.now }
     requires sound { (W.state out.old).failed ≡ false }
     ensures drawn { OnOk result (TakesWhole (IsDrawn level.now report.now grid) (W.state out.old) (W.state out.new)) }
-    ensures stopped { IfErr result (StopsDrawing W.state ⊥ (IsDrawn level.now report.now grid) out.old out.new) }
+    ensures stopped { IfErr result (StopsText W.state (IsDrawn level.now report.now grid) out.old out.new) }
 {
     let cells = cells_of(alloc, level, grid)?;
     draw_cells(alloc, level, report, &cells, out)
@@ -147,15 +166,15 @@ fn draw_cells<A: Allocator + Copy, W: Sink>(
     report: &Report<A>,
     cells: &Cells<A>,
     out: &mut W,
-) -> Result<(), DrawFault>
+) -> Result<(), TextFault>
     requires level_sound { IsSound level.now }
     requires are { AreCells level.now cells.now }
     requires sound { (W.state out.old).failed ≡ false }
     ensures drawn { OnOk result (TakesWhole (IsDrawn level.now report.now cells.now.grid) (W.state out.old) (W.state out.new)) }
-    ensures stopped { IfErr result (StopsDrawing W.state ⊥ (IsDrawn level.now report.now cells.now.grid) out.old out.new) }
+    ensures stopped { IfErr result (StopsText W.state (IsDrawn level.now report.now cells.now.grid) out.old out.new) }
 {
     let groups = Groups::of(alloc, cells)?;
-    let counts = Counts::of(alloc, cells)?;
+    let counts = SectorCounts::of(alloc, cells)?;
     let shown = listed(alloc, &groups, &counts)?;
     draw_shown(level, report, cells.grid(), &shown, out)
 }
@@ -167,11 +186,11 @@ fn draw_shown<A: Allocator, W: Sink>(
     grid: Grid,
     shown: &[SectorCells<'_>],
     out: &mut W,
-) -> Result<(), DrawFault>
+) -> Result<(), TextFault>
     requires { (W.state out.old).failed ≡ false }
     ensures drawn { OnOk result (TakesWhole (λ text. text ≡ picture_text level.now report.now grid.frame grid.size shown.now)
         (W.state out.old) (W.state out.new)) }
-    ensures stopped { IfErr result (StopsDrawing W.state ⊥ (λ text. text ≡ picture_text level.now report.now grid.frame grid.size shown.now)
+    ensures stopped { IfErr result (StopsText W.state (λ text. text ≡ picture_text level.now report.now grid.frame grid.size shown.now)
         out.old out.new) }
 {
     let drawn = Drawn {
@@ -181,6 +200,6 @@ fn draw_shown<A: Allocator, W: Sink>(
     };
     match write_picture(level, report, &drawn, out) {
         Ok(()) => Ok(()),
-        Err(_) => Err(DrawFault::Write),
+        Err(_) => Err(TextFault::Write),
     }
 }

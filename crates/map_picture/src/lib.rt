@@ -17,6 +17,6 @@ mod things;
 mod window;
 mod word;
 
-pub use draw::{Asked, DrawFault, draw_level};
+pub use draw::{DrawFault, View, draw_level};
 pub use picture::{Drawn, write_picture};
 pub use sectors::SectorCells;

@@ -4,14 +4,14 @@ ghost use Rattle.std.specs.Prelude.{◌≡◌, ◌+◌, ◌<◌, ◌≤◌, IfOk
 ghost use Rattle.map_picture.specs.Listing.{AreListed};
 
 use crate::sectors::SectorCells;
-use map_cells::{Counts, Groups};
+use map_cells::{Groups, SectorCounts};
 use std::alloc::{AllocError, Allocator};
 
 /// The sectors that have cells, ascending.
 pub fn listed<'g, A: Allocator>(
     alloc: A,
     groups: &'g Groups<A>,
-    counts: &Counts<A>,
+    counts: &SectorCounts<A>,
 ) -> Result<Vec<SectorCells<'g>, A>, AllocError>
     ensures { IfOk result (λ list. AreListed groups.entry.now counts.now (length groups.entry.now) list.items) }
 {
@@ -25,7 +25,7 @@ pub fn listed<'g, A: Allocator>(
 // Adds a sector, where it has cells.
 fn list_sector<'g, A: Allocator>(
     groups: &'g Groups<A>,
-    counts: &Counts<A>,
+    counts: &SectorCounts<A>,
     sector: usize,
     list: &mut Vec<SectorCells<'g>, A>,
 ) -> Result<(), AllocError>

@@ -89,16 +89,16 @@ rows_of-one b e = omega (arith, ints)
 pub near_halvings : (l e : ℤ) → e ≤ℤ (l +ℤ pos 32768) → e ≤ℤ (l +ℤ pos (2 ^ 15))
 near_halvings l e h = h
 
-half_low : (b : Rect) (y : ℤ) (d : ℕ) → IsArea b → IsMiddleRow b y → rows_of b ≤ 2 * d → rows_of (rows_to b y) ≤ d
+pub half_low : (b : Rect) (y : ℤ) (d : ℕ) → IsArea b → IsMiddleRow b y → rows_of b ≤ 2 * d → rows_of (rows_to b y) ≤ d
 half_low b y d area middle h = omega (arith, ints, middle.more, middle.middle.lower, middle.middle.upper)
 
-half_high : (b : Rect) (y : ℤ) (d : ℕ) → IsArea b → IsMiddleRow b y → rows_of b ≤ 2 * d → rows_of (rows_above b y) ≤ d
+pub half_high : (b : Rect) (y : ℤ) (d : ℕ) → IsArea b → IsMiddleRow b y → rows_of b ≤ 2 * d → rows_of (rows_above b y) ≤ d
 half_high b y d area middle h = omega (arith, ints, middle.more, middle.middle.lower, middle.middle.upper)
 
-not_one : (b : Rect) (y : ℤ) → IsMiddleRow b y → rows_of b ≤ 1 → ⊥
+pub not_one : (b : Rect) (y : ℤ) → IsMiddleRow b y → rows_of b ≤ 1 → ⊥
 not_one b y middle h = omega (arith, ints, middle.more)
 
-double : (k j : ℕ) → k ≤ 2 ^ suc j → k ≤ 2 * 2 ^ j
+pub double : (k j : ℕ) → k ≤ 2 ^ suc j → k ≤ 2 * 2 ^ j
 double k j h = omega (arith, pow-suc 2 j)
 
 -- a node with a partition is there

@@ -1,6 +1,8 @@
--- How a row nears the line of a partition, with each column.
-use Rattle.std.proofs.Common.{ℕ, zero, suc, ◌+◌, ◌*◌, ◌<◌, ℤ, pos, negsuc, ◌+ℤ◌, ◌-ℤ◌, ◌*ℤ◌, ◌≤ℤ◌, ◌<ℤ◌, ◌≡◌, refl, sym, ap, ◌∙◌, subst, arith}
-use Rattle.std.proofs.lemmas.Int.{ints}
+-- The column at which a row's side changes, by a division.
+use Rattle.std.proofs.Common.{ℕ, zero, suc, ◌+◌, ◌*◌, ◌/◌, ◌%◌, ◌<◌, ◌≤◌, ℤ, pos, negsuc, ◌+ℤ◌, ◌-ℤ◌, ◌*ℤ◌, ◌≤ℤ◌, ◌<ℤ◌, ◌≡◌, refl, sym, ap, ◌∙◌, subst, arith}
+use Rattle.std.proofs.lemmas.Int.{ints, by_lt_z}
+use Rattle.std.proofs.lemmas.Nat.{div-add-mod', mod_below}
+use Rattle.std.proofs.Math.Nat.{mul-lt-mul_of_pos_right}
 use Rattle.std.specs.Prelude.{unsigned_abs}
 use borrow.Author.Differences.{up, down}
 use Rattle.map_geo.specs.declared.sides.Side.{Side}
@@ -8,8 +10,9 @@ use Rattle.map_geo.specs.declared.sides.Side.TheVariants.{Front, Back}
 use Rattle.map_geo.specs.Partition.{Partition}
 use Rattle.map_geo.specs.Point.{point_at}
 use Rattle.map_geo.specs.Side.{cross, side_of, other}
-use Rattle.map_geo.proofs.AlongLemmas.{row_stays}
+use Rattle.map_geo.proofs.AlongLemmas.{sides_along_rows, row_stays}
 use Rattle.map_geo.proofs.SignLemmas.{side_of-front, side_of-back, cross-front, cross-back}
+use Rattle.map_tree.specs.Cuts.{IsLast}
 use Rattle.map_tree.proofs.RowLemmas.{not_other}
 
 -- a factor goes into a sum
@@ -101,3 +104,65 @@ pub nears : (line : Partition) (y : ℤ) (s : Side) (x0 x1 c : ℤ) → x0 <ℤ 
 nears line y s x0 x1 c ordered is left right =
     let more = columns_between x0 x1 ordered in
     nears_by line y x0 c is s more.0 line.dy refl left (subst (λ x. side_of line (point_at x y) ≡ other s) more.1 right)
+
+-- a column with the side and the next one without it
+last_where : (line : Partition) (y : ℤ) (s : Side) (x0 x1 c : ℤ) → x0 ≤ℤ c → c <ℤ x1 → side_of line (point_at c y) ≡ s
+    → side_of line (point_at (c +ℤ pos 1) y) ≡ other s → side_of line (point_at x1 y) ≡ other s → IsLast line y s x0 x1 c
+last_where line y s x0 x1 c from below has next right = record {
+  from = from;
+  below = below;
+  has = has;
+  others = λ x after to. sides_along_rows line y (c +ℤ pos 1) x x1 (omega (arith, ints)) to (next ∙ sym right) ∙ next;
+}
+
+not_further : (q step distance w : ℕ) → 0 < step → q * step ≤ distance → w < q → w * step < distance
+not_further q step distance w some enough less = omega (arith, mul-lt-mul_of_pos_right {k = step} less some)
+
+one_further : (q step distance r : ℕ) → distance ≡ q * step + r → r < step → distance < (q + 1) * step
+one_further q step distance r e less = omega arith
+
+next_column : (x0 : ℤ) (q : ℕ) → (x0 +ℤ pos q) +ℤ pos 1 ≡ x0 +ℤ pos (q + 1)
+next_column x0 q = omega (arith, ints)
+
+module _ (line : Partition) (y : ℤ) (s : Side) (x0 x1 : ℤ) (distance step : ℕ) (near : Nears line y s x0 distance step) (right : side_of line (point_at x1 y) ≡ other s) (ordered : x0 <ℤ x1) where
+  abbrev met : ℕ
+  met = distance / step
+
+  apart : distance ≡ met * step + distance % step
+  apart = sym (div-add-mod' distance step)
+
+  pub met_within : (x0 +ℤ pos met) ≤ℤ x1
+  met_within = by_lt_z x1 (x0 +ℤ pos met)
+      (λ past.
+      let more = columns_between x0 x1 ordered in
+      let short : suc more.0 < met = omega (arith, ints, more.1) in
+      absurd (not_other s (sym (near.before (suc more.0) (not_further met step distance (suc more.0) near.some (omega (arith, apart)) short)) ∙ subst (λ x. side_of line (point_at x y) ≡ other s) more.1 right)))
+      (λ within. within)
+
+  pub side_off_line : (distance % step ≡ 0 → ⊥) → side_of line (point_at (x0 +ℤ pos met) y) ≡ s
+  side_off_line off = near.before met (omega (arith, apart))
+
+  pub last_at : side_of line (point_at (x0 +ℤ pos met) y) ≡ s → IsLast line y s x0 x1 (x0 +ℤ pos met)
+  last_at has =
+      let next : side_of line (point_at ((x0 +ℤ pos met) +ℤ pos 1) y) ≡ other s = rw next_column (near.behind (met + 1) (one_further met step distance (distance % step) apart (mod_below distance step near.some))) in
+      last_where line y s x0 x1 (x0 +ℤ pos met) (omega (arith, ints))
+      (by_lt_z (x0 +ℤ pos met) x1 (λ below. below)
+      (λ past. let same : x0 +ℤ pos met ≡ x1 = omega (arith, ints, met_within) in absurd (not_other s (sym has ∙ (ap (λ x. side_of line (point_at x y)) same ∙ right)))))
+      has next right
+
+  last_of : (q : ℕ) → met ≡ q → distance % step ≡ 0 → side_of line (point_at x0 y) ≡ s → side_of line (point_at (x0 +ℤ pos met) y) ≡ other s
+      → IsLast line y s x0 x1 ((x0 +ℤ pos met) -ℤ pos 1)
+  last_of zero e on left has_not =
+      let same : x0 +ℤ pos met ≡ x0 = omega (arith, ints, e) in
+      absurd (not_other s (sym left ∙ (sym (ap (λ x. side_of line (point_at x y)) same) ∙ has_not)))
+  last_of (suc p) e on left has_not =
+      let column : (x0 +ℤ pos met) -ℤ pos 1 ≡ x0 +ℤ pos p = omega (arith, ints, e) in
+      let next : x0 +ℤ pos met ≡ (x0 +ℤ pos p) +ℤ pos 1 = omega (arith, ints, e) in
+      let nearer : distance ≡ suc p * step = apart ∙ (ap (λ r. met * step + r) on ∙ (ap (λ q. q * step + 0) e ∙ omega arith)) in
+      rw column (last_where line y s x0 x1 (x0 +ℤ pos p) (omega (arith, ints)) (omega (arith, ints, met_within, e))
+      (near.before p (omega (arith, nearer, near.some)))
+      (sym (ap (λ x. side_of line (point_at x y)) next) ∙ has_not) right)
+
+  pub last_before : distance % step ≡ 0 → side_of line (point_at x0 y) ≡ s → side_of line (point_at (x0 +ℤ pos met) y) ≡ other s
+      → IsLast line y s x0 x1 ((x0 +ℤ pos met) -ℤ pos 1)
+  last_before = last_of met refl

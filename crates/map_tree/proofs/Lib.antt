@@ -16,12 +16,16 @@ pub mod MarkLemmas
 pub mod MiddleLemmas
 pub mod RowLemmas
 pub mod ColumnLemmas
+pub mod UprightLemmas
 pub mod BoundLemmas
 pub mod WorkLemmas
 pub mod CountLemmas
 pub mod FewLemmas
+pub mod PieceLemmas
 pub mod HeldLemmas
 pub mod TurnLemmas
+pub mod AreaLemmas
+pub mod SomeWorkLemmas
 pub mod PairLemmas
 pub mod TouchedLemmas
 pub mod TotalLemmas

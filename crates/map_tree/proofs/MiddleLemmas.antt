@@ -1,11 +1,12 @@
 -- The middle of two numbers, and what fits.
-use Rattle.std.proofs.Common.{ℤ, pos, negsuc, ◌+ℤ◌, ◌≤ℤ◌, ◌<ℤ◌, ◌≡◌, FitsSigned, to_z, of_z, w32, refl, arith}
+use Rattle.std.proofs.Common.{ℤ, pos, negsuc, ◌+ℤ◌, ◌≤ℤ◌, ◌<ℤ◌, ◌≡◌, ◌∙◌, FitsSigned, to_z, of_z, w32, refl, arith}
 use Rattle.std.proofs.lemmas.Int.{ints, to_z-of_z}
 use Rattle.std.specs.Int.Signed.{shr_z}
 use Rattle.map_geo.specs.Point.{IsInRange}
+use Rattle.map_geo.proofs.PointCountLemmas.{in_fits}
 use Rattle.map_tree.specs.Cuts.{IsMiddle}
 
-half_of : (low high sum : ℤ) → sum ≡ low +ℤ high → IsMiddle (shr_z sum 2) low high
+pub half_of : (low high sum : ℤ) → sum ≡ low +ℤ high → IsMiddle (shr_z sum 2) low high
 half_of low high (pos n) e = record { lower = omega (arith, ints, e); upper = omega (arith, ints, e) }
 half_of low high (negsuc n) e = record { lower = omega (arith, ints, e); upper = omega (arith, ints, e) }
 
@@ -38,3 +39,37 @@ between_fits a z b h k from below = omega (arith, ints, h.least, k.greatest)
 
 pub next_fits : (a z b : ℤ) → IsInRange a → IsInRange b → a ≤ℤ z → z <ℤ b → FitsSigned w32 (z +ℤ pos 1)
 next_fits a z b h k from below = omega (arith, ints, h.least, k.greatest)
+
+-- what is less than a number is at most that number when it grows by one
+pub next_to : (y b : ℤ) → y <ℤ b → (y +ℤ pos 1) ≤ℤ b
+next_to y b h = omega (arith, ints)
+
+-- what is read of a number that is told to be one in range is that one
+pub read_as : (z b : ℤ) → z ≡ b → IsInRange b → to_z w32 (of_z w32 z) ≡ b
+read_as z b same h = let fits : FitsSigned w32 z = rw same (in_fits b h) in to_z-of_z w32 z fits ∙ same
+
+pub read_in : (z b : ℤ) → z ≡ b → IsInRange b → IsInRange (to_z w32 (of_z w32 z))
+read_in z b same h = rw (read_as z b same h) h
+
+less_at_most : (z b : ℤ) → z <ℤ b → z ≤ℤ b
+less_at_most z b h = omega (arith, ints)
+
+at_most_next : (a z : ℤ) → a ≤ℤ z → a ≤ℤ (z +ℤ pos 1)
+at_most_next a z h = omega (arith, ints)
+
+-- a column from a to below b, as it is read, and the next one
+module _ (a z b : ℤ) (a_in : IsInRange a) (b_in : IsInRange b) (from : a ≤ℤ z) (below : z <ℤ b) where
+  z_fits : FitsSigned w32 z
+  z_fits = between_fits a z b a_in b_in from below
+
+  pub read_from : a ≤ℤ to_z w32 (of_z w32 z)
+  read_from = rw (to_z-of_z w32 z z_fits) from
+
+  pub read_to : to_z w32 (of_z w32 z) ≤ℤ b
+  read_to = rw (to_z-of_z w32 z z_fits) (less_at_most z b below)
+
+  pub next_read_fits : FitsSigned w32 (to_z w32 (of_z w32 z) +ℤ pos 1)
+  next_read_fits = rw (to_z-of_z w32 z z_fits) (next_fits a z b a_in b_in from below)
+
+  pub next_read_from : a ≤ℤ to_z w32 (of_z w32 (to_z w32 (of_z w32 z) +ℤ pos 1))
+  next_read_from = rw (to_z-of_z w32 z z_fits, to_z-of_z w32 (z +ℤ pos 1) (next_fits a z b a_in b_in from below)) (at_most_next a z from)

@@ -9,8 +9,8 @@ use Rattle.map_geo.specs.Point.{point_at}
 use Rattle.map_geo.specs.Partition.{Partition}
 use Rattle.map_geo.specs.Side.{side_of, other}
 use Rattle.map_geo.specs.Rect.{Rect, IsWholeSide}
-use Rattle.map_geo.proofs.AlongLemmas.{sides_along_rows}
-use Rattle.map_tree.specs.Cuts.{IsCut, Halvings, beside, in_right, in_left, IsMiddle, IsLast}
+use Rattle.map_geo.proofs.AlongLemmas.{column_stays, sides_along_rows}
+use Rattle.map_tree.specs.Cuts.{IsCut, Halvings, beside, in_right, in_left, IsMiddle, IsLast, columns_to, columns_right}
 
 pub same_side : (a b : Side) → sameb the_type a b ≡ true → a ≡ b
 same_side Front Front e = refl
@@ -90,7 +90,7 @@ module _ (line : Partition) (y : ℤ) (s : Side) (x0 x1 : ℤ) where
   Searched-halvings l e halvings so_far near =
       subst (Halvings line y s x0 x1) (omega arith) (so_far.owes 0 (beside l e (omega (arith, ints, so_far.ordered))))
 
-same_or_other : (a b : Side) → (a ≡ b) ⊎ (a ≡ other b)
+pub same_or_other : (a b : Side) → (a ≡ b) ⊎ (a ≡ other b)
 same_or_other Front Front = inl refl
 same_or_other Front Back = inr refl
 same_or_other Back Front = inr refl
@@ -99,20 +99,42 @@ same_or_other Back Back = inl refl
 pub same_from_bounds : (a b z : ℤ) → a ≡ b → a ≤ℤ z → z ≤ℤ b → z ≡ a
 same_from_bounds a b z e h k = omega (arith, ints)
 
-whole_row : (line : Partition) (b : Rect) → b.y0 ≡ b.y1 → side_of line (point_at b.x1 b.y0) ≡ side_of line (point_at b.x0 b.y0) → IsWholeSide b line (side_of line (point_at b.x0 b.y0))
-whole_row line b flat same place inside =
-    ap (λ y. side_of line (point_at place.x y)) (same_from_bounds b.y0 b.y1 place.y flat inside.lowest inside.highest) ∙ sides_along_rows line b.y0 b.x0 place.x b.x1 inside.left inside.right (sym same)
+-- each row has the sides of the lowest
+abbrev pub AreAlike : Partition → Rect → Type 0
+AreAlike line b = (y : ℤ) → b.y0 ≤ℤ y → y ≤ℤ b.y1 → (x : ℤ) → side_of line (point_at x y) ≡ side_of line (point_at x b.y0)
 
-pub ends_differ : (line : Partition) (b : Rect) → b.y0 ≡ b.y1 → IsCut b line → side_of line (point_at b.x1 b.y0) ≡ other (side_of line (point_at b.x0 b.y0))
-ends_differ line b flat cut = elim (same_or_other (side_of line (point_at b.x1 b.y0)) (side_of line (point_at b.x0 b.y0))) [
-  | inl same ↦ absurd (cut _ (whole_row line b flat same))
+-- so it is where there is one row, or the partition is upright
+pub alike : (line : Partition) (b : Rect) → (b.y0 ≡ b.y1) ⊎ (line.dx ≡ pos 0) → AreAlike line b
+alike line b (inl flat) y from to x = ap (λ z. side_of line (point_at x z)) (same_from_bounds b.y0 b.y1 y flat from to)
+alike line b (inr upright) y from to x = column_stays line x y b.y0 upright
+
+whole_rows : (line : Partition) (b : Rect) → AreAlike line b → side_of line (point_at b.x1 b.y0) ≡ side_of line (point_at b.x0 b.y0) → IsWholeSide b line (side_of line (point_at b.x0 b.y0))
+whole_rows line b same_rows same place inside =
+    same_rows place.y inside.lowest inside.highest place.x ∙ sides_along_rows line b.y0 b.x0 place.x b.x1 inside.left inside.right (sym same)
+
+pub ends_differ : (line : Partition) (b : Rect) → AreAlike line b → IsCut b line → side_of line (point_at b.x1 b.y0) ≡ other (side_of line (point_at b.x0 b.y0))
+ends_differ line b same_rows cut = elim (same_or_other (side_of line (point_at b.x1 b.y0)) (side_of line (point_at b.x0 b.y0))) [
+  | inl same ↦ absurd (cut _ (whole_rows line b same_rows same))
   | inr differ ↦ differ
 ]
+
+after : (c x : ℤ) → (c +ℤ pos 1) ≤ℤ x → c <ℤ x
+after c x h = omega (arith, ints)
+
+-- the columns up to the last one with the side of the left end have it, in each row
+pub near_side : (line : Partition) (b : Rect) (s : Side) (c : ℤ) → AreAlike line b → side_of line (point_at b.x0 b.y0) ≡ s → IsLast line b.y0 s b.x0 b.x1 c → IsWholeSide (columns_to b c) line s
+near_side line b s c same_rows left last place inside =
+    same_rows place.y inside.lowest inside.highest place.x ∙ (sides_along_rows line b.y0 b.x0 place.x c inside.left inside.right (left ∙ sym last.has) ∙ left)
+
+-- the columns right of it have the other one
+pub far_side : (line : Partition) (b : Rect) (s : Side) (c : ℤ) → AreAlike line b → IsLast line b.y0 s b.x0 b.x1 c → IsWholeSide (columns_right b c) line (other s)
+far_side line b s c same_rows last place inside =
+    same_rows place.y inside.lowest inside.highest place.x ∙ last.others place.x (after c place.x inside.left) inside.right
 
 pub not_other : (a : Side) → a ≡ other a → ⊥
 not_other Front e = cc
 not_other Back e = cc
 
-pub ends_ordered : (line : Partition) (b : Rect) → b.x0 ≤ℤ b.x1 → b.y0 ≡ b.y1 → IsCut b line → b.x0 <ℤ b.x1
-ends_ordered line b some flat cut =
-    by_lt_z b.x0 b.x1 (λ h. h) (λ h. let one : b.x0 ≡ b.x1 = omega (arith, ints) in absurd (not_other (side_of line (point_at b.x1 b.y0)) (rw one at (ends_differ line b flat cut))))
+pub ends_ordered : (line : Partition) (b : Rect) → b.x0 ≤ℤ b.x1 → AreAlike line b → IsCut b line → b.x0 <ℤ b.x1
+ends_ordered line b some same_rows cut =
+    by_lt_z b.x0 b.x1 (λ h. h) (λ h. let one : b.x0 ≡ b.x1 = omega (arith, ints) in absurd (not_other (side_of line (point_at b.x1 b.y0)) (rw one at (ends_differ line b same_rows cut))))

@@ -1,13 +1,13 @@
 -- The sectors whose number is above 0.
-use Rattle.std.proofs.Common.{ℕ, zero, suc, ◌+◌, ◌<◌, ◌≡◌, ◌≢◌, inl, inr, refl, sym, ap, ◌∙◌, subst, List, [], ◌∷◌, ◌++◌, length, get_or, set, map, replicate, arith}
+use Rattle.std.proofs.Common.{ℕ, zero, suc, ◌+◌, ◌<◌, ◌≡◌, ◌≢◌, inl, inr, refl, sym, ap, ◌∙◌, subst, List, [], ◌∷◌, ◌++◌, length, get_or, set, map, replicate, length-append, arith}
 use Rattle.std.specs.List.{All, Contains}
 use Rattle.std.specs.List.Sorted.{IsPermutation, IsNonDecreasing}
 use Rattle.std.proofs.Math.Dec.{eqb}
 use Rattle.std.proofs.Math.ListN.{get_or-eq_default}
 use Rattle.std.proofs.lemmas.Bool.{cases_eq, cases_lt}
 use Rattle.std.proofs.lemmas.Bool.Decides.{Decides-eqb, eqb_tells}
-use Rattle.std.proofs.lemmas.List.{get_or_default, get_or-set_same, get_or-set_other, get_or-map, length-map}
-use Rattle.std.proofs.lemmas.List.Elements.{All-map, All-nil, All-push, Contains-push, Contains-append_left}
+use Rattle.std.proofs.lemmas.List.{length-set, get_or_default, get_or_push, get_or_append_left, get_or-set_same, get_or-set_other, get_or-map, length-map}
+use Rattle.std.proofs.lemmas.List.Elements.{All-map, All-nil, All-push, Contains-push, Contains-append_left, Contains-append_cases}
 use Rattle.std.proofs.lemmas.List.Quantifiers.{all_pairs_push}
 use Rattle.std.proofs.lemmas.List.Sorted.{All-permutation, Contains-permutation}
 use Rattle.std.proofs.lemmas.List.Kept.{AllPairs-from_increasing}
@@ -121,3 +121,31 @@ pairs_from_sorted numbers touched rising touches =
           let there = touches.each s above in
           (there.0, omega (arith, there.1, long), get_or-map pair touched there.0 s (pair s) there.1 ∙ ap pair there.2);
     }
+
+only_one : (s t : ℕ) → Contains (s ∷ []) t → t ≡ s
+only_one s t (zero, within, is) = sym is
+only_one s t (suc n, within, is) = absurd (omega arith)
+
+-- when the last of the list is taken off and its number made 0, the others stay listed
+module _ (numbers touched front : List ℕ) (s k : ℕ) (ends : touched ≡ front ++ s ∷ []) (same : k ≡ s) (within : All (λ t. t < length numbers) touched) where
+  longer : length touched ≡ length front + 1
+  longer = ap length ends ∙ length-append front (s ∷ [])
+
+  pub last_within : k < length numbers
+  last_within =
+      let last = ap (λ xs. get_or xs (length front) 0) ends ∙ get_or_push front s 0 (length front) refl in
+      subst (λ t. t < length numbers) (last ∙ sym same) (within (length front) 0 (omega (arith, longer)))
+
+  pub left_within : All (λ t. t < length (set numbers k 0)) front
+  left_within i d h =
+      let is = ap (λ xs. get_or xs i d) ends ∙ get_or_append_left front (s ∷ []) d i h in
+      simp length-set (subst (λ t. t < length numbers) is (within i d (omega (arith, h, longer))))
+
+  pub left_each : ((t : ℕ) → 0 < get_or numbers t 0 → Contains touched t) → (t : ℕ) → 0 < get_or (set numbers k 0) t 0 → Contains front t
+  left_each each t above = elim (cases_eq t k) [
+    | inl e ↦ absurd (omega (arith, subst (λ u. 0 < get_or (set numbers k 0) u 0) e above, get_or-set_same numbers k 0 0 last_within))
+    | inr e ↦ elim (Contains-append_cases front (s ∷ []) t (subst (λ xs. Contains xs t) ends (each t (subst (λ m. 0 < m) (get_or-set_other numbers k t 0 0 e) above)))) [
+      | inl h ↦ h
+      | inr h ↦ absurd (e (only_one s t h ∙ sym same))
+    ]
+  ]

@@ -1,12 +1,8 @@
 -- One turn of a census's loop.
-use Rattle.std.proofs.Common.{ℕ, suc, ◌+◌, ◌-◌, ◌<◌, ◌≤◌, max, ◌≡◌, inl, inr, refl, ap, ◌∙◌, subst, List, [], ◌∷◌, ◌++◌, reverse, length, get_or, set, Fits, w16, w32, w64, Option, Some, None, IsTrue, arith}
+use Rattle.std.proofs.Common.{ℕ, suc, ◌+◌, ◌-◌, ◌<◌, ◌≤◌, max, ◌≡◌, inl, inr, subst, List, [], ◌∷◌, length, get_or, set, Fits, w32, w64, Some, arith}
 use Rattle.std.specs.Prelude.{IsSomeAnd}
-use Rattle.std.specs.List.{sum, slice_get}
-use Rattle.std.proofs.Math.Facts.{Fits-lt-pow}
-use Rattle.std.proofs.lemmas.List.{reverse-append}
-use Rattle.std.proofs.lemmas.Bool.{ltb-true}
+use Rattle.std.specs.List.{slice_get}
 use Rattle.std.proofs.lemmas.Nat.{mul-le}
-use Rattle.std.proofs.lemmas.List.Sums.{get_or-le-sum_by}
 use Rattle.le_rec.specs.declared.records.Node.{Node}
 use Rattle.map_geo.specs.Rect.{Rect, IsRect}
 use Rattle.map_level.specs.Level.{Level}
@@ -14,24 +10,13 @@ use Rattle.map_level.specs.SectorOf.{sector_of}
 use Rattle.map_tree.specs.declared.pieces.Piece.{Piece}
 use Rattle.map_tree.specs.declared.pieces.Halves.{Halves}
 use Rattle.map_tree.specs.Paths.{Place}
-use Rattle.map_tree.specs.Child.{node_count, ssector_count, has}
-use Rattle.map_tree.specs.SectorList.{ListsSectors}
-use Rattle.map_tree.specs.Steps.{IsWord, IsTally, IsDown, IsApart}
-use Rattle.map_tree.proofs.DescentLemmas.{place_below}
-use Rattle.map_tree.proofs.SectorListLemmas.{listed_sector}
+use Rattle.map_tree.specs.Steps.{IsTally, IsDown, IsApart}
 use Rattle.map_tree.proofs.BoundLemmas.{most_tests}
 use Rattle.map_geo.proofs.PointCountLemmas.{few_points}
-use Rattle.map_tree.proofs.CountLemmas.{area-some, rows_few}
-use Rattle.map_tree.proofs.FewLemmas.{IsSized, area_from_rect}
-use Rattle.map_tree.proofs.PlaceLemmas.{ssector_place}
-use Rattle.map_tree.proofs.HeldLemmas.{Held, Held-down, Held-rows, Held-row, Held-leaf, measure, less-down, less-rows, less-row, area}
-
-pub reverse_push : (ps : List Piece) (p : Piece) → reverse (ps ++ (p ∷ [])) ≡ p ∷ reverse ps
-reverse_push ps p = reverse-append ps (p ∷ [])
-
--- a list after a push, the newest first
-pub pushed : (before after : List Piece) (p : Piece) → after ≡ before ++ (p ∷ []) → reverse after ≡ p ∷ reverse before
-pushed before after p e = rw e (reverse_push before p)
+use Rattle.map_tree.proofs.CountLemmas.{rows_few}
+use Rattle.map_tree.proofs.FewLemmas.{IsSized}
+use Rattle.map_tree.proofs.HeldLemmas.{Held, Held-down, Held-rows, Held-row, Held-leaf, less-down, less-rows, less-row}
+use Rattle.map_tree.proofs.PieceLemmas.{area, measure, some_and}
 
 same_most : (m k n r : ℕ) → r ≡ max m (n + 1) → n ≡ suc k → max m (k + 2) ≡ r
 same_most m k n r h e = omega arith
@@ -41,14 +26,6 @@ fits_tests tests rest most h k = omega arith
 
 fits_most : (most whole : ℕ) → most ≤ whole → whole ≤ 1048576 → Fits w32 most
 fits_most most whole h k = omega arith
-
-fits_count : (count all stack whole more : ℕ) → count ≤ all → all + (more + stack) ≡ whole → whole ≤ 1048576 → Fits w32 (count + more)
-fits_count count all stack whole more h k j = omega arith
-
--- what an option holds
-pub some_and : {A : Type 0} (o : Option A) (P : A → Type 0) → IsSomeAnd o P → (x : A) × (o ≡ Some x) × P x
-some_and None P h = elim h [ ]
-some_and (Some x) P h = (x, refl, h)
 
 size_few : (n m : ℕ) → n ≤ m → m ≤ 32767 → n ≤ 32767
 size_few n m h k = omega arith
@@ -75,31 +52,6 @@ module _ (level : Level) (size : Place → ℕ) (rect : Rect) (sized : IsSized l
   }
 
   module _ (p : Piece) (rest : List Piece) (counts : List ℕ) (tests most : ℕ) (held : Held level size rect (p ∷ rest) counts tests most) where
-    pub ssector_in : 32768 ≤ p.word → p.word - 32768 < ssector_count level
-    ssector_in above = ltb-true (p.word - 32768) (ssector_count level) (subst (λ q. IsTrue (has level q)) (ssector_place p.word above) held.good.0.is_there)
-
-    -- the sector of the ssector, as listed, has its number in the counts
-    pub sector_in : (start sectors : List ℕ) (t k : ℕ) → ((u s : ℕ) → sector_of level u ≡ Some s → s < 65536 → s < length start) → length counts ≡ length start
-        → ListsSectors level sectors → ((u : ℕ) → Fits w16 (get_or sectors u 0)) → 32768 ≤ p.word → t ≡ p.word - 32768 → k ≡ get_or sectors t 0
-        → (sector_of level (p.word - 32768) ≡ Some k) × (k < length counts)
-    sector_in start sectors t k within long lists fit above t_is at =
-        let sector_is = listed_sector level sectors (p.word - 32768) 0 k lists (ssector_in above) (at ∙ ap (λ n. get_or sectors n 0) t_is) in
-        let small : k < 65536 = rw at (Fits-lt-pow (fit t)) in
-        (sector_is, rw long (within _ k sector_is small))
-
-    pub node_there : p.word < 32768 → p.word < node_count level
-    node_there below = ltb-true p.word (node_count level) (subst (λ q. IsTrue (has level q)) (place_below p.word below) held.good.0.is_there)
-
-    pub is_word : IsWord level.nodes.records p.word
-    is_word = λ below. sized.tree.origins p.word (node_there below)
-
-    pub some_points : (more : ℕ) → more ≡ area p → 0 < more
-    some_points more more_is = omega (arith, more_is, area-some p.rect (area_from_rect p.rect held.good.0.valid))
-
-    pub leaf_fits : (k more : ℕ) → k < length counts → more ≡ area p → Fits w32 (get_or counts k 0 + more)
-    leaf_fits k more within_counts more_is =
-        rw more_is (fits_count (get_or counts k 0) (sum counts) _ _ (area p) (get_or-le-sum_by (λ x. x) counts k 0 within_counts) held.added (few_points rect valid))
-
     pub turn-leaf : (k more : ℕ) → 32768 ≤ p.word → sector_of level (p.word - 32768) ≡ Some k → k < length counts → more ≡ area p → Held level size rect rest (set counts k (get_or counts k 0 + more)) tests most
     turn-leaf k more above sector_is within_counts more_is =
         rw more_is (Held-leaf level size rect sized p rest counts tests most k above sector_is held within_counts)

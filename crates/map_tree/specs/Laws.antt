@@ -9,7 +9,8 @@ use Rattle.map_tree.specs.Child.{node_count, child, root}
 use Rattle.map_tree.specs.Leaf.{IsLeaf, CountsAncestors}
 use Rattle.map_tree.specs.Sound.{IsSound, IsFaultless}
 use Rattle.map_tree.specs.PlainCount.{TellsSectors, plain_count}
-use Rattle.map_tree.specs.Counts.{ArePairs}
+use Rattle.map_tree.specs.Areas.{AreAreas}
+use Rattle.map_tree.specs.Counts.{ArePairs, Counts, IsCensus}
 use Rattle.map_tree.specs.Work.{Work}
 
 -- each point has exactly one leaf
@@ -61,3 +62,12 @@ abbrev pub OneCounting : Type 0
 OneCounting = (level : Level) (sector : Point → ℕ) (rect : Rect) → IsSound level → TellsSectors level sector
     → (pairs : List (ℕ × ℕ)) × ArePairs (λ s. plain_count sector s rect) pairs
     × ((other : List (ℕ × ℕ)) → ArePairs (λ s. plain_count sector s rect) other → other ≡ pairs)
+
+-- over a sound level a list of pairs is a rectangle's areas exactly where it is the pairs of its census
+abbrev pub CensusHasAreas : Type 0
+CensusHasAreas = (level : Level) (rect : Rect) (counts : Counts) (pairs : List (ℕ × ℕ)) → IsSound level → IsCensus level rect counts → AreAreas level rect pairs ↔ (pairs ≡ counts.pairs)
+
+-- and areas are the pairs of a census
+abbrev pub AreasHaveCensus : Type 0
+AreasHaveCensus = (level : Level) (rect : Rect) (pairs : List (ℕ × ℕ)) → IsSound level → IsRect rect → AreAreas level rect pairs
+    → (tests : ℕ) × (pending : ℕ) × IsCensus level rect (record { pairs = pairs; tests = tests; pending = pending })

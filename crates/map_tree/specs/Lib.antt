@@ -10,6 +10,8 @@ pub mod Work
 pub mod PlainCount
 pub mod Steps
 pub mod Counts
+pub mod Areas
+pub mod Parts
 pub mod Touched
 pub mod Laws
 pub mod Slots

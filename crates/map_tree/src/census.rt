@@ -55,7 +55,7 @@ pub(crate) fn sector_count(level: &Level<'_>) -> usize
 
 // The whole rectangle at the root.
 #[inline]
-fn start(level: &Level<'_>, rect: Rect) -> Piece
+pub(crate) fn start(level: &Level<'_>, rect: Rect) -> Piece
     requires { IsSound level.now }
     ensures rect { result.rect ≡ rect }
     ensures word { place_of result.word ≡ root level.now }
@@ -126,7 +126,7 @@ pub(crate) fn tally<A: Allocator>(
 
 // Takes the newest of the pending pieces.
 #[inline]
-fn take_newest<A: Allocator>(pending: &mut Vec<Piece, A>) -> Option<Piece>
+pub(crate) fn take_newest<A: Allocator>(pending: &mut Vec<Piece, A>) -> Option<Piece>
     ensures some { IfSome result (λ p. pending.old.items ≡ pending.new.items ++ p ∷ []) }
     ensures none { result ≡ None → pending.old.items ≡ [] }
 {

@@ -1,4 +1,4 @@
-//! What a census tells, and the list of its pairs.
+//! What a census and areas tell, each with the list of its pairs.
 
 ghost use Rattle.std.specs.Prelude.{◌≡◌, length};
 ghost use Rattle.std.specs.List.{slice_get};
@@ -49,5 +49,35 @@ impl<A: Allocator> Counts<A> {
         ensures { result ≡ self.now.pending }
     {
         self.pending
+    }
+}
+
+/// How many points of a rectangle lie in each sector.
+#[derive(Drop)]
+pub struct Areas<A: Allocator = Global> {
+    pub(crate) pairs: Vec<(u16, u32), A>,
+}
+
+impl<A: Allocator> Model for Areas<A> {
+    ghost use Rattle.std.specs.Prelude.{List, ℕ};
+
+    ghost Value = { List (ℕ × ℕ) };
+
+    ghost view = { λ a. a.pairs.items };
+}
+
+impl<A: Allocator> Areas<A> {
+    /// How many sectors have points.
+    pub fn len(&self) -> usize
+        ensures { result ≡ length self.now }
+    {
+        self.pairs.len()
+    }
+
+    /// The pair of a number, from 0: a sector, ascending, and how many points it has.
+    pub fn get(&self, number: usize) -> Option<(u16, u32)>
+        ensures { result ≡ slice_get self.now number }
+    {
+        self.pairs.get(number).copied()
     }
 }

@@ -48,9 +48,9 @@ fn step_at(node: &Node, piece: Piece) -> Step
     }
 }
 
-// A piece of more than one row in two: its lowest half, rounded down, and the others.
+/// A piece of more than one row in two: its lowest half, rounded down, and the others.
 #[inline]
-fn cut_rows(piece: Piece) -> Halves
+pub fn cut_rows(piece: Piece) -> Halves
     requires { piece.rect.y0 <ℤ piece.rect.y1 }
     ensures { IsRowsCut piece result }
 {

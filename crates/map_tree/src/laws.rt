@@ -2,7 +2,7 @@
 
 ghost use Rattle.map_tree.specs.Laws.{OneLeaf, AncestorsByDepth, DepthAtMostNodes, SoundIsFaultless};
 ghost use Rattle.map_tree.specs.Laws.{OneWork, FewTests, FewPending, SectorsAreTold, CountsAddUp, OneCounting};
-ghost use Rattle.map_tree.specs.Laws.{PairTells, NoPairTells};
+ghost use Rattle.map_tree.specs.Laws.{PairTells, NoPairTells, CensusHasAreas, AreasHaveCensus};
 
 /// In a sound level each point has exactly one leaf.
 pub fn one_leaf()
@@ -42,4 +42,10 @@ pub fn plain_counts()
 pub fn pairs_tell_counts()
     ensures pair { PairTells }
     ensures none { NoPairTells }
+{}
+
+/// Over a sound level the pairs of a rectangle's areas are those of its census, and no others, and a rectangle with areas has a census.
+pub fn areas_are_pairs()
+    ensures pairs { CensusHasAreas }
+    ensures census { AreasHaveCensus }
 {}

@@ -1,11 +1,14 @@
 //! The nodes of a level as a tree: what is wrong with them, and the ssector of each point.
 #![tactic(auto)]
 
+mod areas;
 mod census;
+mod column;
 mod counts;
 mod cut;
 pub mod laws;
 mod marks;
+mod parts;
 mod pieces;
 mod places;
 mod row;
@@ -19,7 +22,7 @@ mod tree_codes;
 mod tree_faults;
 mod words;
 
-pub use counts::Counts;
+pub use counts::{Areas, Counts};
 pub use pieces::word_at;
 pub use places::NF_SUBSECTOR;
 pub use sector_tree::SectorTree;

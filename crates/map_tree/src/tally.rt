@@ -1,13 +1,15 @@
 //! The censuses of many rectangles of one tree.
 
 ghost use Rattle.std.specs.Prelude.{◌≡◌, IfOk, length};
+ghost use Rattle.map_tree.specs.Areas.{AreAreas};
 ghost use Rattle.map_tree.specs.Counts.{IsCensus};
 ghost use Rattle.map_tree.specs.SectorList.{ListsSectors};
 ghost use Rattle.map_tree.specs.Sound.{IsSound};
 ghost use Rattle.map_tree.specs.Touched.{IsFresh};
 
+use crate::areas::add_points;
 use crate::census::{sector_count, tally};
-use crate::counts::Counts;
+use crate::counts::{Areas, Counts};
 use crate::pieces::Piece;
 use crate::sector_counts::SectorCounts;
 use crate::sector_tree::SectorTree;
@@ -78,6 +80,27 @@ impl<'t, 'a, A: Allocator + Copy> Tally<'t, 'a, A> {
         self.counts.clear();
         counted
     }
+
+    /// How many points of a rectangle lie in each sector, as `census` tells, and nothing else is counted. After it, also where it is
+    /// refused a growth, the tally is as new.
+    ///
+    /// It goes as `census` does, but for a piece that a node's partition cuts at one column in all its rows, as an upright one does:
+    /// this is cut there in one, at a column that a division tells, or that is the partition's own.
+    pub fn areas(&mut self, rect: Rect) -> Result<Areas<A>, AllocError>
+        ensures areas { IfOk result (AreAreas self.old rect) }
+        ensures same { self.new ≡ self.old }
+    {
+        let counted = count_areas(
+            self.alloc,
+            self.level,
+            self.sectors,
+            rect,
+            &mut self.counts,
+            &mut self.pending,
+        );
+        self.counts.clear();
+        counted
+    }
 }
 
 // The census of a rectangle, by numbers that are 0.
@@ -102,4 +125,24 @@ fn count<A: Allocator + Copy>(
         tests: work.tests,
         pending: work.pending,
     })
+}
+
+// The areas of a rectangle, by numbers that are 0.
+fn count_areas<A: Allocator + Copy>(
+    alloc: A,
+    level: &Level<'_>,
+    sectors: &[u16],
+    rect: Rect,
+    counts: &mut SectorCounts<A>,
+    pending: &mut Vec<Piece, A>,
+) -> Result<Areas<A>, AllocError>
+    requires sound { IsSound level.now }
+    requires listed { ListsSectors level.now sectors.now }
+    requires fresh { IsFresh level.now counts.old }
+    ensures areas { IfOk result (AreAreas level.now rect) }
+    ensures long { length counts.new ≡ length counts.old }
+{
+    add_points(level, sectors, rect, counts, pending)?;
+    let pairs = counts.pairs(alloc)?;
+    Ok(Areas { pairs })
 }

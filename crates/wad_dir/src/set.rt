@@ -1,7 +1,7 @@
 //! Several WAD files, whose entries are numbered on in one list.
 
-ghost use Rattle.std.specs.Prelude.{◌≡◌, ◌≢◌, ℕ, ◌<◌, ◌^◌, ◌≤◌, ◌↔◌, Some, List, [], ◌∷◌, length, map};
-ghost use Rattle.std.specs.Prelude.{IfOk, IfErr, IsOk, IfSome, IfNone, IsErrOf, vec_capacity};
+ghost use Rattle.std.specs.Prelude.{◌≡◌, ◌≢◌, ℕ, ◌+◌, ◌<◌, ◌^◌, ◌≤◌, ◌↔◌, Some, List, [], ◌∷◌, ◌++◌, length, map};
+ghost use Rattle.std.specs.Prelude.{IfOk, IfErr, IsOk, IfSome, IfNone, IsErrOf, vec_capacity, vec_len};
 ghost use Rattle.std.specs.List.{All, slice_get};
 ghost use Rattle.std.specs.Option.{option_map};
 ghost use Rattle.wad_dir.specs.Wad.{IsRead};
@@ -10,7 +10,7 @@ ghost use Rattle.wad_dir.specs.Refusal.{IsFirstRefused, RefusesWad};
 use crate::lump::{Found, LumpFault, lump_of};
 use crate::wad::{Wad, WadFault};
 use le_rec::Name8;
-use std::alloc::{Allocator, Global};
+use std::alloc::{AllocError, Allocator, Global};
 use std::marker::Model;
 use thiserror::Error;
 
@@ -101,6 +101,25 @@ impl<'a, A: Allocator> Set<'a, A> {
             Ok(wads) => Ok(Set { wads }),
             Err(fault) => Err(SetFault::File(1, fault)),
         }
+    }
+
+    /// The set of some files and, behind them, those of this one. It makes room for its list, the only
+    /// step that answers an error.
+    pub fn after(&self, alloc: A, base: &[Wad<'a>]) -> Result<Set<'a, A>, AllocError>
+        requires { length base.now + length self.now ≤ MAX_FILES }
+        ensures { IfOk result (λ set. set ≡ base.now ++ self.now) }
+    {
+        let mut wads = Vec::with_capacity(alloc, base.len() + self.wads.len())?;
+        push_again(&mut wads, base);
+        push_again(&mut wads, &self.wads);
+        Ok(Set { wads })
+    }
+
+    /// The files in order.
+    pub fn wads(&self) -> &[Wad<'a>]
+        ensures { result.now ≡ self.now }
+    {
+        &self.wads
     }
 
     /// The number of files, at most 64.
@@ -199,6 +218,17 @@ impl<'a, A: Allocator> Set<'a, A> {
             left -= wad.len();
         }
         None
+    }
+}
+
+// Adds files behind those of a list that has room for them.
+fn push_again<'a, A: Allocator>(wads: &mut Vec<Wad<'a>, A>, files: &[Wad<'a>])
+    requires { vec_len wads.old + length files.now ≤ vec_capacity wads.old }
+    ensures files { wads.new.items ≡ wads.old.items ++ files.now }
+    ensures room { vec_capacity wads.new ≡ vec_capacity wads.old }
+{
+    for wad in files {
+        wads.push_reserved(wad.again());
     }
 }
 

@@ -24,18 +24,18 @@ impl Cmd {
     fn named(word: &str) -> Option<Cmd>
         ensures { (command : Cmd) → (result ≡ Some command) ↔ (word.now ≡ word_of command) }
     {
-        match word.as_bytes() {
-            b"lumps" => Some(Cmd::Lumps),
-            b"levels" => Some(Cmd::Levels),
-            b"show" => Some(Cmd::Show),
-            b"audit" => Some(Cmd::Audit),
-            b"points" => Some(Cmd::Points),
-            b"census" => Some(Cmd::Census),
-            b"sight" => Some(Cmd::Sight),
-            b"blocks" => Some(Cmd::Blocks),
-            b"extract" => Some(Cmd::Extract),
-            b"demo" => Some(Cmd::Demo),
-            b"lmp" => Some(Cmd::Lmp),
+        match word {
+            "lumps" => Some(Cmd::Lumps),
+            "levels" => Some(Cmd::Levels),
+            "show" => Some(Cmd::Show),
+            "audit" => Some(Cmd::Audit),
+            "points" => Some(Cmd::Points),
+            "census" => Some(Cmd::Census),
+            "sight" => Some(Cmd::Sight),
+            "blocks" => Some(Cmd::Blocks),
+            "extract" => Some(Cmd::Extract),
+            "demo" => Some(Cmd::Demo),
+            "lmp" => Some(Cmd::Lmp),
             _ => None,
         }
     }

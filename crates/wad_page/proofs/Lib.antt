@@ -1,2 +1,4 @@
+mod DrawQuestionLemmas
+mod LensLemmas
 pub mod PartsLemmas
 pub mod LookLemmas

@@ -6,11 +6,11 @@ use Rattle.wad_look.specs.declared.command.Job.{Job}
 use Rattle.wad_page.specs.Look.{RefusesLook}
 use Rattle.wad_page.specs.Parts.{AreWords, RefusesWords, cut}
 use Rattle.wad_page.specs.declared.parts.Parts.{Parts}
-use Rattle.wad_page.specs.declared.refusal.Refusal.{Refusal}
-use Rattle.wad_page.specs.declared.refusal.Refusal.TheVariants.{Usage, Run}
+use Rattle.wad_page.specs.declared.refusal.PageRefusal.{PageRefusal}
+use Rattle.wad_page.specs.declared.refusal.PageRefusal.TheVariants.{Usage, Run}
 
 module _ (parts files : Parts) where
-  pub refused_words : (refusal : Refusal) → RefusesWords parts refusal → RefusesLook parts files refusal
+  pub refused_words : (refusal : PageRefusal) → RefusesWords parts refusal → RefusesLook parts files refusal
   refused_words Usage told = λ words job bytes asks. told words asks.words_are
   refused_words (Run fault) told = told
 

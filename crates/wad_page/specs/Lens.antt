@@ -1,56 +1,224 @@
--- What words of `wadlens` do over files in memory (ours).
-use Rattle.std.specs.Prelude.{◌≡◌, ◌⊎◌, ℕ, List, [], codes, Some, Result, Ok, Err}
+-- What commands of `wadlens` answer over files in memory (ours): each file is told in order, and a check ends with its totals.
+use Rattle.std.specs.Prelude.{◌≡◌, ◌≢◌, ◌⊎◌, ℕ, ◌==◌, ◌<◌, ◌≤◌, List, [], codes, drop, length, slice_index_or, take, Some, Result, Ok, Err, if◌then◌else◌}
+use Rattle.std.specs.Io.KnownBytes.{Appends}
 use Rattle.le_rec.specs.Sink.{SinkState}
-use Rattle.lens_page.specs.Run.{RunsWords}
-use Rattle.lens_page.specs.declared.run.LensFault.{LensFault}
-use Rattle.lens_page.specs.declared.run.LensFault.TheVariants.{Usage, Full}
-use Rattle.lens_run.specs.Status.{status_of}
-use Rattle.memory_ends.specs.ToVec.{ToVec, state_of as vec_state}
-use Rattle.wad_lens.specs.declared.verdict.Verdict.{Verdict}
+use Rattle.lens_commands.specs.CutJob.{IsOfFile, cut_fault_line}
+use Rattle.lens_commands.specs.Files.{lent}
+use Rattle.lens_commands.specs.Bases.{AreBases, IsRefusedAt, path_at}
+use Rattle.lens_commands.specs.Job.{closing_line, unlooked_line}
+use Rattle.lens_commands.specs.declared.bases.BaseFault.{BaseFault}
+use Rattle.lens_commands.specs.declared.files.ReadFault.{ReadFault}
+use Rattle.lens_commands.specs.declared.files.ReadFault.TheVariants.{Refused, Memory}
+use Rattle.lens_commands.specs.declared.tell.Word.{Word}
+use Rattle.lens_engines.specs.Ignored.{no_codes}
+use Rattle.lens_engines.specs.Rules.{IsOver}
+use Rattle.lens_engines.specs.declared.judging.Rules.{Rules}
+use Rattle.wad_dir.specs.Wad.{Wad}
+use Rattle.lens_commands.specs.Run.{ToldTo, refusal_line}
+use Rattle.lens_commands.specs.Status.{status_of}
+use Rattle.lens_commands.specs.declared.tell.Request.{Request}
+use Rattle.lens_commands.specs.declared.tell.Tally.{Tally}
+use Rattle.lens_commands.specs.declared.tell.Word.TheVariants.{Check, Survey, Demos}
+use Rattle.lens_engines.specs.Cut.{IsCut, RefusesCut}
+use Rattle.lens_engines.specs.declared.form.Form.TheVariants.{Lines, Objects}
+use Rattle.lens_engines.specs.declared.cut.CutFault.{CutFault}
+use Rattle.lens_engines.specs.declared.cut.CutFault.TheVariants as fault
+use Rattle.lens_engines.specs.declared.cut.Uncut.{Uncut}
+use Rattle.lens_engines.specs.declared.cut.Uncut.TheVariants as uncut
+use Rattle.lens_engines.specs.declared.judging.Judging.{Judging}
+use Rattle.lens_engines.specs.declared.judging.Warnings.{Warnings}
+use Rattle.lens_engines.specs.declared.judging.Warnings.TheVariants.{Unasked, Told, Strict}
+use Rattle.lens_engines.specs.declared.object.FileRefusal.TheVariants as refusal
+use Rattle.lens_engines.specs.declared.verdict.Verdict.{Verdict}
+use Rattle.lens_engines.specs.declared.verdict.Verdict.TheVariants.{Clean, Unjudged, Faulty}
+use Rattle.line_io.specs.declared.input.TheConstants.{MAX_READ}
+use Rattle.map_level.specs.declared.reading.Reading.{Reading}
+use Rattle.map_level.specs.declared.reading.Reading.TheVariants.{Signed, Wide}
+use Rattle.memory_streams.specs.ToVec.{ToVec, state_of as vec_state}
 use Rattle.wad_page.specs.Ended.{HandsOut, LacksRoom}
-use Rattle.wad_page.specs.Look.{AreGiven}
-use Rattle.wad_page.specs.Parts.{AreWords, cut}
+use Rattle.wad_page.specs.Parts.{AreGiven, cut}
 use Rattle.wad_page.specs.declared.Ended.{Ended}
+use Rattle.wad_page.specs.declared.lens.LensFault.{LensFault}
+use Rattle.wad_page.specs.declared.lens.LensFault.TheVariants.{Usage, Full}
+use Rattle.wad_page.specs.declared.lens.LensQuestion.{LensQuestion}
+use Rattle.wad_page.specs.declared.lens.LensRequest.{LensRequest}
+use Rattle.wad_page.specs.declared.lens.LensWord.{LensWord}
+use Rattle.wad_page.specs.declared.lens.LensWord.TheVariants.{Tell, Cut}
 use Rattle.wad_page.specs.declared.parts.Parts.{Parts}
 
--- the words run over the files
-pub record RunsLens {W E : Type 0} (state : W → SinkState) (estate : E → SinkState) (parts files : Parts) (out out' : W) (errors errors' : E) (result : Result Verdict LensFault) : Type 0 where
-  pub words : List (List ℕ)
-  pub bytes : List (List ℕ)
-  pub words_are : AreWords parts words
-  pub files_are : cut files.sizes.now files.bytes.now ≡ Some bytes
-  pub runs : RunsWords state estate words bytes out out' errors errors' result
+-- a command's number, and what number goes with it
+abbrev pub AsksWord : ℕ → ℕ → LensWord → Type 0
+AsksWord command number (Tell (Check most told)) = (command ≡ 0) × (most ≡ number) × (told ≡ Lines)
+AsksWord command number (Tell Survey) = command ≡ 1
+AsksWord command number (Tell (Demos Lines)) = command ≡ 2
+AsksWord command number (Tell (Demos Objects)) = command ≡ 3
+AsksWord command number (Cut entry) = (command ≡ 4) × (entry ≡ number)
 
--- there are no such words and files, and nothing was written
-pub record ReadsNone {W E : Type 0} (parts files : Parts) (out out' : W) (errors errors' : E) (result : Result Verdict LensFault) : Type 0 where
-  pub none : (words bytes : List (List ℕ)) → AreWords parts words → cut files.sizes.now files.bytes.now ≡ Some bytes → ⊥
-  pub ended : result ≡ Err Usage
+-- how warnings are asked for
+abbrev pub AsksWarnings : ℕ → Warnings → Type 0
+AsksWarnings number Unasked = number ≡ 0
+AsksWarnings number Told = number ≡ 1
+AsksWarnings number Strict = number ≡ 2
+
+abbrev pub reading_of : ℕ → Reading
+reading_of wide = if wide == 0 then Signed else Wide
+
+-- a question asks for this
+pub record Asks (question : LensQuestion) (asked : LensRequest) : Type 0 where
+  pub word_is : AsksWord question.command question.number asked.word
+  pub warnings_are : AsksWarnings question.warnings asked.rules.warnings
+  pub reads : asked.rules.reading ≡ reading_of question.wide
+  pub all : asked.rules.ignored ≡ no_codes
+
+-- whether it can be asked of so many files, of which so many are those on which the others stand
+abbrev pub Takes : LensWord → ℕ → ℕ → Type 0
+Takes (Tell word) bases count = (bases < count) × (bases < 64)
+Takes (Cut entry) bases count = (bases ≡ 0) × (count ≡ 1)
+
+-- all files were told, and what wasn't looked for
+pub record TellsAll (asked : Request) (paths files : List (List ℕ)) (out out' errors errors' : SinkState) (verdict : Verdict) : Type 0 where
+  pub between : SinkState
+  pub tally : Tally
+  pub between_errors : SinkState
+  pub told : ToldTo (lent files) asked out errors paths between between_errors tally
+  pub closed : Appends between.taken out'.taken (closing_line asked (length paths) tally.totals)
+  pub noted : Appends between_errors.taken errors'.taken (unlooked_line tally.totals.unlooked)
+  pub says : verdict ≡ tally.verdict
+
+-- over these files
+pub record TellsOthers (word : Word) (rules : Rules) (bases : ℕ) (paths files : List (List ℕ)) (out out' errors errors' : SinkState) (verdict : Verdict) : Type 0 where
+  pub base : List Wad
+  pub are_bases : AreBases (lent (take bases files)) (take bases paths) base
+  pub judging : Judging
+  pub over : IsOver rules base judging
+  pub told : TellsAll (record { word = word; judging = judging }) (drop bases paths) (drop bases files) out out' errors errors' verdict
+
+-- it was told why one of these isn't taken
+abbrev pub TellsRefused : List ℕ → ReadFault → SinkState → SinkState → Verdict → Type 0
+TellsRefused path (Refused refusal) errors errors' verdict = Appends errors.taken errors'.taken (refusal_line path refusal) × (verdict ≡ Unjudged)
+TellsRefused path Memory errors errors' verdict = ⊥
+
+-- and nothing else
+pub record RefusesBase (bases : ℕ) (paths files : List (List ℕ)) (out out' errors errors' : SinkState) (verdict : Verdict) : Type 0 where
+  pub first : BaseFault
+  pub refused : IsRefusedAt (lent (take bases files)) (take bases paths) first
+  pub untouched : out' ≡ out
+  pub told : TellsRefused (path_at (take bases paths) first.place) first.fault errors errors' verdict
+
+-- the files behind the first so many were told over these, or one of these is refused
+abbrev pub TellsOver : Word → Rules → ℕ → List (List ℕ) → List (List ℕ) → SinkState → SinkState → SinkState → SinkState → Verdict → Type 0
+TellsOver word rules bases paths files out out' errors errors' verdict =
+    RefusesBase bases paths files out out' errors errors' verdict ⊎ TellsOthers word rules bases paths files out out' errors errors' verdict
+
+-- a level that lacks a lump is faulty, and one that can't be cut out else isn't judged
+abbrev pub verdict_of_uncut : Uncut → Verdict
+verdict_of_uncut (uncut.Incomplete k) = Faulty
+verdict_of_uncut (uncut.Outside name) = Faulty
+verdict_of_uncut uncut.NoEndMap = Unjudged
+verdict_of_uncut uncut.TooLarge = Unjudged
+
+-- nor is one that isn't there
+abbrev pub verdict_of_cut : CutFault → Verdict
+verdict_of_cut (fault.Level label why) = verdict_of_uncut why
+verdict_of_cut _ = Unjudged
+
+-- the level at an entry was cut out
+pub record CutsOut (entry : ℕ) (bytes : List ℕ) (out out' errors errors' : SinkState) (verdict : Verdict) : Type 0 where
+  pub text : List ℕ
+  pub is : IsCut bytes entry text
+  pub took : Appends out.taken out'.taken text
+  pub silent : errors' ≡ errors
+  pub says : verdict ≡ Clean
+
+-- it wasn't, which was told
+pub record CutsNone (entry : ℕ) (path bytes : List ℕ) (out out' errors errors' : SinkState) (verdict : Verdict) : Type 0 where
+  pub why : CutFault
+  pub of_file : IsOfFile why
+  pub holds : RefusesCut bytes entry why
+  pub untouched : out' ≡ out
+  pub message : Appends errors.taken errors'.taken (cut_fault_line path why)
+  pub says : verdict ≡ verdict_of_cut why
+
+-- one of the two
+abbrev pub CutsBytes : ℕ → List ℕ → List ℕ → SinkState → SinkState → SinkState → SinkState → Verdict → Type 0
+CutsBytes entry path bytes out out' errors errors' verdict =
+    CutsOut entry bytes out out' errors errors' verdict ⊎ CutsNone entry path bytes out out' errors errors' verdict
+
+-- the file was cut
+pub record CutsRead (entry : ℕ) (path bytes : List ℕ) (out out' errors errors' : SinkState) (verdict : Verdict) : Type 0 where
+  pub few : length bytes ≤ MAX_READ
+  pub cuts : CutsBytes entry path bytes out out' errors errors' verdict
+
+-- it is larger than what is read, which was told
+pub record CutsTooLarge (path bytes : List ℕ) (out out' errors errors' : SinkState) (verdict : Verdict) : Type 0 where
+  pub large : MAX_READ < length bytes
+  pub untouched : out' ≡ out
+  pub message : Appends errors.taken errors'.taken (refusal_line path refusal.TooLarge)
+  pub says : verdict ≡ Unjudged
+
+-- a level was cut out of the first file, or it was told why not
+abbrev pub CutsFile : ℕ → List ℕ → List (List ℕ) → SinkState → SinkState → SinkState → SinkState → Verdict → Type 0
+CutsFile entry path files out out' errors errors' verdict =
+    CutsTooLarge path (slice_index_or files 0 []) out out' errors errors' verdict
+    ⊎ CutsRead entry path (slice_index_or files 0 []) out out' errors errors' verdict
+
+-- what is asked of files was answered
+abbrev pub Answers : LensWord → Rules → ℕ → List (List ℕ) → List (List ℕ) → SinkState → SinkState → SinkState → SinkState → Verdict → Type 0
+Answers (Tell word) rules bases paths files out out' errors errors' verdict =
+    TellsOver word rules bases paths files out out' errors errors' verdict
+Answers (Cut entry) rules bases paths files out out' errors errors' verdict =
+    CutsFile entry (slice_index_or paths 0 []) files out out' errors errors' verdict
+
+-- the question asks for this of these files, of which there is one for each path
+pub record AsksFiles (question : LensQuestion) (named given : Parts) (asked : LensRequest) (paths files : List (List ℕ)) : Type 0 where
+  pub asks : Asks question asked
+  pub paths_are : cut named.sizes.now named.bytes.now ≡ Some paths
+  pub files_are : cut given.sizes.now given.bytes.now ≡ Some files
+  pub as_many : length paths ≡ length files
+  pub takes : Takes asked.word question.bases (length files)
+
+-- the question was answered
+pub record RunsLens (question : LensQuestion) (named given : Parts) (out out' errors errors' : SinkState) (verdict : Verdict) : Type 0 where
+  pub asked : LensRequest
+  pub paths : List (List ℕ)
+  pub files : List (List ℕ)
+  pub asks : AsksFiles question named given asked paths files
+  pub answers : Answers asked.word asked.rules question.bases paths files out out' errors errors' verdict
+
+-- nothing is asked, or not of such files, and nothing was written
+pub record RefusesLens {W E : Type 0} (question : LensQuestion) (named given : Parts) (out out' : W) (errors errors' : E) : Type 0 where
+  pub none : (asked : LensRequest) (paths files : List (List ℕ)) → ¬ AsksFiles question named given asked paths files
   pub untouched : out' ≡ out
   pub silent : errors' ≡ errors
 
--- one of the two, or there was no room
-abbrev pub DoesLens : {W E : Type 0} → (W → SinkState) → (E → SinkState) → Parts → Parts → W → W → E → E → Result Verdict LensFault → Type 0
-DoesLens state estate parts files out out' errors errors' result =
-    (result ≡ Err Full) ⊎ ReadsNone parts files out out' errors errors' result
-    ⊎ RunsLens state estate parts files out out' errors errors' result
+-- something is asked
+abbrev pub AskSomething : LensQuestion → Type 0
+AskSomething question = (asked : LensRequest) × Asks question asked
 
--- the status of what was found, and 2 where the words were refused
+-- one of the two, or there was no room for what is asked
+abbrev pub DoesLens : {W E : Type 0} → (W → SinkState) → (E → SinkState) → LensQuestion → Parts → Parts → W → W → E → E → Result Verdict LensFault → Type 0
+DoesLens state estate question named given out out' errors errors' (Ok verdict) =
+    RunsLens question named given (state out) (state out') (estate errors) (estate errors') verdict
+DoesLens state estate question named given out out' errors errors' (Err Usage) = RefusesLens question named given out out' errors errors'
+DoesLens state estate question named given out out' errors errors' (Err Full) = AskSomething question
+
+-- the status of what was found, and 2 where nothing is asked
 abbrev pub lens_status : Result Verdict LensFault → ℕ
 lens_status (Ok verdict) = status_of verdict
 lens_status (Err Usage) = 2
 lens_status (Err Full) = 3
 
--- what is told besides the answer: what the run told, or that the words were refused
+-- what is told besides the answer: what the run told, or that nothing is asked
 abbrev pub lens_message : Result Verdict LensFault → List ℕ → List ℕ
 lens_message (Ok verdict) told = told
 lens_message (Err Usage) told = codes "usage"
 lens_message (Err Full) told = told
 
--- it did what the words ask for: the status tells how that ended, the answer stands at the front of `out`, and what was told
--- besides at the front of `why`
-pub record Lensed (words word_sizes files file_sizes out out' why why' : List ℕ) (ended : Ended) : Type 0 where
-  pub asked : Parts
-  pub words_are : AreGiven asked words word_sizes
+-- the question was answered: the status tells how that ended, the answer stands at the front of `out`, and what was told besides at the
+-- front of `why`
+pub record Lensed (question : LensQuestion) (paths path_sizes files file_sizes out out' why why' : List ℕ) (ended : Ended) : Type 0 where
+  pub named : Parts
+  pub names_are : AreGiven named paths path_sizes
   pub given : Parts
   pub files_are : AreGiven given files file_sizes
   pub sink : ToVec
@@ -60,13 +228,13 @@ pub record Lensed (words word_sizes files file_sizes out out' why why' : List �
   pub messages' : ToVec
   pub silent : messages.taken ≡ []
   pub outcome : Result Verdict LensFault
-  pub room : ¬ (outcome ≡ Err Full)
-  pub does : DoesLens vec_state vec_state asked given sink sink' messages messages' outcome
+  pub room : outcome ≢ Err Full
+  pub does : DoesLens vec_state vec_state question named given sink sink' messages messages' outcome
   pub status : ended.status ≡ lens_status outcome
   pub answer : HandsOut sink'.taken out out' ended.answered
   pub message : HandsOut (lens_message outcome messages'.taken) why why' ended.told
 
 -- or there was no room for it
-abbrev pub LensEnds : List ℕ → List ℕ → List ℕ → List ℕ → List ℕ → List ℕ → List ℕ → List ℕ → Ended → Type 0
-LensEnds words word_sizes files file_sizes out out' why why' ended =
-    LacksRoom ended ⊎ Lensed words word_sizes files file_sizes out out' why why' ended
+abbrev pub LensEnds : LensQuestion → List ℕ → List ℕ → List ℕ → List ℕ → List ℕ → List ℕ → List ℕ → List ℕ → Ended → Type 0
+LensEnds question paths path_sizes files file_sizes out out' why why' ended =
+    LacksRoom ended ⊎ Lensed question paths path_sizes files file_sizes out out' why why' ended

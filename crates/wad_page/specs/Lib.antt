@@ -3,3 +3,5 @@ pub mod Refusal
 pub mod Ended
 pub mod Look
 pub mod Lens
+pub mod Draw
+pub mod DrawEnded

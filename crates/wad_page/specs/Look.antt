@@ -1,9 +1,9 @@
 -- What words of `wadlook` do over files and an input in memory (ours).
 use Rattle.std.specs.Prelude.{◌≡◌, ◌⊎◌, ℕ, Bool, false, List, [], length, slice_index_or, Some, Result, Err}
 use Rattle.le_rec.specs.Sink.{SinkState}
-use Rattle.memory_ends.specs.FromSlice.{bytes_left, state_of as slice_state}
-use Rattle.memory_ends.specs.ToVec.{ToVec, state_of as vec_state}
-use Rattle.memory_ends.specs.declared.from_slice.FromSlice.{FromSlice}
+use Rattle.memory_streams.specs.FromSlice.{bytes_left, state_of as slice_state}
+use Rattle.memory_streams.specs.ToVec.{ToVec, state_of as vec_state}
+use Rattle.memory_streams.specs.declared.from_slice.FromSlice.{FromSlice}
 use Rattle.wad_look.specs.RunsJob.{RunsJob}
 use Rattle.wad_look.specs.Words.{IsJob, paths_of}
 use Rattle.wad_look.specs.declared.command.Cmd.{Cmd}
@@ -12,12 +12,12 @@ use Rattle.wad_look.specs.declared.command.Job.{Job}
 use Rattle.wad_look.specs.declared.fault.RunFault.{RunFault}
 use Rattle.wad_look.specs.declared.fault.RunFault.TheVariants.{Memory}
 use Rattle.wad_page.specs.Ended.{HandsOut, LacksRoom, TellsFront}
-use Rattle.wad_page.specs.Parts.{AreWords, cut}
+use Rattle.wad_page.specs.Parts.{AreGiven, AreWords, cut}
 use Rattle.wad_page.specs.Refusal.{exit_status_of, page_end, reason_text}
 use Rattle.wad_page.specs.declared.Ended.{Ended}
 use Rattle.wad_page.specs.declared.parts.Parts.{Parts}
-use Rattle.wad_page.specs.declared.refusal.Refusal.{Refusal}
-use Rattle.wad_page.specs.declared.refusal.Refusal.TheVariants.{Usage, Run}
+use Rattle.wad_page.specs.declared.refusal.PageRefusal.{PageRefusal}
+use Rattle.wad_page.specs.declared.refusal.PageRefusal.TheVariants.{Usage, Run}
 
 -- the words ask for a job, over as many files as it names
 pub record Asks (parts files : Parts) (words : List (List ℕ)) (job : Job) (bytes : List (List ℕ)) : Type 0 where
@@ -39,7 +39,7 @@ pub record RunsFiles {W : Type 0} (sink : W → SinkState) (words : List (List �
   pub runs : RunsJob slice_state sink words job files source source' out out' result
 
 -- the words' job runs over the files
-pub record RunsWords {W : Type 0} (sink : W → SinkState) (parts files : Parts) (input : List ℕ) (out out' : W) (result : Result Bool Refusal) : Type 0 where
+pub record RunsWords {W : Type 0} (sink : W → SinkState) (parts files : Parts) (input : List ℕ) (out out' : W) (result : Result Bool PageRefusal) : Type 0 where
   pub words : List (List ℕ)
   pub job : Job
   pub bytes : List (List ℕ)
@@ -49,25 +49,20 @@ pub record RunsWords {W : Type 0} (sink : W → SinkState) (parts files : Parts)
   pub ended : result ≡ page_end outcome
 
 -- why none does: the words ask for none over so many files, or there is no memory
-abbrev pub RefusesLook : Parts → Parts → Refusal → Type 0
+abbrev pub RefusesLook : Parts → Parts → PageRefusal → Type 0
 RefusesLook parts files Usage = (words : List (List ℕ)) (job : Job) (bytes : List (List ℕ)) → ¬ Asks parts files words job bytes
 RefusesLook parts files (Run fault) = fault ≡ Memory
 
 -- it ended before anything was written
-pub record IsRefused {W : Type 0} (parts files : Parts) (out out' : W) (result : Result Bool Refusal) : Type 0 where
-  pub refusal : Refusal
+pub record IsRefused {W : Type 0} (parts files : Parts) (out out' : W) (result : Result Bool PageRefusal) : Type 0 where
+  pub refusal : PageRefusal
   pub ended : result ≡ Err refusal
   pub holds : RefusesLook parts files refusal
   pub untouched : out' ≡ out
 
-abbrev pub DoesLook : {W : Type 0} → (W → SinkState) → Parts → Parts → List ℕ → W → W → Result Bool Refusal → Type 0
+abbrev pub DoesLook : {W : Type 0} → (W → SinkState) → Parts → Parts → List ℕ → W → W → Result Bool PageRefusal → Type 0
 DoesLook sink parts files input out out' result =
     IsRefused parts files out out' result ⊎ RunsWords sink parts files input out out' result
-
--- these are the bytes and the sizes
-pub record AreGiven (parts : Parts) (bytes sizes : List ℕ) : Type 0 where
-  pub bytes_are : parts.bytes.now ≡ bytes
-  pub sizes_are : parts.sizes.now ≡ sizes
 
 -- it did what the words ask for: the status tells how that ended, and not that there was no room, the answer stands whole at the front of `out`, and why there
 -- is none at the front of `why`
@@ -79,7 +74,7 @@ pub record Looked (words word_sizes files file_sizes input out out' why why' : L
   pub sink : ToVec
   pub sink' : ToVec
   pub empty : sink.taken ≡ []
-  pub outcome : Result Bool Refusal
+  pub outcome : Result Bool PageRefusal
   pub does : DoesLook vec_state asked given input sink sink' outcome
   pub sound : sink'.failed ≡ false
   pub status : ended.status ≡ exit_status_of outcome

@@ -1,37 +1,354 @@
-//! What words of `wadlens` ask for.
+//! What commands of `wadlens` answer over files in memory.
 
-ghost use Rattle.std.specs.Prelude.{◌≡◌};
-ghost use Rattle.lens_run.specs.Run.{AreSound};
-ghost use Rattle.wad_page.specs.Lens.{DoesLens, lens_message, lens_status};
+ghost use Rattle.std.specs.Prelude.{◌≡◌, ◌↔◌, ◌<◌, ◌≤◌, [], false, Some, length, map, slice_index_or, IfErr, IfOk};
+ghost use Rattle.lens_commands.specs.Run.{AreSound};
+ghost use Rattle.wad_page.specs.Lens.{Asks, AsksWarnings, AsksWord, CutsBytes, CutsFile, DoesLens, TellsAll, TellsOver, TellsRefused, lens_message, lens_status, reading_of, verdict_of_cut, verdict_of_uncut};
+ghost use Rattle.lens_engines.specs.declared.judging.Warnings.{Warnings};
+ghost use Rattle.memory_streams.specs.ToVec.{state_of as vec_state};
+ghost use Rattle.wad_page.specs.declared.lens.LensFault.TheVariants.{Full};
+ghost use Rattle.wad_page.specs.declared.lens.LensRequest.{LensRequest};
+ghost use Rattle.wad_page.specs.declared.lens.LensWord.{LensWord};
 
-use crate::parts::{Parts, copies, read_words};
-use crate::refusal::Refusal;
+use crate::parts::{Parts, slices};
 use le_rec::Sink;
-use lens_page::{LensFault, run_words};
-use lens_run::status;
-use std::alloc::Allocator;
-use wad_lens::Verdict;
+use lens_commands::{
+    AtOnce, BaseFault, HandOn, Held, ReadFault, Request, RunFiles, Unwatched, Word, read_bases,
+    status, tell_paths, wads_of, write_cut_line, write_last, write_refusal, write_unlooked,
+};
+use lens_engines::{Base, CutFault, Form, Ignored, Rules, Uncut, Verdict, Warnings, cut_level};
+use map_level::Reading;
+use memory_streams::ToVec;
+use std::alloc::{AllocError, Allocator};
 
-/// Does what the words ask for over the files: what was found.
-pub fn do_lens<A: Allocator + Copy, W: Sink, E: Sink>(
+/// What is asked of files, as the host lays it out.
+#[repr(C)]
+#[derive(Clone, Copy)]
+pub struct LensQuestion {
+    /// Of `check` how many findings of one code in one level are shown, 0: all. Of `cut` the entry of the level's label.
+    pub number: u64,
+    /// 0 `check`, 1 `survey`, 2 `demos`, 3 `demos --json`, 4 `cut`.
+    pub command: u8,
+    /// Whether indexes are read as numbers from 0 to 65535: 0 where they aren't. It says nothing of demos and of `cut`.
+    pub wide: u8,
+    /// 0 no warnings, 1 `--map`, 2 `--map --strict`. It says nothing of demos and of `cut`.
+    pub warnings: u8,
+    /// How many of the files, from the first on, are those on which each of the others stands: they aren't told, and are 63 at most.
+    /// 0 of `cut`.
+    pub bases: u8,
+}
+
+/// What is asked of files.
+#[derive(Clone, Copy)]
+pub enum LensWord {
+    /// Each is told.
+    Tell(Word),
+    /// The level whose label is the entry of this number is cut out of the one file.
+    Cut(u64),
+}
+
+/// What is asked of files, and how their levels are judged.
+#[derive(Clone, Copy)]
+pub struct LensRequest {
+    pub word: LensWord,
+    pub rules: Rules,
+}
+
+impl LensWord {
+    ghost use Rattle.std.specs.Prelude.{◌↔◌, IsTrue};
+    ghost use Rattle.wad_page.specs.Lens.{Takes};
+
+    // Whether it can be asked of so many files, of which so many are those on which the others stand.
+    fn takes(self, bases: usize, count: usize) -> bool
+        ensures { IsTrue result ↔ Takes self bases count }
+    {
+        match self {
+            LensWord::Tell(_) => bases < count && bases < 64,
+            LensWord::Cut(_) => bases == 0 && count == 1,
+        }
+    }
+}
+
+/// Why there is no answer.
+#[derive(Clone, Copy, Debug, PartialEq, Eq)]
+pub enum LensFault {
+    /// Nothing is asked, or not of so many files. Nothing was written.
+    Usage,
+    /// A growth was refused, or there is no room.
+    Full,
+}
+
+impl From<AllocError> for LensFault {
+    ghost use Rattle.wad_page.specs.declared.lens.LensFault.TheVariants.{Full};
+
+    ghost from_gives = { λ _ fault. fault ≡ Full };
+
+    fn from(_error: AllocError) -> LensFault {
+        LensFault::Full
+    }
+}
+
+/// Answers the question over the files, of which there is one for each path.
+pub fn do_lens<A: Allocator + Copy, W: HandOn, E: Sink>(
     alloc: A,
-    words: Parts<'_>,
+    question: &LensQuestion,
+    paths: Parts<'_>,
     files: Parts<'_>,
     out: &mut W,
     errors: &mut E,
 ) -> Result<Verdict, LensFault>
     requires { AreSound (W.state out.old) (E.state errors.old) }
-    ensures { DoesLens W.state E.state words.entry files.entry out.old out.new errors.old errors.new result }
+    ensures { DoesLens W.state E.state question.now paths.entry files.entry out.old out.new errors.old errors.new result }
 {
-    let texts = match read_words(alloc, words) {
-        Ok(texts) => texts,
-        Err(Refusal::Usage) => return Err(LensFault::Usage),
-        Err(Refusal::Run(_)) => return Err(LensFault::Full),
+    let Some(asked) = asked_by(question) else {
+        return Err(LensFault::Usage);
     };
-    match copies(alloc, files) {
-        Ok(Some(bytes)) => run_words(alloc, &texts, &bytes, out, errors),
-        Ok(None) => Err(LensFault::Usage),
+    let Some(names) = slices(alloc, paths)? else {
+        return Err(LensFault::Usage);
+    };
+    let Some(bytes) = slices(alloc, files)? else {
+        return Err(LensFault::Usage);
+    };
+    if names.len() != bytes.len() {
+        return Err(LensFault::Usage);
+    }
+    let bases = usize::from(question.bases);
+    if !asked.word.takes(bases, bytes.len()) {
+        return Err(LensFault::Usage);
+    }
+    match asked.word {
+        LensWord::Tell(word) => {
+            tell_over(alloc, word, asked.rules, bases, &names, &bytes, out, errors)
+        }
+        LensWord::Cut(entry) => cut_file(alloc, entry, &names, &bytes, out, errors),
+    }
+}
+
+/// The same into vectors, of which the output hands on at once what it takes.
+pub fn lens_into<A: Allocator + Copy>(
+    alloc: A,
+    question: &LensQuestion,
+    paths: Parts<'_>,
+    files: Parts<'_>,
+    out: ToVec<A>,
+    errors: &mut ToVec<A>,
+) -> (ToVec<A>, Result<Verdict, LensFault>)
+    requires { AreSound (vec_state out) (vec_state errors.old) }
+    ensures { DoesLens vec_state vec_state question.now paths.entry files.entry out result.0 errors.old errors.new result.1 }
+{
+    let mut sink = AtOnce(out);
+    let outcome = do_lens(alloc, question, paths, files, &mut sink, errors);
+    (sink.0, outcome)
+}
+
+// What a question asks; None where one of its numbers stands for nothing.
+fn asked_by(question: &LensQuestion) -> Option<LensRequest>
+    ensures { (asked : LensRequest) → (result ≡ Some asked) ↔ Asks question.now asked }
+{
+    let word = word_of(question.command, question.number)?;
+    let warnings = warnings_of(question.warnings)?;
+    let rules = Rules {
+        reading: reading_of(question.wide),
+        warnings,
+        ignored: Ignored::none(),
+    };
+    Some(LensRequest { word, rules })
+}
+
+fn word_of(command: u8, number: u64) -> Option<LensWord>
+    ensures { (word : LensWord) → (result ≡ Some word) ↔ AsksWord command number word }
+{
+    match command {
+        0 => Some(LensWord::Tell(Word::Check(number, Form::Lines))),
+        1 => Some(LensWord::Tell(Word::Survey)),
+        2 => Some(LensWord::Tell(Word::Demos(Form::Lines))),
+        3 => Some(LensWord::Tell(Word::Demos(Form::Objects))),
+        4 => Some(LensWord::Cut(number)),
+        _ => None,
+    }
+}
+
+fn warnings_of(warnings: u8) -> Option<Warnings>
+    ensures { (found : Warnings) → (result ≡ Some found) ↔ AsksWarnings warnings found }
+{
+    match warnings {
+        0 => Some(Warnings::Unasked),
+        1 => Some(Warnings::Told),
+        2 => Some(Warnings::Strict),
+        _ => None,
+    }
+}
+
+/// How indexes are read where a host says so: not as signed numbers where it isn't 0.
+pub fn reading_of(wide: u8) -> Reading
+    ensures { result ≡ reading_of wide }
+{
+    if wide == 0 {
+        Reading::Signed
+    } else {
+        Reading::Wide
+    }
+}
+
+// Reads the files on which the others stand, the first of all, and tells what is asked of the others, or which of the first is refused.
+fn tell_over<A: Allocator + Copy, W: HandOn, E: Sink>(
+    alloc: A,
+    word: Word,
+    rules: Rules,
+    bases: usize,
+    paths: &[&[u8]],
+    files: &[&[u8]],
+    out: &mut W,
+    errors: &mut E,
+) -> Result<Verdict, LensFault>
+    requires few { bases < 64 }
+    requires paths { bases ≤ length paths.now }
+    requires files { bases ≤ length files.now }
+    requires sound { AreSound (W.state out.old) (E.state errors.old) }
+    ensures told { IfOk result (TellsOver word rules bases (map (λ path. path.now) paths.now) (map (λ file. file.now) files.now)
+        (W.state out.old) (W.state out.new) (E.state errors.old) (E.state errors.new)) }
+    ensures full { IfErr result (λ fault. fault ≡ Full) }
+{
+    let first = Held(&files[..bases]);
+    let held = match read_bases(alloc, &first, &paths[..bases]) {
+        Ok(held) => held,
+        Err(refused) => return tell_refused(&paths[..bases], refused, errors),
+    };
+    let wads = wads_of(alloc, &held)?;
+    let Some(base) = Base::of(&wads) else {
+        unreachable!();
+    };
+    let asked = Request {
+        word,
+        judging: rules.over(&base),
+    };
+    tell_all(alloc, asked, &paths[bases..], &files[bases..], out, errors)
+}
+
+// Tells which of the files on which the others stand is refused, and why.
+fn tell_refused<E: Sink>(
+    paths: &[&[u8]],
+    first: BaseFault,
+    errors: &mut E,
+) -> Result<Verdict, LensFault>
+    requires within { first.place < length paths.now }
+    requires sound { (E.state errors.old).failed ≡ false }
+    ensures told { IfOk result (TellsRefused (slice_index_or (map (λ path. path.now) paths.now) first.place []) first.fault
+        (E.state errors.old) (E.state errors.new)) }
+    ensures full { IfErr result (λ fault. fault ≡ Full) }
+{
+    match first.fault {
+        ReadFault::Memory => Err(LensFault::Full),
+        ReadFault::Refused(refusal) => match write_refusal(paths[first.place], refusal, errors) {
+            Ok(()) => Ok(Verdict::Unjudged),
+            Err(_) => Err(LensFault::Full),
+        },
+    }
+}
+
+// Tells what is asked of each file in order, a check's totals, and what wasn't looked for.
+fn tell_all<A: Allocator + Copy, W: HandOn, E: Sink>(
+    alloc: A,
+    asked: Request<'_>,
+    paths: &[&[u8]],
+    files: &[&[u8]],
+    out: &mut W,
+    errors: &mut E,
+) -> Result<Verdict, LensFault>
+    requires { AreSound (W.state out.old) (E.state errors.old) }
+    ensures told { IfOk result (TellsAll asked.entry (map (λ path. path.now) paths.now) (map (λ file. file.now) files.now)
+        (W.state out.old) (W.state out.new) (E.state errors.old) (E.state errors.new)) }
+    ensures full { IfErr result (λ fault. fault ≡ Full) }
+{
+    let told = tell_paths(
+        alloc,
+        &Held(files),
+        asked,
+        paths,
+        out,
+        errors,
+        &mut Unwatched,
+    );
+    let Ok(tally) = told else {
+        return Err(LensFault::Full);
+    };
+    if write_last(asked, paths.len() as u64, &tally.totals, out).is_err() {
+        return Err(LensFault::Full);
+    }
+    match write_unlooked(tally.totals.unlooked, errors) {
+        Ok(()) => Ok(tally.verdict),
         Err(_) => Err(LensFault::Full),
+    }
+}
+
+// Writes the level whose label is an entry of the first file, or tells why not.
+fn cut_file<A: Allocator + Copy, W: Sink, E: Sink>(
+    alloc: A,
+    entry: u64,
+    paths: &[&[u8]],
+    files: &[&[u8]],
+    out: &mut W,
+    errors: &mut E,
+) -> Result<Verdict, LensFault>
+    requires named { 0 < length paths.now }
+    requires some { 0 < length files.now }
+    requires sound { AreSound (W.state out.old) (E.state errors.old) }
+    ensures cut { IfOk result (CutsFile entry (slice_index_or (map (λ path. path.now) paths.now) 0 [])
+        (map (λ file. file.now) files.now) (W.state out.old) (W.state out.new) (E.state errors.old) (E.state errors.new)) }
+    ensures full { IfErr result (λ fault. fault ≡ Full) }
+{
+    let path = paths[0];
+    let held = Held(files);
+    match held.read(0, path, Vec::new(alloc)) {
+        Ok(bytes) => cut_bytes(alloc, entry, path, bytes.as_slice(), out, errors),
+        Err(ReadFault::Refused(refusal)) => match write_refusal(path, refusal, errors) {
+            Ok(()) => Ok(Verdict::Unjudged),
+            Err(_) => Err(LensFault::Full),
+        },
+        Err(ReadFault::Memory) => Err(LensFault::Full),
+    }
+}
+
+// Writes the level whose label is an entry of a file's bytes, or tells why not.
+fn cut_bytes<A: Allocator + Copy, W: Sink, E: Sink>(
+    alloc: A,
+    entry: u64,
+    path: &[u8],
+    bytes: &[u8],
+    out: &mut W,
+    errors: &mut E,
+) -> Result<Verdict, LensFault>
+    requires { AreSound (W.state out.old) (E.state errors.old) }
+    ensures cut { IfOk result (CutsBytes entry path.now bytes.now (W.state out.old) (W.state out.new) (E.state errors.old) (E.state errors.new)) }
+    ensures full { IfErr result (λ fault. fault ≡ Full) }
+{
+    match cut_level(alloc, bytes, entry, out) {
+        Ok(()) => Ok(Verdict::Clean),
+        Err(CutFault::Memory | CutFault::Write) => Err(LensFault::Full),
+        Err(fault) => match write_cut_line(path, &fault, errors) {
+            Ok(()) => Ok(verdict_of_cut(&fault)),
+            Err(_) => Err(LensFault::Full),
+        },
+    }
+}
+
+// A level that lacks a lump is faulty, and else it wasn't judged.
+fn verdict_of_cut(fault: &CutFault) -> Verdict
+    ensures { result ≡ verdict_of_cut fault.now }
+{
+    match *fault {
+        CutFault::Level(_, why) => verdict_of_uncut(why),
+        CutFault::NoWad(_) | CutFault::NoLevel(_) | CutFault::Memory | CutFault::Write => {
+            Verdict::Unjudged
+        }
+    }
+}
+
+fn verdict_of_uncut(why: Uncut) -> Verdict
+    ensures { result ≡ verdict_of_uncut why }
+{
+    match why {
+        Uncut::Incomplete(_) | Uncut::Outside(_) => Verdict::Faulty,
+        Uncut::NoEndMap | Uncut::TooLarge => Verdict::Unjudged,
     }
 }
 
@@ -46,7 +363,7 @@ pub fn lens_status(outcome: &Result<Verdict, LensFault>) -> u8
     }
 }
 
-/// What is told besides: that the words are mistaken, or what the run told.
+/// What is told besides: that nothing is asked, or what the run told.
 pub fn lens_message<'m>(outcome: &Result<Verdict, LensFault>, told: &'m [u8]) -> &'m [u8]
     ensures { result.now ≡ lens_message outcome.now told.now }
 {

@@ -3,20 +3,22 @@
 #![tactic(auto)]
 
 ghost use Rattle.std.specs.Prelude.{IfSome};
+ghost use Rattle.wad_page.specs.DrawEnded.{DrawEnds};
 ghost use Rattle.wad_page.specs.Lens.{LensEnds, Lensed};
 ghost use Rattle.wad_page.specs.Look.{LookEnds, Looked};
 
+mod draw;
 mod lens;
 mod look;
 mod parts;
 mod refusal;
 
+use block_alloc::{Block, arena};
+use draw::{DrawQuestion, draw};
 use le_rec::Sink;
-use lens::{do_lens, lens_message, lens_status};
-use lens_page::LensFault;
+use lens::{LensFault, LensQuestion, lens_into, lens_message, lens_status};
 use look::do_words;
-use memory_ends::{ToVec, hand_out};
-use one_block::{Block, arena};
+use memory_streams::{ToVec, hand_out};
 use parts::Parts;
 use refusal::{exit_status, tell};
 
@@ -48,7 +50,7 @@ const NO_ROOM: Ended = Ended {
 /// What no contract can see is the host's to keep: each slice is there until the call has returned, and none overlaps another
 /// or the block; the block is used by nobody else, and by no second call.
 #[unsafe(no_mangle)]
-pub extern "C" fn wad_run(
+pub extern "C" fn run_wadlook(
     heap: Block,
     words: &[u8],
     word_sizes: &[usize],
@@ -72,36 +74,53 @@ pub extern "C" fn wad_run(
     *ended = answer_look(heap, words, files, input, out, why).unwrap_or(NO_ROOM);
 }
 
-/// Does what words of `wadlens` ask for. The last of the words are the paths of the files that are handed in, in order; the
-/// answer goes into `out`, and what the program writes to standard error into `why`.
+/// Answers a question of `wadlens` over the files that are handed in, of which there is one for each path, in order: the answer goes
+/// into `out`, and what the program writes to standard error into `why`.
 ///
-/// What the host keeps is as for `wad_run`. There is no input.
+/// What the host keeps is as for `run_wadlook`.
 #[unsafe(no_mangle)]
-pub extern "C" fn lens_run(
+pub extern "C" fn run_wadlens(
     heap: Block,
-    words: &[u8],
-    word_sizes: &[usize],
+    question: &LensQuestion,
+    paths: &[u8],
+    path_sizes: &[usize],
     files: &[u8],
     file_sizes: &[usize],
-    _input: &[u8],
     out: &mut [u8],
     why: &mut [u8],
     ended: &mut Ended,
 )
-    ensures { LensEnds words.now word_sizes.now files.now file_sizes.now out.old out.new why.old why.new ended.new }
+    ensures { LensEnds question.now paths.now path_sizes.now files.now file_sizes.now out.old out.new why.old why.new ended.new }
 {
-    let words = Parts {
-        bytes: words,
-        sizes: word_sizes,
+    let paths = Parts {
+        bytes: paths,
+        sizes: path_sizes,
     };
     let files = Parts {
         bytes: files,
         sizes: file_sizes,
     };
-    *ended = answer_lens(heap, words, files, out, why).unwrap_or(NO_ROOM);
+    *ended = answer_lens(heap, question, paths, files, out, why).unwrap_or(NO_ROOM);
 }
 
-// What `wad_run` answers, where there is room.
+/// Draws the level whose label is the first entry of a file, as `wadlens cut` packs one, into `out`. Status 2 where the question
+/// is out of its bounds, too.
+///
+/// What the host keeps is as for `run_wadlook`.
+#[unsafe(no_mangle)]
+pub extern "C" fn draw_picture(
+    heap: Block,
+    file: &[u8],
+    question: &DrawQuestion,
+    out: &mut [u8],
+    ended: &mut Ended,
+)
+    ensures { DrawEnds file.now question.now out.old out.new ended.new }
+{
+    *ended = draw(heap, file, question, out).unwrap_or(NO_ROOM);
+}
+
+// What `run_wadlook` answers, where there is room.
 fn answer_look(
     heap: Block,
     words: Parts<'_>,
@@ -129,20 +148,21 @@ fn answer_look(
     })
 }
 
-// What `lens_run` answers, where there is room.
+// What `run_wadlens` answers, where there is room.
 fn answer_lens(
     heap: Block,
-    words: Parts<'_>,
+    question: &LensQuestion,
+    paths: Parts<'_>,
     files: Parts<'_>,
     out: &mut [u8],
     why: &mut [u8],
 ) -> Option<Ended>
-    ensures { IfSome result (Lensed words.entry.bytes.now words.entry.sizes.now files.entry.bytes.now files.entry.sizes.now out.old out.new why.old why.new) }
+    ensures { IfSome result (Lensed question.now paths.entry.bytes.now paths.entry.sizes.now files.entry.bytes.now files.entry.sizes.now out.old out.new why.old why.new) }
 {
     let arena = arena(heap)?;
-    let mut sink = ToVec::with_capacity(&arena, out.len()).ok()?;
+    let sink = ToVec::with_capacity(&arena, out.len()).ok()?;
     let mut messages = ToVec::with_capacity(&arena, why.len()).ok()?;
-    let outcome = do_lens(&arena, words, files, &mut sink, &mut messages);
+    let (sink, outcome) = lens_into(&arena, question, paths, files, sink, &mut messages);
     if outcome == Err(LensFault::Full) {
         return None;
     }

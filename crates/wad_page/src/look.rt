@@ -4,10 +4,10 @@ ghost use Rattle.wad_dir.specs.declared.set.TheConstants.{MAX_FILES};
 ghost use Rattle.wad_look.specs.Opening.{bytes_of};
 ghost use Rattle.wad_page.specs.Look.{DoesLook, RunsFiles};
 
-use crate::parts::{Parts, copies, read_words};
-use crate::refusal::{Refusal, page_end};
+use crate::parts::{Parts, copies, read_words, slices};
+use crate::refusal::{PageRefusal, page_end};
 use le_rec::Sink;
-use memory_ends::FromSlice;
+use memory_streams::FromSlice;
 use std::alloc::Allocator;
 use wad_look::{Cmd, Job, RunFault, job, run};
 
@@ -18,20 +18,21 @@ pub fn do_words<A: Allocator + Copy, W: Sink>(
     files: Parts<'_>,
     input: &[u8],
     out: &mut W,
-) -> Result<bool, Refusal>
+) -> Result<bool, PageRefusal>
     requires { (W.state out.old).failed ≡ false }
     ensures { DoesLook W.state words.entry files.entry input.now out.old out.new result }
 {
     let texts = read_words(alloc, words)?;
     let Some(job) = job(&texts) else {
-        return Err(Refusal::Usage);
+        return Err(PageRefusal::Usage);
     };
-    let Some(bytes) = copies(alloc, files)? else {
-        return Err(Refusal::Usage);
+    let Some(lent) = slices(alloc, files)? else {
+        return Err(PageRefusal::Usage);
     };
-    if bytes.len() != job.paths(&texts).len() {
-        return Err(Refusal::Usage);
+    if lent.len() != job.paths(&texts).len() {
+        return Err(PageRefusal::Usage);
     }
+    let bytes = copies(alloc, &lent)?;
     page_end(run_files(alloc, &texts, job, &bytes, input, out))
 }
 

@@ -4,7 +4,7 @@ ghost use Rattle.std.specs.Option.{option_map};
 ghost use Rattle.wad_look.specs.Opening.{bytes_of};
 ghost use Rattle.wad_page.specs.Parts.{AreWords, RefusesWords, cut};
 
-use crate::refusal::Refusal;
+use crate::refusal::PageRefusal;
 use std::alloc::{AllocError, Allocator};
 
 /// Bytes, and the sizes of the parts that they are cut into.
@@ -14,15 +14,15 @@ pub struct Parts<'a> {
     pub sizes: &'a [usize],
 }
 
-/// The parts, each a copy; None where the sizes aren't those of the bytes.
-pub fn copies<A: Allocator + Copy>(
+/// The parts, each lent; None where the sizes aren't those of the bytes.
+pub fn slices<'a, A: Allocator + Copy>(
     alloc: A,
-    parts: Parts<'_>,
-) -> Result<Option<Vec<Vec<u8, A>, A>>, AllocError>
+    parts: Parts<'a>,
+) -> Result<Option<Vec<&'a [u8], A>>, AllocError>
     ensures { IfOk result (λ found.
-        option_map (λ copies. bytes_of copies.items) found ≡ cut parts.entry.sizes.now parts.entry.bytes.now) }
+        option_map (λ slices. map (λ slice. slice.now) slices.items) found ≡ cut parts.entry.sizes.now parts.entry.bytes.now) }
 {
-    let mut copies = Vec::new(alloc);
+    let mut slices = Vec::new(alloc);
     let mut rest = parts.bytes;
     for i in 0..parts.sizes.len() {
         let size = parts.sizes[i];
@@ -30,38 +30,54 @@ pub fn copies<A: Allocator + Copy>(
             return Ok(None);
         }
         let (part, after) = rest.split_at(size);
-        let copy = Vec::from_slice(alloc, part)?;
-        let Ok(()) = copies.push(copy) else {
+        let Ok(()) = slices.push(part) else {
             return Err(AllocError);
         };
         rest = after;
     }
     if rest.is_empty() {
-        Ok(Some(copies))
+        Ok(Some(slices))
     } else {
         Ok(None)
     }
+}
+
+/// A copy of each of some slices.
+pub fn copies<A: Allocator + Copy>(
+    alloc: A,
+    slices: &[&[u8]],
+) -> Result<Vec<Vec<u8, A>, A>, AllocError>
+    ensures { IfOk result (λ copies. bytes_of copies.items ≡ map (λ slice. slice.now) slices.now) }
+{
+    let mut copies = Vec::new(alloc);
+    for i in 0..slices.len() {
+        let copy = Vec::from_slice(alloc, slices[i])?;
+        let Ok(()) = copies.push(copy) else {
+            return Err(AllocError);
+        };
+    }
+    Ok(copies)
 }
 
 /// The parts as words, which are UTF-8.
 pub fn read_words<A: Allocator + Copy>(
     alloc: A,
     words: Parts<'_>,
-) -> Result<Vec<String<A>, A>, Refusal>
+) -> Result<Vec<String<A>, A>, PageRefusal>
     ensures read { IfOk result (λ texts. AreWords words.entry (map string_bytes texts.items)) }
     ensures refused { IfErr result (RefusesWords words.entry) }
 {
-    let Some(parts) = copies(alloc, words)? else {
-        return Err(Refusal::Usage);
+    let Some(parts) = slices(alloc, words)? else {
+        return Err(PageRefusal::Usage);
     };
     let mut texts = Vec::new(alloc);
     for i in 0..parts.len() {
-        let Ok(text) = str::from_utf8(parts[i].as_slice()) else {
-            return Err(Refusal::Usage);
+        let Ok(text) = str::from_utf8(parts[i]) else {
+            return Err(PageRefusal::Usage);
         };
         let text = String::from_str(alloc, text)?;
         let Ok(()) = texts.push(text) else {
-            return Err(Refusal::from(AllocError));
+            return Err(PageRefusal::from(AllocError));
         };
     }
     Ok(texts)

@@ -3,67 +3,67 @@ ghost use Rattle.std.specs.Prelude.{◌≡◌, IfSome, Some};
 ghost use Rattle.wad_page.specs.Ended.{TellsFront};
 ghost use Rattle.wad_page.specs.Refusal.{exit_status_of, page_end, reason_text, refusal_text};
 
-use memory_ends::hand_out;
+use memory_streams::hand_out;
 use std::alloc::{AllocError, Allocator};
 use std::fmt;
 use wad_look::{RunFault, status};
 
 /// Why there is no answer.
 #[derive(Clone, Copy)]
-pub enum Refusal {
+pub enum PageRefusal {
     /// The words are no form of a command, or there aren't as many files as they name.
     Usage,
     /// The run stopped.
     Run(RunFault),
 }
 
-impl fmt::Display for Refusal {
+impl fmt::Display for PageRefusal {
     ghost output = { λ refusal. Some (refusal_text refusal) };
 
     fn fmt<W: fmt::Write>(&self, f: &mut fmt::Formatter<W>) -> fmt::Result {
         match *self {
-            Refusal::Usage => f.write_str("usage"),
-            Refusal::Run(fault) => fault.fmt(f),
+            PageRefusal::Usage => f.write_str("usage"),
+            PageRefusal::Run(fault) => fault.fmt(f),
         }
     }
 }
 
-impl From<AllocError> for Refusal {
+impl From<AllocError> for PageRefusal {
     ghost use Rattle.wad_look.specs.declared.fault.RunFault.TheVariants.{Memory};
-    ghost use Rattle.wad_page.specs.declared.refusal.Refusal.TheVariants.{Run};
+    ghost use Rattle.wad_page.specs.declared.refusal.PageRefusal.TheVariants.{Run};
 
     ghost from_gives = { λ _ refusal. refusal ≡ Run Memory };
 
-    fn from(_error: AllocError) -> Refusal {
-        Refusal::Run(RunFault::Memory)
+    fn from(_error: AllocError) -> PageRefusal {
+        PageRefusal::Run(RunFault::Memory)
     }
 }
 
 /// The end of a run, as that of the page.
-pub fn page_end(ended: Result<bool, RunFault>) -> Result<bool, Refusal>
+pub fn page_end(ended: Result<bool, RunFault>) -> Result<bool, PageRefusal>
     ensures { result ≡ page_end ended }
 {
     match ended {
         Ok(clean) => Ok(clean),
-        Err(fault) => Err(Refusal::Run(fault)),
+        Err(fault) => Err(PageRefusal::Run(fault)),
     }
 }
 
 /// The status with which the program ends.
-pub fn exit_status(outcome: &Result<bool, Refusal>) -> u8
+pub fn exit_status(outcome: &Result<bool, PageRefusal>) -> u8
     ensures { result ≡ exit_status_of outcome.now }
 {
     match *outcome {
         Ok(clean) => status(&Ok(clean)),
-        Err(Refusal::Run(fault)) => status(&Err(fault)),
-        Err(Refusal::Usage) => 2,
+        Err(PageRefusal::Run(fault)) => status(&Err(fault)),
+        Err(PageRefusal::Usage) => 2,
     }
 }
 
 /// Writes why there is no answer, as far as there is room; None where there is no memory for the text.
 pub fn tell<A: Allocator>(
     alloc: A,
-    outcome: &Result<bool, Refusal>,
+    outcome: &Result<bool, PageRefusal>,
     why: &mut [u8],
 ) -> Option<usize>
     ensures { IfSome result (TellsFront (reason_text outcome.now) why.old why.new) }
@@ -75,7 +75,7 @@ pub fn tell<A: Allocator>(
 }
 
 // Writes the text of a refusal, as far as there is room.
-fn tell_refusal<A: Allocator>(alloc: A, refusal: Refusal, why: &mut [u8]) -> Option<usize>
+fn tell_refusal<A: Allocator>(alloc: A, refusal: PageRefusal, why: &mut [u8]) -> Option<usize>
     ensures { IfSome result (TellsFront (refusal_text refusal) why.old why.new) }
 {
     let text = refusal.to_string(alloc).ok()?;

@@ -1,11 +1,10 @@
 //! The words of `atlas`.
 
-ghost use Rattle.std.specs.Prelude.{◌≤◌};
-
+use crate::mistake::Mistake;
 use crate::shared_words::{cells_of, cells_word};
 use crate::words::Telling;
-use atlas_run::AtlasJob;
 use clap::{Arg, ArgMatches, Command};
+use lens_commands::AtlasJob;
 use std::alloc::{AllocError, Global};
 
 /// What an atlas is made of, and where.
@@ -16,8 +15,6 @@ pub struct AtlasWords<'a> {
     pub folder: &'a str,
     /// Whether standard error is told how far the run is.
     pub progress: bool,
-    ghost least: { 1 ≤ job.cells },
-    ghost most: { job.cells ≤ 1024 },
 }
 
 /// The command, without the words on files.
@@ -36,12 +33,12 @@ pub fn atlas_command<'a>(alloc: Global) -> Result<Command<'a>, AllocError> {
 
 impl<'a> AtlasWords<'a> {
     /// What matches of the words ask for, and of the files.
-    pub fn of(telling: Telling<'a>, matches: &ArgMatches<'a>) -> AtlasWords<'a> {
+    pub fn of(telling: Telling<'a>, matches: &ArgMatches<'a>) -> Result<AtlasWords<'a>, Mistake> {
         // It is required.
         let folder = matches.get_str("out").unwrap_or("");
-        let cells = cells_of(matches);
-        let Telling { job, progress } = telling;
-        AtlasWords {
+        let cells = cells_of(matches)?;
+        let Telling { job, progress, .. } = telling;
+        Ok(AtlasWords {
             job: AtlasJob {
                 job,
                 cells,
@@ -49,6 +46,6 @@ impl<'a> AtlasWords<'a> {
             },
             folder,
             progress,
-        }
+        })
     }
 }

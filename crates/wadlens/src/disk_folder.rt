@@ -1,13 +1,12 @@
 //! A folder of the machine that an atlas is written into.
 
-use atlas_run::{FileFault, Folder, FolderRefusal};
 use le_rec::{EndFault, Sink};
-use lens_run::Output;
+use lens_commands::{Folder, FolderFault, FolderRefusal, HandOn, KeepFault, Output};
 use std::alloc::Global;
 use std::fs::File;
 use std::io::{ErrorKind, Write};
 use std::rt::Files;
-use std::{fs, str};
+use std::{fs, io, str};
 
 /// A folder of the machine under its path. No clause knows what stands in it.
 #[derive(Drop)]
@@ -28,9 +27,9 @@ impl<'a, R: Files + AllocGlobal> DiskFolder<'a, R> {
     }
 
     // The path under which a file stands that isn't whole, and the one that it takes then.
-    fn paths(&self, name: &[u8]) -> Result<(String, String), FileFault> {
+    fn paths(&self, name: &[u8]) -> Result<(String, String), KeepFault> {
         let Ok(name) = str::from_utf8(name) else {
-            return Err(FileFault::Write);
+            return Err(KeepFault::Write);
         };
         let part = format!(in self.rt.alloc(); "{}/{name}.part", self.path)?;
         let whole = format!(in self.rt.alloc(); "{}/{name}", self.path)?;
@@ -38,46 +37,74 @@ impl<'a, R: Files + AllocGlobal> DiskFolder<'a, R> {
     }
 
     // Finds the folder empty, or makes it.
-    fn find_or_create(&self) -> Result<(), FolderRefusal> {
+    fn find_or_create(&self) -> Result<(), FolderFault> {
         match fs::read_dir(&self.rt, self.path) {
             Ok(mut entries) => match entries.next() {
                 None => Ok(()),
-                Some(Ok(_)) => Err(FolderRefusal::NotEmpty),
-                Some(Err(_)) => Err(FolderRefusal::Unread),
+                Some(Ok(_)) => Err(FolderFault::Refused(FolderRefusal::NotEmpty)),
+                Some(Err(e)) => Err(fault_of(&e, FolderRefusal::Unread)),
             },
             Err(e) if e.kind() == ErrorKind::NotFound => self.create(),
-            Err(e) if e.kind() == ErrorKind::NotADirectory => Err(FolderRefusal::NoFolder),
-            Err(_) => Err(FolderRefusal::Unread),
+            Err(e) if e.kind() == ErrorKind::NotADirectory => {
+                Err(FolderFault::Refused(FolderRefusal::NoFolder))
+            }
+            Err(e) => Err(fault_of(&e, FolderRefusal::Unread)),
         }
     }
 
     // Makes the folder, which isn't there.
-    fn create(&self) -> Result<(), FolderRefusal> {
+    fn create(&self) -> Result<(), FolderFault> {
         match fs::create_dir(self.rt, self.path) {
             Ok(()) => Ok(()),
-            Err(e) if e.kind() == ErrorKind::NotFound => Err(FolderRefusal::NoParent),
-            Err(_) => Err(FolderRefusal::Unmade),
+            Err(e) if e.kind() == ErrorKind::NotFound => {
+                Err(FolderFault::Refused(FolderRefusal::NoParent))
+            }
+            Err(e) => Err(fault_of(&e, FolderRefusal::Unmade)),
         }
     }
 }
 
-/// A file of a folder of the machine, behind a buffer. No clause knows what it has.
+// Why a folder isn't taken, by an error of the machine's: want of memory, and else this refusal.
+fn fault_of(error: &io::Error, refusal: FolderRefusal) -> FolderFault {
+    match error.kind() {
+        ErrorKind::OutOfMemory => FolderFault::Memory,
+        _ => FolderFault::Refused(refusal),
+    }
+}
+
+/// A file of a folder of the machine, behind a buffer, with the path under which it stands and the one that it takes when it is
+/// whole: so neither is wanted memory for later. No clause knows what it has.
 #[derive(Drop)]
-pub struct DiskFile<W: Write + Drop>(Output<W>);
+pub struct DiskFile<W: Write + Drop> {
+    output: Output<W>,
+    part: String,
+    whole: String,
+}
 
 impl<W: Write + Drop> Sink for DiskFile<W> {
     ghost use Rattle.std.specs.Prelude.{None};
     ghost use Rattle.le_rec.specs.Sink.{SinkState};
-    ghost use Rattle.lens_run.specs.Output.{output_state};
+    ghost use Rattle.lens_commands.specs.Output.{output_state};
 
-    ghost state = { λ file. record { taken = None; failed = (output_state W.contents file.0).failed } };
+    ghost state = { λ file. record { taken = None; failed = (output_state W.contents file.output).failed } };
 
     fn put(&mut self, bytes: &[u8]) -> Result<usize, EndFault> {
-        self.0.put(bytes)
+        self.output.put(bytes)
     }
 
     fn failed(&self) -> bool {
-        self.0.failed()
+        self.output.failed()
+    }
+}
+
+impl<W: Write + Drop> HandOn for DiskFile<W> {
+    ghost use Rattle.std.specs.Prelude.{[]};
+
+    // It stands in no log beside standard error.
+    ghost held = { λ _. [] };
+
+    fn hand_on(&mut self) -> Result<(), EndFault> {
+        Ok(())
     }
 }
 
@@ -92,41 +119,42 @@ impl<R: Files + AllocGlobal> Folder for DiskFolder<'_, R> {
 
     ghost taken = { λ folder. folder.is_taken };
 
-    fn make(&mut self) -> Result<(), FolderRefusal> {
+    fn make(&mut self) -> Result<(), FolderFault> {
         self.find_or_create()?;
         self.is_taken = true;
         Ok(())
     }
 
-    fn begin(&mut self, name: &[u8]) -> Result<Self::File, FileFault> {
-        let (part, _) = self.paths(name)?;
+    fn begin(&mut self, name: &[u8]) -> Result<Self::File, KeepFault> {
+        let (part, whole) = self.paths(name)?;
         let Ok(file) = File::create_new(self.rt, part.as_str()) else {
-            return Err(FileFault::Write);
+            return Err(KeepFault::Write);
         };
         match Output::new(self.rt.alloc(), file) {
-            Ok(output) => Ok(DiskFile(output)),
+            Ok(output) => Ok(DiskFile {
+                output,
+                part,
+                whole,
+            }),
             Err(_) => {
                 // Nothing comes into it, so it doesn't stay.
                 let _ = fs::remove_file(self.rt, part.as_str());
-                Err(FileFault::Memory)
+                Err(KeepFault::Memory)
             }
         }
     }
 
-    fn keep(&mut self, mut file: Self::File, name: &[u8]) -> Result<(), FileFault> {
-        let (part, whole) = self.paths(name)?;
-        let written = file.0.write_out().is_ok();
-        if written && fs::rename(self.rt, part.as_str(), whole.as_str()).is_ok() {
+    fn keep(&mut self, mut file: Self::File, _name: &[u8]) -> Result<(), KeepFault> {
+        let written = file.output.write_out().is_ok();
+        if written && fs::rename(self.rt, file.part.as_str(), file.whole.as_str()).is_ok() {
             return Ok(());
         }
-        let _ = fs::remove_file(self.rt, part.as_str());
-        Err(FileFault::Write)
+        let _ = fs::remove_file(self.rt, file.part.as_str());
+        Err(KeepFault::Write)
     }
 
-    fn discard(&mut self, _file: Self::File, name: &[u8]) {
-        if let Ok((part, _)) = self.paths(name) {
-            // What is left there isn't taken for a whole file by its name.
-            let _ = fs::remove_file(self.rt, part.as_str());
-        }
+    fn discard(&mut self, file: Self::File, _name: &[u8]) {
+        // What is left there isn't taken for a whole file by its name.
+        let _ = fs::remove_file(self.rt, file.part.as_str());
     }
 }

@@ -2,21 +2,22 @@
 #![tactic(auto)]
 
 mod atlas_words;
-mod disk;
 mod disk_folder;
+mod judging_words;
 mod mistake;
 mod picture_words;
 mod progress;
 mod shared_words;
 mod words;
 
-use atlas_run::run_atlas;
 use clap::error::ErrorKind;
-use disk::Disk;
 use disk_folder::DiskFolder;
 use le_rec::ToWrite;
-use lens_picture::run_picture;
-use lens_run::{End, Output, exit_status, run_assemble, run_compare, run_cut, run_job};
+use lens_commands::{
+    End, Output, exit_status, run_assemble, run_atlas, run_compare, run_cut, run_job, run_picture,
+};
+use lens_engines::Verdict;
+use line_io::Disk;
 use mistake::Mistake;
 use progress::Progress;
 use std::fmt::Display;
@@ -24,8 +25,11 @@ use std::io::{IsTerminal, Write};
 use std::process::ExitCode;
 use std::rt::{Env, Files};
 use std::{env, io};
-use wad_lens::Verdict;
 use words::{Task, read_words, usage};
+
+// Why a run is refused whose words aren't all text: the kit hands them on as text alone.
+const NOT_UTF_8: &str =
+    "wadlens: a word isn't UTF-8, so the whole run is refused: hand such a file over as /dev/stdin <FILE";
 
 fn main(rt: HostRuntime) -> ExitCode {
     let errors = rt.stderr();
@@ -49,7 +53,10 @@ fn do_words<R: Env + Files + Input + Print + Eprint + AllocGlobal, E: Write + Dr
     let words = words_of(rt)?;
     match read_words(rt.alloc(), &words) {
         Ok(task) => do_task(rt, &task, errors, line, is_terminal),
-        Err(mistake) => Err(tell_mistake(rt, &mistake)),
+        Err(mistake) => {
+            let command = words.get(1).map(|word| word.as_str()).unwrap_or("");
+            Err(tell_mistake(rt, command, &mistake))
+        }
     }
 }
 
@@ -66,6 +73,19 @@ fn do_task<R: Files + Input + Print + AllocGlobal, E: Write + Drop>(
     match task {
         Task::Tell(telling) => {
             let shown = (telling.progress || is_terminal).then_some(line);
+            let mut watch = Progress::new(shown);
+            if telling.quiet {
+                let mut nowhere = Output::new(rt.alloc(), io::sink())?;
+                return run_job(
+                    rt.alloc(),
+                    &telling.job,
+                    &Disk(rt),
+                    rt.reader(),
+                    &mut nowhere,
+                    &mut told,
+                    &mut watch,
+                );
+            }
             run_job(
                 rt.alloc(),
                 &telling.job,
@@ -73,7 +93,7 @@ fn do_task<R: Files + Input + Print + AllocGlobal, E: Write + Drop>(
                 rt.reader(),
                 &mut output,
                 &mut told,
-                &mut Progress::new(shown),
+                &mut watch,
             )
         }
         Task::Atlas(words) => {
@@ -122,23 +142,27 @@ fn words_of<R: Env + Eprint + AllocGlobal>(rt: &R) -> Result<Vec<String>, End> {
         Ok(words) => Ok(words.collect(rt.alloc())?),
         Err(e) if e.kind() == io::ErrorKind::OutOfMemory => Err(End::Memory),
         Err(_) => {
-            let _ = rt.eprintln("wadlens: a word isn't UTF-8");
+            let _ = rt.eprintln(NOT_UTF_8);
             Err(End::Refused)
         }
     }
 }
 
 // Tells why the words ask for nothing that is done.
-fn tell_mistake<R: Print + Eprint + AllocGlobal>(rt: &R, mistake: &Mistake) -> End {
+fn tell_mistake<R: Print + Eprint + AllocGlobal>(rt: &R, command: &str, mistake: &Mistake) -> End {
     match mistake {
-        Mistake::Words(error) => tell_words(rt, error),
-        Mistake::Told(text) => tell_with_usage(rt, format_args!("error: {text}\n")),
+        Mistake::Words(error) => tell_words(rt, command, error),
+        Mistake::Told(text) => tell_with_usage(rt, command, format_args!("error: {text}\n")),
     }
 }
 
-// Tells what is mistaken, and behind it how the words go.
-fn tell_with_usage<R: Eprint + AllocGlobal>(rt: &R, mistaken: impl Display + Drop) -> End {
-    let Ok(usage) = usage(rt.alloc()) else {
+// Tells what is mistaken, and behind it how the words of the command go.
+fn tell_with_usage<R: Eprint + AllocGlobal>(
+    rt: &R,
+    command: &str,
+    mistaken: impl Display + Drop,
+) -> End {
+    let Ok(usage) = usage(rt.alloc(), command) else {
         return End::Memory;
     };
     // Where standard error fails, nobody is left to be told.
@@ -147,12 +171,12 @@ fn tell_with_usage<R: Eprint + AllocGlobal>(rt: &R, mistaken: impl Display + Dro
 }
 
 // Tells what is mistaken in the words, or the help or the version that they ask for.
-fn tell_words<R: Print + Eprint + AllocGlobal>(rt: &R, error: &clap::Error) -> End {
+fn tell_words<R: Print + Eprint + AllocGlobal>(rt: &R, command: &str, error: &clap::Error) -> End {
     match error.kind() {
         ErrorKind::OutOfMemory => End::Memory,
         // Their texts have no usage.
         ErrorKind::InvalidValue | ErrorKind::ValueValidation => {
-            tell_with_usage(rt, format_args!("{error}"))
+            tell_with_usage(rt, command, format_args!("{error}"))
         }
         _ => match error.print(rt) {
             Ok(()) if !error.use_stderr() => End::Told,

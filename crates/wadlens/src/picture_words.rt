@@ -6,10 +6,10 @@ ghost use Rattle.wad_dir.specs.declared.set.TheConstants.{MAX_FILES};
 use crate::mistake::Mistake;
 use crate::shared_words::{cells_of, cells_word, reading_of, wide_word};
 use clap::{Arg, ArgAction, ArgMatches, Command};
-use lens_picture::PictureQuestion;
-use map_cells::Frame;
+use lens_commands::PictureQuestion;
+use map_cells::{CellCount, Frame};
 use map_level::Reading;
-use map_picture::Asked;
+use map_picture::View;
 use std::alloc::{AllocError, Global};
 use wad_dir::MAX_FILES;
 
@@ -52,10 +52,8 @@ pub struct PictureWords<'a> {
     name: &'a str,
     reading: Reading,
     frame: Option<Frame>,
-    cells: u32,
+    cells: CellCount,
     files: Vec<&'a str>,
-    ghost least: { 1 ≤ cells },
-    ghost most: { cells ≤ 1024 },
     ghost few: { vec_len files ≤ MAX_FILES },
 }
 
@@ -78,20 +76,17 @@ impl<'a> PictureWords<'a> {
             name: matches.get_str("name").unwrap_or(""),
             reading: reading_of(matches),
             frame,
-            cells: cells_of(matches),
+            cells: cells_of(matches)?,
             files,
         })
     }
 
     /// What is asked of the engine.
-    pub fn question(&self) -> PictureQuestion<'_>
-        ensures least { 1 ≤ result.drawn.cells }
-        ensures most { result.drawn.cells ≤ 1024 }
-    {
+    pub fn question(&self) -> PictureQuestion<'_> {
         PictureQuestion {
             name: self.name.as_bytes(),
             reading: self.reading,
-            drawn: Asked {
+            drawn: View {
                 frame: self.frame,
                 cells: self.cells,
             },

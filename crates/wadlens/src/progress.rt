@@ -1,8 +1,8 @@
 //! How far a run is, on one line that is rewritten.
 
-use lens_run::Watch;
-use level_list::next_start;
-use std::alloc::Global;
+use lens_commands::Watch;
+use level_starts::next_start;
+use std::alloc::Allocator;
 use std::io::Write;
 use wad_dir::Set;
 
@@ -49,7 +49,7 @@ impl<P: Write + Drop> Progress<P> {
 }
 
 impl<P: Write + Drop> Watch for Progress<P> {
-    fn add(&mut self, alloc: Global, bytes: &[u8]) {
+    fn add<A: Allocator + Copy>(&mut self, alloc: A, bytes: &[u8]) {
         if self.end.is_some() {
             self.show(count_levels(alloc, bytes));
         }
@@ -71,7 +71,7 @@ impl<P: Write + Drop> Watch for Progress<P> {
 }
 
 // How many levels start in a file's bytes.
-fn count_levels(alloc: Global, bytes: &[u8]) -> u64 {
+fn count_levels<A: Allocator + Copy>(alloc: A, bytes: &[u8]) -> u64 {
     let Ok(set) = Set::one(alloc, bytes) else {
         return 0;
     };

@@ -1,8 +1,8 @@
 //! Words that several commands take.
 
-ghost use Rattle.std.specs.Prelude.{◌≤◌};
-
+use crate::mistake::Mistake;
 use clap::{Arg, ArgAction, ArgMatches, value_parser};
+use map_cells::CellCount;
 use map_level::Reading;
 use std::alloc::Global;
 
@@ -36,13 +36,7 @@ pub fn cells_word<'a>(alloc: Global) -> Arg<'a> {
 }
 
 /// How many cells are asked for, by what matches of the words.
-pub fn cells_of(matches: &ArgMatches<'_>) -> u32
-    ensures least { 1 ≤ result }
-    ensures most { result ≤ 1024 }
-{
-    // The words were refused where it is out of these bounds.
-    matches
-        .get_one::<u32>("cells")
-        .unwrap_or(CELLS)
-        .clamp(1, 1024)
+pub fn cells_of(matches: &ArgMatches<'_>) -> Result<CellCount, Mistake> {
+    let cells = matches.get_one::<u32>("cells").unwrap_or(CELLS);
+    CellCount::new(cells).ok_or(Mistake::Told("--cells wants a number from 1 to 1024"))
 }

@@ -1,13 +1,13 @@
 //! What the words of the command line ask for.
 
 use crate::atlas_words::{AtlasWords, atlas_command};
+use crate::judging_words::{bases_of, ignore_word, rules_of, with_judging};
 use crate::mistake::Mistake;
 use crate::picture_words::{PictureWords, picture_command};
-use crate::shared_words::{reading_of, wide_word};
 use clap::{Arg, ArgAction, ArgMatches, Command, value_parser};
-use lens_run::{Asked, DemoForm, Job, SHOWN, Word};
+use lens_commands::{Job, SHOWN, Word};
+use lens_engines::Form;
 use std::alloc::{AllocError, Global};
-use wad_lens::{Judging, Warnings};
 
 /// What the words ask for.
 #[derive(Drop)]
@@ -45,6 +45,8 @@ pub struct CompareWords<'a> {
 #[derive(Drop)]
 pub struct Telling<'a> {
     pub job: Job<'a>,
+    /// Whether nothing is written to standard output.
+    pub quiet: bool,
     /// Whether standard error is told how far the run is.
     pub progress: bool,
 }
@@ -56,9 +58,21 @@ pub fn read_words<'a>(alloc: Global, words: &'a [String]) -> Result<Task<'a>, Mi
     task_of(alloc, &matches)
 }
 
-/// The program's usage, for a mistake whose text lacks it.
-pub fn usage(alloc: Global) -> Result<String, AllocError> {
-    program(alloc)?.render_usage()
+/// The usage of a command, for a mistake whose text lacks it, or that of the program.
+pub fn usage(alloc: Global, command: &str) -> Result<String, AllocError> {
+    command_named(alloc, command)?.render_usage()
+}
+
+// The command that takes values, of this name.
+fn command_named<'a>(alloc: Global, name: &str) -> Result<Command<'a>, AllocError> {
+    match name {
+        "check" => check_command(alloc)?.bin_name("wadlens check"),
+        "survey" => survey_command(alloc)?.bin_name("wadlens survey"),
+        "picture" => picture_command(alloc)?.bin_name("wadlens picture"),
+        "cut" => cut_command(alloc)?.bin_name("wadlens cut"),
+        "atlas" => with_levels(alloc, atlas_command(alloc)?)?.bin_name("wadlens atlas"),
+        _ => program(alloc),
+    }
 }
 
 // The words that there are.
@@ -98,17 +112,29 @@ fn check_command<'a>(alloc: Global) -> Result<Command<'a>, AllocError> {
         .help(
             "Show at most N findings, or warnings, of one code in one level, 0: all [20 where it isn't given]",
         );
+    let json = Arg::new(alloc, "json")
+        .long("json")
+        .action(ArgAction::SetTrue)
+        .help("Write a JSON object a line for each finding");
+    let quiet = Arg::new(alloc, "quiet")
+        .long("quiet")
+        .action(ArgAction::SetTrue)
+        .help("Write nothing to standard output: the status says what was found")
+        .conflicts_with("json")?;
     let check = Command::new(alloc, "check")
         .about("Tell the findings of each level, a line each")
-        .arg(most)?;
+        .arg(most)?
+        .arg(json)?
+        .arg(quiet)?
+        .arg(ignore_word(alloc))?;
     with_levels(alloc, check)
 }
 
 // The words of `survey`.
 fn survey_command<'a>(alloc: Global) -> Result<Command<'a>, AllocError> {
-    let survey = Command::new(alloc, "survey").about(
-        "Write a JSON object a line for each level and each refused file",
-    );
+    let survey = Command::new(alloc, "survey")
+        .about("Write a JSON object a line for each level and each refused file")
+        .arg(ignore_word(alloc))?;
     with_levels(alloc, survey)
 }
 
@@ -167,28 +193,7 @@ fn cut_command<'a>(alloc: Global) -> Result<Command<'a>, AllocError> {
 
 // Adds the words on files, and on how their levels are judged.
 fn with_levels<'a>(alloc: Global, command: Command<'a>) -> Result<Command<'a>, AllocError> {
-    let judged = command
-        .arg(wide_word(alloc))?
-        .arg(map_word(alloc))?
-        .arg(strict_word(alloc)?)?;
-    with_files(alloc, judged)
-}
-
-// The word by which warnings are told.
-fn map_word<'a>(alloc: Global) -> Arg<'a> {
-    Arg::new(alloc, "map")
-        .long("map")
-        .action(ArgAction::SetTrue)
-        .help("Tell warnings, too: what references allow and no mapper wants")
-}
-
-// The word by which a warning ends a run as a fault does.
-fn strict_word<'a>(alloc: Global) -> Result<Arg<'a>, AllocError> {
-    Arg::new(alloc, "strict")
-        .long("strict")
-        .action(ArgAction::SetTrue)
-        .help("End with status 1 at a warning, too")
-        .requires_arg("map")
+    with_files(alloc, with_judging(alloc, command)?)
 }
 
 // Adds the words on files.
@@ -239,7 +244,7 @@ fn progress_word<'a>(alloc: Global) -> Arg<'a> {
 fn task_of<'a>(alloc: Global, matches: &ArgMatches<'a>) -> Result<Task<'a>, Mistake> {
     if let Some(of_atlas) = matches.subcommand_matches("atlas") {
         let telling = job_over(alloc, Word::Survey, of_atlas)?;
-        return Ok(Task::Atlas(AtlasWords::of(telling, of_atlas)));
+        return Ok(Task::Atlas(AtlasWords::of(telling, of_atlas)?));
     }
     if let Some(of_picture) = matches.subcommand_matches("picture") {
         return Ok(Task::Draw(PictureWords::of(alloc, of_picture)?));
@@ -263,21 +268,14 @@ fn task_of<'a>(alloc: Global, matches: &ArgMatches<'a>) -> Result<Task<'a>, Mist
 }
 
 // What matches of the words ask to be told.
-fn job_of<'a>(alloc: Global, matches: &ArgMatches<'a>) -> Result<Telling<'a>, AllocError> {
+fn job_of<'a>(alloc: Global, matches: &ArgMatches<'a>) -> Result<Telling<'a>, Mistake> {
     match matches.subcommand_matches("check") {
         Some(of_check) => {
             let most = of_check.get_one::<u64>("max").unwrap_or(SHOWN);
-            job_over(alloc, Word::Check(most), of_check)
+            job_over(alloc, Word::Check(most, form_of(of_check)), of_check)
         }
         None => match matches.subcommand_matches("demos") {
-            Some(of_demos) => {
-                let form = if of_demos.get_flag("json") {
-                    DemoForm::Objects
-                } else {
-                    DemoForm::Lines
-                };
-                job_over(alloc, Word::Demos(form), of_demos)
-            }
+            Some(of_demos) => job_over(alloc, Word::Demos(form_of(of_demos)), of_demos),
             None => match matches.subcommand_matches("survey") {
                 Some(of_survey) => job_over(alloc, Word::Survey, of_survey),
                 None => job_over(alloc, Word::Survey, matches),
@@ -286,37 +284,35 @@ fn job_of<'a>(alloc: Global, matches: &ArgMatches<'a>) -> Result<Telling<'a>, Al
     }
 }
 
+// In which form a command's matches ask to be answered.
+fn form_of(matches: &ArgMatches<'_>) -> Form {
+    if matches.get_flag("json") {
+        Form::Objects
+    } else {
+        Form::Lines
+    }
+}
+
 // What is asked of the files that a command's matches name.
 fn job_over<'a>(
     alloc: Global,
     word: Word,
     matches: &ArgMatches<'a>,
-) -> Result<Telling<'a>, AllocError> {
+) -> Result<Telling<'a>, Mistake> {
     let mut files = Vec::new(alloc);
     if let Some(paths) = matches.get_strs("files") {
         files.extend_from_slice(paths)?;
     }
-    let judging = judging_of(matches);
     Ok(Telling {
         job: Job {
-            asked: Asked { word, judging },
+            word,
+            rules: rules_of(matches)?,
+            bases: bases_of(alloc, matches)?,
             files,
             list: matches.get_str("files-from"),
             list_end: if matches.get_flag("null") { 0 } else { b'\n' },
         },
+        quiet: matches.get_flag("quiet"),
         progress: matches.get_flag("progress"),
     })
-}
-
-// How a command's matches ask for levels to be judged.
-fn judging_of(matches: &ArgMatches<'_>) -> Judging {
-    let reading = reading_of(matches);
-    let warnings = if matches.get_flag("strict") {
-        Warnings::Strict
-    } else if matches.get_flag("map") {
-        Warnings::Told
-    } else {
-        Warnings::Unasked
-    };
-    Judging { reading, warnings }
 }

@@ -6,9 +6,9 @@ mod files;
 mod program;
 mod refusal;
 
-use files::Disk;
+use line_io::Disk;
 use program::do_words;
-use refusal::{Refusal, exit_status};
+use refusal::{ProgramRefusal, exit_status};
 use std::process::ExitCode;
 use std::rt::{Env, Files};
 use std::{env, io};
@@ -24,7 +24,7 @@ fn main(rt: HostRuntime) -> ExitCode {
 }
 
 // Does what the program's words ask for; with none it says which there are.
-fn run<R: Env + Files + Input + Print + AllocGlobal>(rt: &R) -> Result<bool, Refusal> {
+fn run<R: Env + Files + Input + Print + AllocGlobal>(rt: &R) -> Result<bool, ProgramRefusal> {
     let words = read_words(rt)?;
     if words.is_empty() {
         rt.println("wadlook CMD [NAME] FILE...")
@@ -35,11 +35,13 @@ fn run<R: Env + Files + Input + Print + AllocGlobal>(rt: &R) -> Result<bool, Ref
 }
 
 // The words after the program's name.
-fn read_words<R: Env + AllocGlobal>(rt: &R) -> Result<Vec<String>, Refusal> {
+fn read_words<R: Env + AllocGlobal>(rt: &R) -> Result<Vec<String>, ProgramRefusal> {
     match env::args(rt) {
         Ok(words) => Ok(words.skip(1).collect(rt.alloc())?),
-        Err(e) if e.kind() == io::ErrorKind::OutOfMemory => Err(Refusal::Run(RunFault::Memory)),
+        Err(e) if e.kind() == io::ErrorKind::OutOfMemory => Err(ProgramRefusal::Run(
+            RunFault::Memory,
+        )),
         // A word that isn't UTF-8 is no command, name or path here.
-        Err(_) => Err(Refusal::Usage),
+        Err(_) => Err(ProgramRefusal::Usage),
     }
 }

@@ -8,10 +8,10 @@ ghost use Rattle.wadlook.specs.Program.{DoesWords, IsStopped, ListsPath, RunsFil
 ghost use Rattle.wadlook.specs.Tied.{file_source, tied_sink, tied_source};
 
 use crate::block_source::BlockSource;
-use crate::files::{Storage, read_files};
-use crate::refusal::Refusal;
+use crate::files::read_paths;
+use crate::refusal::ProgramRefusal;
 use le_rec::{FromRead, ToWrite};
-use line_io::{TiedReader, TiedWriter};
+use line_io::{FilePath, Storage, TiedReader, TiedWriter};
 use std::alloc::Global;
 use std::io::{Read, Write};
 use wad_look::{Cmd, Job, RunFault, job, run};
@@ -23,17 +23,17 @@ pub fn do_words<D: Storage, I: Read + Drop, O: Write + Drop>(
     storage: &D,
     reader: I,
     writer: O,
-) -> Result<bool, Refusal>
+) -> Result<bool, ProgramRefusal>
     ensures { DoesWords (tied_source I O I.remaining) (file_source D.File D.File.remaining) (tied_sink O)
         (D.held storage.now) (I.remaining reader) (map string_bytes words.now) result }
 {
     let Some(job) = job(words) else {
-        return Err(Refusal::Usage);
+        return Err(ProgramRefusal::Usage);
     };
     if job.command == Cmd::Lmp {
         return list_file(alloc, words, job, storage, writer);
     }
-    let files = read_files(alloc, storage, job.paths(words))?;
+    let files = read_paths(alloc, storage, job.paths(words))?;
     run_files(alloc, words, job, &files, reader, writer)
 }
 
@@ -45,13 +45,13 @@ fn run_files<I: Read + Drop, O: Write + Drop>(
     files: &[Vec<u8>],
     reader: I,
     writer: O,
-) -> Result<bool, Refusal>
+) -> Result<bool, ProgramRefusal>
     requires few { length files.now ≤ MAX_FILES }
-    ensures { (result ≡ Err (Refusal.Run Memory)) ⊎ RunsFiles (tied_source I O I.remaining) (tied_sink O)
+    ensures { (result ≡ Err (ProgramRefusal.Run Memory)) ⊎ RunsFiles (tied_source I O I.remaining) (tied_sink O)
         (I.remaining reader) (map string_bytes words.now) job (bytes_of files.now) result }
 {
     let Ok(output) = TiedWriter::new(alloc, writer) else {
-        return Err(Refusal::Run(RunFault::Memory));
+        return Err(ProgramRefusal::Run(RunFault::Memory));
     };
     let mut input = FromRead::new(TiedReader::new(reader, &output));
     let mut out = ToWrite::new(&output);
@@ -66,20 +66,20 @@ fn list_file<D: Storage, O: Write + Drop>(
     job: Job,
     storage: &D,
     writer: O,
-) -> Result<bool, Refusal>
+) -> Result<bool, ProgramRefusal>
     requires { IsJob (map string_bytes words.now) job }
     ensures { IsStopped (D.held storage.now) (map string_bytes words.now) job result
         ⊎ ListsPath (file_source D.File D.File.remaining) (tied_sink O) (D.held storage.now) (map string_bytes words.now) job result }
 {
     let paths = job.paths(words);
-    let Ok(file) = storage.open(paths[0].as_str()) else {
-        return Err(Refusal::Unreadable(1));
+    let Ok(file) = storage.open(paths[0].path_bytes()) else {
+        return Err(ProgramRefusal::Unreadable(1));
     };
     let Ok(mut demo) = BlockSource::new(alloc, file) else {
-        return Err(Refusal::Run(RunFault::Memory));
+        return Err(ProgramRefusal::Run(RunFault::Memory));
     };
     let Ok(output) = TiedWriter::new(alloc, writer) else {
-        return Err(Refusal::Run(RunFault::Memory));
+        return Err(ProgramRefusal::Run(RunFault::Memory));
     };
     let mut listing = ToWrite::new(&output);
     let ended = run(alloc, words, job, &[], &mut demo, &mut listing);
@@ -100,11 +100,11 @@ fn closed<O: Write + Drop>(
 }
 
 // The end of a run, as that of the program.
-fn program_end(ended: Result<bool, RunFault>) -> Result<bool, Refusal>
+fn program_end(ended: Result<bool, RunFault>) -> Result<bool, ProgramRefusal>
     ensures { result ≡ program_end ended }
 {
     match ended {
         Ok(clean) => Ok(clean),
-        Err(fault) => Err(Refusal::Run(fault)),
+        Err(fault) => Err(ProgramRefusal::Run(fault)),
     }
 }

@@ -8,7 +8,7 @@ use wad_look::{RunFault, status};
 
 /// Why the program refused.
 #[derive(Clone, Copy, Debug, Error)]
-pub enum Refusal {
+pub enum ProgramRefusal {
     /// The words are no form of a command.
     #[error("usage")]
     Usage,
@@ -23,34 +23,34 @@ pub enum Refusal {
     Run(RunFault),
 }
 
-impl From<RunFault> for Refusal {
-    ghost use Rattle.wadlook.specs.declared.refusal.Refusal.TheVariants.{Run};
+impl From<RunFault> for ProgramRefusal {
+    ghost use Rattle.wadlook.specs.declared.refusal.ProgramRefusal.TheVariants.{Run};
 
     ghost from_gives = { λ fault refusal. refusal ≡ Run fault };
 
-    fn from(fault: RunFault) -> Refusal {
-        Refusal::Run(fault)
+    fn from(fault: RunFault) -> ProgramRefusal {
+        ProgramRefusal::Run(fault)
     }
 }
 
-impl From<AllocError> for Refusal {
+impl From<AllocError> for ProgramRefusal {
     ghost use Rattle.wad_look.specs.declared.fault.RunFault.TheVariants.{Memory};
-    ghost use Rattle.wadlook.specs.declared.refusal.Refusal.TheVariants.{Run};
+    ghost use Rattle.wadlook.specs.declared.refusal.ProgramRefusal.TheVariants.{Run};
 
     ghost from_gives = { λ _ refusal. refusal ≡ Run Memory };
 
-    fn from(_error: AllocError) -> Refusal {
-        Refusal::Run(RunFault::Memory)
+    fn from(_error: AllocError) -> ProgramRefusal {
+        ProgramRefusal::Run(RunFault::Memory)
     }
 }
 
 /// The status with which the program ends.
-pub fn exit_status(outcome: &Result<bool, Refusal>) -> u8
+pub fn exit_status(outcome: &Result<bool, ProgramRefusal>) -> u8
     ensures { result ≡ exit_status_of outcome.now }
 {
     match *outcome {
         Ok(clean) => status(&Ok(clean)),
-        Err(Refusal::Run(fault)) => status(&Err(fault)),
-        Err(Refusal::Usage | Refusal::Unreadable(_) | Refusal::TooLong(_)) => 2,
+        Err(ProgramRefusal::Run(fault)) => status(&Err(fault)),
+        Err(_) => 2,
     }
 }

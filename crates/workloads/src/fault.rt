@@ -1,9 +1,9 @@
 //! Why a job isn't done.
 
+use lens_engines::LevelsFault;
 use map_picture::DrawFault;
 use std::alloc::AllocError;
 use wad_dir::SetFault;
-use wad_lens::FileFault;
 use wad_look::RunFault;
 
 /// Why a job isn't done.
@@ -35,8 +35,8 @@ impl From<DrawFault> for Fault {
     }
 }
 
-impl From<FileFault> for Fault {
-    fn from(_fault: FileFault) -> Fault {
+impl From<LevelsFault> for Fault {
+    fn from(_fault: LevelsFault) -> Fault {
         Fault::Call
     }
 }

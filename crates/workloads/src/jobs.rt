@@ -1,7 +1,7 @@
 //! The jobs: each round on inputs of its own.
 
 ghost use Rattle.std.specs.Prelude.{◌≤◌, length};
-ghost use Rattle.level_list.specs.Starts.{LevelStartsAt};
+ghost use Rattle.level_starts.specs.Starts.{LevelStartsAt};
 ghost use Rattle.wad_dir.specs.Entries.{names};
 
 use crate::digest::Digest;
@@ -9,14 +9,16 @@ use crate::fault::Fault;
 use crate::inputs::{demo, point_lines, square_lines};
 use crate::random::Random;
 use crate::varied::varied;
-use level_list::{Format, format_of, next_start};
-use map_cells::Frame;
+use lens_engines::{
+    Base, Form, Ignored, Question, Rules, Warnings, check_file, label_of, level_at,
+};
+use level_starts::{Format, format_of, next_start};
+use map_cells::{CellCount, Frame};
 use map_level::{Level, Reading};
-use map_picture::{Asked, draw_level};
-use memory_ends::{FromSlice, ToVec};
+use map_picture::{View, draw_level};
+use memory_streams::{FromSlice, ToVec};
 use std::alloc::Global;
 use wad_dir::Set;
-use wad_lens::{Judging, Question, Warnings, check_file, label_of, level_at};
 use wad_look::{MAX_INPUT, MAX_READ, census_text, lmp, points};
 
 /// What is done in each round.
@@ -130,10 +132,11 @@ fn draw_varied(
     random: &mut Random,
     digest: &mut Digest,
 ) -> Result<(), Fault> {
-    let asked = Asked {
-        frame: Frame::of(level).and_then(|frame| widened(frame, random)),
-        cells: 512 - random.below(64),
+    let frame = Frame::of(level).and_then(|frame| widened(frame, random));
+    let Some(cells) = CellCount::new(512 - random.below(64)) else {
+        return Ok(());
     };
+    let asked = View { frame, cells };
     let mut out = ToVec::new(alloc);
     draw_level(alloc, level, asked, &mut out)?;
     digest.add(out.taken());
@@ -160,13 +163,17 @@ fn check_varied(
     digest: &mut Digest,
 ) -> Result<(), Fault> {
     let changed = varied(alloc, bytes, set, random)?;
+    let base = Base::none();
+    let rules = Rules {
+        reading: Reading::Signed,
+        warnings: Warnings::Told,
+        ignored: Ignored::none(),
+    };
     let question = Question {
+        form: Form::Lines,
         path: b"levels.wad",
         most: 10,
-        judging: Judging {
-            reading: Reading::Signed,
-            warnings: Warnings::Told,
-        },
+        judging: rules.over(&base),
     };
     let mut out = ToVec::new(alloc);
     check_file(alloc, &question, &changed, &mut out)?;

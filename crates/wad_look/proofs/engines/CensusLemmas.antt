@@ -8,7 +8,7 @@ use Rattle.line_io.specs.declared.refusal.LineRefusal.TheVariants.{Range}
 use Rattle.map_geo.specs.Point.{Point}
 use Rattle.map_geo.specs.Rect.{Rect, IsRect, rect_at}
 use Rattle.map_level.specs.Level.{Level}
-use Rattle.map_tree.specs.Counts.{Counts, IsCensus}
+use Rattle.map_tree.specs.Areas.{AreAreas}
 use Rattle.map_tree.specs.PlainCount.{TellsSectors, plain_count}
 use Rattle.map_tree.specs.Sound.{IsSound}
 use Rattle.map_tree.proofs.CountedLemmas.{one_list_of_pairs, some_counts}
@@ -65,11 +65,11 @@ counts-drop pairs i pair at = rw (drop-at pairs i pair at) refl
 pub rect_text-before : (rect : Rect) (rest : List ℕ) → rect_text rect rest ≡ rect_text rect [] ++ rest
 rect_text-before rect rest = simp append_assoc
 
--- a rectangle that was read is told its census
-pub told_counts : {level : Level} {answer : List ℕ → List ℕ} {content : List ℕ} {counts : Counts} (rect : Rect) → TellsCensus level answer
-    → HasForm 4 content (rect.x0 ∷ rect.y0 ∷ rect.x1 ∷ rect.y1 ∷ []) → IsRect rect → IsCensus level rect counts → answer content ≡ counts_text rect counts.pairs
-told_counts {content = content} {counts = counts} rect told form allowed census =
-    told.answers.told content (rect.x0 ∷ rect.y0 ∷ rect.x1 ∷ rect.y1 ∷ []) form.read form.counted allowed counts.pairs (census.counted told.sector told.tells)
+-- a rectangle that was read is told its areas
+pub told_counts : {level : Level} {answer : List ℕ → List ℕ} {content : List ℕ} {pairs : List (ℕ × ℕ)} (rect : Rect) → TellsCensus level answer
+    → HasForm 4 content (rect.x0 ∷ rect.y0 ∷ rect.x1 ∷ rect.y1 ∷ []) → IsRect rect → AreAreas level rect pairs → answer content ≡ counts_text rect pairs
+told_counts {content = content} {pairs = pairs} rect told form allowed areas =
+    told.answers.told content (rect.x0 ∷ rect.y0 ∷ rect.x1 ∷ rect.y1 ∷ []) form.read form.counted allowed pairs (areas.counted told.sector told.tells)
 
 -- over a sound level every content is told an answer
 rect_decided : (numbers : List ℤ) → length numbers ≡ 4 → AreRect numbers ⊎ (¬ AreRect numbers)

@@ -1,5 +1,5 @@
 -- What `points` answers to a content, by its numbers.
-use Rattle.std.proofs.Common.{◌≡◌, ◌+◌, ◌-◌, ◌≤◌, ℕ, ℤ, pos, negsuc, List, [], ◌∷◌, ◌++◌, length, take, map, get_or, Result, Some, refl, sym, ap, ◌∙◌, subst, arith, FitsSigned, w64, length-append}
+use Rattle.std.proofs.Common.{◌≡◌, ◌+◌, ◌-◌, ◌≤◌, ℕ, ℤ, pos, negsuc, List, [], ◌∷◌, ◌++◌, length, take, get_or, Result, Some, refl, sym, ap, ◌∙◌, subst, arith, FitsSigned, w64, length-append}
 use Rattle.le_rec.specs.Sink.{SinkState}
 use Rattle.line_io.specs.LineAnswers.{answers_from, line_answer}
 use Rattle.line_io.specs.Lines.{TakesLines, last_from, lines}

@@ -1,11 +1,8 @@
 -- The command `levels`: its text (ours), and what its run does.
-use Rattle.std.specs.Prelude.{◌≡◌, ◌≢◌, ℕ, ◌+◌, ◌-◌, ◌<◌, ◌≤◌, ◌↔◌, Bool, List, [], ◌∷◌, ◌++◌, AllPairs, Contains, IsTrue, Option, Some, IsSome, Result, codes, if◌then◌else◌}
-use Rattle.std.specs.BTreeMap.{BTreeMap, get}
-use Rattle.std.specs.Cmp.Lexicographic.{slice_cmp}
-use Rattle.std.specs.Ordering.{nat_cmp}
+use Rattle.std.specs.Prelude.{◌≡◌, ℕ, ◌+◌, ◌-◌, ◌<◌, ◌≤◌, ◌↔◌, Bool, List, [], ◌∷◌, ◌++◌, AllPairs, Contains, IsTrue, Some, Result, codes, if◌then◌else◌}
 use Rattle.std.specs.Fmt.{decimal}
 use Rattle.std.specs.List.{slice_get, flat_map}
-use Rattle.le_rec.specs.Name.{name_of, padded, query_of, shown_name}
+use Rattle.le_rec.specs.Name.{query_of, shown_name}
 use Rattle.le_rec.specs.Sink.{SinkState}
 use Rattle.line_io.specs.Writes.{Writes}
 use Rattle.map_level.specs.LinkFaults.{usual_names}
@@ -36,36 +33,6 @@ pub record IsListed (all : List (List ℕ)) (level : Listed) : Type 0 where
 pub record AreListed (all : List (List ℕ)) (found : List Listed) : Type 0 where
   pub ascending : AllPairs (λ a b. a.label < b.label) found
   pub exact : (level : Listed) → Contains found level ↔ IsListed all level
-
--- an entry that has the name whose eight bytes these are, and none behind it below n has
-pub record IsHolder (all : List (List ℕ)) (n : ℕ) (bytes : List ℕ) (holder : ℕ) : Type 0 where
-  pub stored : bytes ≡ padded (name_of bytes)
-  pub named : slice_get all holder ≡ Some (name_of bytes)
-  pub last : (h : ℕ) → holder < h → h < n → slice_get all h ≢ Some (name_of bytes)
-
--- the holder of each name of a map
-abbrev pub holder_at : BTreeMap (List ℕ) ℕ → List ℕ → Option ℕ
-holder_at holders bytes = get (slice_cmp nat_cmp) holders bytes
-
-abbrev pub AreHolders : List (List ℕ) → ℕ → BTreeMap (List ℕ) ℕ → Type 0
-AreHolders all n holders = (bytes : List ℕ) (holder : ℕ) → holder_at holders bytes ≡ Some holder → IsHolder all n bytes holder
-
--- a map with one holder put
-pub record PutsHolder (before after : BTreeMap (List ℕ) ℕ) (bytes : List ℕ) (holder : ℕ) : Type 0 where
-  pub put : holder_at after bytes ≡ Some holder
-  pub others : (other : List ℕ) → other ≢ bytes → holder_at after other ≡ holder_at before other
-
--- a name is among those of a map
-abbrev pub HasName : BTreeMap (List ℕ) ℕ → List ℕ → Type 0
-HasName holders name = IsSome (holder_at holders (padded name))
-
--- a map keeps the names of another
-abbrev pub HasNames : BTreeMap (List ℕ) ℕ → BTreeMap (List ℕ) ℕ → Type 0
-HasNames before after = (bytes : List ℕ) → IsSome (holder_at before bytes) → IsSome (holder_at after bytes)
-
--- the names of entries are among those of a map
-abbrev pub HasNamesOf : List (List ℕ) → List ℕ → BTreeMap (List ℕ) ℕ → Type 0
-HasNamesOf all entries holders = (g : ℕ) (name : List ℕ) → Contains entries g → slice_get all g ≡ Some name → HasName holders name
 
 -- what a line ends with
 abbrev pub hidden_text : Bool → List ℕ

@@ -19,7 +19,7 @@ use line_io::{
 };
 use map_geo::Rect;
 use map_level::Reading;
-use map_tree::{Counts, Tally};
+use map_tree::{Areas, Tally};
 use std::alloc::Allocator;
 
 /// Answers rectangles.
@@ -35,8 +35,8 @@ impl<A: Allocator + Copy> LineCommand for CensusCommand<'_, '_, A> {
 
     fn reply<W: Sink>(&mut self, content: &[u8], out: &mut W) -> Result<(), IoFault> {
         match read_rect(content) {
-            Ok(rect) => match self.tally.census(rect) {
-                Ok(counts) => write_counts(rect, &counts, out),
+            Ok(rect) => match self.tally.areas(rect) {
+                Ok(areas) => write_areas(rect, &areas, out),
                 Err(_) => Err(IoFault::Memory),
             },
             Err(refusal) => emit(out, refusal.text()),
@@ -63,26 +63,26 @@ fn read_rect(content: &[u8]) -> Result<Rect, LineRefusal>
 }
 
 // Writes the line of a rectangle and its pairs.
-fn write_counts<A: Allocator, W: Sink>(
+fn write_areas<A: Allocator, W: Sink>(
     rect: Rect,
-    counts: &Counts<A>,
+    areas: &Areas<A>,
     out: &mut W,
 ) -> Result<(), IoFault>
     requires { (W.state out.old).failed ≡ false }
-    ensures { Writes (W.state out.old) (W.state out.new) (counts_text rect counts.now.pairs) result }
+    ensures { Writes (W.state out.old) (W.state out.new) (counts_text rect areas.now) result }
 {
     write_rect(rect, out)?;
-    write_pairs(counts, out)?;
+    write_pairs(areas, out)?;
     emit(out, b"\n")
 }
 
 // Writes each pair.
-fn write_pairs<A: Allocator, W: Sink>(counts: &Counts<A>, out: &mut W) -> Result<(), IoFault>
+fn write_pairs<A: Allocator, W: Sink>(areas: &Areas<A>, out: &mut W) -> Result<(), IoFault>
     requires { (W.state out.old).failed ≡ false }
-    ensures { Writes (W.state out.old) (W.state out.new) (flat_map count_text counts.now.pairs) result }
+    ensures { Writes (W.state out.old) (W.state out.new) (flat_map count_text areas.now) result }
 {
-    'pairs: for i in 0..counts.len() {
-        let Some((sector, count)) = counts.get(i) else {
+    'pairs: for i in 0..areas.len() {
+        let Some((sector, count)) = areas.get(i) else {
             break
         };
         write_count(sector, count, out)?;

@@ -3,24 +3,23 @@
 ghost use Rattle.std.specs.Prelude.{◌≡◌, ◌≤◌, ◌<◌, ◌^◌, ◌+◌, ◌-◌, ◌↔◌, ℕ, List, [], false, length};
 ghost use Rattle.std.specs.Prelude.{IfOk, IsSome, IsTrue, None, Some};
 ghost use Rattle.std.specs.List.{slice_get};
-ghost use Rattle.le_rec.specs.Name.{query_of};
+ghost use Rattle.level_starts.specs.Holders.{AreLabelHolders};
 ghost use Rattle.line_io.specs.Writes.{Writes};
 ghost use Rattle.map_level.specs.LinkFaults.{usual_names};
 ghost use Rattle.wad_dir.specs.Entries.{joined, names};
-ghost use Rattle.wad_dir.specs.Winner.{Wins};
 ghost use Rattle.wad_dir.specs.declared.set.TheConstants.{MAX_FILES};
-ghost use Rattle.wad_look.specs.Engines.Levels.{AreLabels, AreListed, AreHolders, HasName, HasNames, HasNamesOf, IsLabel, PutsHolder};
-ghost use Rattle.wad_look.specs.Engines.Levels.{RunsLevels, level_line, levels_text, holder_at};
+ghost use Rattle.wad_look.specs.Engines.Levels.{AreLabels, AreListed, IsLabel};
+ghost use Rattle.wad_look.specs.Engines.Levels.{RunsLevels, level_line, levels_text};
 ghost use Rattle.wad_look.specs.Opening.{bytes_of};
 
 use crate::fault::{RunFault, ended};
 use crate::names::prepend_name;
 use crate::opening::open_set;
 use le_rec::{Name8, Sink};
+use level_starts::Holders;
 use line_io::{IoFault, TextLine, emit};
 use map_level::usual_name;
 use std::alloc::{AllocError, Allocator};
-use std::collections::BTreeMap;
 use wad_dir::Set;
 
 /// A level as it is listed.
@@ -60,8 +59,7 @@ fn listed_levels<A: Allocator + Copy>(
     ensures { IfOk result (λ found. AreListed (names set.now) found.items) }
 {
     let labels = find_labels(alloc, set)?;
-    let mut holders = label_holders(alloc, set, &labels)?;
-    move_to_last(&mut holders, set);
+    let holders = Holders::of(alloc, set)?;
     list_labels(alloc, set, &labels, &holders)
 }
 
@@ -78,64 +76,21 @@ fn find_labels<A: Allocator + Copy>(alloc: A, set: &Set<'_, A>) -> Result<Vec<us
     Ok(labels)
 }
 
-// The names of labels, each with an entry that holds it.
-fn label_holders<A: Allocator + Copy>(
-    alloc: A,
-    set: &Set<'_, A>,
-    labels: &[usize],
-) -> Result<BTreeMap<[u8; 8], usize, A>, AllocError>
-    ensures holders { IfOk result (AreHolders (names set.now) 0) }
-    ensures names { IfOk result (HasNamesOf (names set.now) labels.now) }
-{
-    let mut holders = BTreeMap::new(alloc);
-    'labels: for g in labels {
-        if let Some(name) = entry_name(set, *g) {
-            holders.insert(name.bytes(), *g)?;
-        }
-    }
-    Ok(holders)
-}
-
-// Moves the holders of names to the last entries that hold them.
-fn move_to_last<A: Allocator>(holders: &mut BTreeMap<[u8; 8], usize, A>, set: &Set<'_, A>)
-    requires { AreHolders (names set.now) 0 holders.old }
-    ensures last { AreHolders (names set.now) (length (joined set.now)) holders.new }
-    ensures kept { HasNames holders.old holders.new }
-{
-    'entries: for g in 0..set.total() {
-        let Some(name) = entry_name(set, g) else {
-            break
-        };
-        move_holder(holders, &name.bytes(), g);
-    }
-}
-
-// Moves the holder of a name, given by its bytes, if it is there.
-fn move_holder<A: Allocator>(holders: &mut BTreeMap<[u8; 8], usize, A>, bytes: &[u8; 8], g: usize)
-    ensures moved { IsSome (holder_at holders.old bytes.now) → PutsHolder holders.old holders.new bytes.now g }
-    ensures absent { holder_at holders.old bytes.now ≡ None → holders.new ≡ holders.old }
-{
-    if let Some(holder) = holders.get_mut(bytes) {
-        *holder = g;
-    }
-}
-
 // The levels of the labels, by the last holders of their names.
 fn list_labels<A: Allocator + Copy>(
     alloc: A,
     set: &Set<'_, A>,
     labels: &[usize],
-    holders: &BTreeMap<[u8; 8], usize, A>,
+    holders: &Holders<A>,
 ) -> Result<Vec<Listed, A>, AllocError>
     requires labels { AreLabels (names set.now) labels.now }
-    requires last { AreHolders (names set.now) (length (joined set.now)) holders.now }
-    requires names { HasNamesOf (names set.now) labels.now holders.now }
+    requires holders { AreLabelHolders (names set.now) holders.now.holders }
     ensures { IfOk result (λ found. AreListed (names set.now) found.items) }
 {
     let mut found = Vec::new(alloc);
     'labels: for g in labels {
         if let Some(name) = entry_name(set, *g) {
-            let hidden = is_hidden(holders, &name, *g);
+            let hidden = holders.is_hidden(&name, *g);
             found.push(Listed {
                 label: *g,
                 name,
@@ -173,21 +128,6 @@ fn entry_name<A: Allocator>(set: &Set<'_, A>, g: usize) -> Option<Name8>
     ensures { result ≡ slice_get (names set.now) g }
 {
     set.name(g)
-}
-
-// Whether looking a label's name up doesn't give that label.
-fn is_hidden<A: Allocator>(holders: &BTreeMap<[u8; 8], usize, A>, name: &Name8, g: usize) -> bool
-    ensures { (all : List (List ℕ)) → AreHolders all (length all) holders.now → HasName holders.now name.now
-        → slice_get all g ≡ Some name.now → IsTrue result ↔ ¬ Wins all (query_of name.now) g }
-{
-    let bytes = name.bytes();
-    if Name8::query(&bytes).bytes() != bytes {
-        return true;
-    }
-    match holders.get(&bytes) {
-        Some(holder) => *holder != g,
-        None => true,
-    }
 }
 
 // Writes the lines of levels.

@@ -1,8 +1,41 @@
 use Rattle.std.proofs.Common.{◌≡◌, ◌↔◌, Some, FitsSigned, w32, rules, ap, sym, ◌∙◌}
 use Rattle.std.proofs.lemmas.Int.{to_z-of_z}
 use Rattle.map_geo.specs.Side.{side_of}
+use Rattle.map_geo.proofs.PointCountLemmas.{in_read}
 use Rattle.map_geo.proofs.WholeLemmas.{high_as_low, some_of_two}
 use Rattle.map_geo.proofs.rect.corner_side.Goals as goal
+
+pub at-requires : goal.at-requires
+at-requires c =
+    let corners = c.x0.ensures.valid in
+    record {
+      x_in = in_read _ _ c.x0.ensures.value corners.columns.first_in;
+      y_in = in_read _ _ c.y0.ensures.value corners.rows.first_in;
+    }
+
+pub at-requires-2 : goal.at-requires-2
+at-requires-2 c =
+    let corners = c.x0.ensures.valid in
+    record {
+      x_in = in_read _ _ c.x1.ensures.value corners.columns.last_in;
+      y_in = in_read _ _ c.y0-2.ensures.value corners.rows.first_in;
+    }
+
+pub at-requires-3 : goal.at-requires-3
+at-requires-3 c =
+    let corners = c.x0.ensures.valid in
+    record {
+      x_in = in_read _ _ c.x0-2.ensures.value corners.columns.first_in;
+      y_in = in_read _ _ c.y1.ensures.value corners.rows.last_in;
+    }
+
+pub at-requires-4 : goal.at-requires-4
+at-requires-4 c =
+    let corners = c.x0.ensures.valid in
+    record {
+      x_in = in_read _ _ c.x1-2.ensures.value corners.columns.last_in;
+      y_in = in_read _ _ c.y1-2.ensures.value corners.rows.last_in;
+    }
 
 pub returns-clause-corners : goal.returns-clause-corners
 returns-clause-corners c = λ s.

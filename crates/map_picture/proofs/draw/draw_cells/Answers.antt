@@ -25,6 +25,6 @@ returns-clause-stopped g c =
     let sectors = sectors_listed cells c.in_ok-groups.groups c.in_ok-counts.counts c.in_ok-shown.shown.items c.in_ok-groups.ensures c.in_ok-counts.ensures c.in_ok-shown.ensures in
     let turns = drawn_by level found cells c.grid.result c.in_ok-shown.shown.items c.deref.result.now c.requires.level_sound c.requires.are c.grid.ensures c.deref.ensures.value sectors in
     IfErr-weaker c.draw_shown.result _ _
-    (λ fault. stops_as g.W.Sink.state ⊥ ⊥ (λ text. text ≡ picture_text level found c.grid.result.frame c.grid.result.size c.deref.result.now) (IsDrawn level found cells.grid)
-    c.args.out.now c.draw_shown.new.out fault (λ never. never) turns)
+    (λ fault. stops_as g.W.Sink.state (λ text. text ≡ picture_text level found c.grid.result.frame c.grid.result.size c.deref.result.now) (IsDrawn level found cells.grid)
+    c.args.out.now c.draw_shown.new.out fault turns)
     c.draw_shown.ensures.stopped

@@ -29,6 +29,6 @@ returns-then-faults-gt0-clause-stopped g c =
     let decided = sound_by_report level found c.requires.audited in
     let turns = drawn_bare level found c.args.grid (λ sound. omega (arith, decided.0 sound, c.faults.ensures, c.if-faults-gt0.true)) in
     IfErr-weaker c.draw_shown.result _ _
-    (λ fault. stops_as g.W.Sink.state ⊥ ⊥ (λ text. text ≡ picture_text level found c.args.grid.frame c.args.grid.size []) (IsDrawn level found c.args.grid)
-    c.args.out.now c.draw_shown.new.out fault (λ never. never) turns)
+    (λ fault. stops_as g.W.Sink.state (λ text. text ≡ picture_text level found c.args.grid.frame c.args.grid.size []) (IsDrawn level found c.args.grid)
+    c.args.out.now c.draw_shown.new.out fault turns)
     c.draw_shown.ensures.stopped

@@ -1,6 +1,7 @@
 use Rattle.std.proofs.Common.{◌≡◌, ◌∷◌, length, reverse}
 use Rattle.map_tree.proofs.Sizes.{size_of}
-use Rattle.map_tree.proofs.HeldLemmas.{Held, measure}
+use Rattle.map_tree.proofs.HeldLemmas.{Held}
+use Rattle.map_tree.proofs.PieceLemmas.{measure}
 use Rattle.map_tree.proofs.census.tally.Given as goal
 
 abbrev pub invariant-loop-next : goal.invariant-loop-next

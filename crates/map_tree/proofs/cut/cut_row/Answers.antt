@@ -1,9 +1,9 @@
-use Rattle.std.proofs.Common.{ℤ, pos, ◌+ℤ◌, ◌≤ℤ◌, ◌<ℤ◌, FitsSigned, w32, refl, sym, arith}
+use Rattle.std.proofs.Common.{ℤ, pos, ◌+ℤ◌, ◌≤ℤ◌, FitsSigned, w32, inl, refl, sym, arith}
 use Rattle.std.proofs.lemmas.Int.{ints, to_z-of_z}
 use Rattle.map_geo.specs.Partition.{partition_of}
 use Rattle.map_geo.proofs.PointCountLemmas.{in_fits}
-use Rattle.map_tree.proofs.MiddleLemmas.{between_fits, next_fits}
-use Rattle.map_tree.proofs.RowLemmas.{ends_differ, ends_ordered}
+use Rattle.map_tree.proofs.MiddleLemmas.{between_fits, next_fits, next_to, read_as, read_in, read_from, read_to}
+use Rattle.map_tree.proofs.RowLemmas.{alike, ends_differ, ends_ordered}
 use Rattle.map_tree.proofs.cut.cut_row.Goals as goal
 
 pub last_of_side-last-requires-clause-ordered : goal.last_of_side-last-requires-clause-ordered
@@ -11,7 +11,7 @@ last_of_side-last-requires-clause-ordered c =
     let valid = c.x0-left.ensures.valid in
     let left : FitsSigned w32 c.x0-left.result = rw c.x0-left.ensures.value (in_fits _ valid.columns.first_in) in
     let right : FitsSigned w32 c.x1-right.result = rw c.x1-right.ensures.value (in_fits _ valid.columns.last_in) in
-    simp to_z-of_z (rw (c.x0-left.ensures.value, c.x1-right.ensures.value) (ends_ordered (partition_of c.args.node.now) c.args.piece.rect valid.columns.ordered c.requires.flat c.requires.cut))
+    simp to_z-of_z (rw (c.x0-left.ensures.value, c.x1-right.ensures.value) (ends_ordered (partition_of c.args.node.now) c.args.piece.rect valid.columns.ordered (alike (partition_of c.args.node.now) c.args.piece.rect (inl c.requires.flat)) c.requires.cut))
 
 pub last_of_side-last-requires-clause-right : goal.last_of_side-last-requires-clause-right
 last_of_side-last-requires-clause-right c =
@@ -20,10 +20,7 @@ last_of_side-last-requires-clause-right c =
     let right : FitsSigned w32 c.x1-right.result = rw c.x1-right.ensures.value (in_fits _ valid.columns.last_in) in
     let y : FitsSigned w32 c.y0-y.result = rw c.y0-y.ensures.value (in_fits _ valid.rows.first_in) in
     let at = rw (c.x0-left.ensures.value, c.y0-y.ensures.value) at (simp to_z-of_z at c.at.ensures) in
-    simp to_z-of_z (rw (c.x1-right.ensures.value, c.y0-y.ensures.value, c.side-s.ensures, at, c.at-partition.ensures) (ends_differ (partition_of c.args.node.now) c.args.piece.rect c.requires.flat c.requires.cut))
-
-next_to : (y b : ℤ) → y <ℤ b → (y +ℤ pos 1) ≤ℤ b
-next_to y b h = omega (arith, ints)
+    simp to_z-of_z (rw (c.x1-right.ensures.value, c.y0-y.ensures.value, c.side-s.ensures, at, c.at-partition.ensures) (ends_differ (partition_of c.args.node.now) c.args.piece.rect (alike (partition_of c.args.node.now) c.args.piece.rect (inl c.requires.flat)) c.requires.cut))
 
 -- what is not above a number is not above the next
 then_next : (a y : ℤ) → a ≤ℤ y → a ≤ℤ (y +ℤ pos 1)
@@ -73,3 +70,38 @@ returns c =
       second = rw (second, c.word_at-2.ensures, c.other.ensures);
       tests = refl;
     }
+
+pub at-requires-clause-x_in : goal.at-requires-clause-x_in
+at-requires-clause-x_in c = read_in _ _ c.x0-left.ensures.value c.x0-left.ensures.valid.columns.first_in
+
+pub at-requires-clause-y_in : goal.at-requires-clause-y_in
+at-requires-clause-y_in c = read_in _ _ c.y0-y.ensures.value c.x0-left.ensures.valid.rows.first_in
+
+pub last_of_side-last-requires-clause-row_in : goal.last_of_side-last-requires-clause-row_in
+last_of_side-last-requires-clause-row_in c = read_in _ _ c.y0-y.ensures.value c.x0-left.ensures.valid.rows.first_in
+
+pub last_of_side-last-requires-clause-left_in : goal.last_of_side-last-requires-clause-left_in
+last_of_side-last-requires-clause-left_in c = read_in _ _ c.x0-left.ensures.value c.x0-left.ensures.valid.columns.first_in
+
+pub last_of_side-last-requires-clause-right_in : goal.last_of_side-last-requires-clause-right_in
+last_of_side-last-requires-clause-right_in c = read_in _ _ c.x1-right.ensures.value c.x0-left.ensures.valid.columns.last_in
+
+pub last_of_side-last-requires-clause-left : goal.last_of_side-last-requires-clause-left
+last_of_side-last-requires-clause-left c =
+    let valid = c.x0-left.ensures.valid in
+    let left : FitsSigned w32 c.x0-left.result = rw c.x0-left.ensures.value (in_fits _ valid.columns.first_in) in
+    let y : FitsSigned w32 c.y0-y.result = rw c.y0-y.ensures.value (in_fits _ valid.rows.first_in) in
+    let at = simp to_z-of_z at c.at.ensures in
+    simp to_z-of_z (rw (c.side-s.ensures, at) refl)
+
+pub columns_to-requires-clause-from : goal.columns_to-requires-clause-from
+columns_to-requires-clause-from c =
+    let columns = c.x0-left.ensures.valid.columns in
+    let last = rw (read_as _ _ c.x0-left.ensures.value columns.first_in, read_as _ _ c.x1-right.ensures.value columns.last_in) at c.last_of_side-last.ensures.last in
+    read_from _ _ _ columns.first_in columns.last_in last.from last.below
+
+pub columns_to-requires-clause-to : goal.columns_to-requires-clause-to
+columns_to-requires-clause-to c =
+    let columns = c.x0-left.ensures.valid.columns in
+    let last = rw (read_as _ _ c.x0-left.ensures.value columns.first_in, read_as _ _ c.x1-right.ensures.value columns.last_in) at c.last_of_side-last.ensures.last in
+    read_to _ _ _ columns.first_in columns.last_in last.from last.below

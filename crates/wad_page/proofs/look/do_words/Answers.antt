@@ -1,4 +1,4 @@
-use Rattle.std.proofs.Common.{rules, ◌≡◌, ◌∙◌, Err, Some, map, string_bytes, length, inl, inr, refl, sym, subst, ap, arith}
+use Rattle.std.proofs.Common.{rules, ℕ, List, Bor, ◌≡◌, ◌∙◌, Err, Some, map, string_bytes, length, inl, inr, refl, sym, subst, ap, arith}
 use Rattle.std.proofs.lemmas.List.{length-map}
 use Rattle.std.proofs.lemmas.Option.{same_Some}
 use Rattle.std.proofs.lemmas.Result.{err_from_is_err_and}
@@ -6,7 +6,7 @@ use Rattle.std.specs.Option.{option_map}
 use Rattle.wad_look.specs.Opening.{bytes_of}
 use Rattle.wad_look.specs.Words.{IsJob, paths_of}
 use Rattle.wad_page.specs.Parts.{AreWords, cut}
-use Rattle.wad_page.specs.declared.refusal.Refusal.TheVariants.{Usage}
+use Rattle.wad_page.specs.declared.refusal.PageRefusal.TheVariants.{Usage}
 use Rattle.wad_page.proofs.LookLemmas.{refused_words, other_count}
 use Rattle.wad_page.proofs.look.do_words.Goals as goal
 
@@ -23,10 +23,11 @@ returns-in_err-texts g c =
 pub returns-then-len-paths : goal.returns-then-len-paths
 returns-then-len-paths g c =
     let job = c.in-Some.job in
-    let files = c.in-Some-2.bytes in
+    let files = c.in-Some-2.lent in
     let are = subst (λ ts. AreWords c.args.words (map string_bytes ts)) (sym c.deref.ensures.value) c.in_ok-texts.ensures.read in
-    let spelled : Some (bytes_of files.items) ≡ cut c.args.files.sizes.now c.args.files.bytes.now = ap (option_map (λ copies. bytes_of copies.items)) (sym c.in-Some-2.is) ∙ c.in_ok-bytes.ensures in
-    let long : length (bytes_of files.items) ≡ length files.items = length-map files.items (λ copy. copy.items) in
+    let given = map (λ (slice : Bor (List ℕ)). slice.now) files.items in
+    let spelled : Some given ≡ cut c.args.files.sizes.now c.args.files.bytes.now = ap (option_map (λ slices. map (λ slice. slice.now) slices.items)) (sym c.in-Some-2.is) ∙ c.in_ok-lent.ensures in
+    let long : length given ≡ length files.items = length-map files.items (λ slice. slice.now) in
     let counted : c.len.result ≡ length files.items = search rules in
     let same : c.deref.result.now ≡ c.deref-2.result.now = c.deref.ensures.value ∙ sym c.deref-2.ensures.value in
     let named : length (paths_of (map string_bytes c.deref.result.now) job) ≡ length c.paths.result.now =
@@ -34,33 +35,7 @@ returns-then-len-paths g c =
     inl (record {
       refusal = Usage;
       ended = refl;
-      holds = other_count c.args.words c.args.files _ are job (bytes_of files.items) (λ other asked. same_Some other job (sym ((c.job.ensures other).1 asked) ∙ c.in-Some.is)) (sym spelled)
+      holds = other_count c.args.words c.args.files _ are job given (λ other asked. same_Some other job (sym ((c.job.ensures other).1 asked) ∙ c.in-Some.is)) (sym spelled)
           (λ as_many. c.if-len-paths.true (omega (arith, as_many, long, counted, named)));
       untouched = refl;
-    })
-
-pub returns : goal.returns
-returns g c =
-    let job = c.in-Some.job in
-    let files = c.in-Some-2.bytes in
-    let are = subst (λ ts. AreWords c.args.words (map string_bytes ts)) (sym c.deref-3.ensures.value) c.in_ok-texts.ensures.read in
-    let spelled : Some (bytes_of files.items) ≡ cut c.args.files.sizes.now c.args.files.bytes.now = ap (option_map (λ copies. bytes_of copies.items)) (sym c.in-Some-2.is) ∙ c.in_ok-bytes.ensures in
-    let long : length (bytes_of files.items) ≡ length files.items = length-map files.items (λ copy. copy.items) in
-    let counted : c.len.result ≡ length files.items = search rules in
-    let same : c.deref-3.result.now ≡ c.deref-2.result.now = c.deref-3.ensures.value ∙ sym c.deref-2.ensures.value in
-    let named : length (paths_of (map string_bytes c.deref-3.result.now) job) ≡ length c.paths.result.now =
-    ap (λ ts. length (paths_of (map string_bytes ts) job)) same ∙ ap length (sym c.paths.ensures) ∙ length-map c.paths.result.now string_bytes in
-    inr (record {
-      words = map string_bytes c.deref-3.result.now;
-      job = job;
-      bytes = bytes_of c.deref-4.result.now;
-      asks = record {
-        words_are = are;
-        asked = subst (λ ts. IsJob (map string_bytes ts) job) (c.deref.ensures.value ∙ sym c.deref-3.ensures.value) ((c.job.ensures job).0 c.in-Some.is);
-        files_are = sym spelled ∙ ap (λ items. Some (bytes_of items)) (sym c.deref-4.ensures.value);
-        as_many = ap (λ items. length (bytes_of items)) c.deref-4.ensures.value ∙ omega (arith, long, counted, named, c.if-len-paths.false);
-      };
-      outcome = c.run_files.result;
-      runs = c.run_files.ensures;
-      ended = c.page_end.ensures;
     })

@@ -3,8 +3,8 @@ use Rattle.std.proofs.lemmas.Result.{err_from_is_err_and}
 use Rattle.wad_look.specs.Opening.{bytes_of}
 use Rattle.wad_look.specs.declared.command.Cmd.TheVariants.{Lmp}
 use Rattle.wadlook.proofs.ProgramLemmas.{job_refuses, paths_refuse}
-use Rattle.wadlook.specs.Files.{AreHeld}
-use Rattle.wadlook.specs.declared.refusal.Refusal.TheVariants.{Usage}
+use Rattle.line_io.specs.Storage.{AreHeld}
+use Rattle.wadlook.specs.declared.refusal.ProgramRefusal.TheVariants.{Usage}
 use Rattle.wadlook.proofs.program.do_words.Goals as goal
 
 pub returns-in_default : goal.returns-in_default

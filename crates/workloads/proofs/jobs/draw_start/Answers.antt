@@ -1,5 +1,5 @@
 use Rattle.std.proofs.Common.{refl}
-use Rattle.level_list.specs.declared.format.Format.TheVariants.{Doom}
+use Rattle.level_starts.specs.declared.format.Format.TheVariants.{Doom}
 use Rattle.workloads.proofs.jobs.draw_start.Goals as goal
 
 pub level_at-level-requires : goal.level_at-level-requires

@@ -1,6 +1,6 @@
 use Rattle.std.proofs.Common.{◌≡◌, ◌-◌, ◌++◌, Option, List, ℕ, length, length-take, length-drop, take, arith, sym, ◌∙◌, refl, subst}
 use Rattle.std.proofs.KnownBytes.{Consumes-kept, Consumes-trans}
-use Rattle.std.proofs.lemmas.List.{length-take-le}
+use Rattle.std.proofs.lemmas.List.{length-take-le, take_all}
 use Rattle.std.specs.Io.KnownBytes.{Consumes}
 use Rattle.demo_lump.proofs.FillingLemmas.{filled_more, length-filled_more, length-put_mid}
 use Rattle.demo_lump.proofs.intake.Intake.fill.Goals as goal
@@ -114,4 +114,21 @@ returns-in-Err-clause-takes g c =
         omega (arith, i.limit, i.within),
         omega (arith, long, c.if-filled-buf.false, c.turns.auto.buf),
       );
+    }
+
+pub returns-then-filled-buf-clause-takes : goal.returns-then-filled-buf-clause-takes
+returns-then-filled-buf-clause-takes g c =
+    let i = c.turns.invariant in
+    let long : length (take c.turns.filled c.turns.buf) ≡ c.turns.filled =
+    length-take-le _ _ i.room in
+    record {
+      read = take c.turns.filled c.turns.buf;
+      given = i.given;
+      counted = omega (arith, long, i.counted);
+      wanted = omega (arith, long, c.turns.auto.buf, i.room);
+      found = take_all c.turns.filled c.turns.buf (omega (arith, c.if-filled-buf.true));
+      ended = λ few. absurd (omega (arith, few, long, c.turns.auto.buf, c.if-filled-buf.true));
+      within = omega (arith, i.limit, i.within);
+      sound = i.sound;
+      fault = tt;
     }

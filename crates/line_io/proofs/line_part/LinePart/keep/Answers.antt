@@ -1,8 +1,8 @@
-use Rattle.std.proofs.Common.{◌≡◌, ℕ, ◌+◌, ◌-◌, ◌≤◌, min, List, ◌++◌, length, take, ap, sym, ◌∙◌, arith, length-take}
+use Rattle.std.proofs.Common.{◌≡◌, ℕ, ◌+◌, ◌-◌, ◌≤◌, min, List, ◌++◌, length, take, ap, sym, ◌∙◌, arith, length-drop, length-take}
 use Rattle.std.proofs.Math.Seq.{take-append-add}
 use Rattle.std.proofs.lemmas.List.{take_min}
 use Rattle.std.proofs.lemmas.Slice.{take-put_mid}
-use borrow.Rule.Slice.PartMut.{put_mid}
+use borrow.Rule.Slice.PartMut.{mid_of, put_mid}
 use Rattle.line_io.proofs.line_part.LinePart.keep.Goals as goal
 
 -- the bytes that fit behind the part are the first ones of `more`
@@ -18,6 +18,18 @@ kept len count bytes more new part is_part within size is_count is_new =
     take-put_mid len (len + count - len) bytes new (len + count) size_new (omega arith)
     ∙ rw (is_part, is_new, fits, take_min (66 - len) more)
     (sym (rw full at (take-append-add part more (66 - len))))
+
+-- the room behind the part is as long as what is put there
+room_behind : (len count : ℕ) (bytes more : List ℕ) → len ≤ 66 → length bytes ≡ 66
+    → count ≡ min (length more) (66 - len)
+    → length (mid_of len (len + count - len) bytes) ≡ length (take count more)
+room_behind len count bytes more within size is_count =
+    omega (arith, length-drop {A = ℕ}, length-take {A = ℕ})
+
+pub copy_from_slice-requires : goal.copy_from_slice-requires
+copy_from_slice-requires c =
+    room_behind c.self.inside.len _ c.self.inside.bytes c.args.more.now c.self.invariant
+    c.self.told c.min-count.ensures
 
 pub returns : goal.returns
 returns c =

@@ -10,7 +10,7 @@ use Rattle.wad_look.proofs.engines.census.write_pairs.Goals as goal
 pub returns-in_err-write_count : goal.returns-in_err-write_count
 returns-in_err-write_count g c =
     let p = err_from_is_err_and c.from_residual.result c.from_residual.ensures.1 in
-    let pairs = c.args.counts.now.pairs in
+    let pairs = c.args.areas.now in
     let i = c.pairs.i in
     let pair : ℕ × ℕ = (c.in-Some.sector, c.in-Some.count) in
     let at : slice_get pairs i ≡ Some pair = sym c.get.ensures ∙ c.in-Some.is in
@@ -19,7 +19,7 @@ returns-in_err-write_count g c =
 
 pub pairs-preserved : goal.pairs-preserved
 pairs-preserved g c =
-    let pairs = c.args.counts.now.pairs in
+    let pairs = c.args.areas.now in
     let i = c.pairs.i in
     let pair : ℕ × ℕ = (c.in-Some.sector, c.in-Some.count) in
     let at : slice_get pairs i ≡ Some pair = sym c.get.ensures ∙ c.in-Some.is in
@@ -31,5 +31,5 @@ pairs-preserved g c =
 
 pub returns-in_default : goal.returns-in_default
 returns-in_default g c =
-    let at : slice_get c.args.counts.now.pairs c.pairs.i ≡ None = sym c.get.ensures ∙ c.in_default.is in
-    SoFar-end tt c.pairs.invariant.so_far (rw (drop_past c.args.counts.now.pairs c.pairs.i at) refl) c.pairs.invariant.sound
+    let at : slice_get c.args.areas.now c.pairs.i ≡ None = sym c.get.ensures ∙ c.in_default.is in
+    SoFar-end tt c.pairs.invariant.so_far (rw (drop_past c.args.areas.now c.pairs.i at) refl) c.pairs.invariant.sound

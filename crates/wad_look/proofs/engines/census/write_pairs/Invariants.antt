@@ -7,5 +7,5 @@ use Rattle.wad_look.proofs.engines.census.write_pairs.Given as goal
 abbrev pub invariant-pairs : goal.invariant-pairs
 invariant-pairs g l = record {
   sound : (g.W.Sink.state l.out).failed ≡ false;
-  so_far : SoFar (flat_map count_text l.counts.pairs) (g.W.Sink.state l.fn.out) (g.W.Sink.state l.out) (flat_map count_text (drop l.i l.counts.pairs));
+  so_far : SoFar (flat_map count_text l.areas) (g.W.Sink.state l.fn.out) (g.W.Sink.state l.out) (flat_map count_text (drop l.i l.areas));
 }

@@ -1,9 +1,10 @@
-use Rattle.std.proofs.Common.{◌≡◌, ℕ, Some, length, slice_index, sym, ◌∙◌, arith}
-use Rattle.std.proofs.lemmas.List.{length-map, take_all, take_more}
+use Rattle.std.proofs.Common.{◌≡◌, ℕ, Some, inl, slice_index, sym, ◌∙◌, arith}
+use Rattle.std.proofs.lemmas.List.{take_all, take_more}
 use Rattle.std.proofs.lemmas.List.Elements.{Contains-get_or}
 use Rattle.std.specs.List.{slice_get}
-use Rattle.wad_dir.specs.Entries.{joined, listed_name, names}
-use Rattle.wad_look.specs.Engines.Levels.{AreHolders, IsLabel}
+use Rattle.level_starts.specs.Starts.{LevelStartsAt}
+use Rattle.wad_dir.specs.Entries.{names}
+use Rattle.wad_look.specs.Engines.Levels.{IsLabel}
 use Rattle.wad_look.proofs.engines.LevelsLemmas.{label_named, levels_all, levels_more}
 use Rattle.wad_look.proofs.engines.levels.list_labels.Goals as goal
 use Rattle.wad_look.proofs.engines.levels.list_labels.Goals.{in-Some+in_ok-push, in_default}
@@ -17,13 +18,11 @@ labels-preserved g c = elim c.match-entry_name.branch [
       let n : ℕ = slice_index labels i in
       let there = Contains-get_or labels i 0 (omega arith) in
       let label : IsLabel all n = (c.requires.labels.exact n).0 there in
-      let long : length all ≡ length (joined c.args.set.now) = length-map (joined c.args.set.now) listed_name in
-      let last : AreHolders all (length all) c.args.holders.now = rw long c.requires.last in
       let named : slice_get all n ≡ Some w.in-Some.name = sym c.entry_name.ensures ∙ w.in-Some.is in
-      let known = c.requires.names n w.in-Some.name there named in
+      let starts : LevelStartsAt all n = inl (label 1 (omega arith) (omega arith)) in
       rw (w.found-is, w.in_ok-push.ensures.items, take_more labels i 0 (omega arith))
       (levels_more all _ c.labels.found.items (record { label = n; name = w.in-Some.name; hidden = w.is_hidden-hidden.result }) c.labels.invariant
-      (record { label = label; named = named; hidden = w.is_hidden-hidden.ensures all last known named })))
+      (record { label = label; named = named; hidden = w.is_hidden-hidden.ensures all c.requires.holders starts named })))
   | in_default w ↦ (
       let all = names c.args.set.now in
       let labels = c.args.labels.now in

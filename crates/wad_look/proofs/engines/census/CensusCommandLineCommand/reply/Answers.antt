@@ -2,9 +2,9 @@ use Rattle.line_io.proofs.NumberAnswersLemmas.{told_refusal}
 use Rattle.wad_look.proofs.engines.CensusLemmas.{told_counts}
 use Rattle.wad_look.proofs.engines.census.CensusCommandLineCommand.reply.Goals as goal
 
-pub returns-in-Ok-census-clause-takes : goal.returns-in-Ok-census-clause-takes
-returns-in-Ok-census-clause-takes g c = λ answer told.
-    rw (told_counts c.in-Ok.rect told c.in-Ok.ensures.read c.in-Ok.ensures.allowed c.in-Ok-census.ensures.census) c.write_counts.ensures.takes
+pub returns-in-Ok-areas-clause-takes : goal.returns-in-Ok-areas-clause-takes
+returns-in-Ok-areas-clause-takes g c = λ answer told.
+    rw (told_counts c.in-Ok.rect told c.in-Ok.ensures.read c.in-Ok.ensures.allowed c.in-Ok-areas.ensures.areas) c.write_areas.ensures.takes
 
 pub returns-in-Err-clause-takes : goal.returns-in-Err-clause-takes
 returns-in-Err-clause-takes g c = λ answer told.

@@ -3,7 +3,7 @@ use Rattle.std.proofs.lemmas.Result.{err_from_is_err_and}
 use Rattle.line_io.specs.Writes.{WriteFault}
 use Rattle.line_io.proofs.BlockLemmas.{Answered-none}
 use Rattle.line_io.proofs.FrontLemmas.{Answered-front_stop, Answered-more}
-use Rattle.wad_look.proofs.engines.PointsLemmas.{done_whole, done_written, front_of_lines, lines_told}
+use Rattle.wad_look.proofs.engines.PointsLemmas.{front_of_lines, lines_told}
 use Rattle.wad_look.proofs.engines.points.PointCommandLineCommand.reply_front.Goals as goal
 
 pub fours-init : goal.fours-init

@@ -1,0 +1,80 @@
+-- Texts of the page, computed on small rows: each is what stands here.
+use Rattle.std.proofs.Common.{◌≡◌, ℕ, ◌+◌, true, false, List, [], ◌∷◌, ◌++◌, refl}
+use Rattle.std.specs.Fmt.{digits}
+use Rattle.std.specs.Prelude.{codes}
+use Rattle.level_starts.specs.declared.format.Format.TheVariants.{Incomplete}
+use Rattle.atlas_page.specs.Items.{code_item, number_item}
+use Rattle.atlas_page.specs.Warned.{warning_item}
+use Rattle.atlas_page.specs.Page.{title_line}
+use Rattle.atlas_page.specs.Refused.{refused_part}
+use Rattle.atlas_page.specs.Rows.{faulty_rows, is_faulty, other_rows, picture_name, row_text, totals_of_rows}
+use Rattle.atlas_page.specs.declared.refused.Refused.{Refused}
+use Rattle.atlas_page.specs.declared.row.Found.TheVariants as found
+use Rattle.atlas_page.specs.declared.row.Row.{Row}
+use Rattle.atlas_page.specs.declared.tables.Tables.{Tables}
+use Rattle.atlas_page.specs.declared.unjudged.Unjudged.{Unjudged}
+use Rattle.atlas_page.specs.declared.warned.WarningCounts.{WarningCounts}
+use Rattle.lens_engines.specs.declared.object.FileRefusal.TheVariants.{TooLarge}
+
+abbrev tables : Tables
+tables = record { things = 1; linedefs = 20; sidedefs = 300; vertexes = 4; segs = 5; ssectors = 6; nodes = 7; sectors = 65535 }
+
+-- so often F3, and so often N3
+abbrev counts : ℕ → ℕ → List ℕ
+counts faults notes =
+    0 ∷ 0 ∷ faults ∷ 0 ∷ 0 ∷ 0 ∷ 0 ∷ 0 ∷ 0 ∷ 0 ∷ 0 ∷ 0 ∷ 0 ∷ 0 ∷ 0 ∷ 0 ∷ 0 ∷ 0 ∷ 0 ∷ 0 ∷ notes ∷ 0 ∷ 0 ∷ 0 ∷ 0 ∷ 0 ∷ 0 ∷ 0 ∷ 0 ∷ 0 ∷ []
+
+-- so many W1 and W8
+abbrev warned : ℕ → ℕ → WarningCounts
+warned first last = record { w1 = first; w2 = 0; w3 = 0; w4 = 0; w5 = 0; w6 = 0; w7 = 0; w8 = last; w9 = 0; w10 = 0; w11 = 0; total = first + last }
+
+-- the items of a level's tables
+abbrev table_list : List ℕ
+table_list =
+    codes "<ul class=\"counts\">\n<li><b>1</b> things</li>\n<li><b>20</b> linedefs</li>\n<li><b>300</b> sidedefs</li>\n<li><b>4</b> vertexes</li>\n"
+    ++ codes "<li><b>5</b> segs</li>\n<li><b>6</b> ssectors</li>\n<li><b>7</b> nodes</li>\n<li><b>65535</b> sectors</li>\n</ul>\n</div>\n</li>\n"
+
+-- markup in a path and in a name; two faults of one code and seven notes of another
+faulty_row : (row : Row) → row.file ≡ 2 → row.path.now ≡ codes "<a&b>.wad" → row.entry ≡ 15 → row.name ≡ codes "E\"M1"
+    → row.found ≡ found.Judged (record { tables = tables; counts = counts 2 7; warned = warned 0 0; drawn = true })
+    → row_text row
+    ≡ codes "<li class=\"faulty\">\n<a class=\"map\" href=\"2-15.svg\"><img loading=\"lazy\" src=\"2-15.svg\" alt=\"map of E&quot;M1\"></a>\n"
+    ++ (codes "<div>\n<h2>E&quot;M1</h2>\n<p class=\"where\">&lt;a&amp;b&gt;.wad <span>entry 15, doom</span></p>\n"
+    ++ (codes "<ul class=\"found\">\n<li class=\"fault\">F3 &times; 2</li>\n<li class=\"note\">N3 &times; 7</li>\n</ul>\n" ++ table_list))
+unfolding digits number_item code_item picture_name
+faulty_row row file path entry name found = rw (file, path, entry, name, found) refl
+
+-- no fault, with a note and warnings of two codes, and nothing to draw
+sound_row : (row : Row) → row.file ≡ 1 → row.path.now ≡ codes "a.wad" → row.entry ≡ 0 → row.name ≡ codes "MAP01"
+    → row.found ≡ found.Judged (record { tables = tables; counts = counts 0 1; warned = warned 4 1; drawn = false })
+    → row_text row
+    ≡ codes "<li class=\"sound\">\n<p class=\"map\">no picture</p>\n"
+    ++ (codes "<div>\n<h2>MAP01</h2>\n<p class=\"where\">a.wad <span>entry 0, doom</span></p>\n"
+    ++ (codes "<ul class=\"found\">\n<li class=\"sound\">sound</li>\n<li class=\"note\">N3 &times; 1</li>\n<li class=\"warning\">W1 &times; 4</li>\n<li class=\"warning\">W8 &times; 1</li>\n</ul>\n" ++ table_list))
+unfolding digits number_item code_item warning_item picture_name
+sound_row row file path entry name found = rw (file, path, entry, name, found) refl
+
+-- the last lump isn't there
+broken_row : (row : Row) (unjudged : Unjudged) → row.file ≡ 1 → row.path.now ≡ codes "a.wad" → row.entry ≡ 3 → row.name ≡ codes "MAP01"
+    → unjudged.format ≡ Incomplete 10 → row.found ≡ found.Unjudged unjudged
+    → row_text row
+    ≡ codes "<li class=\"faulty\">\n<p class=\"map\">no picture</p>\n"
+    ++ (codes "<div>\n<h2>MAP01</h2>\n<p class=\"where\">a.wad <span>entry 3, incomplete</span></p>\n"
+    ++ codes "<p class=\"told\">incomplete: no BLOCKMAP where it belongs\n</p>\n</div>\n</li>\n")
+unfolding digits
+broken_row row unjudged file path entry name format found = rw (file, path, entry, name, found, format) refl
+
+-- a row with a fault stands before one without, and each once
+faulty_first : (a b : Row) → is_faulty a ≡ false → is_faulty b ≡ true → faulty_rows (a ∷ b ∷ []) ++ other_rows (a ∷ b ∷ []) ≡ (row_text b ++ []) ++ (row_text a ++ [])
+faulty_first a b sound faulty = rw (sound, faulty) refl
+
+sample_title : title_line 2 (totals_of_rows []) ≡ codes "<title>Atlas: 0 levels in 2 files</title>\n"
+unfolding digits title_line
+sample_title = refl
+
+none_refused : refused_part [] ≡ []
+none_refused = refl
+
+one_refused : (refused : Refused) → refused.path.now ≡ codes "big&.wad" → refused.why ≡ TooLarge
+    → refused_part (refused ∷ []) ≡ codes "<ul class=\"refused\">\n<li><b>big&amp;.wad</b> larger than 268435456 bytes</li>\n</ul>\n"
+one_refused refused path why = rw (path, why) refl

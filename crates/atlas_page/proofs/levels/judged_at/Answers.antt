@@ -1,0 +1,17 @@
+use Rattle.std.proofs.Common.{refl}
+use Rattle.lens_engines.proofs.CountLemmas.{counts_kept}
+use Rattle.atlas_page.proofs.levels.judged_at.Goals as goal
+
+pub returns : goal.returns
+returns g c =
+    let judging = c.args.judging in
+    let level = c.level_at-level.result in
+    let counts = counts_kept judging.ignored level c.in_ok-counts.counts c.without.result c.without.ensures.all c.without.ensures.each c.in_ok-counts.ensures in
+    record {
+      level = level;
+      there = c.level_at-level.ensures;
+      tables = c.of-3.ensures;
+      counts = counts;
+      warned = rw c.requires.known at c.in_ok-warned.ensures;
+      drawn = c.has_lines.ensures;
+    }

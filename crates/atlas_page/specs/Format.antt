@@ -1,0 +1,13 @@
+-- The format of a level that isn't judged (ours).
+use Rattle.std.specs.Prelude.{Bool, true, ◌&&◌, nat_lt}
+use Rattle.level_starts.specs.declared.format.Format.{Format}
+use Rattle.level_starts.specs.declared.format.Format.TheVariants.{Udmf, Incomplete, Hexen, Outside, Extended, Doom}
+
+-- what tells it is one of the ten lumps
+abbrev pub names_lump : Format → Bool
+names_lump Udmf = true
+names_lump (Incomplete k) = nat_lt 0 k && nat_lt k 11
+names_lump Hexen = true
+names_lump (Outside k) = nat_lt 0 k && nat_lt k 11
+names_lump (Extended tag) = true
+names_lump Doom = true

@@ -1,0 +1,118 @@
+-- The rows of the page (ours): a level, with its picture where it has one.
+use Rattle.std.specs.Prelude.{ℕ, Bool, true, false, not, List, [], ◌∷◌, ◌++◌, codes, filter, fold, map, nat_eq, if◌then◌else◌}
+use Rattle.std.specs.Fmt.{decimal}
+use Rattle.le_rec.specs.Name.{shown_name}
+use Rattle.level_starts.specs.declared.format.Format.{Format}
+use Rattle.level_starts.specs.declared.format.Format.TheVariants.{Doom}
+use Rattle.map_picture.specs.Escape.{escaped}
+use Rattle.map_picture.specs.Parts.{joined}
+use Rattle.atlas_page.specs.Items.{code_items, table_items}
+use Rattle.atlas_page.specs.Warned.{warning_parts}
+use Rattle.atlas_page.specs.declared.row.Found.{Found}
+use Rattle.atlas_page.specs.declared.row.Found.TheVariants as found
+use Rattle.atlas_page.specs.declared.row.Judged.{Judged}
+use Rattle.atlas_page.specs.declared.row.Row.{Row}
+use Rattle.lens_engines.specs.Counts.{fault_total}
+use Rattle.lens_engines.specs.FormatLine.{format_text}
+use Rattle.lens_engines.specs.Objects.{format_name}
+use Rattle.lens_engines.specs.Unlooked.{none_unlooked}
+use Rattle.lens_engines.specs.Totals.{format_totals, judged_totals, no_totals, totals_with, verdict_of_totals}
+use Rattle.lens_engines.specs.declared.totals.Totals.{Totals}
+use Rattle.lens_engines.specs.declared.verdict.Verdict.{Verdict}
+use Rattle.lens_engines.specs.declared.verdict.Verdict.TheVariants.{Clean, Unjudged, Faulty}
+
+-- the name of a level's picture: the number of its file, from 1, and that of its entry
+unfoldable pub picture_name : ℕ → ℕ → List ℕ
+picture_name file entry = decimal file ++ (codes "-" ++ (decimal entry ++ codes ".svg"))
+
+-- what a level adds to the totals
+abbrev pub totals_of : Found → Totals
+totals_of (found.Judged judged) = judged_totals judged.counts judged.warned.total none_unlooked
+totals_of (found.Unjudged unjudged) = format_totals unjudged.format
+
+-- the totals of all levels
+abbrev pub totals_of_rows : List Row → Totals
+totals_of_rows rows = fold (λ sum row. totals_with sum (totals_of row.found)) no_totals rows
+
+-- how a row is marked
+abbrev pub mark : Verdict → List ℕ
+mark Clean = codes "sound"
+mark Unjudged = codes "unread"
+mark Faulty = codes "faulty"
+
+-- whether a verdict is that of a fault
+abbrev pub tells_fault : Verdict → Bool
+tells_fault Faulty = true
+tells_fault Unjudged = false
+tells_fault Clean = false
+
+-- a level with a fault, or one that lacks a lump
+abbrev pub is_faulty : Row → Bool
+is_faulty row = tells_fault (verdict_of_totals (totals_of row.found))
+
+-- a level's format
+abbrev pub format_of : Found → Format
+format_of (found.Judged judged) = Doom
+format_of (found.Unjudged unjudged) = unjudged.format
+
+-- whether a level has a picture
+abbrev pub is_drawn : Found → Bool
+is_drawn (found.Judged judged) = judged.drawn
+is_drawn (found.Unjudged unjudged) = false
+
+-- the picture, within a link to it
+abbrev pub link_parts : Row → List (List ℕ)
+link_parts row =
+    codes "<a class=\"map\" href=\"" ∷ picture_name row.file row.entry ∷ codes "\"><img loading=\"lazy\" src=\""
+    ∷ picture_name row.file row.entry ∷ codes "\" alt=\"map of " ∷ escaped (shown_name row.name) ∷ codes "\"></a>\n" ∷ []
+
+-- or that there is none
+abbrev pub picture_part : Row → List ℕ
+picture_part row = if is_drawn row.found then joined (link_parts row) else codes "<p class=\"map\">no picture</p>\n"
+
+-- where the level lies: its file's path, its entry and its format
+abbrev pub where_parts : Row → List (List ℕ)
+where_parts row =
+    codes "<p class=\"where\">" ∷ escaped row.path.now ∷ codes " <span>entry " ∷ decimal row.entry ∷ codes ", "
+    ∷ format_name (format_of row.found) ∷ codes "</span></p>\n" ∷ []
+
+-- `sound` where there is no fault
+abbrev pub sound_item : List ℕ → List ℕ
+sound_item counts = if nat_eq (fault_total counts) 0 then codes "<li class=\"sound\">sound</li>\n" else []
+
+-- what was found at a level of Doom's format: the codes that hold, its warnings, and its counts
+abbrev pub judged_parts : Judged → List (List ℕ)
+judged_parts judged =
+    codes "<ul class=\"found\">\n" ∷ sound_item judged.counts ∷ joined (code_items judged.counts) ∷ joined (warning_parts judged.warned)
+    ∷ codes "</ul>\n<ul class=\"counts\">\n" ∷ joined (table_items judged.tables) ∷ codes "</ul>\n" ∷ []
+
+-- why another isn't judged
+abbrev pub unjudged_parts : Format → List (List ℕ)
+unjudged_parts format = codes "<p class=\"told\">" ∷ format_text format ∷ codes "</p>\n" ∷ []
+
+-- what was found at a level
+abbrev pub found_part : Found → List ℕ
+found_part (found.Judged judged) = joined (judged_parts judged)
+found_part (found.Unjudged unjudged) = joined (unjudged_parts unjudged.format)
+
+-- a row
+abbrev pub row_parts : Row → List (List ℕ)
+row_parts row =
+    codes "<li class=\"" ∷ mark (verdict_of_totals (totals_of row.found)) ∷ codes "\">\n" ∷ picture_part row
+    ∷ codes "<div>\n<h2>" ∷ escaped (shown_name row.name) ∷ codes "</h2>\n" ∷ joined (where_parts row) ∷ found_part row.found
+    ∷ codes "</div>\n</li>\n" ∷ []
+
+abbrev pub row_text : Row → List ℕ
+row_text row = joined (row_parts row)
+
+-- a row, if it is of those with a fault or of the others, as asked
+abbrev pub row_part : Bool → Row → List ℕ
+row_part true row = if is_faulty row then row_text row else []
+row_part false row = if not (is_faulty row) then row_text row else []
+
+-- the rows of the levels with a fault, and of the others, each in their order
+abbrev pub faulty_rows : List Row → List ℕ
+faulty_rows rows = joined (map row_text (filter is_faulty rows))
+
+abbrev pub other_rows : List Row → List ℕ
+other_rows rows = joined (map row_text (filter (λ row. not (is_faulty row)) rows))

@@ -1,0 +1,147 @@
+//! The levels of a file as rows.
+
+ghost use Rattle.std.specs.Prelude.{◌≡◌, ◌↔◌, IfOk, IsTrue, OnErr, OnOk, length};
+ghost use Rattle.level_starts.specs.Format.{IsFormat};
+ghost use Rattle.level_starts.specs.Starts.{LevelStartsAt};
+ghost use Rattle.level_starts.specs.declared.format.Format.TheVariants as format;
+ghost use Rattle.atlas_page.specs.Levels.{AddsRow, AddsRows, AddsSome, FoundAt, HasLines, IsJudged, IsRow};
+ghost use Rattle.lens_engines.specs.Warned.{known_files};
+ghost use Rattle.wad_dir.specs.Entries.{names};
+
+use crate::row::{Found, Judged, Row};
+use crate::tables::Tables;
+use crate::unjudged::Unjudged;
+use crate::warned::WarningCounts;
+use lens_engines::{CodeCounts, Judging, label_of, level_at};
+use level_starts::{Format, format_of, next_start};
+use map_cells::Frame;
+use map_level::Level;
+use map_warnings::Resources;
+use std::alloc::{AllocError, Allocator};
+use wad_dir::Set;
+
+/// Where levels come from, and how they are judged.
+#[derive(Clone, Copy)]
+pub struct Origin<'p, 'b> {
+    /// The number of the file, from 1.
+    pub file: u64,
+    /// Its path.
+    pub path: &'p [u8],
+    pub judging: Judging<'b>,
+}
+
+/// Adds a row for each level of a set, in the order of their labels, as one of the origin's file. Its textures and flats are known
+/// where warnings are looked for. What judging a level takes is given back before the next one. At an Err the rows of the first levels
+/// were added, and not those of all.
+pub fn push_rows<'p, A: Allocator + Copy, B: Allocator>(
+    alloc: A,
+    origin: &Origin<'p, '_>,
+    set: &Set<'_, A>,
+    resources: &Option<Resources<'_, '_, A>>,
+    rows: &mut Vec<Row<'p>, B>,
+) -> Result<(), AllocError>
+    requires { resources.now ≡ known_files origin.now.judging set.now }
+    ensures all { OnOk result (AddsRows origin.now set.now (length (names set.now)) rows.old.items rows.new.items) }
+    ensures some { OnErr result (AddsSome origin.now set.now rows.old.items rows.new.items) }
+{
+    let total = set.total();
+    let mut from = 0;
+    'levels: while let Some(g) = next_start(set, from) {
+        push_row(alloc, origin, set, resources, g, rows)?;
+        from = g + 1;
+    }
+    Ok(())
+}
+
+// Adds the row of the level that starts at an entry.
+fn push_row<'p, A: Allocator + Copy, B: Allocator>(
+    alloc: A,
+    origin: &Origin<'p, '_>,
+    set: &Set<'_, A>,
+    resources: &Option<Resources<'_, '_, A>>,
+    g: usize,
+    rows: &mut Vec<Row<'p>, B>,
+) -> Result<(), AllocError>
+    requires known { resources.now ≡ known_files origin.now.judging set.now }
+    requires starts { LevelStartsAt (names set.now) g }
+    ensures added { OnOk result (AddsRow origin.now set.now g rows.old.items rows.new.items) }
+    ensures kept { OnErr result (rows.new.items ≡ rows.old.items) }
+{
+    let row = row_at(alloc, origin, set, resources, g)?;
+    rows.push(row)?;
+    Ok(())
+}
+
+// The row of the level that starts at an entry.
+fn row_at<'p, A: Allocator + Copy>(
+    alloc: A,
+    origin: &Origin<'p, '_>,
+    set: &Set<'_, A>,
+    resources: &Option<Resources<'_, '_, A>>,
+    g: usize,
+) -> Result<Row<'p>, AllocError>
+    requires known { resources.now ≡ known_files origin.now.judging set.now }
+    requires starts { LevelStartsAt (names set.now) g }
+    ensures { IfOk result (IsRow origin.now set.now g) }
+{
+    let name = label_of(set, g);
+    let found = found_at(alloc, set, resources, g, origin.judging)?;
+    Ok(Row {
+        file: origin.file,
+        path: origin.path,
+        entry: g as u64,
+        name,
+        found,
+    })
+}
+
+// What is told of the level that starts at an entry.
+fn found_at<A: Allocator + Copy>(
+    alloc: A,
+    set: &Set<'_, A>,
+    resources: &Option<Resources<'_, '_, A>>,
+    g: usize,
+    judging: Judging<'_>,
+) -> Result<Found, AllocError>
+    requires known { resources.now ≡ known_files judging set.now }
+    requires starts { LevelStartsAt (names set.now) g }
+    ensures { IfOk result (FoundAt set.now judging.entry g) }
+{
+    match format_of(set, g) {
+        Format::Doom => {
+            let judged = judged_at(alloc, set, resources, g, judging)?;
+            Ok(Found::Judged(judged))
+        }
+        format => Ok(Found::Unjudged(Unjudged::new(format))),
+    }
+}
+
+// What is told of a level of Doom's format.
+fn judged_at<A: Allocator + Copy>(
+    alloc: A,
+    set: &Set<'_, A>,
+    resources: &Option<Resources<'_, '_, A>>,
+    g: usize,
+    judging: Judging<'_>,
+) -> Result<Judged, AllocError>
+    requires known { resources.now ≡ known_files judging set.now }
+    requires is { IsFormat set.now g format.Doom }
+    ensures { IfOk result (IsJudged set.now judging.entry g) }
+{
+    let level = level_at(set, g, judging.reading);
+    let counts = CodeCounts::of(alloc, &level)?;
+    let warned = WarningCounts::of(alloc, &level, resources, judging)?;
+    Ok(Judged {
+        tables: Tables::of(&level),
+        counts: counts.without(&judging.ignored),
+        warned,
+        drawn: has_lines(&level),
+    })
+}
+
+// Whether a linedef has both of its vertexes.
+fn has_lines(level: &Level<'_>) -> bool
+    ensures { IsTrue result ↔ HasLines level.now }
+{
+    Frame::of(level).is_some()
+}

@@ -1,0 +1,210 @@
+//! The page of an atlas.
+
+ghost use Rattle.std.specs.Prelude.{◌≡◌, [], false};
+ghost use Rattle.line_io.specs.Writes.{Writes};
+ghost use Rattle.map_picture.specs.Parts.{joined};
+ghost use Rattle.atlas_page.specs.Page.{head_parts, page_text, title_line, total_items, warned_item};
+ghost use Rattle.atlas_page.specs.Rows.{totals_of_rows};
+
+use crate::items::write_number_item;
+use crate::refused::{Refused, write_refused};
+use crate::row::Row;
+use crate::rows::{write_faulty, write_others};
+use crate::style::write_style;
+use le_rec::Sink;
+use lens_engines::{Totals, Warnings};
+use line_io::{IoFault, TextLine, emit};
+use map_picture::parts::{Parts, write_parts};
+
+/// What a page tells.
+#[derive(Clone, Copy)]
+pub struct Page<'r, 'p> {
+    /// How many files there are, the refused ones too.
+    pub files: u64,
+    /// How warnings were asked for.
+    pub warnings: Warnings,
+    /// Their levels, in order.
+    pub rows: &'r [Row<'p>],
+    /// The files that are refused, in order.
+    pub refused: &'r [Refused<'p>],
+}
+
+// What all levels add up to.
+fn totals_of(rows: &[Row<'_>]) -> Totals
+    ensures { result ≡ totals_of_rows rows.now }
+{
+    let mut sum = Totals::none();
+    for row in rows {
+        sum = sum.with(row.found.totals());
+    }
+    sum
+}
+
+// Writes the line of the title.
+fn write_title<W: Sink>(files: u64, totals: &Totals, out: &mut W) -> Result<(), IoFault>
+    requires { (W.state out.old).failed ≡ false }
+    ensures { Writes (W.state out.old) (W.state out.new) (title_line files totals.now) result }
+{
+    let mut line = TextLine::new();
+    prepend_title(&mut line, files, totals);
+    emit(out, line.as_bytes())
+}
+
+// `<title>Atlas: {levels} levels in {files} files</title>`
+fn prepend_title(line: &mut TextLine, files: u64, totals: &Totals)
+    requires { line.old ≡ [] }
+    ensures { line.new ≡ title_line files totals.now }
+{
+    line.prepend_bytes(b" files</title>\n");
+    line.prepend_natural(files);
+    line.prepend_bytes(b" levels in ");
+    line.prepend_natural(totals.levels);
+    line.prepend_bytes(b"<title>Atlas: ");
+}
+
+// What levels and files add up to.
+#[derive(Drop)]
+struct TotalItems {
+    files: u64,
+    warnings: Warnings,
+    totals: Totals,
+}
+
+impl Parts for TotalItems {
+    ghost use Rattle.atlas_page.specs.Page.{total_items};
+
+    ghost parts = { λ items. total_items items.files items.warnings items.totals };
+
+    fn count(&self) -> usize {
+        6
+    }
+
+    fn write<W: Sink>(&self, number: usize, out: &mut W) -> Result<(), IoFault> {
+        let totals = &self.totals;
+        match number {
+            0 => write_number_item(b"levels", totals.levels, out),
+            1 => write_number_item(b"files", self.files, out),
+            2 => write_number_item(b"faults", totals.faults, out),
+            3 => write_number_item(b"notes", totals.notes, out),
+            4 => write_warned(self.warnings, totals.warnings, out),
+            _ => {
+                let unjudged = totals.broken.saturating_add(totals.unread);
+                write_number_item(b"not judged", unjudged, out)
+            }
+        }
+    }
+}
+
+// Writes how many warnings there are, where they are asked for.
+fn write_warned<W: Sink>(warnings: Warnings, count: u64, out: &mut W) -> Result<(), IoFault>
+    requires { (W.state out.old).failed ≡ false }
+    ensures { Writes (W.state out.old) (W.state out.new) (warned_item warnings count) result }
+{
+    match warnings {
+        Warnings::Unasked => emit(out, b""),
+        Warnings::Told | Warnings::Strict => write_number_item(b"warnings", count, out),
+    }
+}
+
+// What stands above the levels.
+#[derive(Drop)]
+struct HeadParts {
+    items: TotalItems,
+}
+
+impl Parts for HeadParts {
+    ghost use Rattle.atlas_page.specs.Page.{head_parts};
+
+    ghost parts = { λ parts. head_parts parts.items.files parts.items.warnings parts.items.totals };
+
+    fn count(&self) -> usize {
+        6
+    }
+
+    fn write<W: Sink>(&self, number: usize, out: &mut W) -> Result<(), IoFault> {
+        match number {
+            0 => emit(
+                out,
+                b"<!DOCTYPE html>\n<html lang=\"en\">\n<head>\n<meta charset=\"utf-8\">\n<meta name=\"viewport\" content=\"width=device-width, initial-scale=1\">\n",
+            ),
+            1 => write_title(self.items.files, &self.items.totals, out),
+            2 => write_style(out),
+            3 => emit(
+                out,
+                b"</head>\n<body>\n<header>\n<h1>Atlas</h1>\n<ul class=\"totals\">\n",
+            ),
+            4 => write_parts(&self.items, out),
+            _ => emit(out, b"</ul>\n"),
+        }
+    }
+}
+
+// The refused files, and the levels.
+#[derive(Drop)]
+struct BodyParts<'r, 'p> {
+    page: &'r Page<'r, 'p>,
+}
+
+impl Parts for BodyParts<'_, '_> {
+    ghost use Rattle.atlas_page.specs.Page.{body_parts};
+
+    ghost parts = { λ parts. body_parts parts.page.now.rows.now parts.page.now.refused.now };
+
+    fn count(&self) -> usize {
+        5
+    }
+
+    fn write<W: Sink>(&self, number: usize, out: &mut W) -> Result<(), IoFault> {
+        match number {
+            0 => write_refused(self.page.refused, out),
+            1 => emit(out, b"</header>\n<main>\n<ol>\n"),
+            2 => write_faulty(self.page.rows, out),
+            3 => write_others(self.page.rows, out),
+            _ => emit(out, b"</ol>\n</main>\n</body>\n</html>\n"),
+        }
+    }
+}
+
+#[derive(Drop)]
+struct PageParts<'r, 'p> {
+    page: &'r Page<'r, 'p>,
+}
+
+impl Parts for PageParts<'_, '_> {
+    ghost use Rattle.atlas_page.specs.Page.{page_parts};
+
+    ghost parts = { λ parts. page_parts parts.page.now.files parts.page.now.warnings parts.page.now.rows.now parts.page.now.refused.now };
+
+    fn count(&self) -> usize {
+        2
+    }
+
+    fn write<W: Sink>(&self, number: usize, out: &mut W) -> Result<(), IoFault> {
+        match number {
+            0 => write_head(self.page, out),
+            _ => write_parts(&BodyParts { page: self.page }, out),
+        }
+    }
+}
+
+// Writes what stands above the levels.
+fn write_head<W: Sink>(page: &Page<'_, '_>, out: &mut W) -> Result<(), IoFault>
+    requires { (W.state out.old).failed ≡ false }
+    ensures { Writes (W.state out.old) (W.state out.new) (joined (head_parts page.now.files page.now.warnings (totals_of_rows page.now.rows.now))) result }
+{
+    let totals = totals_of(page.rows);
+    let items = TotalItems {
+        files: page.files,
+        warnings: page.warnings,
+        totals,
+    };
+    write_parts(&HeadParts { items }, out)
+}
+
+/// Writes the page of an atlas. `Write` where the sink fails: a front of the text was taken. It takes no memory.
+pub fn write_page<W: Sink>(page: &Page<'_, '_>, out: &mut W) -> Result<(), IoFault>
+    requires { (W.state out.old).failed ≡ false }
+    ensures { Writes (W.state out.old) (W.state out.new) (page_text page.now.files page.now.warnings page.now.rows.now page.now.refused.now) result }
+{
+    write_parts(&PageParts { page }, out)
+}

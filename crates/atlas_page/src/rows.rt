@@ -1,0 +1,276 @@
+//! The rows of the page, each with its level's picture.
+
+ghost use Rattle.std.specs.Prelude.{◌≡◌, [], false};
+ghost use Rattle.line_io.specs.Writes.{Writes};
+ghost use Rattle.atlas_page.specs.Rows.{faulty_rows, found_part, mark, other_rows, picture_name, picture_part, row_part, sound_item};
+
+use crate::items::{write_codes, write_tables};
+use crate::row::{Found, Judged, Row};
+use crate::text::{write_name, write_number};
+use crate::unjudged::Unjudged;
+use crate::warned::write_warnings;
+use le_rec::Sink;
+use lens_engines::{CodeCounts, Verdict, format_name, write_format_alone};
+use line_io::{IoFault, TextLine, emit};
+use map_picture::escape::write_escaped;
+use map_picture::parts::{Parts, write_parts};
+
+/// Puts the name of a level's picture before the line: the number of its file, from 1, and that of its entry.
+pub fn prepend_picture_name(line: &mut TextLine, file: u64, entry: u64)
+    requires { line.old ≡ [] }
+    ensures { line.new ≡ picture_name file entry }
+{
+    line.prepend_bytes(b".svg");
+    line.prepend_natural(entry);
+    line.prepend_bytes(b"-");
+    line.prepend_natural(file);
+}
+
+// Writes the name of a row's picture.
+fn write_picture_name<W: Sink>(row: &Row<'_>, out: &mut W) -> Result<(), IoFault>
+    requires { (W.state out.old).failed ≡ false }
+    ensures { Writes (W.state out.old) (W.state out.new) (picture_name row.now.file row.now.entry) result }
+{
+    let mut line = TextLine::new();
+    prepend_picture_name(&mut line, row.file, row.entry);
+    emit(out, line.as_bytes())
+}
+
+// A picture within a link to it.
+#[derive(Drop)]
+struct PictureLink<'r, 'p> {
+    row: &'r Row<'p>,
+}
+
+impl Parts for PictureLink<'_, '_> {
+    ghost use Rattle.atlas_page.specs.Rows.{link_parts};
+
+    ghost parts = { λ link. link_parts link.row.now };
+
+    fn count(&self) -> usize {
+        7
+    }
+
+    fn write<W: Sink>(&self, number: usize, out: &mut W) -> Result<(), IoFault> {
+        match number {
+            0 => emit(out, b"<a class=\"map\" href=\""),
+            1 => write_picture_name(self.row, out),
+            2 => emit(out, b"\"><img loading=\"lazy\" src=\""),
+            3 => write_picture_name(self.row, out),
+            4 => emit(out, b"\" alt=\"map of "),
+            5 => write_name(&self.row.name, out),
+            _ => emit(out, b"\"></a>\n"),
+        }
+    }
+}
+
+// Writes the picture of a row, or that there is none.
+fn write_picture<W: Sink>(row: &Row<'_>, out: &mut W) -> Result<(), IoFault>
+    requires { (W.state out.old).failed ≡ false }
+    ensures { Writes (W.state out.old) (W.state out.new) (picture_part row.now) result }
+{
+    if row.found.is_drawn() {
+        write_parts(&PictureLink { row }, out)
+    } else {
+        emit(out, b"<p class=\"map\">no picture</p>\n")
+    }
+}
+
+// Where a level lies.
+#[derive(Drop)]
+struct WhereLine<'r, 'p> {
+    row: &'r Row<'p>,
+}
+
+impl Parts for WhereLine<'_, '_> {
+    ghost use Rattle.atlas_page.specs.Rows.{where_parts};
+
+    ghost parts = { λ line. where_parts line.row.now };
+
+    fn count(&self) -> usize {
+        7
+    }
+
+    fn write<W: Sink>(&self, number: usize, out: &mut W) -> Result<(), IoFault> {
+        match number {
+            0 => emit(out, b"<p class=\"where\">"),
+            1 => write_escaped(self.row.path, out),
+            2 => emit(out, b" <span>entry "),
+            3 => write_number(self.row.entry, out),
+            4 => emit(out, b", "),
+            5 => emit(out, format_name(self.row.found.format())),
+            _ => emit(out, b"</span></p>\n"),
+        }
+    }
+}
+
+// Writes `sound`, where there is no fault.
+fn write_sound<W: Sink>(counts: &CodeCounts, out: &mut W) -> Result<(), IoFault>
+    requires { (W.state out.old).failed ≡ false }
+    ensures { Writes (W.state out.old) (W.state out.new) (sound_item counts.now) result }
+{
+    if counts.faults() == 0 {
+        emit(out, b"<li class=\"sound\">sound</li>\n")
+    } else {
+        emit(out, b"")
+    }
+}
+
+// What was found at a level of Doom's format, its warnings, and its counts.
+#[derive(Drop)]
+struct JudgedParts<'r> {
+    judged: &'r Judged,
+}
+
+impl Parts for JudgedParts<'_> {
+    ghost use Rattle.atlas_page.specs.Rows.{judged_parts};
+
+    ghost parts = { λ parts. judged_parts parts.judged.now };
+
+    fn count(&self) -> usize {
+        7
+    }
+
+    fn write<W: Sink>(&self, number: usize, out: &mut W) -> Result<(), IoFault> {
+        match number {
+            0 => emit(out, b"<ul class=\"found\">\n"),
+            1 => write_sound(&self.judged.counts, out),
+            2 => write_codes(&self.judged.counts, out),
+            3 => write_warnings(&self.judged.warned, out),
+            4 => emit(out, b"</ul>\n<ul class=\"counts\">\n"),
+            5 => write_tables(&self.judged.tables, out),
+            _ => emit(out, b"</ul>\n"),
+        }
+    }
+}
+
+// Why a level isn't judged.
+#[derive(Drop)]
+struct UnjudgedParts<'r> {
+    unjudged: &'r Unjudged,
+}
+
+impl Parts for UnjudgedParts<'_> {
+    ghost use Rattle.atlas_page.specs.Rows.{unjudged_parts};
+
+    ghost parts = { λ parts. unjudged_parts parts.unjudged.now.format };
+
+    fn count(&self) -> usize {
+        3
+    }
+
+    fn write<W: Sink>(&self, number: usize, out: &mut W) -> Result<(), IoFault> {
+        match number {
+            0 => emit(out, b"<p class=\"told\">"),
+            1 => write_format_alone(self.unjudged.format(), out),
+            _ => emit(out, b"</p>\n"),
+        }
+    }
+}
+
+// Writes what was found at a level.
+fn write_found<W: Sink>(found: &Found, out: &mut W) -> Result<(), IoFault>
+    requires { (W.state out.old).failed ≡ false }
+    ensures { Writes (W.state out.old) (W.state out.new) (found_part found.now) result }
+{
+    match found {
+        Found::Judged(judged) => write_parts(&JudgedParts { judged }, out),
+        Found::Unjudged(unjudged) => write_parts(&UnjudgedParts { unjudged }, out),
+    }
+}
+
+// How a row is marked.
+fn mark(verdict: Verdict) -> &'static [u8]
+    ensures { result.now ≡ mark verdict }
+{
+    match verdict {
+        Verdict::Clean => b"sound",
+        Verdict::Unjudged => b"unread",
+        Verdict::Faulty => b"faulty",
+    }
+}
+
+#[derive(Drop)]
+struct RowParts<'r, 'p> {
+    row: &'r Row<'p>,
+}
+
+impl Parts for RowParts<'_, '_> {
+    ghost use Rattle.atlas_page.specs.Rows.{row_parts};
+
+    ghost parts = { λ parts. row_parts parts.row.now };
+
+    fn count(&self) -> usize {
+        10
+    }
+
+    fn write<W: Sink>(&self, number: usize, out: &mut W) -> Result<(), IoFault> {
+        match number {
+            0 => emit(out, b"<li class=\""),
+            1 => emit(out, mark(self.row.found.totals().verdict())),
+            2 => emit(out, b"\">\n"),
+            3 => write_picture(self.row, out),
+            4 => emit(out, b"<div>\n<h2>"),
+            5 => write_name(&self.row.name, out),
+            6 => emit(out, b"</h2>\n"),
+            7 => write_parts(&WhereLine { row: self.row }, out),
+            8 => write_found(&self.row.found, out),
+            _ => emit(out, b"</div>\n</li>\n"),
+        }
+    }
+}
+
+// Rows of one kind: those with a fault, or the others.
+#[derive(Drop)]
+struct RowsOf<'r, 'p> {
+    rows: &'r [Row<'p>],
+    faulty: bool,
+}
+
+impl Parts for RowsOf<'_, '_> {
+    ghost use Rattle.std.specs.Prelude.{map};
+    ghost use Rattle.atlas_page.specs.Rows.{row_part};
+
+    ghost parts = { λ parts. map (row_part parts.faulty) parts.rows.now };
+
+    fn count(&self) -> usize {
+        self.rows.len()
+    }
+
+    fn write<W: Sink>(&self, number: usize, out: &mut W) -> Result<(), IoFault> {
+        write_row(&self.rows[number], self.faulty, out)
+    }
+}
+
+// Writes a row, if it is of the kind.
+fn write_row<W: Sink>(row: &Row<'_>, faulty: bool, out: &mut W) -> Result<(), IoFault>
+    requires { (W.state out.old).failed ≡ false }
+    ensures { Writes (W.state out.old) (W.state out.new) (row_part faulty row.now) result }
+{
+    if row.is_faulty() == faulty {
+        write_parts(&RowParts { row }, out)
+    } else {
+        emit(out, b"")
+    }
+}
+
+/// Writes the rows of the levels with a fault, in their order.
+pub fn write_faulty<W: Sink>(rows: &[Row<'_>], out: &mut W) -> Result<(), IoFault>
+    requires { (W.state out.old).failed ≡ false }
+    ensures { Writes (W.state out.old) (W.state out.new) (faulty_rows rows.now) result }
+{
+    let parts = RowsOf { rows, faulty: true };
+    write_parts(&parts, out)
+}
+
+/// Writes the rows of the others, in their order.
+pub fn write_others<W: Sink>(rows: &[Row<'_>], out: &mut W) -> Result<(), IoFault>
+    requires { (W.state out.old).failed ≡ false }
+    ensures { Writes (W.state out.old) (W.state out.new) (other_rows rows.now) result }
+{
+    let parts = RowsOf {
+        rows,
+        faulty: false,
+    };
+    write_parts(&parts, out)
+}

@@ -1,0 +1,32 @@
+//! A level that isn't judged.
+
+ghost use Rattle.std.specs.Prelude.{◌≡◌, IsTrue};
+ghost use Rattle.atlas_page.specs.Format.{names_lump};
+ghost use Rattle.lens_engines.specs.Objects.{NamesLump};
+
+use level_starts::Format;
+
+/// A level that isn't judged, by its format.
+#[derive(Clone, Copy)]
+pub struct Unjudged {
+    format: Format,
+    ghost placed: { IsTrue (names_lump format) },
+}
+
+impl Unjudged {
+    /// A level of a format that tells one of the ten lumps, where it tells any.
+    pub fn new(format: Format) -> Unjudged
+        requires { NamesLump format }
+        ensures { result.format ≡ format }
+    {
+        Unjudged { format }
+    }
+
+    /// Its format.
+    pub fn format(&self) -> Format
+        ensures format { result ≡ self.now.format }
+        ensures lump { NamesLump result }
+    {
+        self.format
+    }
+}

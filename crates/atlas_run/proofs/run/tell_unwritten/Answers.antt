@@ -1,7 +1,0 @@
-use Rattle.std.proofs.Common.{rules}
-use Rattle.atlas_run.specs.Tell.{folder_line, write_text}
-use Rattle.atlas_run.proofs.ToldLemmas.{told_none}
-use Rattle.atlas_run.proofs.run.tell_unwritten.Goals as goal
-
-pub returns-else-not-failed : goal.returns-else-not-failed
-returns-else-not-failed g c = told_none (g.E.Sink.state c.args.errors.now) (folder_line c.args.folder.now write_text) (search rules)

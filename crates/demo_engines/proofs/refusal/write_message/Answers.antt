@@ -1,0 +1,23 @@
+use Rattle.std.specs.Prelude.{codes}
+use Rattle.std.proofs.Common.{◌++◌}
+use Rattle.std.proofs.lemmas.Result.{err_from_is_err_and}
+use Rattle.line_io.proofs.WriteLemmas.{Writes-stop}
+use Rattle.lens_engines.proofs.WritingLemmas.{Writes-after, Writes-later}
+use Rattle.lens_engines.specs.ShownPath.{shown_path}
+use Rattle.demo_engines.specs.Summary.{lump_text}
+use Rattle.demo_engines.proofs.refusal.write_message.Goals as goal
+
+pub returns-in_err-emit : goal.returns-in_err-emit
+returns-in_err-emit g c =
+    let p = err_from_is_err_and c.from_residual.result c.from_residual.ensures.1 in
+    rw (p.1, p.2) (Writes-stop (shown_path c.args.heading.now.path.now ++ ((codes ": " ++ lump_text c.args.heading.now.lump) ++ c.args.line.now)) c.in_err-emit.ensures)
+
+pub returns-in_err-write_path : goal.returns-in_err-write_path
+returns-in_err-write_path g c =
+    let p = err_from_is_err_and c.from_residual-in_err-write_path.result c.from_residual-in_err-write_path.ensures.1 in
+    rw (p.1, p.2) (Writes-later c.in_ok-emit.ensures (Writes-stop {U = Unit {0}} ((codes ": " ++ lump_text c.args.heading.now.lump) ++ c.args.line.now) c.in_err-write_path.ensures))
+
+pub returns : goal.returns
+returns g c =
+    let line = rw (c.as_bytes.ensures, c.prepend_bytes.ensures.text, c.prepend_lump.ensures.text) at c.emit-2.ensures in
+    Writes-after c.in_ok-emit.ensures (Writes-after c.in_ok-write_path.ensures line)

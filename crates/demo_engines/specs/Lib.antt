@@ -1,0 +1,10 @@
+pub mod Assembly
+pub mod Demos
+pub mod Differences
+pub mod Handing
+pub mod Laws
+pub mod ObjectValues
+pub mod Objects
+pub mod Parts
+pub mod RefusalText
+pub mod Summary

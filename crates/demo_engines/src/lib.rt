@@ -1,0 +1,23 @@
+//! What demos hold, for those who keep them: a line or an object of JSON for each demo of a file, how two demos differ, and a
+//! demo put together again of its listing. The engines take bytes, and a path to print, and write to a sink.
+#![tactic(auto)]
+
+mod assembly;
+mod command_line;
+mod compare;
+mod demos;
+mod hand_on;
+mod header_line;
+pub mod laws;
+mod numbers;
+mod object;
+mod refusal;
+mod summary;
+mod watch;
+
+pub use assembly::{AssembleFault, Wanted, assemble};
+pub use compare::compare_demos;
+pub use demos::{DemoQuestion, DemosFault, Telling, demos_file};
+pub use hand_on::{AtOnce, HandOn};
+pub use refusal::write_demo_refusal;
+pub use watch::{Unwatched, Watch};

@@ -1,5 +1,0 @@
-use Rattle.demo_lens.proofs.LawLemmas.{one_listing}
-use Rattle.demo_lens.proofs.laws.one_listing.Goals as goal
-
-pub returns : goal.returns
-returns c = one_listing

@@ -1,0 +1,7 @@
+use Rattle.map_tree.specs.TreeFaults.{TreeHolds}
+use Rattle.examples.proofs.CleanLemmas.{empty_is_clean}
+use Rattle.examples.proofs.built_lumps.nodes_are_clean.Goals as goal
+
+pub returns : goal.returns
+returns g c =
+    rw c.len.ensures (empty_is_clean (TreeHolds c.args.level.now) c.in_ok-found.found c.in_ok-found.ensures)

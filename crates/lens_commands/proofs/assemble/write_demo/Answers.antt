@@ -1,0 +1,7 @@
+use Rattle.lens_engines.specs.declared.verdict.Verdict.TheVariants.{Clean}
+use Rattle.lens_commands.proofs.JobLemmas.{rest_after}
+use Rattle.lens_commands.proofs.assemble.write_demo.Goals as goal
+
+pub returns-in-Ok : goal.returns-in-Ok
+returns-in-Ok g c =
+    rest_after g.O.Write.contents c.args.bytes.now Clean c.args.out.now c.emit.new.out c.write_rest.new.out c.write_rest.result c.in-Ok.ensures.takes.whole c.write_rest.ensures

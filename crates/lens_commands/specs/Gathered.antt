@@ -1,0 +1,156 @@
+-- What of some files goes onto the page and into the folder (ours).
+use Rattle.std.specs.Prelude.{◌≡◌, ◌⊎◌, ℕ, suc, ◌≤◌, List, [], ◌∷◌, ◌++◌, length, Option, Some, take}
+use Rattle.std.specs.Io.KnownBytes.{Keeps}
+use Rattle.atlas_page.specs.Levels.{AreRowsBelow}
+use Rattle.atlas_page.specs.declared.levels.Origin.{Origin}
+use Rattle.atlas_page.specs.declared.refused.Refused.{Refused}
+use Rattle.atlas_page.specs.declared.row.Row.{Row}
+use Rattle.wad_dir.specs.Entries.{names}
+use Rattle.wad_dir.specs.Wad.{IsRead, Wad}
+use Rattle.le_rec.specs.Sink.{SinkState}
+use Rattle.lens_commands.specs.Run.{RefusesFile, TellsWord, WritesRefusal, no_tally, tally_with}
+use Rattle.lens_commands.specs.declared.tell.Tally.{Tally}
+use Rattle.lens_commands.specs.declared.tell.Word.TheVariants.{Survey}
+use Rattle.line_io.specs.declared.input.TheConstants.{MAX_READ}
+use Rattle.lens_commands.specs.Files.{at_path}
+use Rattle.lens_commands.specs.Folder.{Kept, with_files}
+use Rattle.lens_commands.specs.AtlasPictures.{ShowsRows}
+use Rattle.lens_commands.specs.declared.atlas.gather.Gathered.{Gathered}
+use Rattle.lens_commands.specs.declared.atlas.job.AtlasRequest.{AtlasRequest}
+
+-- the file of a number and a path
+pub record IsOrigin (asked : AtlasRequest) (number : ℕ) (path : List ℕ) (origin : Origin) : Type 0 where
+  pub numbered : origin.file ≡ number
+  pub of_path : origin.path.now ≡ path
+  pub judged : origin.judging ≡ asked.judging
+
+-- all levels of these bytes
+pub record AreRowsOf (origin : Origin) (bytes : List ℕ) (file : Wad) (rows : List Row) : Type 0 where
+  pub of_bytes : file.bytes ≡ bytes
+  pub read : IsRead file
+  pub are : AreRowsBelow origin (file ∷ []) (length (names (file ∷ []))) rows
+
+-- the rows of a file's levels and their pictures, of the same bytes of which a survey tells
+pub record GathersFile (held : Option (List ℕ)) (cells : ℕ) (origin : Origin) (rows : List Row) (refused : List Refused) (shown : List Kept)
+    (out out' errors errors' : SinkState) (tally : Tally) : Type 0 where
+  pub bytes : List ℕ
+  pub holds : Keeps held (Some bytes)
+  pub few : length bytes ≤ MAX_READ
+  pub told : TellsWord Survey origin.path.now bytes origin.judging out out' errors errors' tally
+  pub file : Wad
+  pub are : AreRowsOf origin bytes file rows
+  pub pictures : ShowsRows cells origin.judging.reading (file ∷ []) rows shown
+  pub none : refused ≡ []
+
+-- a refused file has none, and is refused for the same reason by a survey
+pub record GathersRefused (held : Option (List ℕ)) (origin : Origin) (rows : List Row) (refused : List Refused) (shown : List Kept)
+    (out out' errors errors' : SinkState) (tally : Tally) : Type 0 where
+  pub one : Refused
+  pub of_path : one.path.now ≡ origin.path.now
+  pub why : RefusesFile (at_path held) Survey one.why
+  pub told : WritesRefusal Survey origin.path.now one.why out out' errors errors' tally
+  pub is : refused ≡ one ∷ []
+  pub rowless : rows ≡ []
+  pub none : shown ≡ []
+
+-- a file, refused or not
+abbrev pub GathersPath : Option (List ℕ) → ℕ → Origin → List Row → List Refused → List Kept → SinkState → SinkState → SinkState → SinkState → Tally → Type 0
+GathersPath held cells origin rows refused shown out out' errors errors' tally =
+    GathersFile held cells origin rows refused shown out out' errors errors' tally
+    ⊎ GathersRefused held origin rows refused shown out out' errors errors' tally
+
+-- the rows, the refused files and the pictures of some paths, one after another, and what a survey tells of them
+pub data Gathers (held : List ℕ → Option (List ℕ)) (asked : AtlasRequest) (out errors : SinkState)
+    : List (List ℕ) → List Row → List Refused → List Kept → SinkState → SinkState → Tally → Type 0 where
+  of_none : Gathers held asked out errors [] [] [] [] out errors no_tally
+  with_path : (paths : List (List ℕ)) (rows : List Row) (refused : List Refused) (shown : List Kept) (out' errors' : SinkState) (sum : Tally)
+      (path : List ℕ) (origin : Origin) (more : List Row) (others : List Refused) (pictures : List Kept) (out'' errors'' : SinkState) (tally : Tally)
+      → Gathers held asked out errors paths rows refused shown out' errors' sum → IsOrigin asked (suc (length paths)) path origin
+      → GathersPath (held path) asked.cells origin more others pictures out' out'' errors' errors'' tally
+      → Gathers held asked out errors (paths ++ path ∷ []) (rows ++ more) (refused ++ others) (shown ++ pictures) out'' errors'' (tally_with sum tally)
+
+-- the pictures of the first rows of a file
+pub record ShowsPart (held : Option (List ℕ)) (cells : ℕ) (origin : Origin) (shown : List Kept) : Type 0 where
+  pub bytes : List ℕ
+  pub holds : Keeps held (Some bytes)
+  pub file : Wad
+  pub rows : List Row
+  pub are : AreRowsOf origin bytes file rows
+  pub count : ℕ
+  pub pictures : ShowsRows cells origin.judging.reading (file ∷ []) (take count rows) shown
+
+abbrev pub ShowsFront : Option (List ℕ) → ℕ → Origin → List Kept → Type 0
+ShowsFront held cells origin shown = (shown ≡ []) ⊎ ShowsPart held cells origin shown
+
+-- a path was added to what was gathered, to the folder and to the survey
+pub record AddsPath (held : Option (List ℕ)) (cells : ℕ) (origin : Origin) (old new : Gathered) (files files' : Option (List Kept))
+    (out out' errors errors' : SinkState) (tally : Tally) : Type 0 where
+  pub more : List Row
+  pub others : List Refused
+  pub pictures : List Kept
+  pub exact : GathersPath held cells origin more others pictures out out' errors errors' tally
+  pub rows : new.rows.items ≡ old.rows.items ++ more
+  pub refused : new.refused.items ≡ old.refused.items ++ others
+  pub found : new.tally ≡ old.tally
+  pub adds : files' ≡ with_files files pictures
+
+-- some of it was added to the folder
+pub record AddsFront (held : Option (List ℕ)) (cells : ℕ) (origin : Origin) (files files' : Option (List Kept)) : Type 0 where
+  pub shown : List Kept
+  pub front : ShowsFront held cells origin shown
+  pub adds : files' ≡ with_files files shown
+
+-- the rows of a file's levels were added, and their pictures
+pub record AddsLevels (cells : ℕ) (origin : Origin) (bytes : List ℕ) (old new : List Row) (files files' : Option (List Kept)) : Type 0 where
+  pub file : Wad
+  pub more : List Row
+  pub are : AreRowsOf origin bytes file more
+  pub pictures : List Kept
+  pub shows : ShowsRows cells origin.judging.reading (file ∷ []) more pictures
+  pub rows : new ≡ old ++ more
+  pub adds : files' ≡ with_files files pictures
+
+-- the first of them were, or none
+pub record AddsPart (cells : ℕ) (origin : Origin) (bytes : List ℕ) (files files' : Option (List Kept)) : Type 0 where
+  pub file : Wad
+  pub rows : List Row
+  pub are : AreRowsOf origin bytes file rows
+  pub count : ℕ
+  pub shown : List Kept
+  pub pictures : ShowsRows cells origin.judging.reading (file ∷ []) (take count rows) shown
+  pub adds : files' ≡ with_files files shown
+
+abbrev pub AddsSome : ℕ → Origin → List ℕ → Option (List Kept) → Option (List Kept) → Type 0
+AddsSome cells origin bytes files files' = (files' ≡ files) ⊎ AddsPart cells origin bytes files files'
+
+-- the next of some paths, of which a front of the pictures was added
+pub record ShowsNext (held : List ℕ → Option (List ℕ)) (asked : AtlasRequest) (number : ℕ) (paths : List (List ℕ)) (shown : List Kept) : Type 0 where
+  pub path : List ℕ
+  pub rest : List (List ℕ)
+  pub stands : paths ≡ path ∷ rest
+  pub origin : Origin
+  pub is : IsOrigin asked number path origin
+  pub front : ShowsFront (held path) asked.cells origin shown
+
+-- all of some paths was gathered
+pub record GathersAll (held : List ℕ → Option (List ℕ)) (asked : AtlasRequest) (paths : List (List ℕ)) (rows : List Row) (refused : List Refused) (files files' : Option (List Kept))
+    (out out' errors errors' : SinkState) (tally : Tally) : Type 0 where
+  pub shown : List Kept
+  pub gathered : Gathers held asked out errors paths rows refused shown out' errors' tally
+  pub adds : files' ≡ with_files files shown
+
+-- the first of them were, while a survey was told from these states on, and of the next one a front of its pictures
+pub record GathersSome (held : List ℕ → Option (List ℕ)) (asked : AtlasRequest) (paths : List (List ℕ)) (files files' : Option (List Kept)) (survey errors : SinkState) : Type 0 where
+  pub before : List (List ℕ)
+  pub rest : List (List ℕ)
+  pub stands : paths ≡ before ++ rest
+  pub rows : List Row
+  pub refused : List Refused
+  pub between : Option (List Kept)
+  pub survey' : SinkState
+  pub errors' : SinkState
+  pub tally : Tally
+  pub gathers : GathersAll held asked before rows refused files between survey survey' errors errors' tally
+  pub shown : List Kept
+  pub next : (shown ≡ []) ⊎ ShowsNext held asked (suc (length before)) rest shown
+  pub adds : files' ≡ with_files between shown

@@ -1,0 +1,90 @@
+-- How far files were told where an atlas isn't whole (ours).
+use Rattle.std.specs.Prelude.{◌≡◌, ◌⊎◌, ℕ, List, Option}
+use Rattle.le_rec.specs.Sink.{SinkState}
+use Rattle.lens_engines.specs.declared.object.FileRefusal.{FileRefusal}
+use Rattle.lens_commands.specs.Run.{StopsPath, StopsRefusal, TellsPath, ToldBefore, ToldTo, WritesRefusal}
+use Rattle.lens_commands.specs.declared.tell.Request.{Request}
+use Rattle.lens_commands.specs.declared.tell.Stop.{Stop}
+use Rattle.lens_commands.specs.declared.tell.Stop.TheVariants as stop
+use Rattle.lens_commands.specs.declared.tell.Tally.{Tally}
+use Rattle.lens_commands.specs.declared.tell.Word.TheVariants.{Survey}
+use Rattle.lens_commands.specs.Files.{at_path, stored}
+use Rattle.lens_commands.specs.Folder.{IsBegun, IsNotErrors, Kept}
+use Rattle.lens_commands.specs.declared.atlas.fault.AtlasFault.{AtlasFault}
+use Rattle.lens_commands.specs.declared.atlas.fault.AtlasFault.TheVariants as fault
+
+-- why an atlas isn't whole where telling its files stopped
+abbrev pub stop_fault : Stop → AtlasFault
+stop_fault stop.Memory = fault.Memory
+stop_fault (stop.Output found) = fault.Write
+stop_fault stop.Errors = fault.Errors
+
+-- telling the file under a path stopped
+pub record StopsWithin (held : Option (List ℕ)) (asked : Request) (path : List ℕ) (out out' errors errors' : SinkState) (why : AtlasFault) : Type 0 where
+  pub stop : Stop
+  pub stops : StopsPath (at_path held) asked path out out' errors errors' stop
+  pub is : why ≡ stop_fault stop
+
+-- all of it was told, and then a file of the folder failed, or there was no memory for what the page keeps
+pub record StopsBehind (held : Option (List ℕ)) (asked : Request) (path : List ℕ) (out out' errors errors' : SinkState) (why : AtlasFault) : Type 0 where
+  pub tally : Tally
+  pub told : TellsPath (at_path held) asked path out out' errors errors' tally
+  pub fault : IsNotErrors why
+
+-- one of the two
+abbrev pub LeavesPath : Option (List ℕ) → Request → List ℕ → SinkState → SinkState → SinkState → SinkState → AtlasFault → Type 0
+LeavesPath held asked path out out' errors errors' why =
+    StopsBehind held asked path out out' errors errors' why ⊎ StopsWithin held asked path out out' errors errors' why
+
+-- telling that a file is refused stopped
+pub record StopsRefused (path : List ℕ) (refusal : FileRefusal) (out out' errors errors' : SinkState) (why : AtlasFault) : Type 0 where
+  pub stop : Stop
+  pub stops : StopsRefusal Survey path refusal out out' errors errors' stop
+  pub is : why ≡ stop_fault stop
+
+-- it was told, and there was no memory to keep it for the page
+pub record WantsRefused (path : List ℕ) (refusal : FileRefusal) (out out' errors errors' : SinkState) (why : AtlasFault) : Type 0 where
+  pub tally : Tally
+  pub told : WritesRefusal Survey path refusal out out' errors errors' tally
+  pub is : why ≡ fault.Memory
+
+-- one of the two
+abbrev pub LeavesRefused : List ℕ → FileRefusal → SinkState → SinkState → SinkState → SinkState → AtlasFault → Type 0
+LeavesRefused path refusal out out' errors errors' why =
+    WantsRefused path refusal out out' errors errors' why ⊎ StopsRefused path refusal out out' errors errors' why
+
+-- the files before one were told, and that one as far as the run came
+pub record StopsAtFile (held : List ℕ → Option (List ℕ)) (asked : Request) (paths : List (List ℕ)) (out errors out' errors' : SinkState) (why : AtlasFault) : Type 0 where
+  pub path : List ℕ
+  pub out_before : SinkState
+  pub errors_before : SinkState
+  pub tally : Tally
+  pub told : ToldBefore (stored held) asked paths out errors path out_before errors_before tally
+  pub left : LeavesPath (held path) asked path out_before out' errors_before errors' why
+
+-- so far were files told into a survey that was begun
+pub record SurveysSome (held : List ℕ → Option (List ℕ)) (asked : Request) (paths : List (List ℕ)) (files : Option (List Kept)) (errors errors' : SinkState) (why : AtlasFault) : Type 0 where
+  pub before : SinkState
+  pub begun : IsBegun files before
+  pub after : SinkState
+  pub stops : StopsAtFile held asked paths before errors after errors' why
+
+-- and so were all of them, and then a file of the folder failed
+pub record SurveysAll (held : List ℕ → Option (List ℕ)) (asked : Request) (paths : List (List ℕ)) (files : Option (List Kept)) (errors errors' : SinkState) (why : AtlasFault) : Type 0 where
+  pub before : SinkState
+  pub begun : IsBegun files before
+  pub after : SinkState
+  pub tally : Tally
+  pub told : ToldTo (stored held) asked before errors paths after errors' tally
+  pub fault : IsNotErrors why
+
+-- no survey was begun, nor anything else
+pub record LacksSurvey (old new : Option (List Kept)) (errors errors' : SinkState) (why : AtlasFault) : Type 0 where
+  pub untouched : new ≡ old
+  pub silent : errors' ≡ errors
+  pub fault : IsNotErrors why
+
+-- what standard error was told of the files: nothing where no survey was begun
+abbrev pub TellsUntil : (List ℕ → Option (List ℕ)) → Request → List (List ℕ) → Option (List Kept) → Option (List Kept) → SinkState → SinkState → AtlasFault → Type 0
+TellsUntil held asked paths old new errors errors' why =
+    LacksSurvey old new errors errors' why ⊎ SurveysSome held asked paths old errors errors' why ⊎ SurveysAll held asked paths old errors errors' why

@@ -1,0 +1,231 @@
+//! What of each file goes onto the page and into the folder.
+
+ghost use Rattle.std.specs.Prelude.{◌≡◌, ◌≤◌, ◌++◌, true, [], ◌∷◌, IfErr, IfOk, OnOk, OnErr, map};
+ghost use Rattle.lens_commands.specs.Atlas.{survey_of};
+ghost use Rattle.lens_commands.specs.Files.{at_path, stored};
+ghost use Rattle.lens_commands.specs.Gathered.{AddsFront, AddsLevels, AddsPath, AddsSome, GathersAll, GathersSome};
+ghost use Rattle.lens_commands.specs.Until.{LeavesPath, LeavesRefused, StopsAtFile, stop_fault};
+ghost use Rattle.lens_commands.specs.Run.{AreSound, TellsPath, ToldTo, WritesRefusal};
+ghost use Rattle.lens_commands.specs.declared.tell.Word.TheVariants.{Survey};
+
+use crate::atlas::fault::{AtlasFault, KeepFault};
+use crate::atlas::folder::Folder;
+use crate::atlas::job::AtlasRequest;
+use crate::atlas::pictures::draw_rows;
+use crate::{
+    BytesFault, ReadFault, Request, Stop, Tally, Word, no_tally, read_path, tell_bytes,
+    tell_refusal,
+};
+use atlas_page::{Origin, Refused, Row, push_rows};
+use demo_engines::{HandOn, Watch};
+use le_rec::Sink;
+use lens_engines::{FileRefusal, Judging, asked_resources, over_base};
+use line_io::Storage;
+use map_cells::CellCount;
+use std::alloc::Global;
+use wad_dir::Set;
+
+/// What of some files goes onto the page.
+#[derive(Drop)]
+pub struct Gathered<'p> {
+    /// Their levels, in order.
+    pub rows: Vec<Row<'p>>,
+    /// The files that are refused, in order.
+    pub refused: Vec<Refused<'p>>,
+    /// What was found.
+    pub tally: Tally,
+}
+
+/// Goes over the files under some paths, in order: their survey goes into `survey`, their pictures into the folder, and why one
+/// is refused into `errors`. One file is let go before the next is opened.
+pub fn gather<'p, S: Storage, F: Folder, E: Sink, P: Watch>(
+    alloc: Global,
+    asked: &AtlasRequest<'_>,
+    paths: &[&'p [u8]],
+    storage: &S,
+    survey: &mut F::File,
+    folder: &mut F,
+    errors: &mut E,
+    watch: &mut P,
+) -> Result<Gathered<'p>, AtlasFault>
+    requires taken { F.taken folder.old ≡ true }
+    requires sound { AreSound (F.File.state survey.old) (E.state errors.old) }
+    ensures taken { F.taken folder.new ≡ true }
+    ensures told { IfOk result (λ gathered. ToldTo (stored (S.held storage.now)) (survey_of asked.now.judging) (F.File.state survey.old) (E.state errors.old)
+        (map (λ path. path.now) paths.now) (F.File.state survey.new) (E.state errors.new) gathered.tally) }
+    ensures all { IfOk result (λ gathered. GathersAll (S.held storage.now) asked.now (map (λ path. path.now) paths.now)
+        gathered.rows.items gathered.refused.items (F.kept folder.old) (F.kept folder.new)
+        (F.File.state survey.old) (F.File.state survey.new) (E.state errors.old) (E.state errors.new) gathered.tally) }
+    ensures some { OnErr result (GathersSome (S.held storage.now) asked.now (map (λ path. path.now) paths.now)
+        (F.kept folder.old) (F.kept folder.new) (F.File.state survey.old) (E.state errors.old)) }
+    ensures stopped { IfErr result (StopsAtFile (S.held storage.now) (survey_of asked.now.judging) (map (λ path. path.now) paths.now)
+        (F.File.state survey.old) (E.state errors.old) (F.File.state survey.new) (E.state errors.new)) }
+{
+    let mut gathered = Gathered {
+        rows: Vec::new(alloc),
+        refused: Vec::new(alloc),
+        tally: no_tally(),
+    };
+    for i in 0..paths.len() {
+        let origin = Origin {
+            file: i as u64 + 1,
+            path: paths[i],
+            judging: asked.judging,
+        };
+        let tally = add_path(
+            alloc,
+            asked.cells,
+            &origin,
+            storage,
+            &mut gathered,
+            survey,
+            folder,
+            errors,
+            watch,
+        )?;
+        gathered.tally = gathered.tally.with(tally);
+    }
+    Ok(gathered)
+}
+
+// Adds the file under a path.
+fn add_path<'p, S: Storage, F: Folder, E: Sink, P: Watch>(
+    alloc: Global,
+    cells: CellCount,
+    origin: &Origin<'p, '_>,
+    storage: &S,
+    gathered: &mut Gathered<'p>,
+    survey: &mut F::File,
+    folder: &mut F,
+    errors: &mut E,
+    watch: &mut P,
+) -> Result<Tally, AtlasFault>
+    requires taken { F.taken folder.old ≡ true }
+    requires sound { AreSound (F.File.state survey.old) (E.state errors.old) }
+    ensures taken { F.taken folder.new ≡ true }
+    ensures told { IfOk result (TellsPath (at_path (S.held storage.now origin.now.path.now)) (survey_of origin.now.judging) origin.now.path.now
+        (F.File.state survey.old) (F.File.state survey.new) (E.state errors.old) (E.state errors.new)) }
+    ensures sound { OnOk result (AreSound (F.File.state survey.new) (E.state errors.new)) }
+    ensures adds { IfOk result (AddsPath (S.held storage.now origin.now.path.now) cells origin.now gathered.old gathered.new
+        (F.kept folder.old) (F.kept folder.new) (F.File.state survey.old) (F.File.state survey.new)
+        (E.state errors.old) (E.state errors.new)) }
+    ensures front { OnErr result (AddsFront (S.held storage.now origin.now.path.now) cells origin.now (F.kept folder.old) (F.kept folder.new)) }
+    ensures stopped { IfErr result (LeavesPath (S.held storage.now origin.now.path.now) (survey_of origin.now.judging) origin.now.path.now
+        (F.File.state survey.old) (F.File.state survey.new) (E.state errors.old) (E.state errors.new)) }
+{
+    match read_path(Vec::new(alloc), storage, origin.path) {
+        Ok(bytes) => {
+            match tell_bytes(
+                alloc,
+                survey_of(origin.judging),
+                origin.path,
+                &bytes,
+                survey,
+                errors,
+                watch,
+            ) {
+                Ok(tally) => {
+                    add_levels(alloc, cells, origin, &bytes, &mut gathered.rows, folder)?;
+                    watch.add(alloc, &bytes);
+                    Ok(tally)
+                }
+                Err(BytesFault::NoWad(why)) => {
+                    let refused = Refused {
+                        path: origin.path,
+                        why: FileRefusal::NoWad(why),
+                    };
+                    add_refused(refused, &mut gathered.refused, survey, errors, watch)
+                }
+                Err(BytesFault::Output(_)) => Err(AtlasFault::Write),
+                Err(BytesFault::Errors) => Err(AtlasFault::Errors),
+                Err(BytesFault::Memory) => Err(AtlasFault::Memory),
+            }
+        }
+        Err(ReadFault::Refused(why)) => {
+            let refused = Refused {
+                path: origin.path,
+                why,
+            };
+            add_refused(refused, &mut gathered.refused, survey, errors, watch)
+        }
+        Err(ReadFault::Memory) => Err(AtlasFault::Memory),
+    }
+}
+
+// What is asked of the files: their survey.
+fn survey_of(judging: Judging<'_>) -> Request<'_>
+    ensures { result ≡ survey_of judging.entry }
+{
+    Request {
+        word: Word::Survey,
+        judging,
+    }
+}
+
+// Adds the levels of a file's bytes, and draws them.
+fn add_levels<'p, F: Folder>(
+    alloc: Global,
+    cells: CellCount,
+    origin: &Origin<'p, '_>,
+    bytes: &[u8],
+    rows: &mut Vec<Row<'p>>,
+    folder: &mut F,
+) -> Result<(), KeepFault>
+    requires taken { F.taken folder.old ≡ true }
+    ensures taken { F.taken folder.new ≡ true }
+    ensures adds { OnOk result (AddsLevels cells origin.now bytes.now rows.old.items rows.new.items (F.kept folder.old) (F.kept folder.new)) }
+    ensures front { OnErr result (AddsSome cells origin.now bytes.now (F.kept folder.old) (F.kept folder.new)) }
+{
+    // The directory was read before, so it is memory that is wanting.
+    let Ok(set) = Set::one(alloc, bytes) else {
+        return Err(KeepFault::Memory);
+    };
+    let Ok(known) = over_base(alloc, origin.judging.base, &set) else {
+        return Err(KeepFault::Memory);
+    };
+    let Ok(resources) = asked_resources(alloc, &known, origin.judging.warnings) else {
+        return Err(KeepFault::Memory);
+    };
+    let before = rows.len();
+    push_rows(alloc, origin, &set, &resources, rows)?;
+    draw_rows(alloc, cells, origin, &set, &rows[before..], folder)
+}
+
+// Tells that a file is refused, and adds it to those that are.
+fn add_refused<'p, W: HandOn, E: Sink, P: Watch>(
+    one: Refused<'p>,
+    refused: &mut Vec<Refused<'p>>,
+    survey: &mut W,
+    errors: &mut E,
+    watch: &mut P,
+) -> Result<Tally, AtlasFault>
+    requires { AreSound (W.state survey.old) (E.state errors.old) }
+    ensures told { IfOk result (WritesRefusal Survey one.entry.path.now one.entry.why
+        (W.state survey.old) (W.state survey.new) (E.state errors.old) (E.state errors.new)) }
+    ensures sound { OnOk result (AreSound (W.state survey.new) (E.state errors.new)) }
+    ensures adds { OnOk result (refused.new.items ≡ refused.old.items ++ one.entry ∷ []) }
+    ensures stopped { IfErr result (LeavesRefused one.entry.path.now one.entry.why
+        (W.state survey.old) (W.state survey.new) (E.state errors.old) (E.state errors.new)) }
+{
+    let told = tell_refusal(Word::Survey, one.path, one.why, survey, errors, watch);
+    match told {
+        Ok(tally) => {
+            if refused.push(one).is_err() {
+                return Err(AtlasFault::Memory);
+            }
+            Ok(tally)
+        }
+        Err(stop) => Err(stop_fault(stop)),
+    }
+}
+
+// Why an atlas isn't whole where telling its files stopped.
+fn stop_fault(stop: Stop) -> AtlasFault
+    ensures { result ≡ stop_fault stop }
+{
+    match stop {
+        Stop::Output(_) => AtlasFault::Write,
+        Stop::Errors => AtlasFault::Errors,
+        Stop::Memory => AtlasFault::Memory,
+    }
+}

@@ -1,0 +1,24 @@
+//! What a run is asked.
+
+use crate::Job;
+use lens_engines::Judging;
+use map_cells::CellCount;
+
+/// How levels are judged and drawn.
+#[derive(Clone, Copy)]
+pub struct AtlasRequest<'b> {
+    pub judging: Judging<'b>,
+    /// How many cells the longer side of a picture has at most.
+    pub cells: CellCount,
+}
+
+/// An atlas of which files.
+#[derive(Drop)]
+pub struct AtlasJob<'a> {
+    /// The files, and those on which they stand; of what is asked of them the rules count alone.
+    pub job: Job<'a>,
+    /// How many cells the longer side of a picture has at most.
+    pub cells: CellCount,
+    /// The folder as it is named to people.
+    pub folder: &'a [u8],
+}

@@ -1,0 +1,9 @@
+//! The level of a name among files that form one set, drawn as the text of an SVG.
+
+mod draw;
+mod format;
+mod run;
+mod told;
+
+pub use draw::PictureQuestion;
+pub use run::run_picture;

@@ -1,0 +1,233 @@
+-- The objects of a survey are read back as their members.
+use Rattle.std.proofs.Common.{◌≡◌, ℕ, ◌+◌, ◌-◌, ◌^◌, ◌<◌, ◌≤◌, inl, inr, Bool, true, false, List, [], ◌∷◌, ◌++◌, length, take, drop, map, get_or, get_or-take, get_or-drop, length-take, length-drop, refl, sym, ap, subst, ◌∙◌, append_assoc, append-nil, arith, decimal}
+use Rattle.std.specs.Prelude.{codes, ◌==◌, if◌then◌else◌, sum, filter, nat_lt}
+use Rattle.std.specs.Fmt.{digits}
+use Rattle.std.specs.List.{All, flat_map, join_with_byte}
+use Rattle.std.specs.Str.Lossy.{utf8_lossy}
+use Rattle.std.proofs.lemmas.Bool.{cases_lt}
+use Rattle.std.proofs.lemmas.List.{get_or_past}
+use Rattle.std.proofs.lemmas.List.Elements.{All-filter}
+use Rattle.std.proofs.lemmas.List.Sums.{get_or-le-sum_by}
+use Rattle.std.proofs.lemmas.Str.{utf8_lossy-IsUtf8}
+use Rattle.json.proofs.Printed.Utf8.{IsUtf8-are_ascii, are_ascii}
+use Rattle.json.specs.Json.{string}
+use Rattle.le_rec.specs.Name.{shown_name}
+use Rattle.level_starts.specs.declared.format.Format.{Format}
+use Rattle.level_starts.specs.declared.format.Format.TheVariants.{Udmf, Incomplete, Hexen, Outside, Extended, Doom}
+use Rattle.map_warnings.specs.declared.warning.WarningCode.{WarningCode}
+use Rattle.map_warnings.specs.declared.warning.WarningCode.TheVariants.{W1, W2, W3, W4, W5, W6, W7, W8, W9, W10, W11}
+use Rattle.map_level.specs.Findings.{is_fault, rank}
+use Rattle.map_level.specs.Level.{Level}
+use Rattle.map_level.specs.declared.finding.Code.{Code}
+use Rattle.map_level.specs.declared.finding.Code.TheVariants.{F1, F2, F3, F4, F5, F6, F7, F8, F9, F10, F11, F12, F13, F14, F15, F16, F17, F18, N1, N2, N3, N4, N5, N6, N7, N8, N9, N10, N11, N12}
+use Rattle.wad_dir.specs.declared.wad.WadFault.TheVariants as wad
+use Rattle.lens_engines.proofs.MemberLemmas.{ArePlain, IsPlain, Tells, Tells-bool, Tells-both, Tells-each, Tells-none, Tells-number, Tells-numbers, Tells-one, Tells-plain, Tells-string, Tells-two, read_line}
+use Rattle.lens_engines.specs.Counts.{fault_total, note_total, report_order}
+use Rattle.lens_engines.specs.Kind.{code_text}
+use Rattle.lens_engines.specs.Laws.{DoomIsRead, ObjectsAreRead, OtherIsRead, RefusedIsRead}
+use Rattle.lens_engines.specs.ObjectValues.{IsLineOf, doom_value, file_value, findings_values, found_values, label_values, number_at, object_of, other_value, size_values, sizes_of, telling_values, text_at, unlooked_at, warnings_values}
+use Rattle.lens_engines.specs.Objects.{count_member, count_of, file_member, findings_text, format_member, format_name, found_members, label_members, lump_members, number_member, refusal_text, refused_object, telling_members, usual_name, warnings_member}
+use Rattle.lens_engines.specs.Unlooked.{member_at, unlooked_member}
+use Rattle.lens_engines.specs.Warned.{Warned}
+use Rattle.lens_engines.specs.WarningLine.{warning_name}
+use Rattle.lens_engines.specs.declared.judging.Warnings.{Warnings}
+use Rattle.lens_engines.specs.declared.judging.Warnings.TheVariants.{Unasked, Told, Strict}
+use Rattle.lens_engines.specs.declared.object.FileRefusal.{FileRefusal}
+use Rattle.lens_engines.specs.declared.object.FileRefusal.TheVariants.{Unopened, Unread, TooLarge, NoWad}
+
+-- ---- a refused file
+
+refusal_is_ascii : (refusal : FileRefusal) → are_ascii (refusal_text refusal) ≡ true
+refusal_is_ascii Unopened = refl
+refusal_is_ascii Unread = refl
+refusal_is_ascii TooLarge = refl
+refusal_is_ascii (NoWad wad.Short) = refl
+refusal_is_ascii (NoWad wad.Magic) = refl
+refusal_is_ascii (NoWad wad.Count) = refl
+refusal_is_ascii (NoWad wad.Directory) = refl
+
+refusal_is_text : (refusal : FileRefusal) → utf8_lossy (refusal_text refusal) ≡ refusal_text refusal
+refusal_is_text refusal = utf8_lossy-IsUtf8 (refusal_text refusal) (IsUtf8-are_ascii (refusal_text refusal) (refusal_is_ascii refusal))
+
+law_refused_is_read : RefusedIsRead
+law_refused_is_read path refusal =
+    subst (λ text. IsLineOf (object_of (file_value path ∷ (codes "refused", string text) ∷ [])) (refused_object path refusal)) (refusal_is_text refusal)
+    (read_line path _ _ (Tells-string (codes "refused") (refusal_text refusal) refl))
+
+-- ---- a level of another format
+
+format_plain : (format : Format) → IsPlain (format_name format)
+format_plain Udmf = refl
+format_plain (Incomplete k) = refl
+format_plain Hexen = refl
+format_plain (Outside k) = refl
+format_plain (Extended tag) = refl
+format_plain Doom = refl
+
+label_tells : (name : List ℕ) (g : ℕ) (format : Format) → g < 2 ^ 64 → Tells (label_members name g ++ format_member format) (label_values name g format)
+label_tells name g format small =
+    Tells-both (label_members name g) (format_member format) (text_at (codes "level") (shown_name name) ∷ number_at (codes "entry") g ∷ []) ((codes "format", string (format_name format)) ∷ [])
+    (Tells-both _ (number_member (codes "entry") g) _ _ (Tells-string (codes "level") (shown_name name) refl) (Tells-number (codes "entry") g refl small))
+    (Tells-plain (codes "format") (format_name format) refl (format_plain format))
+
+telling_tells : (format : Format) → Tells (telling_members format) (telling_values format)
+telling_tells Udmf = Tells-none
+telling_tells (Incomplete k) = Tells-string (codes "lump") (shown_name (usual_name k)) refl
+telling_tells Hexen = Tells-none
+telling_tells (Outside k) = Tells-string (codes "lump") (shown_name (usual_name k)) refl
+telling_tells (Extended tag) = Tells-string (codes "tag") tag refl
+telling_tells Doom = Tells-none
+
+-- the file's member, the label's and those behind them as one text of members
+regrouped : (file label others end : List ℕ) → (file ++ label) ++ (others ++ end) ≡ file ++ ((label ++ others) ++ end)
+regrouped file label others end = append_assoc file label (others ++ end) ∙ ap (λ t. file ++ t) (sym (append_assoc label others end))
+
+law_other_is_read : OtherIsRead
+law_other_is_read path name g format small =
+    subst (IsLineOf (other_value path name g format)) (sym (regrouped (file_member path) (label_members name g ++ format_member format) (telling_members format) (codes "}\n")))
+    (read_line path _ _ (Tells-both _ _ _ _ (label_tells name g format small) (telling_tells format)))
+
+-- ---- a level of Doom's format
+
+sizes_plain : (level : Level) → ArePlain (sizes_of level)
+sizes_plain level = (refl, (refl, (refl, (refl, (refl, (refl, (refl, (refl, (refl, (refl, tt))))))))))
+
+code_plain : (code : Code) → IsPlain (code_text code [])
+unfolding digits
+code_plain F1 = refl
+code_plain F2 = refl
+code_plain F3 = refl
+code_plain F4 = refl
+code_plain F5 = refl
+code_plain F6 = refl
+code_plain F7 = refl
+code_plain F8 = refl
+code_plain F9 = refl
+code_plain F10 = refl
+code_plain F11 = refl
+code_plain F12 = refl
+code_plain F13 = refl
+code_plain F14 = refl
+code_plain F15 = refl
+code_plain F16 = refl
+code_plain F17 = refl
+code_plain F18 = refl
+code_plain N1 = refl
+code_plain N2 = refl
+code_plain N3 = refl
+code_plain N4 = refl
+code_plain N5 = refl
+code_plain N6 = refl
+code_plain N7 = refl
+code_plain N8 = refl
+code_plain N9 = refl
+code_plain N10 = refl
+code_plain N11 = refl
+code_plain N12 = refl
+
+warning_plain : (code : WarningCode) → IsPlain (warning_name code)
+warning_plain W1 = refl
+warning_plain W2 = refl
+warning_plain W3 = refl
+warning_plain W4 = refl
+warning_plain W5 = refl
+warning_plain W6 = refl
+warning_plain W7 = refl
+warning_plain W8 = refl
+warning_plain W9 = refl
+warning_plain W10 = refl
+warning_plain W11 = refl
+
+-- a code's text before other bytes
+chosen : (b : Bool) (fault note rest : List ℕ)
+    → (if b then codes "F" ++ (fault ++ rest) else codes "N" ++ (note ++ rest)) ≡ (if b then codes "F" ++ (fault ++ []) else codes "N" ++ (note ++ [])) ++ rest
+chosen true fault note rest = ap (λ t. 70 ∷ (t ++ rest)) (sym (append-nil fault))
+chosen false fault note rest = ap (λ t. 78 ∷ (t ++ rest)) (sym (append-nil note))
+
+code_before : (code : Code) (rest : List ℕ) → code_text code rest ≡ code_text code [] ++ rest
+code_before code rest = chosen (is_fault code) (decimal (rank code + 1)) (decimal (rank code - 17)) rest
+
+counted_texts : (counts : List ℕ) (all : List Code)
+    → map (λ code. count_member code (count_of counts code)) all ≡ map (λ code. 34 ∷ (code_text code [] ++ (34 ∷ 58 ∷ decimal (count_of counts code)))) all
+counted_texts counts [] = refl
+counted_texts counts (code ∷ all) =
+    ap (λ text. (34 ∷ text) ∷ map (λ code. count_member code (count_of counts code)) all) (code_before code (34 ∷ 58 ∷ decimal (count_of counts code)))
+    ∙ ap (λ texts. (34 ∷ (code_text code [] ++ (34 ∷ 58 ∷ decimal (count_of counts code)))) ∷ texts) (counted_texts counts all)
+
+-- a count is within its total
+in_front : (xs : List ℕ) (n k : ℕ) → k < n → get_or xs k 0 ≤ sum (take n xs)
+in_front xs n k below = elim (cases_lt k (length xs)) [
+  | inl inside ↦
+      let within : k < length (take n xs) = simp length-take (omega (arith, inside)) in
+      omega (arith, get_or-le-sum_by (λ x. x) (take n xs) k 0 within, get_or-take n xs k 0 below)
+  | inr past ↦ omega (arith, get_or_past xs k 0 past)
+]
+
+behind : (xs : List ℕ) (n k : ℕ) → n ≤ k → get_or xs k 0 ≤ sum (drop n xs)
+behind xs n k above = elim (cases_lt k (length xs)) [
+  | inl inside ↦
+      let within : k - n < length (drop n xs) = omega (arith, inside, length-drop n xs) in
+      let back : n + (k - n) ≡ k = omega arith in
+      let at : get_or (drop n xs) (k - n) 0 ≡ get_or xs k 0 = get_or-drop n xs (k - n) 0 ∙ ap (λ i. get_or xs i 0) back in
+      omega (arith, get_or-le-sum_by (λ x. x) (drop n xs) (k - n) 0 within, at)
+  | inr past ↦ omega (arith, get_or_past xs k 0 past)
+]
+
+count_small : (counts : List ℕ) → fault_total counts < 2 ^ 64 → note_total counts < 2 ^ 64 → (code : Code) → count_of counts code < 2 ^ 64
+count_small counts faults notes code = elim (cases_lt (rank code) 18) [
+  | inl front ↦ omega (arith, in_front counts 18 (rank code) front, faults)
+  | inr back ↦ omega (arith, behind counts 18 (rank code) back, notes)
+]
+
+findings_tell : (counts : List ℕ) → fault_total counts < 2 ^ 64 → note_total counts < 2 ^ 64
+    → Tells (codes ",\"findings\":{" ++ (findings_text counts ++ codes "}")) ((codes "findings", object_of (findings_values counts)) ∷ [])
+findings_tell counts faults notes =
+    let held = filter (λ code. nat_lt 0 (count_of counts code)) report_order in
+    subst (λ texts. Tells (codes ",\"findings\":{" ++ (join_with_byte 44 texts ++ codes "}")) ((codes "findings", object_of (findings_values counts)) ∷ [])) (sym (counted_texts counts held))
+    (Tells-numbers (λ code. code_text code []) (count_of counts) code_plain (codes "findings") held refl (λ k d within. count_small counts faults notes _))
+
+found_tells : (counts : List ℕ) → fault_total counts < 2 ^ 64 → note_total counts < 2 ^ 64 → Tells (found_members counts) (found_values counts)
+found_tells counts faults notes =
+    Tells-both _ _ _ _
+    (Tells-both _ _ _ _ (Tells-bool (codes "sound") (fault_total counts == 0) refl)
+    (Tells-both _ _ _ _ (Tells-number (codes "faults") (fault_total counts) refl faults) (Tells-number (codes "notes") (note_total counts) refl notes)))
+    (findings_tell counts faults notes)
+
+warnings_tell : (warnings : Warnings) (warned : List Warned) → All (λ one. one.cut.count < 2 ^ 64) warned → Tells (warnings_member warnings warned) (warnings_values warnings warned)
+warnings_tell Unasked warned small = Tells-none
+warnings_tell Told warned small =
+    Tells-numbers (λ one. warning_name one.code) (λ one. one.cut.count) (λ one. warning_plain one.code) (codes "warnings") _ refl
+    (All-filter (λ one. nat_lt 0 one.cut.count) (λ one. one.cut.count < 2 ^ 64) warned small)
+warnings_tell Strict warned small =
+    Tells-numbers (λ one. warning_name one.code) (λ one. one.cut.count) (λ one. warning_plain one.code) (codes "warnings") _ refl
+    (All-filter (λ one. nat_lt 0 one.cut.count) (λ one. one.cut.count < 2 ^ 64) warned small)
+
+unlooked_tell : (textures flats : Bool) → Tells (member_at textures flats) (unlooked_at textures flats)
+unlooked_tell true true = Tells-two (codes "unlooked") (codes "W9") (codes "W10") refl refl refl
+unlooked_tell true false = Tells-one (codes "unlooked") (codes "W9") refl refl
+unlooked_tell false true = Tells-one (codes "unlooked") (codes "W10") refl refl
+unlooked_tell false false = Tells-none
+
+-- four parts of members before an end
+parts : (sizes found warnings unlooked end : List ℕ) → sizes ++ (found ++ (warnings ++ (unlooked ++ end))) ≡ (sizes ++ (found ++ (warnings ++ unlooked))) ++ end
+parts sizes found warnings unlooked end =
+    ap (λ t. sizes ++ (found ++ t)) (sym (append_assoc warnings unlooked end))
+    ∙ ap (λ t. sizes ++ t) (sym (append_assoc found (warnings ++ unlooked) end)) ∙ sym (append_assoc sizes (found ++ (warnings ++ unlooked)) end)
+
+law_doom_is_read : DoomIsRead
+law_doom_is_read path name g level counts warnings warned unlooked small numbers =
+    let sizes = flat_map (λ text. text) (lump_members level) in
+    let found = found_members counts in
+    let told = warnings_member warnings warned in
+    let left = unlooked_member unlooked in
+    let label = label_members name g ++ format_member Doom in
+    subst (IsLineOf (doom_value path name g level counts warnings warned unlooked))
+    (sym (ap (λ t. (file_member path ++ label) ++ t) (parts sizes found told left (codes "}\n")) ∙ regrouped (file_member path) label (sizes ++ (found ++ (told ++ left))) (codes "}\n")))
+    (read_line path _ _
+    (Tells-both _ _ _ _ (label_tells name g Doom small)
+    (Tells-both sizes _ (size_values level) _ (Tells-each (sizes_of level) (sizes_plain level) numbers.sizes)
+    (Tells-both _ _ _ _ (found_tells counts numbers.faults numbers.notes)
+    (Tells-both _ _ _ _ (warnings_tell warnings warned numbers.warnings) (unlooked_tell unlooked.textures unlooked.flats))))))
+
+pub law_objects_are_read : ObjectsAreRead
+law_objects_are_read = record { refused = law_refused_is_read; other = law_other_is_read; doom = law_doom_is_read }

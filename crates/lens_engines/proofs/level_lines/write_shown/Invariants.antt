@@ -1,0 +1,18 @@
+use Rattle.std.proofs.Common.{◌≡◌, ℕ, false, List, take}
+use Rattle.map_audit.specs.Findings.{AuditHolds}
+use Rattle.lens_engines.specs.Head.{head_of}
+use Rattle.lens_engines.specs.LevelText.{finding_text}
+use Rattle.lens_engines.specs.LevelLines.{AreIndexes, code_lines}
+use Rattle.lens_engines.proofs.ShownLemmas.{Shows}
+use Rattle.lens_engines.proofs.level_lines.write_shown.Given as goal
+
+abbrev pub invariant-shown : goal.invariant-shown
+invariant-shown g l = record {
+  sound : (g.W.Sink.state l.out).failed ≡ false;
+  shows : (indexes : List ℕ) → AreIndexes (AuditHolds l.judged l.code) indexes
+      → Shows (AuditHolds l.judged l.code) (λ i. finding_text (head_of l.heading) l.judged (record { code = l.code; index = i }))
+      (code_lines (head_of l.heading) l.judged l.code (take l.shown indexes)) (g.W.Sink.state l.fn.out) (g.W.Sink.state l.out) l.from l.left;
+}
+
+abbrev pub decreases-shown : goal.decreases-shown
+decreases-shown g l = l.left

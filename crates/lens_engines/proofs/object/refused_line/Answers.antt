@@ -1,0 +1,16 @@
+use Rattle.std.specs.Prelude.{codes}
+use Rattle.std.proofs.Common.{◌++◌}
+use Rattle.lens_engines.specs.JsonString.{json_string}
+use Rattle.lens_engines.specs.Objects.{refusal_text}
+use Rattle.std.proofs.lemmas.Result.{err_from_is_err_and}
+use Rattle.line_io.proofs.WriteLemmas.{Writes-stop}
+use Rattle.lens_engines.proofs.WritingLemmas.{Writes-after}
+use Rattle.lens_engines.proofs.object.refused_line.Goals as goal
+
+pub returns-in_err-write_file : goal.returns-in_err-write_file
+returns-in_err-write_file g c =
+    let p = err_from_is_err_and c.from_residual.result c.from_residual.ensures.1 in
+    rw (p.1, p.2) (Writes-stop ((codes ",\"refused\":" ++ (json_string (refusal_text c.args.refusal) ++ codes "}\n"))) c.in_err-write_file.ensures)
+
+pub returns : goal.returns
+returns g c = Writes-after c.in_ok-write_file.ensures c.write_refusal.ensures

@@ -1,0 +1,190 @@
+-- What `check` tells of a file (ours): the lines of its levels in the order of their labels, and what they add up to.
+use Rattle.std.specs.Prelude.{◌≡◌, ◌⊎◌, ◌↔◌, ℕ, ◌+◌, Bool, true, false, IsTrue, List, [], ◌∷◌, ◌++◌, Result, Ok, Err, IfErr, IfOk}
+use Rattle.std.specs.Io.KnownBytes.{Appends}
+use Rattle.le_rec.specs.Sink.{SinkState}
+use Rattle.level_starts.specs.Format.{IsFormat}
+use Rattle.level_starts.specs.Starts.{IsNextStart, NoneStartsFrom}
+use Rattle.level_starts.specs.declared.format.Format.{Format}
+use Rattle.level_starts.specs.declared.format.Format.TheVariants.{Doom}
+use Rattle.line_io.specs.Writes.{TakesFront, Writes}
+use Rattle.line_io.specs.declared.fault.IoFault.{IoFault}
+use Rattle.map_level.specs.Level.{Level}
+use Rattle.map_level.specs.Opening.{IsLevelAt}
+use Rattle.map_level.specs.declared.finding.Code.{Code}
+use Rattle.map_level.specs.declared.reading.Reading.{Reading}
+use Rattle.map_level.specs.declared.reading.Reading.TheVariants.{Signed, Wide}
+use Rattle.map_tree.specs.Sound.{IsSound}
+use Rattle.wad_dir.specs.Entries.{names}
+use Rattle.wad_dir.specs.Wad.{IsRead, Wad}
+use Rattle.lens_engines.specs.Counts.{AreCounts}
+use Rattle.lens_engines.specs.Head.{Head}
+use Rattle.lens_engines.specs.Ignored.{HoldsUnlessIgnored}
+use Rattle.lens_engines.specs.Label.{IsLabelOf}
+use Rattle.lens_engines.specs.Left.{LeavesFile, LeavesLevel, WantsMemory}
+use Rattle.lens_engines.specs.LevelLines.{AreCounted, AreTold, judged_text}
+use Rattle.lens_engines.specs.LevelText.{unjudged_text}
+use Rattle.lens_engines.specs.Survey.{graver}
+use Rattle.lens_engines.specs.Totals.{format_totals, judged_totals, no_totals, totals_with, verdict_with}
+use Rattle.lens_engines.specs.Unlooked.{AreUnlooked}
+use Rattle.lens_engines.specs.declared.unlooked.Unlooked.{Unlooked}
+use Rattle.lens_engines.specs.Warned.{AreAskedFor, Warned, kept_count, known_files, warned_total}
+use Rattle.lens_engines.specs.declared.check.Question.{Question}
+use Rattle.lens_engines.specs.declared.form.Form.{Form}
+use Rattle.lens_engines.specs.declared.judging.Judging.{Judging}
+use Rattle.lens_engines.specs.declared.judging.Warnings.{Warnings}
+use Rattle.lens_engines.specs.declared.label.LevelLabel.{LevelLabel}
+use Rattle.lens_engines.specs.declared.totals.Totals.{Totals}
+use Rattle.lens_engines.specs.declared.verdict.LevelsFault.{LevelsFault}
+use Rattle.lens_engines.specs.declared.verdict.LevelsFault.TheVariants.{NoWad, Write, Memory}
+use Rattle.lens_engines.specs.declared.verdict.Verdict.{Verdict}
+
+-- how a run is asked for: its form, the file's path, how many findings of a code are shown at most, and how levels are judged
+pub record CheckAsked : Type 0 where
+  pub form : Form
+  pub path : List ℕ
+  pub most : ℕ
+  pub judging : Judging
+
+-- what a question asks
+abbrev pub asked_of : Question → CheckAsked
+asked_of question = record { form = question.form; path = question.path.now; most = question.most; judging = question.judging }
+
+-- what all that is told of a level begins with
+abbrev pub head_in : CheckAsked → LevelLabel → Head
+head_in asked label = record { form = asked.form; path = asked.path; label = label }
+
+-- the level at a label isn't sound under the signed reading, and is under the wide one
+pub record IsSoundWideAlone (files : List Wad) (g : ℕ) (reading : Reading) (level : Level) : Type 0 where
+  pub signed : reading ≡ Signed
+  pub unsound : ¬ IsSound level
+  pub wide : Level
+  pub there : IsLevelAt files g Wide wide
+  pub sound : IsSound wide
+
+-- what is told of a level of Doom's format: what the audit finds and isn't ignored, its warnings where they are asked for, and
+-- whether the wide reading alone finds it sound
+pub record IsJudged (asked : CheckAsked) (files : List Wad) (g : ℕ) (label : LevelLabel) (text : List ℕ) (totals : Totals) : Type 0 where
+  pub level : Level
+  pub there : IsLevelAt files g asked.judging.reading level
+  pub counts : List ℕ
+  pub are_counts : AreCounts (HoldsUnlessIgnored asked.judging.ignored level) counts
+  pub told : Code → List ℕ
+  pub are_told : AreTold (HoldsUnlessIgnored asked.judging.ignored level) told
+  pub counted : AreCounted counts told
+  pub warned : List Warned
+  pub are_warned : AreAskedFor asked.judging (known_files asked.judging files) level (kept_count asked.most) warned
+  pub unlooked : Unlooked
+  pub are_unlooked : AreUnlooked asked.judging.ignored (known_files asked.judging files) unlooked
+  pub sound_wide : Bool
+  pub wide : IsTrue sound_wide ↔ IsSoundWideAlone files g asked.judging.reading level
+  pub is : text ≡ judged_text (head_in asked label) asked.most level told warned sound_wide
+  pub adds : totals ≡ judged_totals counts (warned_total warned) unlooked
+
+-- what is told of a level by its format
+abbrev pub IsToldBy : Format → CheckAsked → List Wad → ℕ → LevelLabel → List ℕ → Totals → Type 0
+IsToldBy Doom asked files g label text totals = IsJudged asked files g label text totals
+IsToldBy format asked files g label text totals = (text ≡ unjudged_text (head_in asked label) format) × (totals ≡ format_totals format)
+
+-- what is told of the level that starts at an entry
+pub record IsLevelText (asked : CheckAsked) (files : List Wad) (g : ℕ) (text : List ℕ) (totals : Totals) : Type 0 where
+  pub format : Format
+  pub is : IsFormat files g format
+  pub label : LevelLabel
+  pub labelled : IsLabelOf files g label
+  pub told : IsToldBy format asked files g label text totals
+
+-- what is told of the levels that start below an entry, in order
+pub data ToldTo (asked : CheckAsked) (files : List Wad) : ℕ → List ℕ → Totals → Type 0 where
+  at_start : ToldTo asked files 0 [] no_totals
+  with_level : (from : ℕ) (before : List ℕ) (sum : Totals) (g : ℕ) (text : List ℕ) (totals : Totals)
+      → ToldTo asked files from before sum → IsNextStart (names files) from g → IsLevelText asked files g text totals
+      → ToldTo asked files (g + 1) (before ++ text) (totals_with sum totals)
+
+-- all levels were told
+pub record ChecksAll (asked : CheckAsked) (files : List Wad) (before after : SinkState) (totals : Totals) : Type 0 where
+  pub from : ℕ
+  pub text : List ℕ
+  pub told : ToldTo asked files from text totals
+  pub all : NoneStartsFrom (names files) from
+  pub took : Appends before.taken after.taken text
+  pub sound : after.failed ≡ false
+
+-- all levels before one were told, and a write failed within its text; so much was found up to there and with it
+pub record StopsWriting (asked : CheckAsked) (files : List Wad) (before after : SinkState) (found : Verdict) : Type 0 where
+  pub from : ℕ
+  pub text : List ℕ
+  pub sum : Totals
+  pub told : ToldTo asked files from text sum
+  pub between : SinkState
+  pub took : Appends before.taken between.taken text
+  pub g : ℕ
+  pub next : IsNextStart (names files) from g
+  pub line : List ℕ
+  pub totals : Totals
+  pub is : IsLevelText asked files g line totals
+  pub front : TakesFront between after line
+  pub failed : after.failed ≡ true
+  pub says : found ≡ graver (verdict_with asked.judging.warnings sum) (verdict_with asked.judging.warnings totals)
+
+-- all levels before one of Doom's format were told, and there was no memory to judge it
+pub record StopsJudging (asked : CheckAsked) (files : List Wad) (before after : SinkState) : Type 0 where
+  pub from : ℕ
+  pub text : List ℕ
+  pub sum : Totals
+  pub told : ToldTo asked files from text sum
+  pub took : Appends before.taken after.taken text
+  pub sound : after.failed ≡ false
+  pub g : ℕ
+  pub next : IsNextStart (names files) from g
+  pub doom : IsFormat files g Doom
+
+-- why not all levels were told
+abbrev pub ChecksSome : CheckAsked → List Wad → SinkState → SinkState → LevelsFault → Type 0
+ChecksSome asked files before after (Write found) = StopsWriting asked files before after found
+ChecksSome asked files before after Memory = StopsJudging asked files before after
+ChecksSome asked files before after (NoWad why) = ⊥
+
+-- a check of all levels of some files
+pub record Checks (asked : CheckAsked) (files : List Wad) (before after : SinkState) (result : Result Totals LevelsFault) : Type 0 where
+  pub all : IfOk result (ChecksAll asked files before after)
+  pub some : IfErr result (ChecksSome asked files before after)
+
+-- the end of a level's text: its totals, where the text was written
+abbrev pub text_end : Warnings → Totals → Result (Unit {0}) IoFault → Result Totals LevelsFault
+text_end warnings totals (Ok x) = Ok totals
+text_end warnings totals (Err fault) = Err (Write (verdict_with warnings totals))
+
+-- a text was written whose level has these totals
+pub record WritesText (warnings : Warnings) (Is : List ℕ → Totals → Type 0) (before after : SinkState) (result : Result Totals LevelsFault) : Type 0 where
+  pub text : List ℕ
+  pub totals : Totals
+  pub is : Is text totals
+  pub outcome : Result (Unit {0}) IoFault
+  pub writes : Writes before after text outcome
+  pub ended : result ≡ text_end warnings totals outcome
+
+-- the text of a level of Doom's format was written, or nothing was
+abbrev pub ChecksDoom : {W : Type 0} → (W → SinkState) → CheckAsked → List Wad → ℕ → LevelLabel → W → W → Result Totals LevelsFault → Type 0
+ChecksDoom state asked files g label out out' result =
+    WantsMemory out out' result ⊎ WritesText asked.judging.warnings (IsJudged asked files g label) (state out) (state out') result
+
+-- that of any level was, or nothing was
+abbrev pub ChecksLevel : {W : Type 0} → (W → SinkState) → CheckAsked → List Wad → ℕ → W → W → Result Totals LevelsFault → Type 0
+ChecksLevel state asked files g out out' result =
+    LeavesLevel files g out out' result ⊎ WritesText asked.judging.warnings (IsLevelText asked files g) (state out) (state out') result
+
+-- all levels were checked, or nothing was written for want of memory
+abbrev pub ChecksOrWants : {W : Type 0} → (W → SinkState) → CheckAsked → List Wad → W → W → Result Totals LevelsFault → Type 0
+ChecksOrWants state asked files out out' result = WantsMemory out out' result ⊎ Checks asked files (state out) (state out') result
+
+-- the file's levels were checked
+pub record ChecksFile (asked : CheckAsked) (bytes : List ℕ) (before after : SinkState) (result : Result Totals LevelsFault) : Type 0 where
+  pub file : Wad
+  pub of_bytes : file.bytes ≡ bytes
+  pub read : IsRead file
+  pub does : Checks asked (file ∷ []) before after result
+
+-- over a file of these bytes and a sink, of which clauses see its state
+abbrev pub RunsCheck : {W : Type 0} → (W → SinkState) → CheckAsked → List ℕ → W → W → Result Totals LevelsFault → Type 0
+RunsCheck state asked bytes out out' result =
+    LeavesFile bytes out out' result ⊎ ChecksFile asked bytes (state out) (state out') result

@@ -1,0 +1,89 @@
+-- The laws of this crate's definitions (ours).
+use Rattle.std.specs.Prelude.{◌≡◌, ◌↔◌, ℕ, ◌<◌, ◌^◌, List, ◌∷◌, ◌++◌, ◌==◌, count_by, not, slice_index}
+use Rattle.std.specs.List.{flat_map}
+use Rattle.std.specs.Str.Lossy.{utf8_lossy}
+use Rattle.json.specs.Lex.{between, lex, token}
+use Rattle.json.specs.Token.{string}
+use Rattle.le_rec.specs.Sink.{SinkState}
+use Rattle.level_starts.specs.Format.{IsFormat}
+use Rattle.level_starts.specs.Starts.{LevelStartsAt}
+use Rattle.level_starts.specs.declared.format.Format.{Format}
+use Rattle.level_starts.specs.declared.format.Format.TheVariants.{Doom}
+use Rattle.map_audit.specs.Findings.{AuditHolds}
+use Rattle.map_level.specs.Findings.{AreFindings, is_fault, rank}
+use Rattle.map_level.specs.Level.{Level}
+use Rattle.map_level.specs.Opening.{IsLevelAt}
+use Rattle.map_level.specs.declared.finding.Code.{Code}
+use Rattle.map_level.specs.declared.finding.Finding.{Finding}
+use Rattle.map_tree.specs.Sound.{IsSound}
+use Rattle.wad_dir.specs.Entries.{names}
+use Rattle.wad_dir.specs.Wad.{Wad}
+use Rattle.lens_engines.specs.Check.{CheckAsked, ChecksAll}
+use Rattle.lens_engines.specs.Counts.{AreCounts, fault_total, note_total}
+use Rattle.lens_engines.specs.Head.{Head}
+use Rattle.lens_engines.specs.JsonString.{json_string}
+use Rattle.lens_engines.specs.LevelLines.{AreTold, findings_part}
+use Rattle.lens_engines.specs.LevelText.{finding_text}
+use Rattle.lens_engines.specs.ObjectValues.{HasSmallNumbers, IsLineOf, doom_value, other_value, refused_value}
+use Rattle.lens_engines.specs.Objects.{doom_members, level_members, other_members, refused_object}
+use Rattle.lens_engines.specs.Warned.{Warned}
+use Rattle.lens_engines.specs.declared.judging.Warnings.{Warnings}
+use Rattle.lens_engines.specs.declared.object.FileRefusal.{FileRefusal}
+use Rattle.lens_engines.specs.declared.totals.Totals.{Totals}
+use Rattle.lens_engines.specs.declared.unlooked.Unlooked.{Unlooked}
+
+-- a level's counts have no fault exactly where the level is sound
+abbrev pub FaultlessIsSound : Type 0
+FaultlessIsSound = (level : Level) (counts : List ℕ) → AreCounts (AuditHolds level) counts → (fault_total counts ≡ 0) ↔ IsSound level
+
+-- the counts are those of a list of findings: of each code, of the faults and of the notes
+pub record CountFindings (counts : List ℕ) (found : List Finding) : Type 0 where
+  pub each : (code : Code) → slice_index counts (rank code) ≡ count_by (λ f. rank f.code == rank code) found
+  pub faults : fault_total counts ≡ count_by (λ f. is_fault f.code) found
+  pub notes : note_total counts ≡ count_by (λ f. not (is_fault f.code)) found
+
+-- a level's counts are those of its report
+abbrev pub CountsAreOfTheReport : Type 0
+CountsAreOfTheReport =
+    (level : Level) (found : List Finding) (counts : List ℕ) → AreFindings (AuditHolds level) found → AreCounts (AuditHolds level) counts
+    → CountFindings counts found
+
+-- where all findings are shown, what a check tells of them is the line, or the object, of each finding of the level's report, in its order
+abbrev pub LinesAreOfTheReport : Type 0
+LinesAreOfTheReport =
+    (head : Head) (level : Level) (found : List Finding) (told : Code → List ℕ) → AreFindings (AuditHolds level) found
+    → AreTold (AuditHolds level) told → findings_part head 0 level told ≡ flat_map (finding_text head level) found
+
+-- where a string is written, the kit's reader of JSON finds the bytes' text and goes on behind it
+abbrev pub StringsAreRead : Type 0
+StringsAreRead = (bytes rest : List ℕ) → lex between (json_string bytes ++ rest) ≡ token (string (utf8_lossy bytes)) ∷ lex between rest
+
+-- the object of a refused file is read as its members
+abbrev pub RefusedIsRead : Type 0
+RefusedIsRead = (path : List ℕ) (refusal : FileRefusal) → IsLineOf (refused_value path refusal) (refused_object path refusal)
+
+-- so is that of a level of another format
+abbrev pub OtherIsRead : Type 0
+OtherIsRead =
+    (path name : List ℕ) (g : ℕ) (format : Format) → g < 2 ^ 64
+    → IsLineOf (other_value path name g format) (level_members path name g format ++ other_members format)
+
+-- and that of a level of Doom's format
+abbrev pub DoomIsRead : Type 0
+DoomIsRead =
+    (path name : List ℕ) (g : ℕ) (level : Level) (counts : List ℕ) (warnings : Warnings) (warned : List Warned) (unlooked : Unlooked) → g < 2 ^ 64 → HasSmallNumbers level counts warned
+    → IsLineOf (doom_value path name g level counts warnings warned unlooked)
+    (level_members path name g Doom ++ doom_members level counts warnings warned unlooked)
+
+-- what a survey writes of a file or a level is a line, which the kit's reader of JSON reads as one object of just these members in their order
+pub record ObjectsAreRead : Type 0 where
+  pub refused : RefusedIsRead
+  pub other : OtherIsRead
+  pub doom : DoomIsRead
+
+-- a check of levels that are all of Doom's format counts no fault exactly where each of them is sound under the reading asked
+abbrev pub CheckedIsSound : Type 0
+CheckedIsSound =
+    (asked : CheckAsked) (files : List Wad) (before after : SinkState) (totals : Totals) → ChecksAll asked files before after totals
+    → ((g : ℕ) → LevelStartsAt (names files) g → IsFormat files g Doom)
+    → (totals.faults ≡ 0) ↔ ((g : ℕ) (level : Level) → LevelStartsAt (names files) g → IsLevelAt files g asked.judging.reading level → IsSound level)

@@ -1,0 +1,130 @@
+-- The members of a survey's objects and their values (ours), as a reader of JSON gives them.
+use Rattle.std.specs.Prelude.{◌≡◌, ℕ, Bool, true, false, Contains, Some, ◌<◌, ◌^◌, ◌==◌, nat_lt, All, List, [], ◌∷◌, ◌++◌, codes, decimal, filter, length, map}
+use Rattle.std.specs.Str.Lossy.{utf8_lossy}
+use Rattle.json.specs.Json.{Json, Members, array, boolean, document, item, member, no_items, no_members, number, object, string}
+use Rattle.le_rec.specs.Name.{shown_name}
+use Rattle.level_starts.specs.declared.format.Format.{Format}
+use Rattle.level_starts.specs.declared.format.Format.TheVariants.{Udmf, Incomplete, Hexen, Outside, Extended, Doom}
+use Rattle.map_level.specs.Level.{Level}
+use Rattle.lens_engines.specs.Counts.{fault_total, note_total, report_order}
+use Rattle.lens_engines.specs.Kind.{code_text}
+use Rattle.lens_engines.specs.Objects.{count_of, format_name, refusal_text, usual_name}
+use Rattle.lens_engines.specs.Warned.{Warned}
+use Rattle.lens_engines.specs.WarningLine.{warning_name}
+use Rattle.lens_engines.specs.declared.judging.Warnings.{Warnings}
+use Rattle.lens_engines.specs.declared.judging.Warnings.TheVariants.{Unasked, Told, Strict}
+use Rattle.lens_engines.specs.declared.object.FileRefusal.{FileRefusal}
+use Rattle.lens_engines.specs.declared.unlooked.Unlooked.{Unlooked}
+
+-- members with their names, in their order
+abbrev pub members_of : List (List ℕ × Json) → Members
+members_of [] = no_members
+members_of (m ∷ ms) = member m.0 m.1 (members_of ms)
+
+abbrev pub object_of : List (List ℕ × Json) → Json
+object_of ms = object (members_of ms)
+
+-- a member whose value is bytes' text
+abbrev pub text_at : List ℕ → List ℕ → List ℕ × Json
+text_at name bytes = (name, string (utf8_lossy bytes))
+
+-- a member whose value is a number: its text are the digits
+abbrev pub number_at : List ℕ → ℕ → List ℕ × Json
+number_at name n = (name, number (decimal n))
+
+-- what each object begins with
+abbrev pub file_value : List ℕ → List ℕ × Json
+file_value path = text_at (codes "file") path
+
+-- what tells a level: its label, the label's entry, its format
+abbrev pub label_values : List ℕ → ℕ → Format → List (List ℕ × Json)
+label_values name g format =
+    text_at (codes "level") (shown_name name) ∷ number_at (codes "entry") g ∷ (codes "format", string (format_name format)) ∷ []
+
+-- what tells another format
+abbrev pub telling_values : Format → List (List ℕ × Json)
+telling_values Udmf = []
+telling_values (Incomplete k) = text_at (codes "lump") (shown_name (usual_name k)) ∷ []
+telling_values Hexen = []
+telling_values (Outside k) = text_at (codes "lump") (shown_name (usual_name k)) ∷ []
+telling_values (Extended tag) = text_at (codes "tag") tag ∷ []
+telling_values Doom = []
+
+-- the ten lumps: how many records the tables have, and how many bytes the last two
+abbrev pub sizes_of : Level → List (List ℕ × ℕ)
+sizes_of level =
+    (codes "things", length level.things.records)
+    ∷ (codes "linedefs", length level.linedefs.records)
+    ∷ (codes "sidedefs", length level.sidedefs.records)
+    ∷ (codes "vertexes", length level.vertexes.records)
+    ∷ (codes "segs", length level.segs.records)
+    ∷ (codes "ssectors", length level.ssectors.records)
+    ∷ (codes "nodes", length level.nodes.records)
+    ∷ (codes "sectors", length level.sectors.records)
+    ∷ (codes "reject", length level.reject)
+    ∷ (codes "blockmap", length level.blockmap)
+    ∷ []
+
+abbrev pub size_values : Level → List (List ℕ × Json)
+size_values level = map (λ size. number_at size.0 size.1) (sizes_of level)
+
+-- the codes that hold, each with how often
+abbrev pub findings_values : List ℕ → List (List ℕ × Json)
+findings_values counts = map (λ code. number_at (code_text code []) (count_of counts code)) (filter (λ code. nat_lt 0 (count_of counts code)) report_order)
+
+-- what was found at a level
+abbrev pub found_values : List ℕ → List (List ℕ × Json)
+found_values counts =
+    (codes "sound", boolean (fault_total counts == 0))
+    ∷ number_at (codes "faults") (fault_total counts)
+    ∷ number_at (codes "notes") (note_total counts)
+    ∷ (codes "findings", object_of (findings_values counts))
+    ∷ []
+
+-- the codes of warnings of which there are some, each with how many
+abbrev pub warned_values : List Warned → List (List ℕ × Json)
+warned_values all = map (λ warned. number_at (warning_name warned.code) warned.cut.count) (filter (λ warned. nat_lt 0 warned.cut.count) all)
+
+-- a level's warnings, where they are asked for
+abbrev pub warnings_values : Warnings → List Warned → List (List ℕ × Json)
+warnings_values Unasked all = []
+warnings_values Told all = (codes "warnings", object_of (warned_values all)) ∷ []
+warnings_values Strict all = (codes "warnings", object_of (warned_values all)) ∷ []
+
+-- what wasn't looked for, where there is some
+abbrev pub unlooked_at : Bool → Bool → List (List ℕ × Json)
+unlooked_at true true = (codes "unlooked", array (item (string (codes "W9")) (item (string (codes "W10")) no_items))) ∷ []
+unlooked_at true false = (codes "unlooked", array (item (string (codes "W9")) no_items)) ∷ []
+unlooked_at false true = (codes "unlooked", array (item (string (codes "W10")) no_items)) ∷ []
+unlooked_at false false = []
+
+abbrev pub unlooked_values : Unlooked → List (List ℕ × Json)
+unlooked_values unlooked = unlooked_at unlooked.textures unlooked.flats
+
+-- the object of a refused file
+abbrev pub refused_value : List ℕ → FileRefusal → Json
+refused_value path refusal = object_of (file_value path ∷ (codes "refused", string (refusal_text refusal)) ∷ [])
+
+-- the object of a level of another format
+abbrev pub other_value : List ℕ → List ℕ → ℕ → Format → Json
+other_value path name g format = object_of (file_value path ∷ (label_values name g format ++ telling_values format))
+
+-- the object of a level of Doom's format
+abbrev pub doom_value : List ℕ → List ℕ → ℕ → Level → List ℕ → Warnings → List Warned → Unlooked → Json
+doom_value path name g level counts warnings warned unlooked =
+    object_of (file_value path ∷ (label_values name g Doom ++ (size_values level
+    ++ (found_values counts ++ (warnings_values warnings warned ++ unlooked_values unlooked)))))
+
+-- the numbers of such an object have 64 bits at most, as all have that are written
+pub record HasSmallNumbers (level : Level) (counts : List ℕ) (warned : List Warned) : Type 0 where
+  pub sizes : All (λ size. size.1 < 2 ^ 64) (sizes_of level)
+  pub faults : fault_total counts < 2 ^ 64
+  pub notes : note_total counts < 2 ^ 64
+  pub warnings : All (λ one. one.cut.count < 2 ^ 64) warned
+
+-- a text is a line of which the kit's reader of JSON makes a value, and no other line break stands in it
+pub record IsLineOf (value : Json) (text : List ℕ) : Type 0 where
+  pub line : List ℕ
+  pub ended : text ≡ line ++ 10 ∷ []
+  pub unbroken : ¬ Contains line 10
+  pub read : document line ≡ Some value

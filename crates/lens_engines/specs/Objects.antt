@@ -1,0 +1,151 @@
+-- The objects of a survey, a line each (ours): a level of Doom's format, one of another format, a refused file.
+use Rattle.std.specs.Prelude.{ℕ, ◌-◌, ◌≤◌, ◌==◌, nat_lt, filter, map, List, [], ◌∷◌, ◌++◌, codes, decimal, length, slice_index, slice_index_or}
+use Rattle.std.specs.List.{flat_map, join_with_byte}
+use Rattle.le_rec.specs.Name.{shown_name}
+use Rattle.level_starts.specs.declared.format.Format.{Format}
+use Rattle.level_starts.specs.declared.format.Format.TheVariants.{Udmf, Incomplete, Hexen, Outside, Extended, Doom}
+use Rattle.map_level.specs.Findings.{rank}
+use Rattle.map_level.specs.Level.{Level}
+use Rattle.map_level.specs.LinkFaults.{usual_names}
+use Rattle.map_level.specs.declared.finding.Code.{Code}
+use Rattle.wad_dir.specs.declared.wad.WadFault.TheVariants as wad
+use Rattle.lens_engines.specs.Counts.{fault_total, note_total, report_order}
+use Rattle.lens_engines.specs.JsonString.{bool_text, json_string}
+use Rattle.lens_engines.specs.Kind.{code_text}
+use Rattle.lens_engines.specs.Unlooked.{unlooked_member}
+use Rattle.lens_engines.specs.Warned.{Warned}
+use Rattle.lens_engines.specs.WarningLine.{warning_name}
+use Rattle.lens_engines.specs.declared.judging.Warnings.{Warnings}
+use Rattle.lens_engines.specs.declared.judging.Warnings.TheVariants.{Unasked, Told, Strict}
+use Rattle.lens_engines.specs.declared.object.FileRefusal.{FileRefusal}
+use Rattle.lens_engines.specs.declared.unlooked.Unlooked.{Unlooked}
+use Rattle.lens_engines.specs.declared.object.FileRefusal.TheVariants.{Unopened, Unread, TooLarge, NoWad}
+
+-- a name as a string, as it is shown
+abbrev pub name_string : List ℕ → List ℕ
+name_string name = json_string (shown_name name)
+
+-- a member behind others whose value is a number: `,"name":12`
+abbrev pub number_member : List ℕ → ℕ → List ℕ
+number_member name number = codes ",\"" ++ (name ++ (codes "\":" ++ decimal number))
+
+-- what each object begins with
+abbrev pub file_member : List ℕ → List ℕ
+file_member path = codes "{\"file\":" ++ json_string path
+
+-- a format as it is named
+abbrev pub format_name : Format → List ℕ
+format_name Udmf = codes "udmf"
+format_name (Incomplete k) = codes "incomplete"
+format_name Hexen = codes "hexen"
+format_name (Outside k) = codes "outside"
+format_name (Extended tag) = codes "extended"
+format_name Doom = codes "doom"
+
+-- the label of a level as it is shown, and its number
+abbrev pub label_members : List ℕ → ℕ → List ℕ
+label_members name g = codes ",\"level\":" ++ (name_string name ++ number_member (codes "entry") g)
+
+abbrev pub format_member : Format → List ℕ
+format_member format = codes ",\"format\":\"" ++ (format_name format ++ codes "\"")
+
+-- what the object of a level begins with
+abbrev pub level_members : List ℕ → List ℕ → ℕ → Format → List ℕ
+level_members path name g format = file_member path ++ (label_members name g ++ format_member format)
+
+-- how many records the eight tables have, and how many bytes the last two lumps
+abbrev pub lump_members : Level → List (List ℕ)
+lump_members level =
+    number_member (codes "things") (length level.things.records)
+    ∷ number_member (codes "linedefs") (length level.linedefs.records)
+    ∷ number_member (codes "sidedefs") (length level.sidedefs.records)
+    ∷ number_member (codes "vertexes") (length level.vertexes.records)
+    ∷ number_member (codes "segs") (length level.segs.records)
+    ∷ number_member (codes "ssectors") (length level.ssectors.records)
+    ∷ number_member (codes "nodes") (length level.nodes.records)
+    ∷ number_member (codes "sectors") (length level.sectors.records)
+    ∷ number_member (codes "reject") (length level.reject)
+    ∷ number_member (codes "blockmap") (length level.blockmap)
+    ∷ []
+
+-- whether there is no fault, how many faults there are, and how many notes
+abbrev pub sound_members : ℕ → ℕ → List ℕ
+sound_members faults notes =
+    codes ",\"sound\":" ++ (bool_text (faults == 0) ++ (number_member (codes "faults") faults ++ number_member (codes "notes") notes))
+
+-- a code with how often it holds: `"F3":12`
+abbrev pub count_member : Code → ℕ → List ℕ
+count_member code count = codes "\"" ++ code_text code (codes "\":" ++ decimal count)
+
+-- how often a code holds, by the counts of all codes
+abbrev pub count_of : List ℕ → Code → ℕ
+count_of counts code = slice_index counts (rank code)
+
+-- those of some codes that hold
+abbrev pub count_members : List ℕ → List Code → List (List ℕ)
+count_members counts codes = map (λ code. count_member code (count_of counts code)) (filter (λ code. nat_lt 0 (count_of counts code)) codes)
+
+-- the codes that hold, in the order of a report, with commas between them
+abbrev pub findings_text : List ℕ → List ℕ
+findings_text counts = join_with_byte 44 (count_members counts report_order)
+
+-- what was found at a level, by the counts of all codes
+abbrev pub found_members : List ℕ → List ℕ
+found_members counts =
+    sound_members (fault_total counts) (note_total counts) ++ (codes ",\"findings\":{" ++ (findings_text counts ++ codes "}"))
+
+-- a code of warnings with how many there are: `"W2":12`
+abbrev pub warned_member : Warned → List ℕ
+warned_member warned = codes "\"" ++ (warning_name warned.code ++ (codes "\":" ++ decimal warned.cut.count))
+
+-- those of which there are some, with commas between them
+abbrev pub warned_members : List Warned → List (List ℕ)
+warned_members all = map warned_member (filter (λ warned. nat_lt 0 warned.cut.count) all)
+
+-- a level's warnings, where they are asked for: `,"warnings":{..}`
+abbrev pub warnings_member : Warnings → List Warned → List ℕ
+warnings_member Unasked all = []
+warnings_member Told all = codes ",\"warnings\":{" ++ (join_with_byte 44 (warned_members all) ++ codes "}")
+warnings_member Strict all = codes ",\"warnings\":{" ++ (join_with_byte 44 (warned_members all) ++ codes "}")
+
+-- what the object of a level of Doom's format ends with
+abbrev pub doom_members : Level → List ℕ → Warnings → List Warned → Unlooked → List ℕ
+doom_members level counts warnings warned unlooked =
+    flat_map (λ text. text) (lump_members level) ++ (found_members counts ++ (warnings_member warnings warned ++ (unlooked_member unlooked ++ codes "}\n")))
+
+-- the usual name of a lump, by its number behind the label
+abbrev pub usual_name : ℕ → List ℕ
+usual_name k = slice_index_or usual_names (k - 1) []
+
+-- what tells another format: the lump that isn't there or isn't inside its file, or the first bytes of the nodes
+abbrev pub telling_members : Format → List ℕ
+telling_members Udmf = []
+telling_members (Incomplete k) = codes ",\"lump\":" ++ name_string (usual_name k)
+telling_members Hexen = []
+telling_members (Outside k) = codes ",\"lump\":" ++ name_string (usual_name k)
+telling_members (Extended tag) = codes ",\"tag\":" ++ json_string tag
+telling_members Doom = []
+
+-- what the object of a level of another format ends with
+abbrev pub other_members : Format → List ℕ
+other_members format = telling_members format ++ codes "}\n"
+
+-- the lump that tells a format is one of the ten
+abbrev pub NamesLump : Format → Type 0
+NamesLump (Incomplete k) = (1 ≤ k) × (k ≤ 10)
+NamesLump (Outside k) = (1 ≤ k) × (k ≤ 10)
+NamesLump _ = Unit {0}
+
+-- why a file is refused, in words
+abbrev pub refusal_text : FileRefusal → List ℕ
+refusal_text Unopened = codes "can't be opened"
+refusal_text Unread = codes "can't be read"
+refusal_text TooLarge = codes "larger than 268435456 bytes"
+refusal_text (NoWad wad.Short) = codes "shorter than a WAD header"
+refusal_text (NoWad wad.Magic) = codes "not a WAD file: it begins with neither IWAD nor PWAD"
+refusal_text (NoWad wad.Count) = codes "a negative count of lumps"
+refusal_text (NoWad wad.Directory) = codes "its directory isn't inside the file"
+
+-- the object of a refused file
+abbrev pub refused_object : List ℕ → FileRefusal → List ℕ
+refused_object path refusal = file_member path ++ (codes ",\"refused\":" ++ (json_string (refusal_text refusal) ++ codes "}\n"))

@@ -1,0 +1,208 @@
+-- The survey of a file (ours): the line of each level, in the order of their labels, and what a survey says of the file.
+use Rattle.std.specs.Prelude.{◌≡◌, ◌⊎◌, ◌↔◌, ℕ, ◌<◌, ◌==◌, true, false, List, [], ◌∷◌, ◌++◌, AllPairs, Contains, IfOk, IfErr, Result, Ok, Err, Some, fold, length, if◌then◌else◌}
+use Rattle.std.specs.Io.KnownBytes.{Appends}
+use Rattle.std.specs.List.{flat_map, slice_get}
+use Rattle.le_rec.specs.Sink.{SinkState}
+use Rattle.level_starts.specs.Format.{IsFormat}
+use Rattle.level_starts.specs.Starts.{IsNextStart, LevelStartsAt}
+use Rattle.level_starts.specs.declared.format.Format.{Format}
+use Rattle.level_starts.specs.declared.format.Format.TheVariants.{Udmf, Incomplete, Hexen, Outside, Extended, Doom}
+use Rattle.line_io.specs.Writes.{TakesFront, Writes}
+use Rattle.line_io.specs.declared.fault.IoFault.{IoFault}
+use Rattle.map_level.specs.Level.{Level}
+use Rattle.map_level.specs.Opening.{IsLevelAt}
+use Rattle.wad_dir.specs.Entries.{names}
+use Rattle.wad_dir.specs.Wad.{IsRead, Wad}
+use Rattle.lens_engines.specs.Counts.{AreCounts, fault_total}
+use Rattle.lens_engines.specs.Ignored.{HoldsUnlessIgnored}
+use Rattle.lens_engines.specs.Left.{LeavesFile, LeavesLevel, WantsMemory}
+use Rattle.lens_engines.specs.Objects.{doom_members, level_members, other_members}
+use Rattle.lens_engines.specs.Unlooked.{AreUnlooked}
+use Rattle.lens_engines.specs.declared.unlooked.Unlooked.{Unlooked}
+use Rattle.lens_engines.specs.Warned.{AreAskedFor, Warned, known_files, warned_total, warned_verdict}
+use Rattle.lens_engines.specs.declared.judging.Judging.{Judging}
+use Rattle.lens_engines.specs.declared.verdict.LevelsFault.{LevelsFault}
+use Rattle.lens_engines.specs.declared.verdict.LevelsFault.TheVariants.{NoWad, Write, Memory}
+use Rattle.lens_engines.specs.declared.verdict.Verdict.{Verdict}
+use Rattle.lens_engines.specs.declared.verdict.Verdict.TheVariants.{Clean, Unjudged, Faulty}
+
+-- the graver of two verdicts
+abbrev pub graver : Verdict → Verdict → Verdict
+graver Faulty other = Faulty
+graver Unjudged Faulty = Faulty
+graver Unjudged other = Unjudged
+graver Clean other = other
+
+-- a fault where levels of a verdict were told before: a failed write tells of them, too
+abbrev pub fault_after : Verdict → LevelsFault → LevelsFault
+fault_after before (NoWad why) = NoWad why
+fault_after before (Write found) = Write (graver before found)
+fault_after before Memory = Memory
+
+-- what a format alone says: a lump that isn't there or isn't inside its file is a fault, and what isn't read is not judged
+abbrev pub verdict_of_format : Format → Verdict
+verdict_of_format Udmf = Unjudged
+verdict_of_format (Incomplete k) = Faulty
+verdict_of_format Hexen = Unjudged
+verdict_of_format (Outside k) = Faulty
+verdict_of_format (Extended tag) = Unjudged
+verdict_of_format Doom = Clean
+
+-- what the counts of a level say
+abbrev pub verdict_of_counts : List ℕ → Verdict
+verdict_of_counts counts = if fault_total counts == 0 then Clean else Faulty
+
+-- what a level's object ends with, and its verdict, by what its audit finds and isn't ignored and, where they are asked for, its
+-- warnings
+pub record IsJudged (files : List Wad) (judging : Judging) (g : ℕ) (members : List ℕ) (verdict : Verdict) : Type 0 where
+  pub level : Level
+  pub there : IsLevelAt files g judging.reading level
+  pub counts : List ℕ
+  pub are : AreCounts (HoldsUnlessIgnored judging.ignored level) counts
+  pub warned : List Warned
+  pub are_warned : AreAskedFor judging (known_files judging files) level 0 warned
+  pub unlooked : Unlooked
+  pub are_unlooked : AreUnlooked judging.ignored (known_files judging files) unlooked
+  pub ends : members ≡ doom_members level counts judging.warnings warned unlooked
+  pub says : verdict ≡ graver (verdict_of_counts counts) (warned_verdict judging.warnings (warned_total warned))
+
+-- what the object of a level ends with, and its verdict, by the level's format: only Doom's is judged
+abbrev pub EndsObject : List Wad → Judging → ℕ → Format → List ℕ → Verdict → Type 0
+EndsObject files judging g Doom members verdict = IsJudged files judging g members verdict
+EndsObject files judging g format members verdict = (members ≡ other_members format) × (verdict ≡ verdict_of_format format)
+
+-- what is told of a level
+pub record Told : Type 0 where
+  pub line : List ℕ
+  pub verdict : Verdict
+
+-- what is told of the level that starts at an entry
+pub record IsTold (path : List ℕ) (files : List Wad) (judging : Judging) (g : ℕ) (told : Told) : Type 0 where
+  pub format : Format
+  pub is : IsFormat files g format
+  pub name : List ℕ
+  pub named : slice_get (names files) g ≡ Some name
+  pub members : List ℕ
+  pub ends : EndsObject files judging g format members told.verdict
+  pub line : told.line ≡ level_members path name g format ++ members
+
+-- what is told of the levels that start at some entries, in their order
+abbrev pub AreTold : List ℕ → List Wad → Judging → List ℕ → List Told → Type 0
+AreTold path files judging [] [] = Unit {0}
+AreTold path files judging (g ∷ starts) (told ∷ others) = IsTold path files judging g told × AreTold path files judging starts others
+AreTold path files judging _ _ = ⊥
+
+-- all entries below a number at which levels start, ascending
+pub record AreStartsBelow (names : List (List ℕ)) (end : ℕ) (starts : List ℕ) : Type 0 where
+  pub ascending : AllPairs (λ a b. a < b) starts
+  pub exact : (g : ℕ) → Contains starts g ↔ (LevelStartsAt names g × (g < end))
+
+-- what is told of the levels that start below an entry
+pub record AreToldBelow (path : List ℕ) (files : List Wad) (judging : Judging) (end : ℕ) (told : List Told) : Type 0 where
+  pub starts : List ℕ
+  pub are : AreStartsBelow (names files) end starts
+  pub each : AreTold path files judging starts told
+
+-- their lines
+abbrev pub lines_of : List Told → List ℕ
+lines_of told = flat_map (λ one. one.line) told
+
+-- the gravest of their verdicts
+abbrev pub gravest : List Told → Verdict
+gravest told = fold (λ verdict one. graver verdict one.verdict) Clean told
+
+-- all levels were told, and their lines were taken
+pub record SurveysAll (path : List ℕ) (files : List Wad) (judging : Judging) (before after : SinkState) (verdict : Verdict) : Type 0 where
+  pub told : List Told
+  pub are : AreToldBelow path files judging (length (names files)) told
+  pub took : Appends before.taken after.taken (lines_of told)
+  pub sound : after.failed ≡ false
+  pub says : verdict ≡ gravest told
+
+-- the lines of all but the last of these levels were taken, and a write failed within that of the last
+pub record StopsWriting (before after : SinkState) (told : List Told) (found : Verdict) : Type 0 where
+  pub whole : List Told
+  pub last : Told
+  pub are : told ≡ whole ++ last ∷ []
+  pub between : SinkState
+  pub took : Appends before.taken between.taken (lines_of whole)
+  pub front : TakesFront between after last.line
+  pub failed : after.failed ≡ true
+  pub says : found ≡ gravest told
+
+-- their lines were taken, and there was no memory to judge the next level, which is of Doom's format
+pub record StopsJudging (files : List Wad) (end : ℕ) (before after : SinkState) (told : List Told) : Type 0 where
+  pub took : Appends before.taken after.taken (lines_of told)
+  pub sound : after.failed ≡ false
+  pub g : ℕ
+  pub next : IsNextStart (names files) end g
+  pub doom : IsFormat files g Doom
+
+-- how a survey stops behind the levels below an entry: within the line of the last of them, or before the next one
+abbrev pub StopsLines : List Wad → ℕ → SinkState → SinkState → List Told → LevelsFault → Type 0
+StopsLines files end before after told (Write found) = StopsWriting before after told found
+StopsLines files end before after told Memory = StopsJudging files end before after told
+StopsLines files end before after told (NoWad why) = ⊥
+
+-- the levels up to some entry were told, and no others
+pub record SurveysSome (path : List ℕ) (files : List Wad) (judging : Judging) (before after : SinkState) (fault : LevelsFault) : Type 0 where
+  pub end : ℕ
+  pub told : List Told
+  pub are : AreToldBelow path files judging end told
+  pub stops : StopsLines files end before after told fault
+
+-- a survey of all levels of some files
+pub record Surveys (path : List ℕ) (files : List Wad) (judging : Judging) (before after : SinkState) (result : Result Verdict LevelsFault) : Type 0 where
+  pub all : IfOk result (SurveysAll path files judging before after)
+  pub some : IfErr result (SurveysSome path files judging before after)
+
+-- all levels were surveyed, or nothing was written for want of memory
+abbrev pub SurveysOrWants : {W : Type 0} → (W → SinkState) → List ℕ → List Wad → Judging → W → W → Result Verdict LevelsFault → Type 0
+SurveysOrWants state path files judging out out' result =
+    WantsMemory out out' result ⊎ Surveys path files judging (state out) (state out') result
+
+-- the file's levels were surveyed
+pub record SurveysFile (path bytes : List ℕ) (judging : Judging) (before after : SinkState) (result : Result Verdict LevelsFault) : Type 0 where
+  pub file : Wad
+  pub of_bytes : file.bytes ≡ bytes
+  pub read : IsRead file
+  pub does : Surveys path (file ∷ []) judging before after result
+
+-- over a file of these bytes and a sink, of which clauses see its state
+abbrev pub RunsSurvey : {W : Type 0} → (W → SinkState) → List ℕ → List ℕ → Judging → W → W → Result Verdict LevelsFault → Type 0
+RunsSurvey state path bytes judging out out' result =
+    LeavesFile bytes out out' result ⊎ SurveysFile path bytes judging (state out) (state out') result
+
+-- the end of a level's line: its verdict, where the line was written
+abbrev pub line_end : Verdict → Result (Unit {0}) IoFault → Result Verdict LevelsFault
+line_end verdict (Ok x) = Ok verdict
+line_end verdict (Err fault) = Err (Write verdict)
+
+-- a line was written whose level has this verdict
+pub record WritesLine (before after : SinkState) (line : List ℕ) (verdict : Verdict) (result : Result Verdict LevelsFault) : Type 0 where
+  pub outcome : Result (Unit {0}) IoFault
+  pub writes : Writes before after line outcome
+  pub ended : result ≡ line_end verdict outcome
+
+-- the line of a level of Doom's format was written, by what its audit finds
+pub record WritesDoom (path : List ℕ) (files : List Wad) (judging : Judging) (name : List ℕ) (g : ℕ) (before after : SinkState) (result : Result Verdict LevelsFault) : Type 0 where
+  pub members : List ℕ
+  pub verdict : Verdict
+  pub judged : IsJudged files judging g members verdict
+  pub writes : WritesLine before after (level_members path name g Doom ++ members) verdict result
+
+-- one of the two
+abbrev pub SurveysDoom : {W : Type 0} → (W → SinkState) → List ℕ → List Wad → Judging → List ℕ → ℕ → W → W → Result Verdict LevelsFault → Type 0
+SurveysDoom state path files judging name g out out' result =
+    WantsMemory out out' result ⊎ WritesDoom path files judging name g (state out) (state out') result
+
+-- the line of a level was written
+pub record WritesLevel (path : List ℕ) (files : List Wad) (judging : Judging) (g : ℕ) (before after : SinkState) (result : Result Verdict LevelsFault) : Type 0 where
+  pub told : Told
+  pub is : IsTold path files judging g told
+  pub writes : WritesLine before after told.line told.verdict result
+
+-- or nothing was
+abbrev pub SurveysLevel : {W : Type 0} → (W → SinkState) → List ℕ → List Wad → Judging → ℕ → W → W → Result Verdict LevelsFault → Type 0
+SurveysLevel state path files judging g out out' result =
+    LeavesLevel files g out out' result ⊎ WritesLevel path files judging g (state out) (state out') result

@@ -1,0 +1,82 @@
+-- What is counted over levels, files and a run (ours).
+use Rattle.std.specs.Prelude.{ℕ, ◌+◌, ◌-◌, ◌^◌, ◌==◌, List, [], ◌∷◌, ◌++◌, codes, min, if◌then◌else◌}
+use Rattle.std.specs.Fmt.{decimal}
+use Rattle.level_starts.specs.declared.format.Format.{Format}
+use Rattle.level_starts.specs.declared.format.Format.TheVariants.{Udmf, Incomplete, Hexen, Outside, Extended, Doom}
+use Rattle.lens_engines.specs.Counts.{fault_total, note_total}
+use Rattle.lens_engines.specs.Survey.{graver}
+use Rattle.lens_engines.specs.Unlooked.{none_unlooked, unlooked_with}
+use Rattle.lens_engines.specs.Warned.{warned_verdict}
+use Rattle.lens_engines.specs.declared.unlooked.Unlooked.{Unlooked}
+use Rattle.lens_engines.specs.declared.judging.Warnings.{Warnings}
+use Rattle.lens_engines.specs.declared.judging.Warnings.TheVariants.{Unasked, Told, Strict}
+use Rattle.lens_engines.specs.declared.totals.Totals.{Totals}
+use Rattle.lens_engines.specs.declared.verdict.Verdict.{Verdict}
+use Rattle.lens_engines.specs.declared.verdict.Verdict.TheVariants.{Clean, Unjudged, Faulty}
+
+-- of no level
+abbrev pub no_totals : Totals
+no_totals = record { levels = 0; faults = 0; notes = 0; warnings = 0; broken = 0; unread = 0; unlooked = none_unlooked }
+
+-- of a judged level, of which each code is told so often, with so many warnings
+abbrev pub judged_totals : List ℕ → ℕ → Unlooked → Totals
+judged_totals counts warnings unlooked = record {
+  levels = 1;
+  faults = fault_total counts;
+  notes = note_total counts;
+  warnings = warnings;
+  broken = 0;
+  unread = 0;
+  unlooked = unlooked;
+}
+
+-- of a level of another format than Doom's: one that lacks a lump is broken, and the others aren't read
+abbrev pub format_totals : Format → Totals
+format_totals Udmf = record { levels = 1; faults = 0; notes = 0; warnings = 0; broken = 0; unread = 1; unlooked = none_unlooked }
+format_totals (Incomplete k) = record { levels = 1; faults = 0; notes = 0; warnings = 0; broken = 1; unread = 0; unlooked = none_unlooked }
+format_totals Hexen = record { levels = 1; faults = 0; notes = 0; warnings = 0; broken = 0; unread = 1; unlooked = none_unlooked }
+format_totals (Outside k) = record { levels = 1; faults = 0; notes = 0; warnings = 0; broken = 1; unread = 0; unlooked = none_unlooked }
+format_totals (Extended tag) = record { levels = 1; faults = 0; notes = 0; warnings = 0; broken = 0; unread = 1; unlooked = none_unlooked }
+format_totals Doom = record { levels = 1; faults = 0; notes = 0; warnings = 0; broken = 0; unread = 0; unlooked = none_unlooked }
+
+-- a sum in 64 bits, which stops at the greatest number
+abbrev pub capped : ℕ → ℕ → ℕ
+capped a b = min (a + b) (2 ^ 64 - 1)
+
+-- both together
+abbrev pub totals_with : Totals → Totals → Totals
+totals_with a b = record {
+  levels = capped a.levels b.levels;
+  faults = capped a.faults b.faults;
+  notes = capped a.notes b.notes;
+  warnings = capped a.warnings b.warnings;
+  broken = capped a.broken b.broken;
+  unread = capped a.unread b.unread;
+  unlooked = unlooked_with a.unlooked b.unlooked;
+}
+
+-- what totals say, warnings aside
+abbrev pub verdict_of_totals : Totals → Verdict
+verdict_of_totals totals =
+    if totals.faults == 0 then (if totals.broken == 0 then (if totals.unread == 0 then Clean else Unjudged) else Faulty) else Faulty
+
+-- what they say where warnings are asked for so
+abbrev pub verdict_with : Warnings → Totals → Verdict
+verdict_with warnings totals = graver (verdict_of_totals totals) (warned_verdict warnings totals.warnings)
+
+-- `N levels in M files: F faults, K notes, U not judged`, with `V warnings, ` where they are asked for
+abbrev pub levels_text : ℕ → Totals → List ℕ
+levels_text files totals = decimal totals.levels ++ (codes " levels in " ++ (decimal files ++ codes " files: "))
+
+abbrev pub warnings_text : Warnings → ℕ → List ℕ → List ℕ
+warnings_text Unasked count rest = rest
+warnings_text Told count rest = decimal count ++ (codes " warnings, " ++ rest)
+warnings_text Strict count rest = decimal count ++ (codes " warnings, " ++ rest)
+
+abbrev pub found_text : Warnings → Totals → List ℕ
+found_text warnings totals =
+    decimal totals.faults ++ (codes " faults, " ++ (decimal totals.notes ++ (codes " notes, "
+    ++ warnings_text warnings totals.warnings (decimal (capped totals.broken totals.unread) ++ (codes " not judged" ++ 10 ∷ [])))))
+
+abbrev pub totals_line : ℕ → Warnings → Totals → List ℕ
+totals_line files warnings totals = levels_text files totals ++ found_text warnings totals

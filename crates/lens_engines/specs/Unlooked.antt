@@ -1,0 +1,32 @@
+-- Which warnings weren't looked for, though they were asked for (ours).
+use Rattle.std.specs.Prelude.{◌≡◌, ◌↔◌, ◌||◌, Bool, true, false, List, [], ℕ, Option, IsSomeAnd, IsTrue, codes}
+use Rattle.map_warnings.specs.Listed.{HasFlats, HasTextures}
+use Rattle.map_warnings.specs.declared.warning.WarningCode.TheVariants.{W9, W10}
+use Rattle.wad_dir.specs.Wad.{Wad}
+use Rattle.lens_engines.specs.Ignored.{ignores_warning}
+use Rattle.lens_engines.specs.declared.ignored.Ignored.{Ignored}
+use Rattle.lens_engines.specs.declared.unlooked.Unlooked.{Unlooked}
+
+-- all were
+abbrev pub none_unlooked : Unlooked
+none_unlooked = record { textures = false; flats = false }
+
+-- of a level with these files, where they are known: W9 where no lump of textures is found, W10 where no entry begins the flats,
+-- each unless it is ignored
+pub record AreUnlooked (ignored : Ignored) (files : Option (List Wad)) (unlooked : Unlooked) : Type 0 where
+  pub textures : IsTrue unlooked.textures ↔ (IsSomeAnd files (λ known. ¬ HasTextures known) × (ignores_warning ignored W9 ≡ false))
+  pub flats : IsTrue unlooked.flats ↔ (IsSomeAnd files (λ known. ¬ HasFlats known) × (ignores_warning ignored W10 ≡ false))
+
+-- of levels together: those of any
+abbrev pub unlooked_with : Unlooked → Unlooked → Unlooked
+unlooked_with a b = record { textures = a.textures || b.textures; flats = a.flats || b.flats }
+
+-- the member that tells them, where there are some
+abbrev pub member_at : Bool → Bool → List ℕ
+member_at true true = codes ",\"unlooked\":[\"W9\",\"W10\"]"
+member_at true false = codes ",\"unlooked\":[\"W9\"]"
+member_at false true = codes ",\"unlooked\":[\"W10\"]"
+member_at false false = []
+
+abbrev pub unlooked_member : Unlooked → List ℕ
+unlooked_member unlooked = member_at unlooked.textures unlooked.flats

@@ -1,0 +1,81 @@
+-- What is told of a level's warnings (ours).
+use Rattle.std.specs.Prelude.{◌≡◌, ℕ, ◌-◌, ◌^◌, ◌==◌, Bool, true, false, List, [], ◌∷◌, ◌++◌, Option, Some, None, All, map, min, nat_eq, if◌then◌else◌}
+use Rattle.std.specs.List.{sum_by}
+use Rattle.map_warnings.specs.Warnings.{Cut, Tells}
+use Rattle.map_warnings.specs.declared.warning.WarningCode.{WarningCode}
+use Rattle.map_warnings.specs.declared.warning.WarningCode.TheVariants.{W1, W2, W3, W4, W5, W6, W7, W8, W9, W10, W11}
+use Rattle.map_level.specs.Level.{Level}
+use Rattle.wad_dir.specs.Wad.{Wad}
+use Rattle.lens_engines.specs.Ignored.{WarnsUnlessIgnored}
+use Rattle.lens_engines.specs.declared.ignored.Ignored.{Ignored}
+use Rattle.lens_engines.specs.declared.judging.Judging.{Judging}
+use Rattle.lens_engines.specs.declared.judging.Warnings.{Warnings}
+use Rattle.lens_engines.specs.declared.judging.Warnings.TheVariants.{Unasked, Told, Strict}
+use Rattle.lens_engines.specs.declared.verdict.Verdict.{Verdict}
+use Rattle.lens_engines.specs.declared.verdict.Verdict.TheVariants.{Clean, Faulty}
+
+-- all codes of warnings in their order
+abbrev pub warning_order : List WarningCode
+warning_order = W1 ∷ W2 ∷ W3 ∷ W4 ∷ W5 ∷ W6 ∷ W7 ∷ W8 ∷ W9 ∷ W10 ∷ W11 ∷ []
+
+-- what is told of a code: the first of its warnings, and how many there are
+pub record Warned : Type 0 where
+  pub code : WarningCode
+  pub cut : Cut
+
+-- those of a level whose textures and flats are those of some files, where these are known, so many at most; none of an ignored code
+pub record IsWarned (ignored : Ignored) (files : Option (List Wad)) (level : Level) (most : ℕ) (warned : Warned) : Type 0 where
+  pub tells : Tells (WarnsUnlessIgnored ignored files level warned.code) warned.cut
+  pub cut_at : warned.cut.most ≡ most
+
+-- what is told of all codes
+pub record AreWarned (ignored : Ignored) (files : Option (List Wad)) (level : Level) (most : ℕ) (all : List Warned) : Type 0 where
+  pub codes : map (λ warned. warned.code) all ≡ warning_order
+  pub each : All (IsWarned ignored files level most) all
+
+-- what is told of a code was added
+pub record AddsWarned (ignored : Ignored) (files : Option (List Wad)) (level : Level) (most : ℕ) (code : WarningCode) (old new : List Warned) : Type 0 where
+  pub warned : Warned
+  pub is : new ≡ old ++ warned ∷ []
+  pub of_code : warned.code ≡ code
+  pub told : IsWarned ignored files level most warned
+
+-- whether warnings are looked for
+abbrev pub are_asked : Warnings → Bool
+are_asked Unasked = false
+are_asked Told = true
+are_asked Strict = true
+
+-- what is told of a level where warnings are asked for so: nothing where they aren't looked for
+abbrev pub AreAskedBy : Warnings → Ignored → Option (List Wad) → Level → ℕ → List Warned → Type 0
+AreAskedBy Unasked ignored files level most all = all ≡ []
+AreAskedBy Told ignored files level most all = AreWarned ignored files level most all
+AreAskedBy Strict ignored files level most all = AreWarned ignored files level most all
+
+abbrev pub AreAskedFor : Judging → Option (List Wad) → Level → ℕ → List Warned → Type 0
+AreAskedFor judging files level most all = AreAskedBy judging.warnings judging.ignored files level most all
+
+-- some files, where warnings are looked for
+abbrev pub where_asked : Warnings → List Wad → Option (List Wad)
+where_asked Unasked files = None
+where_asked Told files = Some files
+where_asked Strict files = Some files
+
+-- the files in which a level's textures and flats are looked up: those on which all stand and then the level's own, where warnings
+-- are looked for
+abbrev pub known_files : Judging → List Wad → Option (List Wad)
+known_files judging files = where_asked judging.warnings (judging.base.now ++ files)
+
+-- how many of a code are shown at most, where 0 asks for all of them
+abbrev pub kept_count : ℕ → ℕ
+kept_count most = if nat_eq most 0 then 2 ^ 64 - 1 else most
+
+-- how many warnings there are, up to the greatest number of 64 bits
+abbrev pub warned_total : List Warned → ℕ
+warned_total all = min (sum_by (λ warned. warned.cut.count) all) (2 ^ 64 - 1)
+
+-- what so many warnings say: one is as grave as a fault where they are asked for strictly, and else they say nothing
+abbrev pub warned_verdict : Warnings → ℕ → Verdict
+warned_verdict Unasked count = Clean
+warned_verdict Told count = Clean
+warned_verdict Strict count = if count == 0 then Clean else Faulty

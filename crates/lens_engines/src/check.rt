@@ -1,0 +1,329 @@
+//! The check of a file: what is found at each of its levels, in lines for people, editors and programs.
+
+ghost use Rattle.std.specs.Prelude.{◌≡◌, ◌↔◌, ◌++◌, false, length, IfOk, IfSome, IsTrue};
+ghost use Rattle.level_starts.specs.Format.{IsFormat};
+ghost use Rattle.level_starts.specs.Holders.{AreLabelHolders};
+ghost use Rattle.level_starts.specs.Starts.{LevelStartsAt};
+ghost use Rattle.level_starts.specs.declared.format.Format.TheVariants as format;
+ghost use Rattle.map_audit.specs.Findings.{AuditHolds};
+ghost use Rattle.wad_dir.specs.Entries.{names};
+ghost use Rattle.lens_engines.specs.Check.{asked_of, head_in, text_end, Checks, ChecksDoom, ChecksLevel, ChecksOrWants, IsSoundWideAlone, RunsCheck};
+ghost use Rattle.lens_engines.specs.Counts.{AreCounts};
+ghost use Rattle.lens_engines.specs.Head.{head_of};
+ghost use Rattle.lens_engines.specs.LevelText.{unjudged_text};
+ghost use Rattle.lens_engines.specs.Objects.{NamesLump, level_members, other_members};
+ghost use Rattle.line_io.specs.Writes.{Writes};
+ghost use Rattle.lens_engines.specs.Warned.{known_files};
+
+use crate::base::over_base;
+use crate::counts::CodeCounts;
+use crate::form::Form;
+use crate::judged::Judged;
+use crate::judging::{Judging, Warnings};
+use crate::label::label_by;
+use crate::level_lines::write_judged;
+use crate::lines::{Heading, write_format};
+use crate::object::{write_level, write_other};
+use crate::survey::level_at;
+use crate::totals::{Totals, format_totals, judged_totals};
+use crate::unlooked::Unlooked;
+use crate::verdict::LevelsFault;
+use crate::warned::{asked_resources, kept_count, known_warnings, warned_total};
+use le_rec::Sink;
+use level_starts::{Format, Holders, format_of, next_start};
+use line_io::IoFault;
+use map_level::{Level, Reading};
+use map_tree::is_sound;
+use map_warnings::Resources;
+use std::alloc::{AllocError, Allocator};
+use wad_dir::{Set, SetFault};
+
+/// How a file is checked.
+#[derive(Clone, Copy)]
+pub struct Question<'p> {
+    pub form: Form,
+    /// The file's path, as it is written before each line. Nothing is looked up by it.
+    pub path: &'p [u8],
+    /// How many findings, or warnings, of one code are shown of a level at most; 0: all.
+    pub most: u64,
+    pub judging: Judging<'p>,
+}
+
+/// Writes what is found at each level of a file, hidden ones too, in the order of their labels, and answers what it adds up
+/// to.
+///
+/// `NoWad` comes before anything is written, and so may `Memory`; a later `Memory` comes between the lines of two levels,
+/// `Write` within those of one. No finding is kept, and of the warnings those that are shown of one level.
+pub fn check_file<A: Allocator + Copy, W: Sink>(
+    alloc: A,
+    question: &Question<'_>,
+    bytes: &[u8],
+    out: &mut W,
+) -> Result<Totals, LevelsFault>
+    requires { (W.state out.old).failed ≡ false }
+    ensures { RunsCheck W.state (asked_of question.now) bytes.now out.old out.new result }
+{
+    match Set::one(alloc, bytes) {
+        Ok(set) => check_labelled(alloc, question, &set, out),
+        Err(SetFault::File(_, fault)) => Err(LevelsFault::NoWad(fault)),
+        Err(SetFault::Memory) => Err(LevelsFault::Memory),
+    }
+}
+
+// Writes the lines of all levels of a set, or nothing, where there is no memory to look up its labels, textures and flats.
+fn check_labelled<A: Allocator + Copy, W: Sink>(
+    alloc: A,
+    question: &Question<'_>,
+    set: &Set<'_, A>,
+    out: &mut W,
+) -> Result<Totals, LevelsFault>
+    requires alone { length set.now ≡ 1 }
+    requires sound { (W.state out.old).failed ≡ false }
+    ensures { ChecksOrWants W.state (asked_of question.now) set.now out.old out.new result }
+{
+    let Ok(holders) = Holders::of(alloc, set) else {
+        return Err(LevelsFault::Memory);
+    };
+    let Ok(known) = over_base(alloc, question.judging.base, set) else {
+        return Err(LevelsFault::Memory);
+    };
+    let Ok(resources) = asked_resources(alloc, &known, question.judging.warnings) else {
+        return Err(LevelsFault::Memory);
+    };
+    check_set(alloc, question, set, &holders, &resources, out)
+}
+
+// Writes the lines of all levels of a set, whose textures and flats are known where warnings are looked for.
+fn check_set<A: Allocator + Copy, W: Sink>(
+    alloc: A,
+    question: &Question<'_>,
+    set: &Set<'_, A>,
+    holders: &Holders<A>,
+    resources: &Option<Resources<'_, '_, A>>,
+    out: &mut W,
+) -> Result<Totals, LevelsFault>
+    requires holders { AreLabelHolders (names set.now) holders.now.holders }
+    requires known { resources.now ≡ known_files question.now.judging set.now }
+    requires sound { (W.state out.old).failed ≡ false }
+    ensures { Checks (asked_of question.now) set.now (W.state out.old) (W.state out.new) result }
+{
+    let total = set.total();
+    let mut sum = Totals::none();
+    let mut from = 0;
+    'levels: while let Some(g) = next_start(set, from) {
+        let totals = match check_level(alloc, question, set, holders, resources, g, out) {
+            Ok(totals) => totals,
+            Err(fault) => return Err(fault.after(sum.verdict_with(question.judging.warnings))),
+        };
+        sum = sum.with(totals);
+        from = g + 1;
+    }
+    Ok(sum)
+}
+
+// Writes the lines of the level that starts at an entry.
+fn check_level<A: Allocator + Copy, W: Sink>(
+    alloc: A,
+    question: &Question<'_>,
+    set: &Set<'_, A>,
+    holders: &Holders<A>,
+    resources: &Option<Resources<'_, '_, A>>,
+    g: usize,
+    out: &mut W,
+) -> Result<Totals, LevelsFault>
+    requires known { resources.now ≡ known_files question.now.judging set.now }
+    requires starts { LevelStartsAt (names set.now) g }
+    requires holders { AreLabelHolders (names set.now) holders.now.holders }
+    requires sound { (W.state out.old).failed ≡ false }
+    ensures { ChecksLevel W.state (asked_of question.now) set.now g out.old out.new result }
+{
+    let heading = Heading {
+        form: question.form,
+        path: question.path,
+        label: label_by(set, holders, g),
+    };
+    match format_of(set, g) {
+        Format::Doom => check_doom(alloc, question, &heading, set, resources, g, out),
+        format => text_end(
+            question.judging.warnings,
+            format_totals(format),
+            write_unjudged(&heading, format, out),
+        ),
+    }
+}
+
+// Writes that a level isn't judged.
+fn write_unjudged<W: Sink>(
+    heading: &Heading<'_>,
+    format: Format,
+    out: &mut W,
+) -> Result<(), IoFault>
+    requires lump { NamesLump format }
+    requires sound { (W.state out.old).failed ≡ false }
+    ensures { Writes (W.state out.old) (W.state out.new) (unjudged_text (head_of heading.now) format) result }
+{
+    match heading.form {
+        Form::Lines => write_format(heading, format, out),
+        Form::Objects => write_format_object(heading, format, out),
+    }
+}
+
+// Writes the object of a level that isn't judged, as a survey has it.
+fn write_format_object<W: Sink>(
+    heading: &Heading<'_>,
+    format: Format,
+    out: &mut W,
+) -> Result<(), IoFault>
+    requires lump { NamesLump format }
+    requires sound { (W.state out.old).failed ≡ false }
+    ensures { Writes (W.state out.old) (W.state out.new)
+        (level_members heading.now.path.now heading.now.label.name heading.now.label.entry format ++ other_members format) result }
+{
+    let label = &heading.label;
+    write_level(heading.path, &label.name, label.entry as usize, format, out)?;
+    write_other(format, out)
+}
+
+// Writes the lines of a level of Doom's format.
+fn check_doom<A: Allocator + Copy, W: Sink>(
+    alloc: A,
+    question: &Question<'_>,
+    heading: &Heading<'_>,
+    set: &Set<'_, A>,
+    resources: &Option<Resources<'_, '_, A>>,
+    g: usize,
+    out: &mut W,
+) -> Result<Totals, LevelsFault>
+    requires known { resources.now ≡ known_files question.now.judging set.now }
+    requires is { IsFormat set.now g format.Doom }
+    requires heading { head_of heading.now ≡ head_in (asked_of question.now) heading.now.label }
+    requires sound { (W.state out.old).failed ≡ false }
+    ensures { ChecksDoom W.state (asked_of question.now) set.now g heading.now.label out.old out.new result }
+{
+    let judging = question.judging;
+    let level = level_at(set, g, judging.reading);
+    let most = kept_count(question.most);
+    let Ok(told) = judge(alloc, set, g, judging.reading, &level) else {
+        return Err(LevelsFault::Memory);
+    };
+    let Ok(warned) = known_warnings(alloc, &level, resources, &told.counts, most, judging) else {
+        return Err(LevelsFault::Memory);
+    };
+    let counts = told.counts.without(&judging.ignored);
+    let wrote = write_judged(
+        &told.judged,
+        heading,
+        question.most,
+        &counts,
+        &warned,
+        told.sound_wide,
+        out,
+    );
+    let unlooked = Unlooked::of(resources, &judging.ignored);
+    let totals = judged_totals(&counts, warned_total(&warned), unlooked);
+    text_end(judging.warnings, totals, wrote)
+}
+
+// What a level's lines are made of.
+#[derive(Drop)]
+struct Told<'l, 'a, A: Allocator> {
+    judged: Judged<'l, 'a, A>,
+    counts: CodeCounts,
+    sound_wide: bool,
+}
+
+// What the lines of the level at a label are made of. A level is looked through once; where the wide reading is asked, too, what
+// that took is given back before, and it is looked through again for its lines.
+fn judge<'l, 'a, A: Allocator + Copy>(
+    alloc: A,
+    set: &Set<'_, A>,
+    g: usize,
+    reading: Reading,
+    level: &'l Level<'a>,
+) -> Result<Told<'l, 'a, A>, AllocError>
+    requires { IsFormat set.now g format.Doom }
+    ensures judged { IfOk result (λ told. told.judged ≡ level.now) }
+    ensures counts { IfOk result (λ told. AreCounts (AuditHolds level.now) told.counts) }
+    ensures wide { IfOk result (λ told. IsTrue told.sound_wide ↔ IsSoundWideAlone set.now g reading level.now) }
+{
+    let judged = Judged::of(alloc, level)?;
+    let counts = judged.counts();
+    let kept = unless_asked_wide(judged, reading, &counts);
+    let sound_wide = is_sound_wide_alone(alloc, set, g, reading, level, &counts)?;
+    let judged = judged_again(alloc, level, kept)?;
+    Ok(Told {
+        judged,
+        counts,
+        sound_wide,
+    })
+}
+
+// A judged level, let go where the wide reading is asked, too.
+fn unless_asked_wide<'l, 'a, A: Allocator>(
+    judged: Judged<'l, 'a, A>,
+    reading: Reading,
+    counts: &CodeCounts,
+) -> Option<Judged<'l, 'a, A>>
+    ensures { IfSome result (λ again. again ≡ judged.entry) }
+{
+    if reading == Reading::Signed && counts.faults() > 0 {
+        return None;
+    }
+    Some(judged)
+}
+
+// The judged level that was kept, or the level judged again.
+fn judged_again<'l, 'a, A: Allocator + Copy>(
+    alloc: A,
+    level: &'l Level<'a>,
+    kept: Option<Judged<'l, 'a, A>>,
+) -> Result<Judged<'l, 'a, A>, AllocError>
+    requires { IfSome kept (λ before. before ≡ level.now) }
+    ensures { IfOk result (λ judged. judged ≡ level.now) }
+{
+    match kept {
+        Some(judged) => Ok(judged),
+        None => Judged::of(alloc, level),
+    }
+}
+
+// Whether the wide reading alone finds the level at a label sound.
+fn is_sound_wide_alone<A: Allocator + Copy>(
+    alloc: A,
+    set: &Set<'_, A>,
+    g: usize,
+    reading: Reading,
+    level: &Level<'_>,
+    counts: &CodeCounts,
+) -> Result<bool, AllocError>
+    requires is { IsFormat set.now g format.Doom }
+    requires counts { AreCounts (AuditHolds level.now) counts.now }
+    ensures { IfOk result (λ sound. IsTrue sound ↔ IsSoundWideAlone set.now g reading level.now) }
+{
+    // Only the clauses speak of the level.
+    let _level = level;
+    match reading {
+        Reading::Wide => Ok(false),
+        Reading::Signed => {
+            if counts.faults() == 0 {
+                return Ok(false);
+            }
+            let wide = level_at(set, g, Reading::Wide);
+            is_sound(alloc, &wide)
+        }
+    }
+}
+
+// The end of a level's text: its totals, where the text was written.
+fn text_end(
+    warnings: Warnings,
+    totals: Totals,
+    wrote: Result<(), IoFault>,
+) -> Result<Totals, LevelsFault>
+    ensures { result ≡ text_end warnings totals wrote }
+{
+    match wrote {
+        Ok(()) => Ok(totals),
+        Err(_) => Err(LevelsFault::Write(totals.verdict_with(warnings))),
+    }
+}

@@ -1,0 +1,259 @@
+//! What is counted over levels, files and a run.
+
+ghost use Rattle.std.specs.Prelude.{◌≡◌, [], false};
+ghost use Rattle.line_io.specs.Writes.{Writes};
+ghost use Rattle.std.specs.Prelude.{◌+◌, ◌≤◌, ◌++◌, length};
+ghost use Rattle.lens_engines.specs.Totals.{format_totals, found_text, judged_totals, levels_text, totals_line, warnings_text};
+ghost use Rattle.lens_engines.specs.TotalsObject.{found_numbers, levels_members, totals_object, totals_text, warnings_number};
+
+use crate::counts::CodeCounts;
+use crate::form::Form;
+use crate::judging::Warnings;
+use crate::lines::write_both;
+use crate::object::prepend_number;
+use crate::unlooked::Unlooked;
+use crate::verdict::Verdict;
+use le_rec::Sink;
+use level_starts::Format;
+use line_io::{IoFault, TextLine};
+
+/// How many levels there are, their faults, notes and warnings, and how many of the levels aren't judged. Each number stops at
+/// the greatest of 64 bits.
+#[derive(Clone, Copy, Debug, PartialEq, Eq)]
+pub struct Totals {
+    pub levels: u64,
+    pub faults: u64,
+    pub notes: u64,
+    /// 0 where warnings aren't asked for.
+    pub warnings: u64,
+    /// Levels that lack a lump, or one of whose lumps isn't inside the file.
+    pub broken: u64,
+    /// Levels in a format that isn't read.
+    pub unread: u64,
+    /// What wasn't looked for, though it was asked for, at one of the levels or more.
+    pub unlooked: Unlooked,
+}
+
+/// The totals of a judged level with so many warnings, at which so much wasn't looked for.
+pub fn judged_totals(counts: &CodeCounts, warnings: u64, unlooked: Unlooked) -> Totals
+    ensures { result ≡ judged_totals counts.now warnings unlooked }
+{
+    Totals {
+        levels: 1,
+        faults: counts.faults(),
+        notes: counts.notes(),
+        warnings,
+        broken: 0,
+        unread: 0,
+        unlooked,
+    }
+}
+
+/// The totals of a level of another format than Doom's.
+pub fn format_totals(format: Format) -> Totals
+    ensures { result ≡ format_totals format }
+{
+    let (broken, unread) = match format {
+        Format::Incomplete(_) | Format::Outside(_) => (1, 0),
+        Format::Udmf | Format::Hexen | Format::Extended(_) => (0, 1),
+        Format::Doom => (0, 0),
+    };
+    Totals {
+        levels: 1,
+        faults: 0,
+        notes: 0,
+        warnings: 0,
+        broken,
+        unread,
+        unlooked: Unlooked::none(),
+    }
+}
+
+impl Totals {
+    ghost use Rattle.lens_engines.specs.Totals.{no_totals, totals_with, verdict_of_totals, verdict_with};
+
+    /// The totals of no level.
+    pub fn none() -> Totals
+        ensures { result ≡ no_totals }
+    {
+        Totals {
+            levels: 0,
+            faults: 0,
+            notes: 0,
+            warnings: 0,
+            broken: 0,
+            unread: 0,
+            unlooked: Unlooked::none(),
+        }
+    }
+
+    /// Both together.
+    pub fn with(self, other: Totals) -> Totals
+        ensures { result ≡ totals_with self other }
+    {
+        Totals {
+            levels: self.levels.saturating_add(other.levels),
+            faults: self.faults.saturating_add(other.faults),
+            notes: self.notes.saturating_add(other.notes),
+            warnings: self.warnings.saturating_add(other.warnings),
+            broken: self.broken.saturating_add(other.broken),
+            unread: self.unread.saturating_add(other.unread),
+            unlooked: self.unlooked.with(other.unlooked),
+        }
+    }
+
+    /// What they say, warnings aside: a fault or a level that lacks a lump goes before one that isn't read.
+    pub fn verdict(&self) -> Verdict
+        ensures { result ≡ verdict_of_totals self.now }
+    {
+        if self.faults == 0 && self.broken == 0 {
+            if self.unread == 0 {
+                Verdict::Clean
+            } else {
+                Verdict::Unjudged
+            }
+        } else {
+            Verdict::Faulty
+        }
+    }
+
+    /// What they say where warnings are asked for so.
+    pub fn verdict_with(&self, warnings: Warnings) -> Verdict
+        ensures { result ≡ verdict_with warnings self.now }
+    {
+        self.verdict().graver(warnings.verdict(self.warnings))
+    }
+}
+
+/// Writes the totals of so many files, with the warnings where they were asked for.
+pub fn write_totals<W: Sink>(
+    form: Form,
+    files: u64,
+    warnings: Warnings,
+    totals: &Totals,
+    out: &mut W,
+) -> Result<(), IoFault>
+    requires { (W.state out.old).failed ≡ false }
+    ensures { Writes (W.state out.old) (W.state out.new) (totals_text form files warnings totals.now) result }
+{
+    match form {
+        Form::Lines => write_totals_line(files, warnings, totals, out),
+        Form::Objects => write_totals_object(files, warnings, totals, out),
+    }
+}
+
+fn write_totals_object<W: Sink>(
+    files: u64,
+    warnings: Warnings,
+    totals: &Totals,
+    out: &mut W,
+) -> Result<(), IoFault>
+    requires { (W.state out.old).failed ≡ false }
+    ensures { Writes (W.state out.old) (W.state out.new) (totals_object files warnings totals.now) result }
+{
+    write_numbers(files, warnings, totals, out)?;
+    write_both(totals.unlooked.member(), b"}\n", out)
+}
+
+// The members that are numbers.
+fn write_numbers<W: Sink>(
+    files: u64,
+    warnings: Warnings,
+    totals: &Totals,
+    out: &mut W,
+) -> Result<(), IoFault>
+    requires { (W.state out.old).failed ≡ false }
+    ensures { Writes (W.state out.old) (W.state out.new)
+        (levels_members files totals.now ++ found_numbers warnings totals.now) result }
+{
+    let mut levels = TextLine::new();
+    prepend_number(&mut levels, b"files", files);
+    levels.prepend_natural(totals.levels);
+    levels.prepend_bytes(b"{\"levels\":");
+    let mut found = TextLine::new();
+    prepend_found_numbers(&mut found, warnings, totals);
+    write_both(levels.as_bytes(), found.as_bytes(), out)
+}
+
+// `,"faults":F,"notes":K,["warnings":V,]"not_judged":U`
+fn prepend_found_numbers(line: &mut TextLine, warnings: Warnings, totals: &Totals)
+    requires { line.old ≡ [] }
+    ensures { line.new ≡ found_numbers warnings totals.now }
+{
+    prepend_number(
+        line,
+        b"not_judged",
+        totals.broken.saturating_add(totals.unread),
+    );
+    prepend_warnings_number(line, warnings, totals.warnings);
+    prepend_number(line, b"notes", totals.notes);
+    prepend_number(line, b"faults", totals.faults);
+}
+
+// `,"warnings":V`, where they were asked for
+fn prepend_warnings_number(line: &mut TextLine, warnings: Warnings, count: u64)
+    requires { length line.old ≤ 40 }
+    ensures text { line.new ≡ warnings_number warnings count line.old }
+    ensures length { length line.new ≤ length line.old + 32 }
+{
+    match warnings {
+        Warnings::Unasked => {}
+        Warnings::Told | Warnings::Strict => prepend_number(line, b"warnings", count),
+    }
+}
+
+fn write_totals_line<W: Sink>(
+    files: u64,
+    warnings: Warnings,
+    totals: &Totals,
+    out: &mut W,
+) -> Result<(), IoFault>
+    requires { (W.state out.old).failed ≡ false }
+    ensures { Writes (W.state out.old) (W.state out.new) (totals_line files warnings totals.now) result }
+{
+    let mut levels = TextLine::new();
+    prepend_levels(&mut levels, files, totals);
+    let mut found = TextLine::new();
+    prepend_found(&mut found, warnings, totals);
+    write_both(levels.as_bytes(), found.as_bytes(), out)
+}
+
+// `N levels in M files: `
+fn prepend_levels(line: &mut TextLine, files: u64, totals: &Totals)
+    requires { line.old ≡ [] }
+    ensures { line.new ≡ levels_text files totals.now }
+{
+    line.prepend_bytes(b" files: ");
+    line.prepend_natural(files);
+    line.prepend_bytes(b" levels in ");
+    line.prepend_natural(totals.levels);
+}
+
+// `F faults, K notes, [V warnings, ]U not judged`
+fn prepend_found(line: &mut TextLine, warnings: Warnings, totals: &Totals)
+    requires { line.old ≡ [] }
+    ensures { line.new ≡ found_text warnings totals.now }
+{
+    line.prepend_bytes(b" not judged\n");
+    line.prepend_natural(totals.broken.saturating_add(totals.unread));
+    prepend_warnings(line, warnings, totals.warnings);
+    line.prepend_bytes(b" notes, ");
+    line.prepend_natural(totals.notes);
+    line.prepend_bytes(b" faults, ");
+    line.prepend_natural(totals.faults);
+}
+
+// `V warnings, `, where they were asked for
+fn prepend_warnings(line: &mut TextLine, warnings: Warnings, count: u64)
+    requires { length line.old ≤ 40 }
+    ensures text { line.new ≡ warnings_text warnings count line.old }
+    ensures length { length line.new ≤ length line.old + 31 }
+{
+    match warnings {
+        Warnings::Unasked => {}
+        Warnings::Told | Warnings::Strict => {
+            line.prepend_bytes(b" warnings, ");
+            line.prepend_natural(count);
+        }
+    }
+}

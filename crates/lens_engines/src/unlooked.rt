@@ -1,0 +1,65 @@
+//! Which warnings weren't looked for.
+
+ghost use Rattle.std.specs.Prelude.{◌≡◌, length, ◌≤◌};
+ghost use Rattle.lens_engines.specs.Unlooked.{AreUnlooked, none_unlooked, unlooked_member, unlooked_with};
+
+use crate::ignored::Ignored;
+use map_warnings::{Resources, WarningCode};
+use std::alloc::Allocator;
+
+/// Which warnings weren't looked for, though they were asked for, as no file has what they want to know.
+#[derive(Clone, Copy, Debug, PartialEq, Eq)]
+pub struct Unlooked {
+    /// W9, as TEXTURE1 isn't found.
+    pub textures: bool,
+    /// W10, as there is no F_START.
+    pub flats: bool,
+}
+
+impl Unlooked {
+    /// All were looked for.
+    pub fn none() -> Unlooked
+        ensures { result ≡ none_unlooked }
+    {
+        Unlooked {
+            textures: false,
+            flats: false,
+        }
+    }
+
+    /// Those of a level whose textures and flats are these, where they are asked for. What is ignored isn't asked for.
+    pub fn of<A: Allocator>(resources: &Option<Resources<'_, '_, A>>, ignored: &Ignored) -> Unlooked
+        ensures { AreUnlooked ignored.now resources.now result }
+    {
+        match resources {
+            Some(known) => Unlooked {
+                textures: !known.has_textures() && !ignored.ignores_warning(WarningCode::W9),
+                flats: !known.has_flats() && !ignored.ignores_warning(WarningCode::W10),
+            },
+            None => Unlooked::none(),
+        }
+    }
+
+    /// Both together.
+    pub fn with(self, other: Unlooked) -> Unlooked
+        ensures { result ≡ unlooked_with self other }
+    {
+        Unlooked {
+            textures: self.textures || other.textures,
+            flats: self.flats || other.flats,
+        }
+    }
+
+    /// `,"unlooked":[<codes>]`, where there are some.
+    pub fn member(self) -> &'static [u8]
+        ensures text { result.now ≡ unlooked_member self }
+        ensures short { length result.now ≤ 30 }
+    {
+        match (self.textures, self.flats) {
+            (true, true) => b",\"unlooked\":[\"W9\",\"W10\"]",
+            (true, false) => b",\"unlooked\":[\"W9\"]",
+            (false, true) => b",\"unlooked\":[\"W10\"]",
+            (false, false) => b"",
+        }
+    }
+}

@@ -1,0 +1,61 @@
+//! What is said of a file, and why nothing is.
+
+use thiserror::Error;
+use wad_dir::WadFault;
+
+/// What was found in a file, or at one of its levels.
+#[derive(Clone, Copy, Debug, PartialEq, Eq)]
+pub enum Verdict {
+    /// All levels were judged, and none has a fault.
+    Clean,
+    /// A level is in a format that isn't judged.
+    Unjudged,
+    /// A level has a fault, or a lump of it isn't there or isn't inside the file, or a warning where these are as grave. It goes
+    /// before `Unjudged`.
+    Faulty,
+}
+
+impl Verdict {
+    ghost use Rattle.std.specs.Prelude.{◌≡◌};
+    ghost use Rattle.lens_engines.specs.Survey.{graver};
+
+    /// The graver of two verdicts.
+    pub fn graver(self, other: Verdict) -> Verdict
+        ensures { result ≡ graver self other }
+    {
+        match (self, other) {
+            (Verdict::Faulty, _) | (_, Verdict::Faulty) => Verdict::Faulty,
+            (Verdict::Unjudged, _) | (_, Verdict::Unjudged) => Verdict::Unjudged,
+            (Verdict::Clean, Verdict::Clean) => Verdict::Clean,
+        }
+    }
+}
+
+/// Why going over a file stopped.
+#[derive(Clone, Copy, Debug, PartialEq, Eq, Error)]
+pub enum LevelsFault {
+    /// The file's bytes have no directory. Nothing was written.
+    #[error("{0}")]
+    NoWad(WadFault),
+    /// The output failed. The gravest of what was found up to there, also of the level whose text was being written.
+    #[error("the output can't be written")]
+    Write(Verdict),
+    /// A growth was refused.
+    #[error("no memory left")]
+    Memory,
+}
+
+impl LevelsFault {
+    ghost use Rattle.std.specs.Prelude.{◌≡◌};
+    ghost use Rattle.lens_engines.specs.Survey.{fault_after};
+
+    /// The same fault, where levels of this verdict were told before.
+    pub(crate) fn after(self, before: Verdict) -> LevelsFault
+        ensures { result ≡ fault_after before self }
+    {
+        match self {
+            LevelsFault::Write(found) => LevelsFault::Write(before.graver(found)),
+            LevelsFault::NoWad(_) | LevelsFault::Memory => self,
+        }
+    }
+}

@@ -1,0 +1,373 @@
+//! What is told of a level's warnings.
+
+ghost use Rattle.std.specs.Prelude.{◌≡◌, ◌↔◌, ◌-◌, ◌<◌, IfOk, IsTrue, OnOk, false, length, slice_index_or};
+ghost use Rattle.std.specs.List.{flat_map};
+ghost use Rattle.line_io.specs.Writes.{Writes};
+ghost use Rattle.map_audit.specs.Findings.{AuditHolds};
+ghost use Rattle.map_warnings.specs.declared.warning.WarningCode.TheVariants.{W1};
+ghost use Rattle.map_tree.specs.Sound.{IsSound};
+ghost use Rattle.map_warnings.specs.Warnings.{Tells};
+ghost use Rattle.lens_engines.specs.Counts.{AreCounts};
+ghost use Rattle.lens_engines.specs.Head.{head_of};
+ghost use Rattle.lens_engines.specs.Ignored.{WarnsUnlessIgnored};
+ghost use Rattle.lens_engines.specs.LevelText.{warning_text};
+ghost use Rattle.lens_engines.specs.Owners.{AreOwners};
+ghost use Rattle.lens_engines.specs.Warned.{AddsWarned, AreAskedFor, AreWarned, kept_count, warned_total, warning_order, where_asked};
+ghost use Rattle.lens_engines.specs.WarnedText.{more_warnings, warned_part, warned_text};
+
+use crate::counts::CodeCounts;
+use crate::finding_object::{write_left_warnings_object, write_warning_object};
+use crate::form::Form;
+use crate::ignored::{Ignored, WARNING_COUNT};
+use crate::judging::{Judging, Warnings};
+use crate::lines::Heading;
+use crate::warning_lines::{write_left_warnings, write_warning};
+use le_rec::Sink;
+use line_io::IoFault;
+use map_level::Level;
+use map_warnings::{Checks, Resources, Told, Warning, WarningCode};
+use std::alloc::{AllocError, Allocator, Global};
+use std::marker::Model;
+use wad_dir::Set;
+
+// The codes in their order.
+const WARNINGS: [WarningCode; WARNING_COUNT] = [
+    WarningCode::W1,
+    WarningCode::W2,
+    WarningCode::W3,
+    WarningCode::W4,
+    WarningCode::W5,
+    WarningCode::W6,
+    WarningCode::W7,
+    WarningCode::W8,
+    WarningCode::W9,
+    WarningCode::W10,
+    WarningCode::W11,
+];
+
+/// What is told of one code of warnings: the first of them, and how many there are.
+#[derive(Debug, Drop)]
+pub struct Warned<A: Allocator = Global> {
+    code: WarningCode,
+    told: Told<A>,
+}
+
+impl<A: Allocator> Model for Warned<A> {
+    ghost use Rattle.lens_engines.specs.Warned as warned;
+
+    ghost Value = { warned.Warned };
+
+    ghost view = { λ w. record { code = w.code; cut = w.told } };
+}
+
+impl<A: Allocator> Warned<A> {
+    ghost use Rattle.std.specs.Prelude.{◌≡◌};
+
+    /// The code.
+    pub fn code(&self) -> WarningCode
+        ensures { result ≡ self.now.code }
+    {
+        self.code
+    }
+
+    /// How many there are.
+    pub fn count(&self) -> usize
+        ensures { result ≡ self.now.cut.count }
+    {
+        self.told.count()
+    }
+}
+
+/// The textures and the flats of a set of files, where warnings are looked for. They are looked through once for all levels.
+pub fn asked_resources<'s, 'a, A: Allocator + Copy>(
+    alloc: A,
+    set: &'s Set<'a, A>,
+    warnings: Warnings,
+) -> Result<Option<Resources<'s, 'a, A>>, AllocError>
+    ensures { IfOk result (λ resources. resources ≡ where_asked warnings set.now) }
+{
+    match warnings {
+        Warnings::Unasked => Ok(None),
+        Warnings::Told | Warnings::Strict => {
+            let resources = Resources::of(alloc, set)?;
+            Ok(Some(resources))
+        }
+    }
+}
+
+/// What is told of a level's warnings where they are asked for so, so many of one code at most: nothing where they aren't looked
+/// for.
+pub fn asked_warnings<A: Allocator + Copy>(
+    alloc: A,
+    level: &Level<'_>,
+    resources: &Option<Resources<'_, '_, A>>,
+    most: usize,
+    judging: Judging<'_>,
+) -> Result<Vec<Warned<A>, A>, AllocError>
+    ensures { IfOk result (λ all. AreAskedFor judging.entry resources.now level.now most all.items) }
+{
+    match judging.warnings {
+        Warnings::Unasked => Ok(Vec::new(alloc)),
+        Warnings::Told | Warnings::Strict => {
+            warnings_of(alloc, level, resources, &judging.ignored, most)
+        }
+    }
+}
+
+/// The same where it is known how often each code of a finding holds of the level.
+pub(crate) fn known_warnings<A: Allocator + Copy>(
+    alloc: A,
+    level: &Level<'_>,
+    resources: &Option<Resources<'_, '_, A>>,
+    counts: &CodeCounts,
+    most: usize,
+    judging: Judging<'_>,
+) -> Result<Vec<Warned<A>, A>, AllocError>
+    requires { AreCounts (AuditHolds level.now) counts.now }
+    ensures { IfOk result (λ all. AreAskedFor judging.entry resources.now level.now most all.items) }
+{
+    match judging.warnings {
+        Warnings::Unasked => Ok(Vec::new(alloc)),
+        Warnings::Told | Warnings::Strict => {
+            counted_warnings(alloc, level, resources, counts, &judging.ignored, most)
+        }
+    }
+}
+
+/// How many of a code are shown at most, where 0 asks for all.
+pub fn kept_count(most: u64) -> usize
+    ensures { result ≡ kept_count most }
+{
+    if most == 0 { usize::MAX } else { most as usize }
+}
+
+/// How many warnings there are, up to the greatest number of 64 bits.
+pub fn warned_total<A: Allocator>(all: &[Warned<A>]) -> u64
+    ensures { result ≡ warned_total all.now }
+{
+    let mut sum: u64 = 0;
+    'codes: for i in 0..all.len() {
+        sum = sum.saturating_add(all[i].count() as u64);
+    }
+    sum
+}
+
+/// What is told of each code of a level's warnings, so many of one code at most, and none of an ignored one.
+pub fn warnings_of<A: Allocator + Copy>(
+    alloc: A,
+    level: &Level<'_>,
+    resources: &Option<Resources<'_, '_, A>>,
+    ignored: &Ignored,
+    most: usize,
+) -> Result<Vec<Warned<A>, A>, AllocError>
+    ensures { IfOk result (λ all. AreWarned ignored.now resources.now level.now most all.items) }
+{
+    let checks = Checks::of(alloc, level)?;
+    let all = warned_by(alloc, &checks, resources, ignored, most)?;
+    Ok(all)
+}
+
+// The same where it is known how often each code of a finding holds.
+fn counted_warnings<A: Allocator + Copy>(
+    alloc: A,
+    level: &Level<'_>,
+    resources: &Option<Resources<'_, '_, A>>,
+    counts: &CodeCounts,
+    ignored: &Ignored,
+    most: usize,
+) -> Result<Vec<Warned<A>, A>, AllocError>
+    requires { AreCounts (AuditHolds level.now) counts.now }
+    ensures { IfOk result (λ all. AreWarned ignored.now resources.now level.now most all.items) }
+{
+    let checks = counted_checks(alloc, level, counts)?;
+    let all = warned_by(alloc, &checks, resources, ignored, most)?;
+    Ok(all)
+}
+
+// A level for its warnings. A sound one isn't looked over again.
+fn counted_checks<'l, 'a, A: Allocator + Copy>(
+    alloc: A,
+    level: &'l Level<'a>,
+    counts: &CodeCounts,
+) -> Result<Checks<'l, 'a>, AllocError>
+    requires { AreCounts (AuditHolds level.now) counts.now }
+    ensures { IfOk result (λ checks. checks ≡ level.now) }
+{
+    if is_faultless(level, counts) {
+        return Ok(Checks::of_sound(level));
+    }
+    Checks::of(alloc, level)
+}
+
+// Whether a level has no fault, where it is known how often each code holds.
+fn is_faultless(level: &Level<'_>, counts: &CodeCounts) -> bool
+    requires { AreCounts (AuditHolds level.now) counts.now }
+    ensures { IsTrue result ↔ IsSound level.now }
+{
+    // Only the clauses speak of the level.
+    let _level = level;
+    counts.faults() == 0
+}
+
+// What is told of each code, so many of one code at most.
+fn warned_by<A: Allocator + Copy>(
+    alloc: A,
+    checks: &Checks<'_, '_>,
+    resources: &Option<Resources<'_, '_, A>>,
+    ignored: &Ignored,
+    most: usize,
+) -> Result<Vec<Warned<A>, A>, AllocError>
+    ensures { IfOk result (λ all. AreWarned ignored.now resources.now checks.now most all.items) }
+{
+    let mut all = Vec::new(alloc);
+    'codes: for i in 0..WARNING_COUNT {
+        push_code(
+            alloc,
+            checks,
+            resources,
+            ignored,
+            code_at(i),
+            most,
+            &mut all,
+        )?;
+    }
+    Ok(all)
+}
+
+// The code of a rank.
+fn code_at(rank: usize) -> WarningCode
+    requires { rank < 11 }
+    ensures { result ≡ slice_index_or warning_order rank W1 }
+{
+    WARNINGS[rank]
+}
+
+// Adds what is told of a code.
+fn push_code<A: Allocator + Copy>(
+    alloc: A,
+    checks: &Checks<'_, '_>,
+    resources: &Option<Resources<'_, '_, A>>,
+    ignored: &Ignored,
+    code: WarningCode,
+    most: usize,
+    all: &mut Vec<Warned<A>, A>,
+) -> Result<(), AllocError>
+    ensures { OnOk result (AddsWarned ignored.now resources.now checks.now most code all.old.items all.new.items) }
+{
+    let told = told_of(alloc, checks, resources, ignored, code, most)?;
+    all.push(Warned { code, told })?;
+    Ok(())
+}
+
+// The warnings of a code, so many at most: none, where it is ignored.
+fn told_of<A: Allocator + Copy>(
+    alloc: A,
+    checks: &Checks<'_, '_>,
+    resources: &Option<Resources<'_, '_, A>>,
+    ignored: &Ignored,
+    code: WarningCode,
+    most: usize,
+) -> Result<Told<A>, AllocError>
+    ensures told { IfOk result (λ told. Tells (WarnsUnlessIgnored ignored.now resources.now checks.now code) told) }
+    ensures most { IfOk result (λ told. told.most ≡ most) }
+{
+    if ignored.ignores_warning(code) {
+        return Ok(Told::new(alloc, most));
+    }
+    checks.told(alloc, code, resources, most)
+}
+
+/// Writes the lines of a level's warnings, whose sidedefs belong to these linedefs.
+pub fn write_warned<A: Allocator, W: Sink>(
+    heading: &Heading<'_>,
+    level: &Level<'_>,
+    owners: &[Option<u32>],
+    all: &[Warned<A>],
+    out: &mut W,
+) -> Result<(), IoFault>
+    requires owners { AreOwners level.now owners.now }
+    requires sound { (W.state out.old).failed ≡ false }
+    ensures { Writes (W.state out.old) (W.state out.new)
+        (warned_text (head_of heading.now) level.now all.now) result }
+{
+    'codes: for i in 0..all.len() {
+        write_part(heading, level, owners, &all[i], out)?;
+    }
+    Ok(())
+}
+
+// Writes the lines of a code's warnings.
+fn write_part<A: Allocator, W: Sink>(
+    heading: &Heading<'_>,
+    level: &Level<'_>,
+    owners: &[Option<u32>],
+    warned: &Warned<A>,
+    out: &mut W,
+) -> Result<(), IoFault>
+    requires owners { AreOwners level.now owners.now }
+    requires sound { (W.state out.old).failed ≡ false }
+    ensures { Writes (W.state out.old) (W.state out.new)
+        (warned_part (head_of heading.now) level.now warned.now) result }
+{
+    let first = warned.told.first();
+    write_first(heading, level, owners, first, out)?;
+    let left = warned.told.count().saturating_sub(first.len());
+    write_more(heading, warned.code, left, out)
+}
+
+// Writes the lines of some warnings.
+fn write_first<W: Sink>(
+    heading: &Heading<'_>,
+    level: &Level<'_>,
+    owners: &[Option<u32>],
+    first: &[Warning],
+    out: &mut W,
+) -> Result<(), IoFault>
+    requires owners { AreOwners level.now owners.now }
+    requires sound { (W.state out.old).failed ≡ false }
+    ensures { Writes (W.state out.old) (W.state out.new)
+        (flat_map (warning_text (head_of heading.now) level.now) first.now) result }
+{
+    'first: for i in 0..first.len() {
+        write_one(heading, level, owners, first[i], out)?;
+    }
+    Ok(())
+}
+
+// Writes a warning.
+fn write_one<W: Sink>(
+    heading: &Heading<'_>,
+    level: &Level<'_>,
+    owners: &[Option<u32>],
+    warning: Warning,
+    out: &mut W,
+) -> Result<(), IoFault>
+    requires owners { AreOwners level.now owners.now }
+    requires sound { (W.state out.old).failed ≡ false }
+    ensures { Writes (W.state out.old) (W.state out.new) (warning_text (head_of heading.now) level.now warning) result }
+{
+    match heading.form {
+        Form::Lines => write_warning(heading, level, owners, warning, out),
+        Form::Objects => write_warning_object(heading, level, owners, warning, out),
+    }
+}
+
+// Writes how many warnings of a code are left out.
+fn write_more<W: Sink>(
+    heading: &Heading<'_>,
+    code: WarningCode,
+    left: usize,
+    out: &mut W,
+) -> Result<(), IoFault>
+    requires { (W.state out.old).failed ≡ false }
+    ensures { Writes (W.state out.old) (W.state out.new)
+        (more_warnings (head_of heading.now) code left) result }
+{
+    if left == 0 {
+        return Ok(());
+    }
+    match heading.form {
+        Form::Lines => write_left_warnings(heading, code, left as u64, out),
+        Form::Objects => write_left_warnings_object(heading, code, left as u64, out),
+    }
+}

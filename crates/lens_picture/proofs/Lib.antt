@@ -1,3 +1,0 @@
-mod FormatLemmas
-mod FileLemmas
-mod DrawLemmas

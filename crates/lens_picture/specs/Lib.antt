@@ -1,4 +1,0 @@
-pub mod Files
-pub mod Format
-pub mod Told
-pub mod Picture

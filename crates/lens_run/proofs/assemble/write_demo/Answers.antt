@@ -1,7 +1,0 @@
-use Rattle.wad_lens.specs.declared.verdict.Verdict.TheVariants.{Clean}
-use Rattle.lens_run.proofs.JobLemmas.{rest_after}
-use Rattle.lens_run.proofs.assemble.write_demo.Goals as goal
-
-pub returns-in-Ok : goal.returns-in-Ok
-returns-in-Ok g c =
-    rest_after g.O.Write.contents c.args.bytes.now Clean c.args.out.now c.emit.new.out c.write_rest.new.out c.write_rest.result c.in-Ok.ensures.takes.whole c.write_rest.ensures

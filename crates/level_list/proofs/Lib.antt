@@ -1,3 +1,0 @@
-pub mod StartLemmas
-pub mod FormatLemmas
-mod WorkedCases

@@ -1,5 +1,0 @@
-use Rattle.map_level.specs.Opening.{AreThereBelow}
-use Rattle.level_list.proofs.format.first_outside.Given as goal
-
-abbrev pub invariant-loop-k : goal.invariant-loop-k
-invariant-loop-k g l = AreThereBelow l.set l.fn.g l.k

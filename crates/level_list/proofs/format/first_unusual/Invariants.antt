@@ -1,5 +1,0 @@
-use Rattle.level_list.specs.Format.{AreUsualBelow}
-use Rattle.level_list.proofs.format.first_unusual.Given as goal
-
-abbrev pub invariant-loop-k : goal.invariant-loop-k
-invariant-loop-k g l = AreUsualBelow l.set l.fn.g l.k

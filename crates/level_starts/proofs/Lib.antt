@@ -1,0 +1,4 @@
+pub mod StartLemmas
+pub mod FormatLemmas
+pub mod HolderLemmas
+mod WorkedCases

@@ -1,0 +1,4 @@
+pub mod Starts
+pub mod Format
+pub mod Holders
+pub mod Laws

@@ -1,0 +1,11 @@
+//! The levels of a file: where each starts, and in which format it is.
+#![tactic(auto)]
+
+mod format;
+mod holders;
+pub mod laws;
+mod starts;
+
+pub use format::{Format, format_of};
+pub use holders::Holders;
+pub use starts::{is_named, next_start};

@@ -1,7 +1,0 @@
-use Rattle.std.proofs.Common.{[]}
-use Rattle.map_checks.specs.RunNumbers.{AddsRuns}
-use Rattle.map_checks.proofs.ClosingLemmas.{runs_below}
-use Rattle.map_checks.proofs.closing.numbers_of.Given as goal
-
-abbrev pub invariant-linedefs : goal.invariant-linedefs
-invariant-linedefs g l = AddsRuns (runs_below l.level l.i) [] l.numbers.items

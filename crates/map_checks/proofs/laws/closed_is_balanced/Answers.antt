@@ -1,5 +1,0 @@
-use Rattle.map_checks.proofs.ClosingLemmas.{law_closed_is_balanced}
-use Rattle.map_checks.proofs.laws.closed_is_balanced.Goals as goal
-
-pub returns : goal.returns
-returns c = law_closed_is_balanced

@@ -1,6 +1,0 @@
-use Rattle.std.proofs.Common.{◌≡◌}
-use Rattle.map_checks.proofs.KeyLemmas.{keys_below}
-use Rattle.map_checks.proofs.twins.keys_of.Given as goal
-
-abbrev pub invariant-linedefs : goal.invariant-linedefs
-invariant-linedefs g l = l.keys.items ≡ keys_below l.level l.i

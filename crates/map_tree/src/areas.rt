@@ -1,0 +1,77 @@
+//! The areas of a rectangle: how many of its points lie in each sector, and no more.
+
+ghost use Rattle.std.specs.Prelude.{◌≡◌, IfOk, OnOk, length};
+ghost use Rattle.map_geo.specs.Rect.{IsRect};
+ghost use Rattle.map_tree.specs.Areas.{AreAreas, AreCounted};
+ghost use Rattle.map_tree.specs.SectorList.{ListsSectors};
+ghost use Rattle.map_tree.specs.Sound.{IsSound};
+ghost use Rattle.map_tree.specs.Touched.{IsFresh};
+
+use crate::census::{start, take_newest};
+use crate::counts::Areas;
+use crate::parts::{Turn, take_turn};
+use crate::pieces::Piece;
+use crate::sector_counts::SectorCounts;
+use crate::sector_tree::SectorTree;
+use crate::tally::Tally;
+use crate::tree::Tree;
+use map_geo::Rect;
+use map_level::Level;
+use std::alloc::{AllocError, Allocator};
+
+impl Tree<'_, '_> {
+    /// How many points of a rectangle lie in each sector, as `census` tells, in less time, since
+    /// nothing is counted but points.
+    pub fn areas<A: Allocator + Copy>(&self, alloc: A, rect: Rect) -> Result<Areas<A>, AllocError>
+        ensures { IfOk result (AreAreas self.now rect) }
+    {
+        let tree = SectorTree::of(alloc, Tree::of(self.level()))?;
+        tree.areas(alloc, rect)
+    }
+}
+
+impl<B: Allocator> SectorTree<'_, '_, B> {
+    /// How many points of a rectangle lie in each sector. For many rectangles make one `Tally`.
+    pub fn areas<A: Allocator + Copy>(&self, alloc: A, rect: Rect) -> Result<Areas<A>, AllocError>
+        ensures { IfOk result (AreAreas self.now rect) }
+    {
+        Tally::of(alloc, self)?.areas(rect)
+    }
+}
+
+// Adds the points of a rectangle to the counts of their sectors. On its own it has the registers to itself.
+#[inline(never)]
+pub(crate) fn add_points<A: Allocator>(
+    level: &Level<'_>,
+    sectors: &[u16],
+    rect: Rect,
+    counts: &mut SectorCounts<A>,
+    pending: &mut Vec<Piece, A>,
+) -> Result<(), AllocError>
+    requires sound { IsSound level.now }
+    requires listed { ListsSectors level.now sectors.now }
+    requires fresh { IsFresh level.now counts.old }
+    ensures long { length counts.new ≡ length counts.old }
+    ensures valid { IsRect rect }
+    ensures counted { OnOk result (AreCounted level.now rect counts.new) }
+{
+    let nodes = level.nodes();
+    pending.clear();
+    let mut hand = start(level, rect);
+    loop {
+        hand = match take_turn(&nodes, hand) {
+            Turn::Down(next) => next,
+            Turn::Apart(parts) => {
+                pending.push(parts.first)?;
+                parts.second
+            }
+            Turn::AtSsector(t, points) => {
+                counts.add(sectors[usize::from(t)], points)?;
+                match take_newest(pending) {
+                    Some(next) => next,
+                    None => return Ok(()),
+                }
+            }
+        };
+    }
+}

@@ -1,0 +1,10 @@
+use Rattle.std.proofs.Common.{◌≡◌, ◌≤◌, pos, take}
+use Rattle.std.specs.Prelude.{count_by}
+use Rattle.std.specs.Ordering.{int_eq}
+use Rattle.map_warnings.proofs.starts.deathmatch_starts.Given as goal
+
+abbrev pub invariant-loop-k : goal.invariant-loop-k
+invariant-loop-k l = record {
+  counted : l.count ≡ count_by (λ thing. int_eq thing.kind (pos 11)) (take l.k l.things.records);
+  few : l.count ≤ l.k;
+}

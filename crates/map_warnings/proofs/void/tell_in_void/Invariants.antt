@@ -1,0 +1,11 @@
+use Rattle.std.proofs.Common.{◌≡◌}
+use Rattle.map_warnings.specs.Warnings.{TellsBelow}
+use Rattle.map_warnings.specs.Holds.{HoldsOf}
+use Rattle.map_warnings.specs.declared.warning.WarningCode.TheVariants.{W3}
+use Rattle.map_warnings.proofs.void.tell_in_void.Given as goal
+
+abbrev pub invariant-loop-k : goal.invariant-loop-k
+invariant-loop-k g l = record {
+  below : TellsBelow (HoldsOf l.level W3) l.k l.told;
+  most : l.told.most ≡ l.most;
+}

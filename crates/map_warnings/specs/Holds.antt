@@ -1,0 +1,57 @@
+-- Where each warning holds (ours).
+use Rattle.std.specs.Prelude.{◌≡◌, List, Option, None, IsSomeAnd}
+use Rattle.map_level.specs.Level.{Level}
+use Rattle.map_warnings.specs.Warnings.{code_of}
+use Rattle.map_warnings.specs.Closing.{IsUnclosed}
+use Rattle.map_warnings.specs.Bare.{IsBare}
+use Rattle.map_warnings.specs.References.{HasReferences}
+use Rattle.map_warnings.specs.Tag.{IsUntagged}
+use Rattle.map_warnings.specs.Void.{IsInVoid}
+use Rattle.map_tree.specs.Sound.{IsSound}
+use Rattle.map_warnings.specs.Facing.{IsMismatched}
+use Rattle.map_warnings.specs.Twin.{IsTwin}
+use Rattle.map_warnings.specs.Starts.{IsWithoutStart, AreFewStarts}
+use Rattle.map_warnings.specs.Listed.{HasFlats, HasTextures}
+use Rattle.map_warnings.specs.UnknownTexture.{IsUnknownTexture}
+use Rattle.map_warnings.specs.UnknownFlat.{IsUnknownFlat}
+use Rattle.map_warnings.specs.UnknownThing.{IsUnknownThing}
+use Rattle.wad_dir.specs.Wad.{Wad}
+use Rattle.map_warnings.specs.declared.warning.Warning.{Warning}
+use Rattle.map_warnings.specs.declared.warning.Warning.TheVariants.{Unclosed, Bare, InVoid, Untagged, Mismatched, Twin, NoStart, FewStarts, UnknownTexture, UnknownFlat, UnknownThing}
+use Rattle.map_warnings.specs.declared.warning.WarningCode.{WarningCode}
+use Rattle.map_warnings.specs.declared.warning.WarningCode.TheVariants.{W3, W5, W9, W10}
+
+-- a warning holds of a level, whose textures and flats are those of some files where these are known
+abbrev pub Holds : Option (List Wad) → Level → Warning → Type 0
+Holds files level (Unclosed sector vertex) = IsUnclosed level sector vertex
+Holds files level (Bare linedef side part) = IsBare level linedef side part
+Holds files level (InVoid thing) = IsInVoid level thing
+Holds files level (Untagged linedef) = IsUntagged level linedef
+Holds files level (Mismatched ssector first other) = IsMismatched level ssector first other
+Holds files level (Twin linedef earlier) = IsTwin level linedef earlier
+Holds files level (NoStart player) = IsWithoutStart level player
+Holds files level (FewStarts starts) = AreFewStarts level starts
+Holds files level (UnknownTexture sidedef part) = IsSomeAnd files (λ known. IsUnknownTexture known level sidedef part)
+Holds files level (UnknownFlat sector plane) = IsSomeAnd files (λ known. IsUnknownFlat known level sector plane)
+Holds files level (UnknownThing thing) = IsUnknownThing level thing
+
+-- a warning of a code holds of a level with its files
+abbrev pub HoldsIn : Option (List Wad) → Level → WarningCode → Warning → Type 0
+HoldsIn files level code w = (code_of w ≡ code) × Holds files level w
+
+-- a warning of a code holds of a level alone
+abbrev pub HoldsOf : Level → WarningCode → Warning → Type 0
+HoldsOf level code w = HoldsIn None level code w
+
+-- whether warnings of a code are looked for: where the references hold, and those that want to know which ssector is where in a
+-- sound level alone; those of textures and flats where these are known
+abbrev pub IsLookedFor : Option (List Wad) → Level → WarningCode → Type 0
+IsLookedFor files level W3 = IsSound level
+IsLookedFor files level W5 = IsSound level
+IsLookedFor files level W9 = HasReferences level × IsSomeAnd files HasTextures
+IsLookedFor files level W10 = HasReferences level × IsSomeAnd files HasFlats
+IsLookedFor files level code = HasReferences level
+
+-- a warning of a code is told of a level
+abbrev pub IsWarning : Option (List Wad) → Level → WarningCode → Warning → Type 0
+IsWarning files level code w = IsLookedFor files level code × HoldsIn files level code w

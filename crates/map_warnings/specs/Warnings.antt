@@ -1,0 +1,96 @@
+-- Warnings, and the order in which they are told (ours).
+use Rattle.std.specs.Prelude.{◌≡◌, ℕ, ◌+◌, ◌-◌, ◌*◌, ◌^◌, ◌<◌, List, [], ◌∷◌, ◌++◌, length, take, min, nat_lt, if◌then◌else◌}
+use Rattle.map_level.specs.Findings.{AreAllInOrder}
+use Rattle.map_warnings.specs.declared.warning.Side.{Side}
+use Rattle.map_warnings.specs.declared.warning.Side.TheVariants.{Front, Back}
+use Rattle.map_warnings.specs.declared.warning.Part.{Part}
+use Rattle.map_warnings.specs.declared.warning.Part.TheVariants.{Middle, Upper, Lower}
+use Rattle.map_warnings.specs.declared.warning.Plane.{Plane}
+use Rattle.map_warnings.specs.declared.warning.Plane.TheVariants.{Floor, Ceiling}
+use Rattle.map_warnings.specs.declared.warning.Warning.{Warning}
+use Rattle.map_warnings.specs.declared.warning.Warning.TheVariants.{Unclosed, Bare, InVoid, Untagged, Mismatched, Twin, NoStart, FewStarts, UnknownTexture, UnknownFlat, UnknownThing}
+use Rattle.map_warnings.specs.declared.warning.WarningCode.{WarningCode}
+use Rattle.map_warnings.specs.declared.warning.WarningCode.TheVariants.{W1, W2, W3, W4, W5, W6, W7, W8, W9, W10, W11}
+
+-- the code of a warning
+abbrev pub code_of : Warning → WarningCode
+code_of (Unclosed sector vertex) = W1
+code_of (Bare linedef side part) = W2
+code_of (InVoid thing) = W3
+code_of (Untagged linedef) = W4
+code_of (Mismatched ssector first other) = W5
+code_of (Twin linedef earlier) = W6
+code_of (NoStart player) = W7
+code_of (FewStarts starts) = W8
+code_of (UnknownTexture sidedef part) = W9
+code_of (UnknownFlat sector plane) = W10
+code_of (UnknownThing thing) = W11
+
+-- the front before the back
+abbrev pub side_number : Side → ℕ
+side_number Front = 0
+side_number Back = 1
+
+-- the middle before the upper before the lower
+abbrev pub part_number : Part → ℕ
+part_number Middle = 0
+part_number Upper = 1
+part_number Lower = 2
+
+-- of a sidedef's textures the upper before the lower before the middle
+abbrev pub texture_number : Part → ℕ
+texture_number Upper = 0
+texture_number Lower = 1
+texture_number Middle = 2
+
+-- the floor before the ceiling
+abbrev pub plane_number : Plane → ℕ
+plane_number Floor = 0
+plane_number Ceiling = 1
+
+-- where a warning stands among those of its code: by the record, then by side and part or by plane; what can hold only once stands at 0
+abbrev pub rank : Warning → ℕ
+rank (Unclosed sector vertex) = sector * 65536 + vertex
+rank (Bare linedef side part) = linedef * 6 + side_number side * 3 + part_number part
+rank (InVoid thing) = thing
+rank (Untagged linedef) = linedef
+rank (Mismatched ssector first other) = ssector
+rank (Twin linedef earlier) = linedef
+rank (NoStart player) = 0
+rank (FewStarts starts) = 0
+rank (UnknownTexture sidedef part) = sidedef * 3 + texture_number part
+rank (UnknownFlat sector plane) = sector * 2 + plane_number plane
+rank (UnknownThing thing) = thing
+
+-- the warnings that hold
+abbrev pub AreWarnings : (Warning → Type 0) → List Warning → Type 0
+AreWarnings holds all = AreAllInOrder (λ a b. rank a < rank b) holds all
+
+-- the first of a list of warnings, so many at most, and how many there are
+pub record Cut : Type 0 where
+  pub most : ℕ
+  pub first : List Warning
+  pub count : ℕ
+
+-- a cut of a list; its count stops at the greatest number of 64 bits
+pub record IsCut (all : List Warning) (cut : Cut) : Type 0 where
+  pub first : cut.first ≡ take cut.most all
+  pub count : cut.count ≡ min (length all) (2 ^ 64 - 1)
+
+-- of the warnings that hold, so many as a cut has, and how many there are
+pub record Tells (holds : Warning → Type 0) (cut : Cut) : Type 0 where
+  pub all : List Warning
+  pub are : AreWarnings holds all
+  pub is : IsCut all cut
+
+-- of those that hold and stand below a number
+abbrev pub TellsBelow : (Warning → Type 0) → ℕ → Cut → Type 0
+TellsBelow holds bound cut = Tells (λ w. holds w × (rank w < bound)) cut
+
+-- a cut with one warning more
+abbrev pub cut_with : Cut → Warning → Cut
+cut_with cut w = record {
+  most = cut.most;
+  first = if nat_lt (length cut.first) cut.most then cut.first ++ w ∷ [] else cut.first;
+  count = min (cut.count + 1) (2 ^ 64 - 1);
+}

@@ -1,0 +1,225 @@
+//! All warnings, by their codes.
+
+ghost use Rattle.std.specs.Prelude.{◌≡◌, ◌↔◌, IfOk, IsSomeAnd, IsTrue};
+ghost use Rattle.map_tree.specs.Sound.{IsSound};
+ghost use Rattle.map_warnings.specs.Warnings.{Tells};
+ghost use Rattle.map_warnings.specs.Holds.{HoldsIn, IsLookedFor};
+ghost use Rattle.map_warnings.specs.Listed.{HasFlats, HasTextures};
+ghost use Rattle.map_warnings.specs.References.{HasReferences};
+
+use crate::bare::bare_walls;
+use crate::closing::unclosed;
+use crate::facing::mismatched;
+use crate::references::has_references;
+use crate::resources::Resources;
+use crate::starts::{few_starts, missing_start};
+use crate::tags::untagged;
+use crate::told::Told;
+use crate::twins::twins;
+use crate::unknown_flat::unknown_flats;
+use crate::unknown_texture::unknown_textures;
+use crate::unknown_thing::unknown_things;
+use crate::void::in_void;
+use crate::warning::WarningCode;
+use map_level::Level;
+use map_tree::is_sound;
+use std::alloc::{AllocError, Allocator};
+use std::marker::Model;
+
+/// A level whose warnings are asked for. It lends the level, and has found out whether its references hold and whether it is sound.
+#[derive(Drop)]
+pub struct Checks<'l, 'a> {
+    level: &'l Level<'a>,
+    has_references: bool,
+    is_sound: bool,
+}
+
+impl<'l, 'a> Model for Checks<'l, 'a> {
+    ghost use Rattle.std.specs.Prelude.{◌↔◌, IsTrue};
+    ghost use Rattle.map_level.specs.Level.{Level};
+    ghost use Rattle.map_tree.specs.Sound.{IsSound};
+    ghost use Rattle.map_warnings.specs.References.{HasReferences};
+
+    ghost Value = { Level };
+
+    ghost view = { λ c. c.level.now };
+
+    ghost invariant = { λ c. (IsTrue c.has_references ↔ HasReferences c.level.now) × (IsTrue c.is_sound ↔ IsSound c.level.now) };
+}
+
+impl<'l, 'a> Checks<'l, 'a> {
+    ghost use Rattle.std.specs.Prelude.{◌↔◌, IsTrue};
+    ghost use Rattle.map_tree.specs.Sound.{IsSound};
+    ghost use Rattle.map_warnings.specs.Holds.{IsWarning};
+
+    /// A level, whose references and nodes are looked over.
+    pub fn of<A: Allocator + Copy>(
+        alloc: A,
+        level: &'l Level<'a>,
+    ) -> Result<Checks<'l, 'a>, AllocError>
+        ensures { IfOk result (λ checks. checks ≡ level.now) }
+    {
+        let is_sound = is_sound(alloc, level)?;
+        Ok(Checks {
+            level,
+            has_references: references_hold(level, is_sound),
+            is_sound,
+        })
+    }
+
+    /// A sound level, as `is_sound` tells it: it is looked over no more.
+    pub fn of_sound(level: &'l Level<'a>) -> Checks<'l, 'a>
+        requires { IsSound level.now }
+        ensures { result ≡ level.now }
+    {
+        let is_sound = true;
+        Checks {
+            level,
+            has_references: references_hold(level, is_sound),
+            is_sound,
+        }
+    }
+
+    // The level.
+    fn level(&self) -> &Level<'a>
+        ensures { result.now ≡ self.now }
+    {
+        self.level
+    }
+
+    /// Whether warnings of a code are looked for: W3 and W5 in a sound level, and the others where its references hold; W9 and W10
+    /// where the textures and the flats of its files are known besides.
+    pub fn looks_for<A: Allocator>(
+        &self,
+        code: WarningCode,
+        resources: &Option<Resources<'_, '_, A>>,
+    ) -> bool
+        ensures { IsTrue result ↔ IsLookedFor resources.now self.now code }
+    {
+        match code {
+            WarningCode::W3 => self.is_sound,
+            WarningCode::W5 => self.is_sound,
+            WarningCode::W1 => self.has_references,
+            WarningCode::W2 => self.has_references,
+            WarningCode::W4 => self.has_references,
+            WarningCode::W6 => self.has_references,
+            WarningCode::W7 => self.has_references,
+            WarningCode::W8 => self.has_references,
+            WarningCode::W9 => self.has_references && knows_textures(resources),
+            WarningCode::W10 => self.has_references && knows_flats(resources),
+            WarningCode::W11 => self.has_references,
+        }
+    }
+
+    /// The warnings of a code, in their order: the first of them, so many at most, and how many there are. None where the
+    /// code isn't looked for. The resources are those of the files in which the game finds the level's textures and flats; only W9 and
+    /// W10 ask for them.
+    pub fn told<A: Allocator + Copy>(
+        &self,
+        alloc: A,
+        code: WarningCode,
+        resources: &Option<Resources<'_, '_, A>>,
+        most: usize,
+    ) -> Result<Told<A>, AllocError>
+        ensures told { IfOk result (λ told. Tells (IsWarning resources.now self.now code) told) }
+        ensures most { IfOk result (λ told. told.most ≡ most) }
+    {
+        if !self.looks_for(code, resources) {
+            return Ok(Told::new(alloc, most));
+        }
+        let told = warnings(alloc, self.level(), code, resources, most)?;
+        Ok(told)
+    }
+}
+
+// Whether the references of a level hold, where it's known whether it is sound: a sound level has no fault.
+fn references_hold(level: &Level<'_>, is_sound: bool) -> bool
+    requires { IsTrue is_sound → IsSound level.now }
+    ensures { IsTrue result ↔ HasReferences level.now }
+{
+    if is_sound {
+        return true;
+    }
+    has_references(level)
+}
+
+// The warnings of a code that is looked for.
+fn warnings<A: Allocator + Copy>(
+    alloc: A,
+    level: &Level<'_>,
+    code: WarningCode,
+    resources: &Option<Resources<'_, '_, A>>,
+    most: usize,
+) -> Result<Told<A>, AllocError>
+    requires { IsLookedFor resources.now level.now code }
+    ensures told { IfOk result (λ told. Tells (HoldsIn resources.now level.now code) told) }
+    ensures most { IfOk result (λ told. told.most ≡ most) }
+{
+    match code {
+        WarningCode::W1 => unclosed(alloc, level, most),
+        WarningCode::W2 => bare_walls(alloc, level, most),
+        WarningCode::W3 => in_void(alloc, level, most),
+        WarningCode::W4 => untagged(alloc, level, most),
+        WarningCode::W5 => mismatched(alloc, level, most),
+        WarningCode::W6 => twins(alloc, level, most),
+        WarningCode::W7 => missing_start(alloc, level, most),
+        WarningCode::W8 => few_starts(alloc, level, most),
+        WarningCode::W9 => textures_in(alloc, level, resources, most),
+        WarningCode::W10 => flats_in(alloc, level, resources, most),
+        WarningCode::W11 => unknown_things(alloc, level, most),
+    }
+}
+
+// Whether the textures of some files are known.
+fn knows_textures<A: Allocator>(resources: &Option<Resources<'_, '_, A>>) -> bool
+    ensures { IsTrue result ↔ IsSomeAnd resources.now HasTextures }
+{
+    match resources {
+        Some(resources) => resources.has_textures(),
+        None => false,
+    }
+}
+
+// Whether the flats of some files are known.
+fn knows_flats<A: Allocator>(resources: &Option<Resources<'_, '_, A>>) -> bool
+    ensures { IsTrue result ↔ IsSomeAnd resources.now HasFlats }
+{
+    match resources {
+        Some(resources) => resources.has_flats(),
+        None => false,
+    }
+}
+
+// W9 where the textures are known.
+fn textures_in<A: Allocator + Copy>(
+    alloc: A,
+    level: &Level<'_>,
+    resources: &Option<Resources<'_, '_, A>>,
+    most: usize,
+) -> Result<Told<A>, AllocError>
+    requires { IsSomeAnd resources.now HasTextures }
+    ensures told { IfOk result (λ told. Tells (HoldsIn resources.now level.now WarningCode.W9) told) }
+    ensures most { IfOk result (λ told. told.most ≡ most) }
+{
+    match resources {
+        Some(resources) => unknown_textures(alloc, level, resources, most),
+        None => unreachable!(),
+    }
+}
+
+// W10 where the flats are known.
+fn flats_in<A: Allocator + Copy>(
+    alloc: A,
+    level: &Level<'_>,
+    resources: &Option<Resources<'_, '_, A>>,
+    most: usize,
+) -> Result<Told<A>, AllocError>
+    requires { IsSomeAnd resources.now HasFlats }
+    ensures told { IfOk result (λ told. Tells (HoldsIn resources.now level.now WarningCode.W10) told) }
+    ensures most { IfOk result (λ told. told.most ≡ most) }
+{
+    match resources {
+        Some(resources) => unknown_flats(alloc, level, resources, most),
+        None => unreachable!(),
+    }
+}

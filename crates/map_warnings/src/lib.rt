@@ -1,0 +1,34 @@
+//! What every reference of a level allows and no mapper wants: warnings.
+#![tactic(auto)]
+
+mod apart;
+mod balance;
+mod bare;
+mod checks;
+mod closing;
+mod facing;
+pub mod laws;
+mod listed;
+mod names;
+mod records;
+mod references;
+mod resources;
+mod sector_links;
+mod starts;
+mod tags;
+mod told;
+mod twins;
+mod unknown_flat;
+mod unknown_texture;
+mod unknown_thing;
+mod void;
+mod warning;
+
+pub use checks::Checks;
+pub use closing::SideRun;
+pub use names::Names;
+pub use references::has_references;
+pub use resources::Resources;
+pub use told::Told;
+pub use twins::Ends;
+pub use warning::{Part, Plane, Side, Warning, WarningCode};

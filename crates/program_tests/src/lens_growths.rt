@@ -1,0 +1,228 @@
+//! The calls of `lens_engines` and `demo_engines` over a level, an entry or a file's demos, with each growth refused in turn. The check and the
+//! survey of a file stand apart.
+
+use crate::compare::{check_bytes, check_same};
+use crate::demo_cases::TWO;
+use crate::sample::{LINE_WITHOUT_SIDE_1, base, base_with, pack};
+use demo_engines::{AtOnce, DemoQuestion, DemosFault, Telling, Unwatched, demos_file};
+use le_rec::{Name8, Sink};
+use lens_engines::{
+    Base, CodeCounts, CutFault, Ignored, Rules, Warned, Warnings, asked_warnings, cut_level,
+    warned_total, warnings_of,
+};
+use map_level::{Level, Reading};
+use map_warnings::WarningCode;
+use std::alloc::Allocator;
+use std::process::Abort;
+use test_alloc::Refusing;
+use test_streams::SliceSink;
+use wad_dir::Set;
+
+// How many faults and notes a level has; None where a growth was refused.
+fn counted(rt: &(impl Abort + AllocGlobal), level: &Level<'_>, n: u64) -> Option<(u64, u64)> {
+    let heap = Refusing::new(rt.alloc(), n);
+    let counts = CodeCounts::of(&heap, level);
+    check_same(rt, counts.is_err(), heap.has_refused());
+    let counts = counts.ok()?;
+    Some((counts.faults(), counts.notes()))
+}
+
+// How many warnings of each code are told, in order, and the total.
+fn told<A: Allocator>(rt: &impl Abort, all: &[Warned<A>]) -> ([usize; 11], u64) {
+    let mut counts = [0; 11];
+    for (count, warned) in counts.iter_mut().zip(all) {
+        *count = warned.count();
+    }
+    if let Some(first) = all.first() {
+        check_same(rt, (first.code(), all.len()), (WarningCode::W1, 11));
+    }
+    (counts, warned_total(all))
+}
+
+// What is told of a level's warnings, one of a code at most; None where a growth was refused.
+fn all_warned(
+    rt: &(impl Abort + AllocGlobal),
+    level: &Level<'_>,
+    n: u64,
+) -> Option<([usize; 11], u64)> {
+    let heap = Refusing::new(rt.alloc(), n);
+    let all = warnings_of(&heap, level, &None, &Ignored::none(), 1);
+    check_same(rt, all.is_err(), heap.has_refused());
+    Some(told(rt, &all.ok()?))
+}
+
+// The same where they are asked for so.
+fn asked_for(
+    rt: &(impl Abort + AllocGlobal),
+    level: &Level<'_>,
+    warnings: Warnings,
+    n: u64,
+) -> Option<([usize; 11], u64)> {
+    let heap = Refusing::new(rt.alloc(), n);
+    let rules = Rules {
+        reading: Reading::Signed,
+        warnings,
+        ignored: Ignored::none(),
+    };
+    let base = Base::none();
+    let all = asked_warnings(&heap, level, &None, 1, rules.over(&base));
+    check_same(rt, all.is_err(), heap.has_refused());
+    Some(told(rt, &all.ok()?))
+}
+
+// The sample level has one start, and its two sectors are open at both ends of its linedef.
+const WARNED: ([usize; 11], u64) = ([4, 0, 0, 0, 0, 0, 1, 1, 0, 0, 0], 6);
+
+const NOT_WARNED: ([usize; 11], u64) = ([0; 11], 0);
+
+fn check_counts(rt: &(impl Abort + AllocGlobal), level: &Level<'_>) {
+    let mut met = 0;
+    for n in 1..99 {
+        if let Some(counts) = counted(rt, level, n) {
+            check_same(rt, counts, (1, 1));
+            break;
+        }
+        met = n;
+    }
+    assert!(rt; 0 < met && met < 98);
+}
+
+// A seg has no side on its linedef, which is two-sided by its flags.
+#[test]
+fn counts_refused(rt: HostRuntime) {
+    let file = base_with(&rt, &[(2, &LINE_WITHOUT_SIDE_1)]);
+    let set = Set::one(rt.alloc(), &file).expect(&rt, "a set of the file");
+    let opened = Level::open(&set, Name8::query(b"E1M1"), Reading::Signed);
+    check_counts(&rt, &opened.expect(&rt, "a level"));
+}
+
+fn check_warnings(rt: &(impl Abort + AllocGlobal), level: &Level<'_>) {
+    let mut met = 0;
+    for n in 1..99 {
+        let all = all_warned(rt, level, n);
+        check_same(rt, asked_for(rt, level, Warnings::Told, n), all);
+        check_same(rt, asked_for(rt, level, Warnings::Strict, n), all);
+        if all.is_some() {
+            check_same(rt, all, Some(WARNED));
+            break;
+        }
+        met = n;
+    }
+    assert!(rt; 0 < met && met < 98);
+    // Where they aren't asked for no growth is.
+    check_same(
+        rt,
+        asked_for(rt, level, Warnings::Unasked, 1),
+        Some(NOT_WARNED),
+    );
+}
+
+#[test]
+fn warnings_refused(rt: HostRuntime) {
+    let file = base(&rt);
+    let set = Set::one(rt.alloc(), &file).expect(&rt, "a set of the file");
+    let opened = Level::open(&set, Name8::query(b"E1M1"), Reading::Signed);
+    check_warnings(&rt, &opened.expect(&rt, "a level"));
+}
+
+// Whether cutting the level at entry 0 met growth `n` refused: then nothing was written.
+fn is_cut_refused(rt: &(impl Abort + AllocGlobal), file: &[u8], n: u64) -> bool {
+    let heap = Refusing::new(rt.alloc(), n);
+    let mut room = [0; 1024];
+    let mut out = SliceSink::new(&mut room);
+    let fresh = !out.failed();
+    assert!(rt; fresh);
+    let cut = cut_level(&heap, file, 0, &mut out);
+    let refused = heap.has_refused();
+    check_same(
+        rt,
+        cut,
+        if refused {
+            Err(CutFault::Memory)
+        } else {
+            Ok(())
+        },
+    );
+    check_bytes(rt, out.taken(), if refused { b"" } else { file });
+    refused
+}
+
+// The sample is its own level alone.
+#[test]
+fn cut_refused(rt: HostRuntime) {
+    let file = base(&rt);
+    let mut met = 0;
+    for n in 1..99 {
+        if !is_cut_refused(&rt, &file, n) {
+            break;
+        }
+        met = n;
+    }
+    assert!(&rt; 0 < met && met < 98);
+}
+
+// How telling the demos of a file ends where growth `n` is refused, and whether it was: then nothing was written.
+fn demos_end(
+    rt: &(impl Abort + AllocGlobal),
+    telling: Telling,
+    file: &[u8],
+    text: &[u8],
+    n: u64,
+) -> bool {
+    let heap = Refusing::new(rt.alloc(), n);
+    let mut room = [0; 1024];
+    let mut out = AtOnce(SliceSink::new(&mut room));
+    let mut messages = [0; 1024];
+    let mut errors = SliceSink::new(&mut messages);
+    let fresh = !out.failed() && !errors.failed();
+    assert!(rt; fresh);
+    let question = DemoQuestion {
+        path: b"a.wad",
+        telling,
+    };
+    let all_read = demos_file(
+        &heap,
+        &question,
+        file,
+        &mut out,
+        &mut errors,
+        &mut Unwatched,
+    );
+    let refused = heap.has_refused();
+    check_same(
+        rt,
+        all_read,
+        if refused {
+            Err(DemosFault::Memory)
+        } else {
+            Ok(true)
+        },
+    );
+    check_bytes(rt, out.0.taken(), if refused { b"" } else { text });
+    check_bytes(rt, errors.taken(), b"");
+    refused
+}
+
+// A file that is a WAD file takes one growth, and a demo none.
+fn check_demos(rt: &(impl Abort + AllocGlobal), telling: Telling, text: &[u8], alone: &[u8]) {
+    let file = pack(rt, &[(b"DEMO1", &TWO)]);
+    assert!(rt; demos_end(rt, telling, &file, text, 1));
+    assert!(rt; !demos_end(rt, telling, &file, text, 2));
+    assert!(rt; !demos_end(rt, telling, &TWO, alone, 1));
+}
+
+#[test]
+fn demos_refused(rt: HostRuntime) {
+    check_demos(
+        &rt,
+        Telling::Lines,
+        b"a.wad: DEMO1: version 109, skill 3, episode 1, map 1, 1 player, 2 tics, 0:00.05, after 1\n",
+        b"a.wad: version 109, skill 3, episode 1, map 1, 1 player, 2 tics, 0:00.05, after 1\n",
+    );
+    check_demos(
+        &rt,
+        Telling::Objects,
+        b"{\"file\":\"a.wad\",\"lump\":\"DEMO1\",\"version\":109,\"skill\":3,\"episode\":1,\"map\":1,\"players\":1,\"tics\":2,\"odd\":0,\"after\":1}\n",
+        b"{\"file\":\"a.wad\",\"version\":109,\"skill\":3,\"episode\":1,\"map\":1,\"players\":1,\"tics\":2,\"odd\":0,\"after\":1}\n",
+    );
+}

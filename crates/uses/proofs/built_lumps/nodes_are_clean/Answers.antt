@@ -1,7 +1,0 @@
-use Rattle.map_tree.specs.TreeFaults.{TreeHolds}
-use Rattle.uses.proofs.CleanLemmas.{empty_is_clean}
-use Rattle.uses.proofs.built_lumps.nodes_are_clean.Goals as goal
-
-pub returns : goal.returns
-returns g c =
-    rw c.len.ensures (empty_is_clean (TreeHolds c.args.level.now) c.in_ok-found.found c.in_ok-found.ensures)

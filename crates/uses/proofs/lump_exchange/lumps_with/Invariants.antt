@@ -1,5 +1,0 @@
-use Rattle.uses.proofs.ExchangeLemmas.{ExchangedSoFar}
-use Rattle.uses.proofs.lump_exchange.lumps_with.Given as goal
-
-abbrev pub invariant-loop-i : goal.invariant-loop-i
-invariant-loop-i g l = ExchangedSoFar l.set l.g l.bytes l.packer l.i

@@ -1,5 +1,0 @@
-use Rattle.uses.proofs.SsectorLemmas.{SectorsSoFar}
-use Rattle.uses.proofs.ssector_sectors.linked_sectors.Given as goal
-
-abbrev pub invariant-loop-number : goal.invariant-loop-number
-invariant-loop-number g l = SectorsSoFar l.level l.number l.sectors.items

@@ -1,5 +1,0 @@
-use Rattle.wad_atlas.proofs.LevelLemmas.{lines_told}
-use Rattle.wad_atlas.proofs.levels.has_lines.Goals as goal
-
-pub returns : goal.returns
-returns c = rw c.is_some.ensures (lines_told c.args.level.now c.of.result c.of.ensures.frame c.of.ensures.none)

@@ -1,5 +1,0 @@
-use Rattle.wad_lens.proofs.LawLemmas.{law_faultless_is_sound}
-use Rattle.wad_lens.proofs.laws.faultless_is_sound.Goals as goal
-
-pub returns : goal.returns
-returns c = law_faultless_is_sound

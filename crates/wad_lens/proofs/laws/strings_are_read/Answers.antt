@@ -1,5 +1,0 @@
-use Rattle.wad_lens.proofs.ReadBackLemmas.{law_strings_are_read}
-use Rattle.wad_lens.proofs.laws.strings_are_read.Goals as goal
-
-pub returns : goal.returns
-returns c = law_strings_are_read

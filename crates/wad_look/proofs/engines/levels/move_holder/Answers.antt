@@ -1,5 +1,0 @@
-use Rattle.wad_look.proofs.engines.LevelsLemmas.{puts_from_updates}
-use Rattle.wad_look.proofs.engines.levels.move_holder.Goals as goal
-
-pub returns-in-Some-clause-moved : goal.returns-in-Some-clause-moved
-returns-in-Some-clause-moved g c = λ some. puts_from_updates ((c.get_mut.follows.holds c.args.g).3 some)

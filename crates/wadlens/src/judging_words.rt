@@ -1,0 +1,102 @@
+//! The words on how levels are judged.
+
+use crate::mistake::Mistake;
+use crate::shared_words::{reading_of, wide_word};
+use clap::{Arg, ArgAction, ArgMatches, Command};
+use lens_commands::BasePaths;
+use lens_engines::{Ignored, Rules, Warnings};
+use std::alloc::{AllocError, Global};
+
+// The codes that can be ignored.
+const IGNORABLE: &[&str] = &[
+    "N1", "N2", "N3", "N4", "N5", "N6", "N7", "N8", "N9", "N10", "N11", "N12", "W1", "W2", "W3",
+    "W4", "W5", "W6", "W7", "W8", "W9", "W10", "W11",
+];
+
+/// Adds the words on how levels are judged, but for which codes are ignored.
+pub fn with_judging<'a>(alloc: Global, command: Command<'a>) -> Result<Command<'a>, AllocError> {
+    command
+        .arg(wide_word(alloc))?
+        .arg(map_word(alloc))?
+        .arg(strict_word(alloc)?)?
+        .arg(base_word(alloc)?)
+}
+
+/// The word by which codes are ignored.
+pub fn ignore_word<'a>(alloc: Global) -> Arg<'a> {
+    Arg::new(alloc, "ignore")
+        .long("ignore")
+        .value_name("CODES")
+        .action(ArgAction::Append)
+        .value_delimiter(',')
+        .value_parser(IGNORABLE)
+        .hide_possible_values(true)
+        .help("Neither show nor count these notes and warnings, as N2,W7")
+}
+
+// The word by which warnings are told.
+fn map_word<'a>(alloc: Global) -> Arg<'a> {
+    Arg::new(alloc, "map")
+        .long("map")
+        .action(ArgAction::SetTrue)
+        .help("Tell warnings, too: what references allow and no mapper wants")
+}
+
+// The word by which a warning ends a run as a fault does.
+fn strict_word<'a>(alloc: Global) -> Result<Arg<'a>, AllocError> {
+    Arg::new(alloc, "strict")
+        .long("strict")
+        .action(ArgAction::SetTrue)
+        .help("End with status 1 at a warning, too")
+        .requires_arg("map")
+}
+
+// The word for a file on which all stand.
+fn base_word<'a>(alloc: Global) -> Result<Arg<'a>, AllocError> {
+    Arg::new(alloc, "base")
+        .long("base")
+        .value_name("FILE")
+        .action(ArgAction::Append)
+        .help(
+            "A file on which every FILE stands, as a game's IWAD: its textures and flats count, too",
+        )
+        .requires_arg("map")
+}
+
+/// How a command's matches ask for levels to be judged.
+pub fn rules_of(matches: &ArgMatches<'_>) -> Result<Rules, Mistake> {
+    let warnings = if matches.get_flag("strict") {
+        Warnings::Strict
+    } else if matches.get_flag("map") {
+        Warnings::Told
+    } else {
+        Warnings::Unasked
+    };
+    Ok(Rules {
+        reading: reading_of(matches),
+        warnings,
+        ignored: ignored_of(matches)?,
+    })
+}
+
+// Which codes a command's matches ignore.
+fn ignored_of(matches: &ArgMatches<'_>) -> Result<Ignored, Mistake> {
+    let mut ignored = Ignored::none();
+    if let Some(names) = matches.get_strs("ignore") {
+        for name in names {
+            ignored = ignored.with(name).ok_or(Mistake::Told(
+                "--ignore wants codes of notes and warnings, as N2,W7",
+            ))?;
+        }
+    }
+    Ok(ignored)
+}
+
+/// The files on which all stand, by a command's matches.
+pub fn bases_of<'a>(alloc: Global, matches: &ArgMatches<'a>) -> Result<BasePaths<'a>, Mistake> {
+    let mut paths = Vec::new(alloc);
+    if let Some(named) = matches.get_strs("base") {
+        paths.extend_from_slice(named)?;
+    }
+    BasePaths::new(paths).ok_or(Mistake::Told("--base names at most 63 files"))
+}

@@ -1,0 +1,80 @@
+// How the JavaScript of the page and its tests is written, for ESLint: rules that its versions share, of mistakes and of layout.
+const rules = {
+  'constructor-super': 'error',
+  'eqeqeq': ['error', 'always'],
+  'for-direction': 'error',
+  'getter-return': 'error',
+  'no-case-declarations': 'error',
+  'no-class-assign': 'error',
+  'no-compare-neg-zero': 'error',
+  'no-cond-assign': 'error',
+  'no-const-assign': 'error',
+  'no-constant-condition': ['error', { checkLoops: false }],
+  'no-dupe-args': 'error',
+  'no-dupe-keys': 'error',
+  'no-duplicate-case': 'error',
+  'no-empty': 'error',
+  'no-eval': 'error',
+  'no-fallthrough': 'error',
+  'no-func-assign': 'error',
+  'no-import-assign': 'error',
+  'no-inner-declarations': 'error',
+  'no-redeclare': 'error',
+  'no-self-assign': 'error',
+  'no-shadow': 'error',
+  'no-throw-literal': 'error',
+  'no-undef': 'error',
+  'no-unreachable': 'error',
+  'no-unsafe-finally': 'error',
+  'no-unused-vars': ['error', { args: 'after-used', caughtErrors: 'all' }],
+  'no-use-before-define': ['error', { functions: false, classes: false, variables: false }],
+  'no-useless-escape': 'error',
+  'no-var': 'error',
+  'prefer-const': 'error',
+  'use-isnan': 'error',
+  'valid-typeof': 'error',
+  // Layout.
+  'array-bracket-spacing': ['error', 'never'],
+  'arrow-parens': ['error', 'always'],
+  'arrow-spacing': 'error',
+  'block-spacing': 'error',
+  'brace-style': ['error', '1tbs', { allowSingleLine: true }],
+  'comma-dangle': ['error', 'always-multiline'],
+  'comma-spacing': 'error',
+  'eol-last': 'error',
+  'func-call-spacing': 'error',
+  'indent': ['error', 2, { SwitchCase: 1 }],
+  'key-spacing': 'error',
+  'keyword-spacing': 'error',
+  'max-len': ['error', { code: 160, ignoreStrings: true, ignoreTemplateLiterals: true }],
+  'no-multi-spaces': 'error',
+  'no-multiple-empty-lines': ['error', { max: 1 }],
+  'no-tabs': 'error',
+  'no-trailing-spaces': 'error',
+  'object-curly-spacing': ['error', 'always'],
+  'quotes': ['error', 'single', { avoidEscape: true, allowTemplateLiterals: true }],
+  'semi': ['error', 'always'],
+  'space-before-blocks': 'error',
+  'space-before-function-paren': ['error', { anonymous: 'always', named: 'never', asyncArrow: 'always' }],
+  'space-in-parens': 'error',
+  'space-infix-ops': 'error',
+  'template-curly-spacing': 'error',
+};
+
+// The names that browsers, their workers and Node have, as far as they are used.
+const globalsOf = (...names) => Object.fromEntries(names.map((name) => [name, 'readonly']));
+const both = globalsOf('AbortController', 'Blob', 'TextDecoder', 'TextEncoder', 'URL', 'WebAssembly', 'clearTimeout', 'console', 'fetch', 'globalThis',
+  'performance', 'queueMicrotask', 'setTimeout', 'structuredClone');
+const browser = {
+  ...both,
+  ...globalsOf('File', 'ImageData', 'OffscreenCanvas', 'Path2D', 'ResizeObserver', 'Worker', 'addEventListener', 'cancelAnimationFrame', 'devicePixelRatio',
+    'document', 'getComputedStyle', 'history', 'location', 'matchMedia', 'navigator', 'postMessage', 'requestAnimationFrame', 'self', 'window'),
+  onmessage: 'writable',
+};
+const node = { ...both, ...globalsOf('Buffer', 'Response', 'WebSocket', 'clearInterval', 'process', 'setInterval') };
+
+const languageOptions = { ecmaVersion: 2022, sourceType: 'module' };
+export default [
+  { files: ['web/*.mjs'], languageOptions: { ...languageOptions, globals: browser }, rules },
+  { files: ['web/test/*.mjs', 'tests/*.mjs', '*.config.mjs'], languageOptions: { ...languageOptions, globals: node }, rules },
+];

@@ -1,0 +1,49 @@
+// What the page's module is asked, by the words of the programs: cases have these, as the programs take them, too.
+
+/** @typedef {import('../wad_page.mjs').Ended} Ended */
+/** @typedef {import('../wad_page.mjs').Judging} Judging */
+/** @typedef {import('../wad_page.mjs').LensQuestion} LensQuestion */
+/** @typedef {import('../wad_page.mjs').DrawQuestion} DrawQuestion */
+/** @typedef {typeof import('../wad_page.mjs')} Page */
+/** @typedef {(words: string[], files: Uint8Array[], input?: Uint8Array, room?: number) => Promise<Ended>} Run  the last words are the paths of the files */
+
+const LENS = ['check', 'survey', 'demos', 'cut', 'picture'];
+/** How many findings of one code are shown, and how many cells a picture has, where the words don't say. */
+const SHOWN = '20', CELLS = '512';
+
+/** Whether words are those of `wadlens`; all others are those of `wadlook`. @param {string[]} words */
+export const isLens = ([command]) => LENS.includes(command);
+
+/** What stands behind an option, or else this. @param {string[]} words @param {string} option @param {string} [otherwise] */
+const valueOf = (words, option, otherwise = '') => words.includes(option) ? words[words.indexOf(option) + 1] : otherwise;
+
+/** @param {string[]} words @returns {Judging} */
+function judgingOf(words) {
+  const warnings = words.includes('--strict') ? 'strict' : words.includes('--map') ? 'told' : undefined;
+  return { wide: words.includes('--wide'), warnings };
+}
+
+/** The question of words without paths. @param {string[]} words @returns {LensQuestion} */
+function lensQuestion(words) {
+  switch (words[0]) {
+    case 'check': return { command: 'check', max: BigInt(valueOf(words, '--max', SHOWN)), ...judgingOf(words) };
+    case 'survey': return { command: 'survey', ...judgingOf(words) };
+    case 'demos': return { command: 'demos', json: words.includes('--json') };
+    case 'cut': return { command: 'cut', entry: BigInt(valueOf(words, '--entry')) };
+    default: throw new Error(`${words[0]} is asked nothing`);
+  }
+}
+
+/** @param {string[]} words @returns {DrawQuestion} */
+function drawQuestion(words) {
+  const frame = words.includes('--frame') ? valueOf(words, '--frame').split(',').map(Number) : undefined;
+  return { cells: Number(valueOf(words, '--cells', CELLS)), wide: words.includes('--wide'), frame };
+}
+
+/** The page's calls as one that takes words. @param {Page} page @returns {Run} */
+export const byWords = ({ runWadlook, runWadlens, drawPicture }) => (words, files, input, room) => {
+  if (!isLens(words)) return runWadlook(words, files, input, room);
+  if (words[0] === 'picture') return drawPicture(drawQuestion(words), files[0], room);
+  const first = words.length - files.length;
+  return runWadlens(lensQuestion(words.slice(0, first)), words.slice(first), files, room);
+};

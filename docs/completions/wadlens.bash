@@ -3,10 +3,10 @@
 
 # The options of each command.
 declare -gA _wadlens_options=(
-    [check]='--wide --map --strict --max --files-from --null --progress --help'
-    [survey]='--wide --map --strict --files-from --null --progress --help'
+    [check]='--wide --map --strict --base --max --ignore --json --quiet --files-from --null --progress --help'
+    [survey]='--wide --map --strict --base --ignore --files-from --null --progress --help'
     [picture]='--wide --cells --frame --help'
-    [atlas]='--out --wide --map --strict --cells --files-from --null --progress --help'
+    [atlas]='--out --wide --map --strict --base --cells --files-from --null --progress --help'
     [cut]='--entry --help'
     [demos]='--json --files-from --null --progress --help'
     [compare]='--help'
@@ -22,13 +22,13 @@ _wadlens() {
     fi
     [[ -n ${_wadlens_options[${COMP_WORDS[1]}]-} ]] || return
     case $before in
-        --max | --entry | --cells | --frame) return ;;
+        --max | --ignore | --entry | --cells | --frame) return ;;
         --out)
             mapfile -t COMPREPLY < <(compgen -d -- "$current")
             compopt -o filenames 2>/dev/null
             return
             ;;
-        --files-from)
+        --files-from | --base)
             mapfile -t COMPREPLY < <(compgen -f -- "$current")
             compopt -o filenames 2>/dev/null
             return

@@ -1,0 +1,48 @@
+# Completes the words of wadlens in fish. Install it as /usr/share/fish/vendor_completions.d/wadlens.fish or ~/.config/fish/completions/wadlens.fish.
+
+# Whether the command is one of these.
+function __wadlens_is
+    set -l words (commandline -opc)
+    contains -- "$words[2]" $argv
+end
+
+# Prints the folders, and the files with one of these endings in small or capital letters.
+function __wadlens_files
+    set -l endings (string join '|' $argv)
+    set -l word (commandline -ct)
+    complete -C "__fish_command_without_completions $word" | string match -ri "^.*(?:/|\.(?:$endings))\$"
+end
+
+complete -c wadlens -f
+complete -c wadlens -n __fish_use_subcommand -l help -d 'print the help'
+complete -c wadlens -n __fish_use_subcommand -l version -d 'print the version'
+complete -c wadlens -n __fish_use_subcommand -a check -d 'the findings of each level, a line each'
+complete -c wadlens -n __fish_use_subcommand -a survey -d 'a JSON object a line for each level and each refused file'
+complete -c wadlens -n __fish_use_subcommand -a picture -d 'a level drawn as an SVG'
+complete -c wadlens -n __fish_use_subcommand -a atlas -d 'a folder of pictures with a page over all levels, and their survey'
+complete -c wadlens -n __fish_use_subcommand -a cut -d 'the level whose label is an entry alone, as a WAD file'
+complete -c wadlens -n __fish_use_subcommand -a demos -d 'a line for each demo'
+complete -c wadlens -n __fish_use_subcommand -a compare -d 'where two demo files first differ'
+complete -c wadlens -n __fish_use_subcommand -a assemble -d 'the demo of a listing on standard input'
+
+complete -c wadlens -n '__wadlens_is check survey picture atlas' -l wide -d 'read the indexes as numbers from 0 to 65535'
+complete -c wadlens -n '__wadlens_is check survey atlas' -l map -d 'tell warnings, too'
+complete -c wadlens -n '__wadlens_is check survey atlas' -l strict -d 'end with status 1 at a warning, too'
+complete -c wadlens -n '__wadlens_is check survey atlas' -l base -x -a '(__wadlens_files wad)' -d 'a file on which every file stands, as a game\'s IWAD'
+complete -c wadlens -n '__wadlens_is check survey' -l ignore -x -d 'neither show nor count these notes and warnings, as N2,W7'
+complete -c wadlens -n '__wadlens_is check' -l max -x -d 'show at most so many findings or warnings of one code in one level, 0: all'
+complete -c wadlens -n '__wadlens_is picture atlas' -l cells -x -d 'at most so many cells along the longer side of a picture'
+complete -c wadlens -n '__wadlens_is picture' -l frame -x -d 'the cells of this part of the map alone, X0,Y0,X1,Y1'
+complete -c wadlens -n '__wadlens_is atlas' -l out -x -a '(__fish_complete_directories)' -d 'the folder to write into'
+complete -c wadlens -n '__wadlens_is cut' -l entry -x -d 'the number of the label among the entries, from 0 on'
+complete -c wadlens -n '__wadlens_is check' -l json -d 'a JSON object a line for each finding'
+complete -c wadlens -n '__wadlens_is check' -l quiet -d 'nothing on standard output'
+complete -c wadlens -n '__wadlens_is demos' -l json -d 'a JSON object a line for each demo'
+complete -c wadlens -n '__wadlens_is check survey atlas demos' -l files-from -r -F -d 'then the files whose paths stand in a list, - for standard input'
+complete -c wadlens -n '__wadlens_is check survey atlas demos' -l null -d 'the paths of the list are ended by NULs'
+complete -c wadlens -n '__wadlens_is check survey atlas demos' -l progress -d 'tell on standard error how many files and levels are done'
+complete -c wadlens -n '__wadlens_is check survey picture atlas cut demos compare assemble' -l help -d 'print the help'
+
+complete -c wadlens -n '__wadlens_is check survey picture atlas cut' -a '(__wadlens_files wad)'
+complete -c wadlens -n '__wadlens_is demos' -a '(__wadlens_files wad lmp)'
+complete -c wadlens -n '__wadlens_is compare' -a '(__wadlens_files lmp)'

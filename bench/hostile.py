@@ -78,14 +78,19 @@ def own():
 OWN = own()
 
 
+def names_of(lumps, big):
+    """the names of a level's lumps, and of these behind them"""
+    return NAMES + [k for k in [*lumps, *big] if k not in NAMES]
+
+
 def level(out, lumps, big=None, size=0, fill=None):
     """the level E1M1: the sample's lumps, others in their place, and one or
     several big ones that share size bytes, which fill writes at the end"""
     big = big or []
-    small = {**OWN, **lumps}
-    at = 12 + 16 * 11
+    small, names = {**OWN, **lumps}, names_of(lumps, big)
+    at = 12 + 16 * (1 + len(names))
     body, d = b"", entry(0, 0, b"E1M1")
-    for k in NAMES:
+    for k in names:
         if k not in big:
             d += entry(at + len(body), len(small[k]), k)
             body += small[k]
@@ -95,14 +100,15 @@ def level(out, lumps, big=None, size=0, fill=None):
     d = b"".join(
         d[i : i + 16] if d[i : i + 4] != b"\xff" * 4 else struct.pack("<i", start) + d[i + 4 : i + 16] for i in range(0, len(d), 16)
     )
-    out.write(head(11, 12) + d + body)
+    out.write(head(1 + len(names), 12) + d + body)
     if fill:
         fill(out, size)
 
 
 def room(lumps, big):
     """how many bytes the big lumps may have"""
-    return FILES - 12 - 16 * 11 - sum(len(b) for k, b in {**OWN, **lumps}.items() if k not in big)
+    directory = 16 * (1 + len(names_of(lumps, big)))
+    return FILES - 12 - directory - sum(len(b) for k, b in {**OWN, **lumps}.items() if k not in big)
 
 
 def big_level(lumps, big, size_of, fill):
@@ -123,6 +129,15 @@ def directory(label, names):
         n = int((FILES - 12) // 16 * part)
         out.write(head(n, 12))
         again(out, b"".join(entry(0, 0, k) for k in names), 16 * n)
+
+    return make
+
+
+def entries(count):
+    """so many entries of one name"""
+
+    def make(out, part):
+        out.write(head(int(count * part), 12) + entry(0, 0, b"NAME") * int(count * part))
 
     return make
 
@@ -452,7 +467,60 @@ def listing(more):
     return make
 
 
-LENS = ("check", "survey", "picture", "atlas", "demos", "compare", "assemble")
+def listed(offsets):
+    """a TEXTURE1 of the whole room, whose count is the greatest: its head, and these offsets again and again"""
+
+    def fill(out, size):
+        out.write(struct.pack("<i", 2147483647))
+        again(out, b"".join(struct.pack("<i", at) for at in offsets), size - 4)
+
+    return fill
+
+
+def unknown_textures(out, part):
+    """a level whose sidedefs, as many as can be named, have three textures each that none of 100,000 is"""
+    sides, textures = int(65536 * part), int(100000 * part)
+    start = 4 + 4 * textures
+    sidedefs = (w(0, 0) + b"U%07dL%07dM%07d" % (i, i, i) + w(0) for i in range(sides))
+    offsets = (struct.pack("<i", start + 8 * i) for i in range(textures))
+    names = (b"T%07d" % i for i in range(textures))
+    level(
+        out,
+        {
+            b"SIDEDEFS": b"".join(sidedefs),
+            b"TEXTURE1": struct.pack("<i", textures) + b"".join(offsets) + b"".join(names),
+        },
+    )
+
+
+def unknown_flats(out, part):
+    """a level of 65,536 sectors, each with two flats of which there is none, and as many other entries as there is room for"""
+    sectors = b"".join(w(0, 128) + b"F%07d" % i + b"C%07d" % i + w(160, 0, 0) for i in range(int(65536 * part)))
+    lumps = {**OWN, b"SECTORS": sectors}
+    body = b"".join(lumps[k] for k in NAMES)
+    others = int((FILES - 12 - 16 * 12 - 26 * 65536 - 4096) // 16 * part)
+    out.write(head(12 + others, 12 + len(body)) + body + entry(12, 0, b"E1M1"))
+    at = 12
+    for k in NAMES:
+        out.write(entry(at, len(lumps[k]), k))
+        at += len(lumps[k])
+    out.write(entry(12, 0, b"F_START"))
+    again(out, b"".join(entry(12, 0, b"%08d" % (40503 * i % 65536)) for i in range(65536)), 16 * others)
+
+
+def udmf(last):
+    """a level of UDMF with as many lumps as there is room for, of which the last has this name"""
+
+    def make(out, part):
+        n = int((FILES - 12) // 16 * part)
+        out.write(head(n, 12) + entry(12, 0, b"MAP01") + entry(12, 0, b"TEXTMAP"))
+        again(out, entry(12, 0, b"ZNODES"), 16 * (n - 3))
+        out.write(entry(12, 0, last))
+
+    return make
+
+
+LENS = ("check", "survey", "picture", "atlas", "demos", "compare", "assemble", "cut")
 one_byte = of_bytes(b"\xff")
 for word in ("check", "survey") if o.wadlens else ():
     job(word + ": 16,777,215 entries of one name", word + " F", one_name)
@@ -493,7 +561,27 @@ for word in ("check", "survey") if o.wadlens else ():
     job(word + ": 1024 things down a chain of 32,767 nodes", word + " F", chain({b"THINGS": THING * 1024}))
     job(word + ": 32,768 ssectors of the same 32,767 segs", word + " F", chain({b"SEGS": SEG * 32767}, w(32767, 0)))
     job(word + ": all lumps over the same bytes 0", word + " F", of_bytes(b"\0"), ends=1)
+    job(word + ": 65,536 sidedefs with three unknown textures, of 100,000", word + " --wide F", unknown_textures)
+    job(word + ": 65,536 sectors with two unknown flats, of 16 million entries", word + " --wide F", unknown_flats)
+    for told, offsets in (("one name", (4,)), ("a million names", (40503 * k % 1048576 * 4 for k in range(1048576)))):
+        fill = listed(list(offsets))
+        base = big_level({}, [b"TEXTURE1"], lambda n: n // 4 * 4, fill)
+        job("%s --base: 67 million textures of %s" % (word, told), word + " --base F S", base)
+    job(word + " --base: 16,777,215 entries of one name", word + " --base F S", one_name)
+    job(word + " --base: 63 files of 65,536 entries", word + 63 * " --base F" + " S", entries(65536))
 if o.wadlens:
+    job("check --json: all lumps over the same bytes 255", "check --json F", one_byte, ends=1)
+    job(
+        "check --json --map --max 0: 19 million linedefs at one place",
+        "check --json --map --max 0 F",
+        linedefs(STEP, [(0, 1, 0, 1)]),
+    )
+    zeros = lambda out, n: again(out, b"\0", n)  # noqa: E731
+    job("cut: a level of 268 MB", "cut --entry 0 F", big_level({}, b, whole(1), zeros))
+    job("cut: a level of Hexen's format of 268 MB", "cut --entry 0 F", big_level({}, [b"BEHAVIOR"], whole(1), zeros))
+    job("cut: all lumps over the same 214 MB", "cut --entry 0 F", big_level({}, NAMES, lambda n: n * 4 // 5, zeros))
+    job("cut: 16,777,214 lumps of UDMF", "cut --entry 0 F", udmf(b"ENDMAP"))
+    job("cut: the same without ENDMAP", "cut --entry 0 F", udmf(b"ZNODES"), ends=2)
     job("check --map --max 0: 19 million linedefs at one place", "check --map --max 0 F", linedefs(STEP, [(0, 1, 0, 1)]))
     p1024 = "picture --cells 1024 "
     job("picture: 1,047,552 cells, each a block, of 32,736 sectors", p1024 + "--wide E1M1 F", slanted)
@@ -506,6 +594,11 @@ if o.wadlens:
     frame = p1024 + "--frame=-32768,-32768,32767,32767 E1M1 F"
     job("picture: LINEDEFS of bytes 255", frame, of_bytes(b"\xff", [b"LINEDEFS"]), ends=1)
     job("picture: all lumps over the same bytes 255", frame, one_byte, ends=1)
+    job(
+        "picture: a frame of 1024 rows, none in range of 32,736 sectors",
+        p1024 + "--frame=9000,9000,10023,10023 --wide E1M1 F",
+        slanted,
+    )
     job("atlas: 50,000 levels over the same bytes", "atlas --out O F", samples(50000))
     job("atlas: 1,525,201 levels with nothing to draw", "atlas --out O F", directory(None, [b"E1M1"] + NAMES), ends=1)
     job("demos: 16,777,215 entries of one name", "demos F", one_name)

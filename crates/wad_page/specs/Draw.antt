@@ -25,7 +25,7 @@ pub record DrawsLevel (files : List Wad) (reading : Reading) (asked : View) (bef
   pub takes : TakesWhole (IsPicture level asked) before after
   pub says : IsTrue faulty ↔ (¬ IsSound level)
 
--- the first level of the file of these bytes was
+-- the first level of the file of these bytes was drawn, and whether it has a fault
 pub record DrawsFirst (bytes : List ℕ) (reading : Reading) (asked : View) (before after : SinkState) (faulty : Bool) : Type 0 where
   pub files : List Wad
   pub file : IsFileOf bytes files

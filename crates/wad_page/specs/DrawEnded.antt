@@ -30,7 +30,7 @@ draw_status (Err (NoLevel why)) = 2
 draw_status (Err NothingToDraw) = 2
 draw_status (Err Full) = 3
 
--- what was asked was drawn or refused: the status tells which, and the picture stands at the front of `out`
+-- the question was drawn or refused: the status says which, and the picture stands at the front of `out`
 pub record Drew (file : List ℕ) (question : DrawQuestion) (out out' : List ℕ) (ended : Ended) : Type 0 where
   pub view : View
   pub is : IsAsked question view
@@ -45,7 +45,7 @@ pub record Drew (file : List ℕ) (question : DrawQuestion) (out out' : List ℕ
   pub picture : HandsOut sink'.taken out out' ended.answered
   pub silent : ended.told ≡ 0
 
--- a frame is asked for whose lower bounds are past its upper ones
+-- the frame that is asked for has a lower bound past its upper one
 pub record IsNoFrame (question : DrawQuestion) : Type 0 where
   pub asked : ¬ (question.framed ≡ 0)
   pub none : ¬ IsFrame (frame_at question.x0 question.y0 question.x1 question.y1)

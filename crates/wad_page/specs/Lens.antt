@@ -1,4 +1,4 @@
--- What commands of `wadlens` answer over files in memory (ours): each file is told in order, and a check ends with its totals.
+-- Commands of `wadlens` over files in memory (ours): each file is reported on in order, and a check ends with its totals.
 use Rattle.std.specs.Prelude.{◌≡◌, ◌≢◌, ◌⊎◌, ℕ, ◌==◌, ◌<◌, ◌≤◌, List, [], codes, drop, length, slice_index_or, take, Some, Result, Ok, Err, if◌then◌else◌}
 use Rattle.std.specs.Io.KnownBytes.{Appends}
 use Rattle.le_rec.specs.Sink.{SinkState}
@@ -70,12 +70,12 @@ pub record Asks (question : LensQuestion) (asked : LensRequest) : Type 0 where
   pub reads : asked.rules.reading ≡ reading_of question.wide
   pub all : asked.rules.ignored ≡ no_codes
 
--- whether it can be asked of so many files, of which so many are those on which the others stand
+-- whether it can be asked of `count` files, of which the first `bases` are base files
 abbrev pub Takes : LensWord → ℕ → ℕ → Type 0
 Takes (Tell word) bases count = (bases < count) × (bases < 64)
 Takes (Cut entry) bases count = (bases ≡ 0) × (count ≡ 1)
 
--- all files were told, and what wasn't looked for
+-- all files were reported on, and then which warnings weren't looked for
 pub record TellsAll (asked : Request) (paths files : List (List ℕ)) (out out' errors errors' : SinkState) (verdict : Verdict) : Type 0 where
   pub between : SinkState
   pub tally : Tally
@@ -85,7 +85,7 @@ pub record TellsAll (asked : Request) (paths files : List (List ℕ)) (out out' 
   pub noted : Appends between_errors.taken errors'.taken (unlooked_line tally.totals.unlooked)
   pub says : verdict ≡ tally.verdict
 
--- over these files
+-- the files behind the base files were reported on, over the base files
 pub record TellsOthers (word : Word) (rules : Rules) (bases : ℕ) (paths files : List (List ℕ)) (out out' errors errors' : SinkState) (verdict : Verdict) : Type 0 where
   pub base : List Wad
   pub are_bases : AreBases (lent (take bases files)) (take bases paths) base
@@ -93,31 +93,31 @@ pub record TellsOthers (word : Word) (rules : Rules) (bases : ℕ) (paths files 
   pub over : IsOver rules base judging
   pub told : TellsAll (record { word = word; judging = judging }) (drop bases paths) (drop bases files) out out' errors errors' verdict
 
--- it was told why one of these isn't taken
+-- it was reported why a base file isn't taken
 abbrev pub TellsRefused : List ℕ → ReadFault → SinkState → SinkState → Verdict → Type 0
 TellsRefused path (Refused refusal) errors errors' verdict = Appends errors.taken errors'.taken (refusal_line path refusal) × (verdict ≡ Unjudged)
 TellsRefused path Memory errors errors' verdict = ⊥
 
--- and nothing else
+-- a base file isn't taken: this was reported, and nothing else was written
 pub record RefusesBase (bases : ℕ) (paths files : List (List ℕ)) (out out' errors errors' : SinkState) (verdict : Verdict) : Type 0 where
   pub first : BaseFault
   pub refused : IsRefusedAt (lent (take bases files)) (take bases paths) first
   pub untouched : out' ≡ out
   pub told : TellsRefused (path_at (take bases paths) first.place) first.fault errors errors' verdict
 
--- the files behind the first so many were told over these, or one of these is refused
+-- the files behind the base files were reported on, or a base file is refused
 abbrev pub TellsOver : Word → Rules → ℕ → List (List ℕ) → List (List ℕ) → SinkState → SinkState → SinkState → SinkState → Verdict → Type 0
 TellsOver word rules bases paths files out out' errors errors' verdict =
     RefusesBase bases paths files out out' errors errors' verdict ⊎ TellsOthers word rules bases paths files out out' errors errors' verdict
 
--- a level that lacks a lump is faulty, and one that can't be cut out else isn't judged
+-- a level that lacks a lump is faulty; one that can't be cut out for another reason isn't judged
 abbrev pub verdict_of_uncut : Uncut → Verdict
 verdict_of_uncut (uncut.Incomplete k) = Faulty
 verdict_of_uncut (uncut.Outside name) = Faulty
 verdict_of_uncut uncut.NoEndMap = Unjudged
 verdict_of_uncut uncut.TooLarge = Unjudged
 
--- nor is one that isn't there
+-- by that reason; with any other fault nothing is judged
 abbrev pub verdict_of_cut : CutFault → Verdict
 verdict_of_cut (fault.Level label why) = verdict_of_uncut why
 verdict_of_cut _ = Unjudged
@@ -130,7 +130,7 @@ pub record CutsOut (entry : ℕ) (bytes : List ℕ) (out out' errors errors' : S
   pub silent : errors' ≡ errors
   pub says : verdict ≡ Clean
 
--- it wasn't, which was told
+-- the level wasn't cut out, and the reason was reported
 pub record CutsNone (entry : ℕ) (path bytes : List ℕ) (out out' errors errors' : SinkState) (verdict : Verdict) : Type 0 where
   pub why : CutFault
   pub of_file : IsOfFile why
@@ -149,14 +149,14 @@ pub record CutsRead (entry : ℕ) (path bytes : List ℕ) (out out' errors error
   pub few : length bytes ≤ MAX_READ
   pub cuts : CutsBytes entry path bytes out out' errors errors' verdict
 
--- it is larger than what is read, which was told
+-- the file is larger than what is read, and this was reported
 pub record CutsTooLarge (path bytes : List ℕ) (out out' errors errors' : SinkState) (verdict : Verdict) : Type 0 where
   pub large : MAX_READ < length bytes
   pub untouched : out' ≡ out
   pub message : Appends errors.taken errors'.taken (refusal_line path refusal.TooLarge)
   pub says : verdict ≡ Unjudged
 
--- a level was cut out of the first file, or it was told why not
+-- a level was cut out of the first file, or the reason why not was reported
 abbrev pub CutsFile : ℕ → List ℕ → List (List ℕ) → SinkState → SinkState → SinkState → SinkState → Verdict → Type 0
 CutsFile entry path files out out' errors errors' verdict =
     CutsTooLarge path (slice_index_or files 0 []) out out' errors errors' verdict
@@ -169,7 +169,7 @@ Answers (Tell word) rules bases paths files out out' errors errors' verdict =
 Answers (Cut entry) rules bases paths files out out' errors errors' verdict =
     CutsFile entry (slice_index_or paths 0 []) files out out' errors errors' verdict
 
--- the question asks for this of these files, of which there is one for each path
+-- the question asks for this of these files, one for each path
 pub record AsksFiles (question : LensQuestion) (named given : Parts) (asked : LensRequest) (paths files : List (List ℕ)) : Type 0 where
   pub asks : Asks question asked
   pub paths_are : cut named.sizes.now named.bytes.now ≡ Some paths
@@ -208,14 +208,13 @@ lens_status (Ok verdict) = status_of verdict
 lens_status (Err Usage) = 2
 lens_status (Err Full) = 3
 
--- what is told besides the answer: what the run told, or that nothing is asked
+-- the message beside the answer: what the run reported, or `usage` where nothing is asked
 abbrev pub lens_message : Result Verdict LensFault → List ℕ → List ℕ
 lens_message (Ok verdict) told = told
 lens_message (Err Usage) told = codes "usage"
 lens_message (Err Full) told = told
 
--- the question was answered: the status tells how that ended, the answer stands at the front of `out`, and what was told besides at the
--- front of `why`
+-- the question was answered: the status says how that ended, the answer stands at the front of `out`, and the message at the front of `why`
 pub record Lensed (question : LensQuestion) (paths path_sizes files file_sizes out out' why why' : List ℕ) (ended : Ended) : Type 0 where
   pub named : Parts
   pub names_are : AreGiven named paths path_sizes

@@ -64,8 +64,8 @@ abbrev pub DoesLook : {W : Type 0} → (W → SinkState) → Parts → Parts →
 DoesLook sink parts files input out out' result =
     IsRefused parts files out out' result ⊎ RunsWords sink parts files input out out' result
 
--- it did what the words ask for: the status tells how that ended, and not that there was no room, the answer stands whole at the front of `out`, and why there
--- is none at the front of `why`
+-- it did what the words ask for: the status says how that ended, and isn't the one for no room; the whole answer stands at the front of `out`, and the
+-- reason of a refusal at the front of `why`
 pub record Looked (words word_sizes files file_sizes input out out' why why' : List ℕ) (ended : Ended) : Type 0 where
   pub asked : Parts
   pub words_are : AreGiven asked words word_sizes

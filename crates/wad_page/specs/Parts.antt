@@ -7,7 +7,7 @@ use Rattle.wad_page.specs.declared.parts.Parts.{Parts}
 use Rattle.wad_page.specs.declared.refusal.PageRefusal.{PageRefusal}
 use Rattle.wad_page.specs.declared.refusal.PageRefusal.TheVariants.{Usage, Run}
 
--- the parts of these sizes, where the bytes are just as many
+-- the parts of these sizes, if they add up to the number of bytes
 abbrev pub cut : List ℕ → List ℕ → Option (List (List ℕ))
 cut [] [] = Some []
 cut [] (b ∷ bytes) = None

@@ -15,15 +15,15 @@ use memory_streams::{ToVec, hand_out};
 use std::alloc::Allocator;
 use wad_dir::{Set, SetFault, WadFault};
 
-/// What is drawn, as the host lays it out.
+/// What is drawn, in the host's layout.
 #[repr(C)]
 #[derive(Clone, Copy)]
 pub struct DrawQuestion {
     /// How many cells the longer side has at most, from 1 to 1024.
     pub cells: u32,
-    /// Whether indexes are read as numbers from 0 to 65535: 0 where they aren't.
+    /// 0 to read indexes as signed numbers, else they are read as numbers from 0 to 65535.
     pub wide: u8,
-    /// Whether the frame is the one of these bounds, in map units: 0 where it is that of the level's linedefs.
+    /// 0 for the frame of the level's linedefs, else the frame is the one of these bounds, in map units.
     pub framed: u8,
     pub x0: i16,
     pub y0: i16,
@@ -31,7 +31,7 @@ pub struct DrawQuestion {
     pub y1: i16,
 }
 
-// How a run ends whose question is out of its bounds.
+// The end of a run whose question is out of bounds.
 const REFUSED: Ended = Ended {
     status: 2,
     answered: 0,
@@ -59,7 +59,7 @@ pub fn draw(heap: Block, file: &[u8], question: &DrawQuestion, out: &mut [u8]) -
     })
 }
 
-// What is asked of the engine; None where the question is out of its bounds.
+// The question for the engine; None if it is out of bounds.
 fn view_of(question: &DrawQuestion) -> Option<View>
     ensures some { IfSome result (IsAsked question.now) }
     ensures none { IfNone result (IsOutOfBounds question.now) }
@@ -103,8 +103,8 @@ pub enum PictureFault {
     Full,
 }
 
-// Writes the picture of the level whose label is the first entry of a file's bytes, as `cut` packs one, and answers whether it
-// has a fault. The level's format isn't looked at: who asks knows that it is Doom's.
+// Writes the picture of the level whose label is the first entry of a file's bytes, as `cut` packs one, and returns whether it
+// has a fault. The level's format isn't checked: the caller knows that it is Doom's.
 fn draw_first<A: Allocator + Copy, W: Sink>(
     alloc: A,
     bytes: &[u8],

@@ -1,4 +1,4 @@
-//! What commands of `wadlens` answer over files in memory.
+//! Commands of `wadlens` over files in memory.
 
 ghost use Rattle.std.specs.Prelude.{◌≡◌, ◌↔◌, ◌<◌, ◌≤◌, [], false, Some, length, map, slice_index_or, IfErr, IfOk};
 ghost use Rattle.lens_commands.specs.Run.{AreSound};
@@ -20,7 +20,7 @@ use map_level::Reading;
 use memory_streams::ToVec;
 use std::alloc::{AllocError, Allocator};
 
-/// What is asked of files, as the host lays it out.
+/// A question about files, in the host's layout.
 #[repr(C)]
 #[derive(Clone, Copy)]
 pub struct LensQuestion {
@@ -28,21 +28,20 @@ pub struct LensQuestion {
     pub number: u64,
     /// 0 `check`, 1 `survey`, 2 `demos`, 3 `demos --json`, 4 `cut`.
     pub command: u8,
-    /// Whether indexes are read as numbers from 0 to 65535: 0 where they aren't. It says nothing of demos and of `cut`.
+    /// 0 to read indexes as signed numbers, else they are read as numbers from 0 to 65535. Demos and `cut` ignore it.
     pub wide: u8,
-    /// 0 no warnings, 1 `--map`, 2 `--map --strict`. It says nothing of demos and of `cut`.
+    /// 0 no warnings, 1 `--map`, 2 `--map --strict`. Demos and `cut` ignore it.
     pub warnings: u8,
-    /// How many of the files, from the first on, are those on which each of the others stands: they aren't told, and are 63 at most.
-    /// 0 of `cut`.
+    /// How many of the files are base files: the first ones, 63 at most. They aren't reported on. It is 0 for `cut`.
     pub bases: u8,
 }
 
 /// What is asked of files.
 #[derive(Clone, Copy)]
 pub enum LensWord {
-    /// Each is told.
+    /// A report on each of them.
     Tell(Word),
-    /// The level whose label is the entry of this number is cut out of the one file.
+    /// One level of the only file is cut out: the one whose label is the entry of this number.
     Cut(u64),
 }
 
@@ -57,7 +56,7 @@ impl LensWord {
     ghost use Rattle.std.specs.Prelude.{◌↔◌, IsTrue};
     ghost use Rattle.wad_page.specs.Lens.{Takes};
 
-    // Whether it can be asked of so many files, of which so many are those on which the others stand.
+    // Whether it can be asked of `count` files, of which the first `bases` are base files.
     fn takes(self, bases: usize, count: usize) -> bool
         ensures { IsTrue result ↔ Takes self bases count }
     {
@@ -71,7 +70,7 @@ impl LensWord {
 /// Why there is no answer.
 #[derive(Clone, Copy, Debug, PartialEq, Eq)]
 pub enum LensFault {
-    /// Nothing is asked, or not of so many files. Nothing was written.
+    /// The question has no meaning, or doesn't take these files. Nothing was written.
     Usage,
     /// A growth was refused, or there is no room.
     Full,
@@ -87,7 +86,7 @@ impl From<AllocError> for LensFault {
     }
 }
 
-/// Answers the question over the files, of which there is one for each path.
+/// Answers the question over the files, one for each path.
 pub fn do_lens<A: Allocator + Copy, W: HandOn, E: Sink>(
     alloc: A,
     question: &LensQuestion,
@@ -123,7 +122,7 @@ pub fn do_lens<A: Allocator + Copy, W: HandOn, E: Sink>(
     }
 }
 
-/// The same into vectors, of which the output hands on at once what it takes.
+/// The same into vectors. The output holds nothing back.
 pub fn lens_into<A: Allocator + Copy>(
     alloc: A,
     question: &LensQuestion,
@@ -140,7 +139,7 @@ pub fn lens_into<A: Allocator + Copy>(
     (sink.0, outcome)
 }
 
-// What a question asks; None where one of its numbers stands for nothing.
+// What a question asks; None if one of its numbers has no meaning.
 fn asked_by(question: &LensQuestion) -> Option<LensRequest>
     ensures { (asked : LensRequest) → (result ≡ Some asked) ↔ Asks question.now asked }
 {
@@ -178,7 +177,7 @@ fn warnings_of(warnings: u8) -> Option<Warnings>
     }
 }
 
-/// How indexes are read where a host says so: not as signed numbers where it isn't 0.
+/// The reading that a host asks for: signed for 0, else wide.
 pub fn reading_of(wide: u8) -> Reading
     ensures { result ≡ reading_of wide }
 {
@@ -189,7 +188,7 @@ pub fn reading_of(wide: u8) -> Reading
     }
 }
 
-// Reads the files on which the others stand, the first of all, and tells what is asked of the others, or which of the first is refused.
+// Reads the base files, which come first, and reports on the others. If a base file is refused, it reports which.
 fn tell_over<A: Allocator + Copy, W: HandOn, E: Sink>(
     alloc: A,
     word: Word,
@@ -224,7 +223,7 @@ fn tell_over<A: Allocator + Copy, W: HandOn, E: Sink>(
     tell_all(alloc, asked, &paths[bases..], &files[bases..], out, errors)
 }
 
-// Tells which of the files on which the others stand is refused, and why.
+// Reports which base file is refused, and why.
 fn tell_refused<E: Sink>(
     paths: &[&[u8]],
     first: BaseFault,
@@ -245,7 +244,7 @@ fn tell_refused<E: Sink>(
     }
 }
 
-// Tells what is asked of each file in order, a check's totals, and what wasn't looked for.
+// Reports on each file in order, then writes a check's totals and which warnings weren't looked for.
 fn tell_all<A: Allocator + Copy, W: HandOn, E: Sink>(
     alloc: A,
     asked: Request<'_>,
@@ -280,7 +279,7 @@ fn tell_all<A: Allocator + Copy, W: HandOn, E: Sink>(
     }
 }
 
-// Writes the level whose label is an entry of the first file, or tells why not.
+// Writes the level whose label is an entry of the first file, or reports why not.
 fn cut_file<A: Allocator + Copy, W: Sink, E: Sink>(
     alloc: A,
     entry: u64,
@@ -308,7 +307,7 @@ fn cut_file<A: Allocator + Copy, W: Sink, E: Sink>(
     }
 }
 
-// Writes the level whose label is an entry of a file's bytes, or tells why not.
+// Writes the level whose label is an entry of a file's bytes, or reports why not.
 fn cut_bytes<A: Allocator + Copy, W: Sink, E: Sink>(
     alloc: A,
     entry: u64,
@@ -331,7 +330,7 @@ fn cut_bytes<A: Allocator + Copy, W: Sink, E: Sink>(
     }
 }
 
-// A level that lacks a lump is faulty, and else it wasn't judged.
+// The verdict where no level is cut out: `Faulty` if a lump isn't there or isn't inside the file, else `Unjudged`.
 fn verdict_of_cut(fault: &CutFault) -> Verdict
     ensures { result ≡ verdict_of_cut fault.now }
 {
@@ -363,7 +362,7 @@ pub fn lens_status(outcome: &Result<Verdict, LensFault>) -> u8
     }
 }
 
-/// What is told besides: that nothing is asked, or what the run told.
+/// The message beside the answer: that the question isn't valid, or what the run reported.
 pub fn lens_message<'m>(outcome: &Result<Verdict, LensFault>, told: &'m [u8]) -> &'m [u8]
     ensures { result.now ≡ lens_message outcome.now told.now }
 {

@@ -1,5 +1,5 @@
-//! The engines for a page in a browser: exports over memory that a host hands in. Words, files and input lie in slices, what
-//! is answered is written into slices, and all that an engine needs meanwhile is allocated in the host's block.
+//! The engines for a page in a browser: exports over memory that a host hands in. Words, files and input come in slices, and
+//! answers are written into slices. All other memory of an engine comes from the host's block.
 #![tactic(auto)]
 
 ghost use Rattle.std.specs.Prelude.{IfSome};
@@ -37,18 +37,18 @@ pub struct Ended {
 // The status where there is no room.
 const FULL: u8 = 3;
 
-// How a run ends for which there is no room.
+// The end of a run that lacks room.
 const NO_ROOM: Ended = Ended {
     status: FULL,
     answered: 0,
     told: 0,
 };
 
-/// Does what words of `wadlook` ask for. What the words name as files are those handed in, one for each path, in order; the
-/// answer goes into `out`, and why it was refused into `why`, as far as there is room.
+/// Does what words of `wadlook` ask for. Their files are the ones handed in, one for each path, in order. The answer goes into
+/// `out`. The reason of a refusal goes into `why`, as far as there is room.
 ///
-/// What no contract can see is the host's to keep: each slice is there until the call has returned, and none overlaps another
-/// or the block; the block is used by nobody else, and by no second call.
+/// The host must keep what no contract can check. Each slice stays valid until the call has returned, and none overlaps another
+/// or the block. Nobody else uses the block, and no second call does.
 #[unsafe(no_mangle)]
 pub extern "C" fn run_wadlook(
     heap: Block,
@@ -74,10 +74,10 @@ pub extern "C" fn run_wadlook(
     *ended = answer_look(heap, words, files, input, out, why).unwrap_or(NO_ROOM);
 }
 
-/// Answers a question of `wadlens` over the files that are handed in, of which there is one for each path, in order: the answer goes
-/// into `out`, and what the program writes to standard error into `why`.
+/// Answers a question of `wadlens` over the files that are handed in, one for each path, in order. The answer goes into `out`,
+/// and what the program writes to standard error into `why`.
 ///
-/// What the host keeps is as for `run_wadlook`.
+/// The host must keep the same as for `run_wadlook`.
 #[unsafe(no_mangle)]
 pub extern "C" fn run_wadlens(
     heap: Block,

@@ -1,4 +1,4 @@
-//! What words of `wadlook` ask for.
+//! Commands of `wadlook` over files in memory.
 ghost use Rattle.std.specs.Prelude.{◌≡◌, ◌<◌, ◌≤◌, false, length, map, string_bytes};
 ghost use Rattle.wad_dir.specs.declared.set.TheConstants.{MAX_FILES};
 ghost use Rattle.wad_look.specs.Opening.{bytes_of};
@@ -11,7 +11,7 @@ use memory_streams::FromSlice;
 use std::alloc::Allocator;
 use wad_look::{Cmd, Job, RunFault, job, run};
 
-/// Does what the words ask for over the files and the input: whether it was done without a fault found.
+/// Does what the words ask for over the files and the input. The result is true if no fault was found.
 pub fn do_words<A: Allocator + Copy, W: Sink>(
     alloc: A,
     words: Parts<'_>,
@@ -36,7 +36,7 @@ pub fn do_words<A: Allocator + Copy, W: Sink>(
     page_end(run_files(alloc, &texts, job, &bytes, input, out))
 }
 
-// Runs the command of the job over its files. The file of `lmp` is read as the input.
+// Runs the job's command over its files. `lmp` reads its file as the input.
 fn run_files<A: Allocator + Copy, W: Sink>(
     alloc: A,
     words: &[String<A>],

@@ -14,7 +14,7 @@ pub struct Parts<'a> {
     pub sizes: &'a [usize],
 }
 
-/// The parts, each lent; None where the sizes aren't those of the bytes.
+/// The parts as borrowed slices; None if the sizes don't add up to the bytes.
 pub fn slices<'a, A: Allocator + Copy>(
     alloc: A,
     parts: Parts<'a>,

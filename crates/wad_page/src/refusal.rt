@@ -1,4 +1,4 @@
-//! Why there is no answer, how it is told, and the status for how a run ended.
+//! Why there is no answer, the text of that, and the status of a run.
 ghost use Rattle.std.specs.Prelude.{◌≡◌, IfSome, Some};
 ghost use Rattle.wad_page.specs.Ended.{TellsFront};
 ghost use Rattle.wad_page.specs.Refusal.{exit_status_of, page_end, reason_text, refusal_text};

@@ -1,4 +1,4 @@
-//! The words of `atlas`.
+//! The arguments of `atlas`.
 
 use crate::mistake::Mistake;
 use crate::shared_words::{cells_of, cells_word};
@@ -7,17 +7,17 @@ use clap::{Arg, ArgMatches, Command};
 use lens_commands::AtlasJob;
 use std::alloc::{AllocError, Global};
 
-/// What an atlas is made of, and where.
+/// What `atlas` is asked for.
 #[derive(Drop)]
 pub struct AtlasWords<'a> {
     pub job: AtlasJob<'a>,
     /// The path of the folder.
     pub folder: &'a str,
-    /// Whether standard error is told how far the run is.
+    /// Whether progress is shown on standard error.
     pub progress: bool,
 }
 
-/// The command, without the words on files.
+/// The command, without the arguments for its files.
 pub fn atlas_command<'a>(alloc: Global) -> Result<Command<'a>, AllocError> {
     let out = Arg::new(alloc, "out")
         .long("out")
@@ -32,7 +32,7 @@ pub fn atlas_command<'a>(alloc: Global) -> Result<Command<'a>, AllocError> {
 }
 
 impl<'a> AtlasWords<'a> {
-    /// What matches of the words ask for, and of the files.
+    /// Reads the arguments of `atlas`; `telling` has those for its files.
     pub fn of(telling: Telling<'a>, matches: &ArgMatches<'a>) -> Result<AtlasWords<'a>, Mistake> {
         // It is required.
         let folder = matches.get_str("out").unwrap_or("");

@@ -1,4 +1,4 @@
-//! A folder of the machine that an atlas is written into.
+//! A folder on disk that an atlas is written into.
 
 use le_rec::{EndFault, Sink};
 use lens_commands::{Folder, FolderFault, FolderRefusal, HandOn, KeepFault, Output};
@@ -8,7 +8,7 @@ use std::io::{ErrorKind, Write};
 use std::rt::Files;
 use std::{fs, io, str};
 
-/// A folder of the machine under its path. No clause knows what stands in it.
+/// A folder on disk, by its path. No clause knows its files.
 #[derive(Drop)]
 pub struct DiskFolder<'a, R: Files + AllocGlobal> {
     rt: &'a R,
@@ -17,7 +17,7 @@ pub struct DiskFolder<'a, R: Files + AllocGlobal> {
 }
 
 impl<'a, R: Files + AllocGlobal> DiskFolder<'a, R> {
-    /// The folder under this path, there or not.
+    /// The folder at this path, whether it exists or not.
     pub fn new(rt: &'a R, path: &'a str) -> Self {
         DiskFolder {
             rt,
@@ -26,7 +26,7 @@ impl<'a, R: Files + AllocGlobal> DiskFolder<'a, R> {
         }
     }
 
-    // The path under which a file stands that isn't whole, and the one that it takes then.
+    // The path of a file while it is written, and the one that it gets when it is whole.
     fn paths(&self, name: &[u8]) -> Result<(String, String), KeepFault> {
         let Ok(name) = str::from_utf8(name) else {
             return Err(KeepFault::Write);
@@ -36,7 +36,7 @@ impl<'a, R: Files + AllocGlobal> DiskFolder<'a, R> {
         Ok((part, whole))
     }
 
-    // Finds the folder empty, or makes it.
+    // Checks that the folder is empty, or creates it.
     fn find_or_create(&self) -> Result<(), FolderFault> {
         match fs::read_dir(&self.rt, self.path) {
             Ok(mut entries) => match entries.next() {
@@ -52,7 +52,7 @@ impl<'a, R: Files + AllocGlobal> DiskFolder<'a, R> {
         }
     }
 
-    // Makes the folder, which isn't there.
+    // Creates the folder, which doesn't exist yet.
     fn create(&self) -> Result<(), FolderFault> {
         match fs::create_dir(self.rt, self.path) {
             Ok(()) => Ok(()),
@@ -64,7 +64,7 @@ impl<'a, R: Files + AllocGlobal> DiskFolder<'a, R> {
     }
 }
 
-// Why a folder isn't taken, by an error of the machine's: want of memory, and else this refusal.
+// Why a folder isn't taken, by an I/O error: `Memory` if memory ran out, else this refusal.
 fn fault_of(error: &io::Error, refusal: FolderRefusal) -> FolderFault {
     match error.kind() {
         ErrorKind::OutOfMemory => FolderFault::Memory,
@@ -72,8 +72,8 @@ fn fault_of(error: &io::Error, refusal: FolderRefusal) -> FolderFault {
     }
 }
 
-/// A file of a folder of the machine, behind a buffer, with the path under which it stands and the one that it takes when it is
-/// whole: so neither is wanted memory for later. No clause knows what it has.
+/// A file of a folder on disk, behind a buffer. It keeps its path while it is written and its final path, so that neither needs
+/// memory later. No clause knows its bytes.
 #[derive(Drop)]
 pub struct DiskFile<W: Write + Drop> {
     output: Output<W>,
@@ -100,7 +100,7 @@ impl<W: Write + Drop> Sink for DiskFile<W> {
 impl<W: Write + Drop> HandOn for DiskFile<W> {
     ghost use Rattle.std.specs.Prelude.{[]};
 
-    // It stands in no log beside standard error.
+    // It shares no log with standard error, so nothing has to be handed on.
     ghost held = { λ _. [] };
 
     fn hand_on(&mut self) -> Result<(), EndFault> {
@@ -137,7 +137,7 @@ impl<R: Files + AllocGlobal> Folder for DiskFolder<'_, R> {
                 whole,
             }),
             Err(_) => {
-                // Nothing comes into it, so it doesn't stay.
+                // Nothing will be written to it, so it is removed.
                 let _ = fs::remove_file(self.rt, part.as_str());
                 Err(KeepFault::Memory)
             }
@@ -154,7 +154,7 @@ impl<R: Files + AllocGlobal> Folder for DiskFolder<'_, R> {
     }
 
     fn discard(&mut self, file: Self::File, _name: &[u8]) {
-        // What is left there isn't taken for a whole file by its name.
+        // If it can't be removed, its name shows that it isn't whole.
         let _ = fs::remove_file(self.rt, file.part.as_str());
     }
 }

@@ -1,4 +1,4 @@
-//! The words on how levels are judged.
+//! The arguments for how levels are judged.
 
 use crate::mistake::Mistake;
 use crate::shared_words::{reading_of, wide_word};
@@ -13,7 +13,7 @@ const IGNORABLE: &[&str] = &[
     "W4", "W5", "W6", "W7", "W8", "W9", "W10", "W11",
 ];
 
-/// Adds the words on how levels are judged, but for which codes are ignored.
+/// Adds the arguments for how levels are judged, except `--ignore`.
 pub fn with_judging<'a>(alloc: Global, command: Command<'a>) -> Result<Command<'a>, AllocError> {
     command
         .arg(wide_word(alloc))?
@@ -22,7 +22,7 @@ pub fn with_judging<'a>(alloc: Global, command: Command<'a>) -> Result<Command<'
         .arg(base_word(alloc)?)
 }
 
-/// The word by which codes are ignored.
+/// The option `--ignore`.
 pub fn ignore_word<'a>(alloc: Global) -> Arg<'a> {
     Arg::new(alloc, "ignore")
         .long("ignore")
@@ -34,7 +34,7 @@ pub fn ignore_word<'a>(alloc: Global) -> Arg<'a> {
         .help("Neither show nor count these notes and warnings, as N2,W7")
 }
 
-// The word by which warnings are told.
+// The option `--map`, which asks for warnings.
 fn map_word<'a>(alloc: Global) -> Arg<'a> {
     Arg::new(alloc, "map")
         .long("map")
@@ -42,7 +42,7 @@ fn map_word<'a>(alloc: Global) -> Arg<'a> {
         .help("Tell warnings, too: what references allow and no mapper wants")
 }
 
-// The word by which a warning ends a run as a fault does.
+// The option `--strict`: a warning ends a run as a fault does.
 fn strict_word<'a>(alloc: Global) -> Result<Arg<'a>, AllocError> {
     Arg::new(alloc, "strict")
         .long("strict")
@@ -51,7 +51,7 @@ fn strict_word<'a>(alloc: Global) -> Result<Arg<'a>, AllocError> {
         .requires_arg("map")
 }
 
-// The word for a file on which all stand.
+// The option `--base`, which names a base file.
 fn base_word<'a>(alloc: Global) -> Result<Arg<'a>, AllocError> {
     Arg::new(alloc, "base")
         .long("base")
@@ -63,7 +63,7 @@ fn base_word<'a>(alloc: Global) -> Result<Arg<'a>, AllocError> {
         .requires_arg("map")
 }
 
-/// How a command's matches ask for levels to be judged.
+/// How levels are to be judged, by a command's arguments.
 pub fn rules_of(matches: &ArgMatches<'_>) -> Result<Rules, Mistake> {
     let warnings = if matches.get_flag("strict") {
         Warnings::Strict
@@ -79,7 +79,7 @@ pub fn rules_of(matches: &ArgMatches<'_>) -> Result<Rules, Mistake> {
     })
 }
 
-// Which codes a command's matches ignore.
+// The codes that a command's arguments ignore.
 fn ignored_of(matches: &ArgMatches<'_>) -> Result<Ignored, Mistake> {
     let mut ignored = Ignored::none();
     if let Some(names) = matches.get_strs("ignore") {
@@ -92,7 +92,7 @@ fn ignored_of(matches: &ArgMatches<'_>) -> Result<Ignored, Mistake> {
     Ok(ignored)
 }
 
-/// The files on which all stand, by a command's matches.
+/// The base files that a command's arguments name.
 pub fn bases_of<'a>(alloc: Global, matches: &ArgMatches<'a>) -> Result<BasePaths<'a>, Mistake> {
     let mut paths = Vec::new(alloc);
     if let Some(named) = matches.get_strs("base") {

@@ -1,4 +1,5 @@
-//! The program `wadlens`: it reads its words, goes over the levels of each file in turn, and tells how that ended.
+//! The program `wadlens`: it reads its arguments, goes over the levels of each file in turn, and reports how that
+//! ended.
 #![tactic(auto)]
 
 mod atlas_words;
@@ -27,7 +28,7 @@ use std::rt::{Env, Files};
 use std::{env, io};
 use words::{Task, read_words, usage};
 
-// Why a run is refused whose words aren't all text: the kit hands them on as text alone.
+// The refusal of a run with an argument that isn't UTF-8: the kit hands arguments on as text only.
 const NOT_UTF_8: &str =
     "wadlens: a word isn't UTF-8, so the whole run is refused: hand such a file over as /dev/stdin <FILE";
 
@@ -36,14 +37,14 @@ fn main(rt: HostRuntime) -> ExitCode {
     let ended = do_words(&rt, errors, rt.stderr(), errors.is_terminal());
     if let Err(end) = &ended {
         if let Some(told) = end.message() {
-            // Where standard error fails too, nobody is left to be told.
+            // If standard error fails too, the message is lost.
             let _ = rt.eprintln(format_args!("wadlens: {told}"));
         }
     }
     ExitCode::from(exit_status(&ended))
 }
 
-// Does what the words ask for. How far the run is comes by itself where standard error is a terminal.
+// Does what the arguments ask for. If standard error is a terminal, progress is shown unasked.
 fn do_words<R: Env + Files + Input + Print + Eprint + AllocGlobal, E: Write + Drop>(
     rt: &R,
     errors: E,
@@ -136,7 +137,7 @@ fn do_task<R: Files + Input + Print + AllocGlobal, E: Write + Drop>(
     }
 }
 
-// The program's words, its name first.
+// The program's arguments, its name first.
 fn words_of<R: Env + Eprint + AllocGlobal>(rt: &R) -> Result<Vec<String>, End> {
     match env::args(rt) {
         Ok(words) => Ok(words.collect(rt.alloc())?),
@@ -148,7 +149,7 @@ fn words_of<R: Env + Eprint + AllocGlobal>(rt: &R) -> Result<Vec<String>, End> {
     }
 }
 
-// Tells why the words ask for nothing that is done.
+// Prints why no run is started: a mistake, the help or the version.
 fn tell_mistake<R: Print + Eprint + AllocGlobal>(rt: &R, command: &str, mistake: &Mistake) -> End {
     match mistake {
         Mistake::Words(error) => tell_words(rt, command, error),
@@ -156,7 +157,7 @@ fn tell_mistake<R: Print + Eprint + AllocGlobal>(rt: &R, command: &str, mistake:
     }
 }
 
-// Tells what is mistaken, and behind it how the words of the command go.
+// Prints the mistake, then the command's usage.
 fn tell_with_usage<R: Eprint + AllocGlobal>(
     rt: &R,
     command: &str,
@@ -165,12 +166,12 @@ fn tell_with_usage<R: Eprint + AllocGlobal>(
     let Ok(usage) = usage(rt.alloc(), command) else {
         return End::Memory;
     };
-    // Where standard error fails, nobody is left to be told.
+    // If standard error fails, the message is lost.
     let _ = rt.eprintln(format_args!("{mistaken}\n{}", usage.as_str()));
     End::Refused
 }
 
-// Tells what is mistaken in the words, or the help or the version that they ask for.
+// Prints the mistake in the arguments, or the help or the version that they ask for.
 fn tell_words<R: Print + Eprint + AllocGlobal>(rt: &R, command: &str, error: &clap::Error) -> End {
     match error.kind() {
         ErrorKind::OutOfMemory => End::Memory,

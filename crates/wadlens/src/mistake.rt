@@ -1,14 +1,14 @@
-//! Why words ask for nothing that is done.
+//! Why arguments start no run.
 
 use clap::Error;
 use std::alloc::AllocError;
 
-/// What is wrong with the words, or what they ask to be told.
+/// Why arguments start no run: a mistake, or a request for the help or the version.
 #[derive(Drop)]
 pub enum Mistake {
-    /// What the library says of them: what is mistaken, or the help or the version that they ask for.
+    /// A text of the argument library: a mistake, the help or the version.
     Words(Error),
-    /// What else is mistaken.
+    /// A mistake that the library doesn't look for.
     Told(&'static str),
 }
 

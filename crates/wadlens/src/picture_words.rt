@@ -1,4 +1,4 @@
-//! The words of `picture`.
+//! The arguments of `picture`.
 
 ghost use Rattle.std.specs.Prelude.{◌≡◌, ◌≤◌, length, vec_len};
 ghost use Rattle.wad_dir.specs.declared.set.TheConstants.{MAX_FILES};
@@ -16,7 +16,7 @@ use wad_dir::MAX_FILES;
 const BAD_FRAME: &str =
     "--frame wants four numbers from -32768 to 32767, the lesser first: X0,Y0,X1,Y1";
 
-/// The words.
+/// The command with its arguments.
 pub fn picture_command<'a>(alloc: Global) -> Result<Command<'a>, AllocError> {
     let wide = wide_word(alloc);
     let cells = cells_word(alloc);
@@ -58,7 +58,7 @@ pub struct PictureWords<'a> {
 }
 
 impl<'a> PictureWords<'a> {
-    /// What matches of the words ask for.
+    /// Reads the arguments of `picture`.
     pub fn of(alloc: Global, matches: &ArgMatches<'a>) -> Result<PictureWords<'a>, Mistake> {
         let mut files = Vec::new(alloc);
         if let Some(paths) = matches.get_strs("files") {
@@ -81,7 +81,7 @@ impl<'a> PictureWords<'a> {
         })
     }
 
-    /// What is asked of the engine.
+    /// The question for the engine.
     pub fn question(&self) -> PictureQuestion<'_> {
         PictureQuestion {
             name: self.name.as_bytes(),
@@ -102,7 +102,8 @@ impl<'a> PictureWords<'a> {
     }
 }
 
-// The frame of four numbers with commas between them: least x and y, then greatest.
+// The frame from a text of four numbers with commas between them: least x and y, then greatest x
+// and y.
 fn frame_of(text: &str) -> Option<Frame> {
     let mut numbers = text.split(',');
     let x0 = bound(numbers.next())?;

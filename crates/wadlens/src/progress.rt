@@ -1,4 +1,4 @@
-//! How far a run is, on one line that is rewritten.
+//! The line that shows how far a run is. It is rewritten in place.
 
 use lens_commands::Watch;
 use level_starts::next_start;
@@ -6,7 +6,7 @@ use std::alloc::Allocator;
 use std::io::Write;
 use wad_dir::Set;
 
-/// Tells how many files and levels are done, where there is an end for it. Where that fails, nobody is left to be told.
+/// Shows how many files and levels are done, if it has an end to write to. A failure there is ignored.
 #[derive(Drop)]
 pub struct Progress<P: Write + Drop> {
     end: Option<P>,
@@ -17,7 +17,7 @@ pub struct Progress<P: Write + Drop> {
 }
 
 impl<P: Write + Drop> Progress<P> {
-    /// Nothing is done so far.
+    /// The start of a run: no file and no level is done.
     pub fn new(end: Option<P>) -> Self {
         Progress {
             end,
@@ -27,7 +27,7 @@ impl<P: Write + Drop> Progress<P> {
         }
     }
 
-    // Writes the line over the one that stands.
+    // Counts one more file and its levels, and rewrites the line.
     fn show(&mut self, levels: u64) {
         self.files = self.files.saturating_add(1);
         self.levels = self.levels.saturating_add(levels);
@@ -37,7 +37,7 @@ impl<P: Write + Drop> Progress<P> {
         }
     }
 
-    // Leaves the line, where one stands.
+    // Writes these bytes behind the line, if one is shown.
     fn leave(&mut self, by: &str) {
         if let Some(end) = &mut self.end {
             if self.stands {
@@ -59,12 +59,12 @@ impl<P: Write + Drop> Watch for Progress<P> {
         self.show(0);
     }
 
-    // Clears the line, so that something else can be told there.
+    // Clears the line, so that something else can be printed there.
     fn clear(&mut self) {
         self.leave("\r\x1b[K");
     }
 
-    // Leaves the line as it is, and goes on to the next one.
+    // Keeps the line, and starts the next one.
     fn finish(&mut self) {
         self.leave("\n");
     }

@@ -1,4 +1,4 @@
-//! Words that several commands take.
+//! Arguments that several commands take.
 
 use crate::mistake::Mistake;
 use clap::{Arg, ArgAction, ArgMatches, value_parser};
@@ -6,10 +6,10 @@ use map_cells::CellCount;
 use map_level::Reading;
 use std::alloc::Global;
 
-/// How many cells the longer side of a picture has at most, where nothing is said.
+/// The default of `--cells`: how many cells the longer side of a picture has at most.
 const CELLS: u32 = 512;
 
-/// The word by which a level's indexes are read as numbers from 0 to 65535.
+/// The option `--wide`: a level's indexes are read as numbers from 0 to 65535.
 pub fn wide_word<'a>(alloc: Global) -> Arg<'a> {
     Arg::new(alloc, "wide")
         .long("wide")
@@ -17,7 +17,7 @@ pub fn wide_word<'a>(alloc: Global) -> Arg<'a> {
         .help("Read a level's indexes as numbers from 0 to 65535")
 }
 
-/// How a level's indexes are read, by what matches of the words.
+/// How a level's indexes are read, by a command's arguments.
 pub fn reading_of(matches: &ArgMatches<'_>) -> Reading {
     if matches.get_flag("wide") {
         Reading::Wide
@@ -35,7 +35,7 @@ pub fn cells_word<'a>(alloc: Global) -> Arg<'a> {
         .help("Draw at most N cells along the longer side [512 where it isn't given]")
 }
 
-/// How many cells are asked for, by what matches of the words.
+/// How many cells a command's arguments ask for.
 pub fn cells_of(matches: &ArgMatches<'_>) -> Result<CellCount, Mistake> {
     let cells = matches.get_one::<u32>("cells").unwrap_or(CELLS);
     CellCount::new(cells).ok_or(Mistake::Told("--cells wants a number from 1 to 1024"))

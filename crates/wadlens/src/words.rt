@@ -1,4 +1,4 @@
-//! What the words of the command line ask for.
+//! What the command line asks for.
 
 use crate::atlas_words::{AtlasWords, atlas_command};
 use crate::judging_words::{bases_of, ignore_word, rules_of, with_judging};
@@ -9,10 +9,10 @@ use lens_commands::{Job, SHOWN, Word};
 use lens_engines::Form;
 use std::alloc::{AllocError, Global};
 
-/// What the words ask for.
+/// What the command line asks for.
 #[derive(Drop)]
 pub enum Task<'a> {
-    /// The levels of files are told.
+    /// A report on files: `check`, `survey` or `demos`.
     Tell(Telling<'a>),
     /// A level is cut out.
     Cut(CutWords<'a>),
@@ -41,29 +41,30 @@ pub struct CompareWords<'a> {
     pub path_b: &'a str,
 }
 
-/// What is told of files.
+/// What is reported on files, and how.
 #[derive(Drop)]
 pub struct Telling<'a> {
     pub job: Job<'a>,
     /// Whether nothing is written to standard output.
     pub quiet: bool,
-    /// Whether standard error is told how far the run is.
+    /// Whether progress is shown on standard error.
     pub progress: bool,
 }
 
-/// Reads the words, the program's name first. An `Err` has the text for whoever wrote them: what is mistaken, or the help or
-/// the version that they ask for.
+/// Reads the arguments, the program's name first. An `Err` has the text for the user: what is wrong, or the help or the
+/// version that was asked for.
 pub fn read_words<'a>(alloc: Global, words: &'a [String]) -> Result<Task<'a>, Mistake> {
     let matches = program(alloc)?.try_get_matches_from(words)?;
     task_of(alloc, &matches)
 }
 
-/// The usage of a command, for a mistake whose text lacks it, or that of the program.
+/// The usage of a command that takes values, and of the program for any other name. It goes with a mistake whose text lacks
+/// it.
 pub fn usage(alloc: Global, command: &str) -> Result<String, AllocError> {
     command_named(alloc, command)?.render_usage()
 }
 
-// The command that takes values, of this name.
+// The command of this name, if it takes values, and else the program.
 fn command_named<'a>(alloc: Global, name: &str) -> Result<Command<'a>, AllocError> {
     match name {
         "check" => check_command(alloc)?.bin_name("wadlens check"),
@@ -75,7 +76,7 @@ fn command_named<'a>(alloc: Global, name: &str) -> Result<Command<'a>, AllocErro
     }
 }
 
-// The words that there are.
+// The program with all its commands.
 fn program<'a>(alloc: Global) -> Result<Command<'a>, AllocError> {
     let program = Command::new(alloc, "wadlens")
         .version("0.1.0")
@@ -103,7 +104,7 @@ fn with_single<'a>(alloc: Global, program: Command<'a>) -> Result<Command<'a>, A
         .subcommand(assemble_command(alloc))
 }
 
-// The words of `check`.
+// The command `check`.
 fn check_command<'a>(alloc: Global) -> Result<Command<'a>, AllocError> {
     let most = Arg::new(alloc, "max")
         .long("max")
@@ -130,7 +131,7 @@ fn check_command<'a>(alloc: Global) -> Result<Command<'a>, AllocError> {
     with_levels(alloc, check)
 }
 
-// The words of `survey`.
+// The command `survey`.
 fn survey_command<'a>(alloc: Global) -> Result<Command<'a>, AllocError> {
     let survey = Command::new(alloc, "survey")
         .about("Write a JSON object a line for each level and each refused file")
@@ -138,7 +139,7 @@ fn survey_command<'a>(alloc: Global) -> Result<Command<'a>, AllocError> {
     with_levels(alloc, survey)
 }
 
-// The words of `demos`.
+// The command `demos`.
 fn demos_command<'a>(alloc: Global) -> Result<Command<'a>, AllocError> {
     let json = Arg::new(alloc, "json")
         .long("json")
@@ -150,7 +151,7 @@ fn demos_command<'a>(alloc: Global) -> Result<Command<'a>, AllocError> {
     with_files(alloc, demos)
 }
 
-// The words of `compare`.
+// The command `compare`.
 fn compare_command<'a>(alloc: Global) -> Result<Command<'a>, AllocError> {
     let a = Arg::new(alloc, "a")
         .value_name("A")
@@ -166,14 +167,14 @@ fn compare_command<'a>(alloc: Global) -> Result<Command<'a>, AllocError> {
         .arg(b)
 }
 
-// The word `assemble`, which stands alone.
+// The command `assemble`, which takes no arguments.
 fn assemble_command<'a>(alloc: Global) -> Command<'a> {
     Command::new(alloc, "assemble").about(
         "Write the demo of which standard input is the listing, as `wadlook demo` prints it, on standard output",
     )
 }
 
-// The words of `cut`.
+// The command `cut`.
 fn cut_command<'a>(alloc: Global) -> Result<Command<'a>, AllocError> {
     let entry = Arg::new(alloc, "entry")
         .long("entry")
@@ -191,12 +192,12 @@ fn cut_command<'a>(alloc: Global) -> Result<Command<'a>, AllocError> {
         .arg(file)
 }
 
-// Adds the words on files, and on how their levels are judged.
+// Adds the arguments for files, and for how their levels are judged.
 fn with_levels<'a>(alloc: Global, command: Command<'a>) -> Result<Command<'a>, AllocError> {
     with_files(alloc, with_judging(alloc, command)?)
 }
 
-// Adds the words on files.
+// Adds the arguments for files.
 fn with_files<'a>(alloc: Global, command: Command<'a>) -> Result<Command<'a>, AllocError> {
     command
         .arg(files_word(alloc)?)?
@@ -205,7 +206,7 @@ fn with_files<'a>(alloc: Global, command: Command<'a>) -> Result<Command<'a>, Al
         .arg(progress_word(alloc))
 }
 
-// The words that are files.
+// The arguments that are files.
 fn files_word<'a>(alloc: Global) -> Result<Arg<'a>, AllocError> {
     Arg::new(alloc, "files")
         .value_name("FILE")
@@ -215,7 +216,7 @@ fn files_word<'a>(alloc: Global) -> Result<Arg<'a>, AllocError> {
         .required_unless_present("files-from")
 }
 
-// The word for a list of more files.
+// The option `--files-from`: a list of more files.
 fn list_word<'a>(alloc: Global) -> Arg<'a> {
     Arg::new(alloc, "files-from")
         .long("files-from")
@@ -223,7 +224,7 @@ fn list_word<'a>(alloc: Global) -> Arg<'a> {
         .help("Then the files whose paths stand in LIST, one a line; `-`: standard input")
 }
 
-// The word by which that list's paths are ended by NULs.
+// The option `--null`: the paths of that list end in NULs.
 fn null_word<'a>(alloc: Global) -> Result<Arg<'a>, AllocError> {
     Arg::new(alloc, "null")
         .long("null")
@@ -232,7 +233,7 @@ fn null_word<'a>(alloc: Global) -> Result<Arg<'a>, AllocError> {
         .requires_arg("files-from")
 }
 
-// The word by which a run tells how far it is.
+// The option `--progress`.
 fn progress_word<'a>(alloc: Global) -> Arg<'a> {
     Arg::new(alloc, "progress")
         .long("progress")
@@ -240,7 +241,7 @@ fn progress_word<'a>(alloc: Global) -> Arg<'a> {
         .help("Tell on standard error how many files and levels are done")
 }
 
-// What matches of the words ask for. What is asked of them is required.
+// What the arguments ask for. Values that are read here without a default are required.
 fn task_of<'a>(alloc: Global, matches: &ArgMatches<'a>) -> Result<Task<'a>, Mistake> {
     if let Some(of_atlas) = matches.subcommand_matches("atlas") {
         let telling = job_over(alloc, Word::Survey, of_atlas)?;
@@ -267,7 +268,7 @@ fn task_of<'a>(alloc: Global, matches: &ArgMatches<'a>) -> Result<Task<'a>, Mist
     Ok(Task::Tell(job_of(alloc, matches)?))
 }
 
-// What matches of the words ask to be told.
+// Which report the arguments ask for.
 fn job_of<'a>(alloc: Global, matches: &ArgMatches<'a>) -> Result<Telling<'a>, Mistake> {
     match matches.subcommand_matches("check") {
         Some(of_check) => {
@@ -284,7 +285,7 @@ fn job_of<'a>(alloc: Global, matches: &ArgMatches<'a>) -> Result<Telling<'a>, Mi
     }
 }
 
-// In which form a command's matches ask to be answered.
+// The form that a command's arguments ask for.
 fn form_of(matches: &ArgMatches<'_>) -> Form {
     if matches.get_flag("json") {
         Form::Objects
@@ -293,7 +294,7 @@ fn form_of(matches: &ArgMatches<'_>) -> Form {
     }
 }
 
-// What is asked of the files that a command's matches name.
+// The job over the files that a command's arguments name.
 fn job_over<'a>(
     alloc: Global,
     word: Word,

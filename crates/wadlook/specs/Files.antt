@@ -30,8 +30,7 @@ pub record IsTooLong (held : List ℕ → Option (List ℕ)) (paths : List (List
   pub at : IsNumbered held paths n
   pub over : IfSome (held at.reached.path) (λ file. MAX_READ < total_length at.reached.files + length file)
 
--- why the files aren't read: one of them can't be, they are too long, or a growth was refused; no file is told behind one
--- that is too long
+-- why the files aren't read: one can't be read, they are too long, or a growth was refused; no refused file comes after one that is too long
 abbrev pub RefusesPaths : (List ℕ → Option (List ℕ)) → List (List ℕ) → ProgramRefusal → Type 0
 RefusesPaths held paths (Unreadable n) = IsNumbered held paths n
 RefusesPaths held paths (TooLong n) = IsTooLong held paths n

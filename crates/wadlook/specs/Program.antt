@@ -20,8 +20,8 @@ abbrev pub program_end : Result Bool RunFault → Result Bool ProgramRefusal
 program_end (Ok clean) = Ok clean
 program_end (Err fault) = Err (Run fault)
 
--- the job's command runs over these files, from an input that has the bytes `left`, where they are known; the program
--- ends as it does, or because the output can't be written
+-- the job's command runs over these files and an input with the bytes `left`, if they are known; the program ends as the command does, or because the
+-- output can't be written
 pub record RunsFiles {S W : Type 0} (source : S → SourceState) (sink : W → SinkState) (left : Option (List ℕ)) (words : List (List ℕ)) (job : Job) (files : List (List ℕ)) (result : Result Bool ProgramRefusal) : Type 0 where
   pub input : S
   pub input' : S
@@ -32,12 +32,12 @@ pub record RunsFiles {S W : Type 0} (source : S → SourceState) (sink : W → S
   pub runs : RunsJob source sink words job files input input' out out' outcome
   pub ended : (result ≡ program_end outcome) ⊎ (result ≡ Err (Run Write))
 
--- why the command of a job doesn't run: its files aren't read; that of `lmp` is never too long to be read
+-- why a job's command doesn't run: its files can't be read; the file of `lmp` is never too long
 abbrev pub RefusesJob : (List ℕ → Option (List ℕ)) → List (List ℕ) → Job → ProgramRefusal → Type 0
 RefusesJob held words job (TooLong n) = (job.command ≢ Lmp) × IsTooLong held (paths_of words job) n
 RefusesJob held words job refusal = RefusesPaths held (paths_of words job) refusal
 
--- why no command runs: the words are no form of one, or that of their job doesn't
+-- why no command runs: the words are no form of one, or their job's command doesn't run
 abbrev pub RefusesWords : (List ℕ → Option (List ℕ)) → List (List ℕ) → ProgramRefusal → Type 0
 RefusesWords held words Usage = (job : Job) → ¬ IsJob words job
 RefusesWords held words refusal = (job : Job) × IsJob words job × RefusesJob held words job refusal

@@ -7,8 +7,8 @@ use line_io::BUFFER;
 use std::alloc::{AllocError, Global};
 use std::io::Read;
 
-/// A reader as a source, with a block of its bytes, so that a pull of a few is no call. A pull reads once where the block was
-/// given whole, and else gives what is there. An error of the reader, of whatever kind, is a failed pull.
+/// A reader as a source. It buffers one block, so a pull of a few bytes needs no call. A pull reads once if the block is used
+/// up, and else gives what the block has left. Any error of the reader is a failed pull.
 #[derive(Drop)]
 pub struct BlockSource<R> {
     reader: R,
@@ -43,7 +43,7 @@ impl<R: Read> BlockSource<R> {
         })
     }
 
-    // Reads a block in place of one that was given whole.
+    // Reads the next block, once the last one is used up.
     #[cold]
     #[inline(never)]
     fn read_block(&mut self) -> Result<(), EndFault>
@@ -66,7 +66,7 @@ impl<R: Read> BlockSource<R> {
         }
     }
 
-    // Moves as many of the block's bytes as `buf` has room for to its front.
+    // Moves bytes of the block to the front of `buf`, as many as it has room for.
     #[inline]
     fn give(&mut self, buf: &mut [u8]) -> usize
         ensures count { result ≡ min (self.old.end - self.old.start) (length buf.new) }
@@ -102,7 +102,7 @@ impl<R: Read> Source for BlockSource<R> {
     }
 }
 
-// Copies bytes, those of a command's two parts without a call.
+// Copies bytes. The lengths of a command's two parts are fixed ones, which need no call.
 #[inline]
 fn copy(from: &[u8], to: &mut [u8])
     requires { length to.old ≡ length from.now }

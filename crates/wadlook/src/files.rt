@@ -9,7 +9,7 @@ use line_io::{FirstUnread, Storage, StorageFault, read_files};
 use std::alloc::Global;
 use wad_look::{MAX_READ, RunFault};
 
-/// Reads the files under the paths, which have together at most `MAX_READ` bytes.
+/// Reads the files at the paths. Together they may have at most `MAX_READ` bytes.
 pub fn read_paths<S: Storage>(
     alloc: Global,
     storage: &S,

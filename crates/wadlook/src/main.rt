@@ -1,4 +1,5 @@
-//! The program `wadlook`: it reads its words and its files, runs the command over them, and tells how that ended.
+//! The program `wadlook`: it reads its arguments and its files, runs the command over them, and reports how that
+//! ended.
 #![tactic(auto)]
 
 mod block_source;
@@ -17,13 +18,13 @@ use wad_look::RunFault;
 fn main(rt: HostRuntime) -> ExitCode {
     let outcome = run(&rt);
     if let Err(refusal) = &outcome {
-        // Where standard error fails too, nobody is left to be told.
+        // If standard error fails too, the message is lost.
         let _ = rt.eprintln(format_args!("refused: {refusal}"));
     }
     ExitCode::from(exit_status(&outcome))
 }
 
-// Does what the program's words ask for; with none it says which there are.
+// Does what the arguments ask for. Without any it prints their form.
 fn run<R: Env + Files + Input + Print + AllocGlobal>(rt: &R) -> Result<bool, ProgramRefusal> {
     let words = read_words(rt)?;
     if words.is_empty() {
@@ -34,14 +35,14 @@ fn run<R: Env + Files + Input + Print + AllocGlobal>(rt: &R) -> Result<bool, Pro
     do_words(rt.alloc(), &words, &Disk(rt), rt.reader(), io::writer(rt))
 }
 
-// The words after the program's name.
+// The arguments after the program's name.
 fn read_words<R: Env + AllocGlobal>(rt: &R) -> Result<Vec<String>, ProgramRefusal> {
     match env::args(rt) {
         Ok(words) => Ok(words.skip(1).collect(rt.alloc())?),
         Err(e) if e.kind() == io::ErrorKind::OutOfMemory => Err(ProgramRefusal::Run(
             RunFault::Memory,
         )),
-        // A word that isn't UTF-8 is no command, name or path here.
+        // An argument that isn't UTF-8 is no command, name or path here.
         Err(_) => Err(ProgramRefusal::Usage),
     }
 }

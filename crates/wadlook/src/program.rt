@@ -1,4 +1,4 @@
-//! What the words ask for, over any files, reader and writer.
+//! Runs what the arguments ask for, over any files, reader and writer.
 ghost use Rattle.std.specs.Prelude.{◌≡◌, ◌≤◌, ◌⊎◌, Err, length, map, string_bytes};
 ghost use Rattle.wad_dir.specs.declared.set.TheConstants.{MAX_FILES};
 ghost use Rattle.wad_look.specs.Opening.{bytes_of};
@@ -16,7 +16,7 @@ use std::alloc::Global;
 use std::io::{Read, Write};
 use wad_look::{Cmd, Job, RunFault, job, run};
 
-/// Does what the words ask for: whether it was done without a fault found.
+/// Does what the arguments ask for. The result is true if no fault was found.
 pub fn do_words<D: Storage, I: Read + Drop, O: Write + Drop>(
     alloc: Global,
     words: &[String],
@@ -37,7 +37,7 @@ pub fn do_words<D: Storage, I: Read + Drop, O: Write + Drop>(
     run_files(alloc, words, job, &files, reader, writer)
 }
 
-// Runs the command over its files, with the ends tied to one another.
+// Runs the command over its files, with the input and the output tied to one another.
 fn run_files<I: Read + Drop, O: Write + Drop>(
     alloc: Global,
     words: &[String],
@@ -59,7 +59,7 @@ fn run_files<I: Read + Drop, O: Write + Drop>(
     program_end(closed(&output, outcome))
 }
 
-// Lists the demo in the file of the job while it is read, with standard input left alone.
+// Lists the demo in the job's file while it is read. Standard input isn't used.
 fn list_file<D: Storage, O: Write + Drop>(
     alloc: Global,
     words: &[String],
@@ -86,7 +86,8 @@ fn list_file<D: Storage, O: Write + Drop>(
     program_end(closed(&output, ended))
 }
 
-// Ends a run with this outcome: `Write` where the output can't be written out, also where the run met that as a failed read.
+// The outcome of a run, or `Write` if the output can't be flushed. That includes a flush that failed before a read, which
+// the run saw as a failed read.
 fn closed<O: Write + Drop>(
     output: &TiedWriter<O>,
     outcome: Result<bool, RunFault>,

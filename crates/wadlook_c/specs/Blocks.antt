@@ -9,7 +9,7 @@ use Rattle.wadlook_c.specs.declared.block.Unlisted.TheVariants as why
 use Rattle.wadlook_c.specs.declared.block.WadlookBlock.{WadlookBlock}
 use Rattle.wadlook_c.specs.declared.points.WadlookPoint.{WadlookPoint}
 
--- a list stands at these words, and is that of the block of the number
+-- these words of BLOCKMAP are a list, and it is the list of block n
 pub record TellsList (map : BlockMap) (n first count : ℕ) : Type 0 where
   pub offset : HasOffset map.words n first
   pub list : IsBlockList map.words n (take count (drop first map.words.numbers))

@@ -14,16 +14,16 @@ pub record TellsLeaf (level : Level) (point : Point) (told : WadlookPlace) : Typ
   pub only : (t : ℕ) → IsLeaf level point t → t ≡ told.ssector
   pub sector : sector_of level told.ssector ≡ Some told.sector
 
--- what is told where there is nothing to tell: ssector 65535, which no level has
+-- the answer where there is none: ssector 65535, which no level has
 abbrev pub nowhere : WadlookPlace
 nowhere = record { ssector = 65535; sector = 65535 }
 
--- what is told of a point, which is nothing where a coordinate is out of range
+-- the answer for a point: `nowhere` if a coordinate is out of range
 pub record TellsPlace (level : Level) (asked : WadlookPoint) (told : WadlookPlace) : Type 0 where
   pub inside : IsInRange asked.x → IsInRange asked.y → TellsLeaf level (point_at asked.x asked.y) told
   pub outside : ¬ (IsInRange asked.x × IsInRange asked.y) → told ≡ nowhere
 
--- a sector that a list has for the ssector, or nothing
+-- `nowhere`, or an ssector with the sector that the list has for it
 abbrev pub IsListed : List ℕ → WadlookPlace → Type 0
 IsListed listed told = (told ≡ nowhere) ⊎ (slice_get listed told.ssector ≡ Some told.sector)
 

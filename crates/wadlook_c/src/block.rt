@@ -15,7 +15,8 @@ use map_geo::Point;
 use map_level::{Reading, number};
 use map_tables::{BlockFault, BlockMap};
 
-/// The block of a point, and its list: so many words of BLOCKMAP from one on, counted from 0.
+/// The block of a point, and its list: the number of its first word in BLOCKMAP, from 0, and how
+/// many words it has.
 #[repr(C)]
 #[derive(Clone, Copy)]
 pub struct WadlookBlock {
@@ -40,7 +41,8 @@ pub enum Unlisted {
     NoEnd,
 }
 
-/// Writes to `block` the block that holds a point and where its list lies in BLOCKMAP's bytes: 0.
+/// Writes to `block` the block that holds a point, and where its list lies in BLOCKMAP's bytes. It
+/// returns 0, or else the status of a refusal.
 #[unsafe(no_mangle)]
 pub extern "C" fn wadlook_block(
     blockmap: &[u8],
@@ -165,7 +167,7 @@ fn count(size: i16) -> u16
     if size < 0 { 0 } else { size as u16 }
 }
 
-// The number of why there is no list.
+// The status for why there is no list.
 fn unlisted_number(why: Unlisted) -> u32
     ensures { result ≡ unlisted_number why }
 {

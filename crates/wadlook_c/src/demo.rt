@@ -42,7 +42,8 @@ pub struct WadlookCommand {
     pub buttons: u8,
 }
 
-/// Writes what a demo's bytes say to `info`, and as many commands as there is room for: 0.
+/// Writes a demo's header and numbers to `info`, and as many commands as there is room for. It returns 0, or
+/// else the status of a refusal.
 #[unsafe(no_mangle)]
 pub extern "C" fn wadlook_demo(
     bytes: &[u8],

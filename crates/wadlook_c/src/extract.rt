@@ -11,8 +11,8 @@ use map_level::{Level, Reading};
 use std::alloc::Global;
 use wad_look::{RunFault, pack_level};
 
-/// Writes a PWAD of the level alone to the front of `out`, and how many bytes it has to `written`: 0. Where there is no
-/// room `written` is what it needs.
+/// Writes a PWAD of the level alone to the front of `out`, and its number of bytes to `written`. It returns 0, or else
+/// the status of a refusal. At `NO_ROOM`, `written` is the number of bytes that it needs.
 #[unsafe(no_mangle)]
 pub extern "C" fn wadlook_extract(
     alloc: Global,

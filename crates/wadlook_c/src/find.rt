@@ -15,7 +15,7 @@ use std::alloc::{Allocator, Global};
 use wad_dir::{LumpFault, Place, Set};
 use wad_look::RunFault;
 
-/// An entry's number, from 0, and its lump: so many bytes of the file from a place on.
+/// An entry's number, from 0, and its lump: its place in the file and its size.
 #[repr(C)]
 #[derive(Clone, Copy)]
 pub struct WadlookLump {
@@ -24,8 +24,8 @@ pub struct WadlookLump {
     pub size: usize,
 }
 
-/// Writes to `lump` the entry that stands so many entries after the last one of a name, and where its lump lies: 0. After
-/// a level's label, 1 to 10 are its lumps.
+/// Finds the last entry of a name, and then the entry `after` places behind it. Writes that entry and where its lump lies
+/// to `lump`. After a level's label, 1 to 10 are its lumps. It returns 0, or else the status of a refusal.
 #[unsafe(no_mangle)]
 pub extern "C" fn wadlook_find(
     alloc: Global,
@@ -47,7 +47,7 @@ pub extern "C" fn wadlook_find(
     }
 }
 
-// The lump of the entry so many entries after the last one of a name.
+// The lump of the entry `after` places behind the last one of a name.
 fn found(alloc: Global, wad: &[u8], name: &[u8], after: usize) -> Result<WadlookLump, RunFault>
     ensures ok { IfOk result (IsFound wad.now name.now after) }
     ensures err { IfErr result (RefusesLump wad.now name.now after) }

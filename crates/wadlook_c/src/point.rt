@@ -18,8 +18,8 @@ use map_geo::{Partition, Point, Side, side};
 use map_tree::NF_SUBSECTOR;
 
 /// The ssector and the sector of a point, by the bytes of a level's nodes and by the sectors of its ssectors, as
-/// `wadlook_prepare` lists them. It may be handed any bytes and any numbers: where they are no sound level's, the answer
-/// is some ssector and its sector or `NOWHERE`.
+/// `wadlook_prepare` lists them. Any bytes and any numbers may be handed in. If they aren't a sound level's, the answer
+/// is some ssector with its listed sector, or `NOWHERE`.
 #[unsafe(no_mangle)]
 pub extern "C" fn wadlook_point(nodes: &[u8], sectors: &[u16], point: WadlookPoint) -> WadlookPlace
     ensures prepared { (level : Level) → IsPrepared level nodes.now sectors.now → TellsPlace level point result }
@@ -92,7 +92,7 @@ fn word_beside(node: &Node, point: Point) -> Option<u16>
     ensures { IsInRange node.now.x → IsInRange node.now.y
         → IsSomeAnd result (λ next. next ≡ word_at node.now (side_of (partition_of node.now) point)) }
 {
-    // Its origin is in range: one test of both numbers, where `Partition::of` has two.
+    // Its origin is in range. This tests both numbers at once, where `Partition::of` has two tests.
     let _origin = Point::new(i32::from(node.x), i32::from(node.y))?;
     let (front, back) = (node.child0, node.child1);
     Some(match side(point, Partition::at(node)) {

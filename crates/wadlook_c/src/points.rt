@@ -31,14 +31,14 @@ pub struct WadlookPlace {
     pub sector: u16,
 }
 
-/// What is told of a point that is out of range: ssector 65535, which no level has.
+/// The answer for a point out of range: ssector 65535, which no level has.
 pub const NOWHERE: WadlookPlace = WadlookPlace {
     ssector: 65535,
     sector: 65535,
 };
 
-/// Writes to `out` at each point's number the ssector and the sector of the point, in the level of a name of one file:
-/// 0. Otherwise nothing is written, and the number is that of the refusal.
+/// Writes to `out`, at each point's number, the ssector and the sector of the point in the named level of one file. It
+/// returns 0. Otherwise nothing is written, and it returns the status of the refusal.
 #[unsafe(no_mangle)]
 pub extern "C" fn wadlook_points(
     alloc: Global,

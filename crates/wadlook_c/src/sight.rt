@@ -7,8 +7,8 @@ ghost use Rattle.wadlook_c.specs.Sights.{TellsSight, reject_of};
 use crate::status::{DONE, NO_SECTOR, UNKNOWN};
 use map_tables::Reject;
 
-/// Writes to `blocked` whether REJECT's bytes, of a level with so many sectors, refuse the sight from a sector to another,
-/// 1 or 0: 0.
+/// Writes to `blocked` whether REJECT's bytes refuse the sight from one sector to another, 1 or 0, in a level of `sectors`
+/// sectors. It returns 0, or else the status of a refusal.
 #[unsafe(no_mangle)]
 pub extern "C" fn wadlook_sight(
     reject: &[u8],

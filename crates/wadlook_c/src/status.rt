@@ -1,4 +1,4 @@
-//! The numbers with which calls end.
+//! The statuses of calls.
 
 ghost use Rattle.std.specs.Prelude.{◌≡◌};
 ghost use Rattle.wadlook_c.specs.Status.{demo_number_of, level_number_of, number_of, wad_number_of};
@@ -31,7 +31,7 @@ pub const NO_SECTOR: u32 = 23;
 /// REJECT ends before the bit.
 pub const UNKNOWN: u32 = 24;
 
-/// The number of a fault.
+/// The status for a fault.
 pub fn number_of(fault: RunFault) -> u32
     ensures { result ≡ number_of fault }
 {
@@ -52,7 +52,7 @@ pub fn number_of(fault: RunFault) -> u32
     }
 }
 
-// The number of why a file has no directory.
+// The status for why a file has no directory.
 fn wad_number_of(why: WadFault) -> u32
     ensures { result ≡ wad_number_of why }
 {
@@ -64,7 +64,7 @@ fn wad_number_of(why: WadFault) -> u32
     }
 }
 
-// The number of why there is no level.
+// The status for why there is no level.
 fn level_number_of(why: LevelFault) -> u32
     ensures { result ≡ level_number_of why }
 {
@@ -75,7 +75,7 @@ fn level_number_of(why: LevelFault) -> u32
     }
 }
 
-/// The number of why bytes are no demo.
+/// The status for why bytes are no demo.
 pub fn demo_number_of(why: DemoFault) -> u32
     ensures { result ≡ demo_number_of why }
 {

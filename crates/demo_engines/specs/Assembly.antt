@@ -1,4 +1,4 @@
--- What is put together of a listing (ours).
+-- The demo of a listing (ours).
 use Rattle.std.specs.Prelude.{◌≡◌, ◌≢◌, ◌⊎◌, ℕ, ◌+◌, ◌%◌, ◌^◌, ◌<◌, true, false, if◌then◌else◌, All, Contains, List, [], ◌∷◌, ◌++◌, codes, length, nat_eq}
 use Rattle.demo_engines.specs.declared.assembly.AssembleFault.{AssembleFault}
 use Rattle.demo_engines.specs.declared.assembly.AssembleFault.TheVariants.{Line, Memory}
@@ -22,7 +22,7 @@ pub record IsListingOf (text : List ℕ) (demo : Demo) : Type 0 where
   pub few : demo.after < 2 ^ 64
   pub printed : text ≡ listing demo
 
--- the bytes are the header, the commands and the marker of the demo of which the text is the listing
+-- the bytes are the header, the commands and the marker of the demo with this listing
 pub record IsAssembled (text bytes : List ℕ) : Type 0 where
   pub demo : Demo
   pub is : IsListingOf text demo
@@ -45,8 +45,8 @@ pub data AreLines : ℕ → List ℕ → Type 0 where
   none : AreLines 0 []
   more : (n : ℕ) (before line : List ℕ) → AreLines n before → IsLine line → AreLines (n + 1) (before ++ line)
 
--- The number of the first line by which a text is no listing: the lines before it begin one, and with it they begin none, or no line
--- that is ended follows them.
+-- The number of the first line at which a text stops being a listing. The lines before it begin a listing; with it they begin none, or no ended line
+-- follows them.
 pub record IsWrongLine (text : List ℕ) (number : ℕ) : Type 0 where
   pub none : (demo : Demo) → ¬ IsListingOf text demo
   pub count : ℕ
@@ -69,8 +69,8 @@ pub record HasHeaderLine (text : List ℕ) : Type 0 where
 abbrev pub LacksEnd : List ℕ → Type 0
 LacksEnd text = (0 < length text) × ¬ Contains text 10
 
--- What is wanted of `rest` behind lines that begin a listing: the end of its line; a header; nothing, since they are all of one; the
--- totals of their commands, where it begins so; a command of the tic and the player whose turn is next, or those totals.
+-- What must follow lines that begin a listing, before `rest`: the end of its line; a header; nothing, as they are a whole listing; the totals of their
+-- commands, if `rest` begins so; else a command of the tic and the player whose turn is next, or those totals.
 abbrev pub IsWanted : List ℕ → List ℕ → Wanted → Type 0
 IsWanted before rest wanted.LineEnd = LacksEnd rest
 IsWanted before rest wanted.Header = before ≡ []
@@ -80,29 +80,29 @@ IsWanted before rest (wanted.Totals tics odd) =
 IsWanted before rest (wanted.TicCommand tic player) =
     (starts_with nat_eq rest (codes "tics") ≡ false) × (command : Command) × BeginsListing (before ++ ticcmd_line tic player command)
 
--- a text is no listing from a line on, and what is wanted there: first of all that the line ends
+-- a text is no listing from a line on, and what must follow there; the end of that line comes first
 pub record RefusesListing (text : List ℕ) (number : ℕ) (found : Wanted) : Type 0 where
   pub line : IsWrongLine text number
   pub is : IsWanted line.before line.rest found
   pub first : LacksEnd line.rest → found ≡ wanted.LineEnd
 
--- what is wanted of a text behind a header and commands, when it is this turn
+-- what must follow a header and commands at this turn
 abbrev pub wanted_behind : List ℕ → Turn → Wanted
 wanted_behind text turn =
     if starts_with nat_eq text (codes "tics")
     then wanted.Totals (tic_of turn.players turn.index) (turn.index % players_in turn.players)
     else wanted.TicCommand (tic_of turn.players turn.index) (player_of turn.players turn.index)
 
--- what is wanted of a text where else `other` is
+-- what must follow where it is else `other`: an end comes first
 abbrev pub WantsFirst : List ℕ → Wanted → Wanted → Type 0
 WantsFirst text other found = (LacksEnd text × (found ≡ wanted.LineEnd)) ⊎ ((¬ LacksEnd text) × (found ≡ other))
 
--- why no demo is put together from a text: a line of it is wrong, or there was no memory for what follows its header
+-- why no demo can be assembled from a text: a line of it is wrong, or there was no memory for what follows its header
 abbrev pub WhyNone : List ℕ → AssembleFault → Type 0
 WhyNone text (Line number found) = RefusesListing text number found
 WhyNone text Memory = HasHeaderLine text
 
--- lines of commands stand at the front of a text, and no more of them: these commands, then it is this turn, and this is left
+-- all lines of commands at the front of a text: these commands, then it is this turn, and this text is left
 pub record IsTakenFrom (version : ℕ) (players text : List ℕ) (commands : List Command) (turn : Turn) (rest : List ℕ) : Type 0 where
   pub splits : text ≡ ticcmds_text players 0 commands ++ rest
   pub turns : turn ≡ record { players = players; index = length commands }

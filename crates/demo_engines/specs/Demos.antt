@@ -1,4 +1,4 @@
--- What is told of the demos of a file (ours): of the file itself, or of each demo lump of a WAD file in the order of the entries.
+-- The report on the demos of a file (ours): on the file itself, or on each demo lump of a WAD file in the order of the entries.
 use Rattle.std.specs.Prelude.{◌≡◌, ◌⊎◌, ℕ, ◌+◌, ◌<◌, Bool, true, false, ◌&&◌, ◌||◌, List, [], ◌∷◌, ◌++◌, length, codes, nat_eq, Option, Some, None, Result, Ok, Err, IfErr, IfOk, MatchBool}
 use Rattle.std.specs.Io.KnownBytes.{Appends, Keeps}
 use Rattle.std.specs.List.{slice_get, starts_with}
@@ -19,7 +19,7 @@ use Rattle.demo_engines.specs.declared.demos.DemosFault.TheVariants.{NoWad, Writ
 use Rattle.demo_engines.specs.declared.demos.Telling.{Telling}
 use Rattle.demo_engines.specs.declared.demos.Telling.TheVariants.{Lines, Objects}
 
--- how demos are asked for: the file's path, and the form of what is answered
+-- what is asked of demos: the file's path, and the form of the answer
 pub record DemosAsked : Type 0 where
   pub path : List ℕ
   pub telling : Telling
@@ -28,7 +28,7 @@ pub record DemosAsked : Type 0 where
 abbrev pub asked_of : DemoQuestion → DemosAsked
 asked_of question = record { path = question.path.now; telling = question.telling }
 
--- what is told: the answer, and the messages that standard error takes
+-- the texts of a report: the answer, and the messages that standard error takes
 pub record Texts : Type 0 where
   pub answer : List ℕ
   pub messages : List ℕ
@@ -59,7 +59,7 @@ read_texts asked lump demo = record { answer = read_text asked.telling asked.pat
 abbrev pub unread_texts : DemosAsked → Option (List ℕ) → List ℕ → Texts
 unread_texts asked lump why = record { answer = unread_text asked.telling asked.path lump why; messages = refusal_line asked.path lump why }
 
--- what is told of bytes that are to be a demo, and whether they are one
+-- the texts for bytes that should be a demo, and whether they are one
 pub data IsDemoTold (asked : DemosAsked) (lump : Option (List ℕ)) (bytes : List ℕ) : Texts → Bool → Type 0 where
   read : (demo : Demo) → IsReadDemo bytes demo → IsDemoTold asked lump bytes (read_texts asked lump demo) true
   refused : (fault : DemoFault) → RefusesDemo bytes fault → IsDemoTold asked lump bytes (unread_texts asked lump (fault_text (length bytes) fault)) false
@@ -68,8 +68,8 @@ pub data IsDemoTold (asked : DemosAsked) (lump : Option (List ℕ)) (bytes : Lis
 abbrev pub is_demo_name : List ℕ → Bool
 is_demo_name name = starts_with nat_eq name (codes "DEMO")
 
--- What is told of an entry, and whether it holds no demo that is refused: a lump of another name and an empty one, which is how
--- a file switches a demo off, are no demos.
+-- The texts for an entry, and whether it holds no refused demo. A lump of another name is no demo, nor is an empty one, as a file may empty a lump to
+-- switch its demo off.
 pub data IsEntryTold (asked : DemosAsked) (files : List Wad) (g : ℕ) : Texts → Bool → Type 0 where
   other_name : (name : List ℕ) → slice_get (names files) g ≡ Some name → is_demo_name name ≡ false → IsEntryTold asked files g no_texts true
   switched_off : (name : List ℕ) → slice_get (names files) g ≡ Some name → is_demo_name name ≡ true → IsLump files g []
@@ -79,13 +79,13 @@ pub data IsEntryTold (asked : DemosAsked) (files : List Wad) (g : ℕ) : Texts �
   outside : (name : List ℕ) → slice_get (names files) g ≡ Some name → is_demo_name name ≡ true → ((lump : List ℕ) → ¬ IsLump files g lump)
       → IsEntryTold asked files g (unread_texts asked (Some name) outside_text) false
 
--- what is told of the entries below a number, in order, and whether none of them holds a demo that is refused
+-- the texts for the entries below a number, in order, and whether none of them holds a refused demo
 pub data ToldTo (asked : DemosAsked) (files : List Wad) : ℕ → Texts → Bool → Type 0 where
   at_start : ToldTo asked files 0 no_texts true
   with_entry : (g : ℕ) (before texts : Texts) (all one : Bool) → ToldTo asked files g before all → IsEntryTold asked files g texts one
       → ToldTo asked files (g + 1) (texts_with before texts) (all && one)
 
--- both ends took what is told, and haven't failed
+-- both ends took the texts, and haven't failed
 pub record TakeAll (texts : Texts) (out out' errors errors' : SinkState) : Type 0 where
   pub answered : Appends out.taken out'.taken texts.answer
   pub told : Appends errors.taken errors'.taken texts.messages
@@ -99,7 +99,7 @@ pub record LacksAnswer (texts : Texts) (out out' errors errors' : SinkState) : T
   pub failed : out'.failed ≡ true
   pub refusals : errors'.failed ≡ false
 
--- the output failed as what it held was to be handed on before the message about a demo that is refused
+-- the output failed while it handed on what it held, before the message about a refused demo
 pub record LacksHand (is_read : Bool) (out out' errors errors' : SinkState) : Type 0 where
   pub refused : is_read ≡ false
   pub same : Keeps out.taken out'.taken
@@ -114,7 +114,7 @@ pub record LacksMessage (texts : Texts) (is_read : Bool) (out out' errors errors
   pub front : TakesFront errors errors' texts.messages
   pub failed : errors'.failed ≡ true
 
--- why not all that is told of a demo was taken
+-- why the texts for a demo weren't taken whole
 abbrev pub StopsDemo : Texts → Bool → SinkState → SinkState → SinkState → SinkState → DemosFault → Type 0
 StopsDemo texts is_read out out' errors errors' (Write all_read) =
     (all_read ≡ is_read) × (LacksAnswer texts out out' errors errors' ⊎ LacksHand is_read out out' errors errors')
@@ -127,7 +127,7 @@ abbrev pub TellsDemo : Texts → Bool → SinkState → SinkState → SinkState 
 TellsDemo texts is_read out out' errors errors' (Ok all_read) = (all_read ≡ is_read) × TakeAll texts out out' errors errors'
 TellsDemo texts is_read out out' errors errors' (Err why) = StopsDemo texts is_read out out' errors errors' why
 
--- a text was answered that tells of a demo, which is read or not, or a front of it
+-- a text for a demo that is read or not was answered, or a front of it
 abbrev pub Answers : List ℕ → Bool → SinkState → SinkState → Result Bool DemosFault → Type 0
 Answers text is_read before after (Ok all_read) = (all_read ≡ is_read) × Appends before.taken after.taken text × (after.failed ≡ false)
 Answers text is_read before after (Err (Write all_read)) = (all_read ≡ is_read) × TakesFront before after text × (after.failed ≡ true)
@@ -135,7 +135,7 @@ Answers text is_read before after (Err Errors) = ⊥
 Answers text is_read before after (Err (NoWad why)) = ⊥
 Answers text is_read before after (Err Memory) = ⊥
 
--- the same of what tells of one demo at most, whatever it is
+-- the same for the texts of one demo at most, whatever they are
 pub record WritesTold (Is : Texts → Bool → Type 0) (out out' errors errors' : SinkState) (result : Result Bool DemosFault) : Type 0 where
   pub texts : Texts
   pub is_read : Bool
@@ -155,7 +155,7 @@ fault_after all (Write one) = Write (all && one)
 fault_after all Errors = Errors
 fault_after all Memory = Memory
 
--- all entries below one were told, and telling stopped within it
+-- all entries below one were reported on, and the report stopped within that one
 pub record StopsTelling (asked : DemosAsked) (files : List Wad) (out out' errors errors' : SinkState) (why : DemosFault) : Type 0 where
   pub g : ℕ
   pub texts : Texts
@@ -180,7 +180,7 @@ pub record Tells (asked : DemosAsked) (files : List Wad) (out out' errors errors
 abbrev pub is_wad_file : List ℕ → Bool
 is_wad_file bytes = starts_with nat_eq bytes (codes "IWAD") || starts_with nat_eq bytes (codes "PWAD")
 
--- why nothing is told of a WAD file: its bytes have no directory, or a growth was refused
+-- why there is no report on a WAD file: its bytes have no directory, or a growth was refused
 abbrev pub RefusesFile : List ℕ → DemosFault → Type 0
 RefusesFile bytes (NoWad why) = RefusesWad bytes why
 RefusesFile bytes Memory = Unit {0}
@@ -202,7 +202,7 @@ pub record TellsWad (asked : DemosAsked) (bytes : List ℕ) (out out' errors err
   pub read : IsRead file
   pub does : Tells asked (file ∷ []) out out' errors errors' result
 
--- over a file of these bytes, an output and standard error, of which clauses see the states
+-- a report on a file of these bytes, into an output and standard error by their states
 abbrev pub RunsDemos : {W E : Type 0} → (W → SinkState) → (E → SinkState) → DemosAsked → List ℕ → W → W → E → E → Result Bool DemosFault → Type 0
 RunsDemos state state' asked bytes out out' errors errors' result =
     MatchBool (is_wad_file bytes)

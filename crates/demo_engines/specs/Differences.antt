@@ -1,4 +1,4 @@
--- Where two demos first differ (ours), and the line that tells it. What comes after their markers doesn't count.
+-- Where two demos first differ (ours), and the line for that. What comes after their markers doesn't count.
 use Rattle.std.specs.Prelude.{◌≡◌, ◌≢◌, ◌⊎◌, ℕ, ◌<◌, Bool, true, false, List, [], ◌∷◌, ◌++◌, codes, length, take, get_or, slice_index, Some, Result, Ok, IfOk}
 use Rattle.std.specs.Fmt.{decimal, signed_decimal}
 use Rattle.std.specs.List.{slice_get}

@@ -16,7 +16,7 @@ SameOrDiffer = (a b : Demo) (text : List ℕ) → Differs a b text → ¬ AreSam
 abbrev pub OneListing : Type 0
 OneListing = (text : List ℕ) (a b : Demo) → IsListingOf text a → IsListingOf text b → a ≡ b
 
--- what is put together of a demo's listing is the header, the commands and the marker of this demo
+-- the demo assembled from a listing has the header, the commands and the marker of the listed demo
 abbrev pub AssembledIsDemo : Type 0
 AssembledIsDemo =
     (text bytes : List ℕ) (demo : Demo) → IsListingOf text demo → IsAssembled text bytes → IsDemo bytes demo.header demo.commands []
@@ -32,7 +32,7 @@ pub record ListsAgain (text bytes : List ℕ) : Type 0 where
   pub was : text ≡ front ++ totals_line tics odd after
   pub lists : IsListingOf (front ++ totals_line tics odd 0) demo
 
--- and so is what is put together of a listing
+-- and so is the demo assembled from a listing
 abbrev pub AssembledListsAgain : Type 0
 AssembledListsAgain = (text bytes : List ℕ) → IsAssembled text bytes → ListsAgain text bytes
 

@@ -1,4 +1,4 @@
--- Why a demo isn't told, in words (ours; the engines by VERSION of doomdef.h and G_ReadDemoHeader of Boom, MBF and PrBoom).
+-- Why a demo isn't read, in words (ours; the engines by VERSION of doomdef.h and G_ReadDemoHeader of Boom, MBF and PrBoom).
 use Rattle.std.specs.Prelude.{ℕ, ◌==◌, List, [], ◌∷◌, ◌++◌, Option, codes, if◌then◌else◌, nat_le, nat_lt, ◌&&◌, Bool}
 use Rattle.std.specs.Fmt.{decimal}
 use Rattle.demo_lump.specs.declared.fault.DemoFault.{DemoFault}

@@ -1,4 +1,4 @@
--- What is told of a demo in one line (ours): its game, how long it lasts, and what else its bytes hold.
+-- The line of a demo (ours): its game, how long it lasts, and what else its bytes hold.
 use Rattle.std.specs.Prelude.{ℕ, ◌*◌, ◌/◌, ◌%◌, ◌==◌, List, [], ◌∷◌, ◌++◌, Option, Some, None, codes, if◌then◌else◌, length, nat_lt}
 use Rattle.std.specs.Fmt.{decimal}
 use Rattle.le_rec.specs.Name.{shown_name}
@@ -35,7 +35,7 @@ abbrev pub time_text : ℕ → List ℕ
 time_text tics =
     decimal (tics / 2100) ++ (codes ":" ++ (two_digits (tics / 35 % 60) ++ (codes "." ++ two_digits (tics % 35 * 100 / 35))))
 
--- a number behind its label, told where it isn't 0
+-- a number behind its label, if it isn't 0
 abbrev pub some_text : List ℕ → ℕ → List ℕ
 some_text label n = if n == 0 then [] else (label ++ decimal n)
 

@@ -1,4 +1,4 @@
-//! A demo put together from its listing.
+//! A demo assembled from its listing.
 
 ghost use Rattle.std.specs.Prelude.{◌≡◌, ◌≢◌, ◌↔◌, ◌≤◌, ◌<◌, ◌^◌, ◌%◌, ◌++◌, ℕ, List, length, IfOk, IfErr, IfSome, IfNone, IsTrue};
 ghost use Rattle.std.specs.List.{AllByRecursion};
@@ -18,22 +18,22 @@ use std::alloc::{AllocError, Global};
 use thiserror::Error;
 use wad_look::Turn;
 
-/// What is wanted where a text is no listing: the first of these that holds.
+/// What must follow where a text stops being a listing: the first of these that holds.
 #[derive(Clone, Copy, Debug, PartialEq, Eq)]
 pub enum Wanted {
-    /// The last line has no end.
+    /// The end of the line, which the last line lacks.
     LineEnd,
     /// A header.
     Header,
-    /// Nothing: the totals were told.
+    /// Nothing: the totals came before.
     Nothing,
-    /// The totals, of so many tics and odd commands: the line begins as theirs does.
+    /// The totals, with so many tics and odd commands: the line begins as a line of totals does.
     Totals(u64, u64),
     /// The command of a tic and a player, by the player's number, or the totals.
     TicCommand(u64, u8),
 }
 
-/// Why no demo is put together from a listing.
+/// Why no demo can be assembled from a listing.
 #[derive(Clone, Copy, Debug, PartialEq, Eq, Error)]
 pub enum AssembleFault {
     /// The number of the first line that is none of a listing, from 1 on; where the text stops short, that of the line behind its last.
@@ -45,7 +45,7 @@ pub enum AssembleFault {
     Memory,
 }
 
-/// The header, the commands and the marker of the demo of which the text is the listing, as `demo_text` writes it.
+/// The header, the commands and the marker of the demo with this listing, as `demo_text` writes it.
 pub fn assemble(alloc: Global, listing: &[u8]) -> Result<Vec<u8>, AssembleFault>
     ensures ok { IfOk result (λ bytes. IsAssembled listing.now bytes.items) }
     ensures wrong { IfErr result (WhyNone listing.now) }
@@ -70,7 +70,7 @@ pub fn assemble(alloc: Global, listing: &[u8]) -> Result<Vec<u8>, AssembleFault>
     }
 }
 
-// The fault of a line, of which the text begins with it where the line isn't lacking: where the line has no end, this is wanted first.
+// The fault of a line. The text begins with that line, if there is one. If the line has no end, that is what must follow.
 fn wrong_line(number: u64, text: &[u8], wanted: Wanted) -> AssembleFault
     ensures { (found : _) × WantsFirst text.now wanted found × (result ≡ fault.Line number found) }
 {
@@ -86,7 +86,7 @@ fn lacks_end(text: &[u8]) -> bool
     !text.is_empty() && !text.contains(&b'\n')
 }
 
-// What is wanted behind the lines of commands, where neither one more nor the totals follow.
+// What must follow the lines of commands, if neither one more nor the totals do.
 fn wanted_behind(text: &[u8], turn: &Turn) -> Wanted
     ensures { result ≡ wanted_behind text.now turn.now }
 {
@@ -107,7 +107,7 @@ struct Taken<'t> {
     rest: &'t [u8],
 }
 
-// All commands of which the lines stand at the front, in turn.
+// All commands whose lines stand at the front, in turn.
 fn take_commands<'t>(
     alloc: Global,
     version: u8,
@@ -132,7 +132,7 @@ fn take_commands<'t>(
     })
 }
 
-// What follows the totals' line that stands at the front when it is this turn.
+// What follows the line of totals, if that line stands at the front and fits this turn.
 fn take_totals<'t>(text: &'t [u8], turn: &Turn) -> Option<&'t [u8]>
     ensures some { IfSome result (λ rest. (after : ℕ) × (after < 2 ^ 64) × (text.now
         ≡ totals_line (tic_of turn.now.players turn.now.index) (turn.now.index % players_in turn.now.players) after ++ rest.now)) }

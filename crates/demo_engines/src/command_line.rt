@@ -1,4 +1,4 @@
-//! The line of a command in a listing, read.
+//! Reads the line of a command in a listing.
 
 ghost use Rattle.std.specs.Prelude.{◌≡◌, ◌≢◌, ◌↔◌, ◌≤◌, ◌<◌, ◌++◌, ◌∷◌, ℕ, List, [], length, IfSome, IfNone, IsTrue};
 ghost use Rattle.demo_engines.specs.Parts.{FitsCommand, command_fields, front_of};
@@ -15,7 +15,7 @@ use wad_look::Turn;
 /// The version of the long form, whose commands have a turn of two bytes.
 const LONG: u8 = 111;
 
-/// The command of a version of which the line stands at the front when it is this turn, and what follows it.
+/// The command of this version whose line stands at the front and fits this turn, and what follows the line.
 pub fn take_command<'t>(version: u8, text: &'t [u8], turn: &Turn) -> Option<(Command, &'t [u8])>
     ensures some { IfSome result (λ found. text.now
         ≡ ticcmd_line (tic_of turn.now.players turn.now.index) (player_of turn.now.players turn.now.index) found.0 ++ found.1.now) }
@@ -33,7 +33,7 @@ pub fn take_command<'t>(version: u8, text: &'t [u8], turn: &Turn) -> Option<(Com
     }
 }
 
-// The command's line at this turn up to its fields.
+// The line of a command at this turn, up to its fields.
 fn tic_and_player(turn: &Turn) -> TextLine
     ensures { result ≡ front_of (tic_of turn.now.players turn.now.index) (player_of turn.now.players turn.now.index) }
 {
@@ -45,14 +45,14 @@ fn tic_and_player(turn: &Turn) -> TextLine
     front
 }
 
-// The command of a version of which the fields stand at the front and end their line, and what follows it.
+// The command of this version whose fields stand at the front and end their line, and what follows.
 fn take_fields(version: u8, text: &[u8]) -> Option<(Command, &[u8])>
     ensures some { IfSome result (λ found. text.now ≡ command_fields found.0 (10 ∷ found.1.now)) }
     ensures fits { IfSome result (λ found. FitsCommand version found.0) }
     ensures none { IfNone result ((c : Command) (rest : List ℕ) → FitsCommand version c → text.now ≢ command_fields c (10 ∷ rest)) }
 {
     let command = guess_command(text);
-    // Its byte is the marker.
+    // As a byte this is the marker.
     if command.forward == -128 {
         return None;
     }
@@ -68,14 +68,14 @@ fn take_fields(version: u8, text: &[u8]) -> Option<(Command, &[u8])>
     }
 }
 
-// Whether the bytes of a version have room for a turn.
+// Whether a turn fits into the bytes of a version.
 fn has_turn(version: u8, turn: u16) -> bool
     ensures { IsTrue result ↔ (version ≢ 111 → turn < 256) }
 {
     version == LONG || turn < 256
 }
 
-// The command of which the fields stand at the front. Where none do it is any command.
+// The command whose fields stand at the front. If none do, it is any command.
 fn guess_command(text: &[u8]) -> Command
     ensures { (version : ℕ) (c : Command) (rest : List ℕ) → FitsCommand version c → text.now ≡ command_fields c rest → result ≡ c }
 {

@@ -11,11 +11,11 @@ use le_rec::{Sink, hex_digit};
 use line_io::{IoFault, TextLine, emit};
 use wad_look::Turn;
 
-/// Writes where two demos first differ, in one line, or nothing where header and commands are the same, and answers whether they
-/// are. `header: skill 3, 4` is a number of the header, `tic 118 player 1: 50 0 0 00, 25 0 0 00` a command as a listing has it,
-/// and `A ends at tic 118` the end of one that the other goes on from. What comes after the markers isn't compared.
+/// Writes where two demos first differ, in one line, or nothing if header and commands are the same. Returns whether they are.
+/// `header: skill 3, 4` is a number of the header, and `tic 118 player 1: 50 0 0 00, 25 0 0 00` a command as a listing has it.
+/// `A ends at tic 118` is the end of one demo where the other goes on. What comes after the markers isn't compared.
 ///
-/// `Write` is the one fault.
+/// `Write` is the only fault.
 pub fn compare_demos<W: Sink>(a: &Demo<'_>, b: &Demo<'_>, out: &mut W) -> Result<bool, IoFault>
     requires { (W.state out.old).failed ≡ false }
     ensures { Compares a.now b.now (W.state out.old) (W.state out.new) result }
@@ -30,7 +30,7 @@ pub fn compare_demos<W: Sink>(a: &Demo<'_>, b: &Demo<'_>, out: &mut W) -> Result
     }
 }
 
-// Puts the line of the first difference before the line, and answers whether there is none.
+// Puts the line of the first difference before the line, and returns whether there is none.
 fn prepend_difference(line: &mut TextLine, a: &Demo<'_>, b: &Demo<'_>) -> bool
     requires { line.old ≡ [] }
     ensures { IsCompared a.now b.now line.new result }
@@ -41,7 +41,7 @@ fn prepend_difference(line: &mut TextLine, a: &Demo<'_>, b: &Demo<'_>) -> bool
     prepend_in_commands(line, a, b)
 }
 
-// The same of their headers; it answers whether these differ.
+// The same for their headers, but it returns whether there is one.
 fn prepend_in_header(line: &mut TextLine, a: &Header, b: &Header) -> bool
     requires { line.old ≡ [] }
     ensures { MatchBool result (HeadersDiffer a.now b.now line.new) ((a.now ≡ b.now) × (line.new ≡ [])) }
@@ -105,7 +105,7 @@ fn prepend_number_line(line: &mut TextLine, i: usize, a: u8, b: u8)
     line.prepend_bytes(b"header: ");
 }
 
-// What a listing calls a number of the header.
+// The name of a header's number in a listing.
 fn number_name(i: usize) -> &'static [u8]
     requires { i < 9 }
     ensures name { result.now ≡ number_name i }
@@ -150,7 +150,7 @@ fn prepend_players(line: &mut TextLine, players: &[u8; 4])
     line.prepend_small(players[0]);
 }
 
-// Puts the line of the first difference of the commands before the line, and answers whether there is none.
+// Puts the line of the commands' first difference before the line, and returns whether there is none.
 fn prepend_in_commands(line: &mut TextLine, a: &Demo<'_>, b: &Demo<'_>) -> bool
     requires empty { line.old ≡ [] }
     requires header { a.now.header ≡ b.now.header }
@@ -174,7 +174,7 @@ fn prepend_in_commands(line: &mut TextLine, a: &Demo<'_>, b: &Demo<'_>) -> bool
     }
 }
 
-// How many commands both begin with, and whose turn is next.
+// With how many of the same commands both begin, and whose turn is next.
 fn same_turns(a: &Demo<'_>, b: &Demo<'_>) -> (usize, Turn)
     ensures turn { result.1 ≡ record { players = a.now.header.players; index = result.0 } }
     ensures same { take result.0 a.now.commands ≡ take result.0 b.now.commands }

@@ -20,16 +20,16 @@ use std::alloc::Allocator;
 use thiserror::Error;
 use wad_dir::{Set, SetFault, WadFault};
 
-/// The form in which demos are answered.
+/// The form of the report on demos.
 #[derive(Clone, Copy, Debug, PartialEq, Eq)]
 pub enum Telling {
     /// A line for each demo that is read.
     Lines,
-    /// An object of JSON for each demo, a line each: of one that is refused the reason.
+    /// An object of JSON in a line for each demo. That of a refused one has the reason.
     Objects,
 }
 
-/// How the demos of a file are asked for.
+/// What is asked of a file's demos.
 #[derive(Clone, Copy)]
 pub struct DemoQuestion<'p> {
     /// The file's path, as it is written with each demo. Nothing is looked up by it.
@@ -37,7 +37,7 @@ pub struct DemoQuestion<'p> {
     pub telling: Telling,
 }
 
-/// Why telling the demos of a file stopped.
+/// Why the report on a file's demos isn't whole.
 #[derive(Clone, Copy, Debug, PartialEq, Eq, Error)]
 pub enum DemosFault {
     /// The bytes begin as a WAD file's and have no directory. Nothing was written.
@@ -69,11 +69,12 @@ impl DemosFault {
     }
 }
 
-/// Tells the demos of a file, in the order of its entries, and answers whether all of them were read. Where the first four bytes
-/// are `IWAD` or `PWAD` the demos are the lumps whose names begin with `DEMO`, but for empty ones; else the file is one.
+/// Reports on the demos of a file, in the order of its entries, and returns whether all of them were read. If the first four
+/// bytes are `IWAD` or `PWAD`, the demos are the lumps whose names begin with `DEMO`, except empty ones. Otherwise the file
+/// itself is one demo.
 ///
-/// Of each demo that is refused a message goes into `errors`, a line that begins with `wadlens: `: behind what was answered before,
-/// which is handed on first, and before its own object.
+/// For each refused demo a message goes into `errors`, in a line that begins with `wadlens: `. What was answered before is handed
+/// on first, and the demo's own object comes after the message.
 ///
 /// `NoWad` and `Memory` come before anything is written, and no demo takes memory.
 pub fn demos_file<A: Allocator, W: HandOn, E: Sink, P: Watch>(
@@ -105,7 +106,7 @@ fn is_wad(bytes: &[u8]) -> bool
     bytes.starts_with(b"IWAD") || bytes.starts_with(b"PWAD")
 }
 
-// Tells the demos of a set.
+// Reports on the demos of a set.
 fn tell_set<A: Allocator, W: HandOn, E: Sink, P: Watch>(
     question: &DemoQuestion<'_>,
     set: &Set<'_, A>,
@@ -129,7 +130,7 @@ fn tell_set<A: Allocator, W: HandOn, E: Sink, P: Watch>(
     Ok(all_read)
 }
 
-// Tells the demo of an entry, where it holds one.
+// Reports on the demo of an entry, if it holds one.
 fn tell_entry<A: Allocator, W: HandOn, E: Sink, P: Watch>(
     question: &DemoQuestion<'_>,
     set: &Set<'_, A>,
@@ -184,7 +185,7 @@ fn is_demo_name(name: &Name8) -> bool
     name.bytes().starts_with(b"DEMO")
 }
 
-// Tells of bytes that are to be a demo.
+// Reports on bytes that should be a demo.
 fn tell_demo<W: HandOn, E: Sink, P: Watch>(
     question: &DemoQuestion<'_>,
     lump: Option<Name8>,
@@ -212,7 +213,7 @@ fn tell_demo<W: HandOn, E: Sink, P: Watch>(
     }
 }
 
-// Answers a demo that is read.
+// Answers for a demo that is read.
 fn tell_read<W: Sink>(
     question: &DemoQuestion<'_>,
     lump: Option<Name8>,
@@ -247,7 +248,7 @@ fn write_read<W: Sink>(
     }
 }
 
-// Tells why a demo is refused: what was answered is handed on, then comes the message, and then the object.
+// Reports why a demo is refused: what was answered is handed on, then comes the message, and then the object.
 fn tell_refused<W: HandOn, E: Sink, P: Watch>(
     question: &DemoQuestion<'_>,
     lump: Option<Name8>,
@@ -280,7 +281,7 @@ fn tell_refused<W: HandOn, E: Sink, P: Watch>(
     Ok(false)
 }
 
-// Answers a demo that is refused: by its object, where objects are asked for.
+// Answers for a demo that is refused: with its object, if objects are asked for.
 fn answer_refused<W: Sink>(
     telling: Telling,
     heading: &Heading<'_>,

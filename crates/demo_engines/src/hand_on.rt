@@ -1,14 +1,13 @@
-//! Sinks that can be told to hand on what they took.
+//! Sinks that hand on what they hold back.
 
 use le_rec::{EndFault, Sink};
 
-/// A sink that may hold back what it took, and hands it on where it is told to: so what is written to another end afterwards comes
-/// behind it.
+/// A sink that may hold back bytes until it is asked to hand them on. What is then written to another end comes after them.
 pub trait HandOn: Sink {
     ghost use Rattle.std.specs.Prelude.{◌≡◌, ℕ, List, [], OnOk};
     ghost use Rattle.demo_engines.specs.Handing.{HandsOn};
 
-    /// What it holds back of what it took.
+    /// The bytes that it holds back.
     ghost held: { Self → List ℕ };
 
     /// Hands on all that it holds back. At an Err it has failed.

@@ -1,4 +1,4 @@
-//! The header's line of a listing, read.
+//! Reads the header's line of a listing.
 
 ghost use Rattle.std.specs.Prelude.{◌≡◌, ◌≢◌, ◌↔◌, ◌<◌, ◌++◌, ◌∷◌, ℕ, List, length, slice_index, IfSome, IfNone, IsTrue};
 ghost use Rattle.demo_engines.specs.Parts.{FitsHeader, numbers_of};
@@ -15,7 +15,7 @@ use wad_look::prepend_header;
 /// The numbers of a header.
 const NUMBERS: usize = 13;
 
-/// The header of which the line stands at the front, and what follows it.
+/// The header whose line stands at the front, and what follows the line.
 pub fn take_header(text: &[u8]) -> Option<(Header, &[u8])>
     ensures some { IfSome result (λ found. text.now ≡ header_line found.0 ++ found.1.now) }
     ensures fits { IfSome result (λ found. FitsHeader found.0) }
@@ -72,7 +72,7 @@ fn guess_numbers(text: &[u8]) -> [u8; NUMBERS]
     numbers
 }
 
-// Whether listings are read of a version.
+// Whether listings of this version are read.
 fn is_version(version: u8) -> bool
     ensures { IsTrue result ↔ IsVersion version }
 {

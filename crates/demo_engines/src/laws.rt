@@ -2,7 +2,7 @@
 
 ghost use Rattle.demo_engines.specs.Laws.{AssembledIsDemo, AssembledListsAgain, ObjectIsRead, OneListing, RefusedIsRead, SameOrDiffer};
 
-/// A difference is told only of demos that differ in their headers or commands.
+/// A difference is reported only if the headers or the commands differ.
 pub fn told_demos_differ()
     ensures { SameOrDiffer }
 {}
@@ -12,15 +12,15 @@ pub fn one_listing()
     ensures { OneListing }
 {}
 
-/// What is put together of a demo's listing is this demo without the bytes after its marker, and its listing is the text again but for
-/// `after 0`.
+/// The demo assembled from a listing is the listed demo without the bytes after its marker. Its own listing is the same text, but
+/// for `after 0`.
 pub fn assembled_lists_again()
     ensures demo { AssembledIsDemo }
     ensures listing { AssembledListsAgain }
 {}
 
-/// The object of a demo is read back by the kit's reader of JSON: one line, and one object of just its members, where its
-/// numbers have 64 bits at most. So is that of a demo that isn't read.
+/// The kit's reader of JSON reads the object of a demo back: one line, and one object of just its members, if its numbers have at
+/// most 64 bits. The same holds for a demo that isn't read.
 pub fn objects_are_read()
     ensures read { ObjectIsRead }
     ensures refused { RefusedIsRead }

@@ -1,5 +1,5 @@
-//! What demos hold, for those who keep them: a line or an object of JSON for each demo of a file, how two demos differ, and a
-//! demo put together again of its listing. The engines take bytes, and a path to print, and write to a sink.
+//! What demos hold: a line or an object of JSON for each demo of a file, how two demos differ, and a demo assembled from its
+//! listing. The engines take bytes, and a path to print, and write to a sink.
 #![tactic(auto)]
 
 mod assembly;

@@ -21,7 +21,7 @@ pub fn take_label<'t>(text: &'t [u8], label: &[u8]) -> Option<&'t [u8]>
     Some(rest)
 }
 
-/// What follows a number of 64 bits as it is printed, and the end of its line.
+/// What follows a printed number of 64 bits and the end of its line.
 pub fn behind_last_number(text: &[u8]) -> Option<&[u8]>
     ensures some { IfSome result (λ rest. (n : ℕ) × (n < 2 ^ 64) × (text.now ≡ decimal n ++ 10 ∷ rest.now)) }
     ensures none { IfNone result ((n : ℕ) (rest : List ℕ) → n < 2 ^ 64 → text.now ≢ decimal n ++ 10 ∷ rest) }
@@ -64,7 +64,7 @@ pub fn guess_signed(text: &[u8]) -> (i8, &[u8])
     (with_sign(is_negative, magnitude), rest)
 }
 
-/// The byte of two hexadecimal digits at the front. Where none stand there it is any byte.
+/// The byte of two hexadecimal digits at the front. If there are none, it is any byte.
 pub fn guess_hex(text: &[u8]) -> u8
     ensures { (byte : ℕ) (rest : List ℕ) → byte < 256 → text.now ≡ hex_byte byte ++ rest → result ≡ byte }
 {
@@ -74,7 +74,7 @@ pub fn guess_hex(text: &[u8]) -> u8
     }
 }
 
-/// What stands behind the first byte.
+/// What follows the first byte.
 pub fn behind_first(text: &[u8]) -> &[u8]
     ensures { (byte : ℕ) (rest : List ℕ) → text.now ≡ byte ∷ rest → result.now ≡ rest }
 {
@@ -107,7 +107,7 @@ fn count_digits(text: &[u8]) -> usize
     text.len()
 }
 
-// What stands from the first digit on.
+// The text from its first digit on.
 fn skip_label(text: &[u8]) -> &[u8]
     ensures { (label more : List ℕ) → All (λ byte. ¬ IsDigit byte) label → Stops (λ byte. ¬ IsDigit byte) more → text.now ≡ label ++ more → result.now ≡ more }
 {
@@ -135,7 +135,7 @@ fn is_digit(byte: u8) -> bool
     48 <= byte && byte <= 57
 }
 
-// The number below 256 of which the digits are the text.
+// The number below 256 with these digits.
 fn small(digits: &[u8]) -> u8
     requires { All IsDigit digits.now }
     ensures small { result < 256 }
@@ -147,7 +147,7 @@ fn small(digits: &[u8]) -> u8
     if number < 256 { number as u8 } else { 0 }
 }
 
-// The number below 65536 of which the digits are the text.
+// The number below 65536 with these digits.
 fn word(digits: &[u8]) -> u16
     requires { All IsDigit digits.now }
     ensures { (n : ℕ) → n < 65536 → digits.now ≡ decimal n → result ≡ n }
@@ -158,7 +158,7 @@ fn word(digits: &[u8]) -> u16
     if number < 65536 { number as u16 } else { 0 }
 }
 
-// The number that a sign and its magnitude stand for.
+// The number of this sign and magnitude.
 fn with_sign(is_negative: bool, magnitude: u8) -> i8
     ensures positive { is_negative ≡ false → magnitude < 128 → result ≡ pos magnitude }
     ensures negative { is_negative ≡ true → magnitude ≤ 128 → result ≡ neg_ℤ (pos magnitude) }
@@ -175,7 +175,7 @@ fn with_sign(is_negative: bool, magnitude: u8) -> i8
     magnitude as i8
 }
 
-// What a hexadecimal digit stands for.
+// The value of a hexadecimal digit.
 fn hex_value(digit: u8) -> u8
     ensures few { result < 16 }
     ensures back { (d : ℕ) → d < 16 → digit ≡ hex_digit d → result ≡ d }
@@ -187,7 +187,7 @@ fn hex_value(digit: u8) -> u8
     }
 }
 
-// The number of which the digits are the text, where it has 64 bits.
+// The number that is printed with these digits, if it has 64 bits.
 fn natural(digits: &[u8]) -> Option<u64>
     requires { All IsDigit digits.now }
     ensures some { IfSome result (λ n. digits.now ≡ decimal n) }
@@ -212,7 +212,7 @@ fn is_canonical(digits: &[u8]) -> bool
     digits.len() == 1 || digits[0] != b'0'
 }
 
-// The number that digits stand for, where it has 64 bits.
+// The value of these digits, if it has 64 bits.
 fn value(digits: &[u8]) -> Option<u64>
     requires { All IsDigit digits.now }
     ensures some { IfSome result (λ n. n ≡ value_of digits.now) }

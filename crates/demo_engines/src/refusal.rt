@@ -1,4 +1,4 @@
-//! Why a demo isn't told, in words.
+//! Why a demo isn't read, in words.
 
 ghost use Rattle.std.specs.Prelude.{◌≡◌, ◌+◌, ◌≤◌, ◌++◌, codes, false, length, None};
 ghost use Rattle.line_io.specs.Writes.{Writes};
@@ -115,7 +115,7 @@ fn prepend_version(line: &mut TextLine, version: u8)
     line.prepend_bytes(b"version ");
 }
 
-// The engine that writes a version, where it is known.
+// The engine that writes this version, if it is known.
 fn engine_name(version: u8) -> &'static [u8]
     ensures name { result.now ≡ engine_text version }
     ensures short { length result.now ≤ 17 }

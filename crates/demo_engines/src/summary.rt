@@ -11,7 +11,7 @@ use le_rec::{Name8, Sink};
 use lens_engines::write_path;
 use line_io::{IoFault, TextLine, emit};
 
-/// What stands before all that is told of a demo.
+/// What each line or object of a demo begins with.
 #[derive(Clone, Copy)]
 pub struct Heading<'p> {
     /// The file's path.

@@ -1,23 +1,24 @@
-//! Who watches how far a run is.
+//! Reports on how far a run is.
 
 use std::alloc::Allocator;
 
-/// Is told how far a run is. No clause speaks of what it shows: a failure there is its own.
+/// Learns how far a run is. No clause speaks of what it shows, and its own failures don't end the
+/// run.
 pub trait Watch {
     /// A file is done, the one with these bytes.
     fn add<A: Allocator + Copy>(&mut self, alloc: A, bytes: &[u8]);
 
-    /// A file is done that was refused.
+    /// One more file is done, a refused one.
     fn add_refused(&mut self);
 
-    /// Something else is about to be told on standard error.
+    /// A message is about to be written to standard error.
     fn clear(&mut self);
 
     /// All files are done.
     fn finish(&mut self);
 }
 
-/// Nobody watches.
+/// A watch that shows nothing.
 #[derive(Clone, Copy, Debug, PartialEq, Eq)]
 pub struct Unwatched;
 

@@ -1,4 +1,4 @@
--- What the run of `assemble` does (ours): the demo of a listing is written, or it is told which line is wrong.
+-- What the run of `assemble` does (ours): the demo of a listing is written, or the wrong line is reported.
 use Rattle.std.specs.Prelude.{◌≡◌, ◌⊎◌, ℕ, ◌≤◌, List, ◌++◌, codes, length, decimal, Option, Some, Result, Err}
 use Rattle.std.specs.Io.KnownBytes.{Keeps}
 use Rattle.demo_engines.specs.Assembly.{IsAssembled, RefusesListing as RefusesText}
@@ -38,7 +38,7 @@ pub record AssemblesDemo {W : Type 0} (listing : List ℕ) (contents : W → Opt
   pub silent : errors' ≡ errors
   pub rest : TellsRest contents text Clean old new result
 
--- it is none, which was told by the number of its first wrong line, and what is wanted there
+-- the text is no listing: the number of its first wrong line was reported, and what is wanted there
 pub record RefusesListing {W : Type 0} (listing : List ℕ) (old new : Output W) (errors errors' : SinkState) (result : Result Verdict End) : Type 0 where
   pub number : ℕ
   pub wanted : Wanted
@@ -54,7 +54,7 @@ AssemblesBytes listing contents old new errors errors' result =
     WantsMemory old new errors errors' result ⊎ RefusesListing listing old new errors errors' result
     ⊎ AssemblesDemo listing contents old new errors errors' result
 
--- the input was refused, which was told
+-- the input was refused, and this was reported
 pub record RefusesInput {W : Type 0} (left : Option (List ℕ)) (old new : Output W) (errors errors' : SinkState) (result : Result Verdict End) : Type 0 where
   pub refusal : FileRefusal
   pub why : RefusesRead left (Refused refusal)

@@ -44,8 +44,8 @@ survey_file text = record { name = codes "survey.jsonl"; text = text }
 abbrev pub index_file : ℕ → Warnings → List Row → List Refused → Kept
 index_file files warnings rows refused = record { name = codes "index.html"; text = page_text files warnings rows refused }
 
--- this text is what a survey tells of these paths, and what standard error is told besides; the rows and the pictures of each file are those of
--- the bytes of which it tells, and the file is refused where it tells so, for the same reason
+-- this text is the survey of these paths, and standard error took its messages; the rows and the pictures of each file come from the bytes that the survey
+-- saw, and a file is refused where the survey refuses it, for the same reason
 pub record IsSurvey (held : List ℕ → Option (List ℕ)) (asked : AtlasRequest) (paths : List (List ℕ)) (rows : List Row) (refused : List Refused) (shown : List Kept)
     (files : Option (List Kept)) (errors errors' : SinkState) (tally : Tally) (text : List ℕ) : Type 0 where
   pub before : SinkState
@@ -55,7 +55,7 @@ pub record IsSurvey (held : List ℕ → Option (List ℕ)) (asked : AtlasReques
   pub gathered : Gathers held asked before errors paths rows refused shown after errors' tally
   pub whole : Keeps after.taken (Some text)
 
--- all files of an atlas were added to a folder, the page behind all others
+-- all files of an atlas were added to a folder, the page last
 pub record WritesAtlas (held : List ℕ → Option (List ℕ)) (asked : AtlasRequest) (paths : List (List ℕ)) (old new : Option (List Kept)) (errors errors' : SinkState) (verdict : Verdict) : Type 0 where
   pub rows : List Row
   pub refused : List Refused
@@ -66,7 +66,7 @@ pub record WritesAtlas (held : List ℕ → Option (List ℕ)) (asked : AtlasReq
   pub adds : new ≡ with_files old (shown ++ survey_file text ∷ index_file (length paths) asked.judging.warnings rows refused ∷ [])
   pub says : verdict ≡ tally.verdict
 
--- all but the page was
+-- all files but the page were added
 pub record LacksPage (held : List ℕ → Option (List ℕ)) (asked : AtlasRequest) (paths : List (List ℕ)) (old new : Option (List Kept)) (errors errors' : SinkState) : Type 0 where
   pub rows : List Row
   pub refused : List Refused
@@ -76,7 +76,7 @@ pub record LacksPage (held : List ℕ → Option (List ℕ)) (asked : AtlasReque
   pub survey : IsSurvey held asked paths rows refused shown old errors errors' tally text
   pub adds : new ≡ with_files old (shown ++ survey_file text ∷ [])
 
--- a front of the pictures was added, while a survey was told that was begun
+-- a front of the pictures was added, while a begun survey was written
 pub record GathersFront (held : List ℕ → Option (List ℕ)) (asked : AtlasRequest) (paths : List (List ℕ)) (old new : Option (List Kept)) (errors : SinkState) : Type 0 where
   pub before : SinkState
   pub begun : IsBegun old before
@@ -87,18 +87,18 @@ abbrev pub StopsAtlas : (List ℕ → Option (List ℕ)) → AtlasRequest → Li
 StopsAtlas held asked paths old new errors errors' =
     (new ≡ old) ⊎ GathersFront held asked paths old new errors ⊎ LacksPage held asked paths old new errors errors'
 
--- how an atlas is asked for, over the files on which all stand
+-- how an atlas is asked for, over the base files
 pub record IsAskedOf (job : AtlasJob) (base : List Wad) (asked : AtlasRequest) : Type 0 where
   pub over : IsOver job.job.rules base asked.judging
   pub cells : asked.cells ≡ job.cells
 
--- standard error was told of the folder, where a file in it can't be written
+-- if a file of the folder can't be written, this was reported
 abbrev pub TellsFault : List ℕ → AtlasFault → SinkState → SinkState → Type 0
 TellsFault folder fault.Memory errors errors' = errors' ≡ errors
 TellsFault folder fault.Write errors errors' = IsTold errors errors' (folder_line folder write_text)
 TellsFault folder fault.Errors errors errors' = errors' ≡ errors
 
--- the run ended before all was written, in a folder in which nothing stood
+-- the run ended before all was written, in a folder that was empty
 pub record StopsRun (held : List ℕ → Option (List ℕ)) (job : AtlasJob) (asked : AtlasRequest) (paths : List (List ℕ)) (old new : Option (List Kept)) (errors errors' : SinkState) (result : Result Verdict End) : Type 0 where
   pub empty : IfSome old (λ files. files ≡ [])
   pub between : SinkState
@@ -123,7 +123,7 @@ pub record EndsRun (held : List ℕ → Option (List ℕ)) (asked : AtlasRequest
   pub writes : WritesAtlas held asked paths old new errors errors' verdict
   pub ended : result ≡ Ok verdict
 
--- the files on which all stand were read, and the paths became an atlas, or it isn't whole
+-- the base files were read, and the paths became an atlas, or it isn't whole
 pub record RunsOver (held : List ℕ → Option (List ℕ)) (job : AtlasJob) (paths : List (List ℕ)) (old new : Option (List Kept)) (errors errors' : SinkState) (result : Result Verdict End) : Type 0 where
   pub base : List Wad
   pub bases : AreBases (stored held) job.job.bases base
@@ -131,7 +131,7 @@ pub record RunsOver (held : List ℕ → Option (List ℕ)) (job : AtlasJob) (pa
   pub is_asked : IsAskedOf job base asked
   pub runs : EndsRun held asked paths old new errors errors' result ⊎ StopsRun held job asked paths old new errors errors' result
 
--- the folder was taken, and the first file on which all stand that isn't taken was told; nothing was written
+-- the folder was taken, and the first base file that isn't taken was reported; nothing was written
 pub record RefusesBases (held : List ℕ → Option (List ℕ)) (job : AtlasJob) (old new : Option (List Kept)) (errors errors' : SinkState) (result : Result Verdict End) : Type 0 where
   pub first : BaseFault
   pub refused : IsRefusedAt (stored held) job.job.bases first
@@ -140,7 +140,7 @@ pub record RefusesBases (held : List ℕ → Option (List ℕ)) (job : AtlasJob)
   pub told : EndsAtBase (path_at job.job.bases first.place) first.fault errors errors' why
   pub ended : result ≡ Err why
 
--- there was no memory for the list, the paths or what is known of the files on which all stand
+-- there was no memory for the list, the paths or what is known of the base files
 pub record WantsMemory (old new : Option (List Kept)) (errors errors' : SinkState) (result : Result Verdict End) : Type 0 where
   pub untouched : new ≡ old
   pub silent : errors' ≡ errors
@@ -152,7 +152,7 @@ RunsTaken held job paths old new errors errors' result =
     WantsMemory old new errors errors' result ⊎ RefusesBases held job old new errors errors' result
     ⊎ RunsOver held job paths old new errors errors' result
 
--- the paths of the words and of the list became an atlas, or it isn't whole, or the folder or a file on which all stand wasn't taken
+-- the paths of the words and of the list became an atlas, or it isn't whole, or the folder or a base file wasn't taken
 pub record RunsPaths (held : List ℕ → Option (List ℕ)) (left : Option (List ℕ)) (refuses : FolderRefusal → Type 0) (job : AtlasJob) (old new : Option (List Kept)) (errors errors' : SinkState) (result : Result Verdict End) : Type 0 where
   pub list : List ℕ
   pub holds : HoldsList held left job.job list
@@ -168,8 +168,8 @@ pub record RefusesList (held : List ℕ → Option (List ℕ)) (left : Option (L
   pub untouched : new ≡ old
   pub ended : result ≡ Err end.Refused
 
--- the run over files that hold what `held` says, an input that has the bytes `left`, where they are known, and a folder, which isn't taken
--- for the reasons that `refuses` has
+-- the run over files that hold what `held` says, an input that has the bytes `left`, if they are known, and a folder, which isn't taken for the reasons of
+-- `refuses`
 abbrev pub RunsAtlas : (List ℕ → Option (List ℕ)) → Option (List ℕ) → (FolderRefusal → Type 0) → AtlasJob → Option (List Kept) → Option (List Kept)
     → SinkState → SinkState → Result Verdict End → Type 0
 RunsAtlas held left refuses job old new errors errors' result =

@@ -1,4 +1,4 @@
--- The pictures of the rows of a page (ours): one of each level that the page shows one of, under the name by which it looks for it.
+-- The pictures of a page's rows (ours): one for each level that the page shows with a picture, under the name that the page links to.
 use Rattle.std.specs.Prelude.{◌≡◌, ℕ, List, [], ◌∷◌, ◌++◌, None, Option, MatchBool, take}
 use Rattle.map_level.specs.Level.{Level}
 use Rattle.map_level.specs.Opening.{IsLevelAt}

@@ -1,4 +1,4 @@
--- What standard error is told of a folder (ours), and how the run ends.
+-- Messages about a folder on standard error (ours), and how the run ends.
 use Rattle.std.specs.Prelude.{ℕ, List, ◌++◌, codes}
 use Rattle.lens_engines.specs.ShownPath.{shown_path}
 use Rattle.lens_commands.specs.declared.atlas.fault.AtlasFault.{AtlasFault}

@@ -1,4 +1,4 @@
--- The files on which all others of a run stand (ours): each is read and has a directory, or the first that isn't or hasn't is refused.
+-- The base files of a run (ours): each is read and has a directory, or the first that isn't read or has none is refused.
 use Rattle.std.specs.Prelude.{◌≡◌, ℕ, ◌<◌, List, [], ◌∷◌, ◌++◌, length, map, slice_index_or, All}
 use Rattle.le_rec.specs.Sink.{SinkState}
 use Rattle.wad_dir.specs.Wad.{IsRead, Wad}
@@ -19,7 +19,7 @@ HasWad bytes = (wad : Wad) × (wad.bytes ≡ bytes) × IsRead wad
 abbrev pub IsBase : Known → List ℕ → Type 0
 IsBase known bytes = IsKnownAs known bytes × HasWad bytes
 
--- why a file isn't taken: as one that is surveyed is refused, or a growth was
+-- why a base file isn't taken: it is refused as one that is surveyed, or a growth was refused
 abbrev pub RefusesBase : Known → ReadFault → Type 0
 RefusesBase known (Refused refusal) = RefusesFile known Survey refusal
 RefusesBase known Memory = Unit {0}
@@ -46,18 +46,18 @@ pub record AddsWad (bytes : List ℕ) (old new : List Wad) : Type 0 where
   pub read : IsRead wad
   pub is : new ≡ old ++ wad ∷ []
 
--- the first of them that isn't taken
+-- the first base file that isn't taken
 pub record IsRefusedAt (known : ℕ → List ℕ → Known) (paths : List (List ℕ)) (first : BaseFault) : Type 0 where
   pub within : first.place < length paths
   pub why : RefusesBase (known first.place (path_at paths first.place)) first.fault
   pub before : (i : ℕ) → i < first.place → (bytes : List ℕ) × IsBase (known i (path_at paths i)) bytes
 
--- it was told, and the run ends so
+-- it was reported, and the run ends with it
 abbrev pub EndsAtBase : List ℕ → ReadFault → SinkState → SinkState → End → Type 0
 EndsAtBase path (Refused refusal) errors errors' ended = IsTold errors errors' (refusal_line path refusal) × (ended ≡ end.Refused)
 EndsAtBase path Memory errors errors' ended = (errors' ≡ errors) × (ended ≡ end.Memory)
 
--- the files on which all stand
+-- the base files
 pub record AreBases (known : ℕ → List ℕ → Known) (paths : List (List ℕ)) (base : List Wad) : Type 0 where
   pub held : AreHeld known paths (map (λ wad. wad.bytes) base)
   pub read : All IsRead base

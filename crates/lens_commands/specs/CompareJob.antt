@@ -1,4 +1,4 @@
--- What the run of `compare` does (ours): it tells where the demos of two files first differ, or why a file holds none.
+-- What the run of `compare` does (ours): it writes where the demos of two files first differ, or reports why a file holds none.
 use Rattle.std.specs.Prelude.{◌≡◌, ◌⊎◌, ℕ, ◌≤◌, List, [], ◌++◌, length, Option, Some, None, Result, Err}
 use Rattle.std.specs.Io.KnownBytes.{Keeps}
 use Rattle.demo_engines.specs.Differences.{AreSame, Differs}
@@ -37,14 +37,14 @@ abbrev pub HasNone : Given → Type 0
 HasNone (given.Read bytes) = (fault : DemoFault) × RefusesDemo bytes.items fault
 HasNone (given.Unread refusal) = Unit {0}
 
--- what is told of it: nothing of a demo, and else why it is none
+-- the report on a file: nothing if it holds a demo, else why it holds none
 abbrev pub TellsGiven : List ℕ → Given → List ℕ → Type 0
 TellsGiven path (given.Read bytes) text =
     ((demo : Demo) × IsRead bytes.items demo × (text ≡ []))
     ⊎ ((fault : DemoFault) × RefusesDemo bytes.items fault × (text ≡ demo_refusal_line path None (fault_text (length bytes.items) fault)))
 TellsGiven path (given.Unread refusal) text = text ≡ refusal_line path refusal
 
--- both have demos: of those that are the same nothing is told, and else where they first differ
+-- both files have demos: nothing is written if they are the same, else where they first differ
 pub record ComparesBoth {W : Type 0} (given_a given_b : Given) (contents : W → Option (List ℕ)) (old new : Output W) (errors errors' : SinkState) (result : Result Verdict End) : Type 0 where
   pub a : Demo
   pub b : Demo
@@ -66,7 +66,7 @@ abbrev pub ToldBoth : List ℕ → List ℕ → Given → Given → SinkState �
 ToldBoth path_a path_b given_a given_b errors errors' =
     (outcome : Result (Unit {0}) IoFault) × WritesBoth path_a path_b given_a given_b errors errors' outcome
 
--- one has none, or both, which was told of each
+-- one file has no demo, or both have none, and this was reported for each of them
 pub record RefusesOne {W : Type 0} (path_a path_b : List ℕ) (given_a given_b : Given) (old new : Output W) (errors errors' : SinkState) (result : Result Verdict End) : Type 0 where
   pub none : HasNone given_a ⊎ HasNone given_b
   pub told : ToldBoth path_a path_b given_a given_b errors errors'

@@ -1,4 +1,4 @@
--- What the run of `cut` does (ours): a level of one file is written, or it is told why not.
+-- What the run of `cut` does (ours): a level of one file is written, or the reason why not is reported.
 use Rattle.std.specs.Prelude.{◌≡◌, ◌⊎◌, ℕ, ◌≤◌, List, ◌++◌, codes, length, Option, Some, Result, Ok, Err}
 use Rattle.std.specs.Io.KnownBytes.{Keeps}
 use Rattle.le_rec.specs.Sink.{SinkState}
@@ -24,7 +24,7 @@ use Rattle.lens_commands.specs.declared.output.Output.{Output}
 abbrev pub cut_fault_line : List ℕ → CutFault → List ℕ
 cut_fault_line path fault = codes "wadlens: " ++ (shown_path path ++ (codes ": " ++ cut_fault_text fault))
 
--- a level that lacks a lump is faulty, and one that can't be cut out else is refused
+-- a level that lacks a lump is faulty; one that can't be cut out for another reason is refused
 abbrev pub uncut_end : Uncut → Result Verdict End
 uncut_end (uncut.Incomplete k) = Ok Faulty
 uncut_end (uncut.Outside name) = Ok Faulty
@@ -39,7 +39,7 @@ cut_fault_end (fault.Level label why) = uncut_end why
 cut_fault_end fault.Memory = Err end.Memory
 cut_fault_end fault.Write = Err end.Refused
 
--- a fault of the file or of its level: no want of memory, of which nothing is told
+-- a fault of the file or of its level; a lack of memory isn't one, and isn't reported
 abbrev pub IsOfFile : CutFault → Type 0
 IsOfFile fault.Memory = ⊥
 IsOfFile _ = Unit {0}
@@ -51,7 +51,7 @@ pub record CutsOut {W : Type 0} (bytes : List ℕ) (entry : ℕ) (contents : W �
   pub silent : errors' ≡ errors
   pub rest : TellsRest contents text Clean old new result
 
--- it wasn't, which was told
+-- the level wasn't cut out, and this was reported
 pub record CutsNone {W : Type 0} (bytes : List ℕ) (entry : ℕ) (path : List ℕ) (old new : Output W) (errors errors' : SinkState) (result : Result Verdict End) : Type 0 where
   pub fault : CutFault
   pub of_file : IsOfFile fault
@@ -66,7 +66,7 @@ CutsBytes bytes entry path contents old new errors errors' result =
     WantsMemory old new errors errors' result ⊎ CutsNone bytes entry path old new errors errors' result
     ⊎ CutsOut bytes entry contents old new errors errors' result
 
--- the file wasn't read, which was told
+-- the file wasn't read, and this was reported
 pub record CutsNoFile {W : Type 0} (held : Option (List ℕ)) (path : List ℕ) (old new : Output W) (errors errors' : SinkState) (result : Result Verdict End) : Type 0 where
   pub refusal : FileRefusal
   pub why : RefusesRead held (Refused refusal)

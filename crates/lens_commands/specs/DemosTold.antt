@@ -1,4 +1,4 @@
--- What is told of a file's demos (ours): they are answered in a form, and why some aren't read stands on standard error.
+-- The report on a file's demos (ours): each is listed in a form, and standard error has why some aren't read.
 use Rattle.std.specs.Prelude.{◌≡◌, ℕ, Bool, true, false, List, None, Result, Ok, Err, MatchBool}
 use Rattle.demo_engines.specs.Demos.{DemosAsked, IsDemoTold, TellsWad, WritesTold, is_wad_file}
 use Rattle.demo_engines.specs.declared.demos.DemosFault.{DemosFault}
@@ -29,7 +29,7 @@ demos_verdict false = Unjudged
 abbrev pub demos_tally : Bool → Tally
 demos_tally all_read = record { verdict = demos_verdict all_read; totals = no_totals }
 
--- what is asked was told of the demos of these bytes, all of it or up to where an end failed
+-- the demos of these bytes were reported on, as asked, all of them or up to where an end failed
 abbrev pub TellsDemos : DemosAsked → List ℕ → SinkState → SinkState → SinkState → SinkState → Result Bool DemosFault → Type 0
 TellsDemos asked bytes out out' errors errors' result =
     MatchBool (is_wad_file bytes) (TellsWad asked bytes out out' errors errors' result) (WritesTold (IsDemoTold asked None bytes) out out' errors errors' result)
@@ -54,14 +54,14 @@ pub record StopsDemos (form : Form) (path bytes : List ℕ) (out out' errors err
 abbrev pub StopsRefusals : Form → List ℕ → List ℕ → SinkState → SinkState → SinkState → SinkState → Type 0
 StopsRefusals form path bytes out out' errors errors' = TellsDemos (answers_in form path) bytes out out' errors errors' (Err Errors)
 
--- how the engine's fault is told
+-- an engine's fault, as one of a run
 abbrev pub fault_of_demos : DemosFault → BytesFault
 fault_of_demos (NoWad why) = fault.NoWad why
 fault_of_demos (Write all_read) = fault.Output (demos_verdict all_read)
 fault_of_demos Errors = fault.Errors
 fault_of_demos Memory = fault.Memory
 
--- why the demos of these bytes weren't all told; where there was no memory nothing was told
+-- why not all demos of these bytes were reported on; without memory none was
 abbrev pub LeavesDemos : {W E : Type 0} → (W → SinkState) → (E → SinkState) → Form → List ℕ → List ℕ → W → W → E → E → BytesFault → Type 0
 LeavesDemos state state' form path bytes out out' errors errors' (fault.NoWad why) =
     (is_wad_file bytes ≡ true) × RefusesWad bytes why × (out' ≡ out) × (errors' ≡ errors)

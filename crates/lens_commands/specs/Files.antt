@@ -53,7 +53,7 @@ abbrev pub bytes_in : {A : Type 0} → FileBytes A → List ℕ
 bytes_in (bytes.Read vec) = vec.items
 bytes_in (bytes.Lent slice) = slice.now
 
--- why it isn't read whole, as a run tells it
+-- the fault of a run for a file that isn't read whole
 abbrev pub read_fault_of : StorageFault → ReadFault
 read_fault_of storage.Unopened = Refused Unopened
 read_fault_of storage.Unread = Refused Unread

@@ -25,7 +25,7 @@ abbrev pub IsWhy : (FolderRefusal → Type 0) → FolderFault → Type 0
 IsWhy refuses (folder.Refused refusal) = refuses refusal
 IsWhy refuses folder.Memory = Unit {0}
 
--- a file was begun: nothing stands in it, which is known where those of the folder are
+-- a file was begun: it is empty, and this is known if the folder's files are
 pub record IsBegun (files : Option (List Kept)) (file : SinkState) : Type 0 where
   pub sound : file.failed ≡ false
   pub empty : IfSome files (λ _. file.taken ≡ Some [])

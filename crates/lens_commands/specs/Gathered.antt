@@ -1,4 +1,4 @@
--- What of some files goes onto the page and into the folder (ours).
+-- What goes from some files onto the page and into the folder (ours).
 use Rattle.std.specs.Prelude.{◌≡◌, ◌⊎◌, ℕ, suc, ◌≤◌, List, [], ◌∷◌, ◌++◌, length, Option, Some, take}
 use Rattle.std.specs.Io.KnownBytes.{Keeps}
 use Rattle.atlas_page.specs.Levels.{AreRowsBelow}
@@ -30,7 +30,7 @@ pub record AreRowsOf (origin : Origin) (bytes : List ℕ) (file : Wad) (rows : L
   pub read : IsRead file
   pub are : AreRowsBelow origin (file ∷ []) (length (names (file ∷ []))) rows
 
--- the rows of a file's levels and their pictures, of the same bytes of which a survey tells
+-- the rows of a file's levels and their pictures, from the bytes that the survey saw
 pub record GathersFile (held : Option (List ℕ)) (cells : ℕ) (origin : Origin) (rows : List Row) (refused : List Refused) (shown : List Kept)
     (out out' errors errors' : SinkState) (tally : Tally) : Type 0 where
   pub bytes : List ℕ
@@ -42,7 +42,7 @@ pub record GathersFile (held : Option (List ℕ)) (cells : ℕ) (origin : Origin
   pub pictures : ShowsRows cells origin.judging.reading (file ∷ []) rows shown
   pub none : refused ≡ []
 
--- a refused file has none, and is refused for the same reason by a survey
+-- a refused file has no rows and no pictures, and the survey refuses it for the same reason
 pub record GathersRefused (held : Option (List ℕ)) (origin : Origin) (rows : List Row) (refused : List Refused) (shown : List Kept)
     (out out' errors errors' : SinkState) (tally : Tally) : Type 0 where
   pub one : Refused
@@ -59,7 +59,7 @@ GathersPath held cells origin rows refused shown out out' errors errors' tally =
     GathersFile held cells origin rows refused shown out out' errors errors' tally
     ⊎ GathersRefused held origin rows refused shown out out' errors errors' tally
 
--- the rows, the refused files and the pictures of some paths, one after another, and what a survey tells of them
+-- the rows, the refused files and the pictures of some paths, one after another, and what their survey wrote
 pub data Gathers (held : List ℕ → Option (List ℕ)) (asked : AtlasRequest) (out errors : SinkState)
     : List (List ℕ) → List Row → List Refused → List Kept → SinkState → SinkState → Tally → Type 0 where
   of_none : Gathers held asked out errors [] [] [] [] out errors no_tally
@@ -123,7 +123,7 @@ pub record AddsPart (cells : ℕ) (origin : Origin) (bytes : List ℕ) (files fi
 abbrev pub AddsSome : ℕ → Origin → List ℕ → Option (List Kept) → Option (List Kept) → Type 0
 AddsSome cells origin bytes files files' = (files' ≡ files) ⊎ AddsPart cells origin bytes files files'
 
--- the next of some paths, of which a front of the pictures was added
+-- the next of some paths: a front of its pictures was added
 pub record ShowsNext (held : List ℕ → Option (List ℕ)) (asked : AtlasRequest) (number : ℕ) (paths : List (List ℕ)) (shown : List Kept) : Type 0 where
   pub path : List ℕ
   pub rest : List (List ℕ)
@@ -139,7 +139,7 @@ pub record GathersAll (held : List ℕ → Option (List ℕ)) (asked : AtlasRequ
   pub gathered : Gathers held asked out errors paths rows refused shown out' errors' tally
   pub adds : files' ≡ with_files files shown
 
--- the first of them were, while a survey was told from these states on, and of the next one a front of its pictures
+-- the first of some paths were gathered, with a survey from these states on, and of the next one a front of its pictures
 pub record GathersSome (held : List ℕ → Option (List ℕ)) (asked : AtlasRequest) (paths : List (List ℕ)) (files files' : Option (List Kept)) (survey errors : SinkState) : Type 0 where
   pub before : List (List ℕ)
   pub rest : List (List ℕ)

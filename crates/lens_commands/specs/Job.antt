@@ -1,4 +1,4 @@
--- What a run of a job does (ours): the paths of the words and of the list are told, and it ends as that ended.
+-- What a run of a job does (ours): the files of the words and of the list are reported on, and the run ends as that ended.
 use Rattle.std.specs.Prelude.{◌≡◌, ◌⊎◌, ℕ, ◌≤◌, Bool, true, false, List, [], ◌++◌, codes, length, map, Option, None, Some, Result, Ok, Err, if◌then◌else◌}
 use Rattle.std.specs.Io.KnownBytes.{Appends, Keeps}
 use Rattle.std.specs.Str.{bytes_eq}
@@ -65,7 +65,7 @@ ListUnread held left job fault = RefusesAt held left (list_path job) fault
 abbrev pub job_paths : Job → List ℕ → List (List ℕ)
 job_paths job list = map (λ file. file.now) job.files.items ++ listed_paths job.list_end list
 
--- the list as people are told of it
+-- the list as messages name it
 abbrev pub list_name_at : Option (List ℕ) → List ℕ
 list_name_at None = codes "standard input"
 list_name_at (Some path) = if bytes_eq path dash then codes "standard input" else path
@@ -96,7 +96,7 @@ unlooked_line unlooked = unlooked_at unlooked.textures unlooked.flats
 abbrev pub output_end : Bool → Verdict → End
 output_end closed found = if closed then end.Closed found else end.Output
 
--- how a run ends that told standard error which warnings weren't looked for
+-- the end of a run, after standard error took which warnings weren't looked for
 abbrev pub noted_end : Verdict → Result (Unit {0}) IoFault → Result Verdict End
 noted_end verdict (Ok x) = Ok verdict
 noted_end verdict (Err fault) = Err end.Errors
@@ -145,12 +145,12 @@ abbrev pub TellsPaths : {W : Type 0} → (List ℕ → Option (List ℕ)) → Re
 TellsPaths held asked paths contents old new errors errors' result =
     TellsAll held asked paths contents old new errors errors' result ⊎ StopsJob held asked paths contents old new errors errors' result
 
--- what a job asks of each file, over those on which it stands
+-- what a job asks of each file, over the base files
 pub record IsAsked (job : Job) (base : List Wad) (asked : Request) : Type 0 where
   pub word : asked.word ≡ job.word
   pub over : IsOver job.rules base asked.judging
 
--- the files on which all stand were read, and the paths of the words and of the list were told, or the run stopped at one
+-- the base files were read, and the paths of the words and of the list were reported on, or the run stopped at one
 pub record RunsPaths {W : Type 0} (held : List ℕ → Option (List ℕ)) (left : Option (List ℕ)) (job : Job) (contents : W → Option (List ℕ)) (old new : Output W) (errors errors' : SinkState) (result : Result Verdict End) : Type 0 where
   pub list : List ℕ
   pub holds : HoldsList held left job list
@@ -160,7 +160,7 @@ pub record RunsPaths {W : Type 0} (held : List ℕ → Option (List ℕ)) (left 
   pub is_asked : IsAsked job base asked
   pub tells : TellsPaths held asked (job_paths job list) contents old new errors errors' result
 
--- the list was read, and the first file on which all stand that isn't taken was told; nothing was answered
+-- the list was read, and the first base file that isn't taken was reported; nothing was answered
 pub record RefusesBases {W : Type 0} (held : List ℕ → Option (List ℕ)) (left : Option (List ℕ)) (job : Job) (old new : Output W) (errors errors' : SinkState) (result : Result Verdict End) : Type 0 where
   pub list : List ℕ
   pub holds : HoldsList held left job list
@@ -179,7 +179,7 @@ pub record RefusesList {W : Type 0} (held : List ℕ → Option (List ℕ)) (lef
   pub untouched : new ≡ old
   pub ended : result ≡ Err end.Refused
 
--- there was no memory before anything was told
+-- there was no memory before anything was written
 pub record WantsMemory {W : Type 0} (old new : Output W) (errors errors' : SinkState) (result : Result Verdict End) : Type 0 where
   pub untouched : new ≡ old
   pub silent : errors' ≡ errors

@@ -1,4 +1,4 @@
--- What the run of `picture` does (ours): the level of a name is drawn, or it is told why not.
+-- What the run of `picture` does (ours): the level of a name is drawn, or the reason why not is reported.
 use Rattle.std.specs.Prelude.{◌≡◌, ◌≢◌, ◌↔◌, ◌⊎◌, ℕ, ◌+◌, Bool, true, false, IsTrue, List, codes, map, All, Option, Some, Result, Ok, Err}
 use Rattle.std.specs.List.{slice_get}
 use Rattle.le_rec.specs.Name.{query_of}
@@ -42,13 +42,13 @@ pub record IsFound (level : Level) (found : Verdict) : Type 0 where
   pub says : IsTrue faulty ↔ (¬ IsSound level)
   pub is : found ≡ drawn_verdict faulty
 
--- a text was told on standard error, nothing was answered, and the run ended so
+-- a text was written to standard error and nothing to the output, and the run ended so
 pub record TellsAlone {W : Type 0} (text : List ℕ) (ended : Result Verdict End) (old new : Output W) (errors errors' : SinkState) (result : Result Verdict End) : Type 0 where
   pub told : IsTold errors errors' text
   pub untouched : new ≡ old
   pub ends : result ≡ ended
 
--- the level's picture was written, all of it or up to a write that failed, and nothing was told
+-- the level's picture was written, all of it or up to a write that failed, and standard error took nothing
 pub record DrawsWhole {W : Type 0} (level : Level) (asked : View) (contents : W → Option (List ℕ)) (old new : Output W) (errors errors' : SinkState) (result : Result Verdict End) : Type 0 where
   pub text : List ℕ
   pub is : IsPicture level asked text
@@ -57,7 +57,7 @@ pub record DrawsWhole {W : Type 0} (level : Level) (asked : View) (contents : W 
   pub rest : TellsRest contents text found old new result
   pub silent : errors' ≡ errors
 
--- there is nothing to draw of the level, which was told
+-- the level has nothing to draw, and this was reported
 pub record DrawsNothing {W : Type 0} (level : Level) (question : PictureQuestion) (old new : Output W) (errors errors' : SinkState) (result : Result Verdict End) : Type 0 where
   pub none : HasNothing level question.drawn.frame
   pub tells : TellsAlone (named_line question.name.now (codes "nothing to draw\n")) (Err end.Refused) old new errors errors' result
@@ -68,7 +68,7 @@ DrawsLevel level question contents old new errors errors' result =
     WantsMemory old new errors errors' result ⊎ DrawsNothing level question old new errors errors' result
     ⊎ DrawsWhole level question.drawn contents old new errors errors' result
 
--- the level at an entry is in a format that isn't read, or it isn't whole, which was told
+-- the level at an entry is in a format that isn't read, or it isn't whole, and this was reported
 pub record DrawsOther {W : Type 0} (files : List Wad) (g : ℕ) (name : List ℕ) (old new : Output W) (errors errors' : SinkState) (result : Result Verdict End) : Type 0 where
   pub format : Format
   pub is : IsFormatAt files g format
@@ -86,7 +86,7 @@ abbrev pub DrawsAt : {W : Type 0} → List Wad → ℕ → PictureQuestion → (
 DrawsAt files g question contents old new errors errors' result =
     DrawsOther files g question.name.now old new errors errors' result ⊎ DrawsDoom files g question contents old new errors errors' result
 
--- no entry has the name, which was told
+-- no entry has the name, and this was reported
 pub record DrawsNoName {W : Type 0} (files : List Wad) (name : List ℕ) (old new : Output W) (errors errors' : SinkState) (result : Result Verdict End) : Type 0 where
   pub none : (g : ℕ) → slice_get (names files) g ≢ Some (query_of name)
   pub tells : TellsAlone (named_line name (codes "no level of this name\n")) (Err end.Refused) old new errors errors' result
@@ -101,7 +101,7 @@ abbrev pub DrawsNamed : {W : Type 0} → List Wad → PictureQuestion → (W →
 DrawsNamed files question contents old new errors errors' result =
     DrawsNoName files question.name.now old new errors errors' result ⊎ DrawsWinner files question contents old new errors errors' result
 
--- the first of the files that has no directory is told
+-- the first of the files that has no directory was reported
 pub record RefusesDirectory {W : Type 0} (paths bytes : List (List ℕ)) (old new : Output W) (errors errors' : SinkState) (result : Result Verdict End) : Type 0 where
   pub index : ℕ
   pub why : WadFault
@@ -123,7 +123,7 @@ DrawsFiles paths bytes question contents old new errors errors' result =
     WantsMemory old new errors errors' result ⊎ RefusesDirectory paths bytes old new errors errors' result
     ⊎ DrawsSet bytes question contents old new errors errors' result
 
--- the first of the files that isn't read is told
+-- the first of the files that isn't read was reported
 pub record RefusesUnread {W : Type 0} (held : List ℕ → Option (List ℕ)) (paths : List (List ℕ)) (old new : Output W) (errors errors' : SinkState) (result : Result Verdict End) : Type 0 where
   pub index : ℕ
   pub refusal : FileRefusal

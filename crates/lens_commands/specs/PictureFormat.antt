@@ -7,7 +7,7 @@ use Rattle.level_starts.specs.declared.format.Format.TheVariants.{Incomplete}
 use Rattle.wad_dir.specs.Entries.{names}
 use Rattle.wad_dir.specs.Wad.{Wad}
 
--- the format of the level that starts at an entry, or that it lacks its things where none does
+-- the format of the level that starts at an entry; if none does, its first lump is missing
 abbrev pub IsFormatAt : List Wad → ℕ → Format → Type 0
 IsFormatAt files g format =
     (LevelStartsAt (names files) g × IsFormat files g format) ⊎ ((¬ LevelStartsAt (names files) g) × (format ≡ Incomplete 1))

@@ -1,4 +1,4 @@
--- What is told on standard error of a picture (ours).
+-- Messages about a picture on standard error (ours).
 use Rattle.std.specs.Prelude.{◌≡◌, ℕ, List, ◌++◌, Some, codes}
 use Rattle.std.specs.List.{slice_get}
 use Rattle.le_rec.specs.Sink.{SinkState}
@@ -10,11 +10,11 @@ use Rattle.lens_engines.specs.declared.object.FileRefusal.{FileRefusal}
 abbrev pub name_head : List ℕ → List ℕ
 name_head name = codes "wadlens: " ++ (shown_path name ++ codes ": ")
 
--- what is told of a level, by the name that was asked for: `wadlens: NAME: TEXT`
+-- a message about a level, by the name that was asked for: `wadlens: NAME: TEXT`
 abbrev pub named_line : List ℕ → List ℕ → List ℕ
 named_line name text = name_head name ++ text
 
--- it was told that the file of an index is refused
+-- it was reported that the file of an index is refused
 pub record TellsRefused (paths : List (List ℕ)) (index : ℕ) (refusal : FileRefusal) (errors errors' : SinkState) : Type 0 where
   pub path : List ℕ
   pub there : slice_get paths index ≡ Some path

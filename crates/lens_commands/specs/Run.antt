@@ -1,4 +1,4 @@
--- What a run tells of its files (ours): of each path in order the engine's text, or why its file is refused.
+-- The report of a run on its files (ours): for each path in order the engine's text, or why its file is refused.
 use Rattle.std.specs.Prelude.{◌≡◌, ◌⊎◌, ℕ, ◌≤◌, false, true, List, [], ◌∷◌, ◌++◌, codes, length, Some, Result, Ok, Err}
 use Rattle.std.specs.Io.KnownBytes.{Appends, Keeps}
 use Rattle.le_rec.specs.Sink.{SinkState}
@@ -40,7 +40,7 @@ use Rattle.lens_commands.specs.declared.tell.Word.TheVariants.{Check, Demos, Sur
 abbrev pub refusal_line : List ℕ → FileRefusal → List ℕ
 refusal_line path refusal = codes "wadlens: " ++ (shown_path path ++ (codes ": " ++ (refusal_text refusal ++ codes "\n")))
 
--- a text was told on an end: all of it, or a front of it where the end failed
+-- a text was written to an end: all of it, or a front of it if the end failed
 abbrev pub IsTold : SinkState → SinkState → List ℕ → Type 0
 IsTold before after text = (outcome : Result (Unit {0}) IoFault) × Writes before after text outcome
 
@@ -63,7 +63,7 @@ refused_tally = record { verdict = Unjudged; totals = no_totals }
 abbrev pub tally_with : Tally → Tally → Tally
 tally_with a b = record { verdict = graver a.verdict b.verdict; totals = totals_with a.totals b.totals }
 
--- a stop where files of a verdict were told before: where the output failed it tells of them, too
+-- a stop after files with a verdict: if the output failed, the graver of both counts
 abbrev pub stop_after : Verdict → Stop → Stop
 stop_after before stop.Memory = stop.Memory
 stop_after before (stop.Output found) = stop.Output (graver before found)
@@ -91,14 +91,14 @@ TellsWord Survey path bytes judging out out' errors errors' tally = SurveysBytes
 TellsWord (Check most form) path bytes judging out out' errors errors' tally = ChecksBytes most form path bytes judging out out' tally × (errors' ≡ errors)
 TellsWord (Demos form) path bytes judging out out' errors errors' tally = TellsDemosOf form path bytes out out' errors errors' tally
 
--- a write failed within what is told of levels, and so much was found up to there
+-- a write failed within the report on levels, with this verdict up to there
 abbrev pub StopsLevels : Word → List ℕ → List ℕ → Judging → SinkState → SinkState → Verdict → Type 0
 StopsLevels Survey path bytes judging before after found = SurveysFile path bytes judging before after (Err (engine.Write found))
 StopsLevels (Check most form) path bytes judging before after found =
     ChecksFile (record { form = form; path = path; most = most; judging = judging }) bytes before after (Err (engine.Write found))
 StopsLevels (Demos form) path bytes judging before after found = ⊥
 
--- and within what these bytes are told by
+-- or within the report on these bytes, by the word
 abbrev pub TellsSome : Word → List ℕ → List ℕ → Judging → SinkState → SinkState → SinkState → SinkState → Verdict → Type 0
 TellsSome Survey path bytes judging out out' errors errors' found = StopsLevels Survey path bytes judging out out' found × (errors' ≡ errors)
 TellsSome (Check most form) path bytes judging out out' errors errors' found = StopsLevels (Check most form) path bytes judging out out' found × (errors' ≡ errors)
@@ -110,27 +110,27 @@ StopsErrors Survey path bytes out out' errors errors' = ⊥
 StopsErrors (Check most form) path bytes out out' errors errors' = ⊥
 StopsErrors (Demos form) path bytes out out' errors errors' = StopsRefusals form path bytes out out' errors errors'
 
--- there was no memory to tell all of these bytes: nothing was answered, or what is told of the levels in front
+-- there was no memory to report on all of these bytes: nothing was answered, or the report on the first levels
 abbrev pub TellsFirst : Word → List ℕ → List ℕ → Judging → SinkState → SinkState → Type 0
 TellsFirst Survey path bytes judging before after = (after ≡ before) ⊎ SurveysFile path bytes judging before after (Err engine.Memory)
 TellsFirst (Check most form) path bytes judging before after =
     (after ≡ before) ⊎ ChecksFile (record { form = form; path = path; most = most; judging = judging }) bytes before after (Err engine.Memory)
 TellsFirst (Demos form) path bytes judging before after = after ≡ before
 
--- bytes that are told as a WAD file have no directory; of demos only those are that begin as one
+-- bytes that are read as a WAD file have no directory; for demos, these are only bytes that begin as one
 abbrev pub LacksDirectory : Word → List ℕ → WadFault → Type 0
 LacksDirectory Survey bytes why = RefusesWad bytes why
 LacksDirectory (Check most form) bytes why = RefusesWad bytes why
 LacksDirectory (Demos form) bytes why = (is_wad_file bytes ≡ true) × RefusesWad bytes why
 
--- how an engine's fault is told
+-- an engine's fault, as one of a file's bytes
 abbrev pub fault_of : LevelsFault → BytesFault
 fault_of (engine.NoWad why) = fault.NoWad why
 fault_of (engine.Write found) = fault.Output found
 fault_of engine.Memory = fault.Memory
 
--- why bytes aren't gone over to their end: they have no directory, and nothing was written; or an end failed; or there was no memory, and
--- standard error was told nothing
+-- why the report on bytes isn't whole: they have no directory, and nothing was written; or an end failed; or there was no memory, and standard error took
+-- nothing
 abbrev pub LeavesBytes : {W E : Type 0} → (W → SinkState) → (E → SinkState) → Word → List ℕ → List ℕ → Judging → W → W → E → E → BytesFault → Type 0
 LeavesBytes state state' word path bytes judging out out' errors errors' (fault.NoWad why) =
     LacksDirectory word bytes why × (out' ≡ out) × (errors' ≡ errors)
@@ -141,7 +141,7 @@ LeavesBytes state state' word path bytes judging out out' errors errors' fault.E
 LeavesBytes state state' word path bytes judging out out' errors errors' fault.Memory =
     TellsFirst word path bytes judging (state out) (state out') × (state' errors' ≡ state' errors)
 
--- of levels, which are told on standard output alone
+-- the same for levels, which write to standard output alone
 abbrev pub LeavesLevels : {W : Type 0} → (W → SinkState) → Word → List ℕ → List ℕ → Judging → W → W → BytesFault → Type 0
 LeavesLevels state word path bytes judging out out' (fault.NoWad why) = RefusesWad bytes why × (out' ≡ out)
 LeavesLevels state word path bytes judging out out' (fault.Output found) =
@@ -168,7 +168,7 @@ abbrev pub RefusesFile : Known → Word → FileRefusal → Type 0
 RefusesFile known word (refusal.NoWad why) = HasNoDirectory known word why
 RefusesFile known word refusal = RefusesKnown known (Refused refusal)
 
--- a file was refused: both ends took what is told of it
+-- a file was refused: both ends took the report on it
 pub record WritesRefusal (word : Word) (path : List ℕ) (refusal : FileRefusal) (out out' errors errors' : SinkState) (tally : Tally) : Type 0 where
   pub line : Appends errors.taken errors'.taken (refusal_line path refusal)
   pub answer : Appends out.taken out'.taken (refusal_answer word path refusal)
@@ -185,7 +185,7 @@ abbrev pub TellsPath : Known → Request → List ℕ → SinkState → SinkStat
 TellsPath known asked path out out' errors errors' tally =
     TellsHeld known asked path out out' errors errors' tally ⊎ TellsRefusal known asked.word path out out' errors errors' tally
 
--- what was told of some paths, one after another, and what was found
+-- the report on some paths, one after another, and its tally
 pub data ToldTo (known : ℕ → List ℕ → Known) (asked : Request) (out errors : SinkState) : List (List ℕ) → SinkState → SinkState → Tally → Type 0 where
   at_start : ToldTo known asked out errors [] out errors no_tally
   with_path : (paths : List (List ℕ)) (out' errors' : SinkState) (sum : Tally) (path : List ℕ) (out'' errors'' : SinkState) (tally : Tally)
@@ -202,12 +202,12 @@ pub record LacksAnswer (word : Word) (path : List ℕ) (refusal : FileRefusal) (
   pub line : Appends errors.taken errors'.taken (refusal_line path refusal)
   pub front : TakesFront out out' (refusal_answer word path refusal)
 
--- or as what it held was to be handed on before the line
+-- or while it handed on what it held, before that line
 pub record LacksHand (out out' errors errors' : SinkState) : Type 0 where
   pub same : Keeps out.taken out'.taken
   pub silent : errors' ≡ errors
 
--- a write failed while a refused file was told: of what is answered, or on standard error
+-- a write failed in the report on a refused file: the output's, or standard error's
 abbrev pub StopsRefusal : Word → List ℕ → FileRefusal → SinkState → SinkState → SinkState → SinkState → Stop → Type 0
 StopsRefusal word path refusal out out' errors errors' stop.Memory = ⊥
 StopsRefusal word path refusal out out' errors errors' (stop.Output found) =
@@ -215,7 +215,7 @@ StopsRefusal word path refusal out out' errors errors' (stop.Output found) =
 StopsRefusal word path refusal out out' errors errors' stop.Errors =
     TakesFront errors errors' (refusal_line path refusal) × (errors'.failed ≡ true) × Keeps out.taken out'.taken × (out'.failed ≡ false)
 
--- a run stopped while the file under a path was told, as its output failed
+-- a run stopped in the report on the file under a path, as its output failed
 pub record StopsTelling (known : Known) (asked : Request) (path : List ℕ) (out out' errors errors' : SinkState) (found : Verdict) : Type 0 where
   pub bytes : List ℕ
   pub are : Keeps known.bytes (Some bytes)
@@ -223,27 +223,27 @@ pub record StopsTelling (known : Known) (asked : Request) (path : List ℕ) (out
   pub told : TellsSome asked.word path bytes asked.judging out out' errors errors' found
   pub failed : out'.failed ≡ true
 
--- a run stopped while it told of demos that aren't read, in the file under a path
+-- a run stopped in a message about a demo that isn't read, in the file under a path
 pub record StopsOnErrors (known : Known) (asked : Request) (path : List ℕ) (out out' errors errors' : SinkState) : Type 0 where
   pub bytes : List ℕ
   pub are : Keeps known.bytes (Some bytes)
   pub few : length bytes ≤ MAX_READ
   pub stops : StopsErrors asked.word path bytes out out' errors errors'
 
--- a run stopped while it told that the file under a path is refused
+-- a run stopped in the report that the file under a path is refused
 pub record StopsRefusing (known : Known) (word : Word) (path : List ℕ) (out out' errors errors' : SinkState) (stop : Stop) : Type 0 where
   pub refusal : FileRefusal
   pub why : RefusesFile known word refusal
   pub stops : StopsRefusal word path refusal out out' errors errors' stop
 
--- the file under a path was read, and there was no memory to tell all of it
+-- the file under a path was read, and there was no memory to report on all of it
 pub record TellsHeldFirst (known : Known) (asked : Request) (path : List ℕ) (out out' : SinkState) : Type 0 where
   pub bytes : List ℕ
   pub are : Keeps known.bytes (Some bytes)
   pub few : length bytes ≤ MAX_READ
   pub told : TellsFirst asked.word path bytes asked.judging out out'
 
--- what was told of the file under a path where there was no memory: nothing, or the first of what its bytes are told by
+-- the report on the file under a path without memory: none, or the first part of that on its bytes
 pub record WantsMore (known : Known) (asked : Request) (path : List ℕ) (out out' errors errors' : SinkState) : Type 0 where
   pub answered : (out' ≡ out) ⊎ TellsHeldFirst known asked path out out'
   pub silent : errors' ≡ errors
@@ -256,14 +256,14 @@ StopsPath known asked path out out' errors errors' (stop.Output found) =
 StopsPath known asked path out out' errors errors' stop.Errors =
     StopsOnErrors known asked path out out' errors errors' ⊎ StopsRefusing known asked.word path out out' errors errors' stop.Errors
 
--- of some paths all those before one were told
+-- of some paths, all before one were reported on
 pub record ToldBefore (known : ℕ → List ℕ → Known) (asked : Request) (paths : List (List ℕ)) (out errors : SinkState) (path : List ℕ) (out' errors' : SinkState) (found : Tally) : Type 0 where
   pub before : List (List ℕ)
   pub after : List (List ℕ)
   pub stands : paths ≡ before ++ path ∷ after
   pub told : ToldTo known asked out errors before out' errors' found
 
--- a run stopped at a path, and all before it were told
+-- a run stopped at a path, and all before it were reported on
 pub record StopsAt (known : ℕ → List ℕ → Known) (asked : Request) (paths : List (List ℕ)) (out errors out' errors' : SinkState) (stop : Stop) : Type 0 where
   pub path : List ℕ
   pub out_before : SinkState
@@ -281,7 +281,7 @@ OnErrors (Err stop.Memory) holds = Unit {0}
 OnErrors (Err (stop.Output found)) holds = Unit {0}
 OnErrors (Err stop.Errors) holds = holds
 
--- the same while the bytes of a file are told
+-- the same for a report on the bytes of a file
 abbrev pub OnBytesErrors : {T : Type 0} → Result T BytesFault → Type 0 → Type 0
 OnBytesErrors (Ok x) holds = Unit {0}
 OnBytesErrors (Err (fault.NoWad why)) holds = Unit {0}

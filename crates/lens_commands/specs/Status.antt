@@ -5,7 +5,7 @@ use Rattle.lens_engines.specs.declared.verdict.Verdict.TheVariants.{Clean, Unjud
 use Rattle.lens_commands.specs.declared.end.End.{End}
 use Rattle.lens_commands.specs.declared.end.End.TheVariants as end
 
--- what standard error is told of an end: nothing where it was told before, can't be told, or has no reader
+-- the message for standard error: none where it was written before, can't be written, or has no reader
 abbrev pub end_message : End → Option (List ℕ)
 end_message end.Memory = Some (codes "no memory left")
 end_message end.Output = Some (codes "standard output can't be written")
@@ -20,7 +20,7 @@ status_of Clean = 0
 status_of Faulty = 1
 status_of Unjudged = 2
 
--- by how the run ended: want of memory goes before all, and a failed end before what was found, but for a reader that has gone
+-- by how the run ended: a lack of memory goes first, then a failed end, then the verdict; a reader that has gone counts as no failure
 abbrev pub exit_status_of : Result Verdict End → ℕ
 exit_status_of (Ok verdict) = status_of verdict
 exit_status_of (Err (end.Closed verdict)) = status_of verdict

@@ -1,4 +1,4 @@
--- How far files were told where an atlas isn't whole (ours).
+-- How far the report on files came, if an atlas isn't whole (ours).
 use Rattle.std.specs.Prelude.{◌≡◌, ◌⊎◌, ℕ, List, Option}
 use Rattle.le_rec.specs.Sink.{SinkState}
 use Rattle.lens_engines.specs.declared.object.FileRefusal.{FileRefusal}
@@ -13,19 +13,19 @@ use Rattle.lens_commands.specs.Folder.{IsBegun, IsNotErrors, Kept}
 use Rattle.lens_commands.specs.declared.atlas.fault.AtlasFault.{AtlasFault}
 use Rattle.lens_commands.specs.declared.atlas.fault.AtlasFault.TheVariants as fault
 
--- why an atlas isn't whole where telling its files stopped
+-- why an atlas isn't whole, if the report on its files stopped
 abbrev pub stop_fault : Stop → AtlasFault
 stop_fault stop.Memory = fault.Memory
 stop_fault (stop.Output found) = fault.Write
 stop_fault stop.Errors = fault.Errors
 
--- telling the file under a path stopped
+-- the report on the file under a path stopped
 pub record StopsWithin (held : Option (List ℕ)) (asked : Request) (path : List ℕ) (out out' errors errors' : SinkState) (why : AtlasFault) : Type 0 where
   pub stop : Stop
   pub stops : StopsPath (at_path held) asked path out out' errors errors' stop
   pub is : why ≡ stop_fault stop
 
--- all of it was told, and then a file of the folder failed, or there was no memory for what the page keeps
+-- that report was whole, and then a file of the folder failed, or there was no memory for what the page keeps
 pub record StopsBehind (held : Option (List ℕ)) (asked : Request) (path : List ℕ) (out out' errors errors' : SinkState) (why : AtlasFault) : Type 0 where
   pub tally : Tally
   pub told : TellsPath (at_path held) asked path out out' errors errors' tally
@@ -36,13 +36,13 @@ abbrev pub LeavesPath : Option (List ℕ) → Request → List ℕ → SinkState
 LeavesPath held asked path out out' errors errors' why =
     StopsBehind held asked path out out' errors errors' why ⊎ StopsWithin held asked path out out' errors errors' why
 
--- telling that a file is refused stopped
+-- the report that a file is refused stopped
 pub record StopsRefused (path : List ℕ) (refusal : FileRefusal) (out out' errors errors' : SinkState) (why : AtlasFault) : Type 0 where
   pub stop : Stop
   pub stops : StopsRefusal Survey path refusal out out' errors errors' stop
   pub is : why ≡ stop_fault stop
 
--- it was told, and there was no memory to keep it for the page
+-- that report was whole, and there was no memory to keep it for the page
 pub record WantsRefused (path : List ℕ) (refusal : FileRefusal) (out out' errors errors' : SinkState) (why : AtlasFault) : Type 0 where
   pub tally : Tally
   pub told : WritesRefusal Survey path refusal out out' errors errors' tally
@@ -53,7 +53,7 @@ abbrev pub LeavesRefused : List ℕ → FileRefusal → SinkState → SinkState 
 LeavesRefused path refusal out out' errors errors' why =
     WantsRefused path refusal out out' errors errors' why ⊎ StopsRefused path refusal out out' errors errors' why
 
--- the files before one were told, and that one as far as the run came
+-- the files before one were reported on, and that one as far as the run came
 pub record StopsAtFile (held : List ℕ → Option (List ℕ)) (asked : Request) (paths : List (List ℕ)) (out errors out' errors' : SinkState) (why : AtlasFault) : Type 0 where
   pub path : List ℕ
   pub out_before : SinkState
@@ -62,14 +62,14 @@ pub record StopsAtFile (held : List ℕ → Option (List ℕ)) (asked : Request)
   pub told : ToldBefore (stored held) asked paths out errors path out_before errors_before tally
   pub left : LeavesPath (held path) asked path out_before out' errors_before errors' why
 
--- so far were files told into a survey that was begun
+-- so far the report on files came, in a survey that was begun
 pub record SurveysSome (held : List ℕ → Option (List ℕ)) (asked : Request) (paths : List (List ℕ)) (files : Option (List Kept)) (errors errors' : SinkState) (why : AtlasFault) : Type 0 where
   pub before : SinkState
   pub begun : IsBegun files before
   pub after : SinkState
   pub stops : StopsAtFile held asked paths before errors after errors' why
 
--- and so were all of them, and then a file of the folder failed
+-- it was whole, and then a file of the folder failed
 pub record SurveysAll (held : List ℕ → Option (List ℕ)) (asked : Request) (paths : List (List ℕ)) (files : Option (List Kept)) (errors errors' : SinkState) (why : AtlasFault) : Type 0 where
   pub before : SinkState
   pub begun : IsBegun files before
@@ -84,7 +84,7 @@ pub record LacksSurvey (old new : Option (List Kept)) (errors errors' : SinkStat
   pub silent : errors' ≡ errors
   pub fault : IsNotErrors why
 
--- what standard error was told of the files: nothing where no survey was begun
+-- the report on the files on standard error: nothing if no survey was begun
 abbrev pub TellsUntil : (List ℕ → Option (List ℕ)) → Request → List (List ℕ) → Option (List Kept) → Option (List Kept) → SinkState → SinkState → AtlasFault → Type 0
 TellsUntil held asked paths old new errors errors' why =
     LacksSurvey old new errors errors' why ⊎ SurveysSome held asked paths old errors errors' why ⊎ SurveysAll held asked paths old errors errors' why

@@ -21,8 +21,8 @@ use line_io::{IoFault, TextLine, emit};
 use std::alloc::Global;
 use std::io::{Read, Write};
 
-/// Writes the demo of which the input is the listing, once all of it was read, or tells which line is wrong. At Ok nothing is held
-/// back.
+/// Writes the demo of which the input is the listing, once all of it was read, or reports which line is wrong. On Ok the buffer
+/// is empty.
 pub fn run_assemble<I: Read + Drop, O: Write + Drop, E: Sink>(
     alloc: Global,
     reader: I,
@@ -36,14 +36,14 @@ pub fn run_assemble<I: Read + Drop, O: Write + Drop, E: Sink>(
         Ok(listing) => assemble_bytes(alloc, &listing, out, errors),
         Err(ReadFault::Memory) => Err(End::Memory),
         Err(ReadFault::Refused(refusal)) => {
-            // Where standard error fails, nobody is left to be told.
+            // If standard error fails, the message is lost.
             let _ = write_refusal(b"standard input", refusal, errors);
             Err(End::Refused)
         }
     }
 }
 
-// Writes the demo of a listing, or tells which line is wrong.
+// Writes the demo of a listing, or reports which line is wrong.
 fn assemble_bytes<O: Write + Drop, E: Sink>(
     alloc: Global,
     listing: &[u8],

@@ -1,4 +1,4 @@
-//! The files on which all others of a run stand, as a game's own.
+//! The base files of a run, such as a game's own: every other file is judged over them.
 
 ghost use Rattle.std.specs.Prelude.{◌≡◌, ◌<◌, [], false, length, map, slice_index_or, All, IfErr, IfNone, IfOk, IfSome, OnOk};
 ghost use Rattle.wad_dir.specs.Refusal.{RefusesWad};
@@ -15,7 +15,7 @@ use std::alloc::{AllocError, Allocator};
 use std::marker::Model;
 use wad_dir::{MAX_FILES, Wad, WadFault};
 
-/// The paths of the files on which all stand: at most 63.
+/// The paths of the base files: at most 63.
 #[derive(Drop)]
 pub struct BasePaths<'a> {
     paths: Vec<&'a str>,
@@ -56,7 +56,7 @@ impl<'a> BasePaths<'a> {
     }
 }
 
-/// Which of the files on which all stand is refused, and why.
+/// Which base file is refused, and why.
 #[derive(Clone, Copy, Debug, PartialEq, Eq)]
 pub struct BaseFault {
     /// Its place among them, from 0.
@@ -64,7 +64,7 @@ pub struct BaseFault {
     pub fault: ReadFault,
 }
 
-/// Reads the files on which all stand, one after another, and the directory of each. The first that is refused ends it.
+/// Reads the base files, one after another, and the directory of each. It stops at the first that is refused.
 pub fn read_bases<'f, A: Allocator + Copy, S: RunFiles>(
     alloc: A,
     files: &'f S,
@@ -82,7 +82,7 @@ pub fn read_bases<'f, A: Allocator + Copy, S: RunFiles>(
     Ok(all)
 }
 
-// Adds the bytes of a file on which all stand.
+// Adds the bytes of a base file.
 fn push_base<'f, A: Allocator + Copy, S: RunFiles>(
     alloc: A,
     files: &'f S,
@@ -142,7 +142,7 @@ fn push_wad<'f, A: Allocator>(wads: &mut Vec<Wad<'f>, A>, bytes: &'f [u8]) -> Re
     Ok(())
 }
 
-/// Tells which file on which all stand is refused, and why, and how the run ends so.
+/// Reports which base file is refused, and why, and returns the end of the run.
 pub fn refuse_base<E: Sink>(paths: &[&[u8]], first: BaseFault, errors: &mut E) -> End
     requires within { first.place < length paths.now }
     requires sound { (E.state errors.old).failed ≡ false }
@@ -152,7 +152,7 @@ pub fn refuse_base<E: Sink>(paths: &[&[u8]], first: BaseFault, errors: &mut E) -
     match first.fault {
         ReadFault::Memory => End::Memory,
         ReadFault::Refused(refusal) => {
-            // Where standard error fails too, nobody is left to be told.
+            // If standard error fails too, the message is lost.
             let _ = write_refusal(paths[first.place], refusal, errors);
             End::Refused
         }

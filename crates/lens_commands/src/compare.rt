@@ -23,8 +23,8 @@ use line_io::{IoFault, Storage, emit};
 use std::alloc::Global;
 use std::io::Write;
 
-/// Writes where the demos of two files first differ, in one line, or nothing where their headers and commands are the same. Of
-/// each file that isn't read or holds no demo is told why. At Ok nothing is held back.
+/// Writes where the demos of two files first differ, in one line, or nothing if their headers and commands are the same. If a
+/// file isn't read or holds no demo, the reason is reported for each such file. On Ok the buffer is empty.
 pub fn run_compare<S: Storage, O: Write + Drop, E: Sink>(
     alloc: Global,
     path_a: &[u8],
@@ -88,7 +88,7 @@ fn read_given<S: Storage>(alloc: Global, storage: &S, path: &[u8]) -> Result<Giv
     }
 }
 
-// Tells of both files why they hold no demo, where they hold none.
+// Reports why a file holds no demo, for each of the two that holds none.
 fn refuse<E: Sink>(
     path_a: &[u8],
     a: &Given,
@@ -100,7 +100,7 @@ fn refuse<E: Sink>(
     ensures ended { result ≡ Err end.Refused }
     ensures told { ToldBoth path_a.now path_b.now a.now b.now (E.state errors.old) (E.state errors.new) }
 {
-    // Where standard error fails, nobody is left to be told.
+    // If standard error fails, the message is lost.
     let _ = write_both(path_a, a, path_b, b, errors);
     Err(End::Refused)
 }
@@ -120,7 +120,7 @@ fn write_both<E: Sink>(
     write_given(path_b, b, errors)
 }
 
-// Why a file holds no demo, and nothing where it holds one.
+// Why a file holds no demo; nothing if it holds one.
 fn write_given<E: Sink>(path: &[u8], given: &Given, errors: &mut E) -> Result<(), IoFault>
     requires { (E.state errors.old).failed ≡ false }
     ensures { (text : _) × TellsGiven path.now given.now text × Writes (E.state errors.old) (E.state errors.new) text result }

@@ -20,7 +20,8 @@ use line_io::{IoFault, Storage, emit};
 use std::alloc::Global;
 use std::io::Write;
 
-/// Writes the level whose label is an entry of the file under a path, or tells why not. At Ok nothing is held back.
+/// Writes the level whose label is an entry of the file under a path, or reports why not. On Ok the buffer is
+/// empty.
 pub fn run_cut<S: Storage, O: Write + Drop, E: Sink>(
     alloc: Global,
     entry: u64,
@@ -37,14 +38,14 @@ pub fn run_cut<S: Storage, O: Write + Drop, E: Sink>(
         Ok(bytes) => cut_bytes(alloc, entry, path, &bytes, out, errors),
         Err(ReadFault::Memory) => Err(End::Memory),
         Err(ReadFault::Refused(refusal)) => {
-            // Where standard error fails too, nobody is left to be told.
+            // If standard error fails too, the message is lost.
             let _ = write_refusal(path, refusal, errors);
             Err(End::Refused)
         }
     }
 }
 
-// Writes the level at an entry of a file's bytes, or tells why not.
+// Writes the level at an entry of a file's bytes, or reports why not.
 fn cut_bytes<O: Write + Drop, E: Sink>(
     alloc: Global,
     entry: u64,
@@ -89,7 +90,8 @@ fn write_cut_reason<E: Sink>(fault: &CutFault, errors: &mut E) -> Result<(), IoF
     write_cut_fault(*fault, errors)
 }
 
-// How a run ends that cut no level: one that lacks a lump is faulty, and else it was refused.
+// The end of a run that cut no level: a level that lacks a lump is faulty; every other fault is a refusal, except
+// `Memory`.
 fn cut_fault_end(fault: &CutFault) -> Result<Verdict, End>
     ensures { result ≡ cut_fault_end fault.now }
 {

@@ -1,4 +1,4 @@
-//! The demos of a file: they are answered, and why some aren't read is told on standard error.
+//! The demos of a file. Each is listed, and standard error has why some aren't read.
 
 ghost use Rattle.std.specs.Prelude.{◌≡◌, [], false, IfOk, IfErr, OnOk};
 ghost use Rattle.lens_commands.specs.DemosTold.{LeavesDemos, TellsDemosOf, demos_tally, demos_verdict, telling_of};
@@ -10,7 +10,7 @@ use le_rec::Sink;
 use lens_engines::{Form, Verdict};
 use std::alloc::Allocator;
 
-// What the engine is asked, where demos are answered in a form.
+// The question for the engine, for demos in this form.
 fn telling_of(form: Form) -> Telling
     ensures { result ≡ telling_of form }
 {
@@ -20,7 +20,8 @@ fn telling_of(form: Form) -> Telling
     }
 }
 
-/// Tells the demos of a file's bytes, in order: the message about one that isn't read goes behind what was answered before.
+/// Reports on the demos of a file's bytes, in order. The message about one that isn't read comes after what was answered
+/// before.
 pub fn tell_demos<A: Allocator + Copy, W: HandOn, E: Sink, P: Watch>(
     alloc: A,
     form: Form,
@@ -49,7 +50,7 @@ pub fn tell_demos<A: Allocator + Copy, W: HandOn, E: Sink, P: Watch>(
     }
 }
 
-// What is found where all demos were read, or not.
+// The verdict, by whether all demos were read.
 fn demos_verdict(all_read: bool) -> Verdict
     ensures { result ≡ demos_verdict all_read }
 {

@@ -10,15 +10,16 @@ use std::alloc::AllocError;
 pub enum End {
     /// A growth was refused.
     Memory,
-    /// The reader of standard output has gone, and so much was found before.
+    /// The reader of standard output has gone. The verdict up to there.
     Closed(Verdict),
     /// Standard output can't be written.
     Output,
     /// Standard error can't be written.
     Errors,
-    /// The words are mistaken, or what they ask for is refused: a list, a file, a listing, a name, a folder. This was told.
+    /// The words are wrong, or what they ask for is refused: a list, a file, a listing, a name, a folder. This was
+    /// reported.
     Refused,
-    /// The words ask for the help or the version, which was told.
+    /// The words ask for the help or the version, which was printed.
     Told,
 }
 
@@ -37,7 +38,7 @@ impl End {
     ghost use Rattle.std.specs.Option.{option_map};
     ghost use Rattle.lens_commands.specs.Status.{end_message};
 
-    /// What standard error is told of it, where it wasn't told before.
+    /// The message for standard error, if it wasn't printed before.
     pub fn message(self) -> Option<&'static str>
         ensures { option_map (λ text. text.now) result ≡ end_message self }
     {

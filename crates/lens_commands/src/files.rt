@@ -39,7 +39,7 @@ impl ReadFault {
     }
 }
 
-/// Reads the file under a path to its end, in the memory of `room`, whose own bytes go.
+/// Reads the file under a path to its end, into the memory of `room`, whose bytes are dropped.
 pub fn read_path<S: Storage, A: Allocator>(
     room: Vec<u8, A>,
     storage: &S,
@@ -55,7 +55,7 @@ pub fn read_path<S: Storage, A: Allocator>(
     }
 }
 
-/// Reads an input to its end, in the memory of `room`, whose own bytes go.
+/// Reads an input to its end, into the memory of `room`, whose bytes are dropped.
 pub fn read_input<R: Read + Drop, A: Allocator>(
     room: Vec<u8, A>,
     input: R,
@@ -72,7 +72,7 @@ pub fn read_input<R: Read + Drop, A: Allocator>(
     }
 }
 
-/// The bytes of a file: read into memory, or lent by who holds them.
+/// The bytes of a file: read into memory, or lent by their owner.
 #[derive(Drop)]
 pub enum FileBytes<'f, A: Allocator> {
     Read(Vec<u8, A>),
@@ -93,7 +93,7 @@ impl<A: Allocator> FileBytes<'_, A> {
         }
     }
 
-    /// The memory that they took, for those of the next file.
+    /// Their memory, for the next file's bytes.
     pub fn into_room(self, alloc: A) -> Vec<u8, A> {
         match self {
             FileBytes::Read(bytes) => bytes,
@@ -145,7 +145,7 @@ impl<S: Storage> RunFiles for Stored<'_, S> {
     }
 }
 
-/// Files that a host holds, of which there is one at each place.
+/// Files that a host holds, one at each place.
 #[derive(Clone, Copy)]
 pub struct Held<'f>(pub &'f [&'f [u8]]);
 

@@ -10,9 +10,9 @@ use lens_engines::{Base, Rules};
 #[derive(Drop)]
 pub struct Job<'a> {
     pub word: Word,
-    /// How levels are judged, which says nothing of demos.
+    /// How levels are judged. Demos ignore it.
     pub rules: Rules,
-    /// The paths of the files on which each file stands.
+    /// The paths of the base files.
     pub bases: BasePaths<'a>,
     /// The paths of the words, in order.
     pub files: Vec<&'a str>,
@@ -26,7 +26,7 @@ impl Job<'_> {
     ghost use Rattle.std.specs.Prelude.{◌≡◌};
     ghost use Rattle.lens_commands.specs.Job.{list_name};
 
-    /// What is asked of each file, over those on which it stands.
+    /// What is asked of each file, over the base files.
     pub fn over<'b>(&self, base: &'b Base<'b>) -> Request<'b>
         ensures { IsAsked self.now base.entry.now result }
     {
@@ -36,7 +36,7 @@ impl Job<'_> {
         }
     }
 
-    /// The list as it is named to people.
+    /// The list as messages name it.
     pub fn list_name(&self) -> &[u8]
         ensures { result.now ≡ list_name self.now }
     {

@@ -1,5 +1,5 @@
-//! What each command of `wadlens` does, over any files, readers, writers and folders: the commands over many files, a picture of a
-//! level, a level cut out of a file, an atlas, two demos compared, and one put together.
+//! The commands of `wadlens`, over any files, readers, writers and folders: reports on many files, a picture of a level, a level
+//! cut out of a file, an atlas, two demos compared, and a demo from its listing.
 #![tactic(auto)]
 
 mod assemble;

@@ -16,7 +16,7 @@ pub struct Output<W: Write + Drop> {
     buffer: BufWriter<W>,
     // Whether a write failed.
     failed: bool,
-    // Whether the last that did met a closed pipe.
+    // Whether the last failed write met a closed pipe.
     closed: bool,
 }
 
@@ -42,7 +42,7 @@ impl<W: Write + Drop> Output<W> {
         self.closed
     }
 
-    /// Writes out all that is held back.
+    /// Flushes the buffer.
     pub fn write_out(&mut self) -> Result<(), EndFault>
         ensures { WritesOut W.contents self.old self.new result }
     {
@@ -52,7 +52,7 @@ impl<W: Write + Drop> Output<W> {
         }
     }
 
-    // Keeps in mind that a write failed, and whether it met a closed pipe.
+    // Records that a write failed, and whether it met a closed pipe.
     fn fail(&mut self, error: &io::Error) -> EndFault
         ensures { self.new ≡ failed_by self.old error.now }
     {

@@ -5,8 +5,8 @@ ghost use Rattle.lens_commands.specs.Paths.{listed_paths};
 
 use std::alloc::{AllocError, Global};
 
-/// The paths of the words, and then those of a list, each ended by the byte `end`, the last one perhaps not. Empty ones are
-/// left out.
+/// The paths of the words, and then those of a list. The byte `end` ends each path of the list; the last one may lack it.
+/// Empty paths of the list are left out.
 pub fn all_paths<'a>(
     alloc: Global,
     files: &[&'a str],

@@ -21,7 +21,7 @@ use line_io::{IoFault, Storage, emit};
 use std::alloc::Global;
 use std::io::{Read, Write};
 
-/// Does a job, and answers the gravest of what was found. At Ok nothing is held back.
+/// Does a job, and returns the gravest verdict. On Ok the buffer is empty.
 pub fn run_job<S: Storage, I: Read + Drop, O: Write + Drop, E: Sink, P: Watch>(
     alloc: Global,
     job: &Job<'_>,
@@ -40,7 +40,7 @@ pub fn run_job<S: Storage, I: Read + Drop, O: Write + Drop, E: Sink, P: Watch>(
         Ok(list) => list,
         Err(ReadFault::Memory) => return Err(End::Memory),
         Err(ReadFault::Refused(refusal)) => {
-            // Where standard error fails too, nobody is left to be told.
+            // If standard error fails too, the message is lost.
             let _ = write_refusal(job.list_name(), refusal, errors);
             return Err(End::Refused);
         }
@@ -64,7 +64,7 @@ pub fn run_job<S: Storage, I: Read + Drop, O: Write + Drop, E: Sink, P: Watch>(
     run_paths(alloc, job.over(&base), &files, &paths, out, errors, watch)
 }
 
-// Tells what is asked of the files under all paths, and what it adds up to.
+// Reports on the files under all paths, and then the totals.
 fn run_paths<S: Storage, O: Write + Drop, E: Sink, P: Watch>(
     alloc: Global,
     asked: Request<'_>,
@@ -103,7 +103,7 @@ pub fn read_list<S: Storage, I: Read + Drop>(
     }
 }
 
-// Writes the totals of a check and all that is held back, and then what wasn't looked for.
+// Writes the totals of a check and flushes the buffer, and then writes which warnings weren't looked for.
 fn finish<O: Write + Drop, E: Sink>(
     asked: Request<'_>,
     files: u64,
@@ -122,7 +122,7 @@ fn finish<O: Write + Drop, E: Sink>(
     }
 }
 
-// Writes the totals of a check, and all that is held back.
+// Writes the totals of a check, and flushes the buffer.
 fn write_totals_out<O: Write + Drop>(
     asked: Request<'_>,
     files: u64,
@@ -163,7 +163,7 @@ fn unlooked_text(unlooked: Unlooked) -> &'static [u8]
     }
 }
 
-/// Writes out all that is held back, and ends with what was found.
+/// Flushes the buffer, and ends with the verdict.
 pub fn write_rest<O: Write + Drop>(found: Verdict, out: &mut Output<O>) -> Result<Verdict, End>
     requires { (output_state O.contents out.old).failed ≡ false }
     ensures { TellsRest O.contents [] found out.old out.new result }
@@ -174,7 +174,7 @@ pub fn write_rest<O: Write + Drop>(found: Verdict, out: &mut Output<O>) -> Resul
     }
 }
 
-/// A check ends with its totals, and else there is nothing more.
+/// Writes the totals of a check, and nothing for another command.
 pub fn write_last<W: Sink>(
     asked: Request<'_>,
     files: u64,
@@ -190,7 +190,8 @@ pub fn write_last<W: Sink>(
     }
 }
 
-// How a run ends that stopped. What was told before stands, and is written out when the output is let go.
+// The end of a run that stopped. What was written before stays, and is flushed when the output is
+// dropped.
 fn stop_end<O: Write + Drop>(stop: Stop, out: &Output<O>) -> End
     ensures { result ≡ stop_end (is_closed out.now) stop }
 {

@@ -1,4 +1,4 @@
-//! What is told of one file: the engine's text, or why it is refused.
+//! The report on one file: the engine's text, or why it is refused.
 ghost use Rattle.std.specs.Prelude.{◌≡◌, ◌++◌, [], codes, false, map, IfOk, IfErr, OnOk};
 ghost use Rattle.line_io.specs.Writes.{Writes};
 ghost use Rattle.lens_engines.specs.Objects.{refusal_text};
@@ -21,13 +21,14 @@ use std::mem::replace;
 use thiserror::Error;
 use wad_dir::WadFault;
 
-/// How many findings of one code in one level are shown where nothing is said.
+/// How many findings of one code in one level are shown by default.
 pub const SHOWN: u64 = 20;
 
 /// What is asked of each file.
 #[derive(Clone, Copy, Debug, PartialEq, Eq)]
 pub enum Word {
-    /// The findings, and the warnings where they are asked for, at most so many of one code in one level; 0: all. In which form.
+    /// The findings, and the warnings if they are asked for, in a form. At most so many of one code in one level are shown; 0
+    /// shows all.
     Check(u64, Form),
     /// An object for each level.
     Survey,
@@ -35,7 +36,7 @@ pub enum Word {
     Demos(Form),
 }
 
-/// What is asked of each file, and how its levels are judged, which says nothing of demos.
+/// What is asked of each file, and how its levels are judged. Demos ignore the latter.
 #[derive(Clone, Copy)]
 pub struct Request<'b> {
     pub word: Word,
@@ -45,9 +46,9 @@ pub struct Request<'b> {
 /// What was found.
 #[derive(Clone, Copy, Debug, PartialEq, Eq)]
 pub struct Tally {
-    /// The gravest of what was found, where a refused file counts as one that isn't judged.
+    /// The gravest verdict. A refused file counts as one that isn't judged.
     pub verdict: Verdict,
-    /// What `check` adds up; nothing of a survey, nor of demos.
+    /// The totals of `check`; none of a survey or of demos.
     pub totals: Totals,
 }
 
@@ -66,7 +67,7 @@ pub enum Stop {
 }
 
 impl Stop {
-    /// The same stop, where files of this verdict were told before.
+    /// The same stop, after files with this verdict.
     fn after(self, before: Verdict) -> Stop
         ensures { result ≡ stop_after before self }
     {
@@ -77,7 +78,7 @@ impl Stop {
     }
 }
 
-/// Why the bytes of a file weren't told to their end.
+/// Why the report on a file's bytes isn't whole.
 #[derive(Clone, Copy, Debug, PartialEq, Eq, Error)]
 pub enum BytesFault {
     /// They have no directory. Nothing was written.
@@ -132,8 +133,8 @@ impl Tally {
     }
 }
 
-/// Tells what is asked of the file under each path, in order: the engine's text into `out`, and why a file is refused into
-/// `errors`. One file is let go before the next is opened.
+/// Reports on the file under each path, in order. The engine's text goes into `out`, and the reason of a refusal into `errors`.
+/// Each file is freed before the next is opened.
 pub fn tell_paths<A: Allocator + Copy, S: RunFiles, W: HandOn, E: Sink, P: Watch>(
     alloc: A,
     files: &S,
@@ -164,7 +165,7 @@ pub fn tell_paths<A: Allocator + Copy, S: RunFiles, W: HandOn, E: Sink, P: Watch
     Ok(sum)
 }
 
-// Tells what is asked of the file under a path, which is read in the memory of the one before it.
+// Reports on the file under a path. It is read into the memory of the one before it.
 fn tell_path<A: Allocator + Copy, S: RunFiles, W: HandOn, E: Sink, P: Watch>(
     alloc: A,
     files: &S,
@@ -214,7 +215,7 @@ fn tell_path<A: Allocator + Copy, S: RunFiles, W: HandOn, E: Sink, P: Watch>(
     }
 }
 
-/// Tells that a file is refused, and why, behind all that was answered before, which is handed on.
+/// Reports that a file is refused, and why. What was answered before is handed on first.
 pub fn tell_refusal<W: HandOn, E: Sink, P: Watch>(
     word: Word,
     path: &[u8],
@@ -292,7 +293,7 @@ fn answer_refusal<W: Sink>(
     }
 }
 
-/// Tells what is asked of a file's bytes.
+/// Reports on a file's bytes.
 pub fn tell_bytes<A: Allocator + Copy, W: HandOn, E: Sink, P: Watch>(
     alloc: A,
     asked: Request<'_>,

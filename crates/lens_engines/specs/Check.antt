@@ -1,4 +1,4 @@
--- What `check` tells of a file (ours): the lines of its levels in the order of their labels, and what they add up to.
+-- What `check` writes for a file (ours): the lines of its levels in the order of their labels, and their totals.
 use Rattle.std.specs.Prelude.{◌≡◌, ◌⊎◌, ◌↔◌, ℕ, ◌+◌, Bool, true, false, IsTrue, List, [], ◌∷◌, ◌++◌, Result, Ok, Err, IfErr, IfOk}
 use Rattle.std.specs.Io.KnownBytes.{Appends}
 use Rattle.le_rec.specs.Sink.{SinkState}
@@ -49,11 +49,11 @@ pub record CheckAsked : Type 0 where
 abbrev pub asked_of : Question → CheckAsked
 asked_of question = record { form = question.form; path = question.path.now; most = question.most; judging = question.judging }
 
--- what all that is told of a level begins with
+-- what each line or object of a level begins with
 abbrev pub head_in : CheckAsked → LevelLabel → Head
 head_in asked label = record { form = asked.form; path = asked.path; label = label }
 
--- the level at a label isn't sound under the signed reading, and is under the wide one
+-- the level at a label is sound under the wide reading, and isn't under the signed one
 pub record IsSoundWideAlone (files : List Wad) (g : ℕ) (reading : Reading) (level : Level) : Type 0 where
   pub signed : reading ≡ Signed
   pub unsound : ¬ IsSound level
@@ -61,8 +61,8 @@ pub record IsSoundWideAlone (files : List Wad) (g : ℕ) (reading : Reading) (le
   pub there : IsLevelAt files g Wide wide
   pub sound : IsSound wide
 
--- what is told of a level of Doom's format: what the audit finds and isn't ignored, its warnings where they are asked for, and
--- whether the wide reading alone finds it sound
+-- the text of a level of Doom's format: what the audit finds and isn't ignored, its warnings if they are asked for, and whether only the wide reading finds
+-- it sound
 pub record IsJudged (asked : CheckAsked) (files : List Wad) (g : ℕ) (label : LevelLabel) (text : List ℕ) (totals : Totals) : Type 0 where
   pub level : Level
   pub there : IsLevelAt files g asked.judging.reading level
@@ -80,12 +80,12 @@ pub record IsJudged (asked : CheckAsked) (files : List Wad) (g : ℕ) (label : L
   pub is : text ≡ judged_text (head_in asked label) asked.most level told warned sound_wide
   pub adds : totals ≡ judged_totals counts (warned_total warned) unlooked
 
--- what is told of a level by its format
+-- the text of a level, by its format
 abbrev pub IsToldBy : Format → CheckAsked → List Wad → ℕ → LevelLabel → List ℕ → Totals → Type 0
 IsToldBy Doom asked files g label text totals = IsJudged asked files g label text totals
 IsToldBy format asked files g label text totals = (text ≡ unjudged_text (head_in asked label) format) × (totals ≡ format_totals format)
 
--- what is told of the level that starts at an entry
+-- the text of the level that starts at an entry
 pub record IsLevelText (asked : CheckAsked) (files : List Wad) (g : ℕ) (text : List ℕ) (totals : Totals) : Type 0 where
   pub format : Format
   pub is : IsFormat files g format
@@ -93,14 +93,14 @@ pub record IsLevelText (asked : CheckAsked) (files : List Wad) (g : ℕ) (text :
   pub labelled : IsLabelOf files g label
   pub told : IsToldBy format asked files g label text totals
 
--- what is told of the levels that start below an entry, in order
+-- the text of the levels that start below an entry, in order
 pub data ToldTo (asked : CheckAsked) (files : List Wad) : ℕ → List ℕ → Totals → Type 0 where
   at_start : ToldTo asked files 0 [] no_totals
   with_level : (from : ℕ) (before : List ℕ) (sum : Totals) (g : ℕ) (text : List ℕ) (totals : Totals)
       → ToldTo asked files from before sum → IsNextStart (names files) from g → IsLevelText asked files g text totals
       → ToldTo asked files (g + 1) (before ++ text) (totals_with sum totals)
 
--- all levels were told
+-- the text of all levels was written
 pub record ChecksAll (asked : CheckAsked) (files : List Wad) (before after : SinkState) (totals : Totals) : Type 0 where
   pub from : ℕ
   pub text : List ℕ
@@ -109,7 +109,7 @@ pub record ChecksAll (asked : CheckAsked) (files : List Wad) (before after : Sin
   pub took : Appends before.taken after.taken text
   pub sound : after.failed ≡ false
 
--- all levels before one were told, and a write failed within its text; so much was found up to there and with it
+-- the text of all levels before one was written, and a write failed within the text of that one; the verdict is that of all of them
 pub record StopsWriting (asked : CheckAsked) (files : List Wad) (before after : SinkState) (found : Verdict) : Type 0 where
   pub from : ℕ
   pub text : List ℕ
@@ -126,7 +126,7 @@ pub record StopsWriting (asked : CheckAsked) (files : List Wad) (before after : 
   pub failed : after.failed ≡ true
   pub says : found ≡ graver (verdict_with asked.judging.warnings sum) (verdict_with asked.judging.warnings totals)
 
--- all levels before one of Doom's format were told, and there was no memory to judge it
+-- the text of all levels before one of Doom's format was written, and there was no memory to judge that one
 pub record StopsJudging (asked : CheckAsked) (files : List Wad) (before after : SinkState) : Type 0 where
   pub from : ℕ
   pub text : List ℕ
@@ -138,7 +138,7 @@ pub record StopsJudging (asked : CheckAsked) (files : List Wad) (before after : 
   pub next : IsNextStart (names files) from g
   pub doom : IsFormat files g Doom
 
--- why not all levels were told
+-- why the text of some levels is missing
 abbrev pub ChecksSome : CheckAsked → List Wad → SinkState → SinkState → LevelsFault → Type 0
 ChecksSome asked files before after (Write found) = StopsWriting asked files before after found
 ChecksSome asked files before after Memory = StopsJudging asked files before after
@@ -168,7 +168,7 @@ abbrev pub ChecksDoom : {W : Type 0} → (W → SinkState) → CheckAsked → Li
 ChecksDoom state asked files g label out out' result =
     WantsMemory out out' result ⊎ WritesText asked.judging.warnings (IsJudged asked files g label) (state out) (state out') result
 
--- that of any level was, or nothing was
+-- the text of any level was written, or nothing was
 abbrev pub ChecksLevel : {W : Type 0} → (W → SinkState) → CheckAsked → List Wad → ℕ → W → W → Result Totals LevelsFault → Type 0
 ChecksLevel state asked files g out out' result =
     LeavesLevel files g out out' result ⊎ WritesText asked.judging.warnings (IsLevelText asked files g) (state out) (state out') result
@@ -184,7 +184,7 @@ pub record ChecksFile (asked : CheckAsked) (bytes : List ℕ) (before after : Si
   pub read : IsRead file
   pub does : Checks asked (file ∷ []) before after result
 
--- over a file of these bytes and a sink, of which clauses see its state
+-- a check of a file of these bytes, into a sink by its state
 abbrev pub RunsCheck : {W : Type 0} → (W → SinkState) → CheckAsked → List ℕ → W → W → Result Totals LevelsFault → Type 0
 RunsCheck state asked bytes out out' result =
     LeavesFile bytes out out' result ⊎ ChecksFile asked bytes (state out) (state out') result

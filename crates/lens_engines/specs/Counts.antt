@@ -25,7 +25,7 @@ pub record AreCounts (holds : Code → ℕ → Type 0) (counts : List ℕ) : Typ
   pub all : length counts ≡ CODE_COUNT
   pub each : (code : Code) → IsCount (holds code) (slice_index counts (rank code))
 
--- how often a code is told that holds so often: not at all, where it is ignored
+-- how often a code counts that holds so often: never if it is ignored
 abbrev pub kept_count : Ignored → Code → ℕ → ℕ
 kept_count ignored code count = if ignores ignored code then 0 else count
 

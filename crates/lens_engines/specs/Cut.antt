@@ -32,7 +32,7 @@ pub record IsEndMap (files : List Wad) (g many : ℕ) : Type 0 where
   pub named : IsNamed (names files) (g + many) (codes "ENDMAP")
   pub first : (m : ℕ) → 2 ≤ m → m < many → ¬ IsNamed (names files) (g + m) (codes "ENDMAP")
 
--- none is
+-- no entry behind TEXTMAP is named ENDMAP
 abbrev pub LacksEndMap : List Wad → ℕ → Type 0
 LacksEndMap files g = (m : ℕ) → 2 ≤ m → ¬ IsNamed (names files) (g + m) (codes "ENDMAP")
 
@@ -103,7 +103,7 @@ pub record AddsLump (files : List Wad) (entry : ℕ) (old new : List NamedLump) 
   pub named : IsNamed (names files) entry lump.name
   pub stands : IsLump files entry lump.bytes
 
--- it wasn't: it isn't inside its file, or there was no memory
+-- the lump of an entry wasn't added: it isn't inside its file, or there was no memory
 abbrev pub LacksLump : List Wad → LevelLabel → ℕ → CutFault → Type 0
 LacksLump files label entry (Level other (Outside name)) =
     (other ≡ label) × IsNamed (names files) entry name × ((lump : List ℕ) → ¬ IsLump files entry lump)

@@ -1,4 +1,4 @@
--- The lines that tell of a level (ours): each begins with the file's path and the level's label.
+-- The lines of a level (ours): each begins with the file's path and the level's label.
 use Rattle.std.specs.Prelude.{ℕ, ◌/◌, ◌%◌, List, [], ◌∷◌, ◌++◌, codes, nat_eq, if◌then◌else◌}
 use Rattle.std.specs.Fmt.{decimal}
 use Rattle.map_level.specs.Level.{Level}

@@ -1,4 +1,4 @@
--- The objects of a check, a line each (ours): what its lines tell, with the place in numbers.
+-- The objects of a check, a line each (ours): what its lines say, with the place in numbers.
 use Rattle.std.specs.Prelude.{ℕ, ◌/◌, ◌%◌, List, [], ◌++◌, codes, nat_eq, if◌then◌else◌}
 use Rattle.std.specs.Fmt.{decimal, signed_decimal}
 use Rattle.map_level.specs.Level.{Level}
@@ -24,7 +24,7 @@ use Rattle.lens_engines.specs.declared.place.Spot.{Spot}
 abbrev pub object_front : List ℕ → LevelLabel → List ℕ
 object_front path label = file_member path ++ label_members label.name label.entry
 
--- the kind of what is told, behind its code: `","kind":"KIND"`, before other bytes
+-- the kind of what is found, behind its code: `","kind":"KIND"`, before other bytes
 abbrev pub kind_member : List ℕ → List ℕ → List ℕ
 kind_member kind rest = codes "\",\"kind\":\"" ++ (kind ++ (codes "\"" ++ rest))
 

@@ -1,4 +1,4 @@
--- What is told of a level that isn't judged (ours): its format, with what tells it.
+-- The line of a level that isn't judged (ours): its format, with what decides it.
 use Rattle.std.specs.Prelude.{ℕ, List, [], ◌∷◌, ◌++◌, codes}
 use Rattle.le_rec.specs.Name.{shown_name}
 use Rattle.level_starts.specs.declared.format.Format.{Format}

@@ -1,4 +1,4 @@
--- What all that is told of a level begins with (ours): its form, the file's path and the label.
+-- What each line or object of a level begins with (ours): its form, the file's path and the label.
 use Rattle.std.specs.Prelude.{ℕ, List}
 use Rattle.lens_engines.specs.declared.form.Form.{Form}
 use Rattle.lens_engines.specs.declared.form.Form.TheVariants.{Lines, Objects}

@@ -72,8 +72,7 @@ AddsNamed old name new =
 abbrev pub IsNamed : List ℕ → Type 0
 IsNamed name = ((code : Code) × (note_name code ≡ Some name)) ⊎ ((code : WarningCode) × (warning_name code ≡ name))
 
--- a warning of a code holds of a level, whose textures and flats are those of some files where these are known, and the code isn't
--- ignored
+-- a warning of a code holds of a level, and the code isn't ignored; the level's textures and flats are those of some files, if these are known
 abbrev pub WarnsUnlessIgnored : Ignored → Option (List Wad) → Level → WarningCode → Warning → Type 0
 WarnsUnlessIgnored ignored files level code w = (ignores_warning ignored code ≡ false) × IsWarning files level code w
 

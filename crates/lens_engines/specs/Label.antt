@@ -1,4 +1,4 @@
--- A level's label as lines tell it (ours).
+-- A level's label as lines show it (ours).
 use Rattle.std.specs.Prelude.{◌≡◌, ◌↔◌, ℕ, List, ◌++◌, codes, IsTrue, Some, if◌then◌else◌}
 use Rattle.std.specs.Fmt.{decimal}
 use Rattle.std.specs.List.{slice_get}

@@ -48,13 +48,13 @@ CountsAreOfTheReport =
     (level : Level) (found : List Finding) (counts : List ℕ) → AreFindings (AuditHolds level) found → AreCounts (AuditHolds level) counts
     → CountFindings counts found
 
--- where all findings are shown, what a check tells of them is the line, or the object, of each finding of the level's report, in its order
+-- if all findings are shown, a check writes the line, or the object, of each finding of the level's report, in its order
 abbrev pub LinesAreOfTheReport : Type 0
 LinesAreOfTheReport =
     (head : Head) (level : Level) (found : List Finding) (told : Code → List ℕ) → AreFindings (AuditHolds level) found
     → AreTold (AuditHolds level) told → findings_part head 0 level told ≡ flat_map (finding_text head level) found
 
--- where a string is written, the kit's reader of JSON finds the bytes' text and goes on behind it
+-- the kit's reader of JSON reads a written string as the bytes' text, and goes on behind it
 abbrev pub StringsAreRead : Type 0
 StringsAreRead = (bytes rest : List ℕ) → lex between (json_string bytes ++ rest) ≡ token (string (utf8_lossy bytes)) ∷ lex between rest
 

@@ -12,7 +12,7 @@ pub record WantsMemory {W T : Type 0} (out out' : W) (result : Result T LevelsFa
   pub ended : result ≡ Err Memory
   pub untouched : out' ≡ out
 
--- there was none to judge the level at an entry, which is of Doom's format: no other takes any
+-- there was no memory to judge the level at an entry; it is of Doom's format, as no other takes memory
 pub record LeavesLevel {W T : Type 0} (files : List Wad) (g : ℕ) (out out' : W) (result : Result T LevelsFault) : Type 0 where
   pub doom : IsFormat files g Doom
   pub wants : WantsMemory out out' result

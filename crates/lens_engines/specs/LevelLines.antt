@@ -39,17 +39,17 @@ more_line head code left =
     then []
     else left_text head (code_text code) left
 
--- what is told of a code
+-- the report on a code
 abbrev pub code_part : Head → ℕ → Level → Code → List ℕ → List ℕ
 code_part head most level code indexes =
     code_lines head level code (take (shown_count most (length indexes)) indexes)
     ++ more_line head code (length indexes - shown_count most (length indexes))
 
--- what is told of all codes, in the order of a report
+-- the report on all codes, in the order of a report
 unfoldable pub findings_part : Head → ℕ → Level → (Code → List ℕ) → List ℕ
 findings_part head most level told = flat_map (λ code. code_part head most level code (told code)) report_order
 
--- that the wide reading alone finds the level sound, where it does
+-- that only the wide reading finds the level sound, if that is so
 abbrev pub wide_part : Head → Bool → List ℕ
 wide_part head is_sound = if is_sound then wide_text head else []
 

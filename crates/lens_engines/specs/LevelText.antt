@@ -1,4 +1,4 @@
--- What is told of a level, in the form that is asked for (ours).
+-- The text of a level, in the form that is asked for (ours).
 use Rattle.std.specs.Prelude.{ℕ, List, [], ◌∷◌, ◌++◌, codes}
 use Rattle.level_starts.specs.declared.format.Format.{Format}
 use Rattle.map_level.specs.Level.{Level}

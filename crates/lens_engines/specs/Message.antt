@@ -1,5 +1,5 @@
--- What is wrong where a code holds, in words and with the values that stand there (ours). Each text is told before other
--- bytes. Of codes that hold of no level of Doom's format there is nothing to say.
+-- What is wrong where a code holds, in words and with the level's values (ours). Each text comes before other bytes. Codes that hold of no level of Doom's
+-- format have none.
 use Rattle.std.specs.Prelude.{ℕ, ◌+◌, ◌-◌, ◌/◌, ℤ, Bool, not, ◌&&◌, List, ◌++◌, length, is_some, is_none, codes, nat_lt, if◌then◌else◌}
 use Rattle.std.specs.Fmt.{decimal, signed_decimal}
 use Rattle.std.specs.List.{slice_get}
@@ -49,7 +49,7 @@ abbrev pub sideless_text : Level → ℤ → ℤ → List ℕ → List ℕ
 sideless_text level linedef side rest =
     codes "linedef " ++ (signed_decimal (index_of level linedef) ++ (codes " has no sidedef on side " ++ (signed_decimal side ++ rest)))
 
--- the first seg of an ssector, and how many it says it has
+-- the first seg of an ssector, and the number of its segs by its record
 abbrev pub segs_text : Level → ℤ → ℤ → List ℕ → List ℕ
 segs_text level first count rest =
     codes "segs from " ++ (signed_decimal (index_of level first) ++ (codes ", " ++ (signed_decimal (index_of level count)
@@ -78,7 +78,7 @@ abbrev pub wanted_text : List ℕ → ℕ → List ℕ → ℕ → List ℕ → 
 wanted_text what count noun wanted rest =
     what ++ (codes " has " ++ (decimal count ++ (noun ++ (decimal wanted ++ (codes " are wanted" ++ rest)))))
 
--- how many words BLOCKMAP has to have: those of its head, and one for each block that a whole head tells
+-- how many words BLOCKMAP must have: those of its head, and one for each block, by the width and height of a whole head
 abbrev pub wanted_words : Level → ℕ
 wanted_words level = if nat_lt (length level.blockmap) 8 then 4 else 4 + block_count (map_of level)
 

@@ -36,12 +36,12 @@ number_at name n = (name, number (decimal n))
 abbrev pub file_value : List ℕ → List ℕ × Json
 file_value path = text_at (codes "file") path
 
--- what tells a level: its label, the label's entry, its format
+-- the members of a level: its label, the label's entry, its format
 abbrev pub label_values : List ℕ → ℕ → Format → List (List ℕ × Json)
 label_values name g format =
     text_at (codes "level") (shown_name name) ∷ number_at (codes "entry") g ∷ (codes "format", string (format_name format)) ∷ []
 
--- what tells another format
+-- the members of another format
 abbrev pub telling_values : Format → List (List ℕ × Json)
 telling_values Udmf = []
 telling_values (Incomplete k) = text_at (codes "lump") (shown_name (usual_name k)) ∷ []
@@ -122,7 +122,7 @@ pub record HasSmallNumbers (level : Level) (counts : List ℕ) (warned : List Wa
   pub notes : note_total counts < 2 ^ 64
   pub warnings : All (λ one. one.cut.count < 2 ^ 64) warned
 
--- a text is a line of which the kit's reader of JSON makes a value, and no other line break stands in it
+-- a text is a line that the kit's reader of JSON reads as a value, and it has no other line break
 pub record IsLineOf (value : Json) (text : List ℕ) : Type 0 where
   pub line : List ℕ
   pub ended : text ≡ line ++ 10 ∷ []

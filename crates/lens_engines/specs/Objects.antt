@@ -117,7 +117,7 @@ doom_members level counts warnings warned unlooked =
 abbrev pub usual_name : ℕ → List ℕ
 usual_name k = slice_index_or usual_names (k - 1) []
 
--- what tells another format: the lump that isn't there or isn't inside its file, or the first bytes of the nodes
+-- what decides another format: the lump that isn't there or isn't inside its file, or the first bytes of the nodes
 abbrev pub telling_members : Format → List ℕ
 telling_members Udmf = []
 telling_members (Incomplete k) = codes ",\"lump\":" ++ name_string (usual_name k)
@@ -130,7 +130,7 @@ telling_members Doom = []
 abbrev pub other_members : Format → List ℕ
 other_members format = telling_members format ++ codes "}\n"
 
--- the lump that tells a format is one of the ten
+-- the lump that decides a format is one of the ten
 abbrev pub NamesLump : Format → Type 0
 NamesLump (Incomplete k) = (1 ≤ k) × (k ≤ 10)
 NamesLump (Outside k) = (1 ≤ k) × (k ≤ 10)

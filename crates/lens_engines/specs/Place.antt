@@ -73,7 +73,7 @@ place_at level Ssector i = option_map_or (λ spot. At spot) (first_spot level i)
 place_at level Node i = option_map_or (λ node. At (record { x = node.x; y = node.y })) (slice_get level.nodes.records i) Nowhere
 place_at level _ i = Nowhere
 
--- where a finding lies; the message of F12 tells the node's origin itself
+-- where a finding lies; the message of F12 has the node's origin itself
 abbrev pub place_of : Level → Code → ℕ → Place
 place_of level code i = if nat_eq (rank code) (rank F12) then Nowhere else place_at level (kind_of code) i
 

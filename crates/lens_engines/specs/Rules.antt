@@ -1,4 +1,4 @@
--- How levels are judged, over the files on which every file stands (ours).
+-- How levels are judged, over the base files (ours).
 use Rattle.std.specs.Prelude.{◌≡◌, List}
 use Rattle.wad_dir.specs.Wad.{Wad}
 use Rattle.lens_engines.specs.declared.judging.Judging.{Judging}

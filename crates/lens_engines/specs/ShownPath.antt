@@ -1,5 +1,5 @@
--- The path of a file as lines and messages show it (ours): no control character stands as it is, so that no name of a file rewrites a terminal or
--- breaks a line. The controls are those of ISO 6429: the bytes below 32, 127, and of UTF-8 C2 with 80 to 9F behind it.
+-- The path of a file as lines and messages show it (ours). No control character is written as it is, so no file name can rewrite a terminal or break a
+-- line. The controls are those of ISO 6429: the bytes below 32, 127, and in UTF-8 C2 followed by 80 to 9F.
 use Rattle.std.specs.Prelude.{ℕ, ◌+◌, ◌-◌, ◌/◌, ◌%◌, Bool, ◌==◌, ◌||◌, ◌&&◌, nat_lt, nat_le, List, [], ◌∷◌, ◌++◌, get_or, if◌then◌else◌}
 use Rattle.le_rec.specs.Name.{hex_digit}
 

@@ -33,13 +33,13 @@ graver Unjudged Faulty = Faulty
 graver Unjudged other = Unjudged
 graver Clean other = other
 
--- a fault where levels of a verdict were told before: a failed write tells of them, too
+-- a fault after levels with a verdict: a failed write has the graver of both
 abbrev pub fault_after : Verdict → LevelsFault → LevelsFault
 fault_after before (NoWad why) = NoWad why
 fault_after before (Write found) = Write (graver before found)
 fault_after before Memory = Memory
 
--- what a format alone says: a lump that isn't there or isn't inside its file is a fault, and what isn't read is not judged
+-- the verdict by a format alone: a lump that isn't there or isn't inside its file is a fault, and a format that isn't read isn't judged
 abbrev pub verdict_of_format : Format → Verdict
 verdict_of_format Udmf = Unjudged
 verdict_of_format (Incomplete k) = Faulty
@@ -48,12 +48,11 @@ verdict_of_format (Outside k) = Faulty
 verdict_of_format (Extended tag) = Unjudged
 verdict_of_format Doom = Clean
 
--- what the counts of a level say
+-- the verdict by a level's counts
 abbrev pub verdict_of_counts : List ℕ → Verdict
 verdict_of_counts counts = if fault_total counts == 0 then Clean else Faulty
 
--- what a level's object ends with, and its verdict, by what its audit finds and isn't ignored and, where they are asked for, its
--- warnings
+-- what a level's object ends with, and its verdict: by what its audit finds and isn't ignored, and by its warnings if they are asked for
 pub record IsJudged (files : List Wad) (judging : Judging) (g : ℕ) (members : List ℕ) (verdict : Verdict) : Type 0 where
   pub level : Level
   pub there : IsLevelAt files g judging.reading level
@@ -71,12 +70,12 @@ abbrev pub EndsObject : List Wad → Judging → ℕ → Format → List ℕ →
 EndsObject files judging g Doom members verdict = IsJudged files judging g members verdict
 EndsObject files judging g format members verdict = (members ≡ other_members format) × (verdict ≡ verdict_of_format format)
 
--- what is told of a level
+-- the report on a level
 pub record Told : Type 0 where
   pub line : List ℕ
   pub verdict : Verdict
 
--- what is told of the level that starts at an entry
+-- the report on the level that starts at an entry
 pub record IsTold (path : List ℕ) (files : List Wad) (judging : Judging) (g : ℕ) (told : Told) : Type 0 where
   pub format : Format
   pub is : IsFormat files g format
@@ -86,7 +85,7 @@ pub record IsTold (path : List ℕ) (files : List Wad) (judging : Judging) (g : 
   pub ends : EndsObject files judging g format members told.verdict
   pub line : told.line ≡ level_members path name g format ++ members
 
--- what is told of the levels that start at some entries, in their order
+-- the reports on the levels that start at some entries, in their order
 abbrev pub AreTold : List ℕ → List Wad → Judging → List ℕ → List Told → Type 0
 AreTold path files judging [] [] = Unit {0}
 AreTold path files judging (g ∷ starts) (told ∷ others) = IsTold path files judging g told × AreTold path files judging starts others
@@ -97,7 +96,7 @@ pub record AreStartsBelow (names : List (List ℕ)) (end : ℕ) (starts : List �
   pub ascending : AllPairs (λ a b. a < b) starts
   pub exact : (g : ℕ) → Contains starts g ↔ (LevelStartsAt names g × (g < end))
 
--- what is told of the levels that start below an entry
+-- the reports on the levels that start below an entry
 pub record AreToldBelow (path : List ℕ) (files : List Wad) (judging : Judging) (end : ℕ) (told : List Told) : Type 0 where
   pub starts : List ℕ
   pub are : AreStartsBelow (names files) end starts
@@ -111,7 +110,7 @@ lines_of told = flat_map (λ one. one.line) told
 abbrev pub gravest : List Told → Verdict
 gravest told = fold (λ verdict one. graver verdict one.verdict) Clean told
 
--- all levels were told, and their lines were taken
+-- all levels were reported on, and their lines were taken
 pub record SurveysAll (path : List ℕ) (files : List Wad) (judging : Judging) (before after : SinkState) (verdict : Verdict) : Type 0 where
   pub told : List Told
   pub are : AreToldBelow path files judging (length (names files)) told
@@ -144,7 +143,7 @@ StopsLines files end before after told (Write found) = StopsWriting before after
 StopsLines files end before after told Memory = StopsJudging files end before after told
 StopsLines files end before after told (NoWad why) = ⊥
 
--- the levels up to some entry were told, and no others
+-- the levels up to some entry were reported on, and no others
 pub record SurveysSome (path : List ℕ) (files : List Wad) (judging : Judging) (before after : SinkState) (fault : LevelsFault) : Type 0 where
   pub end : ℕ
   pub told : List Told
@@ -168,7 +167,7 @@ pub record SurveysFile (path bytes : List ℕ) (judging : Judging) (before after
   pub read : IsRead file
   pub does : Surveys path (file ∷ []) judging before after result
 
--- over a file of these bytes and a sink, of which clauses see its state
+-- a survey of a file of these bytes, into a sink by its state
 abbrev pub RunsSurvey : {W : Type 0} → (W → SinkState) → List ℕ → List ℕ → Judging → W → W → Result Verdict LevelsFault → Type 0
 RunsSurvey state path bytes judging out out' result =
     LeavesFile bytes out out' result ⊎ SurveysFile path bytes judging (state out) (state out') result

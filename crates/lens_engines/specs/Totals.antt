@@ -18,7 +18,7 @@ use Rattle.lens_engines.specs.declared.verdict.Verdict.TheVariants.{Clean, Unjud
 abbrev pub no_totals : Totals
 no_totals = record { levels = 0; faults = 0; notes = 0; warnings = 0; broken = 0; unread = 0; unlooked = none_unlooked }
 
--- of a judged level, of which each code is told so often, with so many warnings
+-- of a judged level: each code counts so often, and there are so many warnings
 abbrev pub judged_totals : List ℕ → ℕ → Unlooked → Totals
 judged_totals counts warnings unlooked = record {
   levels = 1;
@@ -55,12 +55,12 @@ totals_with a b = record {
   unlooked = unlooked_with a.unlooked b.unlooked;
 }
 
--- what totals say, warnings aside
+-- the verdict by totals, without warnings
 abbrev pub verdict_of_totals : Totals → Verdict
 verdict_of_totals totals =
     if totals.faults == 0 then (if totals.broken == 0 then (if totals.unread == 0 then Clean else Unjudged) else Faulty) else Faulty
 
--- what they say where warnings are asked for so
+-- the verdict by them, if warnings are asked for in this way
 abbrev pub verdict_with : Warnings → Totals → Verdict
 verdict_with warnings totals = graver (verdict_of_totals totals) (warned_verdict warnings totals.warnings)
 

@@ -1,4 +1,4 @@
--- What is told of a level's warnings (ours).
+-- The report on a level's warnings (ours).
 use Rattle.std.specs.Prelude.{◌≡◌, ℕ, ◌-◌, ◌^◌, ◌==◌, Bool, true, false, List, [], ◌∷◌, ◌++◌, Option, Some, None, All, map, min, nat_eq, if◌then◌else◌}
 use Rattle.std.specs.List.{sum_by}
 use Rattle.map_warnings.specs.Warnings.{Cut, Tells}
@@ -18,22 +18,22 @@ use Rattle.lens_engines.specs.declared.verdict.Verdict.TheVariants.{Clean, Fault
 abbrev pub warning_order : List WarningCode
 warning_order = W1 ∷ W2 ∷ W3 ∷ W4 ∷ W5 ∷ W6 ∷ W7 ∷ W8 ∷ W9 ∷ W10 ∷ W11 ∷ []
 
--- what is told of a code: the first of its warnings, and how many there are
+-- the report on a code: the first of its warnings, and how many there are
 pub record Warned : Type 0 where
   pub code : WarningCode
   pub cut : Cut
 
--- those of a level whose textures and flats are those of some files, where these are known, so many at most; none of an ignored code
+-- that of a level, with at most so many warnings, and none of an ignored code; the level's textures and flats are those of some files, if these are known
 pub record IsWarned (ignored : Ignored) (files : Option (List Wad)) (level : Level) (most : ℕ) (warned : Warned) : Type 0 where
   pub tells : Tells (WarnsUnlessIgnored ignored files level warned.code) warned.cut
   pub cut_at : warned.cut.most ≡ most
 
--- what is told of all codes
+-- the report on all codes
 pub record AreWarned (ignored : Ignored) (files : Option (List Wad)) (level : Level) (most : ℕ) (all : List Warned) : Type 0 where
   pub codes : map (λ warned. warned.code) all ≡ warning_order
   pub each : All (IsWarned ignored files level most) all
 
--- what is told of a code was added
+-- the report on a code was added
 pub record AddsWarned (ignored : Ignored) (files : Option (List Wad)) (level : Level) (most : ℕ) (code : WarningCode) (old new : List Warned) : Type 0 where
   pub warned : Warned
   pub is : new ≡ old ++ warned ∷ []
@@ -46,7 +46,7 @@ are_asked Unasked = false
 are_asked Told = true
 are_asked Strict = true
 
--- what is told of a level where warnings are asked for so: nothing where they aren't looked for
+-- the report on a level's warnings, as they are asked for: empty if they aren't looked for
 abbrev pub AreAskedBy : Warnings → Ignored → Option (List Wad) → Level → ℕ → List Warned → Type 0
 AreAskedBy Unasked ignored files level most all = all ≡ []
 AreAskedBy Told ignored files level most all = AreWarned ignored files level most all
@@ -61,8 +61,7 @@ where_asked Unasked files = None
 where_asked Told files = Some files
 where_asked Strict files = Some files
 
--- the files in which a level's textures and flats are looked up: those on which all stand and then the level's own, where warnings
--- are looked for
+-- the files in which a level's textures and flats are looked up, if warnings are looked for: the base files and then the level's own
 abbrev pub known_files : Judging → List Wad → Option (List Wad)
 known_files judging files = where_asked judging.warnings (judging.base.now ++ files)
 
@@ -74,7 +73,7 @@ kept_count most = if nat_eq most 0 then 2 ^ 64 - 1 else most
 abbrev pub warned_total : List Warned → ℕ
 warned_total all = min (sum_by (λ warned. warned.cut.count) all) (2 ^ 64 - 1)
 
--- what so many warnings say: one is as grave as a fault where they are asked for strictly, and else they say nothing
+-- the verdict on so many warnings: one is as grave as a fault if they are asked for strictly; else they are clean
 abbrev pub warned_verdict : Warnings → ℕ → Verdict
 warned_verdict Unasked count = Clean
 warned_verdict Told count = Clean

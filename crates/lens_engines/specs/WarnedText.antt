@@ -1,4 +1,4 @@
--- What is told of a level's warnings, in the form that is asked for (ours).
+-- The report on a level's warnings, in the form that is asked for (ours).
 use Rattle.std.specs.Prelude.{ℕ, ◌-◌, List, [], ◌++◌, length, nat_eq, if◌then◌else◌}
 use Rattle.std.specs.List.{flat_map}
 use Rattle.map_level.specs.Level.{Level}

@@ -97,7 +97,7 @@ abbrev pub unknown_flat_text : Level → ℕ → Plane → List ℕ → List ℕ
 unknown_flat_text level sector plane rest =
     option_map_or (λ found. flat_text plane (missing_text (flat_of plane found) rest)) (slice_get level.sectors.records sector) rest
 
--- that the game has no kind of a thing
+-- that the game knows no thing of a kind
 abbrev pub unknown_thing_text : Level → ℕ → List ℕ → List ℕ
 unknown_thing_text level thing rest =
     option_map_or (λ found. codes "type " ++ (signed_decimal found.kind ++ (codes " is none of the game's" ++ rest)))

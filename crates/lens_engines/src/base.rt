@@ -1,4 +1,4 @@
-//! The files on which every file stands.
+//! The base files of a run.
 
 ghost use Rattle.std.specs.Prelude.{◌≡◌, ◌++◌, ◌+◌, ◌≤◌, length, IfOk};
 ghost use Rattle.wad_dir.specs.declared.set.TheConstants.{MAX_FILES};
@@ -7,7 +7,8 @@ use std::alloc::{AllocError, Allocator};
 use std::marker::Model;
 use wad_dir::{MAX_FILES, Set, Wad};
 
-/// The files on which every file stands, as a game's own: at most 63, so that one more makes a set with them.
+/// The base files, such as a game's own: every other file is judged over them. They are at most 63, so that
+/// one more file makes a set with them.
 #[derive(Drop)]
 pub struct Base<'b> {
     wads: &'b [Wad<'b>],
@@ -56,7 +57,7 @@ impl<'b> Base<'b> {
     }
 }
 
-/// The set of a file behind those on which it stands.
+/// The set of the base files and, behind them, one file.
 pub fn over_base<'a, A: Allocator>(
     alloc: A,
     base: &Base<'a>,

@@ -42,18 +42,17 @@ use wad_dir::{Set, SetFault};
 #[derive(Clone, Copy)]
 pub struct Question<'p> {
     pub form: Form,
-    /// The file's path, as it is written before each line. Nothing is looked up by it.
+    /// The file's path, as each line has it. No file is looked up by it.
     pub path: &'p [u8],
     /// How many findings, or warnings, of one code are shown of a level at most; 0: all.
     pub most: u64,
     pub judging: Judging<'p>,
 }
 
-/// Writes what is found at each level of a file, hidden ones too, in the order of their labels, and answers what it adds up
-/// to.
+/// Writes what is found at each level of a file, hidden ones too, in the order of their labels, and returns the totals.
 ///
-/// `NoWad` comes before anything is written, and so may `Memory`; a later `Memory` comes between the lines of two levels,
-/// `Write` within those of one. No finding is kept, and of the warnings those that are shown of one level.
+/// `NoWad` comes before anything is written. So may `Memory`, or it comes between the lines of two levels. `Write` comes within
+/// the lines of one level. No finding is kept, and only the shown warnings of one level are.
 pub fn check_file<A: Allocator + Copy, W: Sink>(
     alloc: A,
     question: &Question<'_>,
@@ -70,7 +69,7 @@ pub fn check_file<A: Allocator + Copy, W: Sink>(
     }
 }
 
-// Writes the lines of all levels of a set, or nothing, where there is no memory to look up its labels, textures and flats.
+// Writes the lines of all levels of a set. Writes nothing if there is no memory to look up its labels, textures and flats.
 fn check_labelled<A: Allocator + Copy, W: Sink>(
     alloc: A,
     question: &Question<'_>,
@@ -93,7 +92,7 @@ fn check_labelled<A: Allocator + Copy, W: Sink>(
     check_set(alloc, question, set, &holders, &resources, out)
 }
 
-// Writes the lines of all levels of a set, whose textures and flats are known where warnings are looked for.
+// Writes the lines of all levels of a set. Its textures and flats are known if warnings are looked for.
 fn check_set<A: Allocator + Copy, W: Sink>(
     alloc: A,
     question: &Question<'_>,
@@ -232,8 +231,8 @@ struct Told<'l, 'a, A: Allocator> {
     sound_wide: bool,
 }
 
-// What the lines of the level at a label are made of. A level is looked through once; where the wide reading is asked, too, what
-// that took is given back before, and it is looked through again for its lines.
+// What the lines of the level at a label are made of. A level is looked through once. If the wide reading is asked, too, that
+// memory is freed before, and the level is looked through again for its lines.
 fn judge<'l, 'a, A: Allocator + Copy>(
     alloc: A,
     set: &Set<'_, A>,
@@ -258,7 +257,7 @@ fn judge<'l, 'a, A: Allocator + Copy>(
     })
 }
 
-// A judged level, let go where the wide reading is asked, too.
+// The judged level, which is freed if the wide reading is asked, too.
 fn unless_asked_wide<'l, 'a, A: Allocator>(
     judged: Judged<'l, 'a, A>,
     reading: Reading,

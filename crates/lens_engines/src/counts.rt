@@ -85,7 +85,7 @@ pub fn code_at(rank: usize) -> Code
     CODES[rank]
 }
 
-// How often a code is told that holds so often: not at all, where it is ignored.
+// How often a code counts that holds `count` times: never if it is ignored.
 fn kept_count(ignored: &Ignored, code: Code, count: u32) -> u32
     ensures { result ≡ kept_count ignored.now code count }
 {

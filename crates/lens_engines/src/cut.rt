@@ -57,9 +57,10 @@ pub enum Uncut {
     TooLarge,
 }
 
-/// Writes a PWAD of the level whose label is the entry of this number: the label, which has no bytes here, and the lumps that
-/// belong to it, under their entries' names. These are the ten behind the label; in Hexen's format BEHAVIOR too, and SCRIPTS
-/// where it follows; of a UDMF level all to the first ENDMAP. All faults but `Write` come before anything is written.
+/// Writes a PWAD of the level whose label is the entry of this number. It holds the label, without bytes, and the lumps that
+/// belong to it, under their entries' names. These are the ten behind the label. In Hexen's format BEHAVIOR belongs to them,
+/// and SCRIPTS if it follows. Of a UDMF level they are all lumps to the first ENDMAP. Every fault but `Write` comes before
+/// anything is written.
 pub fn cut_level<A: Allocator + Copy, W: Sink>(
     alloc: A,
     bytes: &[u8],
@@ -165,7 +166,7 @@ fn has_scripts<A: Allocator>(set: &Set<'_, A>, g: usize) -> bool
     12 < total - g && is_named(set, g + 12, Name8::query(b"SCRIPTS"))
 }
 
-// How many entries behind a label the first ENDMAP behind TEXTMAP stands.
+// How many entries behind a label the first ENDMAP after TEXTMAP is.
 fn end_map<A: Allocator>(set: &Set<'_, A>, g: usize) -> Option<usize>
     requires { g + 1 < length (joined set.now) }
     ensures some { IfSome result (IsEndMap set.now g) }
@@ -180,7 +181,7 @@ fn end_map<A: Allocator>(set: &Set<'_, A>, g: usize) -> Option<usize>
     None
 }
 
-// The file of the level at an entry, to which so many lumps behind its label belong.
+// The file of the level at an entry, with `many` lumps behind its label.
 fn pack_lumps<'a, A: Allocator + Copy>(
     alloc: A,
     set: &Set<'a, A>,
@@ -274,8 +275,8 @@ fn name_at<A: Allocator>(set: &Set<'_, A>, entry: usize) -> Name8
     }
 }
 
-/// Writes in words, and a line's end, why a level isn't cut out, behind its label where there is one: nothing where the output
-/// failed or memory was wanted.
+/// Writes why a level isn't cut out, in words with a line's end, and the level's label before it if there is one. For `Write`
+/// and `Memory` it writes nothing.
 pub fn write_cut_fault<W: Sink>(fault: CutFault, out: &mut W) -> Result<(), IoFault>
     requires lump { HasLump fault }
     requires sound { (W.state out.old).failed ≡ false }

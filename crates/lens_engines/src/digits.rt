@@ -1,4 +1,4 @@
-//! Numbers in lines of text, of which it is known how many bytes they take.
+//! Numbers in lines of text, each with the most bytes that it takes.
 
 ghost use Rattle.std.specs.Prelude.{◌≡◌, ◌+◌, ◌<◌, ◌≤◌, ◌^◌, ◌++◌, length};
 ghost use Rattle.std.specs.Fmt.{decimal, signed_decimal};

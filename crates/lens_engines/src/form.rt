@@ -1,10 +1,10 @@
-//! In which form a check tells what it finds.
+//! The forms of a check's report.
 
-/// How what a check finds is told.
+/// The form of a check's report.
 #[derive(Clone, Copy, Debug, PartialEq, Eq)]
 pub enum Form {
     /// In lines for people and editors.
     Lines,
-    /// In an object of JSON for each of them.
+    /// Objects of JSON, one in place of each line.
     Objects,
 }

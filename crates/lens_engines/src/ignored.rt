@@ -13,7 +13,8 @@ use map_warnings::WarningCode;
 /// How many codes of warnings there are.
 pub const WARNING_COUNT: usize = 11;
 
-/// Which codes are ignored, by their ranks: their findings and warnings are neither told nor counted. A fault is never ignored.
+/// Which codes are ignored, by their ranks: their findings and warnings are neither shown nor counted. A fault is never
+/// ignored.
 #[derive(Clone, Copy)]
 pub struct Ignored {
     pub findings: [bool; CODE_COUNT],
@@ -31,7 +32,7 @@ impl Ignored {
         }
     }
 
-    /// The code of a name besides, as `N2` or `W7`, or None where it names neither a note nor a warning.
+    /// These codes and one more, by its name, such as `N2` or `W7`. None if it names neither a note nor a warning.
     pub fn with(self, name: &str) -> Option<Ignored>
         ensures some { IfSome result (AddsNamed self name.now) }
         ensures none { IfNone result (¬ IsNamed name.now) }
@@ -80,7 +81,7 @@ fn warning_rank(code: WarningCode) -> usize
     code as usize
 }
 
-// The code of a note that is printed so.
+// The note whose code is printed so.
 fn note_named(name: &str) -> Option<Code>
     ensures { (code : Code) → (result ≡ Some code) ↔ (note_name code ≡ Some name.now) }
 {

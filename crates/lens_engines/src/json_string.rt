@@ -11,8 +11,8 @@ use line_io::{IoFault, emit};
 // U+FFFD in UTF-8.
 const REPLACEMENT: [u8; 3] = [0xEF, 0xBF, 0xBD];
 
-/// Writes bytes as a string: what isn't UTF-8 stands as U+FFFD, once for each sequence, as
-/// `String::from_utf8_lossy` has it, and nothing is escaped that needn't be.
+/// Writes bytes as a string. U+FFFD stands for each sequence that isn't UTF-8, as in
+/// `String::from_utf8_lossy`. Only what needs an escape has one.
 pub fn write_string<W: Sink>(bytes: &[u8], out: &mut W) -> Result<(), IoFault>
     requires { (W.state out.old).failed ≡ false }
     ensures { Writes (W.state out.old) (W.state out.new) (json_string bytes.now) result }
@@ -33,7 +33,7 @@ fn write_text<W: Sink>(bytes: &[u8], out: &mut W) -> Result<(), IoFault>
     Ok(())
 }
 
-// Writes text within a string, and U+FFFD for the bytes after it that are no text, where there are some.
+// Writes text within a string, and then U+FFFD if some bytes after it aren't text.
 fn write_chunk<W: Sink>(text: &[u8], invalid: &[u8], out: &mut W) -> Result<(), IoFault>
     requires { (W.state out.old).failed ≡ false }
     ensures { Writes (W.state out.old) (W.state out.new) (escaped text.now ++ replaced invalid.now) result }
@@ -79,7 +79,7 @@ fn behind(text: &[u8], at: usize) -> &[u8]
     &text[at + 1..]
 }
 
-// Writes the bytes before the first one that needs to be escaped, which stands at an index, and that one.
+// Writes the bytes before an index, and the byte there, which is the first that needs to be escaped.
 fn write_run<W: Sink>(text: &[u8], at: usize, out: &mut W) -> Result<(), IoFault>
     requires sound { (W.state out.old).failed ≡ false }
     requires within { at < length text.now }

@@ -1,4 +1,4 @@
-//! A level of which the findings are told.
+//! A level with what its report needs.
 
 ghost use Rattle.std.specs.Prelude.{◌≡◌, ◌+◌, ◌<◌, ◌≤◌, ◌^◌, ℕ, false, IfNone, IfOk, IfSome};
 ghost use Rattle.line_io.specs.Writes.{Writes};
@@ -80,7 +80,7 @@ impl<'l, 'a, A: Allocator> Judged<'l, 'a, A> {
         count_all(&self.parts)
     }
 
-    /// The first index from one on at which a code holds.
+    /// The first index at which a code holds, from a given one on.
     pub fn first(&self, code: Code, from: u32) -> Option<u32>
         ensures some { IfSome result (IsFirst (AuditHolds self.now code) from) }
         ensures none { IfNone result ((i : ℕ) → from ≤ i → ¬ AuditHolds self.now code i) }

@@ -5,14 +5,14 @@ use crate::ignored::Ignored;
 use crate::verdict::Verdict;
 use map_level::Reading;
 
-/// Whether warnings are told, and what they say.
+/// Whether warnings are looked for, and how grave they are.
 #[derive(Clone, Copy, Debug, PartialEq, Eq)]
 pub enum Warnings {
     /// They aren't looked for.
     Unasked,
-    /// They are told and counted, and change no verdict.
+    /// They are shown and counted, and change no verdict.
     Told,
-    /// They are told and counted, and one is as grave as a fault.
+    /// They are shown and counted, and one is as grave as a fault.
     Strict,
 }
 
@@ -20,7 +20,7 @@ impl Warnings {
     ghost use Rattle.std.specs.Prelude.{◌≡◌};
     ghost use Rattle.lens_engines.specs.Warned.{warned_verdict};
 
-    /// What so many of them say.
+    /// The verdict on `count` warnings.
     pub fn verdict(self, count: u64) -> Verdict
         ensures { result ≡ warned_verdict self count }
     {
@@ -37,7 +37,7 @@ impl Warnings {
     }
 }
 
-/// How levels are judged: by which reading of their numbers, whether warnings are told, and which codes are ignored.
+/// How levels are judged: the reading of their numbers, whether warnings are looked for, and which codes are ignored.
 #[derive(Clone, Copy)]
 pub struct Rules {
     pub reading: Reading,
@@ -48,7 +48,7 @@ pub struct Rules {
 impl Rules {
     ghost use Rattle.lens_engines.specs.Rules.{IsOver};
 
-    /// The same over the files on which every file stands.
+    /// These rules with the base files.
     pub fn over<'b>(self, base: &'b Base<'b>) -> Judging<'b>
         ensures { IsOver self base.entry.now result }
     {
@@ -61,7 +61,7 @@ impl Rules {
     }
 }
 
-/// How the levels of a file are judged: the rules, and the files on which every file stands. Only W9 and W10 ask for these.
+/// How the levels of a file are judged: the rules, and the base files. Only W9 and W10 look at base files.
 #[derive(Clone, Copy)]
 pub struct Judging<'b> {
     pub reading: Reading,

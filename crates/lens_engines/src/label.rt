@@ -1,4 +1,4 @@
-//! The labels of levels, as lines tell them.
+//! The labels of levels, as lines show them.
 
 ghost use Rattle.std.specs.Prelude.{◌≡◌, ◌+◌, ◌≤◌, ◌++◌, length};
 ghost use Rattle.le_rec.specs.Name.{shown_name};
@@ -25,7 +25,7 @@ pub struct LevelLabel {
     pub hidden: bool,
 }
 
-/// The label of the level that starts at an entry, where it is known what looking up the labels of its file gives.
+/// The label of the level that starts at an entry. What a look-up of its file's labels gives is known.
 pub fn label_by<A: Allocator, B: Allocator + Copy>(
     set: &Set<'_, A>,
     holders: &Holders<B>,

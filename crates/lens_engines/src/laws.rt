@@ -2,7 +2,7 @@
 
 ghost use Rattle.lens_engines.specs.Laws as law;
 
-/// What a survey says of a level's soundness is right: there are no faults exactly where the level is sound.
+/// A survey is right about soundness: there are no faults exactly where the level is sound.
 pub fn faultless_is_sound()
     ensures { law.FaultlessIsSound }
 {}
@@ -12,18 +12,18 @@ pub fn counts_are_of_the_report()
     ensures { law.CountsAreOfTheReport }
 {}
 
-/// Where all findings are shown, what a check tells of them is the line of each finding of the level's report, in its order.
+/// If all findings are shown, a check writes the line of each finding of the level's report, in the report's order.
 pub fn lines_are_of_the_report()
     ensures { law.LinesAreOfTheReport }
 {}
 
-/// What is written as a string is read back as the bytes' text, by the kit's reader of JSON and wherever it stands.
+/// The kit's reader of JSON reads a written string back as the bytes' text, wherever it stands.
 pub fn strings_are_read()
     ensures { law.StringsAreRead }
 {}
 
-/// What a survey writes is read back by the kit's reader of JSON: each line is one object, of the file, the level and what is
-/// told of it, where the numbers have 64 bits at most.
+/// The kit's reader of JSON reads a survey back. Each line is one object of the file, the level and the report on it, if the
+/// numbers have at most 64 bits.
 pub fn objects_are_read()
     ensures { law.ObjectsAreRead }
 {}

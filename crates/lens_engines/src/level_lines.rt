@@ -44,7 +44,7 @@ pub fn write_judged<A: Allocator, W: Sink>(
     write_rest(judged.level(), owners, heading, warned, sound_wide, out)
 }
 
-// Writes what stands behind a level's findings.
+// Writes what comes after a level's findings.
 fn write_rest<A: Allocator, W: Sink>(
     level: &Level<'_>,
     owners: &[Option<u32>],
@@ -63,7 +63,7 @@ fn write_rest<A: Allocator, W: Sink>(
     write_wide(heading, sound_wide, out)
 }
 
-// Writes that the wide reading alone finds the level sound, where it does.
+// Writes that only the wide reading finds the level sound, if that is so.
 fn write_wide<W: Sink>(heading: &Heading<'_>, sound_wide: bool, out: &mut W) -> Result<(), IoFault>
     requires { (W.state out.old).failed ≡ false }
     ensures { Writes (W.state out.old) (W.state out.new)
@@ -78,7 +78,7 @@ fn write_wide<W: Sink>(heading: &Heading<'_>, sound_wide: bool, out: &mut W) -> 
     }
 }
 
-// Writes what is told of all codes.
+// Writes the report on all codes.
 fn write_codes<A: Allocator, W: Sink>(
     judged: &Judged<'_, '_, A>,
     heading: &Heading<'_>,
@@ -98,7 +98,7 @@ fn write_codes<A: Allocator, W: Sink>(
     Ok(())
 }
 
-// Writes what is told of a code that holds so many times.
+// Writes the report on a code that holds `count` times.
 fn write_code<A: Allocator, W: Sink>(
     judged: &Judged<'_, '_, A>,
     heading: &Heading<'_>,
@@ -121,7 +121,7 @@ fn write_code<A: Allocator, W: Sink>(
     write_more(heading, code, count - shown, out)
 }
 
-// How many of so many findings are shown.
+// How many of `count` findings are shown.
 fn shown_count(most: u64, count: u32) -> u32
     ensures value { result ≡ shown_count most count }
     ensures few { result ≤ count }
@@ -132,7 +132,7 @@ fn shown_count(most: u64, count: u32) -> u32
     most as u32
 }
 
-// Writes the lines of the first so many findings of a code.
+// Writes the lines of a code's first `shown` findings.
 fn write_shown<A: Allocator, W: Sink>(
     judged: &Judged<'_, '_, A>,
     heading: &Heading<'_>,

@@ -1,4 +1,4 @@
-//! The lines that tell of a level.
+//! The lines of a level's report.
 
 ghost use Rattle.std.specs.Prelude.{◌≡◌, ◌+◌, ◌<◌, ◌≤◌, ◌++◌, ◌∷◌, [], codes, decimal, false, length};
 ghost use Rattle.line_io.specs.Writes.{Writes};
@@ -24,7 +24,7 @@ use line_io::{IoFault, TextLine, emit};
 use map_level::{Code, Finding, Level, usual_name};
 use map_tables::blocks_along;
 
-/// What all that is told of a level begins with: its form, the file's path and the label.
+/// What each line or object of a level begins with: its form, the file's path and the label.
 #[derive(Clone, Copy)]
 pub struct Heading<'p> {
     pub form: Form,
@@ -53,7 +53,7 @@ pub fn write_finding<W: Sink>(
     write_both(lead.as_bytes(), body.as_bytes(), out)
 }
 
-/// Writes a line of a level, from a text that has its end.
+/// Writes a line of a level, from a text with the line's end.
 pub fn write_line<W: Sink>(heading: &Heading<'_>, text: &[u8], out: &mut W) -> Result<(), IoFault>
     requires { (W.state out.old).failed ≡ false }
     ensures { Writes (W.state out.old) (W.state out.new)
@@ -132,7 +132,7 @@ pub fn write_format_alone<W: Sink>(format: Format, out: &mut W) -> Result<(), Io
     emit(out, line.as_bytes())
 }
 
-// What tells that a level isn't judged.
+// Puts the text for a level that isn't judged.
 fn prepend_format(line: &mut TextLine, format: Format)
     requires lump { NamesLump format }
     requires empty { line.old ≡ [] }
@@ -197,7 +197,7 @@ fn prepend_lead(line: &mut TextLine, level: &Level<'_>, finding: &Finding)
     prepend_code(line, finding.code);
 }
 
-// The index of what is of a kind.
+// The index of a finding, by the kind of what it is found at.
 fn prepend_index_of(line: &mut TextLine, level: &Level<'_>, kind: Kind, index: u32)
     requires { length line.old ≤ 2 }
     ensures text { line.new ≡ index_text level.now kind index line.old }

@@ -1,4 +1,4 @@
-//! What is wrong where a code holds, in words and with the values that stand there. Each text is put before the line.
+//! What is wrong where a code holds, in words and with the level's values. Each text is put before the line.
 
 ghost use Rattle.std.specs.Prelude.{◌≡◌, ◌+◌, ◌<◌, ◌≤◌, ◌^◌, length};
 ghost use Rattle.std.specs.List.{slice_get};
@@ -229,7 +229,7 @@ fn prepend_ssector_segs(line: &mut TextLine, level: &Level<'_>, i: usize)
     }
 }
 
-// The first seg of an ssector, and how many it says it has.
+// The first seg of an ssector, and the number of its segs by its record.
 fn prepend_segs(line: &mut TextLine, level: &Level<'_>, first: &i16, count: &i16)
     requires { length line.old ≤ 44 }
     ensures text { line.new ≡ segs_text level.now first.now count.now line.old }

@@ -164,7 +164,7 @@ fn write_format<W: Sink>(format: Format, out: &mut W) -> Result<(), IoFault>
     emit(out, line.as_bytes())
 }
 
-/// A format as it is named.
+/// The name of a format.
 pub fn format_name(format: Format) -> &'static [u8]
     ensures name { result.now ≡ format_name format }
     ensures short { length result.now ≤ 10 }
@@ -189,7 +189,7 @@ pub fn write_other<W: Sink>(format: Format, out: &mut W) -> Result<(), IoFault>
     emit(out, b"}\n")
 }
 
-// Writes what tells a format.
+// Writes what decides a format.
 fn write_telling<W: Sink>(format: Format, out: &mut W) -> Result<(), IoFault>
     requires lump { NamesLump format }
     requires sound { (W.state out.old).failed ≡ false }
@@ -238,7 +238,7 @@ pub fn write_doom<A: Allocator, W: Sink>(
     write_end(counts, warnings, warned, unlooked, out)
 }
 
-// Writes what was found and what is warned of, and the object's end.
+// Writes the findings and the warnings, and the object's end.
 fn write_end<A: Allocator, W: Sink>(
     counts: &CodeCounts,
     warnings: Warnings,

@@ -10,7 +10,7 @@ use map_level::Level;
 use map_level::links::no_side;
 use std::alloc::{AllocError, Allocator};
 
-/// For each sidedef the first linedef that names it, told by one pass over the linedefs.
+/// For each sidedef, the first linedef that names it. This goes over the linedefs once.
 pub fn owners_of<A: Allocator>(
     alloc: A,
     level: &Level<'_>,
@@ -22,7 +22,8 @@ pub fn owners_of<A: Allocator>(
     Ok(owners)
 }
 
-// Puts the linedefs' numbers, the last first, so that the first of a sidedef stays.
+// Puts the linedefs' numbers from the last one to the first. So the first linedef of a sidedef
+// remains.
 fn put_owners(level: &Level<'_>, owners: &mut [Option<u32>])
     requires long { length owners.old ≡ length level.now.sidedefs.records }
     requires none { (i : ℕ) → slice_index_or owners.old i None ≡ None }

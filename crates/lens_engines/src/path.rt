@@ -7,8 +7,8 @@ ghost use Rattle.lens_engines.specs.ShownPath.{control_text, is_control_at, is_s
 use le_rec::{Sink, hex_digit};
 use line_io::{IoFault, emit};
 
-/// Writes a path, its control characters each as `\x` and two hexadecimal digits: what is below 32, 127,
-/// and of UTF-8 C2 with 80 to 9F behind it (ISO 6429). All else stands as it is.
+/// Writes a path. Each byte of a control character is written as `\x` and two hexadecimal digits: those
+/// below 32, 127, and in UTF-8 C2 followed by 80 to 9F (ISO 6429). All else is unchanged.
 pub fn write_path<W: Sink>(path: &[u8], out: &mut W) -> Result<(), IoFault>
     requires { (W.state out.old).failed ≡ false }
     ensures { Writes (W.state out.old) (W.state out.new) (shown_path path.now) result }
@@ -60,7 +60,7 @@ fn is_control_at(path: &[u8], at: usize) -> bool
     byte < 32 || byte == 127 || is_wide_control(byte, behind) || is_wide_control(before, byte)
 }
 
-// Whether two bytes are a control of eight bits, as UTF-8 has it.
+// Whether two bytes are an eight-bit control character in UTF-8.
 fn is_wide_control(first: u8, second: u8) -> bool
     ensures { result ≡ is_wide_control first second }
 {

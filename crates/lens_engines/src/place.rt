@@ -41,7 +41,7 @@ pub fn place_of(level: &Level<'_>, owners: &[Option<u32>], code: Code, index: u3
     place_at(level, owners, kind_of(code), index as usize)
 }
 
-// Where what is of a kind and a number lies.
+// The place of a record, a lump or a block, by its kind and its number.
 fn place_at(level: &Level<'_>, owners: &[Option<u32>], kind: Kind, i: usize) -> Place
     requires { AreOwners level.now owners.now }
     ensures { result ≡ place_at level.now kind i }
@@ -116,7 +116,7 @@ fn owner_of(level: &Level<'_>, owners: &[Option<u32>], i: usize) -> Option<u32>
     if i < owners.len() { owners[i] } else { None }
 }
 
-/// Puts a place, as it stands behind a message, before the line.
+/// Puts a place before the line, as it follows a message.
 pub fn prepend_place(line: &mut TextLine, place: Place)
     requires { length line.old ≤ 1 }
     ensures text { line.new ≡ place_text place line.old }

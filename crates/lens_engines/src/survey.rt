@@ -31,11 +31,11 @@ use map_warnings::Resources;
 use std::alloc::{AllocError, Allocator};
 use wad_dir::{Set, SetFault};
 
-/// Writes an object for each level of a file, hidden ones too, in the order of their labels, and answers the gravest verdict.
-/// The path is written as it is handed in, and nothing is looked up by it.
+/// Writes an object for each level of a file, hidden ones too, in the order of their labels, and returns the gravest verdict.
+/// The path is written as it is handed in. No file is looked up by it.
 ///
-/// `NoWad` comes before anything is written, and so may `Memory`; a later `Memory` comes between two lines, `Write` within one.
-/// What judging a level takes is given back before the next one, and no finding or warning is kept.
+/// `NoWad` comes before anything is written. So may `Memory`, or it comes between two lines. `Write` comes within a line. The
+/// memory for a level is freed before the next one, and no finding or warning is kept.
 pub fn survey_file<A: Allocator + Copy, W: Sink>(
     alloc: A,
     path: &[u8],
@@ -53,7 +53,7 @@ pub fn survey_file<A: Allocator + Copy, W: Sink>(
     }
 }
 
-// Writes the lines of all levels of a set, or nothing, where there is no memory to look up its textures and flats.
+// Writes the lines of all levels of a set. Writes nothing if there is no memory to look up its textures and flats.
 fn survey_over<A: Allocator + Copy, W: Sink>(
     alloc: A,
     path: &[u8],
@@ -74,7 +74,7 @@ fn survey_over<A: Allocator + Copy, W: Sink>(
     survey_set(alloc, path, set, &resources, judging, out)
 }
 
-// Writes the lines of all levels of a set, whose textures and flats are known where warnings are looked for.
+// Writes the lines of all levels of a set. Its textures and flats are known if warnings are looked for.
 fn survey_set<A: Allocator + Copy, W: Sink>(
     alloc: A,
     path: &[u8],
@@ -169,7 +169,7 @@ fn write_other_line<W: Sink>(
     write_other(format, out)
 }
 
-// What a format alone says of its level.
+// The verdict on a level, by its format alone.
 fn verdict_of_format(format: Format) -> Verdict
     ensures { result ≡ verdict_of_format format }
 {
@@ -231,7 +231,7 @@ impl<A: Allocator> Found<A> {
     ghost use Rattle.lens_engines.specs.Survey.{graver, verdict_of_counts};
     ghost use Rattle.lens_engines.specs.Warned.{warned_total, warned_verdict};
 
-    // What it says.
+    // The verdict on it.
     fn verdict(&self) -> Verdict
         ensures { result ≡ graver (verdict_of_counts self.now.counts) (warned_verdict self.now.warnings (warned_total self.now.warned.items)) }
     {
@@ -240,7 +240,7 @@ impl<A: Allocator> Found<A> {
     }
 }
 
-// Finds what there is at a level. No finding and no warning is kept.
+// Judges a level. No finding and no warning is kept.
 fn find<A: Allocator + Copy>(
     alloc: A,
     level: &Level<'_>,
@@ -262,7 +262,7 @@ fn find<A: Allocator + Copy>(
     })
 }
 
-// What the counts of a level say of it.
+// The verdict on a level, by its counts.
 fn verdict_of_counts(counts: &CodeCounts) -> Verdict
     ensures { result ≡ verdict_of_counts counts.now }
 {
@@ -297,7 +297,7 @@ fn write_doom_line<A: Allocator, W: Sink>(
     )
 }
 
-// The end of a line's level: its verdict, where the line was written.
+// The end of a level's line: its verdict, if the line was written.
 fn line_end(verdict: Verdict, wrote: Result<(), IoFault>) -> Result<Verdict, LevelsFault>
     ensures { result ≡ line_end verdict wrote }
 {

@@ -30,11 +30,11 @@ pub struct Totals {
     pub broken: u64,
     /// Levels in a format that isn't read.
     pub unread: u64,
-    /// What wasn't looked for, though it was asked for, at one of the levels or more.
+    /// Which warnings were asked for but not looked for, at one or more of the levels.
     pub unlooked: Unlooked,
 }
 
-/// The totals of a judged level with so many warnings, at which so much wasn't looked for.
+/// The totals of a judged level with so many warnings, and with those that weren't looked for.
 pub fn judged_totals(counts: &CodeCounts, warnings: u64, unlooked: Unlooked) -> Totals
     ensures { result ≡ judged_totals counts.now warnings unlooked }
 {
@@ -102,7 +102,7 @@ impl Totals {
         }
     }
 
-    /// What they say, warnings aside: a fault or a level that lacks a lump goes before one that isn't read.
+    /// The verdict by them, without warnings. A fault, or a level that lacks a lump, goes before a level that isn't read.
     pub fn verdict(&self) -> Verdict
         ensures { result ≡ verdict_of_totals self.now }
     {
@@ -117,7 +117,7 @@ impl Totals {
         }
     }
 
-    /// What they say where warnings are asked for so.
+    /// The verdict by them, if warnings are asked for in this way.
     pub fn verdict_with(&self, warnings: Warnings) -> Verdict
         ensures { result ≡ verdict_with warnings self.now }
     {

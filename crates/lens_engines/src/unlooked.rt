@@ -7,7 +7,7 @@ use crate::ignored::Ignored;
 use map_warnings::{Resources, WarningCode};
 use std::alloc::Allocator;
 
-/// Which warnings weren't looked for, though they were asked for, as no file has what they want to know.
+/// Which warnings were asked for but not looked for, as no file lists the names that they need.
 #[derive(Clone, Copy, Debug, PartialEq, Eq)]
 pub struct Unlooked {
     /// W9, as TEXTURE1 isn't found.
@@ -27,7 +27,7 @@ impl Unlooked {
         }
     }
 
-    /// Those of a level whose textures and flats are these, where they are asked for. What is ignored isn't asked for.
+    /// Those of a level with these textures and flats, if they are asked for. What is ignored isn't asked for.
     pub fn of<A: Allocator>(resources: &Option<Resources<'_, '_, A>>, ignored: &Ignored) -> Unlooked
         ensures { AreUnlooked ignored.now resources.now result }
     {

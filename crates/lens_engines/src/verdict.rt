@@ -1,9 +1,9 @@
-//! What is said of a file, and why nothing is.
+//! The verdict on a file, and why there is none.
 
 use thiserror::Error;
 use wad_dir::WadFault;
 
-/// What was found in a file, or at one of its levels.
+/// The verdict on a file, or on one of its levels.
 #[derive(Clone, Copy, Debug, PartialEq, Eq)]
 pub enum Verdict {
     /// All levels were judged, and none has a fault.
@@ -49,7 +49,7 @@ impl LevelsFault {
     ghost use Rattle.std.specs.Prelude.{◌≡◌};
     ghost use Rattle.lens_engines.specs.Survey.{fault_after};
 
-    /// The same fault, where levels of this verdict were told before.
+    /// The same fault, after levels with this verdict.
     pub(crate) fn after(self, before: Verdict) -> LevelsFault
         ensures { result ≡ fault_after before self }
     {

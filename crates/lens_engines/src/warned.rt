@@ -1,4 +1,4 @@
-//! What is told of a level's warnings.
+//! The report on a level's warnings.
 
 ghost use Rattle.std.specs.Prelude.{◌≡◌, ◌↔◌, ◌-◌, ◌<◌, IfOk, IsTrue, OnOk, false, length, slice_index_or};
 ghost use Rattle.std.specs.List.{flat_map};
@@ -45,7 +45,7 @@ const WARNINGS: [WarningCode; WARNING_COUNT] = [
     WarningCode::W11,
 ];
 
-/// What is told of one code of warnings: the first of them, and how many there are.
+/// The report on one code of warnings: the first of them, and how many there are.
 #[derive(Debug, Drop)]
 pub struct Warned<A: Allocator = Global> {
     code: WarningCode,
@@ -95,8 +95,7 @@ pub fn asked_resources<'s, 'a, A: Allocator + Copy>(
     }
 }
 
-/// What is told of a level's warnings where they are asked for so, so many of one code at most: nothing where they aren't looked
-/// for.
+/// The report on a level's warnings, with at most so many of one code; empty if they aren't looked for.
 pub fn asked_warnings<A: Allocator + Copy>(
     alloc: A,
     level: &Level<'_>,
@@ -114,7 +113,7 @@ pub fn asked_warnings<A: Allocator + Copy>(
     }
 }
 
-/// The same where it is known how often each code of a finding holds of the level.
+/// The same, with known counts of each finding's code.
 pub(crate) fn known_warnings<A: Allocator + Copy>(
     alloc: A,
     level: &Level<'_>,
@@ -152,7 +151,7 @@ pub fn warned_total<A: Allocator>(all: &[Warned<A>]) -> u64
     sum
 }
 
-/// What is told of each code of a level's warnings, so many of one code at most, and none of an ignored one.
+/// The report on each code of a level's warnings, with at most so many of one code, and none of an ignored one.
 pub fn warnings_of<A: Allocator + Copy>(
     alloc: A,
     level: &Level<'_>,
@@ -167,7 +166,7 @@ pub fn warnings_of<A: Allocator + Copy>(
     Ok(all)
 }
 
-// The same where it is known how often each code of a finding holds.
+// The same, with known counts of each finding's code.
 fn counted_warnings<A: Allocator + Copy>(
     alloc: A,
     level: &Level<'_>,
@@ -184,7 +183,7 @@ fn counted_warnings<A: Allocator + Copy>(
     Ok(all)
 }
 
-// A level for its warnings. A sound one isn't looked over again.
+// The checks for a level's warnings. A sound level isn't looked over again.
 fn counted_checks<'l, 'a, A: Allocator + Copy>(
     alloc: A,
     level: &'l Level<'a>,
@@ -199,7 +198,7 @@ fn counted_checks<'l, 'a, A: Allocator + Copy>(
     Checks::of(alloc, level)
 }
 
-// Whether a level has no fault, where it is known how often each code holds.
+// Whether a level has no fault, by its counts.
 fn is_faultless(level: &Level<'_>, counts: &CodeCounts) -> bool
     requires { AreCounts (AuditHolds level.now) counts.now }
     ensures { IsTrue result ↔ IsSound level.now }
@@ -209,7 +208,7 @@ fn is_faultless(level: &Level<'_>, counts: &CodeCounts) -> bool
     counts.faults() == 0
 }
 
-// What is told of each code, so many of one code at most.
+// The report on each code, with at most so many of one code.
 fn warned_by<A: Allocator + Copy>(
     alloc: A,
     checks: &Checks<'_, '_>,
@@ -242,7 +241,7 @@ fn code_at(rank: usize) -> WarningCode
     WARNINGS[rank]
 }
 
-// Adds what is told of a code.
+// Adds the report on a code.
 fn push_code<A: Allocator + Copy>(
     alloc: A,
     checks: &Checks<'_, '_>,
@@ -259,7 +258,7 @@ fn push_code<A: Allocator + Copy>(
     Ok(())
 }
 
-// The warnings of a code, so many at most: none, where it is ignored.
+// The warnings of a code, at most so many; none if it is ignored.
 fn told_of<A: Allocator + Copy>(
     alloc: A,
     checks: &Checks<'_, '_>,
@@ -277,7 +276,7 @@ fn told_of<A: Allocator + Copy>(
     checks.told(alloc, code, resources, most)
 }
 
-/// Writes the lines of a level's warnings, whose sidedefs belong to these linedefs.
+/// Writes the lines of a level's warnings. `owners` has the linedefs of its sidedefs.
 pub fn write_warned<A: Allocator, W: Sink>(
     heading: &Heading<'_>,
     level: &Level<'_>,

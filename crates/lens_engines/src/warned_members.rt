@@ -37,7 +37,7 @@ fn write_member<A: Allocator, W: Sink>(all: &[Warned<A>], out: &mut W) -> Result
     emit(out, b"}")
 }
 
-// Writes the codes of which there are warnings with how many, commas between them.
+// Writes the codes that have warnings, each with how many, and commas between them.
 fn write_codes<A: Allocator, W: Sink>(all: &[Warned<A>], out: &mut W) -> Result<(), IoFault>
     requires { (W.state out.old).failed ≡ false }
     ensures { Writes (W.state out.old) (W.state out.new) (join_with_byte 44 (warned_members all.now)) result }

@@ -262,7 +262,7 @@ fn prepend_named(line: &mut TextLine, bytes: [u8; 8])
     }
 }
 
-// That the game has no kind of a thing.
+// Says that the game knows no thing of a kind.
 fn prepend_unknown_thing(line: &mut TextLine, level: &Level<'_>, thing: u32)
     requires { length line.old ≤ 44 }
     ensures { line.new ≡ unknown_thing_text level.now thing line.old }

@@ -11,7 +11,7 @@ pub enum AtlasFault {
     Memory,
     /// A file of the folder can't be written.
     Write,
-    /// What is refused can't be told.
+    /// Standard error failed in the message about a refused file.
     Errors,
 }
 

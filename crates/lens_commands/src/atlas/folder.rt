@@ -6,13 +6,13 @@ use demo_engines::HandOn;
 /// Why a folder is refused.
 #[derive(Clone, Copy, Debug, PartialEq, Eq)]
 pub enum FolderRefusal {
-    /// Something stands in it.
+    /// It isn't empty.
     NotEmpty,
     /// There is something of that name, and it isn't a folder.
     NoFolder,
-    /// What stands in it can't be read.
+    /// Its contents can't be read.
     Unread,
-    /// The folder that it belongs in isn't there.
+    /// The folder above it doesn't exist.
     NoParent,
     /// It can't be made.
     Unmade,
@@ -53,7 +53,7 @@ pub trait Folder {
 
     type File: HandOn + Drop;
 
-    /// The files that stand in it under their names, in the order in which they came, where they are known.
+    /// Its files, by their names and in the order in which they came, if they are known.
     ghost kept: { Self → Option (List Kept) };
 
     /// Why it isn't taken.
@@ -62,28 +62,28 @@ pub trait Folder {
     /// Whether it was taken: no file is begun in one that wasn't.
     ghost taken: { Self → Bool };
 
-    /// Takes the folder: makes it, where it isn't there, in one that is. One that is there has to be empty, and stays
-    /// as it is.
+    /// Takes the folder. One that doesn't exist is created, in a folder that does. One that exists must be empty, and
+    /// stays unchanged.
     fn make(&mut self) -> Result<(), FolderFault>
         ensures kept { kept self.new ≡ kept self.old }
         ensures taken { OnOk result (taken self.new ≡ true) }
         ensures empty { OnOk result (IfSome (kept self.new) (λ files. files ≡ [])) }
         ensures refused { IfErr result (IsWhy (refuses self.old)) };
 
-    /// Begins a file that is to stand under `name`. It has no bytes, and stands under another name.
+    /// Begins a file for `name`. It is empty, and has another name so far.
     fn begin(&mut self, name: &[u8]) -> Result<Self::File, KeepFault>
         requires { taken self.old ≡ true }
         ensures taken { taken self.new ≡ true }
         ensures kept { kept self.new ≡ kept self.old }
         ensures begun { IfOk result (λ file. IsBegun (kept self.old) (Self.File.state file)) };
 
-    /// Gives a file its name. At an Err nothing stands under it.
+    /// Gives a file its name. On Err there is no file of this name.
     fn keep(&mut self, file: Self::File, name: &[u8]) -> Result<(), KeepFault>
         requires { taken self.old ≡ true }
         ensures taken { taken self.new ≡ true }
         ensures kept { KeepsFile (kept self.old) (kept self.new) (Self.File.state file) name.now result };
 
-    /// Lets a file go that isn't whole.
+    /// Discards a file that isn't whole.
     fn discard(&mut self, file: Self::File, name: &[u8])
         requires { taken self.old ≡ true }
         ensures taken { taken self.new ≡ true }

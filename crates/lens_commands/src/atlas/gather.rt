@@ -1,4 +1,4 @@
-//! What of each file goes onto the page and into the folder.
+//! What goes from each file onto the page and into the folder.
 
 ghost use Rattle.std.specs.Prelude.{◌≡◌, ◌≤◌, ◌++◌, true, [], ◌∷◌, IfErr, IfOk, OnOk, OnErr, map};
 ghost use Rattle.lens_commands.specs.Atlas.{survey_of};
@@ -25,7 +25,7 @@ use map_cells::CellCount;
 use std::alloc::Global;
 use wad_dir::Set;
 
-/// What of some files goes onto the page.
+/// What goes onto the page from some files.
 #[derive(Drop)]
 pub struct Gathered<'p> {
     /// Their levels, in order.
@@ -36,8 +36,8 @@ pub struct Gathered<'p> {
     pub tally: Tally,
 }
 
-/// Goes over the files under some paths, in order: their survey goes into `survey`, their pictures into the folder, and why one
-/// is refused into `errors`. One file is let go before the next is opened.
+/// Goes over the files under some paths, in order. Their survey goes into `survey`, their pictures into the folder, and the
+/// reason of a refusal into `errors`. Each file is freed before the next is opened.
 pub fn gather<'p, S: Storage, F: Folder, E: Sink, P: Watch>(
     alloc: Global,
     asked: &AtlasRequest<'_>,
@@ -176,7 +176,7 @@ fn add_levels<'p, F: Folder>(
     ensures adds { OnOk result (AddsLevels cells origin.now bytes.now rows.old.items rows.new.items (F.kept folder.old) (F.kept folder.new)) }
     ensures front { OnErr result (AddsSome cells origin.now bytes.now (F.kept folder.old) (F.kept folder.new)) }
 {
-    // The directory was read before, so it is memory that is wanting.
+    // The directory was read before, so memory has run out.
     let Ok(set) = Set::one(alloc, bytes) else {
         return Err(KeepFault::Memory);
     };
@@ -191,7 +191,7 @@ fn add_levels<'p, F: Folder>(
     draw_rows(alloc, cells, origin, &set, &rows[before..], folder)
 }
 
-// Tells that a file is refused, and adds it to those that are.
+// Reports that a file is refused, and adds it to the refused ones.
 fn add_refused<'p, W: HandOn, E: Sink, P: Watch>(
     one: Refused<'p>,
     refused: &mut Vec<Refused<'p>>,
@@ -219,7 +219,7 @@ fn add_refused<'p, W: HandOn, E: Sink, P: Watch>(
     }
 }
 
-// Why an atlas isn't whole where telling its files stopped.
+// Why an atlas isn't whole, if the report on its files stopped.
 fn stop_fault(stop: Stop) -> AtlasFault
     ensures { result ≡ stop_fault stop }
 {

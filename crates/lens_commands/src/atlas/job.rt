@@ -15,10 +15,10 @@ pub struct AtlasRequest<'b> {
 /// An atlas of which files.
 #[derive(Drop)]
 pub struct AtlasJob<'a> {
-    /// The files, and those on which they stand; of what is asked of them the rules count alone.
+    /// The files and the base files. Of what it asks, only the rules matter.
     pub job: Job<'a>,
     /// How many cells the longer side of a picture has at most.
     pub cells: CellCount,
-    /// The folder as it is named to people.
+    /// The folder as messages name it.
     pub folder: &'a [u8],
 }

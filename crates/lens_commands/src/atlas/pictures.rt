@@ -86,7 +86,7 @@ fn draw_file<F: Folder>(
     }
 }
 
-// How the end of a drawing is told.
+// The fault of a file, by that of its drawing.
 fn fault_of(fault: DrawFault) -> KeepFault
     ensures { result ≡ fault_of fault }
 {

@@ -29,8 +29,8 @@ const SURVEY: &[u8] = b"survey.jsonl";
 /// The page.
 const INDEX: &[u8] = b"index.html";
 
-/// Makes an atlas of the files of a job in a folder, and answers the gravest of what was found. The list is read before the
-/// folder is looked at, and no other file is.
+/// Makes an atlas of the files of a job in a folder, and returns the gravest verdict. The list is read before the folder is
+/// looked at; all other files are read after.
 pub fn run_atlas<S: Storage, I: Read + Drop, F: Folder, E: Sink, P: Watch>(
     alloc: Global,
     job: &AtlasJob<'_>,
@@ -48,7 +48,7 @@ pub fn run_atlas<S: Storage, I: Read + Drop, F: Folder, E: Sink, P: Watch>(
         Ok(list) => list,
         Err(ReadFault::Memory) => return Err(End::Memory),
         Err(ReadFault::Refused(refusal)) => {
-            // Where standard error fails too, nobody is left to be told.
+            // If standard error fails too, the message is lost.
             let _ = write_refusal(job.job.list_name(), refusal, errors);
             return Err(End::Refused);
         }
@@ -68,7 +68,7 @@ pub fn run_atlas<S: Storage, I: Read + Drop, F: Folder, E: Sink, P: Watch>(
     run_taken(alloc, job, &paths, storage, folder, errors, watch)
 }
 
-// Makes the atlas of the files under all paths in a folder that was taken, over those on which they stand.
+// Makes the atlas of the files under all paths in a folder that was taken, over the base files.
 fn run_taken<S: Storage, F: Folder, E: Sink, P: Watch>(
     alloc: Global,
     job: &AtlasJob<'_>,
@@ -108,7 +108,7 @@ fn run_taken<S: Storage, F: Folder, E: Sink, P: Watch>(
     }
 }
 
-/// Writes the files of an atlas into a folder: the pictures, the survey, and the page behind all others.
+/// Writes the files of an atlas into a folder: the pictures, the survey, and the page last.
 pub fn write_atlas<S: Storage, F: Folder, E: Sink, P: Watch>(
     alloc: Global,
     asked: &AtlasRequest<'_>,
@@ -182,7 +182,7 @@ fn write_index<F: Folder>(
     }
 }
 
-// Tells that a file of the folder can't be written, where that is why the run ends.
+// Reports that a file of the folder can't be written, if the run ends for that reason.
 fn tell_fault<E: Sink>(folder: &[u8], fault: AtlasFault, errors: &mut E) -> End
     ensures end { result ≡ fault_end fault }
     ensures told { TellsFault folder.now fault (E.state errors.old) (E.state errors.new) }
@@ -193,11 +193,11 @@ fn tell_fault<E: Sink>(folder: &[u8], fault: AtlasFault, errors: &mut E) -> End
     fault_end(fault)
 }
 
-// Tells that a file of the folder can't be written.
+// Reports that a file of the folder can't be written.
 fn tell_unwritten<E: Sink>(folder: &[u8], errors: &mut E)
     ensures { IsTold (E.state errors.old) (E.state errors.new) (folder_line folder.now write_text) }
 {
-    // Where standard error fails too, nobody is left to be told.
+    // If standard error fails too, the message is lost.
     if !errors.failed() {
         let _ = write_folder_line(folder, b"a file in it can't be written", errors);
     }

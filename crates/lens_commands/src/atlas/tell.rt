@@ -1,4 +1,4 @@
-//! What standard error is told of a folder.
+//! Messages about a folder on standard error.
 
 ghost use Rattle.std.specs.Prelude.{◌≡◌, ◌++◌, codes, false};
 ghost use Rattle.lens_commands.specs.AtlasTold.{fault_end, folder_line};

@@ -22,7 +22,7 @@ use wad_dir::Set;
 /// Which level is drawn, and how.
 #[derive(Clone, Copy, Debug)]
 pub struct PictureQuestion<'n> {
-    /// The level's name as it is asked for; it is looked up as the game does.
+    /// The level's name as the caller gives it; it is looked up as the game does.
     pub name: &'n [u8],
     pub reading: Reading,
     /// What of the level is drawn, and how finely.
@@ -43,7 +43,7 @@ pub fn draw_named<O: Write + Drop, E: Sink>(
     match set.find(Name8::query(question.name)) {
         Some(g) => draw_at(alloc, question, set, g, out, errors),
         None => {
-            // Where standard error fails too, nobody is left to be told.
+            // If standard error fails too, the message is lost.
             let _ = write_named(question.name, b"no level of this name\n", errors);
             Err(End::Refused)
         }
@@ -75,7 +75,7 @@ fn draw_at<O: Write + Drop, E: Sink>(
     }
 }
 
-// What is found of a level that isn't drawn, as `check` says it.
+// The verdict on a level that isn't drawn, the same as that of `check`.
 fn verdict_of_format(format: Format) -> Verdict
     ensures { result ≡ verdict_of_format format }
 {
@@ -105,7 +105,7 @@ fn draw_whole<O: Write + Drop, E: Sink>(
     }
 }
 
-// What is found of a level by whether it has a fault.
+// The verdict on a level, by whether it has a fault.
 fn drawn_verdict(faulty: bool) -> Verdict
     ensures { result ≡ drawn_verdict faulty }
 {

@@ -10,7 +10,8 @@ use level_starts::{Format, format_of, next_start};
 use std::alloc::Allocator;
 use wad_dir::Set;
 
-/// The format of the level whose label is an entry, where one starts there; and else it lacks its first lump.
+/// The format of the level whose label is an entry. If no level starts there, its first lump is the one that
+/// it lacks.
 pub fn format_at<A: Allocator>(set: &Set<'_, A>, g: usize) -> Format
     ensures format { IsFormatAt set.now g result }
     ensures lump { NamesLump result }

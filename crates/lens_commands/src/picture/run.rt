@@ -18,11 +18,11 @@ use std::alloc::Global;
 use std::io::Write;
 use wad_dir::{MAX_FILES, Set, SetFault};
 
-// As many bytes as all files of a set may have together.
+// The most bytes that the files of a set have together.
 const MOST: u64 = MAX_FILES as u64 * MAX_READ;
 
-/// Draws a level of the files under the paths, at most 64 of them, or tells why not, and answers what was found. At Ok nothing
-/// is held back.
+/// Draws a level of the files under the paths, at most 64 of them, or reports why not, and returns the verdict. On Ok the
+/// buffer is empty.
 pub fn run_picture<S: Storage, O: Write + Drop, E: Sink>(
     alloc: Global,
     question: &PictureQuestion<'_>,
@@ -48,7 +48,7 @@ pub fn run_picture<S: Storage, O: Write + Drop, E: Sink>(
     }
 }
 
-// Draws a level of the set of files, of which there is one for each path.
+// Draws a level of the set of files, one for each path.
 fn draw_files<O: Write + Drop, E: Sink>(
     alloc: Global,
     question: &PictureQuestion<'_>,

@@ -1,4 +1,4 @@
-//! What is told on standard error of a picture.
+//! Messages about a picture on standard error.
 
 ghost use Rattle.std.specs.Prelude.{◌≡◌, ◌<◌, ◌++◌, codes, false, length, map};
 ghost use Rattle.lens_commands.specs.PictureTold.{TellsRefused, name_head, named_line};
@@ -12,7 +12,7 @@ use lens_engines::{FileRefusal, write_format_alone, write_path};
 use level_starts::Format;
 use line_io::{IoFault, emit};
 
-/// Tells that the file of an index is refused, and why. Where standard error fails, nobody is left to be told.
+/// Reports that the file of an index is refused, and why. If standard error fails, the message is lost.
 pub fn tell_refused<E: Sink>(paths: &[&str], index: usize, refusal: FileRefusal, errors: &mut E)
     requires there { index < length paths.now }
     requires sound { (E.state errors.old).failed ≡ false }
@@ -21,7 +21,7 @@ pub fn tell_refused<E: Sink>(paths: &[&str], index: usize, refusal: FileRefusal,
     let _ = write_refusal(paths[index].as_bytes(), refusal, errors);
 }
 
-/// Writes what is told of a level, by the name that was asked for: `wadlens: NAME: TEXT`.
+/// Writes a message about a level, by the name that was asked for: `wadlens: NAME: TEXT`.
 pub fn write_named<E: Sink>(name: &[u8], text: &[u8], errors: &mut E) -> Result<(), IoFault>
     requires { (E.state errors.old).failed ≡ false }
     ensures { Writes (E.state errors.old) (E.state errors.new) (named_line name.now text.now) result }

@@ -3,7 +3,7 @@ use Rattle.std.specs.Prelude.{Bool, true, ◌&&◌, nat_lt}
 use Rattle.level_starts.specs.declared.format.Format.{Format}
 use Rattle.level_starts.specs.declared.format.Format.TheVariants.{Udmf, Incomplete, Hexen, Outside, Extended, Doom}
 
--- what tells it is one of the ten lumps
+-- the lump that decides it is one of the ten
 abbrev pub names_lump : Format → Bool
 names_lump Udmf = true
 names_lump (Incomplete k) = nat_lt 0 k && nat_lt k 11

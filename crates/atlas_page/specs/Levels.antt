@@ -1,4 +1,4 @@
--- The levels of a file as rows of the page (ours): what stands in each is exact.
+-- The levels of a file as rows of the page (ours). Each row is exact.
 use Rattle.std.specs.Prelude.{◌≡◌, ◌≢◌, ◌↔◌, ℕ, List, [], ◌∷◌, ◌++◌, All, IsTrue, Some, map}
 use Rattle.std.specs.List.{slice_get}
 use Rattle.le_rec.specs.declared.records.Vertex.{Vertex}
@@ -27,8 +27,7 @@ use Rattle.lens_engines.specs.declared.judging.Judging.{Judging}
 abbrev pub HasLines : Level → Type 0
 HasLines level = (v : Vertex) × IsEnd level v
 
--- what is told of a level of Doom's format: the counts are those of the audit and, where they are asked for, of its warnings, without
--- those that are ignored
+-- what was found at a level of Doom's format: the counts are those of the audit and, if they are asked for, of its warnings, without the ignored codes
 pub record IsJudged (files : List Wad) (judging : Judging) (g : ℕ) (judged : Judged) : Type 0 where
   pub level : Level
   pub there : IsLevelAt files g judging.reading level
@@ -37,7 +36,7 @@ pub record IsJudged (files : List Wad) (judging : Judging) (g : ℕ) (judged : J
   pub warned : CountsWarnings judging (known_files judging files) level judged.warned
   pub drawn : IsTrue judged.drawn ↔ HasLines level
 
--- what is told of the level that starts at an entry, by its format
+-- what was found at the level that starts at an entry, by its format
 abbrev pub FoundAt : List Wad → Judging → ℕ → Found → Type 0
 FoundAt files judging g (found.Judged judged) = IsFormat files g Doom × IsJudged files judging g judged
 FoundAt files judging g (found.Unjudged unjudged) = IsFormat files g unjudged.format × (unjudged.format ≢ Doom)

@@ -54,6 +54,6 @@ body_parts rows refused =
 abbrev pub page_parts : ℕ → Warnings → List Row → List Refused → List (List ℕ)
 page_parts files warnings rows refused = joined (head_parts files warnings (totals_of_rows rows)) ∷ joined (body_parts rows refused) ∷ []
 
--- the page of so many files with these levels, whose warnings are asked for so, some of the files refused
+-- the page of so many files with these levels and refused files, with warnings as they were asked for
 abbrev pub page_text : ℕ → Warnings → List Row → List Refused → List ℕ
 page_text files warnings rows refused = joined (page_parts files warnings rows refused)

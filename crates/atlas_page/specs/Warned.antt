@@ -30,7 +30,7 @@ counted all = record {
   total = warned_total all;
 }
 
--- those of a level, whose textures and flats are those of some files where these are known, where they are asked for so
+-- those of a level, as they are asked for; the level's textures and flats are those of some files, if these are known
 pub record CountsWarnings (judging : Judging) (files : Option (List Wad)) (level : Level) (counts : WarningCounts) : Type 0 where
   pub all : List Warned
   pub asked : AreAskedFor judging files level 0 all

@@ -30,9 +30,9 @@ pub struct Origin<'p, 'b> {
     pub judging: Judging<'b>,
 }
 
-/// Adds a row for each level of a set, in the order of their labels, as one of the origin's file. Its textures and flats are known
-/// where warnings are looked for. What judging a level takes is given back before the next one. At an Err the rows of the first levels
-/// were added, and not those of all.
+/// Adds a row for each level of a set, in the order of their labels, as one of the origin's file. The set's textures and flats
+/// are known if warnings are looked for. The memory for a level is freed before the next one. On Err the rows of the first levels
+/// were added, but not all rows.
 pub fn push_rows<'p, A: Allocator + Copy, B: Allocator>(
     alloc: A,
     origin: &Origin<'p, '_>,
@@ -95,7 +95,7 @@ fn row_at<'p, A: Allocator + Copy>(
     })
 }
 
-// What is told of the level that starts at an entry.
+// What was found at the level that starts at an entry.
 fn found_at<A: Allocator + Copy>(
     alloc: A,
     set: &Set<'_, A>,
@@ -116,7 +116,7 @@ fn found_at<A: Allocator + Copy>(
     }
 }
 
-// What is told of a level of Doom's format.
+// What was found at a level of Doom's format.
 fn judged_at<A: Allocator + Copy>(
     alloc: A,
     set: &Set<'_, A>,

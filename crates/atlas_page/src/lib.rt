@@ -1,4 +1,5 @@
-//! An archive as a page: its levels in rows, with their pictures, their counts and what was found at them.
+//! The levels of many files as a page: a row for each level, with its picture, its counts and what was
+//! found.
 #![tactic(auto)]
 
 mod items;

@@ -16,12 +16,12 @@ use lens_engines::{Totals, Warnings};
 use line_io::{IoFault, TextLine, emit};
 use map_picture::parts::{Parts, write_parts};
 
-/// What a page tells.
+/// What a page shows.
 #[derive(Clone, Copy)]
 pub struct Page<'r, 'p> {
     /// How many files there are, the refused ones too.
     pub files: u64,
-    /// How warnings were asked for.
+    /// Whether warnings were asked for, and how grave they are.
     pub warnings: Warnings,
     /// Their levels, in order.
     pub rows: &'r [Row<'p>],
@@ -29,7 +29,7 @@ pub struct Page<'r, 'p> {
     pub refused: &'r [Refused<'p>],
 }
 
-// What all levels add up to.
+// The totals of all levels.
 fn totals_of(rows: &[Row<'_>]) -> Totals
     ensures { result ≡ totals_of_rows rows.now }
 {
@@ -62,7 +62,7 @@ fn prepend_title(line: &mut TextLine, files: u64, totals: &Totals)
     line.prepend_bytes(b"<title>Atlas: ");
 }
 
-// What levels and files add up to.
+// The totals of the page.
 #[derive(Drop)]
 struct TotalItems {
     files: u64,
@@ -201,7 +201,8 @@ fn write_head<W: Sink>(page: &Page<'_, '_>, out: &mut W) -> Result<(), IoFault>
     write_parts(&HeadParts { items }, out)
 }
 
-/// Writes the page of an atlas. `Write` where the sink fails: a front of the text was taken. It takes no memory.
+/// Writes the page of an atlas. It takes no memory. `Write` comes if the sink fails; a front of the text was
+/// taken.
 pub fn write_page<W: Sink>(page: &Page<'_, '_>, out: &mut W) -> Result<(), IoFault>
     requires { (W.state out.old).failed ≡ false }
     ensures { Writes (W.state out.old) (W.state out.new) (page_text page.now.files page.now.warnings page.now.rows.now page.now.refused.now) result }

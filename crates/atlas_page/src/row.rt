@@ -1,4 +1,4 @@
-//! What the page tells of a level.
+//! What the page shows of a level.
 
 ghost use Rattle.std.specs.Prelude.{◌≡◌};
 ghost use Rattle.atlas_page.specs.Rows.{format_of, is_drawn, is_faulty, tells_fault, totals_of};
@@ -27,7 +27,7 @@ pub struct Judged {
 pub enum Found {
     /// It was judged.
     Judged(Judged),
-    /// It wasn't.
+    /// A level that wasn't.
     Unjudged(Unjudged),
 }
 

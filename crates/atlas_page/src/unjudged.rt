@@ -14,7 +14,7 @@ pub struct Unjudged {
 }
 
 impl Unjudged {
-    /// A level of a format that tells one of the ten lumps, where it tells any.
+    /// A level of this format. If the format has a lump's number, it is one of the ten.
     pub fn new(format: Format) -> Unjudged
         requires { NamesLump format }
         ensures { result.format ≡ format }

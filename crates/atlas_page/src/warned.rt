@@ -13,7 +13,7 @@ use map_picture::parts::{Parts, write_parts};
 use map_warnings::Resources;
 use std::alloc::{AllocError, Allocator};
 
-/// How many warnings of each code a level has: none, where they aren't looked for.
+/// How many warnings of each code a level has; 0 if they aren't looked for.
 #[derive(Clone, Copy, Debug, PartialEq, Eq)]
 pub struct WarningCounts {
     pub w1: u64,
@@ -32,7 +32,7 @@ pub struct WarningCounts {
 }
 
 impl WarningCounts {
-    /// Those of a level where they are asked for so. No warning is kept.
+    /// Those of a level, as they are asked for. No warning is kept.
     pub fn of<A: Allocator + Copy>(
         alloc: A,
         level: &Level<'_>,
@@ -76,7 +76,7 @@ fn count_at<A: Allocator>(all: &[Warned<A>], rank: usize) -> u64
     }
 }
 
-// The items of all codes, empty where there are none of a code.
+// The items of all codes, each empty if there are none of its code.
 #[derive(Drop)]
 struct WarningItems<'c> {
     counts: &'c WarningCounts,

@@ -15,6 +15,6 @@ shade light = 40 + cut_light light * 140 / 255
 abbrev pub hex_text : ℕ → List ℕ → List ℕ
 hex_text n rest = hex_digit (n / 16) ∷ hex_digit (n % 16) ∷ rest
 
--- red, green and blue, of which there are 20 more, before other bytes
+-- red, green and blue, with 20 more of the blue, before other bytes
 unfoldable pub grey : ℤ → List ℕ → List ℕ
 grey light rest = hex_text (shade light) (hex_text (shade light) (hex_text (shade light + 20) rest))

@@ -2,6 +2,6 @@
 use Rattle.std.specs.Prelude.{ℕ, List}
 use Rattle.map_picture.specs.Escape.{StandsFor, escaped}
 
--- what is written for bytes has no markup, and a reader takes it for them
+-- escaped bytes have no markup, and a reader takes them for the bytes
 abbrev pub EscapedStandsFor : Type 0
 EscapedStandsFor = (bytes : List ℕ) → StandsFor (escaped bytes) bytes

@@ -1,4 +1,4 @@
-//! A level drawn: its frame, its findings and what its cells show are found here.
+//! Draws a level: finds its frame, its findings and what its cells show.
 
 ghost use Rattle.std.specs.Prelude.{◌≡◌, ◌↔◌, ◌≤◌, ◌<◌, [], false, Some, None, Err, IsTrue, IfOk, IfErr, IfSome, OnOk, length};
 ghost use Rattle.map_audit.specs.Findings.{AuditHolds};
@@ -24,7 +24,7 @@ use thiserror::Error;
 /// What of a level is drawn, and how finely.
 #[derive(Clone, Copy, Debug, PartialEq, Eq)]
 pub struct View {
-    /// The part that is drawn in cells; where there is none, that of the level's linedefs.
+    /// The part that is drawn in cells; None for that of the level's linedefs.
     pub frame: Option<Frame>,
     /// How many cells the frame's longer side has at most.
     pub cells: CellCount,
@@ -71,9 +71,9 @@ impl From<AllocError> for DrawFault {
     }
 }
 
-/// Writes the picture of a level, and answers whether the level has a fault: then it is drawn without cells. `NothingToDraw`
-/// and `Memory` come before anything is written. It takes the level's findings, and where there is no fault at most twelve bytes
-/// a cell, ten a seg and some hundred a sector.
+/// Writes the picture of a level, and returns whether the level has a fault. With a fault it is drawn without cells.
+/// `NothingToDraw` and `Memory` come before anything is written. It takes memory for the level's findings. Without a fault it
+/// takes besides at most twelve bytes a cell, ten a seg and some hundred a sector.
 pub fn draw_level<A: Allocator + Copy, W: Sink>(
     alloc: A,
     level: &Level<'_>,

@@ -118,7 +118,7 @@ pub fn write_style<W: Sink>(out: &mut W) -> Result<(), IoFault>
     emit(out, STYLE)
 }
 
-/// Writes the ground, all of what is seen.
+/// Writes the ground, which fills all of the picture.
 pub fn write_ground<W: Sink>(window: &Window, out: &mut W) -> Result<(), IoFault>
     requires { (W.state out.old).failed ≡ false }
     ensures { Writes (W.state out.old) (W.state out.new) (ground_line window.now) result }

@@ -2,8 +2,8 @@
 
 ghost use Rattle.map_picture.specs.Laws as law;
 
-/// What is written for bytes is text without markup, which a reader takes for those bytes: the name of a stranger's file
-/// makes no markup.
+/// Escaped bytes are text without markup, and a reader takes it for those bytes. So a name in a foreign file makes no
+/// markup.
 pub fn escaped_stands_for()
     ensures { law.EscapedStandsFor }
 {}

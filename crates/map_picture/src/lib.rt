@@ -1,4 +1,4 @@
-//! A picture of a level: what of it shows which sector, its linedefs, its findings and its things, as the text of an SVG.
+//! A picture of a level as the text of an SVG: which sector is shown where, the linedefs, the findings and the things.
 #![tactic(auto)]
 
 mod draw;

@@ -25,7 +25,7 @@ use std::alloc::Allocator;
 /// What is drawn besides a level's own lines.
 #[derive(Clone, Copy)]
 pub struct Drawn<'p, 'b> {
-    /// What of the map is drawn in cells.
+    /// The part of the map that is drawn in cells.
     pub frame: Frame,
     /// How many map units a cell is wide and high.
     pub size: u32,
@@ -116,7 +116,7 @@ fn write_end<W: Sink>(out: &mut W) -> Result<(), IoFault>
     emit(out, b"</g></svg>\n")
 }
 
-// Writes the line of what is seen.
+// Writes the line of the window.
 fn write_view<W: Sink>(frame: Frame, out: &mut W) -> Result<(), IoFault>
     requires { (W.state out.old).failed ≡ false }
     ensures { Writes (W.state out.old) (W.state out.new) (svg_line (window_of frame)) result }
@@ -125,7 +125,7 @@ fn write_view<W: Sink>(frame: Frame, out: &mut W) -> Result<(), IoFault>
     write_svg(&window, out)
 }
 
-// Writes the ground of what is seen.
+// Writes the ground of the window.
 fn write_backdrop<W: Sink>(frame: Frame, out: &mut W) -> Result<(), IoFault>
     requires { (W.state out.old).failed ≡ false }
     ensures { Writes (W.state out.old) (W.state out.new) (ground_line (window_of frame)) result }
@@ -134,7 +134,7 @@ fn write_backdrop<W: Sink>(frame: Frame, out: &mut W) -> Result<(), IoFault>
     write_ground(&window, out)
 }
 
-// Writes the line that the sectors stand behind.
+// Writes the line before those of the sectors.
 fn write_cells<W: Sink>(frame: Frame, size: u32, out: &mut W) -> Result<(), IoFault>
     requires { (W.state out.old).failed ≡ false }
     ensures { Writes (W.state out.old) (W.state out.new) (cells_line frame size) result }

@@ -1,4 +1,4 @@
-//! What of the map a picture shows.
+//! The part of the map that a picture shows.
 
 ghost use Rattle.std.specs.Prelude.{◌≡◌, ◌+ℤ◌, ◌-ℤ◌, pos};
 
@@ -7,7 +7,7 @@ use map_cells::Frame;
 // How far a picture goes beyond the frame, in map units.
 const MARGIN: i32 = 32;
 
-/// What of the map a picture shows, in an SVG's units: map units, of which y goes down.
+/// The part of the map that a picture shows, in an SVG's units: map units, but y goes down.
 #[derive(Clone, Copy, Debug, PartialEq, Eq)]
 pub struct Window {
     pub left: i32,
@@ -16,7 +16,7 @@ pub struct Window {
     pub height: i32,
 }
 
-/// What is shown where a frame is drawn.
+/// What a picture shows for a frame.
 pub fn window_of(frame: Frame) -> Window
     ensures left { result.left ≡ frame.x0 -ℤ pos 32 }
     ensures top { result.top ≡ (pos 0 -ℤ frame.y1) -ℤ pos 32 }
@@ -31,7 +31,7 @@ pub fn window_of(frame: Frame) -> Window
     }
 }
 
-// Where a picture begins that goes up to a row of the map.
+// The top of a picture that goes up to a row of the map.
 fn top(row: i16) -> i32
     ensures { result ≡ (pos 0 -ℤ row) -ℤ pos 32 }
 {

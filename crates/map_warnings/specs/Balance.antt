@@ -28,7 +28,7 @@ abbrev pub HasBalance : List ℕ → ℕ → Type 0
 HasBalance counts n =
     let vertex = end_in n / 2 in slice_index_or counts (vertex * 2) 0 ≡ slice_index_or counts (vertex * 2 + 1) 0
 
--- of each pair of a sector and a vertex as many sides that leave as reach are among the numbers
+-- for each pair of a sector and a vertex, the numbers have as many sides that leave as reach
 abbrev pub AreBalanced : List ℕ → Type 0
 AreBalanced numbers = (pair : ℕ) → count_by (λ n. n == pair * 2) numbers ≡ count_by (λ n. n == pair * 2 + 1) numbers
 

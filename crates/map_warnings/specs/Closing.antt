@@ -33,6 +33,6 @@ leaving level s v = count_by (λ run. (run.sector == s) && (run.from == v)) (run
 abbrev pub reaching : Level → ℕ → ℕ → ℕ
 reaching level s v = count_by (λ run. (run.sector == s) && (run.to == v)) (runs_of level)
 
--- a sector isn't closed at a vertex: of its sides not as many leave it as reach it
+-- a sector isn't closed at a vertex: the number of its sides that leave the vertex isn't that of those that reach it
 abbrev pub IsUnclosed : Level → ℕ → ℕ → Type 0
 IsUnclosed level s v = leaving level s v ≢ reaching level s v

@@ -24,7 +24,7 @@ pub record Mismatch (level : Level) (first count : ℤ) (one other : ℕ) : Type
   pub here : faced_by level first count k ≡ Some other
   pub differ : other ≢ one
 
--- an ssector's segs face the sector of the first and, as the first of the others, another
+-- an ssector's segs face the sector of the first one, and another; this is the first other one
 abbrev pub IsMismatched : Level → ℕ → ℕ → ℕ → Type 0
 IsMismatched level t one other =
     IsSomeAnd (slice_get (ssectors_of level) t) (λ ssector. Mismatch level ssector.first ssector.count one other)

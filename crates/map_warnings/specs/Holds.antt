@@ -21,7 +21,7 @@ use Rattle.map_warnings.specs.declared.warning.Warning.TheVariants.{Unclosed, Ba
 use Rattle.map_warnings.specs.declared.warning.WarningCode.{WarningCode}
 use Rattle.map_warnings.specs.declared.warning.WarningCode.TheVariants.{W3, W5, W9, W10}
 
--- a warning holds of a level, whose textures and flats are those of some files where these are known
+-- a warning holds of a level; the level's textures and flats are those of some files, if these are known
 abbrev pub Holds : Option (List Wad) → Level → Warning → Type 0
 Holds files level (Unclosed sector vertex) = IsUnclosed level sector vertex
 Holds files level (Bare linedef side part) = IsBare level linedef side part
@@ -43,8 +43,8 @@ HoldsIn files level code w = (code_of w ≡ code) × Holds files level w
 abbrev pub HoldsOf : Level → WarningCode → Warning → Type 0
 HoldsOf level code w = HoldsIn None level code w
 
--- whether warnings of a code are looked for: where the references hold, and those that want to know which ssector is where in a
--- sound level alone; those of textures and flats where these are known
+-- whether warnings of a code are looked for: if the references hold; those that need to know which ssector is where, only in a sound level; those of
+-- textures and flats, only if these are known
 abbrev pub IsLookedFor : Option (List Wad) → Level → WarningCode → Type 0
 IsLookedFor files level W3 = IsSound level
 IsLookedFor files level W5 = IsSound level
@@ -52,6 +52,6 @@ IsLookedFor files level W9 = HasReferences level × IsSomeAnd files HasTextures
 IsLookedFor files level W10 = HasReferences level × IsSomeAnd files HasFlats
 IsLookedFor files level code = HasReferences level
 
--- a warning of a code is told of a level
+-- a warning of a code is reported for a level
 abbrev pub IsWarning : Option (List Wad) → Level → WarningCode → Warning → Type 0
 IsWarning files level code w = IsLookedFor files level code × HoldsIn files level code w

@@ -20,14 +20,14 @@ use Rattle.map_warnings.specs.declared.warning.WarningCode.TheVariants.{W1, W3}
 abbrev pub ClosedIsBalanced : Type 0
 ClosedIsBalanced = (level : Level) → ((w : Warning) → ¬ HoldsOf level W1 w) → (s v : ℕ) → leaving level s v ≡ reaching level s v
 
--- in a sound level W3 is told of a thing exactly where its place can be asked for and no sector is shown there
+-- in a sound level, W3 warns of a thing exactly if its place is in range and no sector is shown there
 abbrev pub VoidShowsNoSector : Type 0
 VoidShowsNoSector =
     (files : Option (List Wad)) (level : Level) (k : ℕ) (thing : Thing) (shown : Option ℕ) → IsSound level → slice_get (things_of level) k ≡ Some thing
     → ((s : ℕ) → (shown ≡ Some s) ↔ IsShown level thing.x thing.y s)
     → IsWarning files level W3 (InVoid k) ↔ (IsInRange thing.x × IsInRange thing.y × (shown ≡ None))
 
--- a thing stands at the point of a grid's cell, and its place can be asked for
+-- a thing is at the point of a grid's cell, and its place is in range
 pub record StandsAtCell (grid : Grid) (i j : ℕ) (thing : Thing) : Type 0 where
   pub column : i < columns_of grid
   pub row : j < rows_of grid
@@ -36,7 +36,7 @@ pub record StandsAtCell (grid : Grid) (i j : ℕ) (thing : Thing) : Type 0 where
   pub x_in_range : IsInRange thing.x
   pub y_in_range : IsInRange thing.y
 
--- so of one at the point of a picture's cell exactly where the cell is empty
+-- W3 warns of a thing at the point of a picture's cell exactly if the cell is empty
 abbrev pub VoidIsAnEmptyCell : Type 0
 VoidIsAnEmptyCell =
     (files : Option (List Wad)) (level : Level) (cells : Cells) (k i j : ℕ) (thing : Thing) → IsSound level → AreCells level cells

@@ -25,7 +25,7 @@ AreNumbers is numbers = (number : ℕ) → Contains numbers number ↔ IsNumberO
 abbrev pub AddsNames : (List ℕ → Type 0) → List ℕ → List ℕ → Type 0
 AddsNames is before after = (number : ℕ) → Contains after number ↔ (Contains before number ⊎ IsNumberOf is number)
 
--- the names of a kind are known by their numbers exactly where that is wanted
+-- the names of a kind are known, by their numbers, exactly if they are to be
 abbrev pub AreKnown : Type 0 → (List ℕ → Type 0) → Option (List ℕ) → Type 0
 AreKnown wanted is (Some numbers) = wanted × AreNumbers is numbers
 AreKnown wanted is None = ¬ wanted

@@ -1,4 +1,4 @@
--- Levels all of whose references hold, which is what most warnings want (ours).
+-- Levels all of whose references hold (ours). Most warnings need this.
 use Rattle.std.specs.Prelude.{ℕ}
 use Rattle.map_level.specs.Level.{Level}
 use Rattle.map_level.specs.LinkFaults.{LinkHolds}

@@ -1,4 +1,4 @@
--- Numbers for the sides of a level, which in order stand by sector and vertex (ours).
+-- Numbers for the sides of a level, which sorted are in the order of sector and vertex (ours).
 use Rattle.std.specs.Prelude.{◌≡◌, ℕ, ◌+◌, ◌-◌, ◌*◌, ◌/◌, ◌^◌, ◌<◌, ◌==◌, List, [], ◌∷◌, ◌++◌, All, count_by, slice_index_or, if◌then◌else◌}
 use Rattle.std.specs.List.Sorted.{IsNonDecreasing}
 use Rattle.map_level.specs.Level.{Level}

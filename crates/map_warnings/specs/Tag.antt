@@ -1,4 +1,4 @@
--- W4: linedefs that act on sectors of a tag that none has (P_FindSectorFromLineTag of p_spec.c).
+-- W4: linedefs that act on sectors by a tag that no sector has (P_FindSectorFromLineTag of p_spec.c).
 use Rattle.std.specs.Prelude.{◌≡◌, ◌≢◌, ◌↔◌, ℕ, ℤ, pos, Bool, false, List, length, FitsSigned, IsSomeAnd, IsTrue, slice_index_or}
 use Rattle.std.specs.Int.{cast_unsigned, w16}
 use Rattle.std.specs.List.{slice_get}

@@ -6,7 +6,7 @@ use Rattle.map_geo.specs.Point.{IsInRange}
 use Rattle.map_level.specs.Level.{Level}
 use Rattle.map_level.specs.Links.{things_of}
 
--- a point can be asked for, and a picture shows no sector there
+-- a point is in range, and a picture shows no sector there
 pub record ShowsNothing (level : Level) (x y : ℤ) : Type 0 where
   pub column : IsInRange x
   pub row : IsInRange y

@@ -1,4 +1,4 @@
--- Warnings, and the order in which they are told (ours).
+-- Warnings, and their order in a report (ours).
 use Rattle.std.specs.Prelude.{◌≡◌, ℕ, ◌+◌, ◌-◌, ◌*◌, ◌^◌, ◌<◌, List, [], ◌∷◌, ◌++◌, length, take, min, nat_lt, if◌then◌else◌}
 use Rattle.map_level.specs.Findings.{AreAllInOrder}
 use Rattle.map_warnings.specs.declared.warning.Side.{Side}
@@ -48,7 +48,7 @@ abbrev pub plane_number : Plane → ℕ
 plane_number Floor = 0
 plane_number Ceiling = 1
 
--- where a warning stands among those of its code: by the record, then by side and part or by plane; what can hold only once stands at 0
+-- where a warning is among those of its code: by the record, then by side and part or by plane; 0 for what can hold only once
 abbrev pub rank : Warning → ℕ
 rank (Unclosed sector vertex) = sector * 65536 + vertex
 rank (Bare linedef side part) = linedef * 6 + side_number side * 3 + part_number part
@@ -77,13 +77,13 @@ pub record IsCut (all : List Warning) (cut : Cut) : Type 0 where
   pub first : cut.first ≡ take cut.most all
   pub count : cut.count ≡ min (length all) (2 ^ 64 - 1)
 
--- of the warnings that hold, so many as a cut has, and how many there are
+-- the report on the warnings that hold: as many as a cut has, and how many there are
 pub record Tells (holds : Warning → Type 0) (cut : Cut) : Type 0 where
   pub all : List Warning
   pub are : AreWarnings holds all
   pub is : IsCut all cut
 
--- of those that hold and stand below a number
+-- the report on those that hold and are below a number
 abbrev pub TellsBelow : (Warning → Type 0) → ℕ → Cut → Type 0
 TellsBelow holds bound cut = Tells (λ w. holds w × (rank w < bound)) cut
 

@@ -1,4 +1,4 @@
-//! Whether numbers are apart, told in linear time, without an order of them.
+//! Whether all of some numbers differ, found in linear time, without sorting them.
 
 ghost use Rattle.std.specs.Prelude.{◌≡◌, ◌≢◌, ◌+◌, ◌^◌, ◌<◌, All, IfOk, IsTrue, drop, length, slice_index};
 ghost use Rattle.map_warnings.specs.EndsKey.{AreApart};
@@ -12,13 +12,14 @@ const BUCKETS: usize = 4096;
 /// Fewer numbers than this are sooner put in order than all buckets are filled.
 const FEWEST: usize = 128;
 
-/// And so are more than this, of which a bucket has too many to be looked through.
+/// So are more numbers than this, as their buckets are too full to look through.
 const MOST: usize = 2 * BUCKETS;
 
-/// How many numbers of a bucket are looked at for one, so that no bucket takes long.
+/// The most numbers of a bucket that one number is compared with, so that no bucket takes long.
 const MOST_OF_A_BUCKET: usize = 16;
 
-/// Whether no number stands twice. It may answer false of others, too: of those that are sooner put in order, and where a bucket has many.
+/// Whether all of the numbers differ. It may return false for other numbers, too: for so few or so many that they are sooner
+/// sorted, and if a bucket has many.
 pub fn are_surely_apart<A: Allocator + Copy>(alloc: A, numbers: &[u64]) -> Result<bool, AllocError>
     ensures { IfOk result (λ apart. IsTrue apart → AreApart numbers.now) }
 {
@@ -30,7 +31,7 @@ pub fn are_surely_apart<A: Allocator + Copy>(alloc: A, numbers: &[u64]) -> Resul
     Ok(are_new(numbers, &mut firsts, &mut next))
 }
 
-// Whether each number, from the last to the first, is none of those behind it. Each is linked to the next one of its bucket.
+// Whether each number, from the last to the first, differs from those after it. Each is linked to the next one of its bucket.
 fn are_new(numbers: &[u64], firsts: &mut [u32], next: &mut [u32]) -> bool
     requires few { length numbers.now < 2 ^ 32 }
     requires none { AreLinks bucket_in numbers.now 4096 (length numbers.now) firsts.old next.old }
@@ -47,7 +48,7 @@ fn are_new(numbers: &[u64], firsts: &mut [u32], next: &mut [u32]) -> bool
     true
 }
 
-// Whether a number is none of those behind it in its bucket. It may answer false where these are many.
+// Whether a number differs from those after it in its bucket. It may return false if these are many.
 fn is_new(numbers: &[u64], firsts: &[u32], next: &[u32], i: usize, bucket: usize) -> bool
     requires links { AreLinks bucket_in numbers.now 4096 (i + 1) firsts.now next.now }
     requires within { i < length numbers.now }

@@ -1,4 +1,5 @@
-//! Whether as many sides leave each vertex of each sector as reach it, told in linear time, without an order of the sides.
+//! Whether each vertex of each sector has as many sides that leave it as reach it, found in linear time, without sorting the
+//! sides.
 
 ghost use Rattle.std.specs.Prelude.{◌≡◌, ◌+◌, ◌*◌, ◌%◌, ◌^◌, ◌<◌, ◌≤◌, ◌↔◌, ℕ, All, IfOk, IsTrue, length, slice_index_or};
 ghost use Rattle.map_warnings.specs.KeyLinks.{AreLinks, of_key};
@@ -7,11 +8,11 @@ ghost use Rattle.map_warnings.specs.Balance.{AreBalanced, CountEnds, HasBalance,
 use crate::sector_links::{SectorLinks, end_in, links_of, sector_in};
 use std::alloc::{AllocError, Allocator};
 
-/// More numbers than this, those of 65,536 sides, are sooner put in order: what counts them goes all over memory.
+/// More numbers than this, those of 65,536 sides, are sooner sorted: counting them goes all over memory.
 const MOST: usize = 2 * 65536;
 
-/// Whether the numbers of sides are balanced, of so many sectors and vertexes at most. It may answer false of balanced ones, too, where they
-/// are more than are counted.
+/// Whether the numbers of sides are balanced; `sectors` and `vertexes` are above all of theirs. It may return false for balanced
+/// ones, too, if they are too many to be counted.
 pub fn are_balanced<A: Allocator + Copy>(
     alloc: A,
     numbers: &[u64],
@@ -23,7 +24,7 @@ pub fn are_balanced<A: Allocator + Copy>(
     requires few { vertexes ≤ 65536 }
     ensures { IfOk result (λ balanced. IsTrue balanced → AreBalanced numbers.now) }
 {
-    // Most of those that aren't balanced are told by their squares, and cost no counting.
+    // The squares show most that aren't balanced, without any counting.
     if numbers.len() > MOST || !have_same_squares(numbers) {
         return Ok(false);
     }
@@ -32,8 +33,8 @@ pub fn are_balanced<A: Allocator + Copy>(
     Ok(are_sectors_balanced(&mut counts, numbers, &links, sectors))
 }
 
-// Whether the squares of the numbers that tell of sides that reach a vertex add up to those of the sides that leave one, as those of balanced
-// numbers do.
+// Whether two sums are equal, as they are for balanced numbers: the squares of the numbers for sides that reach a vertex, and of
+// those for sides that leave one.
 fn have_same_squares(numbers: &[u64]) -> bool
     ensures { IsTrue result ↔ (squares_in 0 numbers.now ≡ squares_in 1 numbers.now) }
 {
@@ -46,7 +47,7 @@ fn have_same_squares(numbers: &[u64]) -> bool
     reached == left
 }
 
-// The square of a number's sector and vertex, where the number is of such an end.
+// The square of a number's sector and vertex, if the number is for this end, else 0.
 #[inline]
 fn square_in(end: u64, number: u64) -> u64
     ensures value { result ≡ square_in end number }
@@ -61,8 +62,8 @@ fn square_in(end: u64, number: u64) -> u64
     }
 }
 
-// The same sector by sector, with counts of no number yet. They go on from one sector to the next: where those before are balanced, what
-// differs is of this one.
+// The same, sector by sector, with counts that begin at 0. The counts go on from one sector to the next: if the sectors before
+// are balanced, any difference is this one's.
 fn are_sectors_balanced<A: Allocator>(
     counts: &mut [u32],
     numbers: &[u64],
@@ -87,7 +88,7 @@ fn are_sectors_balanced<A: Allocator>(
     true
 }
 
-// Counts the ends of a sector's numbers beside those before, and answers whether the counts fit.
+// Adds the ends of a sector's numbers to the counts, and returns whether the counts fit.
 fn count_sector<A: Allocator>(
     counts: &mut [u32],
     numbers: &[u64],
@@ -113,7 +114,7 @@ fn count_sector<A: Allocator>(
     true
 }
 
-// Whether the vertexes of a sector's numbers have as many that leave them as reach them.
+// Whether each vertex of a sector's numbers has as many that leave it as reach it.
 fn is_sector_balanced<A: Allocator>(
     counts: &[u32],
     numbers: &[u64],
@@ -136,7 +137,7 @@ fn is_sector_balanced<A: Allocator>(
     true
 }
 
-// Whether as many leave the vertex of a number as reach it.
+// Whether the vertex of a number has as many that leave it as reach it.
 #[inline]
 fn has_balance(counts: &[u32], number: u64) -> bool
     requires end { end_in number < length counts.now }

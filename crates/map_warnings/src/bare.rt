@@ -36,7 +36,7 @@ pub fn bare_walls<A: Allocator>(
     Ok(told)
 }
 
-// Tells the bare parts of a linedef.
+// Adds the bare parts of a linedef.
 fn tell_linedef<A: Allocator>(
     told: &mut Told<A>,
     level: &Level<'_>,
@@ -52,7 +52,7 @@ fn tell_linedef<A: Allocator>(
     tell_side(told, level, i, Side::Back, bare.back)
 }
 
-// Tells the bare parts of a linedef's side.
+// Adds the bare parts of a linedef's side.
 fn tell_side<A: Allocator>(
     told: &mut Told<A>,
     level: &Level<'_>,
@@ -73,7 +73,7 @@ fn tell_side<A: Allocator>(
     tell_part(told, level, i, side, Part::Lower, bare.lower)
 }
 
-// Tells that a part of a linedef's side is bare, where it is.
+// Adds a part of a linedef's side, if it is bare.
 fn tell_part<A: Allocator>(
     told: &mut Told<A>,
     level: &Level<'_>,
@@ -140,7 +140,7 @@ fn bare_sides(level: &Level<'_>, i: u32) -> BareSides
     }
 }
 
-// The same of a linedef that is there: each of its sidedefs and its sector are read once, for their own side and for the one behind.
+// The same for a linedef that is there. Each of its sidedefs and their sectors are read once, for both sides.
 fn sides_of_linedef(level: &Level<'_>, linedef: &LineDef) -> BareSides
     ensures front_middle { IsTrue result.front.middle
         ↔ IsBareOf level.now (linedef_under level.now.reading linedef.now) side.Front part.Middle }
@@ -295,7 +295,7 @@ fn shows_lower(here: &Sector, there: &Sector) -> bool
     here.floor < there.floor
 }
 
-// Of most sidedefs the first byte tells that there is one.
+// For most sidedefs, the first byte shows that there is one.
 #[inline]
 fn is_no_texture(bytes: [u8; 8]) -> bool
     ensures { IsTrue result ↔ IsNoTexture bytes }

@@ -26,7 +26,8 @@ use map_tree::is_sound;
 use std::alloc::{AllocError, Allocator};
 use std::marker::Model;
 
-/// A level whose warnings are asked for. It lends the level, and has found out whether its references hold and whether it is sound.
+/// A level whose warnings are asked for. It borrows the level, and knows whether the level's references hold and whether it is
+/// sound.
 #[derive(Drop)]
 pub struct Checks<'l, 'a> {
     level: &'l Level<'a>,
@@ -52,7 +53,7 @@ impl<'l, 'a> Checks<'l, 'a> {
     ghost use Rattle.map_tree.specs.Sound.{IsSound};
     ghost use Rattle.map_warnings.specs.Holds.{IsWarning};
 
-    /// A level, whose references and nodes are looked over.
+    /// The checks of a level. Its references and its nodes are looked over.
     pub fn of<A: Allocator + Copy>(
         alloc: A,
         level: &'l Level<'a>,
@@ -67,7 +68,7 @@ impl<'l, 'a> Checks<'l, 'a> {
         })
     }
 
-    /// A sound level, as `is_sound` tells it: it is looked over no more.
+    /// The checks of a sound level, by `is_sound`. It isn't looked over again.
     pub fn of_sound(level: &'l Level<'a>) -> Checks<'l, 'a>
         requires { IsSound level.now }
         ensures { result ≡ level.now }
@@ -87,8 +88,8 @@ impl<'l, 'a> Checks<'l, 'a> {
         self.level
     }
 
-    /// Whether warnings of a code are looked for: W3 and W5 in a sound level, and the others where its references hold; W9 and W10
-    /// where the textures and the flats of its files are known besides.
+    /// Whether warnings of a code are looked for. W3 and W5 are in a sound level, the others in one whose references hold. W9 and
+    /// W10 also need the textures and the flats of the level's files to be known.
     pub fn looks_for<A: Allocator>(
         &self,
         code: WarningCode,
@@ -132,7 +133,7 @@ impl<'l, 'a> Checks<'l, 'a> {
     }
 }
 
-// Whether the references of a level hold, where it's known whether it is sound: a sound level has no fault.
+// Whether the references of a level hold. A sound level has no fault, so it isn't looked over.
 fn references_hold(level: &Level<'_>, is_sound: bool) -> bool
     requires { IsTrue is_sound → IsSound level.now }
     ensures { IsTrue result ↔ HasReferences level.now }

@@ -16,7 +16,7 @@ use le_rec::LineDef;
 use map_level::{Level, number};
 use std::alloc::{AllocError, Allocator};
 
-/// A side of a linedef in the sector that it faces, from the vertex that it leaves to the one that it reaches.
+/// A side of a linedef, in the sector that it faces. It leaves one vertex and reaches another.
 #[derive(Clone, Copy, Debug, PartialEq, Eq)]
 pub struct SideRun {
     pub sector: u32,
@@ -24,11 +24,12 @@ pub struct SideRun {
     pub to: u32,
 }
 
-/// Fewer numbers than this are sooner put in order than counted.
+/// Fewer numbers than this are sooner sorted than counted.
 const FEWEST_COUNTED: usize = 128;
 
-/// W1 of a level: the vertexes of its sectors that not as many sides leave as reach. It takes 24 bytes a side, and up to 40, and while
-/// it looks for a sector that isn't closed four bytes a sector and eight a vertex.
+/// W1 of a level: the vertexes at which a sector's outline has a gap or an extra line, as not the same number of sides leave as
+/// reach the vertex. It takes 24 bytes a side, and up to 40, and while it looks for a sector that isn't closed, four bytes a
+/// sector and eight a vertex.
 pub fn unclosed<A: Allocator + Copy>(
     alloc: A,
     level: &Level<'_>,
@@ -45,7 +46,7 @@ pub fn unclosed<A: Allocator + Copy>(
     tell_unclosed(alloc, level, &numbers, most)
 }
 
-// Where it answers true, all sectors are closed, as those of most levels are, and the numbers need no order.
+// If this is true, all sectors are closed, as in most levels, and the numbers needn't be sorted.
 fn are_closed<A: Allocator + Copy>(alloc: A, level: &Level<'_>, numbers: &[u64]) -> bool
     requires { AddsRuns (runs_of level.now) [] numbers.now }
     ensures { IsTrue result → (w : Warning) → ¬ HoldsOf level.now WarningCode.W1 w }
@@ -56,14 +57,14 @@ fn are_closed<A: Allocator + Copy>(alloc: A, level: &Level<'_>, numbers: &[u64])
     if numbers.len() < FEWEST_COUNTED.max((sectors + vertexes) / 2) {
         return false;
     }
-    // Where it is refused its memory the numbers are put in order, too, which asks for none.
+    // If memory for it is refused, the numbers are sorted, too, as this takes none.
     let Ok(closed) = are_balanced(alloc, numbers, sectors, vertexes) else {
         return false;
     };
     closed
 }
 
-// Tells where sectors aren't closed, given the numbers of the sides in order.
+// Adds where sectors aren't closed, by the sorted numbers of the sides.
 fn tell_unclosed<A: Allocator>(
     alloc: A,
     level: &Level<'_>,
@@ -81,7 +82,7 @@ fn tell_unclosed<A: Allocator>(
     Ok(told)
 }
 
-// Tells that a sector isn't closed at a vertex, where the k-th number is the first of the two.
+// Adds a sector that isn't closed at a vertex, if the k-th number is the first of this pair.
 fn tell_from<A: Allocator>(
     told: &mut Told<A>,
     level: &Level<'_>,
@@ -122,7 +123,7 @@ fn goes_on(numbers: &[u64], k: usize, pair: u64) -> bool
     k > 0 && numbers[k - 1] / 2 == pair
 }
 
-// The first place from one on that has another number.
+// The first place with another number, from a given one on.
 fn run_end(numbers: &[u64], from: usize, number: u64) -> usize
     requires { from ≤ length numbers.now }
     ensures after { from ≤ result }
@@ -189,7 +190,7 @@ fn pair_number(sector: u32, vertex: u32) -> u64
     u64::from(sector) * 65536 + u64::from(vertex)
 }
 
-// The side that three words tell: its sidedef, and from where to where it runs.
+// The side that three words describe: its sidedef, the vertex that it leaves and the one that it reaches.
 fn run_of(level: &Level<'_>, side: i16, start: i16, end: i16) -> Option<SideRun>
     ensures run { let index = number_of level.now.reading in result ≡ run_of level.now (index side) (index start) (index end) }
     ensures short { IfSome result IsShortRun }

@@ -30,7 +30,7 @@ pub fn mismatched<A: Allocator + Copy>(
     tell_mismatched(alloc, level, &ends, most)
 }
 
-// Tells the mismatched ssectors, given where runs of segs that face one sector end.
+// Adds the mismatched ssectors. The runs of segs that face one sector, by their ends, are known.
 fn tell_mismatched<A: Allocator>(
     alloc: A,
     level: &Level<'_>,
@@ -48,7 +48,7 @@ fn tell_mismatched<A: Allocator>(
     Ok(told)
 }
 
-// Tells that an ssector's segs face several sectors, where they do.
+// Adds an ssector whose segs face several sectors.
 fn tell_ssector<A: Allocator>(
     told: &mut Told<A>,
     level: &Level<'_>,
@@ -161,7 +161,7 @@ fn put_run_ends(level: &Level<'_>, ends: &mut [u32])
     }
 }
 
-// Where the run of a seg ends, given where that of the next seg does, and whether both face the same sector.
+// Where the run of a seg ends, by the end of the next seg's run, and by whether both face the same sector.
 fn run_end(level: &Level<'_>, ends: &[u32], j: usize, face_same: bool) -> u32
     requires long { length ends.now ≡ length level.now.segs.records }
     requires here { j < length ends.now }

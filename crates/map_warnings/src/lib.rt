@@ -1,4 +1,4 @@
-//! What every reference of a level allows and no mapper wants: warnings.
+//! Warnings: what a level's references allow and no mapper wants.
 #![tactic(auto)]
 
 mod apart;

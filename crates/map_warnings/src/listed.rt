@@ -20,7 +20,7 @@ pub fn push_textures<A: Allocator>(numbers: &mut Vec<u64, A>, lump: &[u8]) -> Re
     Ok(())
 }
 
-// How many offsets of a lump stand inside it, of those that its count tells.
+// How many of the offsets that a lump's count announces are inside the lump.
 fn offset_count(lump: &[u8]) -> usize
     ensures { (k : ℕ) → (k < result) ↔ HasOffset lump.now k }
 {
@@ -46,7 +46,7 @@ fn push_texture<A: Allocator>(
     }
 }
 
-// The name at the offset of a number, where its bytes stand inside the lump.
+// The name at the offset of a number, if its bytes are inside the lump.
 fn name_at(lump: &[u8], k: usize) -> Option<Name8>
     requires { 4 * k + 8 ≤ length lump.now }
     ensures some { IfSome result (IsNameAt lump.now k) }

@@ -8,7 +8,7 @@ use le_rec::Name8;
 use std::alloc::{AllocError, Allocator, Global};
 use std::marker::Model;
 
-/// Names of at most eight bytes, of which it is told whether a name is one of them. They take eight bytes each.
+/// Names of at most eight bytes, which can be asked whether a name is among them. They take eight bytes each.
 #[derive(Debug, Drop)]
 pub struct Names<A: Allocator = Global> {
     numbers: Vec<u64, A>,
@@ -44,7 +44,7 @@ impl<A: Allocator> Names<A> {
     }
 }
 
-// Whether a number is among some in order.
+// Whether a number is among sorted ones.
 fn has_number(numbers: &[u64], number: u64) -> bool
     requires { IsNonDecreasing numbers.now }
     ensures { IsTrue result ↔ Contains numbers.now number }

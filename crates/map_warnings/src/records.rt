@@ -1,4 +1,4 @@
-//! What words of a level's records name under its reading.
+//! What the words of a level's records name, under the level's reading.
 
 ghost use Rattle.std.specs.Prelude.{◌≡◌};
 ghost use Rattle.std.specs.Option.{option_map};
@@ -9,7 +9,7 @@ use le_rec::SideDef;
 use map_level::links::sidedef_named;
 use map_level::{Level, number};
 
-/// The sidedef that a word names, where it doesn't say that there is no side.
+/// The sidedef that a word names, unless the word says that there is no side.
 #[inline]
 pub fn sidedef(level: &Level<'_>, word: i16) -> Option<SideDef>
     ensures { option_map (sidedef_under level.now.reading) result
@@ -18,7 +18,7 @@ pub fn sidedef(level: &Level<'_>, word: i16) -> Option<SideDef>
     sidedef_named(level, number(word, level.reading()))
 }
 
-/// The number that an index names one of so many records by.
+/// The number of the record that an index names, of `count` records.
 #[inline]
 pub fn number_named(index: i32, count: usize) -> Option<u32>
     ensures { result ≡ number_named count index }

@@ -7,7 +7,7 @@ ghost use Rattle.map_warnings.specs.References.{HasReferences, HoldsNowhere};
 use map_level::search::Search;
 use map_level::{Code, Level, Links};
 
-/// Whether all references of a level hold, so that it has no fault F3 to F9: what most warnings want.
+/// Whether all references of a level hold, so that it has no fault F3 to F9. Most warnings need this.
 pub fn has_references(level: &Level<'_>) -> bool
     ensures { IsTrue result ↔ HasReferences level.now }
 {

@@ -15,7 +15,8 @@ use std::alloc::{AllocError, Allocator, Global};
 use std::marker::Model;
 use wad_dir::Set;
 
-/// The textures and the flats of a set of files. It lends the set, and takes eight bytes a listed texture and eight an entry.
+/// The textures and the flats of a set of files. It borrows the set, and takes eight bytes for each listed texture and for
+/// each entry.
 #[derive(Drop)]
 pub struct Resources<'s, 'a, A: Allocator = Global> {
     set: &'s Set<'a, A>,
@@ -40,7 +41,7 @@ impl<'s, 'a, A: Allocator> Model for Resources<'s, 'a, A> {
 impl<'s, 'a, A: Allocator + Copy> Resources<'s, 'a, A> {
     ghost use Rattle.std.specs.Prelude.{◌≡◌, IfOk};
 
-    /// The textures and the flats of a set, whose entries and lumps of textures are looked through.
+    /// The textures and the flats of a set. Its entries and its lumps of textures are looked through.
     pub fn of(alloc: A, set: &'s Set<'a, A>) -> Result<Resources<'s, 'a, A>, AllocError>
         ensures { IfOk result (λ resources. resources ≡ set.now) }
     {
@@ -65,14 +66,14 @@ impl<'s, 'a, A: Allocator> Resources<'s, 'a, A> {
         self.textures.is_some()
     }
 
-    /// Whether the flats are known: where there is an entry F_START.
+    /// Whether the flats are known: there is an entry F_START.
     pub fn has_flats(&self) -> bool
         ensures { IsTrue result ↔ HasFlats self.now }
     {
         self.flats.is_some()
     }
 
-    /// Whether a name, in capital letters, is that of a texture.
+    /// Whether a texture has a name, in capital letters.
     pub fn has_texture(&self, name: Name8) -> bool
         requires { HasTextures self.now }
         ensures { IsTrue result ↔ IsTexture self.now name }
@@ -144,7 +145,7 @@ fn push_lump<A: Allocator>(
     }
 }
 
-// The lump that the game finds under a name, where it stands inside its file.
+// The lump that the game finds under a name, if it is inside its file.
 fn found<'a, A: Allocator>(set: &Set<'a, A>, name: &[u8]) -> Option<&'a [u8]>
     ensures some { IfSome result (λ lump. IsFound set.now (query_of name.now) lump.now) }
     ensures none { IfNone result ((lump : List ℕ) → ¬ IsFound set.now (query_of name.now) lump) }

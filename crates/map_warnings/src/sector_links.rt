@@ -1,4 +1,4 @@
-//! The numbers of sides one sector after another: links from each to the next one of its sector.
+//! The numbers of sides by their sectors: each is linked to the next one of its sector.
 
 ghost use Rattle.std.specs.Prelude.{◌≡◌, ◌^◌, ◌<◌, All, IfOk, length};
 ghost use Rattle.map_warnings.specs.KeyLinks.{AreLinks};
@@ -6,8 +6,9 @@ ghost use Rattle.map_warnings.specs.Balance.{end_in, sector_in};
 
 use std::alloc::{AllocError, Allocator};
 
-/// Of each number the place of the next one of its sector, and of each sector that of its first number: how many numbers there are
-/// stands for none. The list that was made last is freed first, which an arena needs to take both back.
+/// `next` has for each number the place of the next one of its sector. `firsts` has for each sector the place of its first
+/// number. A place equal to how many numbers there are stands for none. The list that was made last is freed first, so that an
+/// arena takes both back.
 #[derive(Drop)]
 pub struct SectorLinks<A: Allocator> {
     pub next: Vec<u32, A>,
@@ -31,7 +32,7 @@ pub fn end_in(number: u64) -> usize
     (number % 131072) as usize
 }
 
-/// The links of numbers, of which none has a sector past a bound.
+/// The links of numbers whose sectors are below `sectors`.
 pub fn links_of<A: Allocator + Copy>(
     alloc: A,
     numbers: &[u64],

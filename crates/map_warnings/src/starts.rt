@@ -39,7 +39,7 @@ pub fn missing_start<A: Allocator>(
     }
 }
 
-/// W8 of a level: how many deathmatch starts there are, where there are fewer than four.
+/// W8 of a level: how many deathmatch starts there are, if they are fewer than four.
 pub fn few_starts<A: Allocator>(
     alloc: A,
     level: &Level<'_>,

@@ -1,4 +1,4 @@
-//! W4: linedefs that act on sectors of a tag that none has.
+//! W4: linedefs that act on sectors by a tag that no sector has.
 
 ghost use Rattle.std.specs.Prelude.{◌≡◌, ◌≢◌, ◌+◌, ◌↔◌, ℕ, false, length, pos, slice_index_or};
 ghost use Rattle.std.specs.Prelude.{IfOk, IsTrue};

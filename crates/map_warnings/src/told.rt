@@ -1,4 +1,4 @@
-//! Warnings as they are told: the first of them, and how many there are.
+//! The report on warnings: the first of them, and how many there are.
 
 ghost use Rattle.std.specs.Prelude.{◌≡◌, ◌+◌, ◌↔◌, ◌<◌, [], Some, IfNone, IfOk, IfSome, IsTrue, OnOk};
 ghost use Rattle.map_warnings.specs.Warnings.{Cut, cut_with, rank, Tells, TellsBelow};
@@ -10,7 +10,7 @@ use map_level::Level;
 use std::alloc::{AllocError, Allocator, Global};
 use std::marker::Model;
 
-/// Warnings of a level in their order: the first of them, as many as were asked for at most, and how many there are.
+/// Warnings of a level in their order: at most as many of the first as were asked for, and how many there are.
 #[derive(Debug, Drop)]
 pub struct Told<A: Allocator = Global> {
     most: usize,
@@ -27,7 +27,7 @@ impl<A: Allocator> Model for Told<A> {
 }
 
 impl<A: Allocator> Told<A> {
-    /// Nothing told yet, of which so many are to be kept at most.
+    /// No warnings so far, of which at most so many will be kept.
     pub fn new(alloc: A, most: usize) -> Told<A>
         ensures { result ≡ record { most = most; first = []; count = 0 } }
     {
@@ -64,7 +64,7 @@ impl<A: Allocator> Told<A> {
     }
 }
 
-/// Tells a warning where it holds, and so goes on to the next number.
+/// Adds a warning if it holds. Then all up to it are reported.
 pub fn tell_where<A: Allocator>(
     told: &mut Told<A>,
     level: &Level<'_>,
@@ -86,7 +86,7 @@ pub fn tell_where<A: Allocator>(
     Ok(())
 }
 
-/// The same of a warning that wants to know textures or flats.
+/// The same for a warning that needs textures or flats.
 pub fn tell_among<A: Allocator>(
     told: &mut Told<A>,
     level: &Level<'_>,
@@ -109,7 +109,7 @@ pub fn tell_among<A: Allocator>(
     Ok(())
 }
 
-/// What is told of a code that holds at most once.
+/// The report on a code that holds at most once.
 pub fn tell_one<A: Allocator>(
     alloc: A,
     level: &Level<'_>,

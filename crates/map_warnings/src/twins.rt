@@ -25,8 +25,8 @@ pub struct Ends {
     pub to: Vertex,
 }
 
-/// W6 of a level: its linedefs that have the places of an earlier one's ends. It takes twelve bytes a linedef and 16 KiB, and a map of
-/// places where two linedefs have the same.
+/// W6 of a level: its linedefs with both ends at the places of an earlier one's. It takes twelve bytes a linedef and 16 KiB. If
+/// two linedefs have the same places, it takes a map of places besides.
 pub fn twins<A: Allocator + Copy>(
     alloc: A,
     level: &Level<'_>,
@@ -35,7 +35,7 @@ pub fn twins<A: Allocator + Copy>(
     ensures told { IfOk result (λ told. Tells (HoldsOf level.now WarningCode.W6) told) }
     ensures most { IfOk result (λ told. told.most ≡ most) }
 {
-    // Most levels have none, and numbers show that in less time than a map takes.
+    // Most levels have none, and numbers show this faster than a map does.
     let own = have_own_keys(alloc, level)?;
     if own {
         return Ok(Told::new(alloc, most));
@@ -43,12 +43,12 @@ pub fn twins<A: Allocator + Copy>(
     tell_twins(alloc, level, most)
 }
 
-// Whether no two linedefs' ends have the same number.
+// Whether all linedefs' ends have different numbers.
 fn have_own_keys<A: Allocator + Copy>(alloc: A, level: &Level<'_>) -> Result<bool, AllocError>
     ensures { IfOk result (λ own. IsTrue own ↔ AreApart (keys_of level.now)) }
 {
     let mut keys = keys_of(alloc, level)?;
-    // Where it is refused its memory the keys are put in order, too, which asks for none.
+    // If memory for it is refused, the keys are sorted, too, as this takes none.
     if let Ok(true) = are_surely_apart(alloc, &keys) {
         return Ok(true);
     }
@@ -56,7 +56,7 @@ fn have_own_keys<A: Allocator + Copy>(alloc: A, level: &Level<'_>) -> Result<boo
     Ok(are_apart(&keys))
 }
 
-// Whether no two of some numbers in order are the same.
+// Whether all of some sorted numbers differ.
 fn are_apart(numbers: &[u64]) -> bool
     requires { IsNonDecreasing numbers.now }
     ensures { IsTrue result ↔ AreApart numbers.now }
@@ -97,7 +97,7 @@ fn push_key<A: Allocator>(
     Ok(())
 }
 
-// Tells the linedefs that lie on earlier ones, by a map from places to the first linedef that has them.
+// Adds the linedefs that lie on earlier ones, by a map from places to the first linedef at them.
 fn tell_twins<A: Allocator + Copy>(
     alloc: A,
     level: &Level<'_>,
@@ -114,7 +114,7 @@ fn tell_twins<A: Allocator + Copy>(
     Ok(told)
 }
 
-// Tells that a linedef lies on an earlier one, where it does, and keeps it where it is the first of its places.
+// Adds a linedef that lies on an earlier one. The map keeps it if it is the first at its places.
 fn tell_twin<A: Allocator + Copy>(
     told: &mut Told<A>,
     firsts: &mut BTreeMap<u64, u32, A>,
@@ -138,7 +138,7 @@ fn tell_twin<A: Allocator + Copy>(
     tell_where(told, level, WarningCode::W6, twin, earlier < i)
 }
 
-// The first linedef up to one whose ends have a number, which is kept.
+// The first linedef, up to a given one, whose ends have this number. The map keeps it.
 fn first_of<A: Allocator + Copy>(
     firsts: &mut BTreeMap<u64, u32, A>,
     level: &Level<'_>,
@@ -156,7 +156,7 @@ fn first_of<A: Allocator + Copy>(
     let _level = level;
     match firsts.insert(key, i)? {
         Some(first) => {
-            // It stands again.
+            // The first one is put back.
             firsts.insert(key, first)?;
             Ok(first)
         }
@@ -182,7 +182,7 @@ fn ends_of(level: &Level<'_>, linedef: &LineDef) -> Option<Ends>
     Some(Ends { from, to })
 }
 
-// A number for two places, whichever comes first.
+// A number for two places, in either order.
 fn ends_key(ends: &Ends) -> u64
     ensures { result ≡ ends_key ends.now }
 {

@@ -31,7 +31,7 @@ pub fn unknown_flats<A: Allocator>(
     Ok(told)
 }
 
-// Tells the unknown flats of a sector.
+// Adds the unknown flats of a sector.
 fn tell_sector<A: Allocator>(
     told: &mut Told<A>,
     level: &Level<'_>,
@@ -48,7 +48,7 @@ fn tell_sector<A: Allocator>(
     tell_plane(told, level, resources, i, Plane::Ceiling)
 }
 
-// Tells that the flat of a sector's floor or ceiling is unknown, where it is.
+// Adds the flat of a sector's floor or ceiling, if it is unknown.
 fn tell_plane<A: Allocator>(
     told: &mut Told<A>,
     level: &Level<'_>,

@@ -34,7 +34,7 @@ pub fn unknown_textures<A: Allocator>(
     Ok(told)
 }
 
-// Tells the unknown textures of a sidedef.
+// Adds the unknown textures of a sidedef.
 fn tell_sidedef<A: Allocator>(
     told: &mut Told<A>,
     level: &Level<'_>,
@@ -52,7 +52,7 @@ fn tell_sidedef<A: Allocator>(
     tell_part(told, level, resources, i, Part::Middle)
 }
 
-// Tells that the texture at a part of a sidedef is unknown, where it is.
+// Adds the texture at a part of a sidedef, if it is unknown.
 fn tell_part<A: Allocator>(
     told: &mut Told<A>,
     level: &Level<'_>,
@@ -99,7 +99,7 @@ fn texture_of(part: Part, sidedef: &SideDef) -> [u8; 8]
     }
 }
 
-// Whether eight bytes name no texture of the set, and say that there is one.
+// Whether eight bytes name a texture, and no texture of the set.
 fn names_no_texture<A: Allocator>(resources: &Resources<'_, '_, A>, bytes: [u8; 8]) -> bool
     requires { HasTextures resources.now }
     ensures { IsTrue result ↔ NamesNoTexture resources.now bytes }

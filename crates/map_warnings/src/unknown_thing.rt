@@ -18,10 +18,10 @@ const LAST_PLAYER: i16 = 4;
 // The kind of a deathmatch start.
 const DEATHMATCH: i16 = 11;
 
-// The bits of a thing's options that say in which skills it stands.
+// The bits of a thing's options that say in which skills it is placed.
 const SKILLS: i16 = 7;
 
-/// W11 of a level: its things that some skill places, and of whose kind the game has none.
+/// W11 of a level: its things that some skill places, and whose kind the game doesn't have.
 pub fn unknown_things<A: Allocator>(
     alloc: A,
     level: &Level<'_>,

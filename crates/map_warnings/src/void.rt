@@ -14,7 +14,8 @@ use map_geo::Point;
 use map_level::Level;
 use std::alloc::{AllocError, Allocator};
 
-/// W3 of a sound level: its things at places that show nothing. It takes two bytes an ssector.
+/// W3 of a sound level: its things at places where no sector is shown. It takes two bytes an
+/// ssector.
 pub fn in_void<A: Allocator + Copy>(
     alloc: A,
     level: &Level<'_>,
@@ -28,7 +29,7 @@ pub fn in_void<A: Allocator + Copy>(
     tell_in_void(alloc, level, &shown, most)
 }
 
-// Tells the things in the void, by what is shown of the level.
+// Adds the things in the void, by what is shown of the level.
 fn tell_in_void<A: Allocator + Copy>(
     alloc: A,
     level: &Level<'_>,
@@ -53,7 +54,7 @@ fn tell_in_void<A: Allocator + Copy>(
     Ok(told)
 }
 
-// Whether a thing stands in the void.
+// Whether a thing is in the void.
 fn is_in_void<A: Allocator>(level: &Level<'_>, shown: &Shown<'_, '_, A>, k: u32) -> bool
     requires { shown.now ≡ level.now }
     ensures { IsTrue result ↔ IsInVoid level.now k }
@@ -70,7 +71,7 @@ fn stands_in_void<A: Allocator>(shown: &Shown<'_, '_, A>, thing: &Thing) -> bool
     shows_nothing(shown, i32::from(thing.x), i32::from(thing.y))
 }
 
-// Whether a point can be asked for and shows nothing.
+// Whether a point is in range and no sector is shown there.
 fn shows_nothing<A: Allocator>(shown: &Shown<'_, '_, A>, x: i32, y: i32) -> bool
     ensures { IsTrue result ↔ ShowsNothing shown.now x y }
 {

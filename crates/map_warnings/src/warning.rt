@@ -1,18 +1,18 @@
-//! Warnings of a level: their codes, and what each tells.
+//! Warnings of a level: their codes and what each says.
 
 ghost use Rattle.std.specs.Prelude.{◌≡◌};
 ghost use Rattle.map_warnings.specs.Warnings.{code_of};
 
-/// What is warned of, in the order in which it is told.
+/// The codes of warnings, in the order of a report.
 #[derive(Clone, Copy, Debug, PartialEq, Eq)]
 pub enum WarningCode {
     /// A sector isn't closed at a vertex.
     W1,
-    /// A wall lacks the texture that its side shows.
+    /// A part of a wall can be seen and has no texture.
     W2,
-    /// A thing stands in the void.
+    /// A thing is in the void.
     W3,
-    /// A linedef's tag is no sector's.
+    /// No sector has a linedef's tag.
     W4,
     /// An ssector's segs face several sectors.
     W5,
@@ -22,11 +22,11 @@ pub enum WarningCode {
     W7,
     /// There are fewer than four deathmatch starts.
     W8,
-    /// A sidedef's texture is none of the set's.
+    /// A sidedef's texture isn't in the set.
     W9,
-    /// A sector's flat is none of the set's.
+    /// A sector's flat isn't in the set.
     W10,
-    /// A thing is of a kind that the game doesn't know.
+    /// The game doesn't know a thing's kind.
     W11,
 }
 
@@ -52,10 +52,11 @@ pub enum Plane {
     Ceiling,
 }
 
-/// A warning, with the numbers of the records that it is of.
+/// A warning, with the numbers of its records.
 #[derive(Clone, Copy, Debug, PartialEq, Eq)]
 pub enum Warning {
-    /// W1: of a sector's sides not as many leave a vertex as reach it.
+    /// W1: a sector's outline has a gap or an extra line at a vertex. Not the same number of its
+    /// sides leave the vertex as reach it.
     Unclosed {
         sector: u32,
         vertex: u32,
@@ -66,7 +67,7 @@ pub enum Warning {
         side: Side,
         part: Part,
     },
-    /// W3: a thing stands where nothing is shown.
+    /// W3: no sector is shown where a thing is.
     InVoid {
         thing: u32,
     },
@@ -74,22 +75,23 @@ pub enum Warning {
     Untagged {
         linedef: u32,
     },
-    /// W5: an ssector's segs don't all face one sector: the first seg's, and the first other one.
+    /// W5: an ssector's segs don't all face one sector. These are the first seg's sector, and the
+    /// first other one.
     Mismatched {
         ssector: u32,
         first: u32,
         other: u32,
     },
-    /// W6: a linedef lies on an earlier one, the first that has its two places as ends.
+    /// W6: a linedef lies on an earlier one. This is the first with the same two places as ends.
     Twin {
         linedef: u32,
         earlier: u32,
     },
-    /// W7: no thing is a start of this player, the first of 2 to 4 without one.
+    /// W7: a player has no start. This is the first of players 2 to 4 without one.
     NoStart {
         player: u32,
     },
-    /// W8: so many things are deathmatch starts, and four are wanted.
+    /// W8: there are fewer than the four deathmatch starts that the game wants. This is how many.
     FewStarts {
         starts: u32,
     },
@@ -103,7 +105,7 @@ pub enum Warning {
         sector: u32,
         plane: Plane,
     },
-    /// W11: a thing that some skill places is of a kind that the game doesn't know.
+    /// W11: the game doesn't know the kind of a thing, and some skill places the thing.
     UnknownThing {
         thing: u32,
     },

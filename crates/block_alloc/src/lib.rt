@@ -1,5 +1,5 @@
-//! An allocator over one block of memory that a host hands in. It gives the block once, whole, and forgets what is given
-//! back, so an arena over it has all the memory that there will be.
+//! An allocator over one block of memory that a host hands in. It gives the whole block once, and ignores what is given back.
+//! So an arena over it has all the memory from the start.
 #![tactic(auto)]
 
 ghost use Rattle.std.specs.Prelude.{◌≡◌, ℕ, ◌*◌, ◌/◌, ◌^◌, ◌<◌, ◌≤◌, IfSome};
@@ -25,8 +25,8 @@ impl Model for Room {
 
 /// Memory that a host hands in, as C passes it: a pointer, and a size in bytes.
 ///
-/// What no contract can see is the host's to keep: the bytes are there, aligned to 16, until the call that took the block has
-/// returned, nothing else reads or writes them, and no second call is handed them meanwhile.
+/// The host must keep what no contract can check. The bytes stay valid and aligned to 16 until the call that took the block
+/// has returned. Nothing else reads or writes them, and no second call gets them meanwhile.
 #[repr(C)]
 #[derive(Drop)]
 pub struct Block {
@@ -35,17 +35,17 @@ pub struct Block {
     ghost sized: { room.size ≡ size },
 }
 
-/// What an arena may take of a block beyond the room that its values have, in bytes: it rounds up to pages of 4096.
+/// How many bytes of a block an arena may take beyond the room for its values: it rounds up to pages of 4096.
 pub const MARGIN: usize = 4160;
 
-/// The allocator. It gives its block to its first request, where the block serves that, and else loses it.
+/// The allocator. It gives its block to the first request, if the block is fit for it, and loses it otherwise.
 #[derive(Drop)]
 pub struct OneBlock {
     slot: Cell<Option<Block>>,
 }
 
-/// An arena whose one chunk is the block; None where the block has less than `MARGIN` bytes, and where the arena doesn't
-/// get it. What is allocated in the arena is never given back, but for the last value, which grows where it lies.
+/// An arena whose only chunk is the block. None if the block has fewer than `MARGIN` bytes, or if the arena doesn't get it.
+/// Memory allocated in the arena is never given back, except that the last value can grow in place.
 pub fn arena(block: Block) -> Option<Bump<OneBlock>>
     ensures { IfSome result (λ _. MARGIN ≤ block.size) }
 {
@@ -63,7 +63,8 @@ impl OneBlock {
         }
     }
 
-    // The block's bytes, where they weren't taken yet and serve. A request that they don't serve takes them, too.
+    // The block's bytes, if they weren't taken yet and are fit for the request. A request that they aren't fit for takes
+    // them, too.
     fn take(&self, size: usize, align: usize) -> Option<Room>
         ensures { IfSome result (λ r. (size ≤ r.size / 16 * 16) × (r.size < 2 ^ 63) × (align ≤ 16)) }
     {

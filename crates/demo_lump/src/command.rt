@@ -9,21 +9,21 @@ use le_rec::number::u16_at;
 /// The version of the long form, whose commands have a turn of two bytes.
 pub(crate) const LONG: u8 = 111;
 
-/// The byte that stands where a command would begin, at the end of
-/// a demo (`DEMOMARKER` of `g_game.c`).
+/// The byte in place of a command at the end of a demo (`DEMOMARKER` of `g_game.c`).
 pub(crate) const MARKER: u8 = 128;
 
 /// One player's command for one tic (`ticcmd_t` of `d_ticcmd.h`).
 #[derive(Clone, Copy, Debug, PartialEq, Eq)]
 pub struct Command {
-    /// Forwards, or backwards where it is negative.
+    /// Forwards, or backwards if negative.
     pub forward: i8,
-    /// To the right, or to the left where it is negative.
+    /// To the right, or to the left if negative.
     pub side: i8,
     /// Under version 111 a whole 16-bit angle, under the others its high byte alone.
     pub turn: u16,
-    /// Bits (`BT_ATTACK` and the others of `d_event.h`): 1 attacks, 2 uses, 4 changes to the weapon
-    /// whose number bits 3 to 5 hold, and 128 makes the others a request to the game, as to pause.
+    /// Bits (`BT_ATTACK` and the others of `d_event.h`): 1 attacks, 2 uses, and 4 changes to the
+    /// weapon whose number is in bits 3 to 5. 128 makes the others a request to the game, such as a
+    /// pause.
     pub buttons: u8,
 }
 

@@ -1,4 +1,4 @@
-//! A demo whose bytes are there.
+//! A demo in memory.
 
 ghost use Rattle.std.specs.Prelude.{◌≡◌, ◌≢◌, ℕ, ◌/◌, ◌%◌, ◌<◌, ◌≤◌, ◌^◌, ◌↔◌, List, ◌∷◌, length};
 ghost use Rattle.std.specs.Prelude.{take, slice_get, slice_index, IfOk, IfErr, IsTrue, MatchOption};
@@ -10,7 +10,7 @@ use crate::fault::DemoFault;
 use crate::header::{HEADER, Header, count_players, is_version, read_fields};
 use std::marker::Model;
 
-/// A demo. It lends the bytes, and reads a command when it is asked for.
+/// A demo. It borrows the bytes, and reads a command when it is asked for.
 #[derive(Drop)]
 pub struct Demo<'a> {
     header: Header,
@@ -42,8 +42,8 @@ impl<'a> Demo<'a> {
     ghost use Rattle.demo_lump.specs.Demo as demo;
     ghost use Rattle.demo_lump.specs.Demo.{IsRead, RefusesDemo};
 
-    /// The demo that the bytes hold, up to the first marker that stands where a command would
-    /// begin. What follows it is accepted and counted.
+    /// The demo in the bytes, up to the first marker in place of a command. What follows the marker
+    /// is accepted and counted.
     pub fn read(bytes: &'a [u8]) -> Result<Demo<'a>, DemoFault>
         ensures ok { (found : demo.Demo) → (result ≡ Ok found) ↔ IsRead bytes.now found }
         ensures refused { (fault : _) → (result ≡ Err fault) ↔ RefusesDemo bytes.now fault }

@@ -22,8 +22,7 @@ pub(crate) struct Intake {
 }
 
 impl Intake {
-    /// Fills `buf`, and answers whether there were bytes enough. It
-    /// asks for no byte but those of `buf`.
+    /// Fills `buf`, and returns whether there were enough bytes. It asks for no other bytes.
     pub fn fill<S: Source>(&mut self, source: &mut S, buf: &mut [u8]) -> Result<bool, StreamFault>
         requires sound { (S.state source.old).failed ≡ false }
         requires within { self.old.taken ≤ self.old.limit }
@@ -79,7 +78,7 @@ impl Intake {
         }
     }
 
-    /// Takes all that is left, and answers how many bytes.
+    /// Takes all that is left, and returns how many bytes that was.
     pub fn rest<S: Source>(&mut self, source: &mut S) -> Result<u64, StreamFault>
         requires sound { (S.state source.old).failed ≡ false }
         requires within { self.old.taken ≤ self.old.limit }

@@ -10,21 +10,21 @@ pub fn one_reading()
     ensures { OneReading }
 {}
 
-/// They have one reading or one refusal, and never both.
+/// Bytes have one reading or one refusal, and never both.
 pub fn read_or_refused()
     ensures either { ReadOrRefused }
     ensures never_both { NeverBoth }
     ensures one_refusal { OneRefusal }
 {}
 
-/// A demo that is taken piece by piece is the demo that the bytes are.
+/// A demo taken piece by piece is the same as the demo of all bytes.
 pub fn pieces_are_the_demo()
     ensures demo { PiecesAreDemo }
     ensures refused { PiecesAreRefused }
 {}
 
-/// What a caller that takes one command after another keeps: so many bytes are a command, one more
-/// makes them one more, and what refuses the next piece refuses the demo.
+/// For a caller that takes one command after another: so many bytes are a command, one more command
+/// makes commands again, and what refuses the next piece refuses the demo.
 pub fn commands_go_on()
     ensures sizes { CommandSizes }
     ensures more { OneMoreCommand }

@@ -1,5 +1,5 @@
-//! Doom's demos of versions 109, 110 and 111: read where they stand, written, and read piece by
-//! piece from a source (`g_game.c` of linuxdoom 1.10).
+//! Doom's demos of versions 109, 110 and 111: read in memory, written, and read piece by piece from
+//! a source (`g_game.c` of linuxdoom 1.10).
 #![tactic(auto)]
 
 mod command;

@@ -11,12 +11,11 @@ use crate::piece::{read_command, read_header};
 use le_rec::Source;
 use std::marker::Model;
 
-/// Reads a demo from a source piece by piece, up to a limit. It pulls no byte that the piece in
-/// hand, the header or a command, can do without, and leaves those after the marker unread until
-/// `after`. Once a call of `header`, `next` or `after` answered a
-/// fault, each later one answers that fault.
+/// Reads a demo from a source piece by piece, up to a limit. It pulls only the bytes that the next
+/// piece needs, the header or a command, and pulls those after the marker only in `after`. Once a
+/// call of `header`, `next` or `after` has returned a fault, each later call returns that fault.
 ///
-/// One source serves all calls. Before the first fault it hasn't failed.
+/// One source serves all calls. It hasn't failed before the first fault.
 #[derive(Drop)]
 pub struct DemoReader {
     intake: Intake,
@@ -45,8 +44,8 @@ impl Model for DemoReader {
 }
 
 impl DemoReader {
-    /// A reader of a demo of at most `limit` bytes, 268,435,456 at most. It takes one byte past
-    /// that at most, and answers `TooLong` then.
+    /// A reader of a demo of at most `limit` bytes, which is at most 268,435,456. It takes at most
+    /// one byte past the limit, and then returns `TooLong`.
     pub fn new(limit: u64) -> DemoReader
         requires { limit ≤ MAX_READ }
         ensures { result ≡ record {
@@ -74,7 +73,7 @@ impl DemoReader {
         self.ended
     }
 
-    /// The header, which is read once.
+    /// The header. It is read only once.
     pub fn header<S: Source>(&mut self, source: &mut S) -> Result<Header, StreamFault>
         requires { self.old.fault ≡ None → (S.state source.old).failed ≡ false }
         ensures again { IfSome self.old.fault (λ fault.
@@ -119,8 +118,8 @@ impl DemoReader {
         read
     }
 
-    /// The next command, or None at the marker and from then on. The header is
-    /// read first where that wasn't done.
+    /// The next command, or None at the marker and from then on. If the header wasn't read yet, it
+    /// is read first.
     pub fn next<S: Source>(&mut self, source: &mut S) -> Result<Option<Command>, StreamFault>
         requires { self.old.fault ≡ None → (S.state source.old).failed ≡ false }
         ensures again { IfSome self.old.fault (λ fault.

@@ -10,8 +10,8 @@ use crate::command::{Command, LONG, MARKER, size_of_command};
 use crate::header::{HEADER, Header};
 use std::alloc::{AllocError, Allocator};
 
-/// The demo of a header and commands: the bytes of these and the marker, and no more. Room for all
-/// is made first, which alone can fail.
+/// The demo of a header and commands: their bytes and the marker, and nothing more. It first makes
+/// room for all of it, and nothing else can fail.
 pub fn write_demo<A: Allocator>(
     alloc: A,
     header: &Header,

@@ -3,7 +3,7 @@
 
 use thiserror::Error;
 
-/// A pull or a put that failed. The end's `failed` tells so too, from then on.
+/// A pull or a put that failed. From then on, `failed` of the end is true.
 #[derive(Clone, Copy, Debug, PartialEq, Eq, Error)]
 #[error("the stream failed")]
 pub struct EndFault;
@@ -13,13 +13,12 @@ pub trait Source {
     ghost use Rattle.std.specs.Prelude.{◌≡◌, ◌≤◌, IfOk, length};
     ghost use Rattle.le_rec.specs.Source.{SourceState, Gives};
 
-    /// What clauses see of it: the bytes that are still to come, where they are known, and whether
-    /// a pull has failed.
+    /// What clauses see of it: the bytes still to come, if they are known, and whether a pull has failed.
     ghost state: { Self → SourceState };
 
-    /// Moves the next bytes to the front of `buf` and answers how many: 0 only for an empty `buf`
-    /// or at the end; what stands in `buf` behind them isn't told. At an Err it moves none, and `buf` may
-    /// hold anything.
+    /// Moves the next bytes to the front of `buf` and returns how many: 0 only for an empty `buf` or at
+    /// the end. What `buf` has behind them isn't known. On Err it moves none, and `buf` may hold
+    /// anything.
     fn pull(&mut self, buf: &mut [u8]) -> Result<usize, EndFault>
         ensures bound { IfOk result (λ n. n ≤ length buf.new) }
         ensures gives { Gives (state self.old) (state self.new) result buf.new };
@@ -38,8 +37,7 @@ pub trait Sink {
     /// has failed.
     ghost state: { Self → SinkState };
 
-    /// Takes a front of `bytes` and answers its length, 0 only for empty `bytes`. At an Err it
-    /// takes none.
+    /// Takes a front of `bytes` and returns its length, 0 only for empty `bytes`. On Err it takes none.
     fn put(&mut self, bytes: &[u8]) -> Result<usize, EndFault>
         ensures bound { IfOk result (λ n. n ≤ length bytes.now) }
         ensures takes { Takes (state self.old) (state self.new) result bytes.now };

@@ -6,7 +6,7 @@ ghost use Rattle.le_rec.specs.Laws.{EqualRecordsHaveEqualBytes, RecordsAreJoined
 
 use crate::record::Record;
 
-/// What bytes hold is a record whose fields are in their ranges.
+/// The record in some bytes has its fields in their ranges.
 pub fn records_are_in_range<R: Record>()
     ensures { RecordsAreInRange R.SIZE R.layout }
 {}

@@ -57,9 +57,9 @@ impl Name8 {
         self.bytes
     }
 
-    /// Writes the name as it is shown to the front of `text`, and answers how many bytes that
-    /// takes: a visible ASCII character but `\` as it is, any other byte as `\x` with its
-    /// hexadecimal digits, two and in lower case.
+    /// Writes the name as it is shown to the front of `text`, and returns how many bytes that
+    /// takes. A visible ASCII character but `\` is written unchanged, any other byte as `\x` with
+    /// its two hexadecimal digits in lower case.
     pub fn shown(&self, text: &mut [u8; 32]) -> usize
         ensures len { result ≡ length (shown_name self.now) }
         ensures text { text.new ≡ shown_name self.now ++ drop result text.old }

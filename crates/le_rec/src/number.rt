@@ -35,7 +35,7 @@ pub fn i32_at(bytes: &[u8], at: usize) -> i32
     LittleEndian::read_i32(&bytes[at..])
 }
 
-/// The four bytes of the magic at `at`, by which a file tells what it is.
+/// The four bytes of the magic at `at`, which tells the kind of a file.
 #[inline]
 pub fn magic_bytes_at(bytes: &[u8], at: usize) -> [u8; 4]
     requires { at + 4 ≤ length bytes.now }

@@ -9,8 +9,7 @@ use crate::number::{
 use crate::record::Record;
 
 /// An entry of a WAD file's directory (`filelump_t` of w_wad.h): the place of a lump in the file
-/// and its size, both in bytes, and its name, with NULs after it where it has fewer than eight
-/// bytes.
+/// and its size, both in bytes, and its name. NULs follow a name of fewer than eight bytes.
 #[derive(Clone, Copy, Debug, PartialEq, Eq)]
 pub struct Entry {
     pub filepos: i32,
@@ -405,7 +404,7 @@ impl Record for Sector {
     ghost sized = { refl };
 }
 
-/// A word: a signed number of two bytes, of which a BLOCKMAP lump is a table (`P_LoadBlockMap` of
+/// A word: a signed number of two bytes. A BLOCKMAP lump is a table of them (`P_LoadBlockMap` of
 /// p_setup.c).
 #[derive(Clone, Copy, Debug, PartialEq, Eq)]
 pub struct Word {

@@ -1,4 +1,4 @@
-//! Tables of records, which lend their bytes.
+//! Tables of records, which borrow their bytes.
 
 ghost use Rattle.std.specs.Prelude.{◌≡◌, ◌<◌, ◌/◌, Some, length};
 ghost use Rattle.std.specs.List.{slice_get};
@@ -8,8 +8,8 @@ ghost use Rattle.le_rec.specs.Table.{records_of, rows_of};
 use crate::record::Record;
 use std::marker::{Model, PhantomData};
 
-/// Records one after another, decoded from the lent bytes at each call. The bytes after the last
-/// whole record are left over.
+/// Records one after another, decoded from the borrowed bytes at each call. The bytes after the
+/// last whole record are left over.
 #[derive(Drop)]
 pub struct Table<'a, R: Record> {
     bytes: &'a [u8],
@@ -45,7 +45,7 @@ impl<'a, R: Record> Table<'a, R> {
         self.bytes.len() / R::SIZE
     }
 
-    /// The record of a number, counted from 0, or None where there are not so many.
+    /// The record of a number, counted from 0, or None if there are fewer records.
     #[inline]
     pub fn get(&self, index: usize) -> Option<R>
         ensures { result ≡ slice_get self.now.records index }

@@ -14,8 +14,9 @@ use map_level::usual_name;
 use std::alloc::Allocator;
 use wad_dir::Set;
 
-/// What a level is written in. A lump is told by its place after the label, from 1 to 10, whose
-/// usual name `map_level::usual_name` gives. The first that holds, in this order, is the format.
+/// The format of a level. A lump is given by its place after the label, from 1 to 10;
+/// `map_level::usual_name` gives its usual name. The first that holds, in this order, is the
+/// format.
 #[derive(Clone, Copy, Debug, PartialEq, Eq)]
 pub enum Format {
     /// Text: the lump `TEXTMAP` follows the label.
@@ -26,8 +27,8 @@ pub enum Format {
     Hexen,
     /// The first place whose lump isn't inside its file.
     Outside(u32),
-    /// The nodes are in a later format, which begins with these bytes: `NODES` where it begins so,
-    /// and else `SSECTORS`.
+    /// The nodes are in a later format. These are the bytes with which `NODES` begins, if they are
+    /// of such a format, else those of `SSECTORS`.
     Extended([u8; 4]),
     /// Doom's, which `map_level::Level::at` opens.
     Doom,
@@ -51,7 +52,7 @@ pub fn format_of<A: Allocator>(set: &Set<'_, A>, g: usize) -> Format
     format_of_plain(set, g)
 }
 
-// The format where the names alone tell none.
+// The format, if it isn't decided by the names.
 fn format_of_plain<A: Allocator>(set: &Set<'_, A>, g: usize) -> Format
     requires plain { IsPlain set.now g }
     requires listed { g + 10 < length (joined set.now) }

@@ -1,4 +1,4 @@
-//! The entries that looking up the labels of levels gives.
+//! The entries that a look-up of the levels' labels gives.
 
 ghost use Rattle.std.specs.Prelude.{◌≡◌, ◌≢◌, ◌↔◌, ◌+◌, ◌<◌, ◌^◌, ℕ, List, IfOk, IfSome, IsSome, IsTrue, None, Some, length};
 ghost use Rattle.std.specs.List.{slice_get};
@@ -14,7 +14,7 @@ use std::alloc::{AllocError, Allocator};
 use std::collections::BTreeMap;
 use wad_dir::Set;
 
-/// Of each name that the label of a level has the last entry that has it, too: the one that a look-up of the name gives.
+/// For each name of a level's label, the last entry of that name: the one that a look-up gives.
 #[derive(Drop)]
 pub struct Holders<A: Allocator> {
     holders: BTreeMap<[u8; 8], usize, A>,
@@ -38,7 +38,7 @@ impl<A: Allocator + Copy> Holders<A> {
         Ok(Holders { holders })
     }
 
-    /// Whether looking the name of a level's label up, as a query, doesn't give this label.
+    /// Whether a look-up of the label's name, as a query, gives another entry or none.
     pub fn is_hidden(&self, name: &Name8, g: usize) -> bool
         ensures { (all : List (List ℕ)) → AreLabelHolders all self.now.holders → LevelStartsAt all g
             → slice_get all g ≡ Some name.now → IsTrue result ↔ ¬ Wins all (query_of name.now) g }
@@ -101,7 +101,7 @@ fn move_holder<A: Allocator>(holders: &mut BTreeMap<[u8; 8], usize, A>, bytes: &
     }
 }
 
-// Whether looking a label's name up doesn't give that label.
+// Whether a look-up of a label's name gives another entry or none.
 fn is_hidden<A: Allocator>(holders: &BTreeMap<[u8; 8], usize, A>, name: &Name8, g: usize) -> bool
     ensures { (all : List (List ℕ)) → AreHolders all (length all) holders.now → HasName holders.now name.now
         → slice_get all g ≡ Some name.now → IsTrue result ↔ ¬ Wins all (query_of name.now) g }

@@ -9,9 +9,9 @@ use le_rec::Name8;
 use std::alloc::Allocator;
 use wad_dir::Set;
 
-/// The number of the first entry from one on at which a level starts, or None where none does. A
-/// call looks only at the entries up to the one that it answers and the one behind it, so asking
-/// again from the next entry on goes over a set's entries once.
+/// The number of the first entry at which a level starts, from a given one on, or None if there is
+/// none. A call looks only at the entries up to that one and at the next. So calls that each ask
+/// from the next entry on go over a set's entries once.
 pub fn next_start<A: Allocator>(set: &Set<'_, A>, from: usize) -> Option<usize>
     ensures some { IfSome result (IsNextStart (names set.now) from) }
     ensures none { IfNone result (NoneStartsFrom (names set.now) from) }
@@ -42,7 +42,7 @@ pub fn is_named<A: Allocator>(set: &Set<'_, A>, g: usize, name: Name8) -> bool
     }
 }
 
-/// The name of an entry, by the list of names.
+/// The name of an entry, or None if there is no such entry.
 pub fn name_at<A: Allocator>(set: &Set<'_, A>, g: usize) -> Option<Name8>
     ensures { result ≡ slice_get (names set.now) g }
 {

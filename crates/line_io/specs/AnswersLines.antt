@@ -46,8 +46,7 @@ pub record AnswersFront (answer : List ℕ → List ℕ) (block : List ℕ) (out
   pub front : OnErr result (TakesFront out out' (answers_from answer [] block))
   pub unbroken : IfErr result (λ e. e ≡ Memory → LeavesWhole answer [] block out out')
 
--- of an input from which `read` was read up to `limit`, which had `left` left where that is known,
--- the lines are answered by `answer`
+-- the lines of an input are answered by `answer`: `read` was read of it, up to `limit`, and `left` is what it had left, if that is known
 pub record WritesAnswers (answer : List ℕ → List ℕ) (limit : ℕ) (read : List ℕ)
     (input : SourceState) (out out' : SinkState) (result : Result (Unit {0}) IoFault) : Type 0 where
   -- at Ok the text of all that was read was written
@@ -61,8 +60,7 @@ pub record WritesAnswers (answer : List ℕ → List ℕ) (limit : ℕ) (read : 
   -- at `Memory` no answer was written in part
   pub unbroken : IfErr result (λ e. e ≡ Memory → LeavesWhole answer [] (take limit read) out out')
 
--- the engine whose answers are told by each function of a line's content of which `Answers` holds,
--- which take memory or not, reads up to `limit` and answers `result`
+-- an engine reads up to `limit` and ends with `result`; its answers follow each function of `Answers`, from a line's content, and take memory or not
 pub record AnswersLines (Answers : (List ℕ → List ℕ) → Type 0) (memory : Bool) (limit : ℕ)
     (input input' : SourceState) (out out' : SinkState)
     (result : Result (Unit {0}) IoFault) : Type 0 where

@@ -3,12 +3,11 @@ use Rattle.std.specs.Prelude.{ℕ, List, [], ◌∷◌, ◌++◌, length, nat_lt
 use Rattle.std.specs.List.{flat_map}
 use Rattle.line_io.specs.Lines.{content, ended_from, last_line, lines}
 
--- what a line is answered whose content has no allowed form
+-- the answer to a line whose content has no allowed form
 abbrev pub form_refused : List ℕ
 form_refused = codes "refused: form" ++ 10 ∷ []
 
--- the answer to a line: its content has at most 64 bytes, and `answer`
--- tells what those are answered
+-- the answer to a line: by `answer` from its content, if that has at most 64 bytes
 unfoldable pub line_answer : (List ℕ → List ℕ) → List ℕ → List ℕ
 line_answer answer line =
     if nat_lt 64 (length (content line)) then form_refused else answer (content line)

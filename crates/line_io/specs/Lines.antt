@@ -28,8 +28,8 @@ abbrev pub content : List ℕ → List ℕ
 content line =
     if slice_index line (length line - 1) == 13 then take (length line - 1) line else line
 
--- `parts` are the lines of `input`: those that a byte 10 ends and the part behind them, which is
--- one only if it isn't empty, together are the input, and none holds a byte 10
+-- `parts` are the lines of `input`: those that a byte 10 ends, and a last part, which is one only if it isn't empty. Joined with these bytes 10 they are
+-- the input, and none holds a byte 10
 pub record AreLines (input : List ℕ) (parts : List (List ℕ)) : Type 0 where
   pub ended : List (List ℕ)
   pub last : List ℕ

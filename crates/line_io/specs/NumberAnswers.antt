@@ -5,12 +5,11 @@ use Rattle.line_io.specs.Numbers.{AreNumbers, HasForm}
 use Rattle.line_io.specs.declared.refusal.LineRefusal.{LineRefusal}
 use Rattle.line_io.specs.declared.refusal.LineRefusal.TheVariants.{Form, Range}
 
--- what a line is answered with a number that isn't allowed
+-- the answer to a line with a number that isn't allowed
 abbrev pub range_refused : List ℕ
 range_refused = codes "refused: range" ++ 10 ∷ []
 
--- the answers to contents are these: numbers that are allowed are told their text, so many others and other contents
--- are refused
+-- the answers to contents: allowed numbers get their text; as many numbers that aren't allowed, and other contents, are refused
 pub record AnswersNumbers (count : ℕ) (Allowed : List ℤ → Type 0) (Tells : List ℤ → List ℕ → Type 0) (answer : List ℕ → List ℕ) : Type 0 where
   pub told : (content : List ℕ) (numbers : List ℤ) → AreNumbers content numbers → length numbers ≡ count → Allowed numbers → Tells numbers (answer content)
   pub range : (content : List ℕ) (numbers : List ℤ) → AreNumbers content numbers → length numbers ≡ count → ¬ Allowed numbers → answer content ≡ range_refused
@@ -30,7 +29,7 @@ abbrev pub RefusesContent : ℕ → (List ℤ → Type 0) → List ℕ → LineR
 RefusesContent count Allowed content Form = (numbers : List ℤ) → ¬ HasForm count content numbers
 RefusesContent count Allowed content Range = (numbers : List ℤ) × HasForm count content numbers × (¬ Allowed numbers)
 
--- what a refused content is answered
+-- the answer to a refused content
 abbrev pub refusal_text : LineRefusal → List ℕ
 refusal_text Form = form_refused
 refusal_text Range = range_refused

@@ -16,7 +16,7 @@ pub record IsHeld (limit : ℕ) (held : Option (List ℕ)) (file : List ℕ) : T
   pub keeps : Keeps held (Some file)
   pub few : length file ≤ limit
 
--- why a file isn't read of which at most `limit` bytes are: one that has no more is never too long
+-- why a file isn't read, if at most `limit` bytes may be: a file that has no more is never too long
 abbrev pub RefusesFile : ℕ → Option (List ℕ) → StorageFault → Type 0
 RefusesFile limit held Unopened = ⊤
 RefusesFile limit held Unread = ⊤
@@ -33,7 +33,7 @@ AreHeld held [] [] = ⊤
 AreHeld held (path ∷ paths) (file ∷ files) = IsHeld MAX_READ (held path) file × AreHeld held paths files
 AreHeld held _ _ = ⊥
 
--- the files before one were read, and have together no more than the most
+-- the files before a place were read, and have together at most `most` bytes
 pub record IsReached (most : ℕ) (held : List ℕ → Option (List ℕ)) (paths : List (List ℕ)) (place : ℕ) : Type 0 where
   pub before : List (List ℕ)
   pub path : List ℕ
@@ -44,7 +44,7 @@ pub record IsReached (most : ℕ) (held : List ℕ → Option (List ℕ)) (paths
   pub read : AreHeld held before files
   pub fits : total_length files ≤ most
 
--- why a file isn't read of which at most MAX_READ bytes are, and no more than those before it leave
+-- why a file isn't read, if it may have MAX_READ bytes, and no more than the files before it leave
 abbrev pub RefusesNext : ℕ → List (List ℕ) → Option (List ℕ) → StorageFault → Type 0
 RefusesNext most files held TooLong = IfSome held (λ file. (MAX_READ < length file) ⊎ (most < total_length files + length file))
 RefusesNext most files held fault = ⊤

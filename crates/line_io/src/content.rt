@@ -9,24 +9,23 @@ ghost use Rattle.line_io.specs.Scan.{StartsWith, LacksNumber};
 
 use super::lines::MAX_CONTENT;
 
-/// The numbers that stand in a line's content.
+/// The numbers in a line's content.
 #[derive(Clone, Copy, Debug, PartialEq, Eq)]
 pub struct Numbers<const N: usize> {
     /// The numbers, each as the `i32` that is nearest to it.
     pub values: [i32; N],
-    /// Whether the content is known to be their text as they are printed,
-    /// so that it can stand in an answer.
+    /// Whether the content is known to be their printed text, so that an answer can repeat it.
     pub is_printed: bool,
 }
 
-/// Where a magnitude stops to grow.
+/// Magnitudes are capped here.
 const CAP: u64 = 2_147_483_648;
 
 /// The numbers of an input line's content: texts of an optional `-` and digits, with one space
-/// between two, in 64 bytes at most. None where it isn't so many numbers.
+/// between two, in 64 bytes at most. None if it isn't `N` numbers.
 ///
-/// A number may have more digits than any integer type holds: whether it is allowed is
-/// told by the type that is made of it.
+/// A number may have more digits than any integer type holds. The type that is made of it decides
+/// whether it is allowed.
 pub fn read_numbers<const N: usize>(content: &[u8]) -> Option<Numbers<N>>
     ensures some { IfSome result (λ found.
         (exact : List ℤ) × HasForm N content.now exact × (found.values ≡ map nearest exact)) }
@@ -52,8 +51,8 @@ pub fn read_numbers<const N: usize>(content: &[u8]) -> Option<Numbers<N>>
     Some(Numbers { values, is_printed })
 }
 
-// The number that the bytes begin with, behind a space where it is separated from one before,
-// whether it stands there as it is printed, and what follows it.
+// The number that the bytes begin with, whether it is written as it is printed, and what follows
+// it. A space comes first if it is separated from a number before.
 #[inline]
 fn item(separated: bool, bytes: &[u8]) -> Option<(i32, bool, &[u8])>
     ensures { MatchOption result (LacksNumber separated bytes.now)
@@ -82,8 +81,8 @@ fn number(bytes: &[u8]) -> Option<(i32, bool, &[u8])>
     Some((signed(negative, magnitude), plain, &unsigned[count..]))
 }
 
-// Whether a sign and digits stand there as their number is printed: without a
-// leading zero, and with no `-` before 0.
+// Whether a sign and digits are written as their number is printed: without a leading zero, and
+// with no `-` before 0.
 #[inline]
 fn is_plain(negative: bool, digits: &[u8], magnitude: u64) -> bool
     requires { 0 < length digits.now }

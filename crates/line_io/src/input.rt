@@ -32,9 +32,8 @@ pub const MAX_READ: u64 = 268_435_456;
 /// The most bytes that are pulled at once.
 pub const BLOCK: usize = 65_536;
 
-/// Reads `input` to its end, at most one byte past `limit`. `TooLong` where it has
-/// more than `limit` bytes, `Memory` where there is no room for those read so far.
-/// After a failed pull there is no other.
+/// Reads `input` to its end, and at most one byte past `limit`. `TooLong` if it has more than `limit` bytes,
+/// `Memory` if there is no room for those read so far. After a failed pull it pulls no more.
 pub fn read_all<S: Source, A: Allocator>(
     alloc: A,
     input: &mut S,
@@ -47,7 +46,8 @@ pub fn read_all<S: Source, A: Allocator>(
     read_again(Vec::new(alloc), input, limit)
 }
 
-/// As [`read_all`], in the room of `bytes`, whose own bytes go: memory that the last input took serves the next.
+/// As [`read_all`], into the memory of `bytes`, whose own bytes are dropped. So one input reuses the memory of
+/// the last.
 pub fn read_again<S: Source, A: Allocator>(
     bytes: Vec<u8, A>,
     input: &mut S,

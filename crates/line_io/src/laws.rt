@@ -1,8 +1,8 @@
 //! Laws of the definitions alone, each the contract of a function that does nothing.
 ghost use Rattle.line_io.specs.Laws as law;
 
-/// The lines of an input, each but a last part with its byte 10, joined are the input, none holds a
-/// byte 10, and no other parts of it are so.
+/// The lines of an input, joined, are the input: a byte 10 follows each but a last part. No line
+/// holds a byte 10, and no other parts of the input are so.
 pub fn an_input_has_its_lines()
     ensures cut { law.LinesAreLines }
     ensures only { law.OnlyLines }
@@ -23,12 +23,12 @@ pub fn one_reading()
     ensures { law.OneReading }
 {}
 
-/// What is printed of a number is its one text of digits with no leading zero.
+/// The printed text of a number is its only text of digits without a leading zero.
 pub fn one_text()
     ensures { law.OneText }
 {}
 
-/// What is printed of a number is read as that number.
+/// The printed text of a number is read as that number.
 #[tactic(auto, using(crate::proofs::TextLemmas::printed_is_read))]
 pub fn printed_is_read()
     ensures { law.PrintedIsRead }

@@ -1,7 +1,6 @@
-//! Lines in, lines out, for any program: sources read in blocks, lines cut and kept, the
-//! numbers of a line, decimal text, the one loop over `put`, the engine of lines on which a
-//! command over lines of input stands, an input and an output tied to one another, and files
-//! read whole under their paths.
+//! Lines in, lines out, for any program: sources read in blocks, lines cut and kept, the numbers of
+//! a line, decimal text, the one loop over `put`, the engine for commands over lines of input, an
+//! input and an output tied to one another, and files read whole by their paths.
 #![tactic(auto)]
 
 mod content;

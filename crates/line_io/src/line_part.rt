@@ -60,7 +60,7 @@ impl LinePart {
         self.len = end;
     }
 
-    /// Lets go of all bytes.
+    /// Drops all bytes.
     pub fn clear(&mut self)
         ensures { self.new ≡ [] }
     {

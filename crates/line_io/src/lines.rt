@@ -1,4 +1,4 @@
-//! The engine of lines, on which every command over lines of input stands.
+//! The engine for commands over lines of input.
 ghost use Rattle.std.specs.Prelude.{◌≡◌, ◌≢◌, ◌⊎◌, ℕ, ◌≤◌, Bool, false, List, [], ◌∷◌, ◌++◌, length};
 ghost use Rattle.std.specs.Prelude.{take, IfErr, IfOk, IfSome, OnOk, MatchOption};
 ghost use Rattle.std.specs.List.{All};
@@ -21,7 +21,7 @@ pub const MAX_CONTENT: usize = 64;
 
 /// A command that answers each line of its input by itself.
 pub trait LineCommand {
-    /// Which functions tell its answers: from a line's content to the answer with its byte 10.
+    /// The functions that its answers follow: from a line's content to the answer with its byte 10.
     ghost Answers: { Self → (List ℕ → List ℕ) → Type 0 };
 
     /// Whether an answer takes memory.
@@ -127,8 +127,8 @@ pub fn split_content(bytes: &[u8]) -> Option<(&[u8], &[u8])>
     Some((content, rest))
 }
 
-// Answers the lines that end in `block`, the first of them begun by
-// `part`, and keeps the part after them.
+// Answers the lines that end in `block`; `part` has the beginning of the first of them. Then keeps the part after
+// them.
 fn answer_block<C: LineCommand, W: Sink>(
     command: &mut C,
     part: &mut LinePart,

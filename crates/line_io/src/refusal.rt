@@ -5,7 +5,7 @@ ghost use Rattle.line_io.specs.NumberAnswers.{refusal_text};
 /// Why a line is refused.
 #[derive(Clone, Copy, Debug, PartialEq, Eq)]
 pub enum LineRefusal {
-    /// Its content isn't so many numbers in 64 bytes.
+    /// Its content isn't the right count of numbers in 64 bytes.
     Form,
     /// A number isn't allowed.
     Range,

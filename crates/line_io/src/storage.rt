@@ -1,4 +1,4 @@
-//! Files under paths, read whole.
+//! Files by their paths, read whole.
 ghost use Rattle.std.specs.Prelude.{◌≡◌, ◌<◌, ◌≤◌, map, vec_len, IfErr, IfOk, length};
 ghost use Rattle.std.specs.Io.KnownBytes.{Keeps};
 ghost use Rattle.line_io.specs.Storage.{AreHeld, IsHeld, RefusesFile, RefusesFiles, bytes_of, total_length};
@@ -13,7 +13,7 @@ use std::rt::Files;
 use std::str;
 use thiserror::Error;
 
-/// Where files are opened by their paths.
+/// A place where files are opened by their paths.
 pub trait Storage {
     ghost use Rattle.std.specs.Prelude.{ℕ, List, Option, IfOk};
     ghost use Rattle.std.specs.Io.KnownBytes.{Keeps};
@@ -68,7 +68,7 @@ pub enum StorageFault {
     Memory,
 }
 
-/// Reads the file under a path to its end, in the memory of `room`, whose own bytes go.
+/// Reads the file under a path to its end, into the memory of `room`, whose own bytes are dropped.
 pub fn read_file<S: Storage>(
     room: Vec<u8>,
     storage: &S,
@@ -85,7 +85,7 @@ pub fn read_file<S: Storage>(
     }
 }
 
-/// Reads an input to its end, in the memory of `room`, whose own bytes go.
+/// Reads an input to its end, into the memory of `room`, whose own bytes are dropped.
 pub fn read_whole<R: Read + Drop>(
     room: Vec<u8>,
     input: R,

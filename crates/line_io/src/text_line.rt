@@ -10,8 +10,8 @@ use std::marker::Model;
 /// The most bytes of a [`TextLine`], 144.
 pub const ROOM: usize = 144;
 
-/// A line of text in the making, kept on the stack. It is filled from its end to its start, so that
-/// the digits of a number are written where they stay. Contracts see the bytes so far.
+/// A line of text that is built on the stack. It is filled from its end to its start, so that the digits of a number are
+/// written in their place at once. Contracts see the bytes so far.
 #[derive(Drop)]
 pub struct TextLine {
     bytes: [u8; ROOM],
@@ -41,7 +41,7 @@ impl TextLine {
         }
     }
 
-    /// Makes it the empty line again.
+    /// Empties the line.
     #[inline]
     pub fn clear(&mut self)
         ensures { self.new ≡ [] }
@@ -116,8 +116,8 @@ impl TextLine {
     }
 }
 
-// Writes the digits of a number so that they end at `end`, and tells where they start. All three are written
-// and the leading zeros left out, so that no branch is taken on what the number is.
+// Writes the digits of a number so that they end at `end`, and returns where they start. All three are written and the
+// leading zeros left out, so that no branch depends on the number.
 #[inline]
 fn write_small(number: u8, bytes: &mut [u8], end: usize) -> usize
     requires { (3 ≤ end) × (end ≤ length bytes.old) }
@@ -131,8 +131,8 @@ fn write_small(number: u8, bytes: &mut [u8], end: usize) -> usize
     end - 1 - (wide + 246) / 256 - (wide + 156) / 256
 }
 
-// Writes the digits of a number behind its sign, so that they end at `end`, and tells where the text starts. The sign is
-// written in any case and left out where there is none, so that no branch is taken on it.
+// Writes the digits of a number behind its sign, so that they end at `end`, and returns where the text starts. The sign
+// is always written, and left out if there is none, so that no branch depends on it.
 #[inline]
 fn write_small_integer(number: i8, bytes: &mut [u8], end: usize) -> usize
     requires { (4 ≤ end) × (end ≤ length bytes.old) }

@@ -1,4 +1,4 @@
-//! An input and an output tied to one another: before a read that may wait, what was answered is written out.
+//! An input and an output tied to one another: answers are flushed before each read, which may wait.
 
 ghost use Rattle.std.specs.Prelude.{◌≡◌, IfErr};
 ghost use Rattle.line_io.specs.declared.fault.IoFault.TheVariants.{Write as WriteFault};
@@ -9,14 +9,14 @@ use std::cell::{Cell, RefCell, RefMut};
 use std::io;
 use std::io::{BufWriter, Read, Write};
 
-/// The most bytes that a tied output holds back.
+/// The most bytes that a tied output buffers.
 pub const BUFFER: usize = 65536;
 
-/// A writer behind a buffer that a reader can empty.
+/// A writer behind a buffer that a reader can flush.
 #[derive(Drop)]
 pub struct TiedWriter<W: Write + Drop> {
     buffer: RefCell<BufWriter<W>>,
-    // Whether the buffer couldn't be emptied at some time.
+    // Whether a flush has failed.
     failed: Cell<bool>,
 }
 
@@ -32,14 +32,14 @@ impl<W: Write + Drop> TiedWriter<W> {
         }
     }
 
-    // The buffer. It is free: each call gives it back at its end.
+    // The buffer. Nothing else borrows it, as each call ends its own borrow.
     fn buffer(&self) -> io::Result<RefMut<'_, BufWriter<W>>> {
         self.buffer
             .try_borrow_mut()
             .map_err(|_| io::Error::from(io::ErrorKind::ResourceBusy))
     }
 
-    // Writes out what is held back.
+    // Flushes the buffer.
     fn empty(&self) -> io::Result<()> {
         let emptied = self.buffer()?.flush();
         if emptied.is_err() {
@@ -48,7 +48,7 @@ impl<W: Write + Drop> TiedWriter<W> {
         emptied
     }
 
-    /// Writes out what is still held back. `Write` where that fails or has failed before, also where a read met it.
+    /// Flushes the buffer. `Write` if that fails, or if it failed before, also before a read.
     pub fn close(&self) -> Result<(), IoFault>
         ensures { IfErr result (λ fault. fault ≡ WriteFault) }
     {
@@ -69,7 +69,7 @@ impl<W: Write + Drop> Write for &TiedWriter<W> {
     }
 }
 
-/// A reader that has the writer's buffer emptied before each read.
+/// A reader that flushes the writer's buffer before each read.
 #[derive(Drop)]
 pub struct TiedReader<'a, R: Read, W: Write + Drop> {
     reader: R,
@@ -79,7 +79,7 @@ pub struct TiedReader<'a, R: Read, W: Write + Drop> {
 impl<'a, R: Read, W: Write + Drop> TiedReader<'a, R, W> {
     ghost use Rattle.line_io.specs.Tied.{tied_reader_of};
 
-    /// A reader that has `writer` write out its buffer before each read.
+    /// A reader that flushes the buffer of `writer` before each read.
     pub fn new(reader: R, writer: &'a TiedWriter<W>) -> Self
         ensures { tied_reader_of result ≡ reader }
     {

@@ -32,15 +32,14 @@ FirstStandsBefore =
     × ((other : Finding) → AuditHolds level other.code other.index → other ≢ first
     → StandsBefore first other)
 
--- where it is no fault, or there is none, no fault holds
+-- if it is no fault, or there is none, no fault holds
 abbrev pub FaultsStandFirst : Type 0
 FaultsStandFirst =
     (level : Level) (found : List Finding) → AreFindings (AuditHolds level) found
     → ((first : Finding) → slice_get found 0 ≡ Some first → ¬ IsTrue (is_fault first.code))
     → NoFaultHolds (AuditHolds level)
 
--- what files hold under a name is sound under the wide reading where it is under the signed one,
--- with the same leaves and sectors
+-- if what files hold under a name is sound under the signed reading, it is sound under the wide one, with the same leaves and sectors
 abbrev pub WideKeepsSound : Type 0
 WideKeepsSound =
     (files : List Wad) (name : List ℕ) (signed wide : Level) → AreFiles files →

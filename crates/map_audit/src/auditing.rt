@@ -41,7 +41,7 @@ impl<'l, 'a, A: Allocator> Model for Parts<'l, 'a, A> {
 }
 
 impl<'l, 'a, A: Allocator + Copy> Parts<'l, 'a, A> {
-    /// The parts of a level, whose nodes and ssectors are gone over once.
+    /// The parts of a level. Its nodes and ssectors are gone over once.
     pub fn of(alloc: A, level: &'l Level<'a>) -> Result<Parts<'l, 'a, A>, AllocError>
         ensures { IfOk result (λ parts. parts ≡ level.now) }
     {

@@ -14,14 +14,14 @@ pub fn one_report()
     ensures { OneReport }
 {}
 
-/// A report's first finding stands before all others, and faults stand first.
+/// A report's first finding comes before all others, and faults come first.
 pub fn faults_stand_first()
     ensures first { FirstStandsBefore }
     ensures none { FaultsStandFirst }
 {}
 
-/// Soundness under the signed reading carries over to the wide one; the leaf of each point and the
-/// sector of each ssector stay.
+/// A level that is sound under the signed reading is sound under the wide one. The leaf of each
+/// point and the sector of each ssector are the same.
 pub fn wide_keeps_sound()
     ensures { WideKeepsSound }
 {}

@@ -45,7 +45,7 @@ pub record AddsRow (level : Level) (grid : Grid) (j n : ℕ) (before after : Lis
   pub whole : IsRow level grid j n row
   pub is : after ≡ before ++ row
 
--- a cell in column i of a row tells the sector that is shown at its point
+-- a cell in column i of a row has the sector that is shown at its point
 abbrev pub TellsCell : Level → Row → ℕ → Option ℕ → Type 0
 TellsCell level row i told = (s : ℕ) → (told ≡ Some s) ↔ IsShown level (cell_x row.grid i) (cell_y row.grid row.j) s
 

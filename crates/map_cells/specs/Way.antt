@@ -23,7 +23,7 @@ SidesLead level point (suc steps) (ssector t) to = ⊥
 abbrev pub ComesTo : Level → Point → ℕ → ℕ → Type 0
 ComesTo level point steps word = SidesLead level point steps (root level) (place_of word)
 
--- all points of a row from a column up to another have come there
+-- all points of a row from a column up to another have reached that place
 abbrev pub AllCome : Level → Row → ℕ → ℕ → ℕ → Type 0
 AllCome level row from end word = (i : ℕ) → from ≤ i → i < end → (steps : ℕ) × ComesTo level (point_of row i) steps word
 

@@ -8,8 +8,8 @@ ghost use Rattle.map_cells.specs.Grid.{columns_of, rows_of};
 use crate::cells::Cells;
 use std::alloc::Allocator;
 
-/// Cells that show one sector: so many in width and height, from a column and a row on. All its rows have it as a run that
-/// can't be made longer, and the rows below and above it don't.
+/// Cells that show one sector: a width and a height, from a column and a row on. Each of its rows has these cells as a run that
+/// can't be longer, and the rows below and above it don't.
 #[derive(Clone, Copy, Debug, PartialEq, Eq)]
 pub struct Block {
     pub column: u16,
@@ -27,7 +27,7 @@ impl<A: Allocator> Cells<A> {
         ensures { (b : block.Block) → (result ≡ Some b) ↔ BeginsAt (cell self.now) i j b }
     {
         let sector = self.get(i, j)?;
-        // The run is looked through where it begins, and nowhere else.
+        // A run is looked through only where it begins.
         if self.goes_on(sector, i, j) {
             return None;
         }
@@ -76,7 +76,7 @@ impl<A: Allocator> Cells<A> {
         i > 0 && self.shows(sector, i - 1, j)
     }
 
-    // How long the run is that begins in column i and goes up to another; None where it begins on the left.
+    // The length of the run that begins in column i and goes up to `end`; None if it begins further left.
     #[inline]
     fn run_at(&self, sector: u16, i: usize, j: usize, end: usize) -> Option<usize>
         requires here { cell self.now i j ≡ Some sector }
@@ -115,14 +115,14 @@ impl<A: Allocator> Cells<A> {
         requires few { i + n ≤ 1024 }
         ensures { IsTrue result ↔ IsRun (cell self.now) sector i j n }
     {
-        // The ends mostly differ first.
+        // Runs mostly differ at their ends, so these are compared first.
         if self.goes_on(sector, i, j) {
             return false;
         }
         !self.shows(sector, i + n, j) && self.shows_all(sector, i, i + n, j)
     }
 
-    // The first row from one on that doesn't have the run.
+    // The first row without the run, from a given one on.
     #[inline]
     fn run_rows(&self, sector: u16, i: usize, j: usize, n: usize) -> usize
         requires run { IsRun (cell self.now) sector i j n }

@@ -22,8 +22,8 @@ use map_tree::NF_SUBSECTOR;
 use std::alloc::{AllocError, Allocator, Global};
 use std::marker::Model;
 
-/// Of how many columns, and cells in rows whose points are all in range, a picture has to be for its rows to go down the nodes together.
-/// Of smaller ones each point goes by itself: they gain less than the start of it takes.
+/// From how many columns, and cells in rows with all points in range, a picture's rows go down the nodes together. In smaller
+/// pictures each point goes alone: they gain less than the start takes.
 const COLUMNS_TOGETHER: usize = 8;
 
 const CELLS_TOGETHER: usize = 256;
@@ -54,8 +54,8 @@ impl<A: Allocator> Model for Cells<A> {
 impl<A: Allocator> Cells<A> {
     ghost use Rattle.map_cells.specs.Cells.{IsWhole};
 
-    /// What is shown at the points of a grid's cells. While it runs it takes ten bytes more for each seg that an ssector can name, where there
-    /// are four times as many cells and memory for that.
+    /// What is shown at the points of a grid's cells. If there are four times as many cells as segs that an ssector can name, and
+    /// memory for it, it takes ten bytes more for each of these segs while it runs.
     pub fn of<B: Allocator>(
         alloc: A,
         shown: &Shown<'_, '_, B>,
@@ -107,7 +107,7 @@ impl<A: Allocator> Cells<A> {
         self.seen.bound()
     }
 
-    // How many cells a row has, at most 1024, and that what is outside the grid shows nothing.
+    // How many cells a row has, at most 1024. The clauses add that nothing is shown outside the grid.
     #[inline]
     pub(crate) fn columns(&self) -> usize
         ensures value { result ≡ columns_of self.now.grid }
@@ -142,7 +142,7 @@ impl<A: Allocator> Cells<A> {
         self.seen.same_end(start + i, start + self.columns) - start
     }
 
-    // A column behind one up to which all cells of the row are known to show the same.
+    // A column up to which all cells of the row, from a given one on, are known to show the same.
     #[inline]
     pub(crate) fn known_end(&self, i: usize, j: usize) -> usize
         requires column { i < columns_of self.now.grid }
@@ -181,7 +181,7 @@ fn rows_in_range(grid: Grid) -> usize
     count
 }
 
-// What all cells show, each by itself.
+// What all cells show, each found alone.
 fn seen_by_points<A: Allocator, B: Allocator>(
     alloc: A,
     shown: &Shown<'_, '_, B>,
@@ -199,7 +199,7 @@ fn seen_by_points<A: Allocator, B: Allocator>(
     Ok(seen)
 }
 
-// The same, row by row, where so many cells are in rows whose points go down together.
+// The same, row by row. `together` cells are in rows whose points go down together.
 fn seen_by_rows<A: Allocator, B: Allocator>(
     alloc: A,
     shown: &Shown<'_, '_, B>,
@@ -256,7 +256,7 @@ fn push_each<A: Allocator, B: Allocator>(
     Ok(())
 }
 
-// Adds what a row of cells shows whose points are in range.
+// Adds what a row of cells shows, with all points in range.
 fn push_together<A: Allocator, B: Allocator>(
     shown: &Shown<'_, '_, B>,
     ends: &[Option<Ends>],

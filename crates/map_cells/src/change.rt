@@ -1,4 +1,4 @@
-//! Where along a row something ends to hold.
+//! The column of a row at which something stops to hold.
 
 ghost use Rattle.std.specs.Prelude.{◌<◌, ◌≤◌, ◌-◌};
 
@@ -18,7 +18,7 @@ pub trait ColumnTest {
         ensures { IsTrue result ↔ holds self.now i };
 }
 
-/// A column behind `from` of which something doesn't hold that holds of the one before it.
+/// A column after `from` at which something doesn't hold that holds at the one before it.
 #[inline]
 pub fn change<T: ColumnTest>(test: &T, from: u16, to: u16) -> u16
     requires ordered { from < to }

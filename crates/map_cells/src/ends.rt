@@ -38,7 +38,7 @@ pub fn seg_ends(level: &Level<'_>, i: usize) -> Option<Ends>
 /// How many segs an ssector can name: its first one by 16 bits, and so many from there on by 16 others.
 const NAMED: usize = 131_070;
 
-/// The ends of all segs that an ssector can name, where they are no more than that and there is memory for them: ten bytes a seg.
+/// The ends of all segs that an ssector can name, if they are at most `most` and there is memory for them: ten bytes a seg.
 pub fn listed_ends<A: Allocator>(alloc: A, level: &Level<'_>, most: usize) -> Vec<Option<Ends>, A>
     ensures { ListsEnds level.now result.items }
 {

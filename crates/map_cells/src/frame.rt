@@ -48,8 +48,8 @@ impl Frame {
         }
     }
 
-    /// The frame of a level: the least and greatest x and y of the ends of its linedefs, of those whose two vertexes are there;
-    /// None where there is no such linedef.
+    /// The frame of a level: the least and greatest x and y of the ends of its linedefs. Only linedefs with both vertexes
+    /// count; None if there is no such linedef.
     pub fn of(level: &Level<'_>) -> Option<Frame>
         ensures frame { (found : frame.Frame) → (result ≡ Some found) ↔ Encloses (IsEnd level.now) found }
         ensures none { (result ≡ None) ↔ ((v : Vertex) → ¬ IsEnd level.now v) }
@@ -98,7 +98,7 @@ impl Frame {
     }
 }
 
-// A frame with the ends of a linedef more, where it has both.
+// A frame that also holds the ends of a linedef, if it has both.
 #[inline]
 fn frame_with(frame: Option<Frame>, ends: Option<Ends>) -> Option<Frame>
     ensures { result ≡ frame_with frame ends }
@@ -112,7 +112,7 @@ fn frame_with(frame: Option<Frame>, ends: Option<Ends>) -> Option<Frame>
     }
 }
 
-// A frame with a vertex more.
+// A frame that also holds a vertex.
 #[inline]
 fn widened(frame: Option<Frame>, vertex: &Vertex) -> Frame
     ensures { result ≡ widened frame vertex.now }

@@ -13,14 +13,14 @@ use crate::shown::{SegRange, cross, is_before_segs, segs_of};
 use map_geo::Point;
 use map_level::Level;
 
-/// The columns from the first up to one that isn't theirs.
+/// Columns, from the first up to an end that isn't one of them.
 #[derive(Clone, Copy)]
 pub struct Span {
     pub first: u16,
     pub end: u16,
 }
 
-/// Those of some columns of a row that are behind none of the segs of an ssector.
+/// The columns of a span of a row that are behind none of an ssector's segs.
 pub fn front_of_segs(
     level: &Level<'_>,
     listed: &[Option<Ends>],
@@ -43,7 +43,7 @@ pub fn front_of_segs(
     }
 }
 
-// Those that are behind none of some segs, by the list of their ends.
+// The columns that are behind none of some segs, by the list of their ends.
 #[inline]
 fn front_of_listed(
     level: &Level<'_>,
@@ -68,7 +68,7 @@ fn front_of_listed(
     front
 }
 
-// The same of a single column, whose point is told as one alone is.
+// The same for a single column, with the test for a single point.
 #[inline]
 fn lone_front(level: &Level<'_>, t: u16, row: Row, span: Span) -> Span
     requires one { span.end ≡ span.first + 1 }
@@ -83,7 +83,7 @@ fn lone_front(level: &Level<'_>, t: u16, row: Row, span: Span) -> Span
     }
 }
 
-// Those that are behind none of some segs that aren't all listed.
+// The columns that are behind none of some segs, which aren't all listed.
 fn front_of_others(level: &Level<'_>, segs: SegRange, row: Row, span: Span) -> Span
     requires ordered { span.first ≤ span.end }
     requires within { span.end ≤ columns_of row.grid }
@@ -99,7 +99,7 @@ fn front_of_others(level: &Level<'_>, segs: SegRange, row: Row, span: Span) -> S
     left
 }
 
-// Those that aren't behind the seg of a number, whose ends are these.
+// The columns that aren't behind the seg of a number, with these ends.
 #[inline]
 fn front_of_seg(level: &Level<'_>, i: usize, ends: Option<Ends>, row: Row, span: Span) -> Span
     requires ends { seg_ends level.now i ≡ ends }
@@ -147,7 +147,7 @@ fn is_behind(ends: &Ends, point: Point) -> bool
     cross(ends, point) < 0
 }
 
-// Those that aren't behind a seg of two ends.
+// The columns that aren't behind a seg with two ends.
 #[inline]
 fn cut_by(ends: &Ends, row: Row, span: Span) -> Span
     requires some { span.first < span.end }
@@ -177,7 +177,7 @@ fn cut_by(ends: &Ends, row: Row, span: Span) -> Span
     }
 }
 
-// The same of a single column, for which one test is enough.
+// The same for a single column, which needs only one test.
 #[inline]
 fn cut_column(ends: &Ends, row: Row, span: Span) -> Span
     requires one { span.end ≡ span.first + 1 }

@@ -12,8 +12,9 @@ use crate::sector_counts::SectorCounts;
 use std::alloc::{AllocError, Allocator, Global};
 use std::marker::Model;
 
-/// The blocks of a picture's cells by the sectors that they show: eight bytes for each cell that shows one, since no sector has more blocks
-/// than cells, and 24 for each number up to the greatest shown sector's, 28 while `of` runs.
+/// The blocks of a picture's cells, by the sectors that they show. It takes eight bytes for each cell that shows a sector, as no
+/// sector has more blocks than cells. It takes 24 bytes for each number up to the greatest shown sector's, and 28 while `of`
+/// runs.
 #[derive(Drop)]
 pub struct Groups<A: Allocator = Global> {
     lists: Vec<Vec<Block, A>, A>,
@@ -64,7 +65,8 @@ impl<A: Allocator> Groups<A> {
     }
 }
 
-// So many lists of no block, each with room for as many as cells show its sector: it has no more blocks, so none of them grows.
+// Lists without blocks. Each has room for as many blocks as cells show its sector; no sector has more blocks, so none of the
+// lists grows.
 fn empty_lists<A: Allocator + Copy>(
     alloc: A,
     counts: &SectorCounts<A>,
@@ -98,13 +100,13 @@ fn add_row<A: Allocator, B: Allocator>(
 {
     let mut i = 0;
     while i < cells.columns() {
-        // Behind its first cell no block begins in a run.
+        // In a run, only its first cell begins a block.
         i = add_at(cells, i, j, lists)?;
     }
     Ok(())
 }
 
-// Adds the block that begins at a cell, where one does, and answers the first column behind it whose cell shows something else.
+// Adds the block that begins at a cell, if one does, and returns the first column after it whose cell shows something else.
 #[inline]
 fn add_at<A: Allocator, B: Allocator>(
     cells: &Cells<B>,

@@ -8,7 +8,7 @@ use crate::grid::Grid;
 use map_geo::Point;
 use std::marker::Model;
 
-/// A row of a grid's cells, the coordinates of all whose points are in -16384..16383.
+/// A row of a grid's cells whose points all have coordinates in -16384..16383.
 #[derive(Clone, Copy, Debug, PartialEq, Eq)]
 pub struct Row {
     grid: Grid,

@@ -7,11 +7,11 @@ ghost use Rattle.map_cells.specs.Seen.{seen_of};
 use std::alloc::{AllocError, Allocator, Global};
 use std::marker::Model;
 
-/// Above each code: a cell's number is its code, and this times how many cells behind it are known to show the same.
+/// A cell's number is its code plus this times how many cells after it are known to show the same.
 const CODES: u32 = 131_072;
 
-/// What cells show, in order: four bytes a cell. Two cells show the same where their codes are the same: 0 where nothing is shown, and
-/// else one more than the sector's number. The first of cells that came together knows of the others.
+/// What cells show, in order: four bytes a cell. A cell's code is 0 if it shows nothing, and else one more than the sector's
+/// number. Of cells that came together, the first knows of the others.
 #[derive(Drop)]
 pub struct Seen<A: Allocator = Global> {
     numbers: Vec<u32, A>,
@@ -32,7 +32,7 @@ impl<A: Allocator> Model for Seen<A> {
 }
 
 impl<A: Allocator> Seen<A> {
-    /// Nothing yet, with room for so many cells.
+    /// No cells, with room for so many.
     pub fn with_capacity(alloc: A, room: usize) -> Result<Seen<A>, AllocError>
         ensures { IfOk result (λ seen. seen ≡ []) }
     {
@@ -97,7 +97,7 @@ impl<A: Allocator> Seen<A> {
         shown_of(self.numbers[place] % CODES)
     }
 
-    /// A place behind one up to which all cells are known to show the same.
+    /// A place up to which all cells, from a given one on, are known to show the same.
     #[inline]
     pub fn known_end(&self, place: usize) -> usize
         requires { place < length self.now }
@@ -109,7 +109,7 @@ impl<A: Allocator> Seen<A> {
         place + behind + 1
     }
 
-    /// The first place from one up to another whose cell shows something else than the first.
+    /// The first place after `from` whose cell shows something else, or `to`.
     #[inline]
     pub fn same_end(&self, from: usize, to: usize) -> usize
         requires some { from < to }

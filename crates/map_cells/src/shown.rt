@@ -15,7 +15,7 @@ use map_tree::{SectorTree, Tree};
 use std::alloc::{AllocError, Allocator, Global};
 use std::marker::Model;
 
-/// A sound level, of which it tells which sector is shown at a point. It lends the level and lists the sectors of its ssectors.
+/// A sound level that can be asked which sector is shown at a point. It borrows the level, and lists the sectors of its ssectors.
 #[derive(Drop)]
 pub struct Shown<'l, 'a, A: Allocator = Global> {
     level: &'l Level<'a>,
@@ -35,7 +35,7 @@ impl<'l, 'a, A: Allocator> Model for Shown<'l, 'a, A> {
 }
 
 impl<'l, 'a, A: Allocator> Shown<'l, 'a, A> {
-    /// The level, of which `is_sound` or `sound_tree` told that it is sound.
+    /// The level, which is sound by `is_sound` or `sound_tree`.
     pub fn of(alloc: A, level: &'l Level<'a>) -> Result<Shown<'l, 'a, A>, AllocError>
         requires { IsSound level.now }
         ensures { IfOk result (λ shown. shown ≡ level.now) }
@@ -52,7 +52,7 @@ impl<'l, 'a, A: Allocator> Shown<'l, 'a, A> {
         self.level
     }
 
-    // Where it has its memory from.
+    // Its allocator.
     pub(crate) fn allocator(&self) -> &A {
         self.tree.allocator()
     }
@@ -91,7 +91,7 @@ pub fn is_before_segs(level: &Level<'_>, t: u16, point: Point) -> bool
     true
 }
 
-/// Numbers of segs: from the first on those below the end.
+/// Numbers of segs, from the first up to the end, without it.
 #[derive(Clone, Copy)]
 pub struct SegRange {
     pub first: usize,
@@ -144,7 +144,7 @@ fn is_behind(level: &Level<'_>, i: usize, point: Point) -> bool
     }
 }
 
-/// Below 0 where the point is behind: at most twice 65,535 by 49,151 in size, so more than 32 bits.
+/// Below 0 if the point is behind. At most twice 65,535 times 49,151 in size, so it needs more than 32 bits.
 #[inline]
 pub fn cross(ends: &Ends, point: Point) -> i64
     ensures { result ≡ cross ends.now point }

@@ -1,4 +1,4 @@
-//! The way of a row's points down the nodes: they go down in one, and are parted where a partition parts them.
+//! The way of a row's points down the nodes: they go down together, until a partition separates them.
 
 ghost use Rattle.std.specs.Prelude.{◌≡◌, ◌<◌, ◌≤◌, ℕ};
 ghost use Rattle.map_geo.specs.Partition.{partition_of};
@@ -19,14 +19,15 @@ use map_geo::{Partition, Side, side};
 use map_level::Level;
 use map_tree::{NF_SUBSECTOR, root_word, word_at};
 
-/// Columns of a row up to one that isn't theirs, and the child word of the place to which their points have come.
+/// Columns of a row, up to an end that isn't one of them, and the child word of the place that their points have reached.
 #[derive(Clone, Copy, Default)]
 pub struct Part {
     pub word: u16,
     pub end: u16,
 }
 
-/// What of a row hasn't come to an ssector yet, the part that comes first last: of at most as many parts as the row has cells.
+/// The parts of a row that haven't reached an ssector yet, the first part last. There are at most as many as the row has
+/// cells.
 pub type Pending = ArrayVec<Part, 1024>;
 
 /// The whole row at the root.
@@ -41,7 +42,7 @@ pub fn start(level: &Level<'_>, row: Row) -> Part
     }
 }
 
-/// Goes down with the first of the columns that are in hand until its ssector, and leaves pending what is parted from it.
+/// Takes the first of the columns in hand down to an ssector. Those that part from it are left pending.
 pub fn go_down(level: &Level<'_>, row: Row, from: u16, hand: Part, pending: &mut Pending) -> Part
     requires sound { IsSound level.now }
     requires some { from < hand.end }
@@ -129,8 +130,8 @@ fn part_at(node: &Node, row: Row, from: u16, end: u16) -> Parted
     }
 }
 
-// The first column behind one on a side whose point isn't there, or the end. A single column takes no test more, and of
-// two it is the second.
+// The first column after `from` whose point isn't on the side, or the end. A single column needs no further test. Of two
+// columns it is the second, if it isn't the end.
 #[inline]
 fn near_end(test: &OnSide, from: u16, end: u16) -> u16
     requires some { from < end }
@@ -153,8 +154,8 @@ fn near_end(test: &OnSide, from: u16, end: u16) -> u16
     met_end(test, from, last)
 }
 
-// The first column that isn't on the side of `from`, up to `last`, which isn't. The line of the partition comes nearer by
-// the same with each column, so that a division tells where it is met.
+// The first column up to `last` that isn't on the side of `from`; `last` isn't. The line of the partition comes nearer by the
+// same amount with each column, so a division finds where it is met.
 #[inline]
 fn met_end(test: &OnSide, from: u16, last: u16) -> u16
     requires ordered { from < last }

@@ -3,8 +3,8 @@
 
 ghost use Rattle.map_geo.specs.Laws.{SidesAlongRows, SidesAlongColumns, SidesByCorners};
 
-/// A row or a column crosses a partition at most once, so its points between two of one side have
-/// that side too, those on the partition's line included.
+/// A row or a column crosses a partition at most once. So if two of its points have one side, each
+/// point between them has it, too, also one on the partition's line.
 pub fn sides_along_a_line()
     ensures rows { SidesAlongRows }
     ensures columns { SidesAlongColumns }

@@ -63,8 +63,8 @@ impl Partition {
     }
 
     /// Above 0 in front of the partition, below 0 behind it, and 0 on its line: left - right in R_PointOnSide of
-    /// linuxdoom 1.10. It is at most 2,147,418,112 in size, and changes by dy from a column to the next, by -dx from a
-    /// row to the next.
+    /// linuxdoom 1.10. It is at most 2,147,418,112 in size. It changes by dy from one column to the next, and by -dx
+    /// from one row to the next.
     #[inline]
     pub fn cross(self, point: Point) -> i32
         ensures { result ≡ cross self point }
@@ -72,7 +72,7 @@ impl Partition {
         product(self.dy, self.x, point.x()) - product(self.dx, self.y, point.y())
     }
 
-    // Whether it goes up or down, so that the points of a column have one side.
+    // Whether it is vertical, so that all points of a column have one side.
     #[inline]
     pub(crate) fn is_upright(self) -> bool
         ensures { result ≡ true → self.dx ≡ pos 0 }
@@ -87,7 +87,7 @@ impl Partition {
     }
 }
 
-// A component of a direction by a difference of coordinates: at most 32,768 by 32,767 in size.
+// A component of a direction times a difference of coordinates: at most 32,768 times 32,767 in size.
 #[inline]
 fn product(step: i32, from: i32, to: i32) -> i32
     requires step_in { IsStep step }
@@ -126,6 +126,6 @@ pub fn side(point: Point, partition: Partition) -> Side
     if c == 0 {
         return side_of_tie(partition.dx, partition.dy, partition.is_origin(point));
     }
-    // Either side is as likely, so that this is to be chosen and not branched on.
+    // Both sides are equally likely, so this is a selection and not a branch.
     if c < 0 { Side::Back } else { Side::Front }
 }

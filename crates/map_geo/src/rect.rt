@@ -169,7 +169,8 @@ pub fn whole_side(rect: Rect, partition: Partition) -> Option<Side>
     corner_side(rect, partition)
 }
 
-// The side that the four corners have. Where the lowest row tells that of each other row, its two ends do.
+// The side of all four corners, if they have one side. If all rows have the sides of the lowest, its two
+// ends are enough.
 #[inline]
 fn corner_side(rect: Rect, partition: Partition) -> Option<Side>
     ensures corners { (s : Side) → (result ≡ Some s) ↔ AreCornersOn rect partition s }
@@ -193,7 +194,7 @@ fn is_told_by_lowest(rect: Rect, partition: Partition) -> bool
     (rect.y0() == rect.y1()) | partition.is_upright()
 }
 
-// The side that all four are. Which of them differ can't be told ahead, so nothing is branched on.
+// The side that all four are. Nothing predicts which of them differ, so there is no branch.
 #[inline]
 fn one_side(a: Side, b: Side, c: Side, d: Side) -> Option<Side>
     ensures { (s : Side) → (result ≡ Some s) ↔ (a ≡ s) × (b ≡ s) × (c ≡ s) × (d ≡ s) }

@@ -60,7 +60,7 @@ abbrev pub AreFindingsBelow : (Code → ℕ → Type 0) → ℕ → ℕ → List
 AreFindingsBelow holds at index found = AreAllInOrder StandsBefore
     (λ f. holds f.code f.index × ((rank f.code < at) ⊎ ((rank f.code ≡ at) × (f.index < index)))) found
 
--- an index is the first from one on at which a code holds
+-- an index is the first at which a code holds, from a given one on
 pub record IsFirst (holds : ℕ → Type 0) (from at : ℕ) : Type 0 where
   pub within : from ≤ at
   pub here : holds at

@@ -20,7 +20,7 @@ pub fn one_level_fault()
     ensures { OneLevelFault }
 {}
 
-/// What is searched has at most one list of findings, whatever the codes that are looked for.
+/// There is at most one list of findings, whatever is searched and whichever codes are looked for.
 pub fn one_list<T: Searched>()
     ensures { (searched : T) → OneList (T.holds searched) }
 {}

@@ -26,8 +26,8 @@ pub enum LevelFault {
     Outside(u32),
 }
 
-/// A level of several files. It keeps no records: its tables stand on the lumps' bytes, and read a
-/// record from them each time it is wanted.
+/// A level of several files. It keeps no records: its tables borrow the lumps' bytes, and read a
+/// record from them each time it is asked for.
 #[derive(Drop)]
 pub struct Level<'a> {
     label: usize,
@@ -53,8 +53,8 @@ impl<'a> Level<'a> {
     ghost use Rattle.map_level.specs.Level as level;
     ghost use Rattle.map_level.specs.Opening.{IsLevel, IsLevelAt, RefusesLevel, RefusesLevelAt};
 
-    /// The level whose label has the name, of the last entry where there are several: the ten lumps
-    /// are those of the ten entries after it, whatever their names, and may lie in a later file
+    /// The level whose label has the name; if several entries have it, the last. The ten lumps are
+    /// those of the ten entries after it, whatever their names, and may lie in a later file
     /// (`P_SetupLevel`).
     pub fn open<A: Allocator>(
         set: &Set<'a, A>,

@@ -1,5 +1,5 @@
-//! One pass over each table with the tests of all its codes: most tables have no finding at all, and their codes then need no
-//! pass of their own.
+//! One pass over each table, with the tests of all its codes. Most tables have no finding at all, and then none of their
+//! codes needs a pass of its own.
 
 ghost use Rattle.std.specs.Prelude.{◌<◌, ◌↔◌, ℕ, IsTrue};
 ghost use Rattle.map_level.specs.LinkBounds.{AreBounds, LinedefFound, SegFound, SsectorFound};
@@ -12,8 +12,8 @@ use crate::link_faults::{
 };
 use crate::search::bound_where;
 
-/// For each table of several codes a number above the indexes of all records at which one of them holds: 0 where there is
-/// no such record.
+/// For each table of several codes, a number above the indexes of all records at which one of them holds: 0 if there are
+/// none.
 #[derive(Clone, Copy)]
 pub struct Bounds {
     pub linedefs: u32,

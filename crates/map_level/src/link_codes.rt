@@ -26,7 +26,8 @@ pub fn link_findings<A: Allocator>(alloc: A, level: &Level<'_>) -> Result<Findin
     all_findings(alloc, &Links::of(level))
 }
 
-/// A level whose links are looked at: which tables have a finding at all was told by one pass over each.
+/// A level whose links are looked at. One pass over each table has shown which tables have a finding at
+/// all.
 #[derive(Drop)]
 pub struct Links<'l, 'a> {
     level: &'l Level<'a>,
@@ -74,7 +75,7 @@ impl<'l, 'a> Search for Links<'l, 'a> {
     }
 }
 
-// The first index from one on at which a code holds.
+// The first index at which a code holds, from a given one on.
 fn first_at(level: &Level<'_>, bounds: &Bounds, code: Code, from: u32) -> Option<u32>
     requires { AreBounds level.now bounds.now }
     ensures some { IfSome result (IsFirst (LinkHolds level.now code) from) }
@@ -83,7 +84,8 @@ fn first_at(level: &Level<'_>, bounds: &Bounds, code: Code, from: u32) -> Option
 {
     let count = index_bound(level, bounds, code);
     match code {
-        // No pass told of these two tables, so they are searched at each level: with a test of their own.
+        // No earlier pass looked at these two tables, so each level's are searched here, with a test of
+        // their own.
         Code::F5 => first_where(level, code, from, count, |i| {
             sidedef_sector_names_none(level, i)
         }),

@@ -27,8 +27,8 @@ use le_rec::{LineDef, Name8, SSector, Seg, Vertex};
 // The flag of a linedef that has two sides (ML_TWOSIDED of doomdata.h).
 const TWO_SIDED: i16 = 4;
 
-// The most nodes of a sound level: the number of each is below NF_SUBSECTOR of doomdata.h, which
-// tells an ssector.
+// The most nodes of a sound level: each number is below NF_SUBSECTOR of doomdata.h, the bit for
+// ssectors.
 const MAX_NODES: usize = 32_767;
 
 // The coordinates for which R_PointOnSide of r_main.c doesn't wrap.

@@ -81,7 +81,7 @@ pub fn ssector_count(level: &Level<'_>) -> usize
     level.ssectors().len()
 }
 
-/// Whether an index names none of so many records.
+/// Whether an index names none of `count` records.
 #[inline]
 pub fn names_none(index: i32, count: usize) -> bool
     ensures { IsTrue result ↔ (¬ Names count index) }
@@ -119,7 +119,7 @@ pub fn named<R: Record>(table: &Table<'_, R>, index: i32) -> Option<R>
     table.get(index as usize)
 }
 
-/// The sidedef that an index names, where it doesn't say that there is no side.
+/// The sidedef that an index names, unless the index says that there is no side.
 #[inline]
 pub fn sidedef_named(level: &Level<'_>, side: i32) -> Option<SideDef>
     ensures { option_map (sidedef_under level.now.reading) result ≡ sidedef_named level.now side }

@@ -13,8 +13,8 @@ pub enum Reading {
 
 ghost use Rattle.map_level.specs.Reading.{number_of};
 
-/// A record's word as an index: the word itself, and under the wide reading plus 65536 where it is
-/// negative.
+/// A record's word as an index: the word itself, but under the wide reading a negative word plus
+/// 65536.
 #[inline]
 pub fn number(word: i16, reading: Reading) -> i32
     ensures value { result ≡ number_of reading word }

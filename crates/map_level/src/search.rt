@@ -6,7 +6,7 @@ ghost use Rattle.map_level.specs.Findings.{rank, is_fault, AreFindings, AreFindi
 use crate::finding::{Code, Finding, Findings};
 use std::alloc::{AllocError, Allocator};
 
-/// What findings are looked for at.
+/// What is searched for findings.
 pub trait Searched {
     ghost use Rattle.std.specs.Prelude.{ℕ};
     ghost use Rattle.map_level.specs.declared.finding.Code.{Code};
@@ -15,9 +15,9 @@ pub trait Searched {
     ghost holds: { Self → Code → ℕ → Type 0 };
 }
 
-/// What tells where codes hold.
+/// A search for where codes hold.
 pub trait Search: Searched {
-    /// The first index from one on at which a code holds.
+    /// The first index at which a code holds, from a given one on.
     fn first(&self, code: Code, from: u32) -> Option<u32>
         ensures some { IfSome result (IsFirst (Self.holds self.now code) from) }
         ensures none { IfNone result ((i : ℕ) → from ≤ i → ¬ Self.holds self.now code i) }
@@ -61,8 +61,8 @@ pub const CODES: [Code; CODE_COUNT] = [
     Code::N12,
 ];
 
-/// The first index from one on at which a code holds: below a count, and where a test answers true. It writes nothing,
-/// so that what the test reads of a level is read once.
+/// The first index at which a code holds, from a given one on. It is below `count`, and the test is true there. This writes
+/// nothing, so the test's reads of a level need not be repeated.
 #[inline(always)]
 pub fn first_where<T: Searched, F: Fn(u32) -> bool>(
     searched: &T,
@@ -89,8 +89,8 @@ pub fn first_where<T: Searched, F: Fn(u32) -> bool>(
     None
 }
 
-/// A number above all indexes below a count at which a test answers true: 0 where there are none, else the count. For tests
-/// of all codes of a table at once: where it is 0, none of them needs a search of its own.
+/// A number above all indexes below `count` at which a test is true: 0 if there are none, else `count`. It is for the tests
+/// of all codes of a table at once: if it is 0, none of them needs a search of its own.
 #[inline(always)]
 pub fn bound_where<F: Fn(u32) -> bool>(count: u32, test: F) -> u32
     requires { F.IsAlwaysCallable test }

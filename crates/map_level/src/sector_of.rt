@@ -17,8 +17,8 @@ use le_rec::Seg;
 use std::alloc::Allocator;
 
 impl<'a> Level<'a> {
-    /// Whether the level has no fault F3 to F10, by what `link_findings` gave for it:
-    /// `ssector_sector` asks for that.
+    /// Whether the level has no fault F3 to F10, by the result of `link_findings`. `ssector_sector`
+    /// requires this.
     pub fn is_linked<A: Allocator>(&self, found: &Findings<A>) -> bool
         requires { AreFindings (LinkHolds self.now) found.now }
         ensures { IsTrue result ↔ IsLinked self.now }
@@ -79,7 +79,7 @@ fn seg_named(level: &Level<'_>, index: i32) -> Option<Seg>
     seg_at(level, index as usize)
 }
 
-// The number that an index names one of so many records by.
+// The number of the record that an index names, of `count` records.
 fn number_named(index: i32, count: usize) -> Option<u16>
     requires { index <ℤ pos 65536 }
     ensures { result ≡ number_named count index }

@@ -10,7 +10,7 @@ use Rattle.map_tables.specs.Words.{IsOffsetOutside, HasNoEnd}
 abbrev pub reject_size : ℕ → ℕ
 reject_size sectors = (sectors * sectors + 7) / 8
 
--- N8: REJECT has another size than the sectors ask
+-- N8: REJECT has another size than the sectors need
 abbrev pub RejectSizeDiffers : Level → ℕ → Type 0
 RejectSizeDiffers level i =
     (i ≡ 0) × (length level.reject ≢ reject_size (length level.sectors.records))
@@ -22,7 +22,7 @@ LacksOffsets map = (0 < block_count map) × (length map.words.numbers < 4 + bloc
 abbrev pub map_of : Level → BlockMap
 map_of level = block_map_of level.reading level.blockmap
 
--- N9: BLOCKMAP has fewer than 8 bytes, or fewer words than its blocks ask
+-- N9: BLOCKMAP has fewer than 8 bytes, or fewer words than its blocks need
 abbrev pub BlockMapShort : Level → ℕ → Type 0
 BlockMapShort level i = (i ≡ 0) × ((length level.blockmap < 8) ⊎ LacksOffsets (map_of level))
 

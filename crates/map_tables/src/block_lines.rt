@@ -11,7 +11,7 @@ use map_level::{Reading, number};
 use std::marker::Model;
 
 /// The linedefs of a block, in the order of its list, with the first word too, which most builders
-/// set to 0. The words as they stand under the reading; whether they name linedefs isn't tested.
+/// set to 0. These are the words under the reading. Whether they name linedefs isn't tested.
 #[derive(Drop)]
 pub struct BlockLines<'a> {
     bytes: &'a [u8],

@@ -31,8 +31,7 @@ pub enum BlockFault {
     NoEnd,
 }
 
-/// A level's BLOCKMAP: for each square block of 128 map units a list of linedefs. It lends the
-/// lump's bytes.
+/// A level's BLOCKMAP: for each square block of 128 map units a list of linedefs. It borrows the lump's bytes.
 #[derive(Drop)]
 pub struct BlockMap<'a> {
     words: Words<'a>,
@@ -171,7 +170,7 @@ fn has_no_list(words: &Words<'_>, reach: usize, n: u32) -> bool
     }
 }
 
-// The list of block n. Past the last end word none is searched for.
+// The list of block n. It searches for no end past the last end word.
 fn list_of<'a>(words: &Words<'a>, reach: usize, n: u32) -> Result<BlockLines<'a>, BlockFault>
     requires { ListsBeginBelow words.now reach }
     ensures list { IfOk result (IsBlockList words.now n) }
@@ -198,8 +197,8 @@ fn head(bytes: &[u8], k: usize) -> i16
     }
 }
 
-/// How many blocks a row or a column of a BLOCKMAP has, by word 2 or 3 of its head: 0 where that is negative or isn't there. It
-/// doesn't look over the lump, as `BlockMap::of` does.
+/// How many blocks a row or a column of a BLOCKMAP has, by word 2 or 3 of its head: 0 if that is negative or missing. It
+/// doesn't look through the lump, as `BlockMap::of` does.
 #[inline]
 pub fn blocks_along(bytes: &[u8], k: usize) -> u16
     ensures value { result ≡ count_of (head bytes.now k) }
@@ -232,7 +231,7 @@ fn block_along(origin: i16, blocks: i16, z: i32) -> Option<u16>
     Some(block as u16)
 }
 
-// So many whole blocks of 128 map units lie in a distance: rounded down where it is negative too.
+// How many whole blocks of 128 map units lie in a distance, rounded down also if it is negative.
 #[inline]
 fn floor_blocks(distance: i32) -> i32
     ensures { result ≡ int_div_euclid distance (pos 128) }

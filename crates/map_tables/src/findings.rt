@@ -18,7 +18,7 @@ pub fn table_findings<A: Allocator>(alloc: A, level: &Level<'_>) -> Result<Findi
     all_findings(alloc, &Tables::of(level))
 }
 
-/// A level whose REJECT and BLOCKMAP are looked at: the BLOCKMAP, where there is one, was scanned once for its last end word.
+/// A level whose REJECT and BLOCKMAP are looked at. BLOCKMAP, if there is one, was searched once for its last end word.
 #[derive(Drop)]
 pub struct Tables<'l, 'a> {
     level: &'l Level<'a>,

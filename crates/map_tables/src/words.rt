@@ -11,7 +11,7 @@ use le_rec::{Table, Word};
 use map_level::{Reading, number};
 use std::marker::Model;
 
-/// The words of a lump under a reading. It lends the bytes.
+/// The words of a lump under a reading. It borrows the bytes.
 #[derive(Drop)]
 pub struct Words<'a> {
     bytes: &'a [u8],
@@ -64,7 +64,7 @@ impl<'a> Words<'a> {
         }
     }
 
-    /// Below this word lists have an end.
+    /// The number of a word: a list begins at each word below it, and at no other.
     pub fn reach(&self) -> usize
         ensures { ListsBeginBelow self.now result }
     {

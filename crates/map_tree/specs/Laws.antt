@@ -37,7 +37,7 @@ OneWork = (level : Level) (rect : Rect) (place : Place) (w p v q : ℕ) → IsRe
 abbrev pub FewTests : Type 0
 FewTests = (level : Level) (rect : Rect) (w p : ℕ) → IsSound level → IsRect rect → Work level rect (root level) w p → w ≤ 18 * rows_of rect * node_count level
 
--- and it is at most as deep as there are nodes, and 16
+-- and its depth is at most the number of nodes plus 16
 abbrev pub FewPending : Type 0
 FewPending = (level : Level) (rect : Rect) (w p : ℕ) → IsSound level → IsRect rect → Work level rect (root level) w p → p ≤ node_count level + 16
 
@@ -49,7 +49,7 @@ SectorsAreTold = (level : Level) → IsSound level → (sector : Point → ℕ) 
 abbrev pub CountsAddUp : Type 0
 CountsAddUp = (sector : Point → ℕ) (rect : Rect) (pairs : List (ℕ × ℕ)) → ArePairs (λ s. plain_count sector s rect) pairs → sum_by (λ pair. pair.1) pairs ≡ point_count rect
 
--- a pair tells the count of its sector
+-- a pair has the count of its sector
 abbrev pub PairTells : Type 0
 PairTells = (count : ℕ → ℕ) (pairs : List (ℕ × ℕ)) (i s n : ℕ) → ArePairs count pairs → slice_get pairs i ≡ Some (s, n) → n ≡ count s
 

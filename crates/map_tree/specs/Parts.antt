@@ -1,4 +1,4 @@
--- One step of areas: what becomes of the piece in hand (ours).
+-- One step of areas: what happens to the piece in hand (ours).
 use Rattle.std.specs.Prelude.{◌≡◌, ◌⊎◌, ◌-◌, ◌<◌, ◌≤◌, ℤ, pos, ◌≤ℤ◌, ◌<ℤ◌, IsSomeAnd, List}
 use Rattle.std.specs.List.{slice_get}
 use Rattle.le_rec.specs.declared.records.Node.{Node}
@@ -36,13 +36,13 @@ pub record AreColumnParts (found : Node) (piece : Piece) (parts : Parts) : Type 
   pub first : parts.first ≡ record { rect = columns_to piece.rect c; word = word_at found s }
   pub second : parts.second ≡ record { rect = columns_right piece.rect c; word = word_at found (other s) }
 
--- what becomes of a piece at a node
+-- what happens to a piece at a node
 abbrev pub IsTurnAt : Node → Piece → Turn → Type 0
 IsTurnAt found piece (AtSsector t n) = ⊥
 IsTurnAt found piece (Down next) = IsDown found piece next
 IsTurnAt found piece (Apart parts) = AreRowParts piece parts ⊎ AreColumnParts found piece parts
 
--- what becomes of a piece, by where it has come to
+-- what happens to a piece, by the place that it has reached
 abbrev pub IsTurn : List Node → Piece → Turn → Type 0
 IsTurn records piece (AtSsector t n) = (32768 ≤ piece.word) × (t ≡ piece.word - 32768) × (n ≡ point_count piece.rect) × (n ≤ 1048576)
 IsTurn records piece (Down next) = (piece.word < 32768) × IsSomeAnd (slice_get records piece.word) (λ found. IsTurnAt found piece (Down next))

@@ -1,4 +1,4 @@
--- One step of a census: what becomes of the piece in hand (ours).
+-- One step of a census: what happens to the piece in hand (ours).
 use Rattle.std.specs.Prelude.{◌≡◌, ◌⊎◌, ℕ, ◌+◌, ◌-◌, ◌<◌, ◌≤◌, ℤ, IsSomeAnd, List, slice_index}
 use Rattle.std.specs.List.{slice_get, sum}
 use Rattle.le_rec.specs.declared.records.Node.{Node}
@@ -52,13 +52,13 @@ pub record IsApart (found : Node) (piece : Piece) (halves : Halves) : Type 0 whe
   pub cut : IsCut piece.rect (partition_of found)
   pub way : IsRowsCut piece halves ⊎ ((piece.rect.y0 ≡ piece.rect.y1) × IsRowCut found piece halves)
 
--- what becomes of a piece at a node
+-- what happens to a piece at a node
 abbrev pub IsStepAt : Node → Piece → Step → Type 0
 IsStepAt found piece (AtSsector t n) = ⊥
 IsStepAt found piece (Down next) = IsDown found piece next
 IsStepAt found piece (Apart halves) = IsApart found piece halves
 
--- what becomes of a piece, by where it has come to
+-- what happens to a piece, by the place that it has reached
 abbrev pub IsStep : List Node → Piece → Step → Type 0
 IsStep records piece (AtSsector t n) = (32768 ≤ piece.word) × (t ≡ piece.word - 32768) × (n ≡ point_count piece.rect) × (n ≤ 1048576)
 IsStep records piece (Down next) = (piece.word < 32768) × IsSomeAnd (slice_get records piece.word) (λ found. IsStepAt found piece (Down next))

@@ -20,8 +20,8 @@ use map_level::Level;
 use std::alloc::{AllocError, Allocator};
 
 impl Tree<'_, '_> {
-    /// How many points of a rectangle lie in each sector, as `census` tells, in less time, since
-    /// nothing is counted but points.
+    /// How many points of a rectangle lie in each sector, as `census` counts them. It takes less time, as
+    /// it counts points alone.
     pub fn areas<A: Allocator + Copy>(&self, alloc: A, rect: Rect) -> Result<Areas<A>, AllocError>
         ensures { IfOk result (AreAreas self.now rect) }
     {
@@ -39,7 +39,8 @@ impl<B: Allocator> SectorTree<'_, '_, B> {
     }
 }
 
-// Adds the points of a rectangle to the counts of their sectors. On its own it has the registers to itself.
+// Adds the points of a rectangle to the counts of their sectors. It isn't inlined, so that it has all
+// registers.
 #[inline(never)]
 pub(crate) fn add_points<A: Allocator>(
     level: &Level<'_>,

@@ -61,7 +61,7 @@ pub(crate) fn start(level: &Level<'_>, rect: Rect) -> Piece
     ensures word { place_of result.word ≡ root level.now }
     ensures valid { IsRect rect }
 {
-    // A rectangle's bounds tell that it is valid, which the clause says.
+    // The clause of a bound says that the rectangle is valid.
     let _column = rect.x0();
     Piece {
         rect,
@@ -76,7 +76,8 @@ pub(crate) struct Work {
     pub pending: u32,
 }
 
-// Adds the points of a rectangle to the counts of their sectors. On its own it has the registers to itself.
+// Adds the points of a rectangle to the counts of their sectors. It isn't inlined, so that it has all
+// registers.
 #[inline(never)]
 pub(crate) fn tally<A: Allocator>(
     level: &Level<'_>,

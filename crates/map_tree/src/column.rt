@@ -9,8 +9,8 @@ ghost use Rattle.map_tree.specs.Cuts.{IsLast};
 use le_rec::Node;
 use map_geo::{Partition, Point, Side, side};
 
-/// The last column with side `s` of row `y`, from column `x0`, which has it, to `x1`, which doesn't. An upright partition has
-/// its own column on its left, and of two columns it is the first.
+/// The last column with side `s` of row `y`, from column `x0`, which has it, to `x1`, which doesn't. For an upright partition
+/// it is the partition's own column, and of two columns it is the first.
 #[inline]
 pub fn last_column(node: &Node, y: i32, s: Side, x0: i32, x1: i32) -> i32
     requires x_in { IsInRange node.now.x }

@@ -1,4 +1,4 @@
-//! What a census and areas tell, each with the list of its pairs.
+//! The results of a census and of areas, each with the list of its pairs.
 
 ghost use Rattle.std.specs.Prelude.{◌≡◌, length};
 ghost use Rattle.std.specs.List.{slice_get};

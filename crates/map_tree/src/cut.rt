@@ -13,8 +13,8 @@ use crate::row::{last_of_side, middle};
 use le_rec::{Node, Table};
 use map_geo::{Partition, Point, Rect, side, whole_side};
 
-/// What becomes of a piece: its points are counted where it has come to an ssector; at a node it
-/// goes whole to the child of its side, or is cut where it has both sides.
+/// What happens to a piece. At an ssector its points are counted. At a node it goes whole to the
+/// child of its side, or is cut if it has both sides.
 #[inline]
 pub fn step(nodes: &Table<'_, Node>, piece: Piece) -> Step
     requires { IsWord nodes.now.records piece.word }
@@ -26,7 +26,7 @@ pub fn step(nodes: &Table<'_, Node>, piece: Piece) -> Step
     step_at(&nodes.at(usize::from(piece.word)), piece)
 }
 
-// What becomes of a piece at a node.
+// What happens to a piece at a node.
 #[inline]
 fn step_at(node: &Node, piece: Piece) -> Step
     requires x_in { IsInRange node.now.x }
@@ -48,7 +48,7 @@ fn step_at(node: &Node, piece: Piece) -> Step
     }
 }
 
-/// A piece of more than one row in two: its lowest half, rounded down, and the others.
+/// Cuts a piece of more than one row in two: its lower half, rounded down, and the other rows.
 #[inline]
 pub fn cut_rows(piece: Piece) -> Halves
     requires { piece.rect.y0 <ℤ piece.rect.y1 }
@@ -68,7 +68,7 @@ pub fn cut_rows(piece: Piece) -> Halves
     }
 }
 
-// The last of the lowest half of a rectangle's rows.
+// The last row of a rectangle's lower half.
 #[inline]
 fn middle_row(rect: Rect) -> i32
     requires { rect.y0 <ℤ rect.y1 }

@@ -9,8 +9,7 @@ pub fn one_leaf()
     ensures { OneLeaf }
 {}
 
-/// In a sound level an ssector has as many ancestors as it stands deep, and at most as many as there
-/// are nodes.
+/// In a sound level an ssector has as many ancestors as its depth, and at most as many as there are nodes.
 pub fn ancestors_by_depth()
     ensures ancestors { AncestorsByDepth }
     ensures few { DepthAtMostNodes }
@@ -21,24 +20,23 @@ pub fn sound_is_faultless()
     ensures { SoundIsFaultless }
 {}
 
-/// A piece of a census takes one number of tests and is one deep. In a sound level a rectangle at
-/// the root takes at most 18 tests for each row and node, and is at most as deep as there are
-/// nodes and 16.
+/// A piece of a census takes only one number of tests, and has only one depth. In a sound level a rectangle at the root takes at
+/// most 18 tests for each row and node. Its depth is at most the number of nodes plus 16.
 pub fn one_work()
     ensures one { OneWork }
     ensures few_tests { FewTests }
     ensures few_pending { FewPending }
 {}
 
-/// In a sound level a function gives each point its sector, how many points of a rectangle lie in
-/// each sector is told by exactly one list of pairs, and they add up to the rectangle's points.
+/// In a sound level a function gives each point its sector. Exactly one list of pairs has how many points of a rectangle lie in
+/// each sector, and the counts add up to the rectangle's points.
 pub fn plain_counts()
     ensures told { SectorsAreTold }
     ensures one { OneCounting }
     ensures total { CountsAddUp }
 {}
 
-/// A list of pairs tells each sector's count: the number beside it, and 0 of a sector that no pair has.
+/// A list of pairs gives each sector's count: the number beside it, or 0 if no pair has the sector.
 pub fn pairs_tell_counts()
     ensures pair { PairTells }
     ensures none { NoPairTells }

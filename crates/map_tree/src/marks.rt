@@ -21,7 +21,7 @@ pub fn reached_places<A: Allocator + Copy>(
     Ok(marks)
 }
 
-// Marks each place that is reached, by a list of places still to visit, which is empty.
+// Marks each place that is reached. The list of places still to visit is empty at first.
 fn mark_reached<A: Allocator>(
     marks: &mut [bool],
     mut waits: Vec<u32, A>,
@@ -59,7 +59,7 @@ fn mark_children<A: Allocator>(
     Ok(())
 }
 
-// Marks a place, or none; it then waits to be visited unless it was marked before.
+// Marks a place, or none. The place then waits for its visit, unless it was marked before.
 #[inline]
 fn mark<A: Allocator>(
     marks: &mut [bool],

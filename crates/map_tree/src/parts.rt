@@ -1,4 +1,4 @@
-//! One step of areas: what becomes of the piece in hand. All its rows that a partition cuts at one column go on in one.
+//! One step of areas: what happens to the piece in hand. Rows that a partition cuts at the same column stay together.
 
 ghost use Rattle.std.specs.Prelude.{◌≡◌, ◌<ℤ◌, true, false};
 ghost use Rattle.map_geo.specs.Point.{IsInRange};
@@ -21,7 +21,7 @@ pub struct Parts {
     pub second: Piece,
 }
 
-/// What becomes of a piece.
+/// What happens to a piece.
 #[derive(Clone, Copy)]
 pub enum Turn {
     /// It has come to an ssector, with so many points.
@@ -32,8 +32,8 @@ pub enum Turn {
     Apart(Parts),
 }
 
-/// What becomes of a piece: its points are counted where it has come to an ssector; at a node it
-/// goes whole to the child of its side, or is cut where it has both sides.
+/// What happens to a piece. At an ssector its points are counted. At a node it goes whole to the child of its side, or
+/// is cut if it has both sides.
 #[inline]
 pub fn take_turn(nodes: &Table<'_, Node>, piece: Piece) -> Turn
     requires { IsWord nodes.now.records piece.word }
@@ -45,7 +45,7 @@ pub fn take_turn(nodes: &Table<'_, Node>, piece: Piece) -> Turn
     turn_at(&nodes.at(usize::from(piece.word)), piece)
 }
 
-// What becomes of a piece at a node.
+// What happens to a piece at a node.
 #[inline]
 fn turn_at(node: &Node, piece: Piece) -> Turn
     requires x_in { IsInRange node.now.x }
@@ -76,7 +76,7 @@ fn change_together(node: &Node, rect: Rect) -> bool
     (node.dx == 0) | (rect.y0() == rect.y1())
 }
 
-// A piece of more than one row in two: its lowest half, rounded down, and the others.
+// Cuts a piece of more than one row in two: its lower half, rounded down, and the other rows.
 #[inline]
 fn row_parts(piece: Piece) -> Parts
     requires { piece.rect.y0 <ℤ piece.rect.y1 }

@@ -6,7 +6,7 @@ ghost use Rattle.map_tree.specs.Child.{word_at};
 use le_rec::Node;
 use map_geo::{Rect, Side};
 
-/// A rectangle and the child word of the place that it has come to.
+/// A rectangle and the child word of the place that it has reached.
 #[derive(Clone, Copy)]
 pub struct Piece {
     pub rect: Rect,
@@ -21,7 +21,7 @@ pub struct Halves {
     pub tests: u64,
 }
 
-/// What becomes of a piece.
+/// What happens to a piece.
 #[derive(Clone, Copy)]
 pub enum Step {
     /// It has come to an ssector, with so many points.

@@ -14,8 +14,7 @@ use std::marker::Model;
 /// The bit of a child word that says that it names an ssector (doomdata.h).
 pub const NF_SUBSECTOR: u16 = 0x8000;
 
-/// A level whose nodes and ssectors stand in one row, the nodes
-/// first: each place has a number there.
+/// A level with its nodes and ssectors numbered in one row, the nodes first.
 #[derive(Drop)]
 pub struct Places<'l, 'a> {
     level: &'l Level<'a>,

@@ -6,8 +6,8 @@ ghost use Rattle.map_tree.specs.Counts.{ArePairs};
 use std::alloc::{AllocError, Allocator, Global};
 use std::marker::Model;
 
-/// A number for each sector, and which of them are above 0, so that neither telling nor clearing them passes over
-/// the others. Contracts see the numbers.
+/// A number for each sector, and a list of those above 0. So neither listing nor clearing them goes over the
+/// others. Contracts see the numbers.
 #[derive(Drop)]
 pub struct SectorCounts<A: Allocator = Global> {
     numbers: Vec<u32, A>,

@@ -14,8 +14,8 @@ use map_level::Level;
 use std::alloc::{AllocError, Allocator, Global};
 use std::marker::Model;
 
-/// The tree of a sound level with the sectors of its ssectors listed once, two bytes each, so that no link is followed
-/// for a point or a rectangle.
+/// The tree of a sound level with a list of its ssectors' sectors, two bytes each. So no link is followed for a point
+/// or a rectangle.
 #[derive(Drop)]
 pub struct SectorTree<'l, 'a, A: Allocator = Global> {
     tree: Tree<'l, 'a>,
@@ -96,7 +96,7 @@ impl<'l, 'a, A: Allocator> SectorTree<'l, 'a, A> {
         self.tree.level()
     }
 
-    /// Where the list of sectors has its memory from, for what else is listed for as long.
+    /// The allocator of the list of sectors, for what else is kept as long.
     pub fn allocator(&self) -> &A {
         self.sectors.allocator()
     }

@@ -18,8 +18,8 @@ use map_level::Level;
 use std::alloc::{AllocError, Allocator, Global};
 use std::marker::Model;
 
-/// What the censuses of a tree count into, made once for many rectangles: a number for each sector, all 0 between two
-/// censuses, and the list of pending pieces.
+/// The counters for a tree's censuses, made once for many rectangles: a number for each sector, all 0 between two censuses, and
+/// the list of pending pieces.
 #[derive(Drop)]
 pub struct Tally<'t, 'a, A: Allocator = Global> {
     alloc: A,
@@ -60,11 +60,11 @@ impl<'t, 'a, A: Allocator + Copy> Tally<'t, 'a, A> {
         })
     }
 
-    /// How many points of a rectangle lie in each sector. After it, also where it is refused a growth, the tally is as new.
+    /// How many points of a rectangle lie in each sector. Afterwards the tally is as new, also if a growth was refused.
     ///
-    /// It keeps a list of pending pieces, begins with the whole rectangle at the root, and takes
-    /// the newest first. A piece that lies on one side of a node's partition goes to that side's
-    /// child, another is cut into its lower and upper rows, or as a row where its side changes.
+    /// It keeps a list of pending pieces, begins with the whole rectangle at the root, and takes the newest first. A piece on one
+    /// side of a node's partition goes to that side's child. Any other piece is cut into its lower and upper rows, or, if it is
+    /// one row, where its side changes.
     pub fn census(&mut self, rect: Rect) -> Result<Counts<A>, AllocError>
         ensures census { IfOk result (IsCensus self.old rect) }
         ensures same { self.new ≡ self.old }
@@ -81,11 +81,11 @@ impl<'t, 'a, A: Allocator + Copy> Tally<'t, 'a, A> {
         counted
     }
 
-    /// How many points of a rectangle lie in each sector, as `census` tells, and nothing else is counted. After it, also where it is
-    /// refused a growth, the tally is as new.
+    /// How many points of a rectangle lie in each sector, as `census` counts them, and nothing else is counted. Afterwards the
+    /// tally is as new, also if a growth was refused.
     ///
-    /// It goes as `census` does, but for a piece that a node's partition cuts at one column in all its rows, as an upright one does:
-    /// this is cut there in one, at a column that a division tells, or that is the partition's own.
+    /// It works as `census` does, except for a piece that a node's partition cuts at the same column in all rows, as an upright
+    /// partition does. That piece is cut there at once. The column is the partition's own, or a division finds it.
     pub fn areas(&mut self, rect: Rect) -> Result<Areas<A>, AllocError>
         ensures areas { IfOk result (AreAreas self.old rect) }
         ensures same { self.new ≡ self.old }

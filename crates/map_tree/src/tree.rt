@@ -18,7 +18,7 @@ use map_geo::{Partition, Point, Side, side};
 use map_level::Level;
 use std::marker::Model;
 
-/// The tree of a sound level. It lends the level and decodes a node when a descent meets it.
+/// The tree of a sound level. It borrows the level, and decodes a node when a descent meets it.
 #[derive(Drop)]
 pub struct Tree<'l, 'a> {
     level: &'l Level<'a>,
@@ -36,7 +36,7 @@ impl<'l, 'a> Model for Tree<'l, 'a> {
 }
 
 impl<'l, 'a> Tree<'l, 'a> {
-    /// The tree of a level with no fault F3 to F18, as `is_sound` tells.
+    /// The tree of a level without faults F3 to F18, which `is_sound` finds out.
     pub fn of(level: &'l Level<'a>) -> Tree<'l, 'a>
         requires { IsSound level.now }
         ensures { result ≡ level.now }

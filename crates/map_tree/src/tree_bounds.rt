@@ -13,7 +13,7 @@ use crate::tree_faults::{
 };
 use map_level::search::bound_where;
 
-/// Numbers above all nodes and above all ssectors at which one of their codes holds: 0 where there is none.
+/// Numbers above all nodes and all ssectors at which one of their codes holds: 0 if there are none.
 #[derive(Clone, Copy)]
 pub struct Bounds {
     pub nodes: u32,

@@ -60,8 +60,8 @@ impl<'l, 'a, A: Allocator> Model for Nodes<'l, 'a, A> {
 }
 
 impl<'l, 'a, A: Allocator + Copy> Nodes<'l, 'a, A> {
-    /// The nodes of a level: two bytes for each node and ssector, and while they are visited four for each place that
-    /// waits.
+    /// The nodes of a level. It takes two bytes for each node and ssector, and during the visits four for each place
+    /// that waits.
     pub fn of(alloc: A, level: &'l Level<'a>) -> Result<Nodes<'l, 'a, A>, AllocError>
         ensures { IfOk result (λ nodes. nodes ≡ level.now) }
     {

@@ -7,7 +7,7 @@ ghost use Rattle.map_tree.specs.WordCounts.{IsCounted, AreCounted, AreWordCounts
 use crate::places::{Children, Places};
 use std::alloc::{AllocError, Allocator};
 
-/// For each place the number of child words that name it, and 2 where there are more.
+/// For each place the number of child words that name it, with 2 for two or more.
 pub fn word_counts<A: Allocator>(
     alloc: A,
     places: &Places<'_, '_>,

@@ -4,7 +4,8 @@ ghost use Rattle.le_rec.specs.Source.{Gives};
 
 use le_rec::{EndFault, Source};
 
-/// A slice as a source. A pull gives all that it has room for, and none fails.
+/// A slice as a source. A pull fills all the room that it is given, as far as there are bytes. No
+/// pull fails.
 #[derive(Clone, Copy)]
 pub struct FromSlice<'a> {
     rest: &'a [u8],

@@ -1,8 +1,8 @@
 //! A text at the front of a caller's slice.
 ghost use Rattle.std.specs.Prelude.{◌≡◌, ◌<◌, IfNone, IfSome, drop, length, take};
 
-/// Copies a text to the front of a slice, and answers how many bytes it has; None, with nothing copied, where the slice has no
-/// room for it.
+/// Copies a text to the front of a slice, and returns how many bytes it has. If the slice has no room for it, copies nothing
+/// and returns None.
 pub fn hand_out(text: &[u8], to: &mut [u8]) -> Option<usize>
     ensures count { IfSome result (λ n. n ≡ length text.now) }
     ensures front { IfSome result (λ n. take n to.new ≡ text.now) }

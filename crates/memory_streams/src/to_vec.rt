@@ -6,8 +6,8 @@ use le_rec::{EndFault, Sink};
 use std::alloc::{AllocError, Allocator, Global};
 use std::marker::Model;
 
-/// A growing vector as a sink. A put takes all bytes, and fails where it needs room and the growth
-/// is refused: then it takes none.
+/// A growing vector as a sink. A put takes all bytes. It fails, and takes none, if it needs room
+/// and the growth is refused.
 #[derive(Drop)]
 pub struct ToVec<A: Allocator = Global> {
     bytes: Vec<u8, A>,

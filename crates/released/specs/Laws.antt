@@ -150,8 +150,8 @@ LinkedSegsInside =
     (level : Level) (i : ℕ) (seg : Seg) → level.reading ≡ Signed → IsLinked level
     → slice_get level.segs.records i ≡ Some seg → IsSegLoadedInside level seg
 
--- for its back the game can follow -1, and no other index outside: just where the linedef is two-sided and lacks
--- that side, which N3 and N4 tell
+-- for its back the game can follow -1, and no other index outside: just if the linedef is two-sided and lacks that side, for which there are the notes N3
+-- and N4
 abbrev pub LinkedBackOrNoted : Type 0
 LinkedBackOrNoted =
     (level : Level) (i : ℕ) (seg : Seg) (linedef : LineDef) (back : ℤ) → level.reading ≡ Signed

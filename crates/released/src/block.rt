@@ -5,8 +5,8 @@ ghost use Rattle.std.specs.Ordering.{int_eq};
 ghost use Rattle.std.specs.Option.{option_map};
 ghost use Rattle.released.specs.BlockLines.{is_outside, released_block_number, word_of, words_from, walked, released_block_list, released_list};
 
-/// P_BlockLinesIterator of p_maputl.c, up to what it does with each word: over the signed words of a BLOCKMAP of at least
-/// four, those of the list of the block in column x and row y. None where the game reads before the words or past them.
+/// P_BlockLinesIterator of p_maputl.c, up to what it does with each word: those of the list of the block in column x and
+/// row y, in the signed words of a BLOCKMAP of at least four. None where the game reads before the words or past them.
 pub fn released_list(words: &[i16], x: i32, y: i32) -> Option<&[i16]>
     requires { 4 ≤ length words.now }
     ensures { option_map (λ list. list.now) result ≡ released_list words.now x y }

@@ -5,7 +5,7 @@ ghost use Rattle.released.specs.Laws.{ReleasedIsSide, RangeIsWithinReach, WrapsP
 ghost use Rattle.released.specs.Laws.{ReleasedIsLeaf, ReleasedBitIsSightBit, ReleasedIsBlock, ReleasedIsNoBlock, BlockWraps, ReleasedListIsBlockList, ReleasedSectorIsSector, LinkedLineDefsInside, LinkedSegsInside, LinkedBackOrNoted, ReleasedTiccmdIsCommand, ReleasedEndsAtMarker, ReleasedIsWinner, ReleasedIsNone, NamesStandRaw};
 
 /// The side that linuxdoom 1.10 computes on numbers of 32 bits is the side as defined, for each point and each node of
-/// which no difference wraps: so in the whole range of `map_geo`, and past it not always.
+/// which no difference wraps. This covers the whole range of `map_geo`; past it the sides can differ.
 pub fn released_side_is_side()
     ensures same { ReleasedIsSide }
     ensures range { RangeIsWithinReach }
@@ -22,8 +22,8 @@ pub fn released_bit_is_sight_bit()
     ensures { ReleasedBitIsSightBit }
 {}
 
-/// The column or row of a block that linuxdoom 1.10 computes for a point is the one as defined where the difference from
-/// the blockmap's origin doesn't wrap; 32768 units or more past the origin it does, and there is none.
+/// The column or row of a block that linuxdoom 1.10 computes for a point is the one as defined, if the difference from
+/// the blockmap's origin doesn't wrap. From 32768 units past the origin on it wraps, and the game has no block.
 pub fn released_block_is_block()
     ensures same { ReleasedIsBlock }
     ensures none { ReleasedIsNoBlock }
@@ -40,8 +40,8 @@ pub fn released_sector_is_sector()
     ensures { ReleasedSectorIsSector }
 {}
 
-/// In a level without the faults F3 to F10 linuxdoom 1.10 follows no index of a linedef or a seg outside its table, but
-/// for -1 behind a two-sided linedef that lacks a side, which N3 and N4 tell.
+/// In a level without the faults F3 to F10, linuxdoom 1.10 follows no index of a linedef or a seg outside its table. The
+/// exception is -1 behind a two-sided linedef that lacks a side, for which there are the notes N3 and N4.
 pub fn released_links_are_inside()
     ensures linedefs { LinkedLineDefsInside }
     ensures segs { LinkedSegsInside }
@@ -54,8 +54,8 @@ pub fn released_ticcmd_is_command()
     ensures marker { ReleasedEndsAtMarker }
 {}
 
-/// The number that linuxdoom 1.10 gives for a name, which it compares as two numbers of 32 bits, is that of the winner,
-/// or -1 where no entry has the name.
+/// The number that linuxdoom 1.10 finds for a name is that of the winner, or -1 if no entry has the name. The game
+/// compares names as two numbers of 32 bits.
 pub fn released_number_is_winner()
     ensures winner { ReleasedIsWinner }
     ensures none { ReleasedIsNone }

@@ -28,7 +28,7 @@ pub fn released_leaf(level: &Level<'_>, point: Point) -> u16
 {
     let nodes = level.nodes();
     let mut word = root_word(nodes.len());
-    // Only so that the loop is shown to end.
+    // This is only there to show that the loop ends.
     let mut tests: u32 = 0;
     while word < NF_SUBSECTOR {
         word = released_next(&nodes, word, point);

@@ -5,8 +5,8 @@ ghost use Rattle.std.specs.List.{position_or_len};
 ghost use Rattle.le_rec.specs.Name.{name_of, padded};
 ghost use Rattle.released.specs.CheckName.{copied, asked_name, word_at, has_words, released_number};
 
-/// W_CheckNumForName of w_wad.c, for the names that stand in the directories of the files, one file after another: the
-/// number of the lump, or -1.
+/// W_CheckNumForName of w_wad.c, for the names in the directories of the files, one file after another: the number of
+/// the lump, or -1.
 pub fn released_number(names: &[[u8; 8]], asked: &[u8]) -> i32
     requires { length names.now < 2 ^ 31 }
     ensures { result ≡ released_number names.now asked.now }

@@ -55,8 +55,8 @@ fn sidenum(linedef: &LineDef, side: i16) -> Option<i16>
     }
 }
 
-/// The index of the sidedef behind a seg as P_LoadSegs of p_setup.c follows it where the linedef is two-sided, -1 too; None
-/// where the linedef has no number there.
+/// The index of the sidedef behind a seg, as P_LoadSegs of p_setup.c follows it for a two-sided linedef, also if it is -1.
+/// None if the linedef has no number there.
 pub fn released_back(linedef: &LineDef, seg: &Seg) -> Option<i16>
     ensures { result ≡ back_sidenum linedef.now seg.now.side }
 {

@@ -3,7 +3,8 @@
 ghost use Rattle.std.specs.Prelude.{◌≡◌, ◌≤◌, length};
 ghost use Rattle.released.specs.ReadTiccmd.{signed_char, angle_turn, released_ticcmd};
 
-/// A command for one tic as the game holds it: of `ticcmd_t` of d_ticcmd.h what a demo tells.
+/// A command for one tic as the game holds it: the part of `ticcmd_t` of d_ticcmd.h that a demo
+/// has.
 #[derive(Clone, Copy, Debug, PartialEq, Eq)]
 pub struct Ticcmd {
     pub forwardmove: i8,

@@ -35,8 +35,8 @@ impl<'a> Model for Found<'a> {
     ghost view = { λ f. record { file = f.file; bytes = f.bytes.now; entry = f.entry } };
 }
 
-/// The bytes of an entry's lump, where they are all in the file (`W_ReadLump` of w_wad.c). The
-/// place of an empty lump is not looked at.
+/// The bytes of an entry's lump, if all of them are in the file (`W_ReadLump` of w_wad.c). For an
+/// empty lump the place isn't looked at.
 pub fn lump_of<'a>(bytes: &'a [u8], entry: &Entry) -> Option<&'a [u8]>
     ensures some { IfSome result (λ lump. IsSlice bytes.now entry.now lump.now) }
     ensures none { IfNone result ((lump : List ℕ) → ¬ IsSlice bytes.now entry.now lump) }

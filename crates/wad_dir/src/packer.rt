@@ -32,7 +32,7 @@ pub enum PackFault {
     Memory,
 }
 
-/// Lumps under their names, in the order in which they were added. It lends the lumps.
+/// Lumps under their names, in the order in which they were added. It borrows the lumps.
 #[derive(Drop)]
 pub struct Packer<'a, A: Allocator = Global> {
     lumps: Vec<NamedLump<'a>, A>,
@@ -71,7 +71,7 @@ impl<'a, A: Allocator> Packer<'a, A> {
         }
     }
 
-    /// Puts a lump under a name last, or answers `Memory` and leaves all as it was.
+    /// Adds a lump under a name at the end. On `Memory` the packer is unchanged.
     pub fn add(&mut self, name: Name8, bytes: &'a [u8]) -> Result<(), PackFault>
         ensures ok { OnOk result (
             self.new ≡ self.old ++ (record { name = name; bytes = bytes.now }) ∷ []) }
@@ -84,9 +84,9 @@ impl<'a, A: Allocator> Packer<'a, A> {
         }
     }
 
-    /// The bytes of a PWAD of the lumps, or `TooLarge` past 2,147,483,647 of them. After its header
-    /// the lumps stand without gaps, an empty one where it would stand, and then the directory.
-    /// Room for the whole file is made first, which alone can answer `Memory`.
+    /// The bytes of a PWAD of the lumps, or `TooLarge` past 2,147,483,647 of them. The lumps follow
+    /// its header without gaps, an empty one at its place in that order, and then comes the
+    /// directory. Room for the whole file is made first; only this step can return `Memory`.
     pub fn pack<B: Allocator>(&self, alloc: B) -> Result<Vec<u8, B>, PackFault>
         ensures ok { IfOk result (λ file. file.items ≡ packed self.now) }
         ensures too_large { IsErrOf result PackFault.TooLarge
@@ -197,7 +197,7 @@ fn put_entries<B: Allocator>(file: &mut Vec<u8, B>, lumps: &[NamedLump])
     }
 }
 
-// Puts bytes last, for which there is room.
+// Adds bytes at the end, for which there is room.
 fn put_bytes<B: Allocator>(file: &mut Vec<u8, B>, bytes: &[u8])
     requires room { vec_len file.old + length bytes.now ≤ vec_capacity file.old }
     ensures items { file.new.items ≡ file.old.items ++ bytes.now }

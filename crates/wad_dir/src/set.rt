@@ -1,4 +1,4 @@
-//! Several WAD files, whose entries are numbered on in one list.
+//! Several WAD files, with their entries numbered in one list.
 
 ghost use Rattle.std.specs.Prelude.{◌≡◌, ◌≢◌, ℕ, ◌+◌, ◌<◌, ◌^◌, ◌≤◌, ◌↔◌, Some, List, [], ◌∷◌, ◌++◌, length, map};
 ghost use Rattle.std.specs.Prelude.{IfOk, IfErr, IsOk, IfSome, IfNone, IsErrOf, vec_capacity, vec_len};
@@ -28,7 +28,7 @@ pub enum SetFault {
     Memory,
 }
 
-/// Where an entry says that its lump lies. It may lie elsewhere than in its file.
+/// Where an entry says that its lump lies. This may be outside the entry's file.
 #[derive(Clone, Copy, Debug, PartialEq, Eq)]
 pub struct Place {
     /// The file's number, counted from 1.
@@ -39,7 +39,7 @@ pub struct Place {
     pub size: i32,
 }
 
-/// WAD files in order. It lends the files' bytes, and reads an entry when it is asked for.
+/// WAD files in order. It borrows the files' bytes, and reads an entry when it is asked for.
 #[derive(Drop)]
 pub struct Set<'a, A: Allocator = Global> {
     wads: Vec<Wad<'a>, A>,
@@ -63,9 +63,8 @@ impl<'a, A: Allocator> Set<'a, A> {
     ghost use Rattle.wad_dir.specs.Slice.{IsLump};
     ghost use Rattle.wad_dir.specs.Place.{place_of};
 
-    /// The set of the files, at most 64 of them. First it makes room for its list, the only step
-    /// that answers `Memory`. Then it reads one file after another; the first refused one is the
-    /// answer.
+    /// The set of the files, at most 64 of them. It first makes room for its list; only this step
+    /// returns `Memory`. Then it reads one file after another, and the first that is refused ends it.
     pub fn new<F: Allocator>(alloc: A, files: &'a [Vec<u8, F>]) -> Result<Set<'a, A>, SetFault>
         requires { length files.now ≤ MAX_FILES }
         ensures bytes { IfOk result (λ set.
@@ -84,8 +83,8 @@ impl<'a, A: Allocator> Set<'a, A> {
         }
     }
 
-    /// The set of one file, whose bytes are lent as they stand. It makes room for its list, the only
-    /// step that answers `Memory`, before it reads the file, which is number 1.
+    /// The set of one file, which is number 1. It borrows the bytes. Before it reads the file it makes
+    /// room for its list; only this step returns `Memory`.
     pub fn one(alloc: A, bytes: &'a [u8]) -> Result<Set<'a, A>, SetFault>
         ensures bytes { IfOk result (λ set. map (λ file. file.bytes) set ≡ bytes.now ∷ []) }
         ensures read { IfOk result (All IsRead) }
@@ -103,8 +102,8 @@ impl<'a, A: Allocator> Set<'a, A> {
         }
     }
 
-    /// The set of some files and, behind them, those of this one. It makes room for its list, the only
-    /// step that answers an error.
+    /// The set of some files and, behind them, the files of this set. It makes room for its list; only
+    /// this step can fail.
     pub fn after(&self, alloc: A, base: &[Wad<'a>]) -> Result<Set<'a, A>, AllocError>
         requires { length base.now + length self.now ≤ MAX_FILES }
         ensures { IfOk result (λ set. set ≡ base.now ++ self.now) }
@@ -130,7 +129,7 @@ impl<'a, A: Allocator> Set<'a, A> {
         self.wads.len()
     }
 
-    /// A file, counted from 0, or None where there are not so many.
+    /// A file, counted from 0, or None if there are fewer files.
     pub fn file(&self, index: usize) -> Option<Wad<'a>>
         ensures { result ≡ slice_get self.now index }
     {
@@ -151,8 +150,8 @@ impl<'a, A: Allocator> Set<'a, A> {
         total
     }
 
-    /// Where the entry of a number says that its lump lies, or None where there are not so many
-    /// entries. Entries are numbered on over the files, from 0.
+    /// Where the entry of a number says that its lump lies, or None if there are fewer entries.
+    /// Entries are numbered through all files, from 0.
     pub fn place(&self, g: usize) -> Option<Place>
         ensures { result ≡ option_map place_of (slice_get (joined self.now) g) }
     {
@@ -164,7 +163,7 @@ impl<'a, A: Allocator> Set<'a, A> {
         })
     }
 
-    /// The name of the entry of a number, or None where there are not so many entries.
+    /// The name of the entry of a number, or None if there are fewer entries.
     pub fn name(&self, g: usize) -> Option<Name8>
         ensures { result ≡ option_map listed_name (slice_get (joined self.now) g) }
     {
@@ -172,8 +171,8 @@ impl<'a, A: Allocator> Set<'a, A> {
         Some(Name8::stored(found.entry.name))
     }
 
-    /// The number of the last entry of a name over all files, or None where no entry has it
-    /// (`W_CheckNumForName` of w_wad.c). Names in the directory are compared as they stand.
+    /// The number of the last entry of a name in all files, or None if no entry has it
+    /// (`W_CheckNumForName` of w_wad.c). Names in the directory are compared without any change.
     pub fn find(&self, name: Name8) -> Option<usize>
         ensures some { IfSome result (Wins (names self.now) name) }
         ensures none { IfNone result ((g : ℕ) → slice_get (names self.now) g ≢ Some name) }

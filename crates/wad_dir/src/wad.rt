@@ -30,8 +30,8 @@ pub enum WadFault {
     Directory,
 }
 
-/// A WAD file: its kind and its directory. It lends the file's bytes, and reads an entry when it is
-/// asked for.
+/// A WAD file: its kind and its directory. It borrows the file's bytes, and reads an entry when it
+/// is asked for.
 #[derive(Drop)]
 pub struct Wad<'a> {
     bytes: &'a [u8],
@@ -64,9 +64,8 @@ impl<'a> Wad<'a> {
     ghost use Rattle.wad_dir.specs.Winner.{Wins};
     ghost use Rattle.wad_dir.specs.Entries.{listed_in, names_in};
 
-    /// The file that bytes hold, or the first of the faults that refuses them, in the order of
-    /// `WadFault` (`W_AddFile` of w_wad.c). The table's place is not looked at where there are no
-    /// entries.
+    /// The file in the bytes, or the first fault that refuses them, in the order of `WadFault`
+    /// (`W_AddFile` of w_wad.c). With no entries, the place of their table isn't looked at.
     pub fn read(bytes: &'a [u8]) -> Result<Wad<'a>, WadFault>
         ensures ok { (file : wad.Wad)
             → (result ≡ Ok file) ↔ ((file.bytes ≡ bytes.now) × IsRead file) }
@@ -166,8 +165,8 @@ fn through_nul(bytes: &[u8; 8]) -> &[u8]
     bytes
 }
 
-// The records of a directory of so many entries that says where it stands. With no entries its
-// place is not looked at.
+// The records of a directory, by its count and the place in the header. With no entries, the place
+// isn't looked at.
 fn table_of(bytes: &[u8], offset: i32, count: usize) -> Option<&[u8]>
     requires { count < 2 ^ 31 }
     ensures size { IfSome result (λ table. length table.now ≡ entry_size * count) }

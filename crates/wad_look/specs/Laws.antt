@@ -28,7 +28,7 @@ use Rattle.wad_look.specs.Engines.Points.{TellsPoints, point_text}
 use Rattle.wad_look.specs.Engines.Sight.{AnswersSight}
 use Rattle.wad_look.specs.Opening.{AreRead, IsOpened}
 
--- over a sound level every content is told an answer
+-- over a sound level every content has an answer
 abbrev pub PointsAreAnswered : Type 0
 PointsAreAnswered = (level : Level) → IsSound level → (answer : List ℕ → List ℕ) × TellsPoints level answer
 
@@ -36,7 +36,7 @@ PointsAreAnswered = (level : Level) → IsSound level → (answer : List ℕ →
 abbrev pub CensusIsAnswered : Type 0
 CensusIsAnswered = (level : Level) → IsSound level → (answer : List ℕ → List ℕ) × TellsCensus level answer
 
--- over each level's bits every content is told an answer of `sight`
+-- over each level's bits every content has an answer of `sight`
 abbrev pub SightIsAnswered : Type 0
 SightIsAnswered = (reject : Reject) → (answer : List ℕ → List ℕ) × AnswersSight reject answer
 
@@ -47,7 +47,7 @@ NamesTheLeaf level x y text =
     (t : ℕ) × (s : ℕ) × (text ≡ point_text x y (record { ssector = t; sector = s }))
     × IsLeaf level (point_at x y) t × ((u : ℕ) → IsLeaf level (point_at x y) u → u ≡ t) × (sector_of level t ≡ Some s)
 
--- over a sound level a content of two coordinates is answered by the line of their point
+-- over a sound level the answer to a content of two coordinates is the line of their point
 abbrev pub LinesNameTheLeaf : Type 0
 LinesNameTheLeaf =
     (level : Level) (answer : List ℕ → List ℕ) → IsSound level → TellsPoints level answer
@@ -58,7 +58,7 @@ LinesNameTheLeaf =
 abbrev pub PointsAreLines : Type 0
 PointsAreLines = (x y : ℤ) → IsInRange x → IsInRange y → lines (printed (x ∷ y ∷ []) ++ 10 ∷ []) ≡ printed (x ∷ y ∷ []) ∷ []
 
--- over a sound level that line is answered by the line of the point
+-- over a sound level the answer to that line is the line of the point
 abbrev pub EachPointIsAnswered : Type 0
 EachPointIsAnswered =
     (level : Level) (answer : List ℕ → List ℕ) → IsSound level → TellsPoints level answer
@@ -76,7 +76,7 @@ ExtractedOpens =
 abbrev pub ExtractedIsAWad : Type 0
 ExtractedIsAWad = (bytes : List (List ℕ)) (asked file : List ℕ) → IsPacked bytes asked file → HasDirectory file
 
--- every content is told an answer of `blocks`, whatever BLOCKMAP holds
+-- every content has an answer of `blocks`, whatever BLOCKMAP holds
 abbrev pub BlocksAreAnswered : Type 0
 BlocksAreAnswered = (map : BlockMap) → (answer : List ℕ → List ℕ) × AnswersBlocks map answer
 

@@ -1,4 +1,4 @@
--- What a command finds before it reads and writes, and why it doesn't (ours): a chain, each stage with the reasons before it.
+-- What a command finds before it reads and writes, or why it finds nothing (ours): a chain, each stage with the reasons of those before it.
 use Rattle.std.specs.Prelude.{◌≡◌, ℕ, List, All, map}
 use Rattle.std.specs.declared.vec.Vec.{Vec}
 use Rattle.le_rec.specs.Name.{query_of}

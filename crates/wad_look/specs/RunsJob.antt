@@ -23,7 +23,7 @@ use Rattle.wad_look.specs.declared.command.Cmd.TheVariants.{Lumps, Levels, Show,
 use Rattle.wad_look.specs.declared.command.Job.{Job}
 use Rattle.wad_look.specs.declared.fault.RunFault.{RunFault}
 
--- over files of these bytes, a source and a sink, of which clauses see their states: a command of files leaves the input alone
+-- a run over files of these bytes, a source and a sink, by their states: a command of files leaves the input alone
 abbrev pub RunsCommand : {S W : Type 0} → (S → SourceState) → (W → SinkState) → Cmd → List (List ℕ) → Job → List (List ℕ) → S → S → W → W → Result Bool RunFault → Type 0
 RunsCommand source sink Lumps words job bytes input input' out out' result =
     (input' ≡ input) × EndsAs (RunsLumps sink bytes out out') result

@@ -30,14 +30,14 @@ pub enum Cmd {
     Lmp,
 }
 
-/// What a command line asks for. Its name and its paths are lent by its words.
+/// What a command line asks for. Its name and its paths are borrowed from its words.
 #[derive(Clone, Copy, Debug, PartialEq, Eq)]
 pub struct Job {
     /// The command.
     pub command: Cmd,
     /// The place of the first file among the words.
     pub first: usize,
-    /// Whether `--wide` stands behind the command.
+    /// Whether `--wide` follows the command.
     pub wide: bool,
 }
 

@@ -11,7 +11,8 @@ ghost use Rattle.wad_look.specs.Contents.{AreCoordinates, AreSectors, pair_text}
 use line_io::{LineRefusal, TextLine, read_numbers};
 use map_geo::Point;
 
-/// Two numbers of a line, with its content, which can stand in the answer where it is known to be their text.
+/// Two numbers of a line, with its content. An answer can repeat the content if it is known to be their
+/// printed text.
 #[derive(Clone, Copy)]
 pub struct Pair<'a> {
     pub x: i32,

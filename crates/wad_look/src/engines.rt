@@ -38,8 +38,8 @@ use std::alloc::Allocator;
 /// The most bytes of line input.
 pub const MAX_INPUT: u64 = 16_777_216;
 
-/// Runs the command of the words' job over what its files hold: whether it was done without a fault found. The file of `lmp` is its
-/// input, and no other file is looked at.
+/// Runs the command of the words' job over the bytes of its files. The result is true if no fault was found. For `lmp` its file
+/// is the input, and `files` isn't looked at.
 pub fn run<A: Allocator + Copy, F: Allocator, S: Source, W: Sink>(
     alloc: A,
     words: &[String<F>],

@@ -38,7 +38,7 @@ pub enum RunFault {
     Memory,
 }
 
-// The numbers are those of the program's refusals; the libraries' own texts say the same in words.
+// The numbers are those of the program's refusals; the libraries' own texts have words instead.
 impl fmt::Display for RunFault {
     ghost output = { λ fault. Some (fault_text fault) };
 

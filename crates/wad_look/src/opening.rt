@@ -1,5 +1,5 @@
-//! Opening what a command is over. What takes memory is the set, the audit of a level, the list of its ssectors'
-//! sectors and what a census counts into.
+//! Opens what a command works on. What takes memory is the set, the audit of a level, the list of its ssectors'
+//! sectors and the counters of a census.
 
 ghost use Rattle.std.specs.Prelude.{◌≡◌, ◌≤◌, Err, IfErr, IfOk, length};
 ghost use Rattle.map_tree.specs.Sound.{IsSound};
@@ -15,7 +15,7 @@ use map_tree::{SectorTree, Tally};
 use std::alloc::Allocator;
 use wad_dir::{Set, SetFault};
 
-/// The directories of the files.
+/// The set of the files, by their directories.
 pub fn open_set<'a, A: Allocator, F: Allocator>(
     alloc: A,
     files: &'a [Vec<u8, F>],
@@ -67,7 +67,7 @@ pub fn sector_tree<'l, 'a, A: Allocator + Copy>(
     }
 }
 
-/// What counts the rectangles of an accepted level's tree.
+/// The counter for the rectangles of an accepted level's tree.
 pub fn tally_of<'t, 'a, A: Allocator + Copy>(
     alloc: A,
     tree: &'t SectorTree<'_, 'a, A>,

@@ -6,8 +6,8 @@ ghost use Rattle.wad_look.specs.Outcome.{status_of};
 use crate::fault::RunFault;
 use wad_dir::PackFault;
 
-/// The program's status for what a run gave: 0 where it was done, 1 where an audit found a fault, 3 where a growth was
-/// refused, and 2 at any other refusal.
+/// The program's status by the result of a run: 0 if it was done, 1 if an audit found a fault, 3 if a growth was
+/// refused, and 2 for any other refusal.
 pub fn status(outcome: &Result<bool, RunFault>) -> u8
     ensures { result ≡ status_of outcome.now }
 {

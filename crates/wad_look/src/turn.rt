@@ -6,7 +6,8 @@ ghost use Rattle.wad_look.specs.Turn.{player_of, tic_of};
 
 use std::marker::Model;
 
-/// Whose tic command comes next. Contracts see the players' bytes and how many tic commands came.
+/// Whose tic command comes next. Contracts see the players' bytes and the number of tic commands so
+/// far.
 #[derive(Drop)]
 pub struct Turn {
     players: [u8; 4],

@@ -9,12 +9,12 @@ use crate::command::{Cmd, Job};
 use std::alloc::Allocator;
 use wad_dir::MAX_FILES;
 
-/// What the words after a command's own are.
+/// The form of the words after a command's own.
 #[derive(Clone, Copy)]
 struct Form {
-    /// Whether `--wide` may stand first.
+    /// Whether `--wide` may come first.
     wide: bool,
-    /// How many names stand before the files.
+    /// How many names come before the files.
     names: usize,
     /// How many files there may be.
     files: usize,
@@ -83,7 +83,7 @@ impl Form {
 }
 
 impl Job {
-    /// The NAME among the words, where the command takes one, and else no bytes: the word before the first file.
+    /// The NAME among the words, the word before the first file; no bytes if the command takes none.
     pub fn name<F: Allocator>(self, words: &[String<F>]) -> &[u8]
         ensures { result.now ≡ name_of (map string_bytes words.now) self }
     {
@@ -110,7 +110,7 @@ fn is_plain(word: &str) -> bool
     word.as_bytes().first() != Some(&b'-')
 }
 
-/// Whether `--wide` stands first, where it is allowed, and the words behind it.
+/// Whether `--wide` comes first, where it is allowed, and the words after it.
 pub fn after_wide<F: Allocator>(allowed: bool, words: &[String<F>]) -> (bool, &[String<F>])
     ensures spelled { map string_bytes words.now ≡ wide_words result.0 ++ map string_bytes result.1.now }
     ensures allowed { IsTrue result.0 → IsTrue allowed }
@@ -122,7 +122,7 @@ pub fn after_wide<F: Allocator>(allowed: bool, words: &[String<F>]) -> (bool, &[
     }
 }
 
-/// What the words of a command line ask for, without the name of the program: None where they are no form of a command.
+/// What the words of a command line ask for, without the program's name. None if they are no form of a command.
 pub fn job<F: Allocator>(words: &[String<F>]) -> Option<Job>
     ensures { (job : Job) → (result ≡ Some job) ↔ IsJob (map string_bytes words.now) job }
 {

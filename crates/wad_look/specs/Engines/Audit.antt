@@ -122,7 +122,7 @@ pub record IsLumpFinding (bytes : List (List ℕ)) (asked : List ℕ) (findings 
   pub lacks : (RefusesLevel files (query_of asked) (Missing k) × (findings ≡ (record { code = F1; index = k }) ∷ []))
       ⊎ (RefusesLevel files (query_of asked) (Outside k) × (findings ≡ (record { code = F2; index = k }) ∷ []))
 
--- what there is to tell of a name
+-- the findings on a name: those of its level, or the one of its lump
 abbrev pub AreAuditFindings : List (List ℕ) → List ℕ → Reading → List Finding → Type 0
 AreAuditFindings bytes asked reading findings = AreLevelFindings bytes asked reading findings ⊎ IsLumpFinding bytes asked findings
 
@@ -138,12 +138,12 @@ RefusesAuditing bytes asked (fault.Level NoLabel) = (files : List Wad) × AreRea
 RefusesAuditing bytes asked (fault.Level _) = ⊥
 RefusesAuditing bytes asked fault = RefusesFiles bytes fault
 
--- the text was written, and whether there is no fault is told
+-- the text was written, and the result says whether there is no fault
 pub record TellsFindings (before after : SinkState) (findings : List Finding) (result : Result Bool IoFault) : Type 0 where
   pub writes : Writes before after (audit_text_of findings) result
   pub faultless : IfOk result (λ none. IsTrue none ↔ (fault_count findings ≡ 0))
 
--- over files of these bytes and a sink, of which clauses see its state
+-- a run over files of these bytes and a sink, by the sink's state
 abbrev pub RunsAudit : {W : Type 0} → (W → SinkState) → List (List ℕ) → List ℕ → Reading → W → W → Result Bool RunFault → Type 0
 RunsAudit sink bytes asked reading out out' result =
     Runs (RefusesAuditing bytes asked) (out' ≡ out) (AreAuditFindings bytes asked reading)

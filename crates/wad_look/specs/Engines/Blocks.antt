@@ -47,7 +47,7 @@ pub record AnswersBlock (map : BlockMap) (x y : ℤ) (text : List ℕ) : Type 0 
 abbrev pub AnswersBlocks : BlockMap → (List ℕ → List ℕ) → Type 0
 AnswersBlocks map = AnswersPairs AreCoordinates (AnswersBlock map)
 
--- the blockmap of the level of the files' name, of which a lump shorter than 8 bytes has none
+-- the blockmap of the level of the files' name; a lump shorter than 8 bytes has none
 pub record HasBlockMap (bytes : List (List ℕ)) (asked : List ℕ) (reading : Reading) (map : BlockMap) : Type 0 where
   pub level : Level
   pub opened : IsOpened bytes asked reading level
@@ -59,7 +59,7 @@ abbrev pub RefusesBlocks : List (List ℕ) → List ℕ → Reading → RunFault
 RefusesBlocks bytes asked reading fault.NoBlockMap = (level : Level) × IsOpened bytes asked reading level × (length level.blockmap < 8)
 RefusesBlocks bytes asked reading fault = RefusesName bytes asked fault
 
--- over files of these bytes, a source and a sink, of which clauses see their states
+-- a run over files of these bytes, a source and a sink, by their states
 abbrev pub RunsBlocks : {S W : Type 0} → (S → SourceState) → (W → SinkState) → List (List ℕ) → List ℕ → Reading → ℕ → S → S → W → W → Result (Unit {0}) RunFault → Type 0
 RunsBlocks source sink bytes asked reading limit input input' out out' result =
     Runs (RefusesBlocks bytes asked reading) ((input' ≡ input) × (out' ≡ out)) (HasBlockMap bytes asked reading)

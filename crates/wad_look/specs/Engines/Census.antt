@@ -35,7 +35,7 @@ abbrev pub AreRect : List ℤ → Type 0
 AreRect (x0 ∷ y0 ∷ x1 ∷ y1 ∷ []) = IsRect (rect_at x0 y0 x1 y1)
 AreRect _ = ⊥
 
--- the text of four numbers' rectangle, where `sector` tells the sector of each point: each sector's plain count
+-- the text of four numbers' rectangle, with each sector's plain count; `sector` gives the sector of each point
 abbrev pub TellsCounts : (Point → ℕ) → List ℤ → List ℕ → Type 0
 TellsCounts sector (x0 ∷ y0 ∷ x1 ∷ y1 ∷ []) text =
     (pairs : List (ℕ × ℕ)) → ArePairs (λ s. plain_count sector s (rect_at x0 y0 x1 y1)) pairs → text ≡ counts_text (rect_at x0 y0 x1 y1) pairs
@@ -47,7 +47,7 @@ pub record TellsCensus (level : Level) (answer : List ℕ → List ℕ) : Type 0
   pub tells : TellsSectors level sector
   pub answers : AnswersNumbers 4 AreRect (TellsCounts sector) answer
 
--- over files of these bytes, a source and a sink, of which clauses see their states
+-- a run over files of these bytes, a source and a sink, by their states
 abbrev pub RunsCensus : {S W : Type 0} → (S → SourceState) → (W → SinkState) → List (List ℕ) → List ℕ → Reading → ℕ → S → S → W → W → Result (Unit {0}) RunFault → Type 0
 RunsCensus source sink bytes name reading limit input input' out out' result =
     Runs (RefusesAccepted bytes name reading) ((input' ≡ input) × (out' ≡ out)) (IsAccepted bytes name reading)

@@ -41,7 +41,7 @@ RefusesNamedDemo bytes asked (fault.Lump Outside) =
 RefusesNamedDemo bytes asked (fault.Demo why) = (lump : List ℕ) × IsNamedLump bytes asked lump × RefusesDemo lump why
 RefusesNamedDemo bytes asked fault = RefusesFiles bytes fault
 
--- over files of these bytes and a sink, of which clauses see its state
+-- a run over files of these bytes and a sink, by the sink's state
 abbrev pub RunsDemo : {W : Type 0} → (W → SinkState) → List (List ℕ) → List ℕ → W → W → Result (Unit {0}) RunFault → Type 0
 RunsDemo sink bytes asked out out' result =
     Runs (RefusesNamedDemo bytes asked) (out' ≡ out) (IsNamedDemo bytes asked)

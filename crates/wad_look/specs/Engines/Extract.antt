@@ -60,7 +60,7 @@ RefusesExtract bytes asked (fault.Pack pack.TooLarge) = (lumps : List NamedLump)
 RefusesExtract bytes asked (fault.Pack pack.Memory) = Unit {0}
 RefusesExtract bytes asked fault = RefusesName bytes asked fault
 
--- over files of these bytes and a sink, of which clauses see its state
+-- a run over files of these bytes and a sink, by the sink's state
 abbrev pub RunsExtract : {W : Type 0} → (W → SinkState) → List (List ℕ) → List ℕ → W → W → Result (Unit {0}) RunFault → Type 0
 RunsExtract sink bytes asked out out' result =
     Runs (RefusesExtract bytes asked) (out' ≡ out) (IsPacked bytes asked) (λ file outcome. Writes (sink out) (sink out') file outcome) result

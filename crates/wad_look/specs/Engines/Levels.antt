@@ -23,7 +23,7 @@ pub record AreLabels (all : List (List ℕ)) (labels : List ℕ) : Type 0 where
   pub ascending : AllPairs (λ a b. a < b) labels
   pub exact : (g : ℕ) → Contains labels g ↔ IsLabel all g
 
--- a level as it is listed: it is hidden where its name, looked up, doesn't give its label
+-- a level as it is listed: it is hidden if a look-up of its name gives another entry or none
 pub record IsListed (all : List (List ℕ)) (level : Listed) : Type 0 where
   pub label : IsLabel all level.label
   pub named : slice_get all level.label ≡ Some level.name
@@ -52,7 +52,7 @@ pub record AreLevels (bytes : List (List ℕ)) (found : List Listed) : Type 0 wh
   pub read : AreRead bytes files
   pub listed : AreListed (names files) found
 
--- over files of these bytes and a sink, of which clauses see its state
+-- a run over files of these bytes and a sink, by the sink's state
 abbrev pub RunsLevels : {W : Type 0} → (W → SinkState) → List (List ℕ) → W → W → Result (Unit {0}) RunFault → Type 0
 RunsLevels sink bytes out out' result =
     Runs (RefusesFiles bytes) (out' ≡ out) (AreLevels bytes) (λ found outcome. Writes (sink out) (sink out') (levels_text found) outcome) result

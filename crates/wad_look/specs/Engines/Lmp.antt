@@ -95,12 +95,12 @@ pub record ListsDemo (limit : ℕ) (source source' : SourceState) (out out' : Si
   pub fault : IfErr result (LmpFault limit source source'.failed out'.failed (length read))
   pub lines : IfErr result (LeavesLines limit source out out' read)
 
--- over a source and a sink, of which clauses see their states
+-- a run over a source and a sink, by their states
 abbrev pub RunsLmp : {S W : Type 0} → (S → SourceState) → (W → SinkState) → ℕ → S → S → W → W → Result (Unit {0}) RunFault → Type 0
 RunsLmp source sink limit input input' out out' result = ListsDemo limit (source input) (source input') (sink out) (sink out') result
 
--- what stopped the listing of tic commands, of which `tail` was read and is no whole piece: after `Write` a front of the lines
--- of the tic commands was written, all but the last whole, and after the other faults all of them
+-- what stopped the listing of tic commands; `tail` was read last, and is no whole piece. After `Write` a front of the commands' lines was written, all but
+-- the last whole; after the other faults all of them were
 abbrev pub TiccmdsFault : Header → ℕ → SourceState → Bool → SinkState → SinkState → List ℕ → List ℕ → ℕ → ℕ → List Command → RunFault → Type 0
 TiccmdsFault header limit source failed out out' body tail place taken commands fault.Write =
     ((failed ≡ false) × (out'.failed ≡ true)) × (tail ≡ []) × (taken ≤ limit) × TakesFront out out' (ticcmds_text header.players 0 commands)
@@ -118,7 +118,7 @@ TiccmdsFault header limit source failed out out' body tail place taken commands 
     × Appends out.taken out'.taken (ticcmds_text header.players 0 commands)
 TiccmdsFault header limit source failed out out' body tail place taken commands _ = ⊥
 
--- listing the tic commands behind the header, by a reader that has read that: it tells whose turn it would be at the marker
+-- the tic commands are listed, by a reader that has read the header; the result says whose turn it would be at the marker
 pub record ListsCommands (header : Header) (limit : ℕ) (source source' : SourceState) (out out' : SinkState) (old new : DemoReader) (result : Result Turn RunFault) : Type 0 where
   pub commands : List Command
   pub body : List ℕ

@@ -38,7 +38,7 @@ files_text n g (file ∷ files) = file_text n g file ++ files_text (n + 1) (g + 
 abbrev pub lumps_text : List Wad → List ℕ
 lumps_text files = files_text 1 0 files
 
--- over files of these bytes and a sink, of which clauses see its state
+-- a run over files of these bytes and a sink, by the sink's state
 abbrev pub RunsLumps : {W : Type 0} → (W → SinkState) → List (List ℕ) → W → W → Result (Unit {0}) RunFault → Type 0
 RunsLumps state bytes out out' result =
     Runs (RefusesFiles bytes) (out' ≡ out) (AreRead bytes) (λ files outcome. Writes (state out) (state out') (lumps_text files) outcome) result

@@ -39,7 +39,7 @@ pub record TellsPoints (level : Level) (answer : List ℕ → List ℕ) : Type 0
   pub are_leaves : AreLeaves level leaf_of
   pub answers : AnswersPoints leaf_of answer
 
--- over files of these bytes, a source and a sink, of which clauses see their states
+-- a run over files of these bytes, a source and a sink, by their states
 abbrev pub RunsPoints : {S W : Type 0} → (S → SourceState) → (W → SinkState) → List (List ℕ) → List ℕ → Reading → ℕ → S → S → W → W → Result (Unit {0}) RunFault → Type 0
 RunsPoints source sink bytes name reading limit input input' out out' result =
     Runs (RefusesAccepted bytes name reading) ((input' ≡ input) × (out' ≡ out)) (IsAccepted bytes name reading)

@@ -88,7 +88,7 @@ level_line label g = codes "level " ++ (shown_name label ++ (codes " at " ++ (de
 abbrev pub show_text : Level → List ℕ
 show_text level = level_line (slice_index_or level.names 0 []) level.label ++ flat_map (λ text. text) (lump_texts level)
 
--- over files of these bytes and a sink, of which clauses see its state
+-- a run over files of these bytes and a sink, by the sink's state
 abbrev pub RunsShow : {W : Type 0} → (W → SinkState) → List (List ℕ) → List ℕ → Reading → W → W → Result (Unit {0}) RunFault → Type 0
 RunsShow sink bytes asked reading out out' result =
     Runs (RefusesName bytes asked) (out' ≡ out) (IsOpened bytes asked reading) (λ level outcome. Writes (sink out) (sink out') (show_text level) outcome) result

@@ -22,7 +22,7 @@ bit_text None = codes "unknown"
 abbrev pub sight_text : ℤ → ℤ → Option Bool → List ℕ
 sight_text a b bit = pair_text a b (codes " " ++ (bit_text bit ++ 10 ∷ []))
 
--- two sectors are told their bit
+-- the text for two sectors has their bit
 abbrev pub TellsSight : Reject → ℤ → ℤ → List ℕ → Type 0
 TellsSight reject x y text = (a b : ℕ) → x ≡ pos a → y ≡ pos b → text ≡ sight_text x y (sight_bit reject a b)
 
@@ -34,7 +34,7 @@ AnswersSight reject = AnswersPairs (AreSectors reject.sectors) (TellsSight rejec
 abbrev pub reject_of : Level → Reject
 reject_of level = record { bits = bits_of level.reject; sectors = length level.sectors.records }
 
--- over files of these bytes, a source and a sink, of which clauses see their states
+-- a run over files of these bytes, a source and a sink, by their states
 abbrev pub RunsSight : {S W : Type 0} → (S → SourceState) → (W → SinkState) → List (List ℕ) → List ℕ → ℕ → S → S → W → W → Result (Unit {0}) RunFault → Type 0
 RunsSight source sink bytes asked limit input input' out out' result =
     Runs (RefusesName bytes asked) ((input' ≡ input) × (out' ≡ out)) (IsOpened bytes asked Signed)

@@ -16,7 +16,7 @@ use map_audit::{Report, audit};
 use map_level::{Code, Finding, Level, LevelFault, Reading};
 use std::alloc::Allocator;
 
-/// What there is to tell of a name: the report on its level, or which lump isn't there or isn't inside its file.
+/// The report on the level of a name, or which of its lumps isn't there or isn't inside its file.
 #[derive(Drop)]
 enum Audited<A: Allocator> {
     Whole(Report<A>),
@@ -24,10 +24,11 @@ enum Audited<A: Allocator> {
     Outside(u32),
 }
 
-/// Writes a line for each finding on the level of the name, faults and then notes, and how many there are of both: true
-/// where there is no fault. A lump that isn't there or isn't inside its file is the only finding, `F1` or `F2`.
+/// Writes a line for each finding on the level of the name, faults and then notes, and then how many there are of both.
+/// The result is true if there is no fault. A lump that isn't there or isn't inside its file is the only finding, `F1`
+/// or `F2`.
 ///
-/// `Set`, `Memory` and, where no entry has the name, `Level` come before anything is written.
+/// `Set`, `Memory`, and `Level` if no entry has the name, come before anything is written.
 pub fn audit_text<A: Allocator + Copy, F: Allocator, W: Sink>(
     alloc: A,
     files: &[Vec<u8, F>],
@@ -66,7 +67,7 @@ fn findings_on_name<A: Allocator + Copy, F: Allocator>(
     }
 }
 
-// Writes the findings and their totals, and tells whether there is no fault.
+// Writes the findings and their totals, and returns whether there is no fault.
 fn write_audited<A: Allocator, W: Sink>(audited: &Audited<A>, out: &mut W) -> Result<bool, IoFault>
     requires { (W.state out.old).failed ≡ false }
     ensures { TellsFindings (W.state out.old) (W.state out.new) (findings_of audited.now) result }

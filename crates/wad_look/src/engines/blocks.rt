@@ -185,10 +185,10 @@ fn prepend_numbers(line: &mut TextLine, lines: &BlockLines<'_>, from: usize, to:
     }
 }
 
-/// Writes to each line `x y` of the input, in map units from -16384 to 16383, the block that holds the point and the
-/// numbers of the block's list, or which fault the list has. The level may have faults.
+/// Writes, for each line `x y` of the input, the block that holds the point and the numbers of the block's list, or
+/// which fault the list has. The point is in map units from -16384 to 16383. The level may have faults.
 ///
-/// `Set`, `Memory`, `Level` and `NoBlockMap`, where the lump has fewer than 8 bytes, come before anything is read or
+/// `Set`, `Memory`, `Level`, and `NoBlockMap` if the lump has fewer than 8 bytes, come before anything is read or
 /// written; then `Read`, `Write` and `TooLong`.
 pub fn blocks<A: Allocator, F: Allocator, S: Source, W: Sink>(
     alloc: A,

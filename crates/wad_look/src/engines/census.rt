@@ -121,12 +121,12 @@ fn write_count<W: Sink>(sector: u16, count: u32, out: &mut W) -> Result<(), IoFa
     emit(out, line.as_bytes())
 }
 
-/// Writes to each line `x0 y0 x1 y1` of the input how many whole points the rectangle from (x0, y0) to (x1, y1) has, in
-/// map units from -16384 to 16383, and how many of them lie in each sector that has one. A rectangle has 1 to 1048576
-/// points.
+/// Writes, for each line `x0 y0 x1 y1` of the input, how many whole points the rectangle from (x0, y0) to (x1, y1) has,
+/// and how many of them lie in each sector that has one. Coordinates are in map units from -16384 to 16383, and a
+/// rectangle has 1 to 1048576 points.
 ///
 /// `Set`, `Memory`, `Level` and `Audit` come before anything is read or written; then `Read`, `Write`, `TooLong`, and
-/// `Memory` where a census is refused a growth.
+/// `Memory` if a census is refused a growth.
 pub fn census_text<A: Allocator + Copy, F: Allocator, S: Source, W: Sink>(
     alloc: A,
     files: &[Vec<u8, F>],

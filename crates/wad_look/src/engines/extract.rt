@@ -53,8 +53,8 @@ fn packed_level<A: Allocator + Copy, F: Allocator>(
     }
 }
 
-/// The file that `extract` writes of a level of the set, for a caller who opened both: `TooLarge` where it would have more than
-/// 2,147,483,647 bytes, `Memory` where a growth was refused.
+/// The file that `extract` writes for a level of the set, for a caller that has opened both. `TooLarge` if it would have more
+/// than 2,147,483,647 bytes, `Memory` if a growth was refused.
 pub fn pack_level<'a, A: Allocator + Copy>(
     alloc: A,
     set: &Set<'a, A>,

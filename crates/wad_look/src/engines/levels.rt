@@ -28,7 +28,7 @@ pub struct Listed {
     /// The number of the label's entry.
     pub label: usize,
     pub name: Name8,
-    /// Whether looking the name up doesn't give this label.
+    /// Whether a look-up of the name gives another entry or none.
     pub hidden: bool,
 }
 

@@ -58,7 +58,7 @@ fn list_demo<S: Source, W: Sink>(
     ended(emit(out, line.as_bytes()))
 }
 
-// Lists the tic commands, up to the marker, and tells whose turn it would be there.
+// Lists the tic commands up to the marker, and returns whose turn it would be there.
 fn list_ticcmds<S: Source, W: Sink>(
     reader: &mut DemoReader,
     header: &Header,

@@ -69,7 +69,7 @@ type NextFour<'a> = (
     &'a [u8],
 );
 
-// None where there are fewer lines, or one names no point.
+// None if there are fewer lines, or if one names no point.
 #[inline(always)]
 fn next_four(bytes: &[u8]) -> Option<NextFour<'_>>
     ensures { IfSome result (λ found. NamesPoints bytes.now (found.0 ∷ found.1 ∷ found.2 ∷ found.3 ∷ []) found.4.now) }

@@ -20,8 +20,9 @@ use line_io::{IoFault, TextLine, emit};
 use map_level::{Level, Reading, number};
 use std::alloc::Allocator;
 
-/// Writes the level's label and place, and of each of its lumps the number of records, of bytes left over and the records,
-/// or the number of bytes. `Set`, `Memory` and `Level` come before anything is written. Links aren't tested.
+/// Writes the level's label and place. Then it writes for each of the level's lumps the number of records, the number of
+/// bytes left over, and the records; or the number of bytes. `Set`, `Memory` and `Level` come before anything is written.
+/// Links aren't tested.
 pub fn show<A: Allocator, F: Allocator, W: Sink>(
     alloc: A,
     files: &[Vec<u8, F>],

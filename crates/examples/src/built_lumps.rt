@@ -18,8 +18,8 @@ pub fn nodes_are_clean<A: Allocator + Copy>(alloc: A, level: &Level<'_>) -> Resu
     Ok(found.len() == 0)
 }
 
-/// Whether nothing is found at a level's REJECT and BLOCKMAP: REJECT has the size that is wanted,
-/// BLOCKMAP as many words as its blocks want, and each of its lists ends inside.
+/// Whether nothing is found at a level's REJECT and BLOCKMAP. REJECT has the size that it needs, BLOCKMAP as
+/// many words as its blocks need, and each of its lists ends inside.
 pub fn tables_are_clean<A: Allocator + Copy>(
     alloc: A,
     level: &Level<'_>,

@@ -14,11 +14,11 @@ use std::alloc::{AllocError, Allocator};
 pub struct CensusWork {
     /// How often a side was asked for.
     pub tests: u64,
-    /// How many parts of the rectangle waited at once at most, the one in hand included.
+    /// The most parts of the rectangle that waited at once, the one in hand included.
     pub pending: u32,
 }
 
-/// What the census of a rectangle costs, which its rows and the nodes bound.
+/// What the census of a rectangle costs. Its rows and the nodes bound it.
 pub fn census_work<A: Allocator + Copy>(
     alloc: A,
     tree: &Tree<'_, '_>,

@@ -11,8 +11,7 @@ use map_audit::{Report, audit};
 use map_level::{Finding, Level};
 use std::alloc::{AllocError, Allocator};
 
-/// The fault of a level that stands first in its report, with the number of the record at which it is;
-/// None where the level is sound.
+/// The first fault in a level's report, with the number of its record; None if the level is sound.
 pub fn first_fault<A: Allocator + Copy>(
     alloc: A,
     level: &Level<'_>,
@@ -26,7 +25,7 @@ pub fn first_fault<A: Allocator + Copy>(
     Ok(leading_fault(&report))
 }
 
-// The first finding, where that is a fault. Faults stand before notes, so there is none behind a note.
+// The first finding, if it is a fault. Faults come before notes, so none comes after a note.
 fn leading_fault<A: Allocator>(report: &Report<A>) -> Option<Finding>
     ensures some { IfSome result (λ first.
         (slice_get report.now 0 ≡ Some first) × IsTrue (is_fault first.code)) }

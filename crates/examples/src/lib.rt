@@ -1,5 +1,5 @@
-//! Callers of the libraries, one in each module: what a program that stands on them can say of itself
-//! by their contracts and laws alone.
+//! Callers of the libraries, one in each module: what a program above them can promise by their
+//! contracts and laws alone.
 #![tactic(auto)]
 
 mod block_grid;

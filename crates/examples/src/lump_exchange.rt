@@ -54,8 +54,8 @@ impl From<PackFault> for ExchangeFault {
     }
 }
 
-/// The file with other bytes as lump g, a PWAD. All names, their order and every other lump stay; the lump
-/// that goes need not be inside the file.
+/// The file with other bytes as lump g, a PWAD. All names, their order and every other lump are unchanged.
+/// The old lump g need not be inside the file.
 pub fn with_lump<A: Allocator + Copy>(
     alloc: A,
     file: &[u8],

@@ -1,4 +1,4 @@
-//! The sector in which each thing of a level stands.
+//! The sector of each thing of a level.
 
 ghost use Rattle.std.specs.Prelude.{◌≡◌, IfOk, MatchOption};
 ghost use Rattle.map_tree.specs.Sound.{IsSound};
@@ -11,8 +11,8 @@ use map_level::Level;
 use map_tree::SectorTree;
 use std::alloc::{AllocError, Allocator};
 
-/// For each thing of a level, in order, the sector in which it stands, or None where its place is outside the
-/// points' range; no list where the level isn't sound.
+/// For each thing of a level, in order, the sector in which it is, or None if its place is out of range; no
+/// list if the level isn't sound.
 pub fn sectors_of_things<A: Allocator + Copy>(
     alloc: A,
     level: &Level<'_>,

@@ -1,4 +1,4 @@
-//! Areas beside censuses: the same pairs on many trees, in each form, and no growth more.
+//! Areas beside censuses: the same pairs on many trees, in each form, and no more growths.
 
 use crate::census_cases::{rect_of, shuffled, small_rect};
 use crate::compare::check_same;
@@ -111,7 +111,7 @@ fn made_rect(rt: &impl Abort, seed: u64) -> Rect {
     }
 }
 
-// Compares the areas of a rectangle with its census, one tally telling both.
+// Compares the areas of a rectangle with its census, both from one tally.
 fn check_made<A: Allocator + Copy>(rt: &impl Abort, tally: &mut Tally<'_, '_, A>, rect: Rect) {
     let areas = tally.areas(rect).expect(rt, "no memory for the areas");
     let counts = tally.census(rect).expect(rt, "no memory for the census");
@@ -191,7 +191,7 @@ fn areas_ask_for_no_growth_more(rt: HostRuntime) {
     }
 }
 
-// Whether the areas of a small rectangle met growth `n` refused; else they are told.
+// Whether the areas of a small rectangle met growth `n` refused; else they are right.
 fn is_refused(rt: &(impl Abort + AllocGlobal), tree: &Tree<'_, '_>, n: u64) -> bool {
     let heap = Refusing::new(rt.alloc(), n);
     let result = tree.areas(&heap, rect_of(rt, [-1, 0, 1, 1]));

@@ -30,14 +30,13 @@ fn draw<A: Allocator + Copy>(
 enum End {
     /// There is no memory left.
     Refused,
-    /// It is drawn all the same.
+    /// It is drawn without that growth.
     Spared,
     /// No growth was refused.
     Granted,
 }
 
-// How a drawing ends where growth `n` is refused. Nothing is written before want of memory is told, and whatever is drawn is the
-// picture.
+// How a drawing ends if growth `n` is refused. Nothing is written before `Memory` is returned, and what is drawn is the picture.
 fn end_of(
     rt: &(impl Abort + AllocGlobal),
     level: &Level<'_>,
@@ -63,7 +62,7 @@ fn end_of(
     }
 }
 
-// Refuses each growth of a drawing in turn until none is, of which it does without so many.
+// Refuses each growth of a drawing in turn until none is. It does without so many of them.
 fn check_ends(
     rt: &(impl Abort + AllocGlobal),
     level: &Level<'_>,
@@ -134,7 +133,7 @@ special 0, tag 0, 128 cells</title></path>\n",
 special 0, tag 0, 128 cells</title></path>\n",
 ];
 
-// The list of the segs' ends is done without.
+// It does without the list of the segs' ends.
 #[test]
 fn sound_level(rt: HostRuntime) {
     check_file(&rt, &base(&rt), &HALVES, false, 1);
@@ -147,7 +146,7 @@ fn faulty_level(rt: HostRuntime) {
     check_file(&rt, &file, &[], true, 0);
 }
 
-// Where there is nothing to draw no growth is asked for.
+// If there is nothing to draw, no growth is asked for.
 #[test]
 fn nothing_to_draw(rt: HostRuntime) {
     let file = base_with(&rt, &[(2, &[])]);

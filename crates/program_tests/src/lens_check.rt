@@ -369,7 +369,7 @@ fn totals_with_warnings(rt: HostRuntime) {
     check_totals(&rt, Warnings::Told, &all, text);
 }
 
-// Whether a check with warnings met growth `n` refused, and whether it answered all the same. Where it has no memory left, it has written a
+// Whether a check with warnings met growth `n` refused, and whether it succeeded without it. If memory ran out, it has written a
 // front of the text.
 fn warned_end(
     rt: &(impl Abort + AllocGlobal),
@@ -400,7 +400,7 @@ fn warned_end(
     (true, false)
 }
 
-// Each growth of a check with warnings is refused in turn until none is: so many of them it does without.
+// Refuses each growth of a check with warnings in turn until none is. It does without so many of them.
 fn check_spared(
     rt: &(impl Abort + AllocGlobal),
     file: &[u8],
@@ -434,7 +434,7 @@ fn alone(warnings: u64) -> Totals {
     }
 }
 
-// The three lists of W1 and the two of W6 are done without.
+// It does without the three lists of W1 and the two of W6.
 #[test]
 fn lists_refused(rt: HostRuntime) {
     let file = base_with_lines(&rt, &round(&rt, 200), 200);

@@ -13,7 +13,7 @@ use std::process::Abort;
 use test_alloc::Refusing;
 use wad_dir::Set;
 
-// What became of a call that was to meet one growth refused: it answered want of memory, it did without, or it met none.
+// The outcome of a call with one growth to be refused: it returned `Memory`, it did without the growth, or it met none.
 #[derive(Clone, Copy, Debug, PartialEq, Eq)]
 enum Outcome {
     Refused,

@@ -1,4 +1,4 @@
-//! The sample level and files made of it. They end the process where no memory is left, so that a test is a row of calls.
+//! The sample level and files made of it. If memory runs out they end the process, so that a test is a row of calls.
 
 use le_rec::Name8;
 use std::alloc::{AllocError, Global};

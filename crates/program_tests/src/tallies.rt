@@ -1,4 +1,5 @@
-//! One tally for many rectangles: each is told its own points, also after one that was refused a growth.
+//! One tally for many rectangles: it gives each its own points, also after one that was refused a
+//! growth.
 
 use crate::compare::check_same;
 use crate::sample::base;
@@ -26,7 +27,7 @@ fn check_counts<A: Allocator>(rt: &impl Abort, counts: &Counts<A>, pairs: &[(u16
     }
 }
 
-// Whether a rectangle is refused a growth; else it is told its pairs.
+// Whether a rectangle is refused a growth; else it has its pairs.
 fn is_census_refused<A: Allocator + Copy>(
     rt: &impl Abort,
     tally: &mut Tally<'_, '_, A>,
@@ -44,7 +45,7 @@ fn is_census_refused<A: Allocator + Copy>(
     }
 }
 
-// How many of the rectangles are refused a growth; the others are told their pairs.
+// How many of the rectangles are refused a growth; the others have their pairs.
 fn count_refused<A: Allocator + Copy>(rt: &impl Abort, tally: &mut Tally<'_, '_, A>) -> usize {
     let mut refused: usize = 0;
     for (bounds, pairs) in CASES {

@@ -154,7 +154,7 @@ fn is_refused(
     heap.has_refused()
 }
 
-// Refuses growth 1, 2, .. in turn, and then answers as if nothing had been.
+// Refuses growth 1, 2, .. in turn, and then succeeds as if none had been.
 fn check_growths_at(
     rt: &(impl Abort + AllocGlobal),
     level: &Level<'_>,

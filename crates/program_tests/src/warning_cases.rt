@@ -1,5 +1,5 @@
-//! Warnings of levels: what is told with memory, and with each growth refused in turn. The lists by which W1 and W6 see sooner that nothing
-//! is to be told are done without.
+//! Warnings of levels: the reports with memory, and with each growth refused in turn. W1 and W6 do without the lists that show
+//! sooner if there is no warning.
 
 use crate::compare::check_same;
 use crate::line_levels::{Ends, base_with_lines, round, round_and};
@@ -22,7 +22,7 @@ fn unknown<'s, 'a>() -> Option<Resources<'s, 'a>> {
     None
 }
 
-// What is told of a code; None where a growth was refused.
+// The report on a code; None if a growth was refused.
 fn told<A: Allocator + Copy>(alloc: A, checks: &Checks<'_, '_>, code: WarningCode) -> Option<Told> {
     let told = checks.told(alloc, code, &None, 1).ok()?;
     Some((told.count(), told.first().first().copied()))
@@ -35,11 +35,11 @@ enum End {
     Granted,
     /// It has no memory left.
     Refused,
-    /// It answers all the same.
+    /// It succeeds without that growth.
     Spared,
 }
 
-// How the call of a code ends that is refused growth `n`. What it answers is what there is.
+// How the call of a code ends if growth `n` is refused. What it returns is the true report.
 fn end_of(
     rt: &(impl Abort + AllocGlobal),
     checks: &Checks<'_, '_>,
@@ -58,7 +58,7 @@ fn end_of(
     if refused { End::Spared } else { End::Granted }
 }
 
-// What is told of a code, with memory and with each growth refused in turn, and how many of these growths the call does without.
+// The report on a code, with memory and with each growth refused in turn, and how many of these growths the call does without.
 fn check_code(
     rt: &(impl Abort + AllocGlobal),
     checks: &Checks<'_, '_>,
@@ -84,7 +84,7 @@ fn check_code(
     check_same(rt, told(rt.alloc(), checks, code), Some(expected));
 }
 
-// What is told of a code over the level of a file, and how many growths that does without.
+// The report on a code for the level of a file, and how many growths it does without.
 fn check_file(
     rt: &(impl Abort + AllocGlobal),
     file: &[u8],
@@ -113,7 +113,7 @@ fn check_lines(
     check_file(rt, &file, code, expected, spared);
 }
 
-// That nothing is told of a code over so many linedefs round a sector.
+// There is no warning of a code for so many linedefs round a sector.
 fn check_round(rt: &(impl Abort + AllocGlobal), count: u16, code: WarningCode, spared: u32) {
     check_lines(rt, &round(rt, count), count, code, NOTHING, spared);
 }
@@ -203,7 +203,7 @@ const WOOD: [u8; 60] = [
     1, 0,
 ];
 
-// What is told of a code over a file's level with the file's resources; None where a growth was refused.
+// The report on a code for a file's level with the file's resources; None if a growth was refused.
 fn told_in_file<A: Allocator + Copy>(alloc: A, file: &[u8], code: WarningCode) -> Option<Told> {
     let set = Set::one(alloc, file).ok()?;
     let level = Level::open(&set, Name8::query(b"E1M1"), Reading::Signed).ok()?;
@@ -251,7 +251,7 @@ fn resources(rt: HostRuntime) {
     check_in_file(&rt, &without, WarningCode::W10, NOTHING);
 }
 
-// Whether a level could be looked over with growth `n` refused. Then it is as sound as it is.
+// Whether a level could be looked over with growth `n` refused. Then its soundness is right.
 fn is_looked_over(rt: &(impl Abort + AllocGlobal), level: &Level<'_>, n: u64) -> bool {
     let heap = Refusing::new(rt.alloc(), n);
     let checks = Checks::of(&heap, level);

@@ -1,8 +1,8 @@
-//! The sides of points by nodes that a seed makes: what `released_side` of `released` answers, and `side` of `map_geo`.
+//! The sides of points, for nodes that a seed makes: by `released_side` of `released`, and by `side` of `map_geo`.
 //! `tests/released` compares them with the same routines in C.
 //!
-//! `SEED LINES` prints so many lines of 64 cases, two letters each: `F` or `B` as `released_side` answers, and then as
-//! `side` does, or `-` where that isn't asked.
+//! `SEED LINES` prints so many lines of 64 cases, two letters each: `F` or `B` by `released_side`, and then by `side`,
+//! or `-` if that isn't asked.
 #![tactic(auto)]
 
 mod cases;
@@ -17,7 +17,7 @@ use std::rt::Env;
 
 fn main(rt: HostRuntime) -> ExitCode {
     let Some((seed, lines)) = asked(&rt) else {
-        // Where standard error fails too, nobody is left to be told.
+        // If standard error fails too, the message is lost.
         let _ = rt.eprintln(format_args!("usage: released_cases SEED LINES"));
         return ExitCode::from(2);
     };

@@ -21,7 +21,7 @@ fn is_granted(count: &Count) -> bool {
     growth != count.refused
 }
 
-/// An allocator that refuses one growth. Collections are handed a `&` to it.
+/// An allocator that refuses one growth. Collections get a `&` to it.
 #[derive(Drop)]
 pub struct Refusing<B: Allocator = Global> {
     inner: B,

@@ -13,7 +13,7 @@ pub enum Fault {
     Words,
     /// The file can't be read, or is no WAD file with such levels.
     File,
-    /// A call of the library failed, for want of memory or of an output.
+    /// A call of the library failed: memory ran out, or an output failed.
     Call,
 }
 

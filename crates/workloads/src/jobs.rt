@@ -28,7 +28,7 @@ pub enum Job {
     Atlas,
     /// The file is checked with its warnings, after things, tags and textures were changed.
     Check,
-    /// Points are answered on each level of the file.
+    /// Points are looked up on each level of the file.
     Points,
     /// Squares are counted on each level of the file.
     Census,
@@ -48,7 +48,7 @@ pub fn job_named(word: &str) -> Option<Job> {
     }
 }
 
-/// Does a round of a job over the files, of which there is one but for `lmp`.
+/// Does a round of a job over the file; `lmp` needs none.
 pub fn do_round(
     alloc: Global,
     job: Job,

@@ -34,7 +34,7 @@ fn main(rt: HostRuntime) -> ExitCode {
             }
         }
         Err(fault) => {
-            // Where standard error fails too, nobody is left to be told.
+            // If standard error fails too, the message is lost.
             let _ = rt.eprintln(format_args!("workloads: {fault:?}"));
             ExitCode::FAILURE
         }

@@ -248,6 +248,7 @@ cases_of_unlooked() {
     cases_of_unlooked_and_ignored
     into_new 'atlas: neither textures nor flats' 0 '' '1-0.svg index.html survey.jsonl' --map room.wad
     has 'atlas: .. in its survey' survey.jsonl "$(room_of room.wad '"warnings":{},"unlooked":["W9","W10"]')"
+    rm -rf atlas
 }
 
 # A lump of TEXTURE1 that isn't in its file, the winner of the set.

@@ -75,10 +75,10 @@ fn three_levels(rt: &(impl Abort + AllocGlobal)) -> Vec<u8> {
 const ENTRIES: [u64; 3] = [0, 11, 14];
 
 // Adds the rows of a file's levels. All memory is from one heap.
-fn add_rows<'h>(
+fn add_rows<'h, 'b>(
     heap: &'h Refusing,
-    base: &Base<'_>,
-    file: &[u8],
+    base: &'b Base<'b>,
+    file: &'b [u8],
     rows: &mut Vec<Row<'static>, &'h Refusing>,
 ) -> Result<(), AllocError> {
     let Ok(set) = Set::one(heap, file) else {
@@ -92,8 +92,8 @@ fn add_rows<'h>(
         path: b"a.wad",
         judging: judging(base, Warnings::Told),
     };
-    let known = over_base(heap, base, &set)?;
-    let resources = asked_resources(heap, &known, Warnings::Told)?;
+    let known = over_base(heap, origin.judging.base, &set)?;
+    let resources = asked_resources(heap, &known, origin.judging.warnings)?;
     push_rows(heap, &origin, &set, &resources, rows)
 }
 

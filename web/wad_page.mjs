@@ -13,7 +13,8 @@ const WARNINGS = ['', 'told', 'strict'];
 
 /**
  * @typedef {{ status: number, answer: Uint8Array, refused: string }} Ended  how a run ended, as the program would have
- * @typedef {{ wide?: boolean, warnings?: 'told' | 'strict' }} Judging  `--wide`; `--map`, or `--map --strict`: of `check` and `survey`
+ * @typedef {{ wide?: boolean, warnings?: 'told' | 'strict', bases?: number }} Judging  `--wide`; `--map`, or `--map --strict`; how many of
+ *   the files, from the first on, are those of `--base`, 63 at most: of `check` and `survey`
  * @typedef {{ command: 'check', max: number | bigint } | { command: 'survey' } | { command: 'demos', json?: boolean } |
  *   { command: 'cut', entry: number | bigint }} Command  `max` is 0 for all findings
  * @typedef {Command & Judging} LensQuestion  what is asked of files
@@ -188,7 +189,7 @@ export async function runWadlook(words, files, input = new Uint8Array(), room = 
 }
 
 /**
- * What `wadlens` answers a question over files, of which there is one for each path.
+ * What `wadlens` answers a question over files, of which there is one for each path; the base files stand first, and aren't told.
  * @param {LensQuestion} question @param {string[]} paths @param {Uint8Array[]} files @param {number} [room] a first guess of the answer's
  */
 export async function runWadlens(question, paths, files, room = ANSWER) {
@@ -233,6 +234,7 @@ function lensBytes(question) {
   view.setUint8(8, command);
   view.setUint8(9, Number(question.wide ?? false));
   view.setUint8(10, WARNINGS.indexOf(question.warnings ?? ''));
+  view.setUint8(11, Math.min(question.bases ?? 0, 255)); // more than 63 are refused, and so none may wrap
   return new Uint8Array(view.buffer);
 }
 

@@ -7,7 +7,7 @@ from base64 import b64encode
 from collections.abc import Iterator
 from typing import NamedTuple
 
-from plain import lens, look
+from plain import lens, look, wadlens
 from plain.cases import Case, case
 from plain.levels import Level, opening_fault
 from plain.look import Answer
@@ -56,10 +56,11 @@ def of_look(run: Run, held: Files) -> Iterator[Asked]:
 
 
 def lens_words(asked: lens.Asked) -> list[str]:
-    """What is asked in one order, with each option once."""
+    """What is asked in one order, with each option once: the base files behind the command."""
     flags = {"--wide": asked.wide, "--map": asked.map, "--strict": asked.strict}
     flags["--json"] = asked.json
-    words = [asked.command, *(name for name, is_set in flags.items() if is_set)]
+    bases = [word for path in asked.bases for word in ("--base", path)]
+    words = [asked.command, *bases, *(name for name, is_set in flags.items() if is_set)]
     if asked.command == "check" and asked.most != 20:
         words += ["--max", str(asked.most)]
     if asked.command == "cut":
@@ -68,15 +69,15 @@ def lens_words(asked: lens.Asked) -> list[str]:
 
 
 def of_lens(asked: lens.Asked, held: Files) -> Iterator[Asked]:
-    """What is asked of those of its files that have bytes, the listed ones among them. The
-    page asks for no check in objects, ignores no code and has no base files."""
+    """What is asked of those of its files that have bytes, the listed ones among them, over
+    those of its base files. The page asks for no check in objects and ignores no code."""
     if asked.command == "check" and asked.json:
         return
-    there = [path for path in asked.paths if bytes_under(path, held) is not None]
+    there, bases = ([path for path in paths if bytes_under(path, held) is not None] for paths in (asked.paths, asked.bases))
     if there and not asked.lost:
-        asked = asked._replace(paths=there, ignored=frozenset(), bases=())
-        files = [held[path] or b"" for path in there]
-        yield Asked(lens_words(asked), files, b"", lens.run(asked, held))
+        asked = asked._replace(paths=there, ignored=frozenset(), bases=tuple(bases))
+        files = [held[path] or b"" for path in (*bases, *there)]
+        yield Asked(lens_words(asked), files, b"", wadlens.run(asked, held, b""))
 
 
 def is_question(words: list[str]) -> bool:

@@ -5,7 +5,7 @@
 /** @typedef {import('../wad_page.mjs').LensQuestion} LensQuestion */
 /** @typedef {import('../wad_page.mjs').DrawQuestion} DrawQuestion */
 /** @typedef {typeof import('../wad_page.mjs')} Page */
-/** @typedef {(words: string[], files: Uint8Array[], input?: Uint8Array, room?: number) => Promise<Ended>} Run  the last words are the paths of the files */
+/** @typedef {(words: string[], files: Uint8Array[], input?: Uint8Array, room?: number) => Promise<Ended>} Run  the paths of the files are `pathsOf` */
 
 const LENS = ['check', 'survey', 'demos', 'cut', 'picture'];
 /** How many findings of one code are shown, and how many cells a picture has, where the words don't say. */
@@ -17,10 +17,23 @@ export const isLens = ([command]) => LENS.includes(command);
 /** What stands behind an option, or else this. @param {string[]} words @param {string} option @param {string} [otherwise] */
 const valueOf = (words, option, otherwise = '') => words.includes(option) ? words[words.indexOf(option) + 1] : otherwise;
 
+/** How often `--base` stands behind the command, where it stands before all else. @param {string[]} words */
+export function basesOf(words) {
+  let count = 0;
+  while (words[1 + 2 * count] === '--base') count++;
+  return count;
+}
+
+/** The paths of so many files: those of the base files, and the last words. @param {string[]} words @param {number} count */
+export function pathsOf(words, count) {
+  const bases = basesOf(words);
+  return [...Array.from({ length: bases }, (_, k) => words[2 + 2 * k]), ...words.slice(words.length - count + bases)];
+}
+
 /** @param {string[]} words @returns {Judging} */
 function judgingOf(words) {
   const warnings = words.includes('--strict') ? 'strict' : words.includes('--map') ? 'told' : undefined;
-  return { wide: words.includes('--wide'), warnings };
+  return { wide: words.includes('--wide'), warnings, bases: basesOf(words) };
 }
 
 /** The question of words without paths. @param {string[]} words @returns {LensQuestion} */
@@ -44,6 +57,6 @@ function drawQuestion(words) {
 export const byWords = ({ runWadlook, runWadlens, drawPicture }) => (words, files, input, room) => {
   if (!isLens(words)) return runWadlook(words, files, input, room);
   if (words[0] === 'picture') return drawPicture(drawQuestion(words), files[0], room);
-  const first = words.length - files.length;
-  return runWadlens(lensQuestion(words.slice(0, first)), words.slice(first), files, room);
+  const first = words.length - files.length + basesOf(words);
+  return runWadlens(lensQuestion(words.slice(0, first)), pathsOf(words, files.length), files, room);
 };

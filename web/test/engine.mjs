@@ -8,7 +8,7 @@ import { pathToFileURL } from 'node:url';
 import { byWords } from './asked.mjs';
 import { seeded } from './engine_fuzz.mjs';
 import { refusals } from './engine_refusals.mjs';
-import { wad } from './wads.mjs';
+import { flats, rooms, textures, twoUnknown, wad, wallsOfRooms } from './wads.mjs';
 import { LINES, OTHERWISE, workedDemos, workedFiles } from './worked_cases.mjs';
 
 const [folder, wadlook, wadlens, sample] = process.argv.slice(2);
@@ -72,9 +72,10 @@ async function check(words, paths, input = '') {
   compare(all, native(wadlook, all, given), page, page.refused && `refused: ${page.refused}\n`);
 }
 
-/** The same of words of `wadlens`, whose messages are the module's. */
-async function checkLens(words, paths) {
-  const all = [...words, ...paths], page = await run(all, paths.map((path) => names.get(path)));
+/** The same of words of `wadlens`, whose messages are the module's; over base files, where there are any. */
+async function checkLens([command, ...options], paths, bases = []) {
+  const all = [command, ...bases.flatMap((path) => ['--base', path]), ...options, ...paths];
+  const page = await run(all, [...bases, ...paths].map((path) => names.get(path)));
   compare(all, native(wadlens, all, ''), page, page.refused);
 }
 
@@ -155,6 +156,22 @@ for (let i = 0; i < 40; i++) for (const words of [['check'], ['survey', '--wide'
 for (const entry of ['0', '1', '5', '11', '12', '18446744073709551615']) {
   for (const path of ['base.wad', 'other.wad', 'demo.wad', 'short.wad', 'empty.wad']) await checkLens(['cut', '--entry', entry], [path]);
 }
+
+// Over base files. room.wad has unknown names beside those of its walls, and walled.wad has textures, too.
+keep('room.wad', wad(rooms('E1M1', { damage: twoUnknown })));
+keep('walled.wad', wad([...rooms('E1M1'), ['TEXTURE1', textures(['DOOR1'])]]));
+keep('game.wad', wad([...rooms('E1M1'), ...wallsOfRooms()], 'IWAD'));
+keep('doors.wad', wad([['TEXTURE1', textures(['DOOR1'])], ...flats('FLAT1')], 'IWAD'));
+keep('second.wad', wad([['TEXTURE1', textures(['DOOR1'])], ['TEXTURE2', textures(['STEP1', 'STONE2'])]]));
+keep('flats.wad', wad(flats('FLOOR0_1')));
+const standing = [[['game.wad'], ['room.wad']], [['doors.wad'], ['room.wad']], [['game.wad'], ['walled.wad']], [['second.wad'], ['walled.wad']],
+  [['flats.wad', 'second.wad'], ['room.wad']], [['flats.wad'], ['room.wad']], [['game.wad', 'doors.wad'], ['room.wad']],
+  [['doors.wad', 'game.wad'], ['room.wad']], [['game.wad'], ['room.wad', 'short.wad', 'walled.wad']], [['game.wad'], ['game.wad']],
+  [[...Array(62).fill('flats.wad'), 'game.wad'], ['room.wad']], [['short.wad'], ['room.wad']], [['game.wad', 'notes.txt'], ['room.wad']]];
+for (const [bases, paths] of standing) for (const words of [['check', '--map', '--max', '0'], ['survey', '--map']]) await checkLens(words, paths, bases);
+await checkLens(['check', '--wide', '--map', '--strict', '--max', '1'], ['room.wad'], ['doors.wad']);
+for (const path of ['room.wad', 'walled.wad', 'game.wad']) await checkLens(['check', '--map'], [path]);
+
 await refuses(['cut', '--entry', '0'], ['base.wad', 'base.wad']);
 for (const words of [['check'], ['survey'], ['demos'], ['demos', '--json'], ['cut', '--entry', '0']]) await refuses(words, []);
 refusals(await WebAssembly.compile(readFileSync(join(folder, 'wad_page.wasm'))), host.Call, base, same);

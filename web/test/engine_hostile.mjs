@@ -5,8 +5,8 @@
 import { readFileSync } from 'node:fs';
 import { join } from 'node:path';
 import { pathToFileURL } from 'node:url';
-import { byWords } from './asked.mjs';
-import { rooms, wad, words } from './wads.mjs';
+import { basesOf, byWords } from './asked.mjs';
+import { rooms, textures, wad, words } from './wads.mjs';
 
 const [folder, only = ''] = process.argv.slice(2);
 // What a page fetches lies in the folder here.
@@ -59,6 +59,11 @@ const demos = (size) => {
   const body = commands(0), count = Math.floor(size / 16);
   return Buffer.concat([head(count), Buffer.alloc(16 * count, entry(12 + 16 * count, body.length, 'DEMO1')), body]);
 };
+/** One half textures, the other sidedefs whose own are none of these. */
+const unknown = (size) => {
+  const sides = ([name, body]) => [name, name === 'SIDEDEFS' ? Buffer.alloc(30 * Math.floor(size / 60), body.subarray(0, 30)) : body];
+  return wad([...ROOMS.map(sides), ['TEXTURE1', textures(Array.from({ length: Math.floor(size / 24) }, (_, k) => `T${k}`))]]);
+};
 const list = (size) => level({ BLOCKMAP: Buffer.concat([words(0, 0, 1, 1, 5), Buffer.alloc(size - size % 2, words(7)), words(-1)]) });
 
 // Rows --------------------------------------------------------------------------------------------------------------------------
@@ -73,6 +78,7 @@ const rows = [
   ['`survey --map`: all lumps over the same 64 MB of bytes 255', ['survey', '--map'], FILE, (size) => over(['MAP01', ...USUAL], Buffer.alloc(size, 255)), () => 65536],
   ['`check --map`: the same', ['check', '--map'], FILE, (size) => over(['MAP01', ...USUAL], Buffer.alloc(size, 255)), () => 1 << 20],
   ['`check --map --max 0`: 1,142,857 linedefs whose vertexes aren\'t there', ['check', '--map', '--max', '0'], SMALL, filled('LINEDEFS', words(4000, 4001, 1, 0, 0, 0, -1)), (file) => 80 * file.length / 14],
+  ['`check --map --base`: 266,666 sidedefs, whose textures are none of the 666,666 of each file', ['check', '--base', 'g', '--map'], SMALL, unknown, () => 1 << 20],
   ['`cut`: a level of 64 MB', ['cut', '--entry', '0'], FILE, filled('BLOCKMAP', words(0)), () => 1 << 22],
   ['`show`: 1,142,857 linedefs', ['show', 'MAP01'], SMALL, filled('LINEDEFS', words(0, 1, 1, 0, 0, 0, -1)), (file) => 65536 + 3 * file.length],
   ['`points`: 1024 points down a chain of 32,767 nodes', ['points', 'MAP01'], 32767, chain, () => 1 << 20, '1 5\n'.repeat(1024)],
@@ -88,7 +94,8 @@ const rows = [
 /** The processor's seconds for an answer, how many instances it took until there was room, and the bytes of the last one's memory. */
 async function once(asked, file, room, input) {
   instances = 0;
-  const began = process.cpuUsage(), { status } = await run([...asked, 'f'], [file], Buffer.from(input), Math.ceil(room)), { user, system } = process.cpuUsage(began);
+  const files = Array.from({ length: 1 + basesOf(asked) }, () => file); // each of the base files is the same
+  const began = process.cpuUsage(), { status } = await run([...asked, 'f'], files, Buffer.from(input), Math.ceil(room)), { user, system } = process.cpuUsage(began);
   if (status === 3) throw new Error(`no memory for ${asked.join(' ')}`);
   return { seconds: (user + system) / 1e6, bytes: memory.buffer.byteLength, runs: instances };
 }

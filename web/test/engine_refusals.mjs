@@ -3,7 +3,7 @@
 
 /** @typedef {import('../wad_page.mjs').Ended} Ended */
 /** @typedef {typeof import('../wad_page.mjs').Call} Calls */
-/** @typedef {{ number?: bigint, command?: number, wide?: number, warnings?: number }} LensNumbers */
+/** @typedef {{ number?: bigint, command?: number, wide?: number, warnings?: number, bases?: number }} LensNumbers */
 /** @typedef {{ cells?: number, wide?: number, framed?: number, frame?: number[] }} DrawNumbers */
 /** @typedef {{ parts: Buffer[], sizes?: (number | bigint)[] }} Parts  with sizes where these aren't those of the parts */
 
@@ -11,10 +11,10 @@ const HEAP = 1 << 24, ROOM = 1 << 18, LAST = 2n ** 64n - 1n;
 const [CHECK, SURVEY, DEMOS, OBJECTS, CUT] = [0, 1, 2, 3, 4], TOLD = 1, STRICT = 2;
 
 /** @param {LensNumbers} question */
-function lensBytes({ number = 0n, command = CHECK, wide = 0, warnings = 0 }) {
+function lensBytes({ number = 0n, command = CHECK, wide = 0, warnings = 0, bases = 0 }) {
   const bytes = Buffer.alloc(16);
   bytes.writeBigUInt64LE(number, 0);
-  return Buffer.concat([bytes.subarray(0, 8), Buffer.from([command, wide, warnings]), Buffer.alloc(5)]);
+  return Buffer.concat([bytes.subarray(0, 8), Buffer.from([command, wide, warnings, bases]), Buffer.alloc(4)]);
 }
 
 /** @param {DrawNumbers} question */
@@ -86,6 +86,15 @@ export function refusals(module, Call, file, check) {
     answers(`command ${command}, strict`, lens({ command, warnings: STRICT }), 1);
     answers(`command ${command} of two files`, lens({ command }, two, file2));
   }
+  const many = (/** @type {number} */ count) => [path, file].map((part) => ({ parts: Array.from({ length: count }, () => part) }));
+  for (const command of [CHECK, SURVEY]) {
+    for (const bases of [1, 63]) answers(`command ${command} over ${bases}`, lens({ command, warnings: TOLD, bases }, ...many(bases + 1)));
+  }
+  for (const command of [CHECK, SURVEY, DEMOS, OBJECTS]) {
+    for (const bases of [1, 2, 255]) refuses(`command ${command} over ${bases}, of which one is there`, lens({ command, warnings: TOLD, bases }));
+    for (const bases of [64, 255]) refuses(`command ${command} over ${bases}`, lens({ command, warnings: TOLD, bases }, ...many(bases + 1)));
+  }
+  for (const [bases, count] of [[1, 1], [1, 2], [255, 1]]) refuses(`a cut of ${count} over ${bases}`, lens({ command: CUT, bases }, ...many(count)));
   answers('a cut', lens({ command: CUT }));
   answers('a path that is no UTF-8', lens({}, { parts: [Buffer.from([0xff])] }));
   for (const command of [5, 9, 255]) refuses(`command ${command}`, lens({ command }));

@@ -7,7 +7,7 @@
 export const canRun = () => WebAssembly.validate(new Uint8Array([0, 0x61, 0x73, 0x6d, 1, 0, 0, 0]));
 
 /**
- * What a program answers of words, of which the last are the paths of the files.
+ * What a program answers of words and the files that they name, as `pathsOf` of asked.mjs has them.
  * @param {string[]} words @param {Uint8Array[]} files @param {Uint8Array} [input] @returns {Promise<Ended>}
  */
 export async function runWadlook(words, files, input = new Uint8Array()) {
@@ -19,7 +19,10 @@ export async function runWadlook(words, files, input = new Uint8Array()) {
 }
 
 /** @param {LensQuestion} question @param {string[]} paths @param {Uint8Array[]} files */
-export const runWadlens = (question, paths, files) => runWadlook([...wordsOf(question), ...paths], files);
+export function runWadlens(question, paths, files) {
+  const [command, ...options] = wordsOf(question), bases = paths.slice(0, question.bases ?? 0);
+  return runWadlook([command, ...bases.flatMap((path) => ['--base', path]), ...options, ...paths.slice(bases.length)], files);
+}
 
 /** @param {DrawQuestion} question @param {Uint8Array} file */
 export function drawPicture({ cells, wide, frame }, file) {

@@ -3,7 +3,7 @@ import { spawn, spawnSync } from 'node:child_process';
 import { existsSync, mkdirSync, readFileSync, rmSync, statSync, writeFileSync } from 'node:fs';
 import { createServer } from 'node:http';
 import { basename, extname, join, normalize } from 'node:path';
-import { isLens } from './asked.mjs';
+import { isLens, pathsOf } from './asked.mjs';
 
 const TYPES = /** @type {Record<string, string>} */ ({
   '.html': 'text/html', '.css': 'text/css', '.mjs': 'text/javascript', '.svg': 'image/svg+xml',
@@ -13,11 +13,11 @@ const TYPES = /** @type {Record<string, string>} */ ({
 /** @typedef {{ status: number, answer: Buffer, refused: string }} Ended */
 
 /**
- * Runs a program on words, of which the last are the paths of its files: these and the input are bytes.
+ * Runs a program on words that name its files, as `pathsOf` has them: these and the input are bytes.
  * @param {Programs} programs @param {string} room @param {string[]} words @param {Buffer[]} files @param {Buffer} input @returns {Ended}
  */
 export function runProgram({ wadlook, wadlens }, room, words, files, input) {
-  const paths = words.slice(words.length - files.length), folder = join(room, 'run');
+  const paths = pathsOf(words, files.length), folder = join(room, 'run');
   mkdirSync(folder, { recursive: true });
   paths.forEach((path, k) => writeFileSync(join(folder, basename(path)), files[k]));
   const ran = spawnSync(isLens(words) ? wadlens : wadlook, words, { cwd: folder, input, maxBuffer: 1 << 30 });

@@ -54,6 +54,20 @@ export function rooms(label, { flat = 'FLOOR0_1', damage, linedefs = Buffer.allo
   return [[label, Buffer.alloc(0)], .../** @type {[string, Buffer][]} */ (Object.entries(lumps))];
 }
 
+/** A lump of textures of these names, of which there may be very many. @param {string[]} names */
+export function textures(names) {
+  const head = Buffer.alloc(4 + 4 * names.length);
+  head.writeInt32LE(names.length);
+  names.forEach((_, k) => head.writeInt32LE(head.length + 8 * k, 4 + 4 * k));
+  return Buffer.concat([head, ...names.map(eight)]);
+}
+
+/** Flats of these names, which have no bytes here. @param {...string} names @returns {[string, Buffer][]} */
+export const flats = (...names) => ['F_START', ...names, 'F_END'].map((name) => [name, Buffer.alloc(0)]);
+
+/** The textures and the flats of the two rooms, as a game's file has them. @returns {[string, Buffer][]} */
+export const wallsOfRooms = () => [['TEXTURE1', textures(['STEP1', 'STONE2'])], ...flats('FLOOR0_1', 'CEIL1_1')];
+
 /** A demo of version 109 in which player 1 walks so many tics. @param {number} tics */
 export function demo(tics) {
   const commands = Array.from({ length: tics }, (_, k) => [50, 0, k % 5, k % 7 ? 0 : 1]).flat();
@@ -68,6 +82,11 @@ export const farLinedef = words(40000, 1, 1, 0, 0, 0, -1);
 export const twoOverlooked = ({ SIDEDEFS, THINGS }) => {
   SIDEDEFS.fill(eight('-'), 5 * 30 + 20, 5 * 30 + 28);
   THINGS.writeInt16LE(536, 10);
+};
+/** Gives sidedef 5 a texture, and the floor of sector 1 a flat, that no game has. @param {Record<string, Buffer>} lumps */
+export const twoUnknown = ({ SIDEDEFS, SECTORS }) => {
+  SIDEDEFS.set(eight('NOWALL'), 5 * 30 + 20);
+  SECTORS.set(eight('NOFLAT'), 26 + 4);
 };
 /** Makes linedef 4 tell two sides, where it has one. @param {Record<string, Buffer>} lumps */
 export const oneMistaken = ({ LINEDEFS }) => { LINEDEFS.writeUInt16LE(4, 4 * 14 + 4); };

@@ -4,11 +4,11 @@ import { Lines } from './lines.mjs';
 import { MapView, NOWHERE } from './map_view.mjs';
 import { Stopped } from './questions.mjs';
 import { make } from './rows.mjs';
-import { findingOf, get, field, inShort, isNarrow, notJudged, pane, say, verdict, wordsOf } from './words.mjs';
+import { findingOf, get, field, inShort, isNarrow, notJudged, pane, say, unlookedWords, verdict, wordsOf } from './words.mjs';
 
 /** @typedef {import('./words.mjs').Level} Level @typedef {import('./words.mjs').Finding} Finding */
 /** @typedef {import('./questions.mjs').Questions} Questions */
-/** @typedef {{ key: string, file: File, wide: boolean, entry: number, name: string }} Asked  what a question about a level has */
+/** @typedef {import('./worker.mjs').AskedLevel & { wantsGame: boolean }} Asked  what a question about a level has */
 
 const CELLS = 512; // of the picture of a level
 const FINE_CELLS = 1024; // and of that of a part
@@ -113,6 +113,7 @@ export class LevelView {
     this.findings.show(0, () => findingOf(''));
     get('findings-none').hidden = false;
     get('findings-none').textContent = why;
+    get('unlooked').hidden = true;
     for (const id of ['save-pwad', 'save-svg', 'pin']) get(id).toggleAttribute('disabled', true);
     this.#rest();
   }
@@ -126,7 +127,7 @@ export class LevelView {
   /** @param {Asked} asked */
   async #look(asked) {
     const began = performance.now();
-    const { level, findings, before } = await this.desk.ask('look', { ...asked, max: 20 }, `Judging ${asked.name}`);
+    const { level, findings, before, unlooked } = await this.desk.ask('look', { ...asked, max: 20 }, `Judging ${asked.name}`);
     if (this.asked !== asked) return;
     this.level = level;
     get('save-pwad').removeAttribute('disabled');
@@ -138,6 +139,8 @@ export class LevelView {
     const lines = new Lines(findings), warnings = Number(/, (\d+) warnings,/.exec(lines.at(lines.count - 1))?.[1]);
     this.#tell(level, verdict(level, warnings));
     this.#list(lines, before);
+    get('unlooked').textContent = unlookedWords(unlooked, asked.wantsGame);
+    get('unlooked').hidden = !unlooked;
     get('pin').removeAttribute('disabled');
     const { picture, svg, why } = await this.desk.ask('picture', { ...asked, cells: CELLS }, `Drawing ${asked.name}`)
       .catch((error) => ({ why: whyNot(error) })); // the findings stay

@@ -1,5 +1,6 @@
 // The page: which files are open, which level or demo is shown, and how the parts tell one another.
 import { DemoTable } from './demo_table.mjs';
+import { apart, gameOf } from './games.mjs';
 import { LevelView } from './level_view.mjs';
 import { Lines } from './lines.mjs';
 import { ListBox } from './list.mjs';
@@ -11,8 +12,8 @@ import { field, get, isNarrow, notJudged, pane, plural, say, sizeOf, verdict, wo
 /** @typedef {import('./words.mjs').Level} Level */
 /**
  * @typedef {{ key: string, file: File, kind: string, refused: string, heads: Lines, survey: Lines | null, demos: Lines,
- *   stopped: boolean, failed: string, surveys: number }} OpenFile  `heads` and `demos` are lines of `lumps`, `survey` those of the engine's
- *   answer, once all is judged; `failed` tells why it isn't
+ *   stopped: boolean, failed: string, surveys: number, game: OpenFile | null }} OpenFile  `heads` and `demos` are lines of `lumps`, `survey`
+ *   those of the engine's answer, once all is judged; `failed` tells why it isn't; `game` is the game's file on which it stands
  */
 
 const none = () => new Lines({ bytes: new Uint8Array(), ends: new Uint32Array() });
@@ -36,8 +37,8 @@ const desk = new Questions(changed); // what is waited for
 const judge = new Questions(changed); // what takes longer: whole files
 const finer = new Questions(() => {}); // pictures of parts
 
-/** @param {OpenFile} f */
-const asking = (f) => ({ key: f.key, file: f.file, wide: state.wide });
+/** What each question about a file has. @param {OpenFile} f */
+const asking = (f) => ({ key: f.key, file: f.file, wide: state.wide, game: f.game && { key: f.game.key, file: f.game.file } });
 /** A file's name as a word, which begins with no dash. @param {OpenFile} f */
 const pathOf = (f) => f.file.name.replace(/^-/, './-');
 
@@ -45,9 +46,10 @@ const pathOf = (f) => f.file.name.replace(/^-/, './-');
 
 /** @type {ListBox<OpenFile>} */
 const files = new ListBox(get('files'), (f) => {
-  const held = [sizeOf(f.file.size), f.heads.count && plural(f.heads.count, 'level'), f.kind !== 'demo' && f.demos.count && plural(f.demos.count, 'demo')];
+  const held = [sizeOf(f.file.size), f.heads.count && `${plural(f.heads.count, 'level')}${f.game ? ` over ${f.game.file.name}` : ''}`,
+    f.kind !== 'demo' && f.demos.count && plural(f.demos.count, 'demo')];
   const more = make('span', 'row-more', f.refused || held.filter(Boolean).join(' · '));
-  more.title = f.refused; // where it is cut off
+  more.title = more.textContent ?? ''; // where it is cut off
   return [
     make('span', 'row-name', f.file.name),
     make('span', `row-state${f.refused ? ' fault' : ''}`, f.refused ? 'refused' : f.kind || 'reading'),
@@ -59,17 +61,23 @@ const files = new ListBox(get('files'), (f) => {
 });
 const showFiles = () => files.show(state.files.length, (k) => state.files[k], state.file ? state.files.indexOf(state.file) : -1, true);
 
-/** Opens files; the first that isn't refused is shown. @param {Iterable<File>} chosen */
+/**
+ * Opens files, the games' first, so that what stands on them is judged once. The first that isn't refused is shown, of others than games'
+ * where there are any; and not the game's of what is shown already.
+ * @param {Iterable<File>} chosen
+ */
 async function open(chosen) {
   document.body.classList.remove('empty');
   /** @type {OpenFile[]} */
   const fresh = [...chosen].map((file, k) => ({
     key: `${performance.now()} ${k}`, file, kind: '', refused: '', heads: none(), survey: null, demos: none(), stopped: false, failed: '', surveys: 0,
+    game: null,
   }));
   state.files.push(...fresh);
   showFiles();
-  let first = true, isStopped = false;
-  for (const f of fresh) {
+  const { games, others } = await apart(fresh);
+  let isShown = false, isStopped = false;
+  for (const f of [...games, ...others]) {
     try {
       if (isStopped) throw new Stopped(); // a stop is of them all
       const { levels, demos, ...told } = await desk.ask('open', asking(f), `Reading ${f.file.name}`);
@@ -78,14 +86,26 @@ async function open(chosen) {
       isStopped = error instanceof Stopped;
       f.refused = isStopped ? 'stopped before it was read' : wordsOf(error);
     }
+    setOnGames(f);
     if (f === state.file) showFile(); else showFiles(); // it may have been chosen while it was read
-    if (f.refused) {
-      say(`${f.file.name}: ${f.refused}`);
-      continue;
+    if (f.refused) say(`${f.file.name}: ${f.refused}`);
+    const first = [...others, ...games].find((one) => !one.refused && one !== state.of?.game);
+    if (!isShown && first?.kind) {
+      isShown = true;
+      showFirst(first);
     }
-    if (first) showFirst(f);
-    first = false;
     survey(f);
+  }
+}
+
+/** Sets a file that was read on its game's, or others on this one; these are judged anew. @param {OpenFile} fresh */
+function setOnGames(fresh) {
+  const games = state.files.filter(({ kind }) => kind === 'IWAD');
+  for (const f of fresh.kind === 'IWAD' ? state.files : [fresh]) {
+    const game = gameOf(f, games);
+    if (game === f.game) continue;
+    f.game = game;
+    if (f !== fresh) judgeAnew(f);
   }
 }
 
@@ -94,6 +114,14 @@ function showFirst(f) {
   chooseFile(f);
   pane('levels');
   if (f.heads.count) chooseLevel(0); else if (f.demos.count) chooseDemo(0);
+}
+
+/** Judges all levels of a file again, and shows anew what is shown of it. @param {OpenFile} f */
+function judgeAnew(f) {
+  f.survey = null;
+  survey(f);
+  if (f === state.file) showLevels(true);
+  if (f === state.of && state.shown >= 0) showLevel();
 }
 
 /** Judges all levels of a file. @param {OpenFile} f */
@@ -224,7 +252,7 @@ function showLevel() {
   if (!f) return;
   const level = levelOf(f, state.shown), { level: name, entry, format } = level;
   stage('map', f, name);
-  view.show({ ...asking(f), entry, name }, format && format !== 'doom' ? notJudged(level) : '');
+  view.show({ ...asking(f), entry, name, wantsGame: f.kind === 'PWAD' && !f.game }, format && format !== 'doom' ? notJudged(level) : '');
 }
 
 /** @param {'map' | 'demo'} which @param {OpenFile} f @param {string} name */
@@ -244,12 +272,7 @@ const view = new LevelView(desk, finer, () => {
 function readAnew() {
   state.wide = field('wide').checked;
   judge.stop();
-  for (const f of state.files) {
-    f.survey = null;
-    survey(f);
-  }
-  showLevels(true);
-  if (state.shown >= 0) showLevel();
+  state.files.forEach(judgeAnew);
 }
 
 // Demos ------------------------------------------------------------------------------------------------------------------------

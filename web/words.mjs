@@ -2,7 +2,7 @@
 
 /**
  * @typedef {{ level: string, entry: number, format?: string, tag?: string, lump?: string, sound?: boolean, faults?: number, notes?: number,
- *   findings?: Record<string, number>, warnings?: Record<string, number>, things?: number, linedefs?: number, sidedefs?: number,
+ *   findings?: Record<string, number>, warnings?: Record<string, number>, unlooked?: string[], things?: number, linedefs?: number, sidedefs?: number,
  *   vertexes?: number, segs?: number, ssectors?: number, nodes?: number, sectors?: number, reject?: number, blockmap?: number }} Level
  *   an object of `survey`; before the level was judged it has its name and entry alone
  * @typedef {{ code: string, where: string, message: string, place: number[] | null, linedef: number, all?: boolean, wide?: boolean }} Finding
@@ -43,6 +43,9 @@ export function notJudged({ format, tag, lump }) {
 export function verdict({ sound, faults = 0, notes = 0 }, warnings = 0) {
   return [sound ? 'sound' : plural(faults, 'fault'), notes && plural(notes, 'note'), warnings && plural(warnings, 'warning')].filter(Boolean).join(', ');
 }
+
+/** What wasn't looked for, with what helps here in the place of what helps the program. @param {string} told @param {boolean} wantsGame */
+export const unlookedWords = (told, wantsGame) => told.replace("; name the game's with --base", wantsGame ? "; drop the game's file, too." : '.');
 
 /**
  * A line of `check`, without its path and level.

@@ -7,16 +7,19 @@ import { drawPicture, runWadlens, runWadlook } from './wad_page.mjs';
 
 /** @typedef {import('./wad_page.mjs').Ended} Ended */
 /** @typedef {import('./wad_page.mjs').LensQuestion} LensQuestion */
+/** @typedef {import('./wad_page.mjs').Command} Command */
 /** @typedef {import('./lines.mjs').LinesData} LinesData */
 /** @typedef {{ bytes: Uint8Array, named: Uint8Array, name: string }} Alone  a level's own file, and one in which `name` finds it */
 /** @typedef {{ bytes: Uint8Array, levels: Map<number, Alone> }} Held */
-/** @typedef {{ key: string, file: File, wide: boolean }} Asked */
+/** @typedef {{ key: string, file: File }} Source  a file that the page holds, and what it is known by */
+/** @typedef {Source & { wide: boolean, game: Source | null }} Asked  `game` is the game's file on which the file stands, if it stands on one */
 /** @typedef {Asked & { entry: number, name: string }} AskedLevel */
 
 const MOST_BYTES = 268435456; // of a file, and of all that are held
 const MOST_ALONE = 8; // levels of a file that are kept cut out
 const NOWHERE = 0x7fffffff; // the ends of a linedef without both vertexes
 const PATH = 'f'; // of a file whose name isn't shown
+const UNFOUND = 'level'; // a label in small letters, which no look-up finds
 const NO_MEMORY = 'there is not enough memory for it';
 
 const utf8 = (/** @type {string} */ words) => new TextEncoder().encode(words);
@@ -49,8 +52,14 @@ const askLens = (question, file, room, path = PATH) => answered(runWadlens(quest
 /** @param {Asked} asked */
 const reading = ({ wide }) => wide ? ['--wide'] : [];
 
-/** How levels are judged: warnings stand beside the findings. @param {Asked} asked @returns {import('./wad_page.mjs').Judging} */
-const judging = ({ wide }) => ({ wide, warnings: 'told' });
+/**
+ * What `wadlens` tells of a file's levels over base files: warnings stand beside the findings.
+ * @param {Asked} asked @param {Command} command @param {Uint8Array[]} bases @param {Uint8Array} file @param {number} [room] @param {string} [path]
+ */
+function judge({ wide }, command, bases, file, room, path = PATH) {
+  const paths = [...bases.map((_, k) => `base ${k}`), path];
+  return answered(runWadlens({ ...command, wide, warnings: 'told', bases: bases.length }, paths, [...bases, file], room));
+}
 
 // Files ------------------------------------------------------------------------------------------------------------------------
 
@@ -59,7 +68,7 @@ const held = new Map();
 
 /**
  * The file's bytes; the ones that were asked for last are kept.
- * @param {Asked} asked
+ * @param {Source} asked
  */
 async function hold({ key, file }) {
   let found = held.get(key);
@@ -74,6 +83,12 @@ async function hold({ key, file }) {
   let sum = 0;
   for (const [each, { bytes }] of [...held].reverse()) if ((sum += bytes.length) > MOST_BYTES && each !== key) held.delete(each);
   return found;
+}
+
+/** The bytes of the game's file on which a file stands, if it stands on one. @param {Asked} asked */
+async function basesOf({ game }) {
+  if (!game) return [];
+  try { return [(await hold(game)).bytes]; } catch (error) { throw new Error(`${game.file.name}: ${error instanceof Error ? error.message : error}`); }
 }
 
 /**
@@ -102,19 +117,19 @@ async function alone(asked) {
   const ended = await askLens({ command: 'cut', entry: asked.entry }, bytes, 1 << 22);
   if (!ended.answer.length) throw new Error(`the level can't be cut out: ${reason(ended)}`);
   const level = { bytes: ended.answer, named: ended.answer, name: asked.name };
-  if (!/^[A-Z][A-Z0-9_]*$/.test(level.name) || USUAL.test(level.name)) Object.assign(level, { named: labelled(level.bytes), name: 'LEVEL' });
+  if (!/^[A-Z][A-Z0-9_]*$/.test(level.name) || USUAL.test(level.name)) Object.assign(level, { named: labelled(level.bytes, 'LEVEL'), name: 'LEVEL' });
   if (levels.size >= MOST_ALONE) levels.delete([...levels.keys()][0]);
   levels.set(asked.entry, level);
   return level;
 }
 
 /**
- * The file with the label LEVEL in its first entry: what no NAME finds, small letters say, is asked for by this.
- * @param {Uint8Array} file
+ * The file with another label in its first entry: what no NAME finds, small letters say, is asked for by this.
+ * @param {Uint8Array} file @param {string} label
  */
-function labelled(file) {
+function labelled(file, label) {
   const named = file.slice(), directory = new DataView(named.buffer).getInt32(8, true);
-  named.set(utf8('LEVEL\0\0\0'), directory + 8);
+  named.set(utf8(label.padEnd(8, '\0')), directory + 8);
   return named;
 }
 
@@ -170,14 +185,14 @@ const jobs = {
 
   /** An object of each level, as lines. @param {Asked & { path: string, count: number }} asked */
   async survey(asked) {
-    const { bytes } = await hold(asked);
-    return linesOf((await askLens({ command: 'survey', ...judging(asked) }, bytes, 65536 + 400 * asked.count, asked.path)).answer);
+    const { bytes } = await hold(asked), bases = await basesOf(asked);
+    return linesOf((await judge(asked, { command: 'survey' }, bases, bytes, 65536 + 400 * asked.count, asked.path)).answer);
   },
 
   /** All findings of all levels, as text. @param {Asked & { path: string }} asked */
   async report(asked) {
-    const { bytes } = await hold(asked);
-    return (await askLens({ command: 'check', max: 0, ...judging(asked) }, bytes, undefined, asked.path)).answer;
+    const { bytes } = await hold(asked), bases = await basesOf(asked);
+    return (await judge(asked, { command: 'check', max: 0 }, bases, bytes, undefined, asked.path)).answer;
   },
 
   /** The level's own file. @param {AskedLevel} asked */
@@ -185,16 +200,18 @@ const jobs = {
     return (await alone(asked)).bytes.slice();
   },
 
-  /** The level's object, and `check`'s lines with how much stands before each. @param {AskedLevel & { max: number }} asked */
+  /**
+   * The level's object, and `check`'s lines with how much stands before each, and what wasn't looked for. Alone the level stands on its own
+   * file, whose textures and flats it may use, under a label that takes the place of none of their names.
+   * @param {AskedLevel & { max: number }} asked
+   */
   async look(asked) {
-    const { bytes } = await alone(asked);
-    const level = JSON.parse(firstLine(await askLens({ command: 'survey', ...judging(asked) }, bytes)));
+    const file = labelled((await alone(asked)).bytes, UNFOUND), bases = [...await basesOf(asked), (await hold(asked)).bytes];
+    const level = JSON.parse(firstLine(await judge(asked, { command: 'survey' }, bases, file)));
     const found = asked.max ? 0 : Object.values({ ...level.findings, ...level.warnings }).reduce((sum, n) => sum + n, 0); // so many lines need room
-    const check = await askLens({ command: 'check', max: asked.max, ...judging(asked) }, bytes, Math.max(1 << 20, 80 * found));
-    // Even here a look-up misses a label in small letters.
-    const shown = `${PATH}: ${level.level}: `, hidden = `${PATH}: ${level.level} (entry 0): `;
-    const heading = text(check.answer.subarray(0, hidden.length)) === hidden ? hidden : shown;
-    return { level, before: heading.length, findings: linesOf(check.answer) };
+    const check = await judge(asked, { command: 'check', max: asked.max }, bases, file, Math.max(1 << 20, 80 * found));
+    const unlooked = check.refused.replace(/^wadlens: /, '').trim();
+    return { level, before: `${PATH}: ${UNFOUND} (entry 0): `.length, findings: linesOf(check.answer), unlooked };
   },
 
   /** The picture as numbers and as text, or why there is none. @param {AskedLevel & { cells: number, frame?: number[] }} asked */

@@ -1,9 +1,10 @@
 // What the cases of the page stand on: the page in a browser, and what a person sees and does there.
-import { existsSync, mkdirSync, mkdtempSync, writeFileSync } from 'node:fs';
+import { existsSync, mkdirSync, mkdtempSync, readFileSync, statSync, writeFileSync } from 'node:fs';
 import { tmpdir } from 'node:os';
 import { join } from 'node:path';
-import { Browser, chromium } from './browser.mjs';
+import { Browser, chromium, wait } from './browser.mjs';
 import { runProgram, serve } from './server.mjs';
+import { demo, oneMistaken, rooms, wad } from './wads.mjs';
 
 export const [root, ...options] = process.argv.slice(2);
 export const valueOf = (/** @type {string} */ name) => options.includes(name) ? options[options.indexOf(name) + 1] : '';
@@ -62,8 +63,8 @@ export const written = (name, body) => {
   writeFileSync(join(room, name), body);
   return join(room, name);
 };
-/** What a program prints of a file. @param {string[]} words @param {Buffer} file @param {string} [input] */
-export const printed = (words, file, input = '') => runProgram(programs, room, words, [file], Buffer.from(input)).answer;
+/** What a program prints of a file, or of several. @param {string[]} words @param {Buffer | Buffer[]} files @param {string} [input] */
+export const printed = (words, files, input = '') => runProgram(programs, room, words, [files].flat(), Buffer.from(input)).answer;
 /** The place on the screen of a place of the map. @param {number} x @param {number} y @returns {Promise<[number, number]>} */
 export const placeOf = async (x, y) => {
   const [vx, vy, zoom] = await viewOf(), [mx, my] = await browser.middle('#map');
@@ -90,3 +91,32 @@ export const pinBy = async (numbers) => {
 };
 /** Pins a point by a click. @param {number} x @param {number} y */
 export const pinAt = async (x, y) => browser.click(...await placeOf(x, y));
+
+/** Two levels, and a demo. */
+export const twoRooms = wad([...rooms('MAP01'), ...rooms('MAP02', { damage: oneMistaken }), ['DEMO1', demo(10000)]]);
+export const roomsFile = written('rooms.wad', twoRooms);
+export const dropRooms = async () => {
+  await fresh();
+  await browser.drop(roomsFile);
+  await drawn('MAP01');
+};
+
+/**
+ * Holds the questions of a job back, or those of one file, until `free()` in the page sends them.
+ * @param {string} job @param {string} [name]
+ */
+export const withhold = (job, name = '') => browser.run(`{ const send = Worker.prototype.postMessage, kept = [];
+  window.free = () => { Worker.prototype.postMessage = send; kept.forEach(([worker, data]) => worker.postMessage(data)); };
+  Worker.prototype.postMessage = function (data, ...more) {
+    if (data.job === '${job}' && ['', data.file.name].includes(${JSON.stringify(name)})) kept.push([this, data]); else send.call(this, data, ...more); }; }`);
+
+/** Saves by a button, and reads what was saved under a name. @param {string} id @param {string} name */
+export async function saved(id, name) {
+  await browser.send('Browser.setDownloadBehavior', { behavior: 'allow', downloadPath: room });
+  await browser.run("document.querySelector('#said').textContent = ''");
+  await browser.press(`#save-${id}`);
+  await browser.until("/ saved$/.test(document.querySelector('#said').textContent)", `${name} saved`);
+  const isThere = () => existsSync(join(room, name)) && statSync(join(room, name)).size > 0; // its name may be taken before its bytes are there
+  for (let k = 0; !isThere() && k < 500; k++) await wait(10);
+  return readFileSync(join(room, name)).toString('latin1');
+}

@@ -9,6 +9,8 @@
 
 const HEAP = 1 << 24, ROOM = 1 << 18, LAST = 2n ** 64n - 1n;
 const [CHECK, SURVEY, DEMOS, OBJECTS, CUT] = [0, 1, 2, 3, 4], TOLD = 1, STRICT = 2;
+/** What a check with warnings tells besides of the file, which has neither textures nor flats. */
+const UNLOOKED = "wadlens: W9, W10 weren't looked for: no file has TEXTURE1, F_START; name the game's with --base\n";
 
 /** @param {LensNumbers} question */
 function lensBytes({ number = 0n, command = CHECK, wide = 0, warnings = 0, bases = 0 }) {
@@ -67,7 +69,7 @@ export function refusals(module, Call, file, check) {
   };
 
   const toldOf = (/** @type {Ended} */ { status, answer, refused }) => [status, answer.length > 0, refused];
-  const answers = (/** @type {string} */ what, /** @type {Ended} */ ended, status = 0) => check(what, toldOf(ended), [status, true, '']);
+  const answers = (/** @type {string} */ what, /** @type {Ended} */ ended, status = 0, told = '') => check(what, toldOf(ended), [status, true, told]);
   const refuses = (/** @type {string} */ what, /** @type {Ended} */ ended, why = 'usage') => check(what, toldOf(ended), [2, false, why]);
 
   const levels = { parts: [Buffer.from('levels'), path] };
@@ -80,15 +82,14 @@ export function refusals(module, Call, file, check) {
   refuses('levels, words whose sizes wrap', look({ ...levels, sizes: [LAST, 12] }, file1));
   refuses('levels, a path that is no UTF-8', look({ parts: [Buffer.from('levels'), Buffer.from([0xff])] }, file1));
 
-  for (const command of [CHECK, SURVEY]) {
-    answers(`command ${command}`, lens({ command }));
-    answers(`command ${command}, warnings`, lens({ command, warnings: TOLD }));
-    answers(`command ${command}, strict`, lens({ command, warnings: STRICT }), 1);
-    answers(`command ${command} of two files`, lens({ command }, two, file2));
-  }
   const many = (/** @type {number} */ count) => [path, file].map((part) => ({ parts: Array.from({ length: count }, () => part) }));
   for (const command of [CHECK, SURVEY]) {
-    for (const bases of [1, 63]) answers(`command ${command} over ${bases}`, lens({ command, warnings: TOLD, bases }, ...many(bases + 1)));
+    const told = command === CHECK ? UNLOOKED : '';
+    answers(`command ${command}`, lens({ command }));
+    answers(`command ${command}, warnings`, lens({ command, warnings: TOLD }), 0, told);
+    answers(`command ${command}, strict`, lens({ command, warnings: STRICT }), 1, told);
+    answers(`command ${command} of two files`, lens({ command }, two, file2));
+    for (const bases of [1, 63]) answers(`command ${command} over ${bases}`, lens({ command, warnings: TOLD, bases }, ...many(bases + 1)), 0, told);
   }
   for (const command of [CHECK, SURVEY, DEMOS, OBJECTS]) {
     for (const bases of [1, 2, 255]) refuses(`command ${command} over ${bases}, of which one is there`, lens({ command, warnings: TOLD, bases }));

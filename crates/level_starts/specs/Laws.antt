@@ -1,9 +1,10 @@
 -- Laws of starts and formats (ours).
 use Rattle.std.specs.Prelude.{◌≡◌, ℕ, List}
+use Rattle.std.specs.Iterator.{Drains}
 use Rattle.wad_dir.specs.Wad.{Wad}
 use Rattle.map_level.specs.Opening.{RefusesLevelAt}
 use Rattle.map_level.specs.declared.level.LevelFault.{LevelFault}
-use Rattle.level_starts.specs.Starts.{IsNextStart}
+use Rattle.level_starts.specs.Starts.{AreStartsFrom, GivesNextStart, IsNextStart}
 use Rattle.level_starts.specs.Format.{IsFormat}
 use Rattle.level_starts.specs.declared.format.Format.{Format}
 use Rattle.level_starts.specs.declared.format.Format.TheVariants.{Doom}
@@ -12,6 +13,12 @@ use Rattle.level_starts.specs.declared.format.Format.TheVariants.{Doom}
 abbrev pub OneNextStart : Type 0
 OneNextStart =
     (names : List (List ℕ)) (from g h : ℕ) → IsNextStart names from g → IsNextStart names from h → g ≡ h
+
+-- what is given until none is left is all starts, ascending, and so each once
+abbrev pub AllStartsGiven : Type 0
+AllStartsGiven =
+    (names : List (List ℕ)) (from : ℕ) (starts : List ℕ) →
+    Drains GivesNextStart (record { names = names; from = from }) starts → AreStartsFrom names from starts
 
 -- a label has at most one format
 abbrev pub OneFormat : Type 0

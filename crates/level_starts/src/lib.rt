@@ -8,4 +8,4 @@ mod starts;
 
 pub use format::{Format, format_of};
 pub use holders::Holders;
-pub use starts::{is_named, next_start};
+pub use starts::{LevelStarts, is_named, next_start};

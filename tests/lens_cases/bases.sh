@@ -221,6 +221,12 @@ cases_of_atlas_bases() {
 # ended WARNINGS MEMBERS: the last object of a check with --map of one level without findings, and what follows in it.
 ended() { printf '{"levels":1,"files":1,"faults":0,"notes":0,"warnings":%s,"not_judged":0%s}\\n' "$1" "$2"; }
 
+# note_of LINE: what the page of an atlas says for such a line on standard error.
+note_of() {
+    local note=${1#wadlens: }
+    printf '%s' "${note%'\n'}"
+}
+
 cases_of_unlooked() {
     local behind
     says 'neither textures nor flats' 0 "$(warned 0)" "$neither" check --map room.wad
@@ -248,6 +254,13 @@ cases_of_unlooked() {
     cases_of_unlooked_and_ignored
     into_new 'atlas: neither textures nor flats' 0 '' '1-0.svg index.html survey.jsonl' --map room.wad
     has 'atlas: .. in its survey' survey.jsonl "$(room_of room.wad '"warnings":{},"unlooked":["W9","W10"]')"
+    shows 'atlas: .. on its page' index.html "<p class=\"unlooked\">$(note_of "$neither")</p>"
+    rm -rf atlas
+    into_new 'atlas: no textures' 0 '' '1-0.svg index.html survey.jsonl' --map stranger.wad
+    shows 'atlas: .. on its page' index.html "<p class=\"unlooked\">$(note_of "$no_textures")</p>"
+    rm -rf atlas
+    into_new 'atlas: both are there' 0 '' '1-0.svg index.html survey.jsonl' --map whole.wad
+    lacks 'atlas: .. on its page' index.html '<p class="unlooked">'
     rm -rf atlas
 }
 

@@ -251,6 +251,15 @@ shows() {
     judge "$1" 0 '' ''
 }
 
+# lacks NAME FILE TEXT: a file of the folder hasn't this text.
+lacks() {
+    : >output
+    : >error
+    ! grep -qF -- "$3" "atlas/$2" || printf 'there is %s\n' "$3" >output
+    printf 0 >status
+    judge "$1" 0 '' ''
+}
+
 # map SIZE SHOWN CELLS [LEVEL]: the picture of the sample level, whose cells of this size show so many in one block.
 map() {
     cat <<END
@@ -419,6 +428,9 @@ cases_of_full_disks() {
     full_at 32 many.wad
     judge 'atlas: a disk that is full within the survey' 2 "$(printf '%s\n' "${names[@]}" | sort)\n" "$text"
     draws 'atlas: .. and all pictures' E1M1 many.wad "${names[@]}"
+    # The survey has 59 KB. The page has twice as many, and more than the program's buffer.
+    full_at 60 many.wad
+    judge 'atlas: a disk that is full within the page' 2 "$(printf '%s\n' "${names[@]}" survey.jsonl | sort)\n" "$text"
 }
 
 # A run that is killed leaves what is whole, and else files whose names say that they aren't.

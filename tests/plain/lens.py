@@ -469,9 +469,13 @@ def unlooked_codes(run: Run) -> list[str]:
     return [code for code in WANTS if code in run.unlooked]
 
 
-def unlooked_line(codes: list[str]) -> str:
+def unlooked_note(codes: list[str]) -> str:
     lacking = ", ".join(WANTS[code] for code in codes)
-    return f"wadlens: {', '.join(codes)} weren't looked for: no file has {lacking}; name the game's with --base"
+    return f"{', '.join(codes)} weren't looked for: no file has {lacking}; name the game's with --base"
+
+
+def unlooked_line(codes: list[str]) -> str:
+    return f"wadlens: {unlooked_note(codes)}"
 
 
 def totals(run: Run, asked: Asked, files: int) -> str:

@@ -4,7 +4,7 @@ with what they show and lead to. How it is laid out isn't compared."""
 from html.parser import HTMLParser
 from typing import NamedTuple
 
-from plain.lens import CLEAN, FAULTY, UNJUDGED, Format
+from plain.lens import CLEAN, FAULTY, UNJUDGED, WANTS, Format, unlooked_note
 from plain.levels import Level
 from plain.wads import USUAL
 
@@ -15,8 +15,8 @@ MARKS = {CLEAN: "sound", UNJUDGED: "unread", FAULTY: "faulty"}
 
 
 class Row(NamedTuple):
-    """A level, its picture's name where it has one, and where it is judged what it holds
-    and how many warnings of each code it has, if these are asked for."""
+    """A level, its picture's name where it has one, and where it is judged what it holds,
+    and if warnings are asked for how many of each code it has, and which weren't looked for."""
 
     path: str
     entry: int
@@ -25,6 +25,7 @@ class Row(NamedTuple):
     picture: str = ""
     level: Level | None = None
     warned: dict[str, int] | None = None
+    unlooked: tuple[str, ...] = ()
 
     @property
     def verdict(self) -> int:
@@ -144,6 +145,8 @@ def wanted(rows: list[Row], refused: list[tuple[str, str]], files: int, mapped: 
     title = f"Atlas: {len(rows)} levels in {files} files"
     events = [tag("title"), text(title), text("Atlas")]
     events += total_events(rows, files, mapped)
+    if codes := [code for code in WANTS if any(code in row.unlooked for row in rows)]:
+        events.append(text(unlooked_note(codes)))
     for path, why in refused:
         events += [tag("li"), text(path), text(why)]
     for faulty in (True, False):

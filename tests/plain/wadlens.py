@@ -119,9 +119,9 @@ def file_rows(asked: Asked, n: int, base: list[Entry], listed: list[Entry], made
         row = page.Row(asked.paths[n - 1], g, name, form)
         if form.name == "doom":
             level = Level(listed, g, asked.wide)
-            warned = lens.judged(asked, level, base + listed).warned
-            counts = {code: len(all_told) for code, all_told in warned.items()}
-            row = row._replace(level=level, warned=counts)
+            found = lens.judged(asked, level, base + listed)
+            counts = {code: len(all_told) for code, all_told in found.warned.items()}
+            row = row._replace(level=level, warned=counts, unlooked=tuple(found.unlooked))
             if drawn := picture(level, asked.cells, None):
                 row = row._replace(picture=f"{n}-{g}.svg")
                 made[row.picture] = lens.lines(drawn)

@@ -1,26 +1,15 @@
 -- How rows are added, level by level.
-use Rattle.std.proofs.Common.{◌≡◌, ◌↔◌, ℕ, ◌+◌, List, [], ◌∷◌, ◌++◌, length, map, Option, Some, None, refl, sym, ap, ◌∙◌, subst}
-use Rattle.std.specs.Prelude.{IsTrue, is_some}
+use Rattle.std.proofs.Common.{◌≡◌, ℕ, ◌+◌, List, [], ◌∷◌, ◌++◌, length, map, refl, sym, ap, ◌∙◌, subst}
 use Rattle.std.proofs.lemmas.List.{append-nil, append_assoc}
 use Rattle.std.proofs.lemmas.List.Elements.{All-nil, All-push}
-use Rattle.le_rec.specs.declared.records.Vertex.{Vertex}
 use Rattle.level_starts.specs.Starts.{IsNextStart, NoneStartsFrom}
-use Rattle.map_cells.specs.Ends.{IsEnd}
-use Rattle.map_cells.specs.Frame.{Encloses, Frame}
-use Rattle.map_level.specs.Level.{Level}
 use Rattle.wad_dir.specs.Entries.{names}
 use Rattle.wad_dir.specs.Wad.{Wad}
 use Rattle.lens_engines.specs.Survey.{AreStartsBelow}
 use Rattle.lens_engines.proofs.SurveyLemmas.{all_starts, no_starts, start_more}
-use Rattle.atlas_page.specs.Levels.{AddsRow, AddsRows, HasLines, IsRow}
+use Rattle.atlas_page.specs.Levels.{AddsRow, AddsRows, IsRow}
 use Rattle.atlas_page.specs.declared.levels.Origin.{Origin}
 use Rattle.atlas_page.specs.declared.row.Row.{Row}
-
--- whether a level has lines, by its frame
-pub lines_told : (level : Level) (frame : Option Frame) → ((found : Frame) → (frame ≡ Some found) ↔ Encloses (IsEnd level) found)
-    → ((frame ≡ None) ↔ ((v : Vertex) → ¬ IsEnd level v)) → IsTrue (is_some frame) ↔ HasLines level
-lines_told level None some none = (λ no. absurd (cc), λ lines. absurd (none.0 refl lines.0 lines.1))
-lines_told level (Some found) some none = (λ yes. let left = ((some found).0 refl).left in (left.0, left.1), λ lines. refl)
 
 -- no row yet
 pub AddsRows-none : (origin : Origin) (files : List Wad) (old : List Row) → AddsRows origin files 0 old old

@@ -1,9 +1,9 @@
 -- Totals as rows are added.
 use Rattle.std.proofs.Common.{◌≡◌, ℕ, ◌+◌, ◌<◌, List, length, take, get_or, sym, ap, ◌∙◌}
 use Rattle.std.proofs.lemmas.List.Sums.{fold_more}
-use Rattle.atlas_page.specs.Rows.{totals_of, totals_of_rows}
+use Rattle.atlas_page.specs.Rows.{totals_of_rows}
 use Rattle.atlas_page.specs.declared.row.Row.{Row}
-use Rattle.lens_engines.specs.Totals.{no_totals, totals_with}
+use Rattle.lens_engines.specs.Totals.{no_totals, totals_of, totals_with}
 use Rattle.lens_engines.specs.declared.totals.Totals.{Totals}
 
 -- one row more

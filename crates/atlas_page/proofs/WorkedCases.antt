@@ -9,15 +9,17 @@ use Rattle.atlas_page.specs.Page.{title_line}
 use Rattle.atlas_page.specs.Refused.{refused_part}
 use Rattle.atlas_page.specs.Rows.{faulty_rows, is_faulty, other_rows, picture_name, row_text, totals_of_rows}
 use Rattle.atlas_page.specs.declared.refused.Refused.{Refused}
-use Rattle.atlas_page.specs.declared.row.Found.TheVariants as found
 use Rattle.atlas_page.specs.declared.row.Row.{Row}
-use Rattle.atlas_page.specs.declared.tables.Tables.{Tables}
-use Rattle.atlas_page.specs.declared.unjudged.Unjudged.{Unjudged}
-use Rattle.atlas_page.specs.declared.warned.WarningCounts.{WarningCounts}
+use Rattle.lens_engines.specs.Unlooked.{none_unlooked}
+use Rattle.lens_engines.specs.declared.judging.Warnings.TheVariants.{Told}
 use Rattle.lens_engines.specs.declared.object.FileRefusal.TheVariants.{TooLarge}
+use Rattle.lens_engines.specs.declared.surveyed.Surveyed.TheVariants as surveyed
+use Rattle.lens_engines.specs.declared.tables.Tables.{Tables}
+use Rattle.lens_engines.specs.declared.unjudged.Unjudged.{Unjudged}
+use Rattle.lens_engines.specs.declared.warning_counts.WarningCounts.{WarningCounts}
 
 abbrev tables : Tables
-tables = record { things = 1; linedefs = 20; sidedefs = 300; vertexes = 4; segs = 5; ssectors = 6; nodes = 7; sectors = 65535 }
+tables = record { things = 1; linedefs = 20; sidedefs = 300; vertexes = 4; segs = 5; ssectors = 6; nodes = 7; sectors = 65535; reject = 8; blockmap = 9 }
 
 -- so often F3, and so often N3
 abbrev counts : ℕ → ℕ → List ℕ
@@ -36,7 +38,7 @@ table_list =
 
 -- markup in a path and in a name; two faults of one code and seven notes of another
 faulty_row : (row : Row) → row.file ≡ 2 → row.path.now ≡ codes "<a&b>.wad" → row.entry ≡ 15 → row.name ≡ codes "E\"M1"
-    → row.found ≡ found.Judged (record { tables = tables; counts = counts 2 7; warned = warned 0 0; drawn = true })
+    → row.found ≡ surveyed.Judged (record { tables = tables; counts = counts 2 7; warnings = Told; warned = warned 0 0; unlooked = none_unlooked; drawn = true })
     → row_text row
     ≡ codes "<li class=\"faulty\">\n<a class=\"map\" href=\"2-15.svg\"><img loading=\"lazy\" src=\"2-15.svg\" alt=\"map of E&quot;M1\"></a>\n"
     ++ (codes "<div>\n<h2>E&quot;M1</h2>\n<p class=\"where\">&lt;a&amp;b&gt;.wad <span>entry 15, doom</span></p>\n"
@@ -46,7 +48,7 @@ faulty_row row file path entry name found = rw (file, path, entry, name, found) 
 
 -- no fault, with a note and warnings of two codes, and nothing to draw
 sound_row : (row : Row) → row.file ≡ 1 → row.path.now ≡ codes "a.wad" → row.entry ≡ 0 → row.name ≡ codes "MAP01"
-    → row.found ≡ found.Judged (record { tables = tables; counts = counts 0 1; warned = warned 4 1; drawn = false })
+    → row.found ≡ surveyed.Judged (record { tables = tables; counts = counts 0 1; warnings = Told; warned = warned 4 1; unlooked = none_unlooked; drawn = false })
     → row_text row
     ≡ codes "<li class=\"sound\">\n<p class=\"map\">no picture</p>\n"
     ++ (codes "<div>\n<h2>MAP01</h2>\n<p class=\"where\">a.wad <span>entry 0, doom</span></p>\n"
@@ -56,7 +58,7 @@ sound_row row file path entry name found = rw (file, path, entry, name, found) r
 
 -- the last lump isn't there
 broken_row : (row : Row) (unjudged : Unjudged) → row.file ≡ 1 → row.path.now ≡ codes "a.wad" → row.entry ≡ 3 → row.name ≡ codes "MAP01"
-    → unjudged.format ≡ Incomplete 10 → row.found ≡ found.Unjudged unjudged
+    → unjudged.format ≡ Incomplete 10 → row.found ≡ surveyed.Unjudged unjudged
     → row_text row
     ≡ codes "<li class=\"faulty\">\n<p class=\"map\">no picture</p>\n"
     ++ (codes "<div>\n<h2>MAP01</h2>\n<p class=\"where\">a.wad <span>entry 3, incomplete</span></p>\n"

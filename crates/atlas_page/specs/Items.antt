@@ -3,10 +3,10 @@ use Rattle.std.specs.Prelude.{ℕ, List, [], ◌∷◌, ◌++◌, codes, filter,
 use Rattle.std.specs.Fmt.{decimal}
 use Rattle.map_level.specs.Findings.{is_fault}
 use Rattle.map_level.specs.declared.finding.Code.{Code}
-use Rattle.atlas_page.specs.declared.tables.Tables.{Tables}
 use Rattle.lens_engines.specs.Counts.{report_order}
 use Rattle.lens_engines.specs.Kind.{code_text}
 use Rattle.lens_engines.specs.Objects.{count_of}
+use Rattle.lens_engines.specs.declared.tables.Tables.{Tables}
 
 -- `<li><b>{number}</b> {what}</li>`
 unfoldable pub number_item : List ℕ → ℕ → List ℕ

@@ -1,5 +1,3 @@
-pub mod Format
-pub mod Tables
 pub mod Items
 pub mod Warned
 pub mod Rows

@@ -1,5 +1,5 @@
 -- The page of an atlas (HTML's living standard; its words and looks are ours).
-use Rattle.std.specs.Prelude.{ℕ, List, [], ◌∷◌, ◌++◌, codes}
+use Rattle.std.specs.Prelude.{ℕ, List, [], ◌∷◌, ◌++◌, codes, if◌then◌else◌}
 use Rattle.std.specs.Fmt.{decimal}
 use Rattle.map_picture.specs.Parts.{joined}
 use Rattle.atlas_page.specs.Items.{number_item}
@@ -11,7 +11,9 @@ use Rattle.atlas_page.specs.declared.row.Row.{Row}
 use Rattle.lens_engines.specs.Totals.{capped}
 use Rattle.lens_engines.specs.declared.judging.Warnings.{Warnings}
 use Rattle.lens_engines.specs.declared.judging.Warnings.TheVariants.{Unasked, Told, Strict}
+use Rattle.lens_engines.specs.Unlooked.{is_none, unlooked_note}
 use Rattle.lens_engines.specs.declared.totals.Totals.{Totals}
+use Rattle.lens_engines.specs.declared.unlooked.Unlooked.{Unlooked}
 
 -- `<title>Atlas: {levels} levels in {files} files</title>`
 unfoldable pub title_line : ℕ → Totals → List ℕ
@@ -35,7 +37,12 @@ total_items files warnings totals =
     ∷ number_item (codes "not judged") (capped totals.broken totals.unread)
     ∷ []
 
--- what stands above the levels: what they add up to
+-- which warnings weren't looked for at some level
+abbrev pub unlooked_part : Unlooked → List ℕ
+unlooked_part unlooked =
+    if is_none unlooked then [] else (codes "<p class=\"unlooked\">" ++ (unlooked_note unlooked ++ codes "</p>\n"))
+
+-- what stands above the levels: what they add up to, and what wasn't looked for
 abbrev pub head_parts : ℕ → Warnings → Totals → List (List ℕ)
 head_parts files warnings totals =
     codes "<!DOCTYPE html>\n<html lang=\"en\">\n<head>\n<meta charset=\"utf-8\">\n<meta name=\"viewport\" content=\"width=device-width, initial-scale=1\">\n"
@@ -44,6 +51,7 @@ head_parts files warnings totals =
     ∷ codes "</head>\n<body>\n<header>\n<h1>Atlas</h1>\n<ul class=\"totals\">\n"
     ∷ joined (total_items files warnings totals)
     ∷ codes "</ul>\n"
+    ∷ unlooked_part totals.unlooked
     ∷ []
 
 -- the refused files, and the levels: those with a fault first

@@ -3,20 +3,19 @@ use Rattle.std.specs.Prelude.{ℕ, Bool, true, false, not, List, [], ◌∷◌, 
 use Rattle.std.specs.Fmt.{decimal}
 use Rattle.le_rec.specs.Name.{shown_name}
 use Rattle.level_starts.specs.declared.format.Format.{Format}
-use Rattle.level_starts.specs.declared.format.Format.TheVariants.{Doom}
 use Rattle.map_picture.specs.Escape.{escaped}
 use Rattle.map_picture.specs.Parts.{joined}
 use Rattle.atlas_page.specs.Items.{code_items, table_items}
 use Rattle.atlas_page.specs.Warned.{warning_parts}
-use Rattle.atlas_page.specs.declared.row.Found.{Found}
-use Rattle.atlas_page.specs.declared.row.Found.TheVariants as found
-use Rattle.atlas_page.specs.declared.row.Judged.{Judged}
 use Rattle.atlas_page.specs.declared.row.Row.{Row}
 use Rattle.lens_engines.specs.Counts.{fault_total}
 use Rattle.lens_engines.specs.FormatLine.{format_text}
 use Rattle.lens_engines.specs.Objects.{format_name}
-use Rattle.lens_engines.specs.Unlooked.{none_unlooked}
-use Rattle.lens_engines.specs.Totals.{format_totals, judged_totals, no_totals, totals_with, verdict_of_totals}
+use Rattle.lens_engines.specs.Surveyed.{format_of, is_drawn}
+use Rattle.lens_engines.specs.Totals.{no_totals, totals_of, totals_with, verdict_of_totals}
+use Rattle.lens_engines.specs.declared.level_counts.LevelCounts.{LevelCounts}
+use Rattle.lens_engines.specs.declared.surveyed.Surveyed.{Surveyed}
+use Rattle.lens_engines.specs.declared.surveyed.Surveyed.TheVariants as surveyed
 use Rattle.lens_engines.specs.declared.totals.Totals.{Totals}
 use Rattle.lens_engines.specs.declared.verdict.Verdict.{Verdict}
 use Rattle.lens_engines.specs.declared.verdict.Verdict.TheVariants.{Clean, Unjudged, Faulty}
@@ -24,11 +23,6 @@ use Rattle.lens_engines.specs.declared.verdict.Verdict.TheVariants.{Clean, Unjud
 -- the name of a level's picture: the number of its file, from 1, and that of its entry
 unfoldable pub picture_name : ℕ → ℕ → List ℕ
 picture_name file entry = decimal file ++ (codes "-" ++ (decimal entry ++ codes ".svg"))
-
--- what a level adds to the totals
-abbrev pub totals_of : Found → Totals
-totals_of (found.Judged judged) = judged_totals judged.counts judged.warned.total none_unlooked
-totals_of (found.Unjudged unjudged) = format_totals unjudged.format
 
 -- the totals of all levels
 abbrev pub totals_of_rows : List Row → Totals
@@ -49,16 +43,6 @@ tells_fault Clean = false
 -- a level with a fault, or one that lacks a lump
 abbrev pub is_faulty : Row → Bool
 is_faulty row = tells_fault (verdict_of_totals (totals_of row.found))
-
--- a level's format
-abbrev pub format_of : Found → Format
-format_of (found.Judged judged) = Doom
-format_of (found.Unjudged unjudged) = unjudged.format
-
--- whether a level has a picture
-abbrev pub is_drawn : Found → Bool
-is_drawn (found.Judged judged) = judged.drawn
-is_drawn (found.Unjudged unjudged) = false
 
 -- the picture, within a link to it
 abbrev pub link_parts : Row → List (List ℕ)
@@ -81,7 +65,7 @@ abbrev pub sound_item : List ℕ → List ℕ
 sound_item counts = if nat_eq (fault_total counts) 0 then codes "<li class=\"sound\">sound</li>\n" else []
 
 -- what was found at a level of Doom's format: the codes that hold, its warnings, and its counts
-abbrev pub judged_parts : Judged → List (List ℕ)
+abbrev pub judged_parts : LevelCounts → List (List ℕ)
 judged_parts judged =
     codes "<ul class=\"found\">\n" ∷ sound_item judged.counts ∷ joined (code_items judged.counts) ∷ joined (warning_parts judged.warned)
     ∷ codes "</ul>\n<ul class=\"counts\">\n" ∷ joined (table_items judged.tables) ∷ codes "</ul>\n" ∷ []
@@ -91,9 +75,9 @@ abbrev pub unjudged_parts : Format → List (List ℕ)
 unjudged_parts format = codes "<p class=\"told\">" ∷ format_text format ∷ codes "</p>\n" ∷ []
 
 -- what was found at a level
-abbrev pub found_part : Found → List ℕ
-found_part (found.Judged judged) = joined (judged_parts judged)
-found_part (found.Unjudged unjudged) = joined (unjudged_parts unjudged.format)
+abbrev pub found_part : Surveyed → List ℕ
+found_part (surveyed.Judged judged) = joined (judged_parts judged)
+found_part (surveyed.Unjudged unjudged) = joined (unjudged_parts unjudged.format)
 
 -- a row
 abbrev pub row_parts : Row → List (List ℕ)

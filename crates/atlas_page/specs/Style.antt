@@ -15,6 +15,7 @@ style_lines =
     ∷ codes "header{display:flex;flex-wrap:wrap;align-items:end;gap:18px 40px;margin-bottom:32px}\n"
     ∷ codes ".totals{display:flex;flex-wrap:wrap;gap:10px clamp(16px,2.5vw,32px);color:var(--soft);font-size:13px;line-height:1.3}\n"
     ∷ codes ".totals b{display:block;color:var(--ink);font-size:20px}\n"
+    ∷ codes ".unlooked{flex-basis:100%;color:var(--soft);font-size:13px}\n"
     ∷ codes ".refused{flex-basis:100%;padding:12px 18px;background:var(--fault-wash);border-radius:10px;columns:400px;column-gap:36px}\n"
     ∷ codes ".refused li{break-inside:avoid}\n"
     ∷ codes ".refused b{color:var(--fault)}\n"

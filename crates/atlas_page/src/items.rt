@@ -8,9 +8,8 @@ ghost use Rattle.atlas_page.specs.Items.{class_of, code_item, code_items, code_p
 ghost use Rattle.lens_engines.specs.Counts.{report_order};
 ghost use Rattle.map_level.specs.declared.finding.Code.TheVariants.{F1};
 
-use crate::tables::Tables;
 use le_rec::Sink;
-use lens_engines::{CODE_COUNT, CodeCounts, code_at, prepend_code};
+use lens_engines::{CODE_COUNT, CodeCounts, Tables, code_at, prepend_code};
 use line_io::{IoFault, TextLine, emit};
 use map_level::Code;
 use map_picture::parts::{Parts, write_parts};

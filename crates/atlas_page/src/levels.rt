@@ -1,21 +1,14 @@
 //! The levels of a file as rows.
 
-ghost use Rattle.std.specs.Prelude.{◌≡◌, ◌↔◌, IfOk, IsTrue, OnErr, OnOk, length};
-ghost use Rattle.level_starts.specs.Format.{IsFormat};
+ghost use Rattle.std.specs.Prelude.{◌≡◌, IfOk, OnErr, OnOk, length};
 ghost use Rattle.level_starts.specs.Starts.{LevelStartsAt};
-ghost use Rattle.level_starts.specs.declared.format.Format.TheVariants as format;
-ghost use Rattle.atlas_page.specs.Levels.{AddsRow, AddsRows, AddsSome, FoundAt, HasLines, IsJudged, IsRow};
+ghost use Rattle.atlas_page.specs.Levels.{AddsRow, AddsRows, AddsSome, IsRow};
 ghost use Rattle.lens_engines.specs.Warned.{known_files};
 ghost use Rattle.wad_dir.specs.Entries.{names};
 
-use crate::row::{Found, Judged, Row};
-use crate::tables::Tables;
-use crate::unjudged::Unjudged;
-use crate::warned::WarningCounts;
-use lens_engines::{CodeCounts, Judging, label_of, level_at};
-use level_starts::{Format, format_of, next_start};
-use map_cells::Frame;
-use map_level::Level;
+use crate::row::Row;
+use lens_engines::{Judging, Surveyed, label_of};
+use level_starts::LevelStarts;
 use map_warnings::Resources;
 use std::alloc::{AllocError, Allocator};
 use wad_dir::Set;
@@ -44,11 +37,8 @@ pub fn push_rows<'p, A: Allocator + Copy, B: Allocator>(
     ensures all { OnOk result (AddsRows origin.now set.now (length (names set.now)) rows.old.items rows.new.items) }
     ensures some { OnErr result (AddsSome origin.now set.now rows.old.items rows.new.items) }
 {
-    let total = set.total();
-    let mut from = 0;
-    'levels: while let Some(g) = next_start(set, from) {
+    'levels: for g in LevelStarts::of(set) {
         push_row(alloc, origin, set, resources, g, rows)?;
-        from = g + 1;
     }
     Ok(())
 }
@@ -85,7 +75,7 @@ fn row_at<'p, A: Allocator + Copy>(
     ensures { IfOk result (IsRow origin.now set.now g) }
 {
     let name = label_of(set, g);
-    let found = found_at(alloc, set, resources, g, origin.judging)?;
+    let found = Surveyed::at(alloc, set, resources, g, origin.judging)?;
     Ok(Row {
         file: origin.file,
         path: origin.path,
@@ -93,55 +83,4 @@ fn row_at<'p, A: Allocator + Copy>(
         name,
         found,
     })
-}
-
-// What was found at the level that starts at an entry.
-fn found_at<A: Allocator + Copy>(
-    alloc: A,
-    set: &Set<'_, A>,
-    resources: &Option<Resources<'_, '_, A>>,
-    g: usize,
-    judging: Judging<'_>,
-) -> Result<Found, AllocError>
-    requires known { resources.now ≡ known_files judging set.now }
-    requires starts { LevelStartsAt (names set.now) g }
-    ensures { IfOk result (FoundAt set.now judging.entry g) }
-{
-    match format_of(set, g) {
-        Format::Doom => {
-            let judged = judged_at(alloc, set, resources, g, judging)?;
-            Ok(Found::Judged(judged))
-        }
-        format => Ok(Found::Unjudged(Unjudged::new(format))),
-    }
-}
-
-// What was found at a level of Doom's format.
-fn judged_at<A: Allocator + Copy>(
-    alloc: A,
-    set: &Set<'_, A>,
-    resources: &Option<Resources<'_, '_, A>>,
-    g: usize,
-    judging: Judging<'_>,
-) -> Result<Judged, AllocError>
-    requires known { resources.now ≡ known_files judging set.now }
-    requires is { IsFormat set.now g format.Doom }
-    ensures { IfOk result (IsJudged set.now judging.entry g) }
-{
-    let level = level_at(set, g, judging.reading);
-    let counts = CodeCounts::of(alloc, &level)?;
-    let warned = WarningCounts::of(alloc, &level, resources, judging)?;
-    Ok(Judged {
-        tables: Tables::of(&level),
-        counts: counts.without(&judging.ignored),
-        warned,
-        drawn: has_lines(&level),
-    })
-}
-
-// Whether a linedef has both of its vertexes.
-fn has_lines(level: &Level<'_>) -> bool
-    ensures { IsTrue result ↔ HasLines level.now }
-{
-    Frame::of(level).is_some()
 }

@@ -9,16 +9,11 @@ mod refused;
 mod row;
 mod rows;
 mod style;
-mod tables;
 mod text;
-mod unjudged;
 mod warned;
 
 pub use levels::{Origin, push_rows};
 pub use page::{Page, write_page};
 pub use refused::Refused;
-pub use row::{Found, Judged, Row};
+pub use row::Row;
 pub use rows::prepend_picture_name;
-pub use tables::Tables;
-pub use unjudged::Unjudged;
-pub use warned::WarningCounts;

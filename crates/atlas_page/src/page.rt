@@ -3,7 +3,7 @@
 ghost use Rattle.std.specs.Prelude.{◌≡◌, [], false};
 ghost use Rattle.line_io.specs.Writes.{Writes};
 ghost use Rattle.map_picture.specs.Parts.{joined};
-ghost use Rattle.atlas_page.specs.Page.{head_parts, page_text, title_line, total_items, warned_item};
+ghost use Rattle.atlas_page.specs.Page.{head_parts, page_text, title_line, total_items, unlooked_part, warned_item};
 ghost use Rattle.atlas_page.specs.Rows.{totals_of_rows};
 
 use crate::items::write_number_item;
@@ -12,7 +12,7 @@ use crate::row::Row;
 use crate::rows::{write_faulty, write_others};
 use crate::style::write_style;
 use le_rec::Sink;
-use lens_engines::{Totals, Warnings};
+use lens_engines::{Totals, Unlooked, Warnings};
 use line_io::{IoFault, TextLine, emit};
 use map_picture::parts::{Parts, write_parts};
 
@@ -106,6 +106,19 @@ fn write_warned<W: Sink>(warnings: Warnings, count: u64, out: &mut W) -> Result<
     }
 }
 
+// Writes which warnings weren't looked for at some level, and how to have them looked for.
+fn write_unlooked<W: Sink>(unlooked: Unlooked, out: &mut W) -> Result<(), IoFault>
+    requires { (W.state out.old).failed ≡ false }
+    ensures { Writes (W.state out.old) (W.state out.new) (unlooked_part unlooked) result }
+{
+    if unlooked.is_none() {
+        return emit(out, b"");
+    }
+    emit(out, b"<p class=\"unlooked\">")?;
+    emit(out, unlooked.note())?;
+    emit(out, b"</p>\n")
+}
+
 // What stands above the levels.
 #[derive(Drop)]
 struct HeadParts {
@@ -118,7 +131,7 @@ impl Parts for HeadParts {
     ghost parts = { λ parts. head_parts parts.items.files parts.items.warnings parts.items.totals };
 
     fn count(&self) -> usize {
-        6
+        7
     }
 
     fn write<W: Sink>(&self, number: usize, out: &mut W) -> Result<(), IoFault> {
@@ -134,7 +147,8 @@ impl Parts for HeadParts {
                 b"</head>\n<body>\n<header>\n<h1>Atlas</h1>\n<ul class=\"totals\">\n",
             ),
             4 => write_parts(&self.items, out),
-            _ => emit(out, b"</ul>\n"),
+            5 => emit(out, b"</ul>\n"),
+            _ => write_unlooked(self.items.totals.unlooked, out),
         }
     }
 }

@@ -5,12 +5,13 @@ ghost use Rattle.line_io.specs.Writes.{Writes};
 ghost use Rattle.atlas_page.specs.Rows.{faulty_rows, found_part, mark, other_rows, picture_name, picture_part, row_part, sound_item};
 
 use crate::items::{write_codes, write_tables};
-use crate::row::{Found, Judged, Row};
+use crate::row::Row;
 use crate::text::{write_name, write_number};
-use crate::unjudged::Unjudged;
 use crate::warned::write_warnings;
 use le_rec::Sink;
-use lens_engines::{CodeCounts, Verdict, format_name, write_format_alone};
+use lens_engines::{
+    CodeCounts, LevelCounts, Surveyed, Unjudged, Verdict, format_name, write_format_alone,
+};
 use line_io::{IoFault, TextLine, emit};
 use map_picture::escape::write_escaped;
 use map_picture::parts::{Parts, write_parts};
@@ -119,7 +120,7 @@ fn write_sound<W: Sink>(counts: &CodeCounts, out: &mut W) -> Result<(), IoFault>
 // What was found at a level of Doom's format, its warnings, and its counts.
 #[derive(Drop)]
 struct JudgedParts<'r> {
-    judged: &'r Judged,
+    judged: &'r LevelCounts,
 }
 
 impl Parts for JudgedParts<'_> {
@@ -169,13 +170,13 @@ impl Parts for UnjudgedParts<'_> {
 }
 
 // Writes what was found at a level.
-fn write_found<W: Sink>(found: &Found, out: &mut W) -> Result<(), IoFault>
+fn write_found<W: Sink>(found: &Surveyed, out: &mut W) -> Result<(), IoFault>
     requires { (W.state out.old).failed ≡ false }
     ensures { Writes (W.state out.old) (W.state out.new) (found_part found.now) result }
 {
     match found {
-        Found::Judged(judged) => write_parts(&JudgedParts { judged }, out),
-        Found::Unjudged(unjudged) => write_parts(&UnjudgedParts { unjudged }, out),
+        Surveyed::Judged(judged) => write_parts(&JudgedParts { judged }, out),
+        Surveyed::Unjudged(unjudged) => write_parts(&UnjudgedParts { unjudged }, out),
     }
 }
 

@@ -1,80 +1,14 @@
-//! How many warnings of each code a level has, and their items.
+//! The items of a level's warnings.
 
-ghost use Rattle.std.specs.Prelude.{◌≡◌, ◌≤◌, [], false, IfOk, length};
+ghost use Rattle.std.specs.Prelude.{◌≡◌, ◌≤◌, [], false, length};
 ghost use Rattle.line_io.specs.Writes.{Writes};
 ghost use Rattle.map_picture.specs.Parts.{joined};
-ghost use Rattle.atlas_page.specs.Warned.{CountsWarnings, count_at, counted, warning_item, warning_part, warning_parts};
+ghost use Rattle.atlas_page.specs.Warned.{warning_item, warning_part, warning_parts};
 
 use le_rec::Sink;
-use lens_engines::{Judging, Warned, asked_warnings, warned_total};
+use lens_engines::WarningCounts;
 use line_io::{IoFault, TextLine, emit};
-use map_level::Level;
 use map_picture::parts::{Parts, write_parts};
-use map_warnings::Resources;
-use std::alloc::{AllocError, Allocator};
-
-/// How many warnings of each code a level has; 0 if they aren't looked for.
-#[derive(Clone, Copy, Debug, PartialEq, Eq)]
-pub struct WarningCounts {
-    pub w1: u64,
-    pub w2: u64,
-    pub w3: u64,
-    pub w4: u64,
-    pub w5: u64,
-    pub w6: u64,
-    pub w7: u64,
-    pub w8: u64,
-    pub w9: u64,
-    pub w10: u64,
-    pub w11: u64,
-    /// All together, up to the greatest number of 64 bits.
-    pub total: u64,
-}
-
-impl WarningCounts {
-    /// Those of a level, as they are asked for. No warning is kept.
-    pub fn of<A: Allocator + Copy>(
-        alloc: A,
-        level: &Level<'_>,
-        resources: &Option<Resources<'_, '_, A>>,
-        judging: Judging<'_>,
-    ) -> Result<WarningCounts, AllocError>
-        ensures { IfOk result (CountsWarnings judging.entry resources.now level.now) }
-    {
-        let all = asked_warnings(alloc, level, resources, 0, judging)?;
-        Ok(counted(&all))
-    }
-}
-
-// How many there are of each code.
-fn counted<A: Allocator>(all: &[Warned<A>]) -> WarningCounts
-    ensures { result ≡ counted all.now }
-{
-    WarningCounts {
-        w1: count_at(all, 0),
-        w2: count_at(all, 1),
-        w3: count_at(all, 2),
-        w4: count_at(all, 3),
-        w5: count_at(all, 4),
-        w6: count_at(all, 5),
-        w7: count_at(all, 6),
-        w8: count_at(all, 7),
-        w9: count_at(all, 8),
-        w10: count_at(all, 9),
-        w11: count_at(all, 10),
-        total: warned_total(all),
-    }
-}
-
-// How many there are of the code of a rank.
-fn count_at<A: Allocator>(all: &[Warned<A>], rank: usize) -> u64
-    ensures { result ≡ count_at all.now rank }
-{
-    match all.get(rank) {
-        Some(warned) => warned.count() as u64,
-        None => 0,
-    }
-}
 
 // The items of all codes, each empty if there are none of its code.
 #[derive(Drop)]

@@ -44,7 +44,7 @@ told_nothing Is out errors answers refusals is = record {
 
 -- a demo that is read is told on the output alone
 pub told_read : (asked : DemosAsked) (lump : Option (List ℕ)) (bytes : List ℕ) (demo : Demo) (out out' errors : SinkState) (result : Result Bool DemosFault)
-    → IsReadDemo bytes demo → errors.failed ≡ false → Answers (read_text asked.telling asked.path lump demo) true out out' result
+    → IsReadDemo bytes demo → errors.failed ≡ false → Answers (read_text asked.form asked.path lump demo) true out out' result
     → WritesTold (IsDemoTold asked lump bytes) out out' errors errors result
 told_read asked lump bytes demo out out' errors result is refusals answered = record {
   texts = read_texts asked lump demo;
@@ -53,7 +53,7 @@ told_read asked lump bytes demo out out' errors result is refusals answered = re
   tells = go result answered;
 }
   where
-    go : (r : Result Bool DemosFault) → Answers (read_text asked.telling asked.path lump demo) true out out' r → TellsDemo (read_texts asked lump demo) true out out' errors errors r
+    go : (r : Result Bool DemosFault) → Answers (read_text asked.form asked.path lump demo) true out out' r → TellsDemo (read_texts asked lump demo) true out out' errors errors r
     go (Ok all_read) a = (a.0, record { answered = a.1; told = Appends-nil errors.taken; answers = a.2; refusals = refusals })
     go (Err (fault.Write all_read)) a = (a.0, inl (record { told = Appends-nil errors.taken; front = a.1; failed = a.2; refusals = refusals }))
     go (Err fault.Errors) a = absurd a

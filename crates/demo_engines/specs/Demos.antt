@@ -13,20 +13,20 @@ use Rattle.wad_dir.specs.Wad.{IsRead, Wad}
 use Rattle.demo_engines.specs.Objects.{demo_object, refused_object}
 use Rattle.demo_engines.specs.RefusalText.{fault_text, outside_text, refusal_line}
 use Rattle.demo_engines.specs.Summary.{demo_line}
+use Rattle.lens_engines.specs.declared.form.Form.{Form}
+use Rattle.lens_engines.specs.declared.form.Form.TheVariants.{Lines, Objects}
 use Rattle.demo_engines.specs.declared.demos.DemoQuestion.{DemoQuestion}
 use Rattle.demo_engines.specs.declared.demos.DemosFault.{DemosFault}
 use Rattle.demo_engines.specs.declared.demos.DemosFault.TheVariants.{NoWad, Write, Errors, Memory}
-use Rattle.demo_engines.specs.declared.demos.Telling.{Telling}
-use Rattle.demo_engines.specs.declared.demos.Telling.TheVariants.{Lines, Objects}
 
 -- what is asked of demos: the file's path, and the form of the answer
 pub record DemosAsked : Type 0 where
   pub path : List ℕ
-  pub telling : Telling
+  pub form : Form
 
 -- what a question asks
 abbrev pub asked_of : DemoQuestion → DemosAsked
-asked_of question = record { path = question.path.now; telling = question.telling }
+asked_of question = record { path = question.path.now; form = question.form }
 
 -- the texts of a report: the answer, and the messages that standard error takes
 pub record Texts : Type 0 where
@@ -42,22 +42,22 @@ abbrev pub texts_with : Texts → Texts → Texts
 texts_with a b = record { answer = a.answer ++ b.answer; messages = a.messages ++ b.messages }
 
 -- what is answered of a demo that is read
-abbrev pub read_text : Telling → List ℕ → Option (List ℕ) → Demo → List ℕ
+abbrev pub read_text : Form → List ℕ → Option (List ℕ) → Demo → List ℕ
 read_text Lines path lump demo = demo_line path lump demo
 read_text Objects path lump demo = demo_object path lump demo
 
 -- of one that is refused, for a reason in words: its object, where objects are asked for
-abbrev pub unread_text : Telling → List ℕ → Option (List ℕ) → List ℕ → List ℕ
+abbrev pub unread_text : Form → List ℕ → Option (List ℕ) → List ℕ → List ℕ
 unread_text Lines path lump why = []
 unread_text Objects path lump why = refused_object path lump why
 
 -- what is told of a demo that is read
 abbrev pub read_texts : DemosAsked → Option (List ℕ) → Demo → Texts
-read_texts asked lump demo = record { answer = read_text asked.telling asked.path lump demo; messages = [] }
+read_texts asked lump demo = record { answer = read_text asked.form asked.path lump demo; messages = [] }
 
 -- of one that is refused: its message goes to standard error in any case
 abbrev pub unread_texts : DemosAsked → Option (List ℕ) → List ℕ → Texts
-unread_texts asked lump why = record { answer = unread_text asked.telling asked.path lump why; messages = refusal_line asked.path lump why }
+unread_texts asked lump why = record { answer = unread_text asked.form asked.path lump why; messages = refusal_line asked.path lump why }
 
 -- the texts for bytes that should be a demo, and whether they are one
 pub data IsDemoTold (asked : DemosAsked) (lump : Option (List ℕ)) (bytes : List ℕ) : Texts → Bool → Type 0 where

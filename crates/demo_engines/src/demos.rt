@@ -15,26 +15,19 @@ use crate::summary::{Heading, write_summary};
 use crate::watch::Watch;
 use demo_lump::Demo;
 use le_rec::{Name8, Sink};
+use lens_engines::Form;
 use line_io::{IoFault, emit};
 use std::alloc::Allocator;
 use thiserror::Error;
 use wad_dir::{Set, SetFault, WadFault};
-
-/// The form of the report on demos.
-#[derive(Clone, Copy, Debug, PartialEq, Eq)]
-pub enum Telling {
-    /// A line for each demo that is read.
-    Lines,
-    /// An object of JSON in a line for each demo. That of a refused one has the reason.
-    Objects,
-}
 
 /// What is asked of a file's demos.
 #[derive(Clone, Copy)]
 pub struct DemoQuestion<'p> {
     /// The file's path, as it is written with each demo. Nothing is looked up by it.
     pub path: &'p [u8],
-    pub telling: Telling,
+    /// In lines each demo that is read has one, in objects each demo. The object of a refused one has the reason.
+    pub form: Form,
 }
 
 /// Why the report on a file's demos isn't whole.
@@ -221,30 +214,30 @@ fn tell_read<W: Sink>(
     out: &mut W,
 ) -> Result<bool, DemosFault>
     requires { (W.state out.old).failed ≡ false }
-    ensures { Answers (read_text question.now.telling question.now.path.now lump demo.now) true (W.state out.old) (W.state out.new) result }
+    ensures { Answers (read_text question.now.form question.now.path.now lump demo.now) true (W.state out.old) (W.state out.new) result }
 {
     let heading = Heading {
         path: question.path,
         lump,
     };
-    match write_read(question.telling, &heading, demo, out) {
+    match write_read(question.form, &heading, demo, out) {
         Ok(()) => Ok(true),
         Err(_) => Err(DemosFault::Write(true)),
     }
 }
 
 fn write_read<W: Sink>(
-    telling: Telling,
+    form: Form,
     heading: &Heading<'_>,
     demo: &Demo<'_>,
     out: &mut W,
 ) -> Result<(), IoFault>
     requires { (W.state out.old).failed ≡ false }
-    ensures { Writes (W.state out.old) (W.state out.new) (read_text telling heading.now.path.now heading.now.lump demo.now) result }
+    ensures { Writes (W.state out.old) (W.state out.new) (read_text form heading.now.path.now heading.now.lump demo.now) result }
 {
-    match telling {
-        Telling::Lines => write_summary(heading, demo, out),
-        Telling::Objects => write_object(heading, demo, out),
+    match form {
+        Form::Lines => write_summary(heading, demo, out),
+        Form::Objects => write_object(heading, demo, out),
     }
 }
 
@@ -275,7 +268,7 @@ fn tell_refused<W: HandOn, E: Sink, P: Watch>(
     if write_refused(&heading, why, errors).is_err() {
         return Err(DemosFault::Errors);
     }
-    if answer_refused(question.telling, &heading, why, out).is_err() {
+    if answer_refused(question.form, &heading, why, out).is_err() {
         return Err(DemosFault::Write(false));
     }
     Ok(false)
@@ -283,16 +276,16 @@ fn tell_refused<W: HandOn, E: Sink, P: Watch>(
 
 // Answers for a demo that is refused: with its object, if objects are asked for.
 fn answer_refused<W: Sink>(
-    telling: Telling,
+    form: Form,
     heading: &Heading<'_>,
     why: DemoRefusal,
     out: &mut W,
 ) -> Result<(), IoFault>
     requires { (W.state out.old).failed ≡ false }
-    ensures { Writes (W.state out.old) (W.state out.new) (unread_text telling heading.now.path.now heading.now.lump (reason_text why)) result }
+    ensures { Writes (W.state out.old) (W.state out.new) (unread_text form heading.now.path.now heading.now.lump (reason_text why)) result }
 {
-    match telling {
-        Telling::Lines => emit(out, b""),
-        Telling::Objects => write_refused_object(heading, why, out),
+    match form {
+        Form::Lines => emit(out, b""),
+        Form::Objects => write_refused_object(heading, why, out),
     }
 }

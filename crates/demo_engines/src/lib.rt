@@ -17,7 +17,7 @@ mod watch;
 
 pub use assembly::{AssembleFault, Wanted, assemble};
 pub use compare::compare_demos;
-pub use demos::{DemoQuestion, DemosFault, Telling, demos_file};
+pub use demos::{DemoQuestion, DemosFault, demos_file};
 pub use hand_on::{AtOnce, HandOn};
 pub use refusal::write_demo_refusal;
 pub use watch::{Unwatched, Watch};

@@ -34,6 +34,10 @@ pub on_err : {T E P Q : Type 0} (result : Result T E) → (P → Q) → OnErr re
 on_err (Ok x) f p = tt
 on_err (Err e) f p = f p
 
+pub on_err_always : {T E P : Type 0} (result : Result T E) → P → OnErr result P
+on_err_always (Ok x) p = tt
+on_err_always (Err e) p = p
+
 dropped : {A : Type 0} (xs ys : List A) → drop (length xs) (xs ++ ys) ≡ ys
 dropped [] ys = refl
 dropped (x ∷ xs) ys = dropped xs ys

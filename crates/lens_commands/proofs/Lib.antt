@@ -9,6 +9,7 @@ pub mod CutLemmas
 pub mod FolderLemmas
 pub mod GatherLemmas
 pub mod JobLemmas
+pub mod LinesLemmas
 pub mod PathLemmas
 pub mod PictureLemmas
 pub mod TellLemmas

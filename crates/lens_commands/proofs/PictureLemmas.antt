@@ -10,11 +10,12 @@ use Rattle.map_level.specs.Level.{Level}
 use Rattle.map_level.specs.Opening.{IsLevelAt}
 use Rattle.map_level.specs.declared.reading.Reading.{Reading}
 use Rattle.map_picture.specs.Drawing.{HasNothing, IsPicture, TakesWhole}
-use Rattle.atlas_page.specs.Levels.{FoundAt, HasLines}
-use Rattle.atlas_page.specs.Rows.{is_drawn, picture_name}
-use Rattle.atlas_page.specs.declared.row.Found.{Found}
-use Rattle.atlas_page.specs.declared.row.Found.TheVariants as found
+use Rattle.atlas_page.specs.Rows.{picture_name}
 use Rattle.atlas_page.specs.declared.row.Row.{Row}
+use Rattle.lens_engines.specs.LevelCounts.{HasLines}
+use Rattle.lens_engines.specs.Surveyed.{SurveyedAt, is_drawn}
+use Rattle.lens_engines.specs.declared.surveyed.Surveyed.{Surveyed}
+use Rattle.lens_engines.specs.declared.surveyed.Surveyed.TheVariants as surveyed
 use Rattle.wad_dir.specs.Wad.{Wad}
 use Rattle.lens_engines.specs.declared.judging.Judging.{Judging}
 use Rattle.lens_commands.specs.Folder.{IsBegun, Kept, KeepsFile, with_files}
@@ -23,13 +24,13 @@ use Rattle.lens_commands.specs.declared.atlas.fault.KeepFault.{KeepFault}
 use Rattle.lens_commands.proofs.FolderLemmas.{kept_whole, with_files-more, with_files-none}
 
 -- a row with a picture is that of a level of Doom's format, in which there is something to draw
-pub drawn_level : (files : List Wad) (judging : Judging) (g : ℕ) (told : Found) → FoundAt files judging g told → is_drawn told ≡ true
+pub drawn_level : (files : List Wad) (judging : Judging) (g : ℕ) (told : Surveyed) → SurveyedAt files judging g told → is_drawn told ≡ true
     → IsFormat files g Doom × ((level : Level) → IsLevelAt files g judging.reading level → HasLines level)
-drawn_level files judging g (found.Judged judged) is drawn = (
+drawn_level files judging g (surveyed.Judged counted) is drawn = (
   is.0,
   λ level there. subst HasLines (IsLevelAt-one files g judging.reading is.1.level level is.1.there there) (is.1.drawn.0 drawn),
 )
-drawn_level files judging g (found.Unjudged unjudged) is drawn = absurd (cc)
+drawn_level files judging g (surveyed.Unjudged unjudged) is drawn = absurd (cc)
 
 -- where something is to be drawn a frame isn't wanting
 pub drawn_lines : (level : Level) → HasLines level → ¬ HasNothing level None

@@ -15,7 +15,7 @@ use Rattle.std.specs.Prelude.{IfErr, IfOk}
 use Rattle.lens_engines.specs.declared.object.FileRefusal.{FileRefusal}
 use Rattle.lens_commands.specs.Files.{Known}
 use Rattle.lens_commands.specs.Run.{LeavesLevels, RefusesFile, StopsRefusal, WritesRefusal, fault_of}
-use Rattle.lens_commands.specs.Run.{ChecksBytes, StopsAt, StopsPath, SurveysBytes, TellsPath, ToldBefore, ToldTo, stop_after, tally_with, with_path}
+use Rattle.lens_commands.specs.Run.{ChecksBytes, StopsAt, StopsPath, SurveysBytes, TellsPath, ToldBefore, ToldTo, stop_after, survey_tally, tally_with, with_path}
 use Rattle.lens_commands.specs.declared.tell.Request.{Request}
 use Rattle.lens_commands.specs.declared.tell.Stop.{Stop}
 use Rattle.lens_commands.specs.declared.tell.Stop.TheVariants as stop
@@ -40,6 +40,12 @@ surveyed state path bytes judging out out' verdict tally of none (inr ran) = (
   },
   ran.does.all.sound,
 )
+
+-- the tally of one
+pub survey_taken : (path bytes : List ℕ) (judging : Judging) (before after : SinkState) (verdict : Verdict)
+    → SurveysFile path bytes judging before after (Ok verdict) → SurveysBytes path bytes judging before after (survey_tally verdict)
+survey_taken path bytes judging before after verdict told =
+    record { file = told.file; of_bytes = told.of_bytes; read = told.read; does = told.does.all; adds = refl }
 
 -- a survey that didn't
 pub survey_left : {W : Type 0} (state : W → SinkState) (path bytes : List ℕ) (judging : Judging) (out out' : W) (why : LevelsFault)

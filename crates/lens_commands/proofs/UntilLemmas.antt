@@ -1,5 +1,5 @@
 -- How far files were told where an atlas isn't whole.
-use Rattle.std.proofs.Common.{◌≡◌, ℕ, ◌<◌, ◌≤◌, true, inl, inr, List, length, take, map, get_or, Option, Some, Result, Ok, Err, refl}
+use Rattle.std.proofs.Common.{◌≡◌, ℕ, ◌<◌, ◌≤◌, true, inl, inr, List, length, take, map, get_or, Option, Some, Result, Ok, Err, refl, subst, sym}
 use Rattle.std.specs.Prelude.{IfErr}
 use Rattle.std.specs.Io.KnownBytes.{Keeps}
 use Rattle.le_rec.specs.Sink.{SinkState}
@@ -7,18 +7,19 @@ use Rattle.lens_engines.specs.declared.judging.Judging.{Judging}
 use Rattle.lens_engines.specs.declared.object.FileRefusal.{FileRefusal}
 use Rattle.lens_engines.specs.declared.verdict.Verdict.{Verdict}
 use Rattle.lens_commands.specs.Files.{at_path, stored}
-use Rattle.lens_commands.specs.Run.{RefusesFile, StopsRefusal, TellsPath, TellsSome, ToldTo, WantsMore}
+use Rattle.lens_commands.specs.Run.{RefusesFile, StopsRefusal, TellsPath, TellsSome, ToldTo, WantsMore, survey_tally}
 use Rattle.lens_commands.specs.declared.tell.Request.{Request}
 use Rattle.lens_commands.specs.declared.tell.Stop.{Stop}
 use Rattle.lens_commands.specs.declared.tell.Stop.TheVariants as stop
 use Rattle.lens_commands.specs.declared.tell.Tally.{Tally}
 use Rattle.lens_commands.specs.declared.tell.Word.TheVariants.{Survey}
-use Rattle.lens_commands.proofs.TellLemmas.{told_before}
+use Rattle.lens_commands.proofs.TellLemmas.{survey_taken, told_before}
 use Rattle.line_io.specs.declared.input.TheConstants.{MAX_READ}
 use Rattle.lens_commands.specs.Atlas.{survey_of}
-use Rattle.lens_commands.specs.Folder.{IsNotErrors}
+use Rattle.lens_commands.specs.Folder.{IsNotErrors, of_file}
+use Rattle.lens_commands.specs.declared.atlas.fault.KeepFault.{KeepFault}
 use Rattle.lens_commands.specs.declared.atlas.fault.KeepFault.TheVariants as file
-use Rattle.lens_commands.specs.Until.{LeavesPath, LeavesRefused, StopsAtFile, stop_fault}
+use Rattle.lens_commands.specs.Until.{LeavesPath, LeavesRefused, LeavesSurvey, StopsAtFile, stop_fault}
 use Rattle.lens_commands.specs.declared.atlas.fault.AtlasFault.{AtlasFault}
 use Rattle.lens_commands.specs.declared.atlas.fault.AtlasFault.TheVariants as fault
 
@@ -40,6 +41,20 @@ module _ (held : Option (List ℕ)) (judging : Judging) (path : List ℕ) (out o
   -- there was no memory to tell all of it
   pub left_wanting : WantsMore (at_path held) (survey_of judging) path out out' errors errors' → LeavesPath held (survey_of judging) path out out' errors errors' fault.Memory
   left_wanting wants = inr (record { stop = stop.Memory; stops = wants; is = refl })
+
+  -- not all of its levels were added
+  pub levels_left : (bytes : List ℕ) (why : KeepFault) → Keeps held (Some bytes) → length bytes ≤ MAX_READ → errors' ≡ errors
+      → LeavesSurvey path bytes judging out out' why → LeavesPath held (survey_of judging) path out out' errors errors' (of_file why)
+  levels_left bytes why are few silent (inl wants) =
+      subst (λ w. LeavesPath held (survey_of judging) path out out' errors errors' (of_file w)) (sym wants.is)
+      (left_wanting (record { answered = inl wants.untouched; silent = silent }))
+  levels_left bytes why are few silent (inr (inl stopped)) =
+      subst (λ w. LeavesPath held (survey_of judging) path out out' errors errors' (of_file w)) (sym stopped.is)
+      (left_unwritten bytes stopped.found are few (stopped.told, silent) stopped.failed)
+  levels_left bytes why are few silent (inr (inr behind)) =
+      left_behind (survey_tally behind.verdict) (of_file why)
+      (inl (record { bytes = bytes; are = are; few = few; told = (survey_taken path bytes judging out out' behind.verdict behind.told, silent) }))
+      (record { fault = why; is = refl })
 
   -- it was refused, and this wasn't told to its end
   pub refused_left : (refusal : FileRefusal) (result : Result Tally AtlasFault) → RefusesFile (at_path held) Survey refusal

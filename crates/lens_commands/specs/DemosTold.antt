@@ -3,23 +3,15 @@ use Rattle.std.specs.Prelude.{◌≡◌, ℕ, Bool, true, false, List, None, Res
 use Rattle.demo_engines.specs.Demos.{DemosAsked, IsDemoTold, TellsWad, WritesTold, is_wad_file}
 use Rattle.demo_engines.specs.declared.demos.DemosFault.{DemosFault}
 use Rattle.demo_engines.specs.declared.demos.DemosFault.TheVariants.{NoWad, Write, Errors, Memory}
-use Rattle.demo_engines.specs.declared.demos.Telling.{Telling}
-use Rattle.demo_engines.specs.declared.demos.Telling.TheVariants as telling
 use Rattle.le_rec.specs.Sink.{SinkState}
 use Rattle.wad_dir.specs.Refusal.{RefusesWad}
 use Rattle.lens_engines.specs.Totals.{no_totals}
 use Rattle.lens_engines.specs.declared.verdict.Verdict.{Verdict}
 use Rattle.lens_engines.specs.declared.verdict.Verdict.TheVariants.{Clean, Unjudged}
 use Rattle.lens_engines.specs.declared.form.Form.{Form}
-use Rattle.lens_engines.specs.declared.form.Form.TheVariants.{Lines, Objects}
 use Rattle.lens_commands.specs.declared.tell.BytesFault.{BytesFault}
 use Rattle.lens_commands.specs.declared.tell.BytesFault.TheVariants as fault
 use Rattle.lens_commands.specs.declared.tell.Tally.{Tally}
-
--- what the engine is asked
-abbrev pub telling_of : Form → Telling
-telling_of Lines = telling.Lines
-telling_of Objects = telling.Objects
 
 -- what is found where all demos were read, or not
 abbrev pub demos_verdict : Bool → Verdict
@@ -36,7 +28,7 @@ TellsDemos asked bytes out out' errors errors' result =
 
 -- the demos are answered in this form
 abbrev pub answers_in : Form → List ℕ → DemosAsked
-answers_in form path = record { path = path; telling = telling_of form }
+answers_in form path = record { path = path; form = form }
 
 -- the demos of these bytes were told
 pub record TellsDemosOf (form : Form) (path bytes : List ℕ) (out out' errors errors' : SinkState) (tally : Tally) : Type 0 where

@@ -9,6 +9,7 @@ use Rattle.line_io.specs.declared.fault.IoFault.{IoFault}
 use Rattle.wad_dir.specs.Wad.{Wad}
 use Rattle.lens_engines.specs.Rules.{IsOver}
 use Rattle.lens_engines.specs.TotalsObject.{totals_text}
+use Rattle.lens_engines.specs.Unlooked.{is_none, unlooked_note}
 use Rattle.lens_engines.specs.declared.object.FileRefusal.{FileRefusal}
 use Rattle.lens_engines.specs.declared.judging.Warnings.{Warnings}
 use Rattle.lens_engines.specs.declared.totals.Totals.{Totals}
@@ -18,7 +19,7 @@ use Rattle.lens_commands.specs.Bases.{AreBases, EndsAtBase, IsRefusedAt, path_at
 use Rattle.lens_commands.specs.Files.{RefusesRead, stored}
 use Rattle.lens_commands.specs.Output.{held_back, is_closed, output_state}
 use Rattle.lens_commands.specs.Paths.{listed_paths}
-use Rattle.lens_commands.specs.Run.{IsTold, StopsAt, ToldTo, refusal_line}
+use Rattle.lens_commands.specs.Run.{IsTold, OnErrors, StopsAt, ToldTo, refusal_line}
 use Rattle.lens_commands.specs.declared.bases.BaseFault.{BaseFault}
 use Rattle.lens_commands.specs.declared.end.End.{End}
 use Rattle.lens_commands.specs.declared.end.End.TheVariants as end
@@ -83,14 +84,8 @@ abbrev pub closing_line : Request → ℕ → Totals → List ℕ
 closing_line asked files totals = last_line asked.word asked.judging.warnings files totals
 
 -- which warnings weren't looked for, and how to have them looked for
-abbrev pub unlooked_at : Bool → Bool → List ℕ
-unlooked_at true true = codes "wadlens: W9, W10 weren't looked for: no file has TEXTURE1, F_START; name the game's with --base\n"
-unlooked_at true false = codes "wadlens: W9 weren't looked for: no file has TEXTURE1; name the game's with --base\n"
-unlooked_at false true = codes "wadlens: W10 weren't looked for: no file has F_START; name the game's with --base\n"
-unlooked_at false false = []
-
 abbrev pub unlooked_line : Unlooked → List ℕ
-unlooked_line unlooked = unlooked_at unlooked.textures unlooked.flats
+unlooked_line unlooked = if is_none unlooked then [] else (codes "wadlens: " ++ (unlooked_note unlooked ++ codes "\n"))
 
 -- how a run ends whose output failed
 abbrev pub output_end : Bool → Verdict → End
@@ -134,10 +129,11 @@ pub record TellsAll {W : Type 0} (held : List ℕ → Option (List ℕ)) (asked 
   pub told : ToldTo (stored held) asked (output_state contents old) errors paths (output_state contents between) between_errors tally
   pub rest : EndsTelling contents (closing_line asked (length paths) tally.totals) tally.totals.unlooked tally.verdict between new between_errors errors' result
 
--- the run stopped at a path
+-- the run stopped at a path; if standard error failed, nothing that was answered before is held back
 pub record StopsJob {W : Type 0} (held : List ℕ → Option (List ℕ)) (asked : Request) (paths : List (List ℕ)) (contents : W → Option (List ℕ)) (old new : Output W) (errors errors' : SinkState) (result : Result Verdict End) : Type 0 where
   pub stop : Stop
   pub stops : StopsAt (stored held) asked paths (output_state contents old) errors (output_state contents new) errors' stop
+  pub handed : OnErrors {T = Tally} (Err stop) (held_back new ≡ [])
   pub ended : result ≡ Err (stop_end (is_closed new) stop)
 
 -- one of the two

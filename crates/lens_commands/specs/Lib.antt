@@ -1,6 +1,7 @@
 pub mod Bases
 pub mod AssembleJob
 pub mod Atlas
+pub mod AtlasLines
 pub mod AtlasPictures
 pub mod AtlasTold
 pub mod CompareJob

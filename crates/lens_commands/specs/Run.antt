@@ -59,6 +59,10 @@ no_tally = record { verdict = Clean; totals = no_totals }
 abbrev pub refused_tally : Tally
 refused_tally = record { verdict = Unjudged; totals = no_totals }
 
+-- of a file whose survey has this verdict
+abbrev pub survey_tally : Verdict → Tally
+survey_tally verdict = record { verdict = verdict; totals = no_totals }
+
 -- of both
 abbrev pub tally_with : Tally → Tally → Tally
 tally_with a b = record { verdict = graver a.verdict b.verdict; totals = totals_with a.totals b.totals }

@@ -1,7 +1,15 @@
 -- How far the report on files came, if an atlas isn't whole (ours).
-use Rattle.std.specs.Prelude.{◌≡◌, ◌⊎◌, ℕ, List, Option}
+use Rattle.std.specs.Prelude.{◌≡◌, ◌⊎◌, ℕ, true, List, Option, Ok, Err}
 use Rattle.le_rec.specs.Sink.{SinkState}
+use Rattle.atlas_page.specs.declared.levels.Origin.{Origin}
+use Rattle.atlas_page.specs.declared.row.Row.{Row}
+use Rattle.wad_dir.specs.Refusal.{RefusesWad}
+use Rattle.wad_dir.specs.declared.wad.WadFault.{WadFault}
+use Rattle.lens_engines.specs.Survey.{SurveysFile}
+use Rattle.lens_engines.specs.declared.judging.Judging.{Judging}
 use Rattle.lens_engines.specs.declared.object.FileRefusal.{FileRefusal}
+use Rattle.lens_engines.specs.declared.verdict.LevelsFault.TheVariants as engine
+use Rattle.lens_engines.specs.declared.verdict.Verdict.{Verdict}
 use Rattle.lens_commands.specs.Run.{StopsPath, StopsRefusal, TellsPath, ToldBefore, ToldTo, WritesRefusal}
 use Rattle.lens_commands.specs.declared.tell.Request.{Request}
 use Rattle.lens_commands.specs.declared.tell.Stop.{Stop}
@@ -10,8 +18,13 @@ use Rattle.lens_commands.specs.declared.tell.Tally.{Tally}
 use Rattle.lens_commands.specs.declared.tell.Word.TheVariants.{Survey}
 use Rattle.lens_commands.specs.Files.{at_path, stored}
 use Rattle.lens_commands.specs.Folder.{IsBegun, IsNotErrors, Kept}
+use Rattle.lens_commands.specs.Gathered.{AddsSome}
 use Rattle.lens_commands.specs.declared.atlas.fault.AtlasFault.{AtlasFault}
 use Rattle.lens_commands.specs.declared.atlas.fault.AtlasFault.TheVariants as fault
+use Rattle.lens_commands.specs.declared.atlas.fault.FileFault.{FileFault}
+use Rattle.lens_commands.specs.declared.atlas.fault.FileFault.TheVariants as levels
+use Rattle.lens_commands.specs.declared.atlas.fault.KeepFault.{KeepFault}
+use Rattle.lens_commands.specs.declared.atlas.fault.KeepFault.TheVariants as file
 
 -- why an atlas isn't whole, if the report on its files stopped
 abbrev pub stop_fault : Stop → AtlasFault
@@ -35,6 +48,46 @@ pub record StopsBehind (held : Option (List ℕ)) (asked : Request) (path : List
 abbrev pub LeavesPath : Option (List ℕ) → Request → List ℕ → SinkState → SinkState → SinkState → SinkState → AtlasFault → Type 0
 LeavesPath held asked path out out' errors errors' why =
     StopsBehind held asked path out out' errors errors' why ⊎ StopsWithin held asked path out out' errors errors' why
+
+-- nothing was written of a file's levels, for want of memory
+pub record WantsLevels (before after : SinkState) (why : KeepFault) : Type 0 where
+  pub untouched : after ≡ before
+  pub is : why ≡ file.Memory
+
+-- a write failed within the survey of them
+pub record StopsInSurvey (path bytes : List ℕ) (judging : Judging) (before after : SinkState) (why : KeepFault) : Type 0 where
+  pub found : Verdict
+  pub told : SurveysFile path bytes judging before after (Err (engine.Write found))
+  pub failed : after.failed ≡ true
+  pub is : why ≡ file.Write
+
+-- it was whole, and a picture isn't
+pub record StopsBehindSurvey (path bytes : List ℕ) (judging : Judging) (before after : SinkState) : Type 0 where
+  pub verdict : Verdict
+  pub told : SurveysFile path bytes judging before after (Ok verdict)
+
+-- one of the three
+abbrev pub LeavesSurvey : List ℕ → List ℕ → Judging → SinkState → SinkState → KeepFault → Type 0
+LeavesSurvey path bytes judging before after why =
+    WantsLevels before after why ⊎ StopsInSurvey path bytes judging before after why ⊎ StopsBehindSurvey path bytes judging before after
+
+-- the bytes have no directory, and nothing was added
+pub record RefusesLevels {W : Type 0} (bytes : List ℕ) (survey survey' : W) (old new : List Row) (files files' : Option (List Kept)) (why : WadFault) : Type 0 where
+  pub refused : RefusesWad bytes why
+  pub untouched : survey' ≡ survey
+  pub rowless : new ≡ old
+  pub kept : files' ≡ files
+
+-- a file of the folder isn't whole: a front of the pictures was added, and the survey came so far
+pub record StopsLevels (cells : ℕ) (origin : Origin) (bytes : List ℕ) (before after : SinkState) (files files' : Option (List Kept)) (why : KeepFault) : Type 0 where
+  pub front : AddsSome cells origin bytes files files'
+  pub left : LeavesSurvey origin.path.now bytes origin.judging before after why
+
+-- why the levels of a file aren't all in an atlas
+abbrev pub LeavesLevels : {W : Type 0} → (W → SinkState) → ℕ → Origin → List ℕ → W → W → List Row → List Row → Option (List Kept) → Option (List Kept) → FileFault → Type 0
+LeavesLevels state cells origin bytes survey survey' old new files files' (levels.NoWad why) = RefusesLevels bytes survey survey' old new files files' why
+LeavesLevels state cells origin bytes survey survey' old new files files' (levels.Keep why) =
+    StopsLevels cells origin bytes (state survey) (state survey') files files' why
 
 -- the report that a file is refused stopped
 pub record StopsRefused (path : List ℕ) (refusal : FileRefusal) (out out' errors errors' : SinkState) (why : AtlasFault) : Type 0 where

@@ -4,6 +4,7 @@ mod fault;
 mod folder;
 mod gather;
 mod job;
+mod lines;
 mod pictures;
 mod run;
 mod tell;

@@ -1,24 +1,14 @@
 //! The demos of a file. Each is listed, and standard error has why some aren't read.
 
 ghost use Rattle.std.specs.Prelude.{◌≡◌, [], false, IfOk, IfErr, OnOk};
-ghost use Rattle.lens_commands.specs.DemosTold.{LeavesDemos, TellsDemosOf, demos_tally, demos_verdict, telling_of};
+ghost use Rattle.lens_commands.specs.DemosTold.{LeavesDemos, TellsDemosOf, demos_tally, demos_verdict};
 ghost use Rattle.lens_commands.specs.Run.{OnBytesErrors};
 
 use crate::tell::{BytesFault, Tally, no_tally};
-use demo_engines::{DemoQuestion, DemosFault, HandOn, Telling, Watch, demos_file};
+use demo_engines::{DemoQuestion, DemosFault, HandOn, Watch, demos_file};
 use le_rec::Sink;
 use lens_engines::{Form, Verdict};
 use std::alloc::Allocator;
-
-// The question for the engine, for demos in this form.
-fn telling_of(form: Form) -> Telling
-    ensures { result ≡ telling_of form }
-{
-    match form {
-        Form::Lines => Telling::Lines,
-        Form::Objects => Telling::Objects,
-    }
-}
 
 /// Reports on the demos of a file's bytes, in order. The message about one that isn't read comes after what was answered
 /// before.
@@ -40,10 +30,7 @@ pub fn tell_demos<A: Allocator + Copy, W: HandOn, E: Sink, P: Watch>(
     ensures left { IfErr result (LeavesDemos W.state E.state form path.now bytes.now out.old out.new errors.old errors.new) }
     ensures handed { OnBytesErrors result (W.held out.new ≡ []) }
 {
-    let question = DemoQuestion {
-        path,
-        telling: telling_of(form),
-    };
+    let question = DemoQuestion { path, form };
     match demos_file(alloc, &question, bytes, out, errors, watch) {
         Ok(all_read) => Ok(demos_tally(all_read)),
         Err(fault) => Err(BytesFault::from_demos(fault)),

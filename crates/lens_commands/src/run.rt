@@ -143,24 +143,12 @@ pub fn write_unlooked<E: Sink>(unlooked: Unlooked, errors: &mut E) -> Result<(),
     requires { (E.state errors.old).failed ≡ false }
     ensures { Writes (E.state errors.old) (E.state errors.new) (unlooked_line unlooked) result }
 {
-    emit(errors, unlooked_text(unlooked))
-}
-
-fn unlooked_text(unlooked: Unlooked) -> &'static [u8]
-    ensures { result.now ≡ unlooked_line unlooked }
-{
-    match (unlooked.textures, unlooked.flats) {
-        (true, true) => {
-            b"wadlens: W9, W10 weren't looked for: no file has TEXTURE1, F_START; name the game's with --base\n"
-        }
-        (true, false) => {
-            b"wadlens: W9 weren't looked for: no file has TEXTURE1; name the game's with --base\n"
-        }
-        (false, true) => {
-            b"wadlens: W10 weren't looked for: no file has F_START; name the game's with --base\n"
-        }
-        (false, false) => b"",
+    if unlooked.is_none() {
+        return emit(errors, b"");
     }
+    emit(errors, b"wadlens: ")?;
+    emit(errors, unlooked.note())?;
+    emit(errors, b"\n")
 }
 
 /// Flushes the buffer, and ends with the verdict.

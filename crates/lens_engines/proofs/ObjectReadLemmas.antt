@@ -2,11 +2,10 @@
 use Rattle.std.proofs.Common.{◌≡◌, ℕ, ◌+◌, ◌-◌, ◌^◌, ◌<◌, ◌≤◌, inl, inr, Bool, true, false, List, [], ◌∷◌, ◌++◌, length, take, drop, map, get_or, get_or-take, get_or-drop, length-take, length-drop, refl, sym, ap, subst, ◌∙◌, append_assoc, append-nil, arith, decimal}
 use Rattle.std.specs.Prelude.{codes, ◌==◌, if◌then◌else◌, sum, filter, nat_lt}
 use Rattle.std.specs.Fmt.{digits}
-use Rattle.std.specs.List.{All, flat_map, join_with_byte}
+use Rattle.std.specs.List.{flat_map, join_with_byte}
 use Rattle.std.specs.Str.Lossy.{utf8_lossy}
 use Rattle.std.proofs.lemmas.Bool.{cases_lt}
 use Rattle.std.proofs.lemmas.List.{get_or_past}
-use Rattle.std.proofs.lemmas.List.Elements.{All-filter}
 use Rattle.std.proofs.lemmas.List.Sums.{get_or-le-sum_by}
 use Rattle.std.proofs.lemmas.Str.{utf8_lossy-IsUtf8}
 use Rattle.json.proofs.Printed.Utf8.{IsUtf8-are_ascii, are_ascii}
@@ -17,7 +16,6 @@ use Rattle.level_starts.specs.declared.format.Format.TheVariants.{Udmf, Incomple
 use Rattle.map_warnings.specs.declared.warning.WarningCode.{WarningCode}
 use Rattle.map_warnings.specs.declared.warning.WarningCode.TheVariants.{W1, W2, W3, W4, W5, W6, W7, W8, W9, W10, W11}
 use Rattle.map_level.specs.Findings.{is_fault, rank}
-use Rattle.map_level.specs.Level.{Level}
 use Rattle.map_level.specs.declared.finding.Code.{Code}
 use Rattle.map_level.specs.declared.finding.Code.TheVariants.{F1, F2, F3, F4, F5, F6, F7, F8, F9, F10, F11, F12, F13, F14, F15, F16, F17, F18, N1, N2, N3, N4, N5, N6, N7, N8, N9, N10, N11, N12}
 use Rattle.wad_dir.specs.declared.wad.WadFault.TheVariants as wad
@@ -28,11 +26,13 @@ use Rattle.lens_engines.specs.Laws.{DoomIsRead, ObjectsAreRead, OtherIsRead, Ref
 use Rattle.lens_engines.specs.ObjectValues.{IsLineOf, doom_value, file_value, findings_values, found_values, label_values, number_at, object_of, other_value, size_values, sizes_of, telling_values, text_at, unlooked_at, warnings_values}
 use Rattle.lens_engines.specs.Objects.{count_member, count_of, file_member, findings_text, format_member, format_name, found_members, label_members, lump_members, number_member, refusal_text, refused_object, telling_members, usual_name, warnings_member}
 use Rattle.lens_engines.specs.Unlooked.{member_at, unlooked_member}
-use Rattle.lens_engines.specs.Warned.{Warned}
+use Rattle.lens_engines.specs.WarningCounts.{warning_count}
 use Rattle.lens_engines.specs.WarningLine.{warning_name}
 use Rattle.lens_engines.specs.declared.judging.Warnings.{Warnings}
 use Rattle.lens_engines.specs.declared.judging.Warnings.TheVariants.{Unasked, Told, Strict}
 use Rattle.lens_engines.specs.declared.object.FileRefusal.{FileRefusal}
+use Rattle.lens_engines.specs.declared.tables.Tables.{Tables}
+use Rattle.lens_engines.specs.declared.warning_counts.WarningCounts.{WarningCounts}
 use Rattle.lens_engines.specs.declared.object.FileRefusal.TheVariants.{Unopened, Unread, TooLarge, NoWad}
 
 -- ---- a refused file
@@ -89,8 +89,8 @@ law_other_is_read path name g format small =
 
 -- ---- a level of Doom's format
 
-sizes_plain : (level : Level) → ArePlain (sizes_of level)
-sizes_plain level = (refl, (refl, (refl, (refl, (refl, (refl, (refl, (refl, (refl, (refl, tt))))))))))
+sizes_plain : (tables : Tables) → ArePlain (sizes_of tables)
+sizes_plain tables = (refl, (refl, (refl, (refl, (refl, (refl, (refl, (refl, (refl, (refl, tt))))))))))
 
 code_plain : (code : Code) → IsPlain (code_text code [])
 unfolding digits
@@ -193,14 +193,11 @@ found_tells counts faults notes =
     (Tells-both _ _ _ _ (Tells-number (codes "faults") (fault_total counts) refl faults) (Tells-number (codes "notes") (note_total counts) refl notes)))
     (findings_tell counts faults notes)
 
-warnings_tell : (warnings : Warnings) (warned : List Warned) → All (λ one. one.cut.count < 2 ^ 64) warned → Tells (warnings_member warnings warned) (warnings_values warnings warned)
+warnings_tell : (warnings : Warnings) (warned : WarningCounts) → ((code : WarningCode) → warning_count warned code < 2 ^ 64)
+    → Tells (warnings_member warnings warned) (warnings_values warnings warned)
 warnings_tell Unasked warned small = Tells-none
-warnings_tell Told warned small =
-    Tells-numbers (λ one. warning_name one.code) (λ one. one.cut.count) (λ one. warning_plain one.code) (codes "warnings") _ refl
-    (All-filter (λ one. nat_lt 0 one.cut.count) (λ one. one.cut.count < 2 ^ 64) warned small)
-warnings_tell Strict warned small =
-    Tells-numbers (λ one. warning_name one.code) (λ one. one.cut.count) (λ one. warning_plain one.code) (codes "warnings") _ refl
-    (All-filter (λ one. nat_lt 0 one.cut.count) (λ one. one.cut.count < 2 ^ 64) warned small)
+warnings_tell Told warned small = Tells-numbers warning_name (warning_count warned) warning_plain (codes "warnings") _ refl (λ k d within. small _)
+warnings_tell Strict warned small = Tells-numbers warning_name (warning_count warned) warning_plain (codes "warnings") _ refl (λ k d within. small _)
 
 unlooked_tell : (textures flats : Bool) → Tells (member_at textures flats) (unlooked_at textures flats)
 unlooked_tell true true = Tells-two (codes "unlooked") (codes "W9") (codes "W10") refl refl refl
@@ -215,19 +212,19 @@ parts sizes found warnings unlooked end =
     ∙ ap (λ t. sizes ++ t) (sym (append_assoc found (warnings ++ unlooked) end)) ∙ sym (append_assoc sizes (found ++ (warnings ++ unlooked)) end)
 
 law_doom_is_read : DoomIsRead
-law_doom_is_read path name g level counts warnings warned unlooked small numbers =
-    let sizes = flat_map (λ text. text) (lump_members level) in
-    let found = found_members counts in
-    let told = warnings_member warnings warned in
-    let left = unlooked_member unlooked in
+law_doom_is_read path name g counted small numbers =
+    let sizes = flat_map (λ text. text) (lump_members counted.tables) in
+    let found = found_members counted.counts in
+    let told = warnings_member counted.warnings counted.warned in
+    let left = unlooked_member counted.unlooked in
     let label = label_members name g ++ format_member Doom in
-    subst (IsLineOf (doom_value path name g level counts warnings warned unlooked))
+    subst (IsLineOf (doom_value path name g counted))
     (sym (ap (λ t. (file_member path ++ label) ++ t) (parts sizes found told left (codes "}\n")) ∙ regrouped (file_member path) label (sizes ++ (found ++ (told ++ left))) (codes "}\n")))
     (read_line path _ _
     (Tells-both _ _ _ _ (label_tells name g Doom small)
-    (Tells-both sizes _ (size_values level) _ (Tells-each (sizes_of level) (sizes_plain level) numbers.sizes)
-    (Tells-both _ _ _ _ (found_tells counts numbers.faults numbers.notes)
-    (Tells-both _ _ _ _ (warnings_tell warnings warned numbers.warnings) (unlooked_tell unlooked.textures unlooked.flats))))))
+    (Tells-both sizes _ (size_values counted.tables) _ (Tells-each (sizes_of counted.tables) (sizes_plain counted.tables) numbers.sizes)
+    (Tells-both _ _ _ _ (found_tells counted.counts numbers.faults numbers.notes)
+    (Tells-both _ _ _ _ (warnings_tell counted.warnings counted.warned numbers.warnings) (unlooked_tell counted.unlooked.textures counted.unlooked.flats))))))
 
 pub law_objects_are_read : ObjectsAreRead
 law_objects_are_read = record { refused = law_refused_is_read; other = law_other_is_read; doom = law_doom_is_read }

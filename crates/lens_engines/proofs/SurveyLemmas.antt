@@ -1,8 +1,7 @@
 -- How a survey goes on from level to level.
-use Rattle.std.proofs.Common.{◌≡◌, ℕ, ◌+◌, ◌<◌, inl, inr, true, false, List, [], ◌∷◌, ◌++◌, length, get_or, Some, Result, Ok, Err, refl, sym, ap, ◌∙◌, subst, arith}
+use Rattle.std.proofs.Common.{◌≡◌, ℕ, ◌+◌, ◌<◌, inl, inr, true, false, List, [], ◌∷◌, ◌++◌, length, get_or, Result, Ok, Err, refl, sym, ap, ◌∙◌, subst, arith}
 use Rattle.std.specs.Prelude.{All, Contains, map}
 use Rattle.std.specs.Io.KnownBytes.{Appends}
-use Rattle.std.specs.List.{slice_get}
 use Rattle.std.proofs.KnownBytes.{Appends-nil, Appends-trans}
 use Rattle.std.proofs.lemmas.Bool.{cases_eq, cases_lt}
 use Rattle.std.proofs.lemmas.List.{append-nil, length-map}
@@ -10,32 +9,25 @@ use Rattle.std.proofs.lemmas.List.Concat.{flat_map-append}
 use Rattle.std.proofs.lemmas.List.Elements.{Contains-push, Contains-push_cases, Contains-append_left, Contains-get_or}
 use Rattle.std.proofs.lemmas.List.Quantifiers.{all_pairs_push}
 use Rattle.std.proofs.lemmas.List.Sums.{fold_push}
-use Rattle.std.proofs.lemmas.Option.{slice_get_within}
 use Rattle.le_rec.specs.Sink.{SinkState}
 use Rattle.level_starts.specs.Format.{IsFormat}
 use Rattle.level_starts.specs.Starts.{IsNextStart, LevelStartsAt, NoneStartsFrom}
 use Rattle.level_starts.specs.declared.format.Format.{Format}
 use Rattle.level_starts.specs.declared.format.Format.TheVariants.{Udmf, Incomplete, Hexen, Outside, Extended, Doom}
+use Rattle.level_starts.proofs.StartLemmas.{start_within}
 use Rattle.line_io.specs.Writes.{Writes}
 use Rattle.line_io.specs.declared.fault.IoFault.{IoFault}
 use Rattle.line_io.specs.declared.fault.IoFault.TheVariants as io
 use Rattle.lens_engines.specs.declared.judging.Judging.{Judging}
 use Rattle.wad_dir.specs.Entries.{names}
 use Rattle.wad_dir.specs.Wad.{IsRead, Wad}
-use Rattle.lens_engines.specs.Objects.{NamesLump, level_members, other_members}
-use Rattle.lens_engines.specs.Survey.{AreStartsBelow, AreTold, AreToldBelow, EndsObject, IsTold, RunsSurvey, Surveys, SurveysAll, SurveysDoom, SurveysFile, SurveysLevel, SurveysOrWants, SurveysSome, Told, WritesLine, WritesLevel}
-use Rattle.lens_engines.specs.Survey.{fault_after, gravest, graver, line_end, lines_of, verdict_of_format}
+use Rattle.lens_engines.specs.Objects.{NamesLump}
+use Rattle.lens_engines.specs.Survey.{AreStartsBelow, AreTold, AreToldBelow, IsTold, RunsSurvey, Surveys, SurveysAll, SurveysFile, SurveysLevel, SurveysOrWants, SurveysSome, Told, WritesLevel}
+use Rattle.lens_engines.specs.Survey.{fault_after, gravest, graver, line_end, lines_of}
 use Rattle.lens_engines.specs.declared.verdict.LevelsFault.{LevelsFault}
 use Rattle.lens_engines.specs.declared.verdict.LevelsFault.TheVariants as fault
 use Rattle.lens_engines.specs.declared.verdict.Verdict.{Verdict}
 use Rattle.lens_engines.specs.declared.verdict.Verdict.TheVariants.{Clean}
-
--- a level that starts at an entry has another behind it
-pub start_within : (all : List (List ℕ)) (g : ℕ) → LevelStartsAt all g → g < length all
-start_within all g starts = elim starts [
-  | inl named ↦ omega (arith, slice_get_within all (g + 1) _ named)
-  | inr named ↦ omega (arith, slice_get_within all (g + 1) _ named)
-]
 
 pub no_starts : (all : List (List ℕ)) → AreStartsBelow all 0 []
 no_starts all = record {
@@ -212,40 +204,6 @@ lump_of_format files g (Outside k) is = (is.1.from, is.1.to)
 lump_of_format files g (Extended tag) is = tt
 lump_of_format files g Doom is = tt
 
--- how the object of a level ends whose format isn't Doom's
-pub other_ends : (files : List Wad) (judging : Judging) (g : ℕ) (format : Format) → (format ≡ Doom → ⊥)
-    → EndsObject files judging g format (other_members format) (verdict_of_format format)
-other_ends files judging g Udmf other = (refl, refl)
-other_ends files judging g (Incomplete k) other = (refl, refl)
-other_ends files judging g Hexen other = (refl, refl)
-other_ends files judging g (Outside k) other = (refl, refl)
-other_ends files judging g (Extended tag) other = (refl, refl)
-other_ends files judging g Doom other = absurd (other refl)
-
--- the line of a level of Doom's format
-pub doom_line : {W : Type 0} (state : W → SinkState) (path : List ℕ) (files : List Wad) (judging : Judging) (name : List ℕ) (g : ℕ) (out out' : W) (result : Result Verdict LevelsFault)
-    → slice_get (names files) g ≡ Some name → IsFormat files g Doom
-    → SurveysDoom state path files judging name g out out' result → SurveysLevel state path files judging g out out' result
-doom_line state path files judging name g out out' result named is does = elim does [
-  | inl wants ↦ inl (record { doom = is; wants = wants })
-  | inr wrote ↦ inr (record {
-    told = record { line = level_members path name g Doom ++ wrote.members; verdict = wrote.verdict };
-    is = record { format = Doom; is = is; name = name; named = named; members = wrote.members; ends = wrote.judged; line = refl };
-    writes = wrote.writes;
-  })
-]
-
--- and of another format
-pub other_line : {W : Type 0} (state : W → SinkState) (path : List ℕ) (files : List Wad) (judging : Judging) (name : List ℕ) (g : ℕ) (format : Format) (out out' : W) (result : Result Verdict LevelsFault)
-    → slice_get (names files) g ≡ Some name → IsFormat files g format → (format ≡ Doom → ⊥)
-    → WritesLine (state out) (state out') (level_members path name g format ++ other_members format) (verdict_of_format format) result
-    → SurveysLevel state path files judging g out out' result
-other_line state path files judging name g format out out' result named is other wrote = inr (record {
-  told = record { line = level_members path name g format ++ other_members format; verdict = verdict_of_format format };
-  is = record { format = format; is = is; name = name; named = named; members = other_members format; ends = other_ends files judging g format other; line = refl };
-  writes = wrote;
-})
-
 -- a level that was told was written
 pub level_told : {W : Type 0} (state : W → SinkState) (path : List ℕ) (files : List Wad) (judging : Judging) (g : ℕ) (out out' : W) (verdict : Verdict)
     → SurveysLevel state path files judging g out out' (Ok verdict) → WritesLevel path files judging g (state out) (state out') (Ok verdict)
@@ -278,7 +236,7 @@ pub one_alone : (bytes : List ℕ) (files : List Wad) → map (λ file. file.byt
 one_alone bytes files of_bytes = sym (length-map files (λ file. file.bytes)) ∙ ap length of_bytes
 
 -- the survey of the one file of these bytes
-one_file : (path bytes : List ℕ) (files : List Wad) (judging : Judging) (before after : SinkState) (result : Result Verdict LevelsFault)
+pub one_file : (path bytes : List ℕ) (files : List Wad) (judging : Judging) (before after : SinkState) (result : Result Verdict LevelsFault)
     → map (λ file. file.bytes) files ≡ bytes ∷ [] → All IsRead files → Surveys path files judging before after result
     → SurveysFile path bytes judging before after result
 one_file path bytes [] judging before after result of_bytes read does = absurd (cc)

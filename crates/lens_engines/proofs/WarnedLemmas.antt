@@ -16,7 +16,9 @@ use Rattle.wad_dir.specs.Wad.{Wad}
 use Rattle.lens_engines.specs.Ignored.{WarnsUnlessIgnored, ignores_warning}
 use Rattle.lens_engines.specs.Objects.{warned_member, warned_members}
 use Rattle.lens_engines.specs.Warned.{AddsWarned, IsWarned, Warned, warned_total, warning_order}
+use Rattle.lens_engines.specs.WarningCounts.{warning_count}
 use Rattle.lens_engines.specs.declared.ignored.Ignored.{Ignored}
+use Rattle.lens_engines.specs.declared.warning_counts.WarningCounts.{WarningCounts}
 
 -- the parts from a place on begin with the one there
 pub parts-drop : {X : Type 0} (part : X → List ℕ) (xs : List X) (i : ℕ) (x : X) → slice_get xs i ≡ Some x
@@ -71,28 +73,28 @@ warned_more ignored files level most i code old new next before adds = record {
 }
 
 -- the members of the codes from a place on, where there are warnings of the first of them
-pub warned-some : (all : List Warned) (i : ℕ) (w : Warned) → slice_get all i ≡ Some w → 0 < w.cut.count
-    → warned_members (drop i all) ≡ warned_member w ∷ warned_members (drop (i + 1) all)
-warned-some [] i w at some = absurd (let f : ⊥ = cc in f)
-warned-some (x ∷ all) zero w at some =
-    let same : x ≡ w = same_Some x w at in
-    let passes : nat_lt 0 w.cut.count ≡ true = lt-ltb 0 w.cut.count some in
+pub warned-some : (warned : WarningCounts) (codes : List WarningCode) (i : ℕ) (code : WarningCode) → slice_get codes i ≡ Some code → 0 < warning_count warned code
+    → warned_members warned (drop i codes) ≡ warned_member code (warning_count warned code) ∷ warned_members warned (drop (i + 1) codes)
+warned-some warned [] i code at some = absurd (let f : ⊥ = cc in f)
+warned-some warned (x ∷ codes) zero code at some =
+    let same : x ≡ code = same_Some x code at in
+    let passes : nat_lt 0 (warning_count warned code) ≡ true = lt-ltb 0 (warning_count warned code) some in
     rw (same, passes) refl
-warned-some (x ∷ all) (suc i) w at some = let next : suc i + 1 ≡ suc (i + 1) = omega arith in rw next (warned-some all i w at some)
+warned-some warned (x ∷ codes) (suc i) code at some = let next : suc i + 1 ≡ suc (i + 1) = omega arith in rw next (warned-some warned codes i code at some)
 
 -- and where there are none
-pub warned-none : (all : List Warned) (i : ℕ) (w : Warned) → slice_get all i ≡ Some w → w.cut.count ≤ 0
-    → warned_members (drop i all) ≡ warned_members (drop (i + 1) all)
-warned-none [] i w at none = absurd (let f : ⊥ = cc in f)
-warned-none (x ∷ all) zero w at none =
-    let same : x ≡ w = same_Some x w at in
-    let fails : nat_lt 0 w.cut.count ≡ false = le-ltb 0 w.cut.count none in
+pub warned-none : (warned : WarningCounts) (codes : List WarningCode) (i : ℕ) (code : WarningCode) → slice_get codes i ≡ Some code → warning_count warned code ≤ 0
+    → warned_members warned (drop i codes) ≡ warned_members warned (drop (i + 1) codes)
+warned-none warned [] i code at none = absurd (let f : ⊥ = cc in f)
+warned-none warned (x ∷ codes) zero code at none =
+    let same : x ≡ code = same_Some x code at in
+    let fails : nat_lt 0 (warning_count warned code) ≡ false = le-ltb 0 (warning_count warned code) none in
     rw (same, fails) refl
-warned-none (x ∷ all) (suc i) w at none = let next : suc i + 1 ≡ suc (i + 1) = omega arith in rw next (warned-none all i w at none)
+warned-none warned (x ∷ codes) (suc i) code at none = let next : suc i + 1 ≡ suc (i + 1) = omega arith in rw next (warned-none warned codes i code at none)
 
 -- there are no codes past the last
-pub warned-past : (all : List Warned) (i : ℕ) → length all ≤ i → warned_members (drop i all) ≡ []
-warned-past all i past = ap warned_members (drop_all i all past)
+pub warned-past : (warned : WarningCounts) (codes : List WarningCode) (i : ℕ) → length codes ≤ i → warned_members warned (drop i codes) ≡ []
+warned-past warned codes i past = ap (warned_members warned) (drop_all i codes past)
 
 capped_twice : (a b m : ℕ) → min (min a m + b) m ≡ min (a + b) m
 capped_twice a b m = elim (cases_lt a m) [

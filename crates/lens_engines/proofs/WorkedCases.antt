@@ -17,7 +17,7 @@ use Rattle.map_warnings.specs.declared.warning.Plane.TheVariants.{Ceiling}
 use Rattle.map_warnings.specs.declared.warning.Side.TheVariants.{Front, Back}
 use Rattle.map_warnings.specs.declared.warning.Warning.{Warning}
 use Rattle.map_warnings.specs.declared.warning.Warning.TheVariants as warning
-use Rattle.map_warnings.specs.declared.warning.WarningCode.TheVariants.{W2, W4, W6}
+use Rattle.map_warnings.specs.declared.warning.WarningCode.TheVariants.{W2}
 use Rattle.map_level.specs.Level.{Level}
 use Rattle.map_level.specs.declared.finding.Code.{Code}
 use Rattle.map_level.specs.declared.finding.Code.TheVariants.{F3, F4, F5, F6, F7, F8, F9, F10, F11, F12, F13, F14, F15, F16, F17, F18, N2, N3, N4, N5, N6, N7, N8, N9, N10, N11, N12}
@@ -34,6 +34,7 @@ use Rattle.lens_engines.specs.Message.{message}
 use Rattle.lens_engines.specs.Objects.{doom_members, level_members, other_members, refused_object}
 use Rattle.lens_engines.specs.Place.{place_of, place_text}
 use Rattle.lens_engines.specs.ShownPath.{shown_after, shown_path}
+use Rattle.lens_engines.specs.Tables.{tables_of}
 use Rattle.lens_engines.specs.Totals.{totals_line}
 use Rattle.lens_engines.specs.TotalsObject.{totals_object}
 use Rattle.lens_engines.specs.Unlooked.{none_unlooked}
@@ -45,6 +46,7 @@ use Rattle.lens_engines.specs.declared.label.LevelLabel.{LevelLabel}
 use Rattle.lens_engines.specs.declared.judging.Warnings.TheVariants.{Unasked, Told, Strict}
 use Rattle.lens_engines.specs.declared.object.FileRefusal.TheVariants.{TooLarge, NoWad}
 use Rattle.lens_engines.specs.declared.totals.Totals.{Totals}
+use Rattle.lens_engines.specs.declared.warning_counts.WarningCounts.{WarningCounts}
 
 abbrev rows : {R : Type 0} → List R → Rows R
 rows records = record { records = records; rest = 3 }
@@ -430,15 +432,26 @@ sample = record {
   blockmap = replicate 16 0;
 }
 
-sample_object : level_members (codes "a.wad") (codes "E1M1") 0 Doom ++ doom_members sample (replicate 30 0) Unasked [] none_unlooked
+-- so many W4, and no other warnings
+abbrev warned : ℕ → WarningCounts
+warned count = record { w1 = 0; w2 = 0; w3 = 0; w4 = count; w5 = 0; w6 = 0; w7 = 0; w8 = 0; w9 = 0; w10 = 0; w11 = 0; total = count }
+
+sample_object : level_members (codes "a.wad") (codes "E1M1") 0 Doom
+    ++ doom_members (record { tables = tables_of sample; counts = replicate 30 0; warnings = Unasked; warned = warned 0; unlooked = none_unlooked; drawn = true })
     ≡ codes "{\"file\":\"a.wad\",\"level\":\"E1M1\",\"entry\":0,\"format\":\"doom\",\"things\":1,\"linedefs\":1,\"sidedefs\":2,\"vertexes\":2,\"segs\":2,\"ssectors\":2,\"nodes\":1,\"sectors\":2,"
     ++ codes "\"reject\":1,\"blockmap\":16,\"sound\":true,\"faults\":0,\"notes\":0,\"findings\":{}}\n"
 unfolding strings
 sample_object = refl
 
--- F9 twice, N3 once and N12 eleven times, of two codes of warnings 7 and none, and W10 wasn't looked for
-found_object : doom_members sample (replicate 8 0 ++ (2 ∷ replicate 11 0 ++ (1 ∷ replicate 8 0 ++ (11 ∷ [])))) Told
-    (record { code = W4; cut = record { most = 0; first = []; count = 7 } } ∷ record { code = W6; cut = record { most = 0; first = []; count = 0 } } ∷ []) (record { textures = false; flats = true })
+-- F9 twice, N3 once and N12 eleven times, of a code of warnings 7, and W10 wasn't looked for
+found_object : doom_members (record {
+  tables = tables_of sample;
+  counts = replicate 8 0 ++ (2 ∷ replicate 11 0 ++ (1 ∷ replicate 8 0 ++ (11 ∷ [])));
+  warnings = Told;
+  warned = warned 7;
+  unlooked = record { textures = false; flats = true };
+  drawn = true;
+})
     ≡ codes ",\"things\":1,\"linedefs\":1,\"sidedefs\":2,\"vertexes\":2,\"segs\":2,\"ssectors\":2,\"nodes\":1,\"sectors\":2,"
     ++ codes "\"reject\":1,\"blockmap\":16,\"sound\":false,\"faults\":2,\"notes\":12,\"findings\":{\"F9\":2,\"N3\":1,\"N12\":11},\"warnings\":{\"W4\":7},\"unlooked\":[\"W10\"]}\n"
 unfolding digits

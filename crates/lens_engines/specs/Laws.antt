@@ -26,11 +26,9 @@ use Rattle.lens_engines.specs.LevelLines.{AreTold, findings_part}
 use Rattle.lens_engines.specs.LevelText.{finding_text}
 use Rattle.lens_engines.specs.ObjectValues.{HasSmallNumbers, IsLineOf, doom_value, other_value, refused_value}
 use Rattle.lens_engines.specs.Objects.{doom_members, level_members, other_members, refused_object}
-use Rattle.lens_engines.specs.Warned.{Warned}
-use Rattle.lens_engines.specs.declared.judging.Warnings.{Warnings}
+use Rattle.lens_engines.specs.declared.level_counts.LevelCounts.{LevelCounts}
 use Rattle.lens_engines.specs.declared.object.FileRefusal.{FileRefusal}
 use Rattle.lens_engines.specs.declared.totals.Totals.{Totals}
-use Rattle.lens_engines.specs.declared.unlooked.Unlooked.{Unlooked}
 
 -- a level's counts have no fault exactly where the level is sound
 abbrev pub FaultlessIsSound : Type 0
@@ -71,9 +69,8 @@ OtherIsRead =
 -- and that of a level of Doom's format
 abbrev pub DoomIsRead : Type 0
 DoomIsRead =
-    (path name : List ℕ) (g : ℕ) (level : Level) (counts : List ℕ) (warnings : Warnings) (warned : List Warned) (unlooked : Unlooked) → g < 2 ^ 64 → HasSmallNumbers level counts warned
-    → IsLineOf (doom_value path name g level counts warnings warned unlooked)
-    (level_members path name g Doom ++ doom_members level counts warnings warned unlooked)
+    (path name : List ℕ) (g : ℕ) (counted : LevelCounts) → g < 2 ^ 64 → HasSmallNumbers counted
+    → IsLineOf (doom_value path name g counted) (level_members path name g Doom ++ doom_members counted)
 
 -- what a survey writes of a file or a level is a line, which the kit's reader of JSON reads as one object of just these members in their order
 pub record ObjectsAreRead : Type 0 where

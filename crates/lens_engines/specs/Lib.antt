@@ -27,3 +27,8 @@ pub mod Totals
 pub mod TotalsObject
 pub mod Unlooked
 pub mod Cut
+pub mod LevelCounts
+pub mod Surveyed
+pub mod Tables
+pub mod Unjudged
+pub mod WarningCounts

@@ -1,20 +1,24 @@
 -- The members of a survey's objects and their values (ours), as a reader of JSON gives them.
-use Rattle.std.specs.Prelude.{◌≡◌, ℕ, Bool, true, false, Contains, Some, ◌<◌, ◌^◌, ◌==◌, nat_lt, All, List, [], ◌∷◌, ◌++◌, codes, decimal, filter, length, map}
+use Rattle.std.specs.Prelude.{◌≡◌, ℕ, Bool, true, false, Contains, Some, ◌<◌, ◌^◌, ◌==◌, nat_lt, All, List, [], ◌∷◌, ◌++◌, codes, decimal, filter, map}
 use Rattle.std.specs.Str.Lossy.{utf8_lossy}
 use Rattle.json.specs.Json.{Json, Members, array, boolean, document, item, member, no_items, no_members, number, object, string}
 use Rattle.le_rec.specs.Name.{shown_name}
 use Rattle.level_starts.specs.declared.format.Format.{Format}
 use Rattle.level_starts.specs.declared.format.Format.TheVariants.{Udmf, Incomplete, Hexen, Outside, Extended, Doom}
-use Rattle.map_level.specs.Level.{Level}
+use Rattle.map_warnings.specs.declared.warning.WarningCode.{WarningCode}
 use Rattle.lens_engines.specs.Counts.{fault_total, note_total, report_order}
 use Rattle.lens_engines.specs.Kind.{code_text}
 use Rattle.lens_engines.specs.Objects.{count_of, format_name, refusal_text, usual_name}
-use Rattle.lens_engines.specs.Warned.{Warned}
+use Rattle.lens_engines.specs.Warned.{warning_order}
+use Rattle.lens_engines.specs.WarningCounts.{warning_count}
 use Rattle.lens_engines.specs.WarningLine.{warning_name}
 use Rattle.lens_engines.specs.declared.judging.Warnings.{Warnings}
 use Rattle.lens_engines.specs.declared.judging.Warnings.TheVariants.{Unasked, Told, Strict}
+use Rattle.lens_engines.specs.declared.level_counts.LevelCounts.{LevelCounts}
 use Rattle.lens_engines.specs.declared.object.FileRefusal.{FileRefusal}
+use Rattle.lens_engines.specs.declared.tables.Tables.{Tables}
 use Rattle.lens_engines.specs.declared.unlooked.Unlooked.{Unlooked}
+use Rattle.lens_engines.specs.declared.warning_counts.WarningCounts.{WarningCounts}
 
 -- members with their names, in their order
 abbrev pub members_of : List (List ℕ × Json) → Members
@@ -51,22 +55,22 @@ telling_values (Extended tag) = text_at (codes "tag") tag ∷ []
 telling_values Doom = []
 
 -- the ten lumps: how many records the tables have, and how many bytes the last two
-abbrev pub sizes_of : Level → List (List ℕ × ℕ)
-sizes_of level =
-    (codes "things", length level.things.records)
-    ∷ (codes "linedefs", length level.linedefs.records)
-    ∷ (codes "sidedefs", length level.sidedefs.records)
-    ∷ (codes "vertexes", length level.vertexes.records)
-    ∷ (codes "segs", length level.segs.records)
-    ∷ (codes "ssectors", length level.ssectors.records)
-    ∷ (codes "nodes", length level.nodes.records)
-    ∷ (codes "sectors", length level.sectors.records)
-    ∷ (codes "reject", length level.reject)
-    ∷ (codes "blockmap", length level.blockmap)
+abbrev pub sizes_of : Tables → List (List ℕ × ℕ)
+sizes_of tables =
+    (codes "things", tables.things)
+    ∷ (codes "linedefs", tables.linedefs)
+    ∷ (codes "sidedefs", tables.sidedefs)
+    ∷ (codes "vertexes", tables.vertexes)
+    ∷ (codes "segs", tables.segs)
+    ∷ (codes "ssectors", tables.ssectors)
+    ∷ (codes "nodes", tables.nodes)
+    ∷ (codes "sectors", tables.sectors)
+    ∷ (codes "reject", tables.reject)
+    ∷ (codes "blockmap", tables.blockmap)
     ∷ []
 
-abbrev pub size_values : Level → List (List ℕ × Json)
-size_values level = map (λ size. number_at size.0 size.1) (sizes_of level)
+abbrev pub size_values : Tables → List (List ℕ × Json)
+size_values tables = map (λ size. number_at size.0 size.1) (sizes_of tables)
 
 -- the codes that hold, each with how often
 abbrev pub findings_values : List ℕ → List (List ℕ × Json)
@@ -82,14 +86,14 @@ found_values counts =
     ∷ []
 
 -- the codes of warnings of which there are some, each with how many
-abbrev pub warned_values : List Warned → List (List ℕ × Json)
-warned_values all = map (λ warned. number_at (warning_name warned.code) warned.cut.count) (filter (λ warned. nat_lt 0 warned.cut.count) all)
+abbrev pub warned_values : WarningCounts → List (List ℕ × Json)
+warned_values warned = map (λ code. number_at (warning_name code) (warning_count warned code)) (filter (λ code. nat_lt 0 (warning_count warned code)) warning_order)
 
 -- a level's warnings, where they are asked for
-abbrev pub warnings_values : Warnings → List Warned → List (List ℕ × Json)
-warnings_values Unasked all = []
-warnings_values Told all = (codes "warnings", object_of (warned_values all)) ∷ []
-warnings_values Strict all = (codes "warnings", object_of (warned_values all)) ∷ []
+abbrev pub warnings_values : Warnings → WarningCounts → List (List ℕ × Json)
+warnings_values Unasked warned = []
+warnings_values Told warned = (codes "warnings", object_of (warned_values warned)) ∷ []
+warnings_values Strict warned = (codes "warnings", object_of (warned_values warned)) ∷ []
 
 -- what wasn't looked for, where there is some
 abbrev pub unlooked_at : Bool → Bool → List (List ℕ × Json)
@@ -110,17 +114,17 @@ abbrev pub other_value : List ℕ → List ℕ → ℕ → Format → Json
 other_value path name g format = object_of (file_value path ∷ (label_values name g format ++ telling_values format))
 
 -- the object of a level of Doom's format
-abbrev pub doom_value : List ℕ → List ℕ → ℕ → Level → List ℕ → Warnings → List Warned → Unlooked → Json
-doom_value path name g level counts warnings warned unlooked =
-    object_of (file_value path ∷ (label_values name g Doom ++ (size_values level
-    ++ (found_values counts ++ (warnings_values warnings warned ++ unlooked_values unlooked)))))
+abbrev pub doom_value : List ℕ → List ℕ → ℕ → LevelCounts → Json
+doom_value path name g counted =
+    object_of (file_value path ∷ (label_values name g Doom ++ (size_values counted.tables
+    ++ (found_values counted.counts ++ (warnings_values counted.warnings counted.warned ++ unlooked_values counted.unlooked)))))
 
 -- the numbers of such an object have 64 bits at most, as all have that are written
-pub record HasSmallNumbers (level : Level) (counts : List ℕ) (warned : List Warned) : Type 0 where
-  pub sizes : All (λ size. size.1 < 2 ^ 64) (sizes_of level)
-  pub faults : fault_total counts < 2 ^ 64
-  pub notes : note_total counts < 2 ^ 64
-  pub warnings : All (λ one. one.cut.count < 2 ^ 64) warned
+pub record HasSmallNumbers (counted : LevelCounts) : Type 0 where
+  pub sizes : All (λ size. size.1 < 2 ^ 64) (sizes_of counted.tables)
+  pub faults : fault_total counted.counts < 2 ^ 64
+  pub notes : note_total counted.counts < 2 ^ 64
+  pub warnings : (code : WarningCode) → warning_count counted.warned code < 2 ^ 64
 
 -- a text is a line that the kit's reader of JSON reads as a value, and it has no other line break
 pub record IsLineOf (value : Json) (text : List ℕ) : Type 0 where

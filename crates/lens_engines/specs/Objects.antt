@@ -1,24 +1,27 @@
 -- The objects of a survey, a line each (ours): a level of Doom's format, one of another format, a refused file.
-use Rattle.std.specs.Prelude.{ℕ, ◌-◌, ◌≤◌, ◌==◌, nat_lt, filter, map, List, [], ◌∷◌, ◌++◌, codes, decimal, length, slice_index, slice_index_or}
+use Rattle.std.specs.Prelude.{ℕ, ◌-◌, ◌≤◌, ◌==◌, nat_lt, filter, map, List, [], ◌∷◌, ◌++◌, codes, decimal, slice_index, slice_index_or}
 use Rattle.std.specs.List.{flat_map, join_with_byte}
 use Rattle.le_rec.specs.Name.{shown_name}
 use Rattle.level_starts.specs.declared.format.Format.{Format}
 use Rattle.level_starts.specs.declared.format.Format.TheVariants.{Udmf, Incomplete, Hexen, Outside, Extended, Doom}
 use Rattle.map_level.specs.Findings.{rank}
-use Rattle.map_level.specs.Level.{Level}
 use Rattle.map_level.specs.LinkFaults.{usual_names}
 use Rattle.map_level.specs.declared.finding.Code.{Code}
+use Rattle.map_warnings.specs.declared.warning.WarningCode.{WarningCode}
 use Rattle.wad_dir.specs.declared.wad.WadFault.TheVariants as wad
 use Rattle.lens_engines.specs.Counts.{fault_total, note_total, report_order}
 use Rattle.lens_engines.specs.JsonString.{bool_text, json_string}
 use Rattle.lens_engines.specs.Kind.{code_text}
 use Rattle.lens_engines.specs.Unlooked.{unlooked_member}
-use Rattle.lens_engines.specs.Warned.{Warned}
+use Rattle.lens_engines.specs.Warned.{warning_order}
+use Rattle.lens_engines.specs.WarningCounts.{warning_count}
 use Rattle.lens_engines.specs.WarningLine.{warning_name}
 use Rattle.lens_engines.specs.declared.judging.Warnings.{Warnings}
 use Rattle.lens_engines.specs.declared.judging.Warnings.TheVariants.{Unasked, Told, Strict}
+use Rattle.lens_engines.specs.declared.level_counts.LevelCounts.{LevelCounts}
 use Rattle.lens_engines.specs.declared.object.FileRefusal.{FileRefusal}
-use Rattle.lens_engines.specs.declared.unlooked.Unlooked.{Unlooked}
+use Rattle.lens_engines.specs.declared.tables.Tables.{Tables}
+use Rattle.lens_engines.specs.declared.warning_counts.WarningCounts.{WarningCounts}
 use Rattle.lens_engines.specs.declared.object.FileRefusal.TheVariants.{Unopened, Unread, TooLarge, NoWad}
 
 -- a name as a string, as it is shown
@@ -54,18 +57,18 @@ abbrev pub level_members : List ℕ → List ℕ → ℕ → Format → List ℕ
 level_members path name g format = file_member path ++ (label_members name g ++ format_member format)
 
 -- how many records the eight tables have, and how many bytes the last two lumps
-abbrev pub lump_members : Level → List (List ℕ)
-lump_members level =
-    number_member (codes "things") (length level.things.records)
-    ∷ number_member (codes "linedefs") (length level.linedefs.records)
-    ∷ number_member (codes "sidedefs") (length level.sidedefs.records)
-    ∷ number_member (codes "vertexes") (length level.vertexes.records)
-    ∷ number_member (codes "segs") (length level.segs.records)
-    ∷ number_member (codes "ssectors") (length level.ssectors.records)
-    ∷ number_member (codes "nodes") (length level.nodes.records)
-    ∷ number_member (codes "sectors") (length level.sectors.records)
-    ∷ number_member (codes "reject") (length level.reject)
-    ∷ number_member (codes "blockmap") (length level.blockmap)
+abbrev pub lump_members : Tables → List (List ℕ)
+lump_members tables =
+    number_member (codes "things") tables.things
+    ∷ number_member (codes "linedefs") tables.linedefs
+    ∷ number_member (codes "sidedefs") tables.sidedefs
+    ∷ number_member (codes "vertexes") tables.vertexes
+    ∷ number_member (codes "segs") tables.segs
+    ∷ number_member (codes "ssectors") tables.ssectors
+    ∷ number_member (codes "nodes") tables.nodes
+    ∷ number_member (codes "sectors") tables.sectors
+    ∷ number_member (codes "reject") tables.reject
+    ∷ number_member (codes "blockmap") tables.blockmap
     ∷ []
 
 -- whether there is no fault, how many faults there are, and how many notes
@@ -95,23 +98,28 @@ found_members counts =
     sound_members (fault_total counts) (note_total counts) ++ (codes ",\"findings\":{" ++ (findings_text counts ++ codes "}"))
 
 -- a code of warnings with how many there are: `"W2":12`
-abbrev pub warned_member : Warned → List ℕ
-warned_member warned = codes "\"" ++ (warning_name warned.code ++ (codes "\":" ++ decimal warned.cut.count))
+abbrev pub warned_member : WarningCode → ℕ → List ℕ
+warned_member code count = codes "\"" ++ (warning_name code ++ (codes "\":" ++ decimal count))
 
--- those of which there are some, with commas between them
-abbrev pub warned_members : List Warned → List (List ℕ)
-warned_members all = map warned_member (filter (λ warned. nat_lt 0 warned.cut.count) all)
+-- those of some codes of which there are warnings
+abbrev pub warned_members : WarningCounts → List WarningCode → List (List ℕ)
+warned_members warned codes = map (λ code. warned_member code (warning_count warned code)) (filter (λ code. nat_lt 0 (warning_count warned code)) codes)
+
+-- the codes of which there are warnings, in their order, with commas between them
+abbrev pub warned_text : WarningCounts → List ℕ
+warned_text warned = join_with_byte 44 (warned_members warned warning_order)
 
 -- a level's warnings, where they are asked for: `,"warnings":{..}`
-abbrev pub warnings_member : Warnings → List Warned → List ℕ
-warnings_member Unasked all = []
-warnings_member Told all = codes ",\"warnings\":{" ++ (join_with_byte 44 (warned_members all) ++ codes "}")
-warnings_member Strict all = codes ",\"warnings\":{" ++ (join_with_byte 44 (warned_members all) ++ codes "}")
+abbrev pub warnings_member : Warnings → WarningCounts → List ℕ
+warnings_member Unasked warned = []
+warnings_member Told warned = codes ",\"warnings\":{" ++ (warned_text warned ++ codes "}")
+warnings_member Strict warned = codes ",\"warnings\":{" ++ (warned_text warned ++ codes "}")
 
 -- what the object of a level of Doom's format ends with
-abbrev pub doom_members : Level → List ℕ → Warnings → List Warned → Unlooked → List ℕ
-doom_members level counts warnings warned unlooked =
-    flat_map (λ text. text) (lump_members level) ++ (found_members counts ++ (warnings_member warnings warned ++ (unlooked_member unlooked ++ codes "}\n")))
+abbrev pub doom_members : LevelCounts → List ℕ
+doom_members counted =
+    flat_map (λ text. text) (lump_members counted.tables)
+    ++ (found_members counted.counts ++ (warnings_member counted.warnings counted.warned ++ (unlooked_member counted.unlooked ++ codes "}\n")))
 
 -- the usual name of a lump, by its number behind the label
 abbrev pub usual_name : ℕ → List ℕ

@@ -9,18 +9,16 @@ use Rattle.level_starts.specs.declared.format.Format.{Format}
 use Rattle.level_starts.specs.declared.format.Format.TheVariants.{Udmf, Incomplete, Hexen, Outside, Extended, Doom}
 use Rattle.line_io.specs.Writes.{TakesFront, Writes}
 use Rattle.line_io.specs.declared.fault.IoFault.{IoFault}
-use Rattle.map_level.specs.Level.{Level}
-use Rattle.map_level.specs.Opening.{IsLevelAt}
 use Rattle.wad_dir.specs.Entries.{names}
 use Rattle.wad_dir.specs.Wad.{IsRead, Wad}
-use Rattle.lens_engines.specs.Counts.{AreCounts, fault_total}
-use Rattle.lens_engines.specs.Ignored.{HoldsUnlessIgnored}
+use Rattle.lens_engines.specs.Counts.{fault_total}
 use Rattle.lens_engines.specs.Left.{LeavesFile, LeavesLevel, WantsMemory}
-use Rattle.lens_engines.specs.Objects.{doom_members, level_members, other_members}
-use Rattle.lens_engines.specs.Unlooked.{AreUnlooked}
-use Rattle.lens_engines.specs.declared.unlooked.Unlooked.{Unlooked}
-use Rattle.lens_engines.specs.Warned.{AreAskedFor, Warned, known_files, warned_total, warned_verdict}
+use Rattle.lens_engines.specs.Surveyed.{SurveyedAt, survey_line}
+use Rattle.lens_engines.specs.Warned.{warned_verdict}
 use Rattle.lens_engines.specs.declared.judging.Judging.{Judging}
+use Rattle.lens_engines.specs.declared.level_counts.LevelCounts.{LevelCounts}
+use Rattle.lens_engines.specs.declared.surveyed.Surveyed.{Surveyed}
+use Rattle.lens_engines.specs.declared.surveyed.Surveyed.TheVariants as surveyed
 use Rattle.lens_engines.specs.declared.verdict.LevelsFault.{LevelsFault}
 use Rattle.lens_engines.specs.declared.verdict.LevelsFault.TheVariants.{NoWad, Write, Memory}
 use Rattle.lens_engines.specs.declared.verdict.Verdict.{Verdict}
@@ -52,23 +50,14 @@ verdict_of_format Doom = Clean
 abbrev pub verdict_of_counts : List ℕ → Verdict
 verdict_of_counts counts = if fault_total counts == 0 then Clean else Faulty
 
--- what a level's object ends with, and its verdict: by what its audit finds and isn't ignored, and by its warnings if they are asked for
-pub record IsJudged (files : List Wad) (judging : Judging) (g : ℕ) (members : List ℕ) (verdict : Verdict) : Type 0 where
-  pub level : Level
-  pub there : IsLevelAt files g judging.reading level
-  pub counts : List ℕ
-  pub are : AreCounts (HoldsUnlessIgnored judging.ignored level) counts
-  pub warned : List Warned
-  pub are_warned : AreAskedFor judging (known_files judging files) level 0 warned
-  pub unlooked : Unlooked
-  pub are_unlooked : AreUnlooked judging.ignored (known_files judging files) unlooked
-  pub ends : members ≡ doom_members level counts judging.warnings warned unlooked
-  pub says : verdict ≡ graver (verdict_of_counts counts) (warned_verdict judging.warnings (warned_total warned))
+-- the verdict on a level of Doom's format: by what its audit finds and isn't ignored, and by its warnings if they are asked for
+abbrev pub verdict_of_level : LevelCounts → Verdict
+verdict_of_level counted = graver (verdict_of_counts counted.counts) (warned_verdict counted.warnings counted.warned.total)
 
--- what the object of a level ends with, and its verdict, by the level's format: only Doom's is judged
-abbrev pub EndsObject : List Wad → Judging → ℕ → Format → List ℕ → Verdict → Type 0
-EndsObject files judging g Doom members verdict = IsJudged files judging g members verdict
-EndsObject files judging g format members verdict = (members ≡ other_members format) × (verdict ≡ verdict_of_format format)
+-- the verdict on a level
+abbrev pub verdict_of : Surveyed → Verdict
+verdict_of (surveyed.Judged counted) = verdict_of_level counted
+verdict_of (surveyed.Unjudged unjudged) = verdict_of_format unjudged.format
 
 -- the report on a level
 pub record Told : Type 0 where
@@ -77,13 +66,12 @@ pub record Told : Type 0 where
 
 -- the report on the level that starts at an entry
 pub record IsTold (path : List ℕ) (files : List Wad) (judging : Judging) (g : ℕ) (told : Told) : Type 0 where
-  pub format : Format
-  pub is : IsFormat files g format
+  pub surveyed : Surveyed
+  pub is : SurveyedAt files judging g surveyed
   pub name : List ℕ
   pub named : slice_get (names files) g ≡ Some name
-  pub members : List ℕ
-  pub ends : EndsObject files judging g format members told.verdict
-  pub line : told.line ≡ level_members path name g format ++ members
+  pub line : told.line ≡ survey_line path name g surveyed
+  pub says : told.verdict ≡ verdict_of surveyed
 
 -- the reports on the levels that start at some entries, in their order
 abbrev pub AreTold : List ℕ → List Wad → Judging → List ℕ → List Told → Type 0
@@ -182,18 +170,6 @@ pub record WritesLine (before after : SinkState) (line : List ℕ) (verdict : Ve
   pub outcome : Result (Unit {0}) IoFault
   pub writes : Writes before after line outcome
   pub ended : result ≡ line_end verdict outcome
-
--- the line of a level of Doom's format was written, by what its audit finds
-pub record WritesDoom (path : List ℕ) (files : List Wad) (judging : Judging) (name : List ℕ) (g : ℕ) (before after : SinkState) (result : Result Verdict LevelsFault) : Type 0 where
-  pub members : List ℕ
-  pub verdict : Verdict
-  pub judged : IsJudged files judging g members verdict
-  pub writes : WritesLine before after (level_members path name g Doom ++ members) verdict result
-
--- one of the two
-abbrev pub SurveysDoom : {W : Type 0} → (W → SinkState) → List ℕ → List Wad → Judging → List ℕ → ℕ → W → W → Result Verdict LevelsFault → Type 0
-SurveysDoom state path files judging name g out out' result =
-    WantsMemory out out' result ⊎ WritesDoom path files judging name g (state out) (state out') result
 
 -- the line of a level was written
 pub record WritesLevel (path : List ℕ) (files : List Wad) (judging : Judging) (g : ℕ) (before after : SinkState) (result : Result Verdict LevelsFault) : Type 0 where

@@ -10,6 +10,8 @@ use Rattle.lens_engines.specs.Warned.{warned_verdict}
 use Rattle.lens_engines.specs.declared.unlooked.Unlooked.{Unlooked}
 use Rattle.lens_engines.specs.declared.judging.Warnings.{Warnings}
 use Rattle.lens_engines.specs.declared.judging.Warnings.TheVariants.{Unasked, Told, Strict}
+use Rattle.lens_engines.specs.declared.surveyed.Surveyed.{Surveyed}
+use Rattle.lens_engines.specs.declared.surveyed.Surveyed.TheVariants as surveyed
 use Rattle.lens_engines.specs.declared.totals.Totals.{Totals}
 use Rattle.lens_engines.specs.declared.verdict.Verdict.{Verdict}
 use Rattle.lens_engines.specs.declared.verdict.Verdict.TheVariants.{Clean, Unjudged, Faulty}
@@ -38,6 +40,11 @@ format_totals Hexen = record { levels = 1; faults = 0; notes = 0; warnings = 0; 
 format_totals (Outside k) = record { levels = 1; faults = 0; notes = 0; warnings = 0; broken = 1; unread = 0; unlooked = none_unlooked }
 format_totals (Extended tag) = record { levels = 1; faults = 0; notes = 0; warnings = 0; broken = 0; unread = 1; unlooked = none_unlooked }
 format_totals Doom = record { levels = 1; faults = 0; notes = 0; warnings = 0; broken = 0; unread = 0; unlooked = none_unlooked }
+
+-- what a level adds
+abbrev pub totals_of : Surveyed → Totals
+totals_of (surveyed.Judged counted) = judged_totals counted.counts counted.warned.total counted.unlooked
+totals_of (surveyed.Unjudged unjudged) = format_totals unjudged.format
 
 -- a sum in 64 bits, which stops at the greatest number
 abbrev pub capped : ℕ → ℕ → ℕ

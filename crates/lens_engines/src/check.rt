@@ -24,13 +24,13 @@ use crate::label::label_by;
 use crate::level_lines::write_judged;
 use crate::lines::{Heading, write_format};
 use crate::object::{write_level, write_other};
-use crate::survey::level_at;
+use crate::opened::level_at;
 use crate::totals::{Totals, format_totals, judged_totals};
 use crate::unlooked::Unlooked;
 use crate::verdict::LevelsFault;
 use crate::warned::{asked_resources, kept_count, known_warnings, warned_total};
 use le_rec::Sink;
-use level_starts::{Format, Holders, format_of, next_start};
+use level_starts::{Format, Holders, LevelStarts, format_of};
 use line_io::IoFault;
 use map_level::{Level, Reading};
 use map_tree::is_sound;
@@ -106,16 +106,13 @@ fn check_set<A: Allocator + Copy, W: Sink>(
     requires sound { (W.state out.old).failed ≡ false }
     ensures { Checks (asked_of question.now) set.now (W.state out.old) (W.state out.new) result }
 {
-    let total = set.total();
     let mut sum = Totals::none();
-    let mut from = 0;
-    'levels: while let Some(g) = next_start(set, from) {
+    'levels: for g in LevelStarts::of(set) {
         let totals = match check_level(alloc, question, set, holders, resources, g, out) {
             Ok(totals) => totals,
             Err(fault) => return Err(fault.after(sum.verdict_with(question.judging.warnings))),
         };
         sum = sum.with(totals);
-        from = g + 1;
     }
     Ok(sum)
 }

@@ -1,6 +1,6 @@
-//! The forms of a check's report.
+//! The forms of a report.
 
-/// The form of a check's report.
+/// The form of a report.
 #[derive(Clone, Copy, Debug, PartialEq, Eq)]
 pub enum Form {
     /// In lines for people and editors.

@@ -8,7 +8,7 @@ ghost use Rattle.line_io.specs.declared.text_line.TheConstants.{ROOM};
 ghost use Rattle.wad_dir.specs.Entries.{names};
 ghost use Rattle.lens_engines.specs.Label.{IsLabelOf, entry_text, label_text};
 
-use crate::survey::label_of;
+use crate::opened::label_of;
 use le_rec::Name8;
 use level_starts::Holders;
 use line_io::TextLine;

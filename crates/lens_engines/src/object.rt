@@ -15,18 +15,16 @@ ghost use Rattle.lens_engines.specs.Unlooked.{unlooked_member};
 
 use crate::counts::{CodeCounts, code_at};
 use crate::json_string::write_string;
-use crate::judging::Warnings;
 use crate::kind::prepend_code;
+use crate::level_counts::LevelCounts;
 use crate::lines::write_both;
-use crate::unlooked::Unlooked;
-use crate::warned::Warned;
+use crate::tables::Tables;
 use crate::warned_members::write_warnings;
 use le_rec::{Name8, Sink};
 use level_starts::Format;
 use line_io::{IoFault, TextLine, emit};
 use map_level::search::CODE_COUNT;
-use map_level::{Code, Level, usual_name};
-use std::alloc::Allocator;
+use map_level::{Code, usual_name};
 use wad_dir::WadFault;
 
 /// Why a file is refused.
@@ -222,67 +220,54 @@ fn write_tag<W: Sink>(tag: &[u8; 4], out: &mut W) -> Result<(), IoFault>
 }
 
 /// Writes what the object of a level of Doom's format ends with.
-pub fn write_doom<A: Allocator, W: Sink>(
-    level: &Level<'_>,
-    counts: &CodeCounts,
-    warnings: Warnings,
-    warned: &[Warned<A>],
-    unlooked: Unlooked,
-    out: &mut W,
-) -> Result<(), IoFault>
+pub fn write_doom<W: Sink>(counted: &LevelCounts, out: &mut W) -> Result<(), IoFault>
     requires { (W.state out.old).failed ≡ false }
-    ensures { Writes (W.state out.old) (W.state out.new)
-        (doom_members level.now counts.now warnings warned.now unlooked) result }
+    ensures { Writes (W.state out.old) (W.state out.new) (doom_members counted.now) result }
 {
-    write_lumps(level, out)?;
-    write_end(counts, warnings, warned, unlooked, out)
+    write_lumps(&counted.tables, out)?;
+    write_end(counted, out)
 }
 
 // Writes the findings and the warnings, and the object's end.
-fn write_end<A: Allocator, W: Sink>(
-    counts: &CodeCounts,
-    warnings: Warnings,
-    warned: &[Warned<A>],
-    unlooked: Unlooked,
-    out: &mut W,
-) -> Result<(), IoFault>
+fn write_end<W: Sink>(counted: &LevelCounts, out: &mut W) -> Result<(), IoFault>
     requires { (W.state out.old).failed ≡ false }
     ensures { Writes (W.state out.old) (W.state out.new)
-        (found_members counts.now ++ (warnings_member warnings warned.now ++ (unlooked_member unlooked ++ codes "}\n"))) result }
+        (found_members counted.now.counts
+        ++ (warnings_member counted.now.warnings counted.now.warned ++ (unlooked_member counted.now.unlooked ++ codes "}\n"))) result }
 {
-    write_found(counts, out)?;
-    write_warnings(warnings, warned, out)?;
-    write_both(unlooked.member(), b"}\n", out)
+    write_found(&counted.counts, out)?;
+    write_warnings(counted.warnings, &counted.warned, out)?;
+    write_both(counted.unlooked.member(), b"}\n", out)
 }
 
 // Writes how many records or bytes the ten lumps have.
-fn write_lumps<W: Sink>(level: &Level<'_>, out: &mut W) -> Result<(), IoFault>
+fn write_lumps<W: Sink>(tables: &Tables, out: &mut W) -> Result<(), IoFault>
     requires { (W.state out.old).failed ≡ false }
-    ensures { Writes (W.state out.old) (W.state out.new) (flat_map (λ text. text) (lump_members level.now)) result }
+    ensures { Writes (W.state out.old) (W.state out.new) (flat_map (λ text. text) (lump_members tables.now)) result }
 {
     'lumps: for i in 0..10 {
-        write_count_of(level, i, out)?;
+        write_count_of(tables, i, out)?;
     }
     Ok(())
 }
 
 // Writes how many records or bytes lump i + 1 of the ten has.
-fn write_count_of<W: Sink>(level: &Level<'_>, i: usize, out: &mut W) -> Result<(), IoFault>
+fn write_count_of<W: Sink>(tables: &Tables, i: usize, out: &mut W) -> Result<(), IoFault>
     requires few { i < 10 }
     requires sound { (W.state out.old).failed ≡ false }
-    ensures { Writes (W.state out.old) (W.state out.new) (slice_index_or (lump_members level.now) i []) result }
+    ensures { Writes (W.state out.old) (W.state out.new) (slice_index_or (lump_members tables.now) i []) result }
 {
     match i {
-        0 => write_number(b"things", level.things().len() as u64, out),
-        1 => write_number(b"linedefs", level.linedefs().len() as u64, out),
-        2 => write_number(b"sidedefs", level.sidedefs().len() as u64, out),
-        3 => write_number(b"vertexes", level.vertexes().len() as u64, out),
-        4 => write_number(b"segs", level.segs().len() as u64, out),
-        5 => write_number(b"ssectors", level.ssectors().len() as u64, out),
-        6 => write_number(b"nodes", level.nodes().len() as u64, out),
-        7 => write_number(b"sectors", level.sectors().len() as u64, out),
-        8 => write_number(b"reject", level.reject().len() as u64, out),
-        _ => write_number(b"blockmap", level.blockmap().len() as u64, out),
+        0 => write_number(b"things", tables.things, out),
+        1 => write_number(b"linedefs", tables.linedefs, out),
+        2 => write_number(b"sidedefs", tables.sidedefs, out),
+        3 => write_number(b"vertexes", tables.vertexes, out),
+        4 => write_number(b"segs", tables.segs, out),
+        5 => write_number(b"ssectors", tables.ssectors, out),
+        6 => write_number(b"nodes", tables.nodes, out),
+        7 => write_number(b"sectors", tables.sectors, out),
+        8 => write_number(b"reject", tables.reject, out),
+        _ => write_number(b"blockmap", tables.blockmap, out),
     }
 }
 

@@ -1,7 +1,7 @@
 //! Which warnings weren't looked for.
 
 ghost use Rattle.std.specs.Prelude.{◌≡◌, length, ◌≤◌};
-ghost use Rattle.lens_engines.specs.Unlooked.{AreUnlooked, none_unlooked, unlooked_member, unlooked_with};
+ghost use Rattle.lens_engines.specs.Unlooked.{AreUnlooked, is_none, none_unlooked, unlooked_member, unlooked_note, unlooked_with};
 
 use crate::ignored::Ignored;
 use map_warnings::{Resources, WarningCode};
@@ -40,6 +40,13 @@ impl Unlooked {
         }
     }
 
+    /// Whether all were looked for.
+    pub fn is_none(self) -> bool
+        ensures { result ≡ is_none self }
+    {
+        !self.textures && !self.flats
+    }
+
     /// Both together.
     pub fn with(self, other: Unlooked) -> Unlooked
         ensures { result ≡ unlooked_with self other }
@@ -59,6 +66,24 @@ impl Unlooked {
             (true, true) => b",\"unlooked\":[\"W9\",\"W10\"]",
             (true, false) => b",\"unlooked\":[\"W9\"]",
             (false, true) => b",\"unlooked\":[\"W10\"]",
+            (false, false) => b"",
+        }
+    }
+
+    /// Which weren't, why, and how to have them looked for. It is empty if all were.
+    pub fn note(self) -> &'static [u8]
+        ensures { result.now ≡ unlooked_note self }
+    {
+        match (self.textures, self.flats) {
+            (true, true) => {
+                b"W9, W10 weren't looked for: no file has TEXTURE1, F_START; name the game's with --base"
+            }
+            (true, false) => {
+                b"W9 weren't looked for: no file has TEXTURE1; name the game's with --base"
+            }
+            (false, true) => {
+                b"W10 weren't looked for: no file has F_START; name the game's with --base"
+            }
             (false, false) => b"",
         }
     }

@@ -233,8 +233,8 @@ fn warned_by<A: Allocator + Copy>(
     Ok(all)
 }
 
-// The code of a rank.
-fn code_at(rank: usize) -> WarningCode
+/// The code of a rank.
+pub(crate) fn code_at(rank: usize) -> WarningCode
     requires { rank < 11 }
     ensures { result ≡ slice_index_or warning_order rank W1 }
 {

@@ -1,53 +1,54 @@
 //! The warnings of an object.
 
 ghost use Rattle.std.specs.Prelude.{◌≡◌, ◌≤◌, ◌++◌, false, length};
-ghost use Rattle.std.specs.List.{join_with_byte};
 ghost use Rattle.line_io.specs.Writes.{Writes};
-ghost use Rattle.lens_engines.specs.Objects.{warned_member, warned_members, warnings_member};
+ghost use Rattle.lens_engines.specs.Objects.{warned_member, warned_text, warnings_member};
 ghost use Rattle.lens_engines.specs.declared.judging.Warnings.TheVariants as warnings;
 
+use crate::ignored::WARNING_COUNT;
 use crate::judging::Warnings;
-use crate::warned::Warned;
+use crate::warned::code_at;
+use crate::warning_counts::WarningCounts;
 use crate::warning_lines::warning_name;
 use le_rec::Sink;
 use line_io::{IoFault, TextLine, emit};
-use std::alloc::Allocator;
+use map_warnings::WarningCode;
 
 /// `,"warnings":{<codes>}`, where they are asked for.
-pub fn write_warnings<A: Allocator, W: Sink>(
+pub fn write_warnings<W: Sink>(
     warnings: Warnings,
-    all: &[Warned<A>],
+    warned: &WarningCounts,
     out: &mut W,
 ) -> Result<(), IoFault>
     requires { (W.state out.old).failed ≡ false }
-    ensures { Writes (W.state out.old) (W.state out.new) (warnings_member warnings all.now) result }
+    ensures { Writes (W.state out.old) (W.state out.new) (warnings_member warnings warned.now) result }
 {
     match warnings {
         Warnings::Unasked => emit(out, b""),
-        Warnings::Told | Warnings::Strict => write_member(all, out),
+        Warnings::Told | Warnings::Strict => write_member(warned, out),
     }
 }
 
-fn write_member<A: Allocator, W: Sink>(all: &[Warned<A>], out: &mut W) -> Result<(), IoFault>
+fn write_member<W: Sink>(warned: &WarningCounts, out: &mut W) -> Result<(), IoFault>
     requires { (W.state out.old).failed ≡ false }
-    ensures { Writes (W.state out.old) (W.state out.new) (warnings_member warnings.Told all.now) result }
+    ensures { Writes (W.state out.old) (W.state out.new) (warnings_member warnings.Told warned.now) result }
 {
     emit(out, b",\"warnings\":{")?;
-    write_codes(all, out)?;
+    write_codes(warned, out)?;
     emit(out, b"}")
 }
 
-// Writes the codes that have warnings, each with how many, and commas between them.
-fn write_codes<A: Allocator, W: Sink>(all: &[Warned<A>], out: &mut W) -> Result<(), IoFault>
+// Writes the codes of which there are warnings, each with how many, and commas between them.
+fn write_codes<W: Sink>(warned: &WarningCounts, out: &mut W) -> Result<(), IoFault>
     requires { (W.state out.old).failed ≡ false }
-    ensures { Writes (W.state out.old) (W.state out.new) (join_with_byte 44 (warned_members all.now)) result }
+    ensures { Writes (W.state out.old) (W.state out.new) (warned_text warned.now) result }
 {
     let mut separator: &[u8] = b"";
-    'codes: for i in 0..all.len() {
-        let warned = &all[i];
-        let count = warned.count();
+    'codes: for rank in 0..WARNING_COUNT {
+        let code = code_at(rank);
+        let count = warned.get(code);
         if count > 0 {
-            write_code(separator, warned, out)?;
+            write_code(separator, code, count, out)?;
             separator = b",";
         }
     }
@@ -55,19 +56,20 @@ fn write_codes<A: Allocator, W: Sink>(all: &[Warned<A>], out: &mut W) -> Result<
 }
 
 // `<separator>"<code>":<count>`
-fn write_code<A: Allocator, W: Sink>(
+fn write_code<W: Sink>(
     separator: &[u8],
-    warned: &Warned<A>,
+    code: WarningCode,
+    count: u64,
     out: &mut W,
 ) -> Result<(), IoFault>
     requires short { length separator.now ≤ 1 }
     requires sound { (W.state out.old).failed ≡ false }
-    ensures { Writes (W.state out.old) (W.state out.new) (separator.now ++ warned_member warned.now) result }
+    ensures { Writes (W.state out.old) (W.state out.new) (separator.now ++ warned_member code count) result }
 {
     let mut line = TextLine::new();
-    line.prepend_natural(warned.count() as u64);
+    line.prepend_natural(count);
     line.prepend_bytes(b"\":");
-    line.prepend_bytes(warning_name(warned.code()));
+    line.prepend_bytes(warning_name(code));
     line.prepend_bytes(b"\"");
     line.prepend_bytes(separator);
     emit(out, line.as_bytes())

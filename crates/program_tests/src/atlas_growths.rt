@@ -2,12 +2,11 @@
 
 use crate::compare::{check_bytes, check_same, contains};
 use crate::sample::{UDMF, base, lumps, pack_three};
-use atlas_page::{
-    Found, Judged, Origin, Page, Refused, Row, Tables, WarningCounts, push_rows, write_page,
-};
+use atlas_page::{Origin, Page, Refused, Row, push_rows, write_page};
 use le_rec::{Name8, Sink};
 use lens_engines::{
-    Base, FileRefusal, Ignored, Judging, Rules, Warnings, asked_resources, over_base,
+    Base, CodeCounts, FileRefusal, Ignored, Judging, LevelCounts, Rules, Surveyed, Tables,
+    WarningCounts, Warnings, asked_resources, over_base,
 };
 use level_starts::Format;
 use line_io::IoFault;
@@ -64,6 +63,8 @@ const TABLES: Tables = Tables {
     ssectors: 2,
     nodes: 1,
     sectors: 2,
+    reject: 1,
+    blockmap: 16,
 };
 
 // The sample level, one of UDMF, and the sample level again.
@@ -97,7 +98,7 @@ fn add_rows<'h, 'b>(
     push_rows(heap, &origin, &set, &resources, rows)
 }
 
-fn check_judged(rt: &impl Abort, judged: &Judged) {
+fn check_judged(rt: &impl Abort, judged: &LevelCounts) {
     check_same(rt, judged.tables, TABLES);
     check_same(rt, (judged.counts.faults(), judged.counts.notes()), (0, 0));
     check_same(rt, judged.warned, WARNED);
@@ -108,11 +109,11 @@ fn check_row(rt: &impl Abort, row: &Row<'_>, entry: u64) {
     check_same(rt, (row.file, row.entry), (3, entry));
     check_bytes(rt, row.path, b"a.wad");
     match &row.found {
-        Found::Judged(judged) => {
+        Surveyed::Judged(judged) => {
             check_same(rt, row.name, Name8::query(b"E1M1"));
             check_judged(rt, judged);
         }
-        Found::Unjudged(unjudged) => {
+        Surveyed::Unjudged(unjudged) => {
             check_same(rt, (row.name, entry), (Name8::query(b"MAP01"), 11));
             check_same(rt, unjudged.format(), Format::Udmf);
         }
@@ -169,7 +170,8 @@ fn warned(
 ) -> Option<WarningCounts> {
     let heap = Refusing::new(rt.alloc(), n);
     let base = Base::none();
-    let counted = WarningCounts::of(&heap, level, &None, judging(&base, warnings));
+    let counts = CodeCounts::of(rt.alloc(), level).expect(rt, "the counts of its findings");
+    let counted = WarningCounts::of(&heap, level, &None, &counts, judging(&base, warnings));
     check_same(rt, counted.is_err(), heap.has_refused());
     counted.ok()
 }

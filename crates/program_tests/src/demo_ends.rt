@@ -3,8 +3,9 @@
 use crate::compare::{check_bytes, check_same};
 use crate::demo_cases::TWO;
 use crate::sample::pack;
-use demo_engines::{AtOnce, DemoQuestion, DemosFault, Telling, Unwatched, demos_file};
+use demo_engines::{AtOnce, DemoQuestion, DemosFault, Unwatched, demos_file};
 use le_rec::Sink;
+use lens_engines::Form;
 use std::process::Abort;
 use test_streams::SliceSink;
 
@@ -28,7 +29,7 @@ const OBJECT: usize = 115;
 // That telling three demos ends so where the ends have room for so many bytes each, and what both took then.
 fn check_ends(
     rt: &(impl Abort + AllocGlobal),
-    telling: Telling,
+    form: Form,
     room: (usize, usize),
     ended: Result<bool, DemosFault>,
     answer: &[u8],
@@ -47,7 +48,7 @@ fn check_ends(
     assert!(rt; fresh);
     let question = DemoQuestion {
         path: b"a.wad",
-        telling,
+        form,
     };
     let result = demos_file(
         rt.alloc(),
@@ -64,10 +65,10 @@ fn check_ends(
 
 #[test]
 fn demos_in_order(rt: HostRuntime) {
-    check_ends(&rt, Telling::Lines, (1024, 1024), Ok(false), LINES, MESSAGE);
+    check_ends(&rt, Form::Lines, (1024, 1024), Ok(false), LINES, MESSAGE);
     check_ends(
         &rt,
-        Telling::Objects,
+        Form::Objects,
         (1024, 1024),
         Ok(false),
         OBJECTS,
@@ -80,29 +81,22 @@ fn demos_in_order(rt: HostRuntime) {
 fn errors_full(rt: HostRuntime) {
     let (first, front) = (&LINES[..LINE], &MESSAGE[..20]);
     let full = Err(DemosFault::Errors);
-    check_ends(&rt, Telling::Lines, (1024, 20), full, first, front);
+    check_ends(&rt, Form::Lines, (1024, 20), full, first, front);
     let first = &OBJECTS[..OBJECT];
-    check_ends(&rt, Telling::Objects, (1024, 20), full, first, front);
+    check_ends(&rt, Form::Objects, (1024, 20), full, first, front);
 }
 
 #[test]
 fn output_full(rt: HostRuntime) {
     let read = Err(DemosFault::Write(true));
-    check_ends(&rt, Telling::Lines, (5, 1024), read, &LINES[..5], b"");
+    check_ends(&rt, Form::Lines, (5, 1024), read, &LINES[..5], b"");
     let unread = Err(DemosFault::Write(false));
     let front = &LINES[..LINE + 5];
-    check_ends(
-        &rt,
-        Telling::Lines,
-        (LINE + 5, 1024),
-        unread,
-        front,
-        MESSAGE,
-    );
+    check_ends(&rt, Form::Lines, (LINE + 5, 1024), unread, front, MESSAGE);
     let front = &OBJECTS[..OBJECT + 5];
     check_ends(
         &rt,
-        Telling::Objects,
+        Form::Objects,
         (OBJECT + 5, 1024),
         unread,
         front,

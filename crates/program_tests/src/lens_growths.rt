@@ -4,10 +4,10 @@
 use crate::compare::{check_bytes, check_same};
 use crate::demo_cases::TWO;
 use crate::sample::{LINE_WITHOUT_SIDE_1, base, base_with, pack};
-use demo_engines::{AtOnce, DemoQuestion, DemosFault, Telling, Unwatched, demos_file};
+use demo_engines::{AtOnce, DemoQuestion, DemosFault, Unwatched, demos_file};
 use le_rec::{Name8, Sink};
 use lens_engines::{
-    Base, CodeCounts, CutFault, Ignored, Rules, Warned, Warnings, asked_warnings, cut_level,
+    Base, CodeCounts, CutFault, Form, Ignored, Rules, Warned, Warnings, asked_warnings, cut_level,
     warned_total, warnings_of,
 };
 use map_level::{Level, Reading};
@@ -161,10 +161,10 @@ fn cut_refused(rt: HostRuntime) {
     assert!(&rt; 0 < met && met < 98);
 }
 
-// How telling the demos of a file ends where growth `n` is refused, and whether it was: then nothing was written.
+// How the report on the demos of a file ends where growth `n` is refused, and whether it was: then nothing was written.
 fn demos_end(
     rt: &(impl Abort + AllocGlobal),
-    telling: Telling,
+    form: Form,
     file: &[u8],
     text: &[u8],
     n: u64,
@@ -178,7 +178,7 @@ fn demos_end(
     assert!(rt; fresh);
     let question = DemoQuestion {
         path: b"a.wad",
-        telling,
+        form,
     };
     let all_read = demos_file(
         &heap,
@@ -204,24 +204,24 @@ fn demos_end(
 }
 
 // A file that is a WAD file takes one growth, and a demo none.
-fn check_demos(rt: &(impl Abort + AllocGlobal), telling: Telling, text: &[u8], alone: &[u8]) {
+fn check_demos(rt: &(impl Abort + AllocGlobal), form: Form, text: &[u8], alone: &[u8]) {
     let file = pack(rt, &[(b"DEMO1", &TWO)]);
-    assert!(rt; demos_end(rt, telling, &file, text, 1));
-    assert!(rt; !demos_end(rt, telling, &file, text, 2));
-    assert!(rt; !demos_end(rt, telling, &TWO, alone, 1));
+    assert!(rt; demos_end(rt, form, &file, text, 1));
+    assert!(rt; !demos_end(rt, form, &file, text, 2));
+    assert!(rt; !demos_end(rt, form, &TWO, alone, 1));
 }
 
 #[test]
 fn demos_refused(rt: HostRuntime) {
     check_demos(
         &rt,
-        Telling::Lines,
+        Form::Lines,
         b"a.wad: DEMO1: version 109, skill 3, episode 1, map 1, 1 player, 2 tics, 0:00.05, after 1\n",
         b"a.wad: version 109, skill 3, episode 1, map 1, 1 player, 2 tics, 0:00.05, after 1\n",
     );
     check_demos(
         &rt,
-        Telling::Objects,
+        Form::Objects,
         b"{\"file\":\"a.wad\",\"lump\":\"DEMO1\",\"version\":109,\"skill\":3,\"episode\":1,\"map\":1,\"players\":1,\"tics\":2,\"odd\":0,\"after\":1}\n",
         b"{\"file\":\"a.wad\",\"version\":109,\"skill\":3,\"episode\":1,\"map\":1,\"players\":1,\"tics\":2,\"odd\":0,\"after\":1}\n",
     );

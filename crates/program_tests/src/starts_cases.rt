@@ -2,7 +2,7 @@
 
 use crate::compare::check_same;
 use crate::sample::{Lump, NODES, UDMF, base, base_with, lumps, outside_at, pack, pack_both};
-use level_starts::{Format, format_of, next_start};
+use level_starts::{Format, LevelStarts, format_of, next_start};
 use map_level::{Level, Reading};
 use std::process::Abort;
 use wad_dir::Set;
@@ -24,9 +24,20 @@ fn check_set(rt: &impl Abort, set: &Set<'_>, wanted: &[(usize, Format)]) {
     check_same(rt, next(set, from), None);
 }
 
+// A set's levels start where it is wanted, one after another, and then there are no more.
+fn check_starts(rt: &impl Abort, set: &Set<'_>, wanted: &[(usize, Format)]) {
+    let mut starts = LevelStarts::of(set);
+    for (g, _) in wanted {
+        check_same(rt, starts.next(), Some(*g));
+    }
+    check_same(rt, starts.next(), None);
+    check_same(rt, starts.next(), None);
+}
+
 fn check(rt: &(impl Abort + AllocGlobal), file: &[u8], wanted: &[(usize, Format)]) {
     let set = Set::one(rt.alloc(), file).expect(rt, "a set of the file");
     check_set(rt, &set, wanted);
+    check_starts(rt, &set, wanted);
 }
 
 // A file's only level starts at its first entry, and is of that format.

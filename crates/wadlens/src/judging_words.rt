@@ -31,7 +31,7 @@ pub fn ignore_word<'a>(alloc: Global) -> Arg<'a> {
         .value_delimiter(',')
         .value_parser(IGNORABLE)
         .hide_possible_values(true)
-        .help("Neither show nor count these notes and warnings, as N2,W7")
+        .help("Ignore these notes and warnings, as N2,W7")
 }
 
 // The option `--map`, which asks for warnings.
@@ -39,7 +39,7 @@ fn map_word<'a>(alloc: Global) -> Arg<'a> {
     Arg::new(alloc, "map")
         .long("map")
         .action(ArgAction::SetTrue)
-        .help("Tell warnings, too: what references allow and no mapper wants")
+        .help("Also report likely mapping mistakes: warnings")
 }
 
 // The option `--strict`: a warning ends a run as a fault does.
@@ -57,9 +57,7 @@ fn base_word<'a>(alloc: Global) -> Result<Arg<'a>, AllocError> {
         .long("base")
         .value_name("FILE")
         .action(ArgAction::Append)
-        .help(
-            "A file on which every FILE stands, as a game's IWAD: its textures and flats count, too",
-        )
+        .help("A file that every FILE stands on, as its game's: its textures and flats count, too")
         .requires_arg("map")
 }
 

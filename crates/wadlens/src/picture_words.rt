@@ -34,9 +34,7 @@ pub fn picture_command<'a>(alloc: Global) -> Result<Command<'a>, AllocError> {
         .action(ArgAction::Append)
         .num_args(1..)
         .required(true)
-        .help(
-            "The files, at most 64, which form one set: a later one hides the names of those before it",
-        );
+        .help("The files, at most 64, in one set: a later one hides the names of those before it");
     Command::new(alloc, "picture")
         .about("Draw a level as an SVG on standard output")
         .arg(wide)?

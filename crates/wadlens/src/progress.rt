@@ -1,7 +1,7 @@
 //! The line that shows how far a run is. It is rewritten in place.
 
 use lens_commands::Watch;
-use level_starts::next_start;
+use level_starts::LevelStarts;
 use std::alloc::Allocator;
 use std::io::Write;
 use wad_dir::Set;
@@ -76,13 +76,8 @@ fn count_levels<A: Allocator + Copy>(alloc: A, bytes: &[u8]) -> u64 {
         return 0;
     };
     let mut levels: u64 = 0;
-    let mut from = 0;
-    for _ in 0..set.total() {
-        let Some(g) = next_start(&set, from) else {
-            break;
-        };
+    for _ in LevelStarts::of(&set) {
         levels = levels.saturating_add(1);
-        from = g.saturating_add(1);
     }
     levels
 }

@@ -32,7 +32,7 @@ pub fn cells_word<'a>(alloc: Global) -> Arg<'a> {
         .long("cells")
         .value_name("N")
         .value_parser(value_parser!(u32).range(1..=1024))
-        .help("Draw at most N cells along the longer side [512 where it isn't given]")
+        .help("Draw at most N cells along the longer side [default: 512]")
 }
 
 /// How many cells a command's arguments ask for.

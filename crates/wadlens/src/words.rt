@@ -111,7 +111,7 @@ fn check_command<'a>(alloc: Global) -> Result<Command<'a>, AllocError> {
         .value_name("N")
         .value_parser(value_parser!(u64))
         .help(
-            "Show at most N findings, or warnings, of one code in one level, 0: all [20 where it isn't given]",
+            "Show at most N findings or warnings of one code in one level; 0 shows all [default: 20]",
         );
     let json = Arg::new(alloc, "json")
         .long("json")
@@ -123,7 +123,7 @@ fn check_command<'a>(alloc: Global) -> Result<Command<'a>, AllocError> {
         .help("Write nothing to standard output: the status says what was found")
         .conflicts_with("json")?;
     let check = Command::new(alloc, "check")
-        .about("Tell the findings of each level, a line each")
+        .about("Report what is wrong with each level, a line for each finding")
         .arg(most)?
         .arg(json)?
         .arg(quiet)?
@@ -146,7 +146,7 @@ fn demos_command<'a>(alloc: Global) -> Result<Command<'a>, AllocError> {
         .action(ArgAction::SetTrue)
         .help("Write a JSON object a line for each demo");
     let demos = Command::new(alloc, "demos")
-        .about("Tell each demo in a line: demo files, and the demos in WAD files")
+        .about("List demos, one a line: demo files, and the demos in WAD files")
         .arg(json)?;
     with_files(alloc, demos)
 }
@@ -162,7 +162,7 @@ fn compare_command<'a>(alloc: Global) -> Result<Command<'a>, AllocError> {
         .required(true)
         .help("Another one");
     Command::new(alloc, "compare")
-        .about("Tell where two demo files first differ, in a line")
+        .about("Report where two demo files first differ, in one line")
         .arg(a)?
         .arg(b)
 }
@@ -170,7 +170,7 @@ fn compare_command<'a>(alloc: Global) -> Result<Command<'a>, AllocError> {
 // The command `assemble`, which takes no arguments.
 fn assemble_command<'a>(alloc: Global) -> Command<'a> {
     Command::new(alloc, "assemble").about(
-        "Write the demo of which standard input is the listing, as `wadlook demo` prints it, on standard output",
+        "Make a demo from a listing on standard input, as `wadlook demo` prints it",
     )
 }
 
@@ -187,7 +187,7 @@ fn cut_command<'a>(alloc: Global) -> Result<Command<'a>, AllocError> {
         .required(true)
         .help("A WAD file");
     Command::new(alloc, "cut")
-        .about("Write the level whose label is entry G alone, as a WAD file, on standard output")
+        .about("Extract one level, even a hidden one, as a WAD file on standard output")
         .arg(entry)?
         .arg(file)
 }
@@ -221,7 +221,7 @@ fn list_word<'a>(alloc: Global) -> Arg<'a> {
     Arg::new(alloc, "files-from")
         .long("files-from")
         .value_name("LIST")
-        .help("Then the files whose paths stand in LIST, one a line; `-`: standard input")
+        .help("After FILE... take the paths in LIST, one a line; `-` is standard input")
 }
 
 // The option `--null`: the paths of that list end in NULs.
@@ -238,7 +238,7 @@ fn progress_word<'a>(alloc: Global) -> Arg<'a> {
     Arg::new(alloc, "progress")
         .long("progress")
         .action(ArgAction::SetTrue)
-        .help("Tell on standard error how many files and levels are done")
+        .help("Show on standard error how many files and levels are done")
 }
 
 // What the arguments ask for. Values that are read here without a default are required.

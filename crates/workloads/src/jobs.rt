@@ -12,7 +12,7 @@ use crate::varied::varied;
 use lens_engines::{
     Base, Form, Ignored, Question, Rules, Warnings, check_file, label_of, level_at,
 };
-use level_starts::{Format, format_of, next_start};
+use level_starts::{Format, LevelStarts, format_of};
 use map_cells::{CellCount, Frame};
 use map_level::{Level, Reading};
 use map_picture::{View, draw_level};
@@ -95,13 +95,8 @@ fn draw_levels(
     random: &mut Random,
     digest: &mut Digest,
 ) -> Result<(), Fault> {
-    for g in 0..set.total() {
-        let Some(start) = next_start(set, g) else {
-            return Ok(());
-        };
-        if start == g {
-            draw_start(alloc, set, start, random, digest)?;
-        }
+    'levels: for start in LevelStarts::of(set) {
+        draw_start(alloc, set, start, random, digest)?;
     }
     Ok(())
 }
@@ -192,15 +187,10 @@ fn ask_levels(
 ) -> Result<(), Fault>
     requires { length files.now ≤ 1 }
 {
-    for g in 0..set.total() {
-        let Some(start) = next_start(set, g) else {
-            return Ok(());
-        };
-        if start == g {
-            let mut text = [0; 32];
-            let len = label_of(set, start).shown(&mut text);
-            ask_level(alloc, job, files, &text[..len], lines, digest)?;
-        }
+    'levels: for start in LevelStarts::of(set) {
+        let mut text = [0; 32];
+        let len = label_of(set, start).shown(&mut text);
+        ask_level(alloc, job, files, &text[..len], lines, digest)?;
     }
     Ok(())
 }

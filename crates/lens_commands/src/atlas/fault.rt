@@ -3,6 +3,7 @@
 ghost use Rattle.std.specs.Prelude.{◌≡◌};
 
 use std::alloc::AllocError;
+use wad_dir::WadFault;
 
 /// Why an atlas isn't whole.
 #[derive(Clone, Copy, Debug, PartialEq, Eq)]
@@ -22,6 +23,15 @@ pub enum KeepFault {
     Memory,
     /// It can't be written.
     Write,
+}
+
+/// Why the levels of a file aren't all in an atlas.
+#[derive(Clone, Copy, Debug, PartialEq, Eq)]
+pub enum FileFault {
+    /// Its bytes have no directory. Nothing was written.
+    NoWad(WadFault),
+    /// A file of the folder isn't whole.
+    Keep(KeepFault),
 }
 
 impl From<KeepFault> for AtlasFault {

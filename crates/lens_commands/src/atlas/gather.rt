@@ -1,29 +1,30 @@
 //! What goes from each file onto the page and into the folder.
 
-ghost use Rattle.std.specs.Prelude.{◌≡◌, ◌≤◌, ◌++◌, true, [], ◌∷◌, IfErr, IfOk, OnOk, OnErr, map};
+ghost use Rattle.std.specs.Prelude.{◌≡◌, ◌≤◌, ◌++◌, false, true, [], ◌∷◌, IfErr, IfOk, Ok, OnOk, OnErr, length, map};
+ghost use Rattle.atlas_page.specs.Levels.{AddsRows};
+ghost use Rattle.wad_dir.specs.Entries.{names};
+ghost use Rattle.lens_engines.specs.Survey.{SurveysFile};
 ghost use Rattle.lens_commands.specs.Atlas.{survey_of};
 ghost use Rattle.lens_commands.specs.Files.{at_path, stored};
-ghost use Rattle.lens_commands.specs.Gathered.{AddsFront, AddsLevels, AddsPath, AddsSome, GathersAll, GathersSome};
-ghost use Rattle.lens_commands.specs.Until.{LeavesPath, LeavesRefused, StopsAtFile, stop_fault};
-ghost use Rattle.lens_commands.specs.Run.{AreSound, TellsPath, ToldTo, WritesRefusal};
+ghost use Rattle.lens_commands.specs.Gathered.{AddsFront, AddsLevels, AddsPath, GathersAll, GathersSome};
+ghost use Rattle.lens_commands.specs.Until.{LeavesLevels, LeavesPath, LeavesRefused, StopsAtFile, stop_fault};
+ghost use Rattle.lens_commands.specs.Run.{AreSound, TellsPath, ToldTo, WritesRefusal, survey_tally};
 ghost use Rattle.lens_commands.specs.declared.tell.Word.TheVariants.{Survey};
 
-use crate::atlas::fault::{AtlasFault, KeepFault};
+use crate::atlas::fault::{AtlasFault, FileFault, KeepFault};
 use crate::atlas::folder::Folder;
 use crate::atlas::job::AtlasRequest;
+use crate::atlas::lines::write_lines;
 use crate::atlas::pictures::draw_rows;
-use crate::{
-    BytesFault, ReadFault, Request, Stop, Tally, Word, no_tally, read_path, tell_bytes,
-    tell_refusal,
-};
+use crate::{ReadFault, Stop, Tally, Word, no_tally, read_path, tell_refusal};
 use atlas_page::{Origin, Refused, Row, push_rows};
 use demo_engines::{HandOn, Watch};
 use le_rec::Sink;
-use lens_engines::{FileRefusal, Judging, asked_resources, over_base};
+use lens_engines::{FileRefusal, Verdict, asked_resources, over_base};
 use line_io::Storage;
 use map_cells::CellCount;
-use std::alloc::Global;
-use wad_dir::Set;
+use std::alloc::{AllocError, Global};
+use wad_dir::{Set, SetFault};
 
 /// What goes onto the page from some files.
 #[derive(Drop)]
@@ -115,30 +116,27 @@ fn add_path<'p, S: Storage, F: Folder, E: Sink, P: Watch>(
 {
     match read_path(Vec::new(alloc), storage, origin.path) {
         Ok(bytes) => {
-            match tell_bytes(
+            match add_levels(
                 alloc,
-                survey_of(origin.judging),
-                origin.path,
+                cells,
+                origin,
                 &bytes,
+                &mut gathered.rows,
                 survey,
-                errors,
-                watch,
+                folder,
             ) {
-                Ok(tally) => {
-                    add_levels(alloc, cells, origin, &bytes, &mut gathered.rows, folder)?;
+                Ok(verdict) => {
                     watch.add(alloc, &bytes);
-                    Ok(tally)
+                    Ok(survey_tally(verdict))
                 }
-                Err(BytesFault::NoWad(why)) => {
+                Err(FileFault::NoWad(why)) => {
                     let refused = Refused {
                         path: origin.path,
                         why: FileRefusal::NoWad(why),
                     };
                     add_refused(refused, &mut gathered.refused, survey, errors, watch)
                 }
-                Err(BytesFault::Output(_)) => Err(AtlasFault::Write),
-                Err(BytesFault::Errors) => Err(AtlasFault::Errors),
-                Err(BytesFault::Memory) => Err(AtlasFault::Memory),
+                Err(FileFault::Keep(fault)) => Err(AtlasFault::from(fault)),
             }
         }
         Err(ReadFault::Refused(why)) => {
@@ -152,43 +150,68 @@ fn add_path<'p, S: Storage, F: Folder, E: Sink, P: Watch>(
     }
 }
 
-// What is asked of the files: their survey.
-fn survey_of(judging: Judging<'_>) -> Request<'_>
-    ensures { result ≡ survey_of judging.entry }
+// The tally of a file whose survey has this verdict.
+fn survey_tally(verdict: Verdict) -> Tally
+    ensures { result ≡ survey_tally verdict }
 {
-    Request {
-        word: Word::Survey,
-        judging,
+    Tally {
+        verdict,
+        totals: no_tally().totals,
     }
 }
 
-// Adds the levels of a file's bytes, and draws them.
+// Adds the levels of a file's bytes: their rows, then their lines of the survey, and then their pictures.
 fn add_levels<'p, F: Folder>(
     alloc: Global,
     cells: CellCount,
     origin: &Origin<'p, '_>,
     bytes: &[u8],
     rows: &mut Vec<Row<'p>>,
+    survey: &mut F::File,
     folder: &mut F,
-) -> Result<(), KeepFault>
+) -> Result<Verdict, FileFault>
     requires taken { F.taken folder.old ≡ true }
+    requires sound { (F.File.state survey.old).failed ≡ false }
     ensures taken { F.taken folder.new ≡ true }
+    ensures told { IfOk result (λ verdict. SurveysFile origin.now.path.now bytes.now origin.now.judging
+        (F.File.state survey.old) (F.File.state survey.new) (Ok verdict)) }
+    ensures sound { OnOk result ((F.File.state survey.new).failed ≡ false) }
     ensures adds { OnOk result (AddsLevels cells origin.now bytes.now rows.old.items rows.new.items (F.kept folder.old) (F.kept folder.new)) }
-    ensures front { OnErr result (AddsSome cells origin.now bytes.now (F.kept folder.old) (F.kept folder.new)) }
+    ensures left { IfErr result (LeavesLevels F.File.state cells origin.now bytes.now survey.old survey.new
+        rows.old.items rows.new.items (F.kept folder.old) (F.kept folder.new)) }
 {
-    // The directory was read before, so memory has run out.
-    let Ok(set) = Set::one(alloc, bytes) else {
-        return Err(KeepFault::Memory);
-    };
-    let Ok(known) = over_base(alloc, origin.judging.base, &set) else {
-        return Err(KeepFault::Memory);
-    };
-    let Ok(resources) = asked_resources(alloc, &known, origin.judging.warnings) else {
-        return Err(KeepFault::Memory);
+    let set = match Set::one(alloc, bytes) {
+        Ok(set) => set,
+        Err(SetFault::File(_, why)) => return Err(FileFault::NoWad(why)),
+        Err(SetFault::Memory) => return Err(FileFault::Keep(KeepFault::Memory)),
     };
     let before = rows.len();
-    push_rows(alloc, origin, &set, &resources, rows)?;
-    draw_rows(alloc, cells, origin, &set, &rows[before..], folder)
+    let Ok(()) = add_rows(alloc, origin, &set, rows) else {
+        return Err(FileFault::Keep(KeepFault::Memory));
+    };
+    let added = &rows[before..];
+    let Ok(verdict) = write_lines(added, survey) else {
+        return Err(FileFault::Keep(KeepFault::Write));
+    };
+    match draw_rows(alloc, cells, origin, &set, added, folder) {
+        Ok(()) => Ok(verdict),
+        Err(fault) => Err(FileFault::Keep(fault)),
+    }
+}
+
+// Adds the rows of a set's levels.
+fn add_rows<'p>(
+    alloc: Global,
+    origin: &Origin<'p, '_>,
+    set: &Set<'_>,
+    rows: &mut Vec<Row<'p>>,
+) -> Result<(), AllocError>
+    requires { length set.now ≡ 1 }
+    ensures { OnOk result (AddsRows origin.now set.now (length (names set.now)) rows.old.items rows.new.items) }
+{
+    let known = over_base(alloc, origin.judging.base, set)?;
+    let resources = asked_resources(alloc, &known, origin.judging.warnings)?;
+    push_rows(alloc, origin, set, &resources, rows)
 }
 
 // Reports that a file is refused, and adds it to the refused ones.

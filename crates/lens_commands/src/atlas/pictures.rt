@@ -2,7 +2,8 @@
 
 ghost use Rattle.std.specs.Prelude.{◌≡◌, ◌≤◌, true, All, OnOk, OnErr};
 ghost use Rattle.lens_commands.specs.AtlasPictures.{DrawsFile, DrawsRow, DrawsRows, DrawsSome, fault_of};
-ghost use Rattle.atlas_page.specs.Levels.{HasLines, IsRow};
+ghost use Rattle.atlas_page.specs.Levels.{IsRow};
+ghost use Rattle.lens_engines.specs.LevelCounts.{HasLines};
 
 use crate::atlas::fault::KeepFault;
 use crate::atlas::folder::Folder;

@@ -8,7 +8,7 @@ pub returns-in-Ok : goal.returns-in-Ok
 returns-in-Ok g c = record {
   told = told_read (asked_of c.args.question.now) c.args.lump c.args.bytes.now c.in-Ok.demo (g.W.Sink.state c.args.out.now) (g.W.Sink.state c.tell_read.new.out)
       (g.E.Sink.state c.args.errors.now) c.tell_read.result ((c.in-Ok.ensures.ok c.in-Ok.demo).0 refl) c.requires.refusals c.tell_read.ensures;
-  handed = answered_handed (read_text c.args.question.now.telling c.args.question.now.path.now c.args.lump c.in-Ok.demo) true (g.W.Sink.state c.args.out.now) (g.W.Sink.state c.tell_read.new.out)
+  handed = answered_handed (read_text c.args.question.now.form c.args.question.now.path.now c.args.lump c.in-Ok.demo) true (g.W.Sink.state c.args.out.now) (g.W.Sink.state c.tell_read.new.out)
       c.tell_read.result _ c.tell_read.ensures;
 }
 

@@ -11,4 +11,4 @@ returns-in-Ok g c =
     c.in-Ok.tally c.finish-in-Ok.result (sym (length-map c.args.paths.now (λ path. path.now))) c.in-Ok.ensures.told c.finish-in-Ok.ensures)
 
 pub returns-in-Err : goal.returns-in-Err
-returns-in-Err g c = inr (record { stop = c.in-Err.stop; stops = c.in-Err.ensures.stopped; ended = ap Err c.stop_end.ensures })
+returns-in-Err g c = inr (record { stop = c.in-Err.stop; stops = c.in-Err.ensures.stopped; handed = c.in-Err.ensures.handed; ended = ap Err c.stop_end.ensures })

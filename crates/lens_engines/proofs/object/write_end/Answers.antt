@@ -10,12 +10,12 @@ use Rattle.lens_engines.proofs.object.write_end.Goals as goal
 pub returns-in_err-write_found : goal.returns-in_err-write_found
 returns-in_err-write_found g c =
     let p = err_from_is_err_and c.from_residual.result c.from_residual.ensures.1 in
-    rw (p.1, p.2) (Writes-stop (warnings_member c.args.warnings c.args.warned.now ++ (unlooked_member c.args.unlooked ++ codes "}\n")) c.in_err-write_found.ensures)
+    rw (p.1, p.2) (Writes-stop (warnings_member c.args.counted.now.warnings c.args.counted.now.warned ++ (unlooked_member c.args.counted.now.unlooked ++ codes "}\n")) c.in_err-write_found.ensures)
 
 pub returns-in_err-write_warnings : goal.returns-in_err-write_warnings
 returns-in_err-write_warnings g c =
     let p = err_from_is_err_and c.from_residual-in_err-write_warnings.result c.from_residual-in_err-write_warnings.ensures.1 in
-    rw (p.1, p.2) (Writes-later c.in_ok-write_found.ensures (Writes-stop {U = Unit {0}} (unlooked_member c.args.unlooked ++ codes "}\n") c.in_err-write_warnings.ensures))
+    rw (p.1, p.2) (Writes-later c.in_ok-write_found.ensures (Writes-stop {U = Unit {0}} (unlooked_member c.args.counted.now.unlooked ++ codes "}\n") c.in_err-write_warnings.ensures))
 
 pub returns : goal.returns
 returns g c =

@@ -7,5 +7,5 @@ use Rattle.lens_engines.proofs.object.write_lumps.Given as goal
 abbrev pub invariant-lumps : goal.invariant-lumps
 invariant-lumps g l = record {
   sound : (g.W.Sink.state l.out).failed ≡ false;
-  so_far : SoFar (flat_map (λ text. text) (lump_members l.level)) (g.W.Sink.state l.fn.out) (g.W.Sink.state l.out) (flat_map (λ text. text) (drop l.i (lump_members l.level)));
+  so_far : SoFar (flat_map (λ text. text) (lump_members l.tables)) (g.W.Sink.state l.fn.out) (g.W.Sink.state l.out) (flat_map (λ text. text) (drop l.i (lump_members l.tables)));
 }

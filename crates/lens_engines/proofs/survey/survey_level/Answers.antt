@@ -1,23 +1,17 @@
-use Rattle.std.proofs.Common.{refl}
-use Rattle.level_starts.specs.declared.format.Format.TheVariants.{Doom}
-use Rattle.lens_engines.proofs.SurveyLemmas.{doom_line, other_line, lump_of_format}
+use Rattle.std.proofs.Common.{inl, inr, refl}
+use Rattle.lens_engines.specs.Survey.{verdict_of}
+use Rattle.lens_engines.specs.Surveyed.{survey_line}
 use Rattle.lens_engines.proofs.survey.survey_level.Goals as goal
 
-pub survey_doom-requires-clause-is : goal.survey_doom-requires-clause-is
-survey_doom-requires-clause-is g c = (c.in-Doom.ensures Doom).0 refl
-
-pub survey_other-requires : goal.survey_other-requires
-survey_other-requires g c = record {
-  lump = lump_of_format c.args.set.now c.args.g c.format_of.result ((c.format_of.ensures c.format_of.result).0 refl);
-  sound = c.requires.sound;
-}
-
-pub returns-in-Doom : goal.returns-in-Doom
-returns-in-Doom g c =
-    doom_line g.W.Sink.state c.args.path.now c.args.set.now c.args.judging c.label_of-name.result c.args.g c.args.out.now c.survey_doom.new.out c.survey_doom.result
-    c.label_of-name.ensures ((c.in-Doom.ensures Doom).0 refl) c.survey_doom.ensures
-
 pub returns-in_default : goal.returns-in_default
-returns-in_default g c =
-    other_line g.W.Sink.state c.args.path.now c.args.set.now c.args.judging c.label_of-name.result c.args.g c.format_of.result c.args.out.now c.survey_other.new.out c.survey_other.result
-    c.label_of-name.ensures ((c.format_of.ensures c.format_of.result).0 refl) c.in_default.not-Doom c.survey_other.ensures
+returns-in_default g c = inl (record { doom = c.in_default.ensures.doom; wants = record { ended = refl; untouched = refl } })
+
+pub returns : goal.returns
+returns g c =
+    let name = c.label_of-name.result in
+    let surveyed = c.in-Ok.surveyed in
+    inr (record {
+      told = record { line = survey_line c.args.path.now name c.args.g surveyed; verdict = verdict_of surveyed };
+      is = record { surveyed = surveyed; is = c.in-Ok.ensures.found; name = name; named = c.label_of-name.ensures; line = refl; says = refl };
+      writes = record { outcome = c.write_surveyed.result; writes = c.write_surveyed.ensures; ended = rw c.verdict.ensures at c.line_end.ensures };
+    })

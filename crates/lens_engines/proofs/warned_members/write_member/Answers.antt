@@ -1,16 +1,15 @@
 use Rattle.std.specs.Prelude.{codes}
-use Rattle.std.specs.List.{join_with_byte}
 use Rattle.std.proofs.Common.{◌++◌}
 use Rattle.std.proofs.lemmas.Result.{err_from_is_err_and}
 use Rattle.line_io.proofs.WriteLemmas.{Writes-stop}
-use Rattle.lens_engines.specs.Objects.{warned_members}
+use Rattle.lens_engines.specs.Objects.{warned_text}
 use Rattle.lens_engines.proofs.WritingLemmas.{Writes-after, Writes-later}
 use Rattle.lens_engines.proofs.warned_members.write_member.Goals as goal
 
 pub returns-in_err-emit : goal.returns-in_err-emit
 returns-in_err-emit g c =
     let p = err_from_is_err_and c.from_residual.result c.from_residual.ensures.1 in
-    rw (p.1, p.2) (Writes-stop (join_with_byte 44 (warned_members c.args.all.now) ++ codes "}") c.in_err-emit.ensures)
+    rw (p.1, p.2) (Writes-stop (warned_text c.args.warned.now ++ codes "}") c.in_err-emit.ensures)
 
 pub returns-in_err-write_codes : goal.returns-in_err-write_codes
 returns-in_err-write_codes g c =

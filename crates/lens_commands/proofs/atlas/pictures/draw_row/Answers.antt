@@ -1,5 +1,5 @@
 use Rattle.std.proofs.Common.{◌≡◌, true, rules}
-use Rattle.atlas_page.specs.Rows.{is_drawn}
+use Rattle.lens_engines.specs.Surveyed.{is_drawn}
 use Rattle.lens_commands.proofs.PictureLemmas.{drawn_level}
 use Rattle.lens_commands.proofs.atlas.pictures.draw_row.Goals as goal
 

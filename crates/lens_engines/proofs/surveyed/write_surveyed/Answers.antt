@@ -1,0 +1,13 @@
+use Rattle.std.proofs.lemmas.Result.{err_from_is_err_and}
+use Rattle.line_io.proofs.WriteLemmas.{Writes-stop}
+use Rattle.lens_engines.specs.Surveyed.{end_members}
+use Rattle.lens_engines.proofs.WritingLemmas.{Writes-after}
+use Rattle.lens_engines.proofs.surveyed.write_surveyed.Goals as goal
+
+pub returns-in_err-write_level : goal.returns-in_err-write_level
+returns-in_err-write_level g c =
+    let p = err_from_is_err_and c.from_residual.result c.from_residual.ensures.1 in
+    rw (p.1, p.2) (Writes-stop (end_members c.args.surveyed.now) (rw c.format.ensures at c.in_err-write_level.ensures))
+
+pub returns : goal.returns
+returns g c = Writes-after (rw c.format.ensures at c.in_ok-write_level.ensures) c.write_end.ensures

@@ -1,0 +1,30 @@
+-- What a survey counts at a level of Doom's format (ours).
+use Rattle.std.specs.Prelude.{◌≡◌, ◌↔◌, ℕ, IsTrue, List}
+use Rattle.le_rec.specs.declared.records.Vertex.{Vertex}
+use Rattle.map_cells.specs.Ends.{IsEnd}
+use Rattle.map_level.specs.Level.{Level}
+use Rattle.map_level.specs.Opening.{IsLevelAt}
+use Rattle.wad_dir.specs.Wad.{Wad}
+use Rattle.lens_engines.specs.Counts.{AreCounts}
+use Rattle.lens_engines.specs.Ignored.{HoldsUnlessIgnored}
+use Rattle.lens_engines.specs.Tables.{tables_of}
+use Rattle.lens_engines.specs.Unlooked.{AreUnlooked}
+use Rattle.lens_engines.specs.Warned.{known_files}
+use Rattle.lens_engines.specs.WarningCounts.{CountsWarnings}
+use Rattle.lens_engines.specs.declared.judging.Judging.{Judging}
+use Rattle.lens_engines.specs.declared.level_counts.LevelCounts.{LevelCounts}
+
+-- a linedef has both of its vertexes, so there is something to draw
+abbrev pub HasLines : Level → Type 0
+HasLines level = (v : Vertex) × IsEnd level v
+
+-- these are counted at the level that starts at an entry: what its audit finds and, if they are asked for, its warnings, without the ignored codes
+pub record IsCounted (files : List Wad) (judging : Judging) (g : ℕ) (counted : LevelCounts) : Type 0 where
+  pub level : Level
+  pub there : IsLevelAt files g judging.reading level
+  pub tables : counted.tables ≡ tables_of level
+  pub counts : AreCounts (HoldsUnlessIgnored judging.ignored level) counted.counts
+  pub asked : counted.warnings ≡ judging.warnings
+  pub warned : CountsWarnings judging (known_files judging files) level counted.warned
+  pub unlooked : AreUnlooked judging.ignored (known_files judging files) counted.unlooked
+  pub drawn : IsTrue counted.drawn ↔ HasLines level

@@ -1,0 +1,92 @@
+//! What a survey counts at a level of Doom's format.
+
+ghost use Rattle.std.specs.Prelude.{◌≡◌, ◌↔◌, IfOk, IsTrue};
+ghost use Rattle.level_starts.specs.Format.{IsFormat};
+ghost use Rattle.level_starts.specs.declared.format.Format.TheVariants as format;
+ghost use Rattle.lens_engines.specs.LevelCounts.{HasLines, IsCounted};
+ghost use Rattle.lens_engines.specs.Survey.{verdict_of_counts};
+ghost use Rattle.lens_engines.specs.Warned.{known_files};
+
+use crate::counts::CodeCounts;
+use crate::judging::{Judging, Warnings};
+use crate::opened::level_at;
+use crate::tables::Tables;
+use crate::unlooked::Unlooked;
+use crate::verdict::Verdict;
+use crate::warning_counts::WarningCounts;
+use map_cells::Frame;
+use map_level::Level;
+use map_warnings::Resources;
+use std::alloc::{AllocError, Allocator};
+use wad_dir::Set;
+
+/// What is counted at a level of Doom's format.
+#[derive(Drop)]
+pub struct LevelCounts {
+    pub tables: Tables,
+    /// How often each code holds.
+    pub counts: CodeCounts,
+    /// Whether warnings were looked for, and how grave they are.
+    pub warnings: Warnings,
+    /// How many warnings of each code there are.
+    pub warned: WarningCounts,
+    pub unlooked: Unlooked,
+    /// Whether there is something to draw.
+    pub drawn: bool,
+}
+
+impl LevelCounts {
+    ghost use Rattle.lens_engines.specs.Survey.{verdict_of_level};
+
+    /// Those of the level that starts at an entry. The set's textures and flats are known if warnings are looked for. No finding
+    /// and no warning is kept.
+    pub fn at<A: Allocator + Copy>(
+        alloc: A,
+        set: &Set<'_, A>,
+        resources: &Option<Resources<'_, '_, A>>,
+        g: usize,
+        judging: Judging<'_>,
+    ) -> Result<LevelCounts, AllocError>
+        requires known { resources.now ≡ known_files judging set.now }
+        requires is { IsFormat set.now g format.Doom }
+        ensures { IfOk result (IsCounted set.now judging.entry g) }
+    {
+        let level = level_at(set, g, judging.reading);
+        let counts = CodeCounts::of(alloc, &level)?;
+        let warned = WarningCounts::of(alloc, &level, resources, &counts, judging)?;
+        Ok(LevelCounts {
+            tables: Tables::of(&level),
+            counts: counts.without(&judging.ignored),
+            warnings: judging.warnings,
+            warned,
+            unlooked: Unlooked::of(resources, &judging.ignored),
+            drawn: has_lines(&level),
+        })
+    }
+
+    /// The verdict by them.
+    pub fn verdict(&self) -> Verdict
+        ensures { result ≡ verdict_of_level self.now }
+    {
+        let warned = self.warnings.verdict(self.warned.total);
+        verdict_of_counts(&self.counts).graver(warned)
+    }
+}
+
+// Whether a linedef has both of its vertexes.
+fn has_lines(level: &Level<'_>) -> bool
+    ensures { IsTrue result ↔ HasLines level.now }
+{
+    Frame::of(level).is_some()
+}
+
+// The verdict by how often each code holds.
+fn verdict_of_counts(counts: &CodeCounts) -> Verdict
+    ensures { result ≡ verdict_of_counts counts.now }
+{
+    if counts.faults() == 0 {
+        Verdict::Clean
+    } else {
+        Verdict::Faulty
+    }
+}

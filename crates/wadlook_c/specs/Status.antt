@@ -47,3 +47,19 @@ number_of fault.NoBlockMap = 19
 number_of fault.Read = 25
 number_of fault.Write = 26
 number_of fault.TooLong = 27
+
+-- the numbers of ends that no fault stands for: there is no room for the answer
+abbrev pub no_room_number : ℕ
+no_room_number = 3
+
+-- the bounds are no rectangle's
+abbrev pub no_rect_number : ℕ
+no_rect_number = 17
+
+-- a number is none of the level's sectors
+abbrev pub no_sector_number : ℕ
+no_sector_number = 23
+
+-- REJECT ends before the bit
+abbrev pub unknown_number : ℕ
+unknown_number = 24

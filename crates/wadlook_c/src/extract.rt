@@ -3,6 +3,7 @@
 ghost use Rattle.std.specs.Prelude.{◌≡◌, ◌∷◌, [], ◌<◌, ◌≤◌, IfErr, IfOk, List, ℕ, drop, length, take};
 ghost use Rattle.wad_look.specs.Engines.Extract.{IsPacked, RefusesExtract};
 ghost use Rattle.wadlook_c.specs.Ends.{EndsBy};
+ghost use Rattle.wadlook_c.specs.Status.{no_room_number};
 
 use crate::opening::open_file;
 use crate::status::{DONE, NO_ROOM, number_of};
@@ -24,12 +25,12 @@ pub extern "C" fn wadlook_extract(
     ensures done { result ≡ 0 → IsPacked (wad.now ∷ []) name.now (take written.new out.new) }
     ensures inside { result ≡ 0 → written.new ≤ length out.old }
     ensures behind { result ≡ 0 → drop written.new out.new ≡ drop written.new out.old }
-    ensures room { result ≡ NO_ROOM → (file : List ℕ) × IsPacked (wad.now ∷ []) name.now file
+    ensures room { result ≡ no_room_number → (file : List ℕ) × IsPacked (wad.now ∷ []) name.now file
         × (written.new ≡ length file) × (length out.old < length file) }
-    ensures refused { ¬ (result ≡ 0) → ¬ (result ≡ NO_ROOM)
+    ensures refused { ¬ (result ≡ 0) → ¬ (result ≡ no_room_number)
         → EndsBy (RefusesExtract (wad.now ∷ []) name.now) result }
     ensures untouched { ¬ (result ≡ 0) → out.new ≡ out.old }
-    ensures written_untouched { ¬ (result ≡ 0) → ¬ (result ≡ NO_ROOM) → written.new ≡ written.old }
+    ensures written_untouched { ¬ (result ≡ 0) → ¬ (result ≡ no_room_number) → written.new ≡ written.old }
 {
     match file_of(alloc, wad, name) {
         Ok(file) => {

@@ -5,7 +5,7 @@ ghost use Rattle.map_level.specs.Level.{Level};
 ghost use Rattle.wad_look.specs.Opening.{IsAccepted, RefusesAccepted, bytes_of};
 ghost use Rattle.wadlook_c.specs.Ends.{EndsBy, reading_of};
 ghost use Rattle.wadlook_c.specs.Places.{TellsLeaf, TellsPlace, TellsPlaces};
-ghost use Rattle.wadlook_c.specs.Status.{number_of};
+ghost use Rattle.wadlook_c.specs.Status.{no_room_number, number_of};
 
 use crate::opening::{open_level, reading_of};
 use crate::status::{DONE, NO_ROOM, number_of};
@@ -50,9 +50,9 @@ pub extern "C" fn wadlook_points(
 ) -> u32
     ensures done { result ≡ 0 → (level : Level) × IsAccepted (wad.now ∷ []) name.now (reading_of wide) level
         × TellsPlaces level points.now out.new }
-    ensures room { result ≡ NO_ROOM → length out.old < length points.now }
-    ensures fits { ¬ (result ≡ NO_ROOM) → length points.now ≤ length out.old }
-    ensures refused { ¬ (result ≡ 0) → ¬ (result ≡ NO_ROOM)
+    ensures room { result ≡ no_room_number → length out.old < length points.now }
+    ensures fits { ¬ (result ≡ no_room_number) → length points.now ≤ length out.old }
+    ensures refused { ¬ (result ≡ 0) → ¬ (result ≡ no_room_number)
         → EndsBy (RefusesAccepted (wad.now ∷ []) name.now (reading_of wide)) result }
     ensures behind { drop (length points.now) out.new ≡ drop (length points.now) out.old }
     ensures untouched { ¬ (result ≡ 0) → out.new ≡ out.old }

@@ -3,6 +3,7 @@
 ghost use Rattle.std.specs.Prelude.{◌≡◌, ◌⊎◌, ◌↔◌, ◌<◌, ◌≤◌, Bool, Some, None};
 ghost use Rattle.map_tables.specs.Reject.{bits_of, sight_bit};
 ghost use Rattle.wadlook_c.specs.Sights.{TellsSight, reject_of};
+ghost use Rattle.wadlook_c.specs.Status.{no_sector_number, unknown_number};
 
 use crate::status::{DONE, NO_SECTOR, UNKNOWN};
 use map_tables::Reject;
@@ -19,10 +20,10 @@ pub extern "C" fn wadlook_sight(
 ) -> u32
     ensures done { result ≡ DONE → (from < sectors) × (to < sectors)
         × TellsSight (sight_bit (reject_of reject.now sectors) from to) blocked.new }
-    ensures no_sector { (result ≡ NO_SECTOR) ↔ ((sectors ≤ from) ⊎ (sectors ≤ to)) }
-    ensures unknown { result ≡ UNKNOWN → (from < sectors) × (to < sectors)
+    ensures no_sector { (result ≡ no_sector_number) ↔ ((sectors ≤ from) ⊎ (sectors ≤ to)) }
+    ensures unknown { result ≡ unknown_number → (from < sectors) × (to < sectors)
         × (sight_bit (reject_of reject.now sectors) from to ≡ None) }
-    ensures ends { ¬ (result ≡ DONE) → (result ≡ NO_SECTOR) ⊎ (result ≡ UNKNOWN) }
+    ensures ends { ¬ (result ≡ DONE) → (result ≡ no_sector_number) ⊎ (result ≡ unknown_number) }
     ensures untouched { ¬ (result ≡ DONE) → blocked.new ≡ blocked.old }
 {
     if from >= sectors || to >= sectors {

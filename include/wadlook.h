@@ -9,13 +9,18 @@
  *   - what a call writes to overlaps nothing else that the call is given;
  *   - a bool is 0 or 1, and a pointer is aligned as its type asks.
  * All else is tested: any bytes, any name and any numbers are answered by one of the statuses below. Where the status isn't
- * WADLOOK_DONE, what the call writes to is as it was, unless it is said of WADLOOK_NO_ROOM that a number was written. Behind an
- * answer an array stays as it was.
+ * WADLOOK_DONE, what the call writes to is as it was, unless it is said of WADLOOK_NO_ROOM that a number was written. Entries of
+ * an array after the answer are left unchanged.
  *
- * `name` is looked up as the game does: its first eight bytes in capital letters, up to a NUL; the last entry of that name
- * is taken. `wide` reads a level's indexes as unsigned, as larger levels use them. A level is sound where its links and
- * nodes hold together (findings F1 to F18 don't hold). Docs: docs/wadlook.1 lists the findings, docs/DEFINITIONS.md says
- * what each word means. What the functions of crates/wadlook_c answer is proved; that this page says what they do is tested.
+ * A call takes one file: of a PWAD over a game's file ask the PWAD first, and then the game's. `name` is looked up as the game
+ * does: its first eight bytes in capital letters, up to a NUL; the last entry of that name is taken. No call lists the names of
+ * levels: the program `wadlook levels FILE` does. `wide` is false as in Doom, and true for levels of ports with raised limits: their
+ * indexes are read as unsigned.
+ *
+ * A level is sound where its links and nodes hold together (findings F1 to F18 don't hold). All calls judge Doom's format. Of
+ * Hexen's, of UDMF and of extended nodes the answers mean nothing: `wadlens check FILE` tells which levels these are. Docs:
+ * docs/wadlook.1 lists the findings, docs/DEFINITIONS.md says what each word means. What the functions of crates/wadlook_c
+ * answer is proved; that this page says what they do is tested.
  *
  *     size_t size; uint8_t *wad = read_file("doom2.wad", &size);          // 'read_file' is yours
  *     wadlook_point_at points[] = {{0, 5}, {64, -128}};
@@ -84,8 +89,8 @@ uint32_t wadlook_points(const uint8_t *wad, size_t wad_len, const uint8_t *name,
     const wadlook_point_at *points, size_t points_len, wadlook_place *places, size_t places_len);
 
 /* Audits a level once for many calls of wadlook_point: writes the sector of each ssector to the front of sectors, and how
- * many there are to *count, also at NO_ROOM. That is told before the audit, so the level may be UNSOUND where there is room; no
- * sound level has more than 32,768. Else DONE, UNSOUND, MEMORY, SHORT to LUMP_OUTSIDE. */
+ * many there are to *count, also at NO_ROOM. NO_ROOM comes before the audit: with more room the level may still be UNSOUND. Room
+ * for 32,768 is enough for each sound level. Else DONE, UNSOUND, MEMORY, SHORT to LUMP_OUTSIDE. */
 uint32_t wadlook_prepare(const uint8_t *wad, size_t wad_len, const uint8_t *name, size_t name_len, bool wide, uint16_t *sectors,
     size_t sectors_len, size_t *count);
 
@@ -164,7 +169,7 @@ typedef struct {
     uint8_t player[4]; /* whether each takes part */
 } wadlook_demo_info;
 typedef struct {
-    uint16_t turn;
+    uint16_t turn; /* as it is stored: a byte in versions 109 and 110, two in 111 */
     int8_t forward, side;
     uint8_t buttons;
 } wadlook_command;

@@ -5,15 +5,20 @@
     level.faults                      # [] for a sound level
     level.sectors([(0, 5), (64, 8)])  # the sector of each point, None where one is out of range
 
-The module calls libwadlook through ctypes; `include/wadlook.h` says what each call promises. It takes the library beside it, as
-in a release's wheel, or that of the checkout that it stands in (`tools/library` builds it into out/lib), and else the one that
-the system's loader finds. The calls keep no state and let other threads of Python run.
+`help(wadlook.Wad)` and `help(wadlook.Level)` list the calls. They list no levels: the program `wadlook levels FILE` does. They
+judge levels in Doom's format: of another format the answers mean nothing, and `wadlens check FILE` tells which those are. A `Wad`
+is one file: of a PWAD over a game's file ask the PWAD first, and then the game's.
+
+The module calls libwadlook through ctypes; `include/wadlook.h` of the project says what each call promises. It takes the library
+beside it, as in a release's wheel, or that of the checkout that it stands in (`tools/library` builds it into out/lib), and else the
+one that the system's loader finds. The calls keep no state and let other threads of Python run.
 """
 
 from __future__ import annotations
 
 import ctypes
 import enum
+import operator
 import os
 from array import array
 from typing import Iterable, NamedTuple, Sequence, Union
@@ -277,6 +282,9 @@ def _library() -> ctypes.CDLL:
 
 _so = _library()
 
+_MOST = 2 ** (8 * ctypes.sizeof(ctypes.c_size_t)) - 1
+"""The greatest number of entries that the library takes."""
+
 
 def _stop_at(status: int, what: str = "") -> None:
     if status == Status.MEMORY:
@@ -311,15 +319,16 @@ def _points_of(points: Points) -> tuple[ctypes.Array[_Point], int]:
 
 
 def _fit(*numbers: int) -> None:
-    if not all(-(2**31) <= number < 2**31 for number in numbers):
+    """Refuses coordinates that are no integers, or don't fit 32 bits."""
+    if not all(-(2**31) <= operator.index(number) < 2**31 for number in numbers):
         raise OverflowError("a coordinate doesn't fit 32 bits")
 
 
 class Wad:
     """A WAD file: its path, or its bytes, which are lent where they are `bytes`, a `bytearray` or a writable buffer.
 
-    Calls let other threads run, so lent bytes owe to stay as they are while one runs; and as a level keeps what was found of
-    it, who writes to them between calls asks for the level anew.
+    Calls let other threads run, so don't change lent bytes during a call. As a level keeps what was found of
+    it, call `level` again after a change.
     """
 
     def __init__(self, source: Union[str, "os.PathLike[str]", bytes, bytearray, memoryview]) -> None:
@@ -341,6 +350,8 @@ class Wad:
     def find(self, name: str, after: int = 0) -> Lump:
         """The entry that many entries behind the last one of a name; behind a level's label 1 to 10 are its lumps."""
         asked, lump = name.encode(), _Lump()
+        if not 0 <= operator.index(after) <= _MOST:
+            raise OverflowError("the number of entries behind a name isn't that of any")
         _stop_at(_so.wadlook_find(self._at, self._size, asked, len(asked), after, ctypes.byref(lump)), name)
         return Lump(lump.entry, lump.place, lump.size)
 
@@ -355,7 +366,7 @@ class Wad:
 
     def demo(self, name: str) -> Demo:
         """The demo in the lump of a name."""
-        return read_demo(self.lump(name))
+        return _demo_in(bytes(self.lump(name)), name)
 
 
 class Level:
@@ -462,7 +473,7 @@ class Level:
     def is_blocked(self, a: int, b: int) -> Union[bool, None]:
         """Whether REJECT refuses the sight from sector a to sector b, None where it ends before their bit."""
         reject, count = self.wad.find(self.name, 9), self.wad.find(self.name, 8).size // 26
-        if not (0 <= a < count and 0 <= b < count):
+        if not (0 <= operator.index(a) < count and 0 <= operator.index(b) < count):
             raise WadlookError(Status.NO_SECTOR, self.name)
         bit = ctypes.c_uint32()
         status = _so.wadlook_sight(self.wad._at + reject.place, reject.size, count, a, b, ctypes.byref(bit))
@@ -498,10 +509,15 @@ class Level:
 
 def read_demo(source: Union[bytes, bytearray, memoryview]) -> Demo:
     """The demo that bytes hold."""
-    given, info, room = bytes(source), _Demo(), 4096
+    return _demo_in(bytes(source))
+
+
+def _demo_in(given: bytes, name: str = "") -> Demo:
+    """The demo that bytes hold, those of a lump of this name if there is one."""
+    info, room = _Demo(), 4096
     while True:
         commands = (_Command * room)()
-        _stop_at(_so.wadlook_demo(given, len(given), commands, room, ctypes.byref(info)))
+        _stop_at(_so.wadlook_demo(given, len(given), commands, room, ctypes.byref(info)), name)
         if info.commands <= room:
             break
         room = info.commands

@@ -3,12 +3,19 @@
 //! ```
 //! use wadlook::{Point, Wad};
 //!
-//! let bytes = std::fs::read("../sample/base.wad").unwrap();
+//! # // In a checkout the sample stands beside the crate, in a release within it.
+//! # if !std::path::Path::new("sample").exists() {
+//! #     std::env::set_current_dir("..").unwrap();
+//! # }
+//! let bytes = std::fs::read("sample/base.wad").unwrap();
 //! let level = Wad::new(&bytes).level("E1M1");
 //! let places = level.places(&[Point { x: 0, y: 5 }])?;
 //! assert_eq!(places[0].map(|place| place.sector), Some(1));
 //! # Ok::<(), wadlook::Refused>(())
 //! ```
+//!
+//! They judge levels in Doom's format: of another format the answers mean nothing, and `wadlens check FILE` tells which those are. They
+//! list no levels: `wadlook levels FILE` does.
 //!
 //! `include/wadlook.h` says what each call promises. These declarations aren't checked against it but by tests. Each safe
 //! function owes the library slices of memory that is borrowed for the call, which is what its types say.

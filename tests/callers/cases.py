@@ -30,6 +30,22 @@ def refused(status, call, *words):
     return False
 
 
+def names(what, call, *words):
+    try:
+        call(*words)
+    except WadlookError as why:
+        return why.what == what
+    return False
+
+
+def raises(error, call, *words):
+    try:
+        call(*words)
+    except error:
+        return True
+    return False
+
+
 def with_words(base, place, *words):
     """The sample level with other words of 16 bits at a place."""
     wad = bytearray(base)
@@ -68,6 +84,17 @@ def cases(path):
         check("a coordinate of 33 bits", False)
     except OverflowError:
         check("a coordinate of 33 bits", True)
+    for after in (-1, 2**64 + 9, 9 - 2**64):
+        check(f"{after} entries behind a name", raises(OverflowError, level.wad.find, "E1M1", after))
+    floats = [
+        (level.place, 1.0, 0),
+        (level.census, 0, 0, 1.0, 1),
+        (level.block, 0, 1.5),
+        (level.is_blocked, 1.0, 0),
+        (level.wad.find, "E1M1", 1.0),
+    ]
+    for call, *words in floats:
+        check(f"{call.__name__} of a number that is no integer", raises(TypeError, call, *words))
     check("places", level.places(asked) == [Place(0, 0), Place(1, 1), Place(1, 1), None])
     check("a place", level.place(0, 5) == Place(1, 1) and level.place(1, 5) == Place(0, 0) and level.place(0, 16384) is None)
     check("small letters and wide", Wad(base).level("e1m1", wide=True).sectors([(0, 5)]) == [1])
@@ -136,6 +163,7 @@ def cases(path):
         check(f"demo_cut {size}", refused(why, wadlook.read_demo, two[:size]))
     check("demo_cut 22", wadlook.read_demo(two[:22]) == demo._replace(after=0))
     check("no demo", refused(Status.DEMO_EMPTY, level.wad.demo, "E1M1"))
+    check("a refused demo's name", names("E1M1", level.wad.demo, "E1M1"))
     check(
         "many commands",
         len(wadlook.read_demo(bytes([109, 3, 1, 1, 0, 0, 0, 0, 0, 1, 0, 0, 0]) + bytes(40000) + b"\x80").commands) == 10000,

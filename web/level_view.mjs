@@ -1,4 +1,5 @@
 // One level: its picture, the pinned point, its findings.
+import { meaningOf } from './codes.mjs';
 import { ListBox } from './list.mjs';
 import { Lines } from './lines.mjs';
 import { MapView, NOWHERE } from './map_view.mjs';
@@ -8,12 +9,14 @@ import { findingOf, get, field, inShort, isNarrow, notJudged, pane, say, unlooke
 
 /** @typedef {import('./words.mjs').Level} Level @typedef {import('./words.mjs').Finding} Finding */
 /** @typedef {import('./questions.mjs').Questions} Questions */
+/** @typedef {{ ends: Int32Array, first: Int32Array, bounds: Int32Array }} Linedefs  where they lie, and which are about each sector: see worker.mjs */
 /** @typedef {import('./worker.mjs').AskedLevel & { wantsGame: boolean }} Asked  what a question about a level has */
 
 const CELLS = 512; // of the picture of a level
 const FINE_CELLS = 1024; // and of that of a part
 const COARSE = 2.5; // pixels to a cell from which on a part is asked for in smaller ones
 const MARKED = 1000; // findings whose places are marked while none is chosen
+const MARKED_LINES = 20000; // and lines of their places, of which a sector may have many: no more of one are marked
 const COUNTS = /** @type {const} */ (['things', 'linedefs', 'sidedefs', 'vertexes', 'segs', 'ssectors', 'nodes', 'sectors']);
 
 /** Where each of REJECT's answers is listed. */
@@ -42,7 +45,7 @@ export class LevelView {
     this.level = null;
     /** @type {Uint8Array | null} the picture's text */
     this.svg = null;
-    /** @type {Promise<Int32Array> | undefined} */
+    /** @type {Promise<Linedefs> | undefined} */
     this.ends = undefined;
     this.pins = 0; // a late answer of an earlier pin is let go
     this.choices = 0; // so is the late place of an earlier finding
@@ -59,8 +62,10 @@ export class LevelView {
     this.findings = new ListBox(get('findings'), (/** @type {Finding} */ finding) => {
       const message = make('span', 'row-message', finding.message);
       message.title = finding.message; // where it is cut off
-      return [make('span', `code${finding.code.startsWith('F') ? ' fault' : ''}`, finding.code || '–'), make('span', 'row-name', finding.where), message];
-    }, (finding) => this.#choose(finding));
+      const code = make('span', `code${finding.code.startsWith('F') ? ' fault' : ''}`, finding.code || '–');
+      code.title = meaningOf(finding.code);
+      return [code, make('span', 'row-name', finding.where), message];
+    }, (finding, k) => this.#choose(finding, k), (finding) => !!finding.all || !!finding.wide, ({ code }) => meaningOf(code));
     get('unpin').addEventListener('click', () => this.unpin());
     get('point-form').addEventListener('submit', (event) => {
       event.preventDefault();
@@ -139,8 +144,9 @@ export class LevelView {
     const lines = new Lines(findings), warnings = Number(/, (\d+) warnings,/.exec(lines.at(lines.count - 1))?.[1]);
     this.#tell(level, verdict(level, warnings));
     this.#list(lines, before);
-    get('unlooked').textContent = unlookedWords(unlooked, asked.wantsGame);
-    get('unlooked').hidden = !unlooked;
+    const left = unlookedWords(level, unlooked, asked.wantsGame);
+    get('unlooked').textContent = left;
+    get('unlooked').hidden = !left;
     get('pin').removeAttribute('disabled');
     const { picture, svg, why } = await this.desk.ask('picture', { ...asked, cells: CELLS }, `Drawing ${asked.name}`)
       .catch((error) => ({ why: whyNot(error) })); // the findings stay
@@ -164,45 +170,74 @@ export class LevelView {
     get('told').className = level.sound ? '' : 'fault';
     get('counts').replaceChildren(...COUNTS.map((name) => make('div', '', make('dt', '', name), make('dd', '', String(level[name])))));
     const codes = Object.entries({ ...level.findings, ...level.warnings });
-    get('codes').textContent = codes.map(([code, n]) => `${code} ${n}`).join(' · ');
+    get('codes').replaceChildren(...codes.flatMap(([code, n], k) => {
+      const count = make('span', 'code-count', `${code} ${n}`);
+      count.title = meaningOf(code);
+      return k ? [' · ', count] : [count];
+    }));
   }
 
-  /** @param {Lines} lines of which the last adds up @param {number} before how much of each stands before the finding */
-  #list(lines, before) {
+  /** @param {Lines} lines of which the last adds up @param {number} before how much of each stands before the finding @param {number} [chosen] a row */
+  #list(lines, before, chosen) {
     const count = Math.max(0, lines.count - 1);
-    this.findings.show(count, (k) => findingOf(lines.at(k).slice(before)));
+    this.findings.show(count, (k) => findingOf(lines.at(k).slice(before)), chosen);
     get('findings-none').hidden = count > 0;
     get('findings-none').textContent = 'Nothing was found: all links and nodes hold together, and there is nothing to warn of.';
   }
 
-  /** @param {Finding} finding */
-  async #choose(finding) {
+  /**
+   * Lists all findings; the first that is new in the place of row `k` is marked, and chosen where the list stays in view.
+   * @param {Asked} asked @param {number} k
+   */
+  async #listAll(asked, k) {
+    const first = this.#placeInAll(k), mine = this.choices;
+    try {
+      const { findings, before } = await this.desk.ask('look', { ...asked, max: 0 }, 'Listing all findings');
+      if (this.asked !== asked) return;
+      this.#list(new Lines(findings), before, mine === this.choices ? first : -1);
+      this.#mark();
+      if (mine === this.choices && !isNarrow()) this.#choose(this.findings.item(first), first);
+    } catch (error) { say(`${asked.name}: ${wordsOf(error)}`, !(error instanceof Stopped)); }
+  }
+
+  /** Where the findings that row `k` leaves out begin among all: each such row before it stands for as many as it says. @param {number} k */
+  #placeInAll(k) {
+    let place = k;
+    for (let row = 0; row < k; row++) {
+      const { all, where } = this.findings.item(row);
+      if (all) place += parseInt(where, 10) - 1;
+    }
+    return place;
+  }
+
+  /** @param {Finding} finding @param {number} k its row */
+  async #choose(finding, k) {
     const { asked } = this, mine = ++this.choices;
     if (finding.wide) return this.readWide();
-    if (finding.all && asked) {
-      try {
-        const { findings, before } = await this.desk.ask('look', { ...asked, max: 0 }, 'Listing all findings');
-        if (this.asked !== asked) return;
-        this.#list(new Lines(findings), before);
-        this.#mark();
-      } catch (error) { say(`${asked.name}: ${wordsOf(error)}`, !(error instanceof Stopped)); }
-      return;
-    }
+    if (finding.all && asked) return this.#listAll(asked, k);
     const place = await this.#placeOf(finding);
     if (this.asked !== asked || mine !== this.choices) return;
     if (place && this.map.picture && isNarrow()) pane('map');
     this.map.mark(place);
+    this.#rest();
+    if (!place) get('under').textContent = `${finding.code} ${finding.where} has no place on the map.`;
   }
 
-  /** Marks the places of the first findings that are listed. */
+  /** Marks the places of the first findings that are listed, and says how many those are where there are more. */
   async #mark() {
-    const { asked, findings } = this, places = [];
-    for (let k = 0; k < Math.min(MARKED, findings.count); k++) {
+    const { asked, findings, level } = this, places = [];
+    let k = 0, isWhole = findings.count > 0;
+    for (let lines = 0; k < Math.min(MARKED, findings.count) && lines < MARKED_LINES; k++) {
       const finding = findings.item(k), at = await this.#placeOf(finding);
-      if (at) places.push({ at, title: `${finding.code} ${finding.where}: ${finding.message.replace(/, (?:from|at) \(.*$/, '')}` });
+      if (finding.all) isWhole = false;
+      if (!at) continue;
+      places.push({ at, title: `${finding.code} ${finding.where}: ${finding.message.replace(/, (?:from|at) \(.*$/, '')}` });
+      lines += at.length / 4;
     }
     if (this.asked !== asked) return;
     this.map.markAll(places);
+    const total = Object.values({ ...level?.findings, ...level?.warnings }).reduce((sum, n) => sum + n, 0);
+    get('legend-found').textContent = isWhole && k === findings.count ? 'findings' : `${places.length} of ${total} findings`;
     this.#legend('found', places.length > 0);
   }
 
@@ -211,19 +246,22 @@ export class LevelView {
     get('legend').classList.toggle(what, isThere && !!this.map.picture);
   }
 
-  /** Where a finding is, if it is anywhere. @param {Finding} finding */
-  async #placeOf({ place, linedef }) {
-    if (linedef < 0) return place;
-    const ends = await this.#linedefs(), at = 4 * linedef;
-    return ends[at] === undefined || ends[at] === NOWHERE ? null : [...ends.subarray(at, at + 4)];
+  /** Where a finding is, if it is anywhere: its own place, a linedef, or the outline of a sector. @param {Finding} finding */
+  async #placeOf({ place, linedef, sector }) {
+    if (place || (linedef < 0 && sector < 0)) return place;
+    const { ends, first, bounds } = await this.#linedefs();
+    const end = Math.min(first[sector + 1] ?? 0, first[sector] + MARKED_LINES); // 0 where no linedef faces it, nor a later one
+    const lines = linedef >= 0 ? [linedef] : [...bounds.subarray(end ? first[sector] : 0, end)];
+    const at = lines.flatMap((k) => ends[4 * k] === undefined || ends[4 * k] === NOWHERE ? [] : [...ends.subarray(4 * k, 4 * k + 4)]);
+    return at.length ? at : null;
   }
 
-  /** The ends of the linedefs, asked for once, and again where that was stopped. */
+  /** Where linedefs lie, asked for once, and again where that was stopped. */
   #linedefs() {
     if (this.ends) return this.ends;
     const ends = this.desk.ask('ends', this.asked ?? {}).catch((error) => {
       if (error instanceof Stopped && this.ends === ends) this.ends = undefined;
-      return new Int32Array();
+      return { ends: new Int32Array(), first: new Int32Array(), bounds: new Int32Array() };
     });
     return this.ends = ends;
   }
@@ -246,7 +284,7 @@ export class LevelView {
     this.sector = Number(sector ?? -1);
     this.#tellSector();
     if (sector === undefined) this.#tellSight(-1, []); else this.#sight(Number(sector), mine);
-    const told = await block, ends = await this.#linedefs();
+    const told = await block, { ends } = await this.#linedefs();
     if (mine === this.pins) this.map.showBlock(this.#tellBlock(told), ends);
   }
 
@@ -261,7 +299,7 @@ export class LevelView {
 
   /** @param {string} line @param {number} x @param {number} y */
   #inWords(line, x, y) {
-    if (/audit$/.test(line)) return `${x} ${y} isn't told: the level has faults`;
+    if (/audit$/.test(line)) return `${x} ${y} can't be answered while the level has faults`;
     return line === 'refused: range' ? `${x} ${y} isn't told: places reach from -16384 to 16383` : line;
   }
 
@@ -287,7 +325,7 @@ export class LevelView {
     this.map.sight(sector, answers);
     for (const [id, answer] of SIGHTS) {
       const list = answers.flatMap((told, other) => told === answer ? [other] : []);
-      get(id).replaceChildren(list.length ? numbers(list.join(' ')) : answers.length ? 'none' : 'not told');
+      get(id).replaceChildren(list.length ? numbers(list.join(' ')) : answers.length ? 'none' : 'unknown');
     }
     get('unknown-row').hidden = !answers.includes('unknown');
     this.#legend('sight', answers.includes('clear'));

@@ -38,4 +38,17 @@ export class Lines {
   at(k) {
     return decoder.decode(this.bytes.subarray(k ? this.ends[k - 1] + 1 : 0, this.ends[k]));
   }
+
+  /**
+   * The first line that ends with these letters, of which none takes more than a byte; -1 where there is none. Nothing becomes a string.
+   * @param {string} letters
+   */
+  endingWith(letters) {
+    return this.ends.findIndex((end, k) => {
+      const from = end - letters.length;
+      let at = from < (k ? this.ends[k - 1] + 1 : 0) ? -1 : 0;
+      while (at >= 0 && at < letters.length) at = this.bytes[from + at] === letters.charCodeAt(at) ? at + 1 : -1;
+      return at >= 0;
+    });
+  }
 }

@@ -5,12 +5,15 @@ import { make, Rows } from './rows.mjs';
 export class ListBox {
   /**
    * @param {HTMLElement} element @param {(item: T, k: number) => (Node | string)[]} draw what stands in a row
-   * @param {(item: T, k: number) => void} choose
+   * @param {(item: T, k: number) => void} choose @param {(item: T) => boolean} [isButton] whether a row does something, and so waits for Enter or
+   *   a click where keys only pass it @param {(item: T) => string} [describe] what a row means, for those who hear it
    */
-  constructor(element, draw, choose) {
+  constructor(element, draw, choose, isButton = () => false, describe = () => '') {
     this.element = element;
     this.draw = draw;
     this.choose = choose;
+    this.isButton = isButton;
+    this.describe = describe;
     this.count = 0;
     /** @type {(k: number) => T} */
     this.item = () => { throw new RangeError('an empty list'); };
@@ -42,18 +45,20 @@ export class ListBox {
     this.#mark();
   }
 
-  /** @param {number} k */
-  pick(k) {
+  /** Marks row `k` and chooses it, unless it is one that waits and the keys only pass it. @param {number} k @param {boolean} [isPassed] */
+  pick(k, isPassed = false) {
     if (k < 0 || k >= this.count) return;
+    const item = this.item(k);
     this.at = k;
     this.rows.reveal(k);
     this.#mark();
-    this.choose(this.item(k), k);
+    if (!isPassed || !this.isButton(item)) this.choose(item, k);
   }
 
   /** @param {number} k */
   #row(k) {
-    const row = make('div', 'row', ...this.draw(this.item(k), k));
+    const item = this.item(k), row = make('div', 'row', ...this.draw(item, k)), meaning = this.describe(item);
+    if (meaning) row.setAttribute('aria-description', meaning);
     row.id = `${this.element.id}-${k}`;
     row.dataset.at = String(k);
     row.setAttribute('role', 'option');
@@ -81,6 +86,6 @@ export class ListBox {
     };
     if (!(event.key in places)) return;
     event.preventDefault();
-    this.pick(Math.max(0, Math.min(last, places[event.key])));
+    this.pick(Math.max(0, Math.min(last, places[event.key])), event.key !== 'Enter' && event.key !== ' ');
   }
 }

@@ -4,7 +4,7 @@ import { cellColour, css, pixel, themeNow } from './inks.mjs';
 /** @typedef {import('./picture.mjs').Picture} Picture */
 /** @typedef {import('./inks.mjs').Colour} Colour @typedef {import('./inks.mjs').Sight} Sight */
 /** @typedef {{ x: number, y: number, zoom: number }} View  the map's place in the middle, and pixels to a unit */
-/** @typedef {{ at: number[], title: string }} Place  of a finding: x y, or x y x y */
+/** @typedef {{ at: number[], title: string }} Place  of a finding: x y, or x y x y of each of its lines */
 /** @typedef {{ sector: string, thing: string, found: string }} Under  titles of what lies under the pointer */
 /** @typedef {(colour: Colour, ...lines: [Path2D, number][]) => void} Cased  strokes paths of some widths over their cases */
 /**
@@ -28,10 +28,26 @@ function pathOf(at) {
   return path;
 }
 
-/** How far a place is from a finding's. @param {number[]} at @param {number} x @param {number} y */
+/** How far a place is from a line. @param {number[]} line @param {number} x @param {number} y */
 function distance([ax, ay, bx = ax, by = ay], x, y) {
   const dx = bx - ax, dy = by - ay, along = ((x - ax) * dx + (y - ay) * dy) / (dx * dx + dy * dy || 1), t = Math.max(0, Math.min(1, along));
   return Math.hypot(ax + t * dx - x, ay + t * dy - y);
+}
+
+/** Whether a finding's place is nearer than this. @param {number[]} at @param {number} x @param {number} y @param {number} near */
+function isNear(at, x, y, near) {
+  for (let k = 0; k < at.length; k += 4) if (distance(at.slice(k, k + 4), x, y) < near) return true;
+  return false;
+}
+
+/** The box about a finding's place. @param {number[]} at */
+function boxOf(at) {
+  const least = [at[0], at[1]], most = [at[0], at[1]];
+  at.forEach((v, k) => {
+    least[k % 2] = Math.min(least[k % 2], v);
+    most[k % 2] = Math.max(most[k % 2], v);
+  });
+  return { x: (least[0] + most[0]) / 2, y: (least[1] + most[1]) / 2, width: most[0] - least[0], height: most[1] - least[1] };
 }
 
 /** A picture's cells as an image of a pixel each, in the inks of the theme. */
@@ -162,17 +178,18 @@ export class MapView {
   /** Marks the places of findings. @param {Place[]} places */
   markAll(places) {
     this.places = places;
-    this.placeLines = pathOf(places.flatMap(({ at }) => at.length === 4 ? at : []));
+    this.placeLines = pathOf(places.flatMap(({ at }) => at.length > 2 ? at : []));
     this.#redraw();
   }
 
-  /** Marks the place of a chosen finding (x y, or x y x y) and brings it to the middle; none with null. @param {number[] | null} place */
+  /** Marks the place of a chosen finding (x y, or lines) and brings it to the middle; none with null. @param {number[] | null} place */
   mark(place) {
     this.#resize(); // it may have been hidden until now
     this.found = place;
     if (place) {
-      const [x, y] = place.length === 4 ? [(place[0] + place[2]) / 2, (place[1] + place[3]) / 2] : place;
-      this.#fly({ x, y, zoom: Math.max(this.view.zoom, Math.min(0.6, this.#fitZoom() * 5)) });
+      const { x, y, width, height } = boxOf(place), near = Math.max(this.view.zoom, Math.min(0.6, this.#fitZoom() * 5));
+      const whole = 0.8 * Math.min(this.size.width / width, this.size.height / height); // so that all of an outline is seen, and a small one, too
+      this.#fly({ x, y, zoom: place.length > 4 ? Math.min(whole, Math.max(near, 60 / Math.max(1, width, height)), CLOSEST) : near });
     }
     this.#redraw();
   }
@@ -401,14 +418,14 @@ export class MapView {
   #drawFound(pen, cased) {
     const { found } = this, { inks } = this.theme, unit = 1 / this.view.zoom;
     if (!found) return;
-    const line = pathOf(found.length === 4 ? found : []), target = new Path2D();
-    const x = found.length === 4 ? (found[0] + found[2]) / 2 : found[0], y = found.length === 4 ? (found[1] + found[3]) / 2 : found[1];
+    const lines = pathOf(found), target = new Path2D(), { x, y } = boxOf(found);
+    if (found.length > 4) return cased(inks.fault, [lines, 5.5]); // the middle of an outline may be outside
     target.arc(x, y, 19 * unit, 0, 2 * Math.PI);
     for (const [dx, dy] of [[1, 0], [-1, 0], [0, 1], [0, -1]]) {
       target.moveTo(x + 19 * dx * unit, y + 19 * dy * unit);
       target.lineTo(x + 29 * dx * unit, y + 29 * dy * unit);
     }
-    cased(inks.fault, [target, 2.2], [line, 4.5]);
+    cased(inks.fault, [target, 2.2], [lines, 4.5]);
     pen.beginPath();
     pen.arc(x, y, 2.5 * unit, 0, 2 * Math.PI);
     pen.fillStyle = css(inks.fault);
@@ -461,7 +478,7 @@ export class MapView {
       this.hovered = shown?.sector ?? -1;
       this.#ink();
     }
-    const found = this.places.find(({ at }) => distance(at, x, y) * this.view.zoom < 7)?.title ?? '';
+    const found = this.places.find(({ at }) => isNear(at, x, y, 7 / this.view.zoom))?.title ?? '';
     return { sector: shown?.title ?? '', thing, found };
   }
 

@@ -1,4 +1,5 @@
 // The page: which files are open, which level or demo is shown, and how the parts tell one another.
+import { meaningOf } from './codes.mjs';
 import { DemoTable } from './demo_table.mjs';
 import { apart, gameOf } from './games.mjs';
 import { LevelView } from './level_view.mjs';
@@ -12,8 +13,9 @@ import { field, get, isNarrow, notJudged, pane, plural, say, sizeOf, verdict, wo
 /** @typedef {import('./words.mjs').Level} Level */
 /**
  * @typedef {{ key: string, file: File, kind: string, refused: string, heads: Lines, survey: Lines | null, demos: Lines,
- *   stopped: boolean, failed: string, surveys: number, game: OpenFile | null }} OpenFile  `heads` and `demos` are lines of `lumps`, `survey`
- *   those of the engine's answer, once all is judged; `failed` tells why it isn't; `game` is the game's file on which it stands
+ *   stopped: boolean, failed: string, surveys: number, game: OpenFile | null, wasGame: boolean }} OpenFile  `heads` and `demos` are lines of
+ *   `lumps`, `survey` those of the engine's answer, once all is judged; `failed` tells why it isn't; `game` is the game's file on which it stands;
+ *   `wasGame` tells whether a game's file was there before, in whose place it stands
  */
 
 const none = () => new Lines({ bytes: new Uint8Array(), ends: new Uint32Array() });
@@ -22,7 +24,8 @@ const state = {
   files: /** @type {OpenFile[]} */ ([]),
   file: /** @type {OpenFile | null} */ (null), // whose levels are listed
   of: /** @type {OpenFile | null} */ (null), // whose level or demo is shown
-  shown: -1, // the level's number in its file; -1 for a demo
+  shown: -1, // the level's number in its file; -1 for a demo, or where nothing of the file is shown
+  name: '', // of the level that was shown last
   wide: false,
 };
 
@@ -57,13 +60,34 @@ const files = new ListBox(get('files'), (f) => {
   ];
 }, (f) => {
   chooseFile(f);
+  if (f !== state.of) showOf(f);
   if (f.heads.count || f.demos.count) pane('levels');
 });
 const showFiles = () => files.show(state.files.length, (k) => state.files[k], state.file ? state.files.indexOf(state.file) : -1, true);
 
 /**
- * Opens files, the games' first, so that what stands on them is judged once. The first that isn't refused is shown, of others than games'
- * where there are any; and not the game's of what is shown already.
+ * Lists files that are opened, each in the place of one of its name that was there before, which is left.
+ * @param {OpenFile[]} fresh
+ */
+function list(fresh) {
+  for (const f of fresh) {
+    const at = state.files.findIndex((one) => one.file.name === f.file.name && !fresh.includes(one)), before = state.files[at];
+    if (before) {
+      before.surveys++; // its late answer is let go
+      f.wasGame = before.kind === 'IWAD' || before.wasGame;
+      if (before === state.file) state.file = f;
+      state.files[at] = f;
+    } else state.files.push(f);
+  }
+  showFiles();
+}
+
+/** Whether what is shown is of an earlier file of this name, in whose place this one stands. @param {OpenFile} f */
+const isAgain = (f) => !!state.of && !state.files.includes(state.of) && state.of.file.name === f.file.name;
+
+/**
+ * Opens files, the games' first, so that what stands on them is judged once. What is shown of a file that is opened again is shown of the new
+ * one. Else the first that isn't refused is shown, of others than games' where there are any; and not the game's of what is shown already.
  * @param {Iterable<File>} chosen
  */
 async function open(chosen) {
@@ -71,13 +95,13 @@ async function open(chosen) {
   /** @type {OpenFile[]} */
   const fresh = [...chosen].map((file, k) => ({
     key: `${performance.now()} ${k}`, file, kind: '', refused: '', heads: none(), survey: null, demos: none(), stopped: false, failed: '', surveys: 0,
-    game: null,
+    game: null, wasGame: false,
   }));
-  state.files.push(...fresh);
-  showFiles();
+  list(fresh);
   const { games, others } = await apart(fresh);
-  let isShown = false, isStopped = false;
+  let isShown = fresh.some(isAgain), isStopped = false;
   for (const f of [...games, ...others]) {
+    if (!state.files.includes(f)) continue; // opened again meanwhile
     try {
       if (isStopped) throw new Stopped(); // a stop is of them all
       const { levels, demos, ...told } = await desk.ask('open', asking(f), `Reading ${f.file.name}`);
@@ -86,8 +110,14 @@ async function open(chosen) {
       isStopped = error instanceof Stopped;
       f.refused = isStopped ? 'stopped before it was read' : wordsOf(error);
     }
+    if (!state.files.includes(f)) continue;
     setOnGames(f);
-    if (f === state.file) showFile(); else showFiles(); // it may have been chosen while it was read
+    if (isAgain(f)) showAgain(f);
+    else if (f === state.file && f === state.of) { // it was chosen while it was read
+      isShown = true;
+      showOf(f);
+    }
+    if (f === state.file) showFile(); else showFiles();
     if (f.refused) say(`${f.file.name}: ${f.refused}`);
     const first = [...others, ...games].find((one) => !one.refused && one !== state.of?.game);
     if (!isShown && first?.kind) {
@@ -101,7 +131,7 @@ async function open(chosen) {
 /** Sets a file that was read on its game's, or others on this one; these are judged anew. @param {OpenFile} fresh */
 function setOnGames(fresh) {
   const games = state.files.filter(({ kind }) => kind === 'IWAD');
-  for (const f of fresh.kind === 'IWAD' ? state.files : [fresh]) {
+  for (const f of fresh.kind === 'IWAD' || fresh.wasGame ? state.files : [fresh]) {
     const game = gameOf(f, games);
     if (game === f.game) continue;
     f.game = game;
@@ -113,7 +143,42 @@ function setOnGames(fresh) {
 function showFirst(f) {
   chooseFile(f);
   pane('levels');
-  if (f.heads.count) chooseLevel(0); else if (f.demos.count) chooseDemo(0);
+  if (f.heads.count) chooseLevel(0); else if (f.demos.count) chooseDemo(0); else showNothing(f);
+}
+
+/** Shows of a file that is opened again what is shown of it from before: the level or the demo of the same name. @param {OpenFile} f */
+function showAgain(f) {
+  const before = /** @type {OpenFile} */ (state.of), name = state.shown < 0 && demoShown >= 0 ? ` ${before.demos.at(demoShown).split(' ')[3]}` : '';
+  const level = sameLevel(f, state.shown), demoAt = name ? f.demos.endingWith(name) : -1;
+  state.file = f;
+  if (demoAt >= 0) chooseDemo(demoAt); else if (level >= 0) chooseLevel(level); else showOf(f);
+}
+
+/**
+ * The level of a file that has the name of the one that was shown last, at its place `k` if it is there; -1 where none has it.
+ * @param {OpenFile} f @param {number} [k]
+ */
+function sameLevel({ heads }, k = -1) {
+  if (!state.name) return -1;
+  return k >= 0 && k < heads.count && heads.at(k).split(' ')[3] === state.name ? k : heads.endingWith(` ${state.name}`);
+}
+
+/** Shows the level of the chosen file that is called as the one that was shown last, or else what it has first. @param {OpenFile} f */
+function showOf(f) {
+  if (f.heads.count) chooseLevel(Math.max(0, sameLevel(f)));
+  else if (f.demos.count) chooseDemo(0);
+  else showNothing(f);
+  showLevels();
+}
+
+/** Takes what is shown of another file away, where the chosen one has nothing to show. @param {OpenFile} f */
+function showNothing(f) {
+  state.of = f;
+  state.shown = demoShown = -1;
+  view.asked = null;
+  view.clear(whyNone(f));
+  stage('map', f, '');
+  get('title').textContent = 'No level';
 }
 
 /** Judges all levels of a file again, and shows anew what is shown of it. @param {OpenFile} f */
@@ -133,8 +198,8 @@ async function survey(f) {
   try {
     const told = await judge.ask('survey', { ...asking(f), path: pathOf(f), count: f.heads.count }, `Judging ${f.file.name}`);
     if (mine !== f.surveys) return;
-    f.survey = new Lines(told);
-    say(`${f.file.name}: ${plural(f.heads.count, 'level')} judged`);
+    f.survey = new Lines(told.lines);
+    say(`${f.file.name}: ${plural(f.heads.count, 'level')}${told.judged < f.heads.count ? `, ${told.judged}` : ''} judged`);
   } catch (error) {
     if (mine !== f.surveys) return;
     f.stopped = error instanceof Stopped;
@@ -175,12 +240,11 @@ const levels = new ListBox(get('levels'), ({ level }) => {
   const { format, faults } = level, doom = format === 'doom', codes = Object.keys(level.warnings ?? {});
   const told = doom ? `${verdict(level)}${codes.length ? ` · ${codes.join(' ')}` : ''}` : format || state.file?.failed ? 'not judged' : state.file?.stopped ? 'stopped' : '…';
   const isFault = faults || format === 'incomplete' || format === 'outside';
+  const found = make('span', `row-state${isFault ? ' fault' : level.notes || codes.length ? ' noted' : ''}`, told);
+  found.title = [told, ...Object.keys({ ...level.findings, ...level.warnings }).map(meaningOf)].join('\n'); // it may be cut off
   const more = doom ? `${level.linedefs} linedefs · ${level.sectors} sectors · ${level.things} things` : format ? notJudged(level) : `entry ${level.entry}`;
-  return [
-    make('span', 'row-name level-name', make('span', '', level.level), ...(format ? [' ', make('span', 'format', format)] : [])),
-    make('span', `row-state${isFault ? ' fault' : level.notes || codes.length ? ' noted' : ''}`, told),
-    make('span', 'row-more', more),
-  ];
+  const name = make('span', 'row-name level-name', make('span', '', level.level), ...(format ? [' ', make('span', 'format', format)] : []));
+  return [make('span', 'row-head', name, found), make('span', 'row-more', more)];
 }, ({ k }) => {
   chooseLevel(k);
   if (isNarrow()) pane('map');
@@ -224,6 +288,9 @@ async function showLevels(kept = false) {
   tellNone(f, count, which?.length ?? count);
 }
 
+/** Why a file has no level to show. @param {OpenFile} f */
+const whyNone = (f) => f.refused ? `Refused: ${f.refused}.` : f.kind ? 'No levels in this file.' : `Reading ${f.file.name} …`;
+
 /** What stands where there is no level to list, or none judged. @param {OpenFile} f @param {number} count @param {number} listed */
 function tellNone(f, count, listed) {
   const told = get('levels-none'), goOn = make('button', '', f.failed ? 'Try again' : 'Go on'), isUnjudged = f.stopped || !!f.failed;
@@ -231,8 +298,7 @@ function tellNone(f, count, listed) {
     survey(f);
     showLevels(true);
   });
-  const why = f.refused ? `Refused: ${f.refused}.` : !f.kind ? `Reading ${f.file.name} …` : !count ? 'No levels in this file.' :
-    f.failed ? `Not judged: ${f.failed}. ` : f.stopped ? 'Stopped before all levels were judged. ' : 'No level matches.';
+  const why = f.refused || !count ? whyNone(f) : f.failed ? `Not judged: ${f.failed}. ` : f.stopped ? 'Stopped before all levels were judged. ' : 'No level matches.';
   told.hidden = listed > 0 && !isUnjudged;
   told.replaceChildren(why, ...(isUnjudged ? [goOn] : []));
 }
@@ -242,6 +308,7 @@ function chooseLevel(k) {
   if (!state.file) return;
   state.of = state.file;
   state.shown = k;
+  state.name = levelOf(state.of, k).level;
   showDemos();
   showLevel();
 }
@@ -259,8 +326,8 @@ function showLevel() {
 function stage(which, f, name) {
   get('demo').hidden = which !== 'demo';
   document.body.classList.toggle('at-demo', which === 'demo');
-  get('crumbs').replaceChildren(make('span', '', f.file.name), ...(f.kind === 'demo' ? [] : [make('span', 'here', name)]));
-  document.title = `${name} – wadlook`;
+  get('crumbs').replaceChildren(make('span', '', f.file.name), ...(f.kind === 'demo' || !name ? [] : [make('span', 'here', name)]));
+  document.title = `${name || f.file.name} – wadlook`;
 }
 
 const view = new LevelView(desk, finer, () => {
@@ -298,7 +365,7 @@ async function chooseDemo(k) {
   state.shown = -1;
   demoShown = k;
   view.asked = null;
-  view.clear('');
+  view.clear('A demo has no findings.');
   showLevels(true);
   showDemos();
   stage('demo', f, name);

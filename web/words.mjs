@@ -5,8 +5,8 @@
  *   findings?: Record<string, number>, warnings?: Record<string, number>, unlooked?: string[], things?: number, linedefs?: number, sidedefs?: number,
  *   vertexes?: number, segs?: number, ssectors?: number, nodes?: number, sectors?: number, reject?: number, blockmap?: number }} Level
  *   an object of `survey`; before the level was judged it has its name and entry alone
- * @typedef {{ code: string, where: string, message: string, place: number[] | null, linedef: number, all?: boolean, wide?: boolean }} Finding
- *   a line of `check`; its place is x y or x y x y, or that of a linedef (else -1)
+ * @typedef {{ code: string, where: string, message: string, place: number[] | null, linedef: number, sector: number, all?: boolean,
+ *   wide?: boolean }} Finding  a line of `check`; its place is x y or x y x y, or that of a linedef or a sector (else -1)
  */
 
 export const get = (/** @type {string} */ id) => /** @type {HTMLElement} */ (document.getElementById(id));
@@ -16,7 +16,7 @@ export const say = (words, isRefusal = false) => {
   get('said').textContent = words;
   get('said').className = isRefusal ? 'refusal' : 'unseen';
 };
-export const isNarrow = () => matchMedia('(max-width: 760px)').matches;
+export const isNarrow = () => matchMedia('(max-width: 880px)').matches;
 export const plural = (/** @type {number} */ n, /** @type {string} */ word) => `${n} ${word}${n === 1 ? '' : 's'}`;
 export const sizeOf = (/** @type {number} */ bytes) => bytes < 1e6 ? `${Math.max(1, Math.round(bytes / 1e3))} kB` : `${(bytes / 1e6).toFixed(1)} MB`;
 export const wordsOf = (/** @type {unknown} */ error) => error instanceof Error ? error.message : String(error);
@@ -44,8 +44,17 @@ export function verdict({ sound, faults = 0, notes = 0 }, warnings = 0) {
   return [sound ? 'sound' : plural(faults, 'fault'), notes && plural(notes, 'note'), warnings && plural(warnings, 'warning')].filter(Boolean).join(', ');
 }
 
-/** What wasn't looked for, with what helps here in the place of what helps the program. @param {string} told @param {boolean} wantsGame */
-export const unlookedWords = (told, wantsGame) => told.replace("; name the game's with --base", wantsGame ? "; drop the game's file, too." : '.');
+const SILENCING = /^F[3-9]$/; // with one of these no warning is looked for
+
+/**
+ * What wasn't looked for in a level, and what helps: here that is a game's file, dropped too, and for the program `--base`.
+ * @param {Level} level @param {string} told what the program says of it @param {boolean} wantsGame
+ */
+export function unlookedWords({ sound, findings = {} }, told, wantsGame) {
+  if (Object.keys(findings).some((code) => SILENCING.test(code))) return "Warnings aren't looked for until F3 to F9 are mended.";
+  const names = told.replace("; name the game's with --base", wantsGame ? "; drop the game's file, too." : '.');
+  return [sound ? '' : "W3 and W5 aren't looked for until all faults are mended.", names].filter(Boolean).join(' ');
+}
 
 /**
  * A line of `check`, without its path and level.
@@ -56,7 +65,7 @@ export function findingOf(line) {
   if (!told) {
     const more = /^([FNW]\d+): (\d+ more)$/.exec(line), wide = line === 'sound with --wide';
     return {
-      code: more?.[1] ?? '', where: more?.[2] ?? line, place: null, linedef: -1, all: !!more, wide,
+      code: more?.[1] ?? '', where: more?.[2] ?? line, place: null, linedef: -1, sector: -1, all: !!more, wide,
       message: more ? 'Choose this to list them all.' : wide ? 'Choose this to read its indexes as unsigned.' : '',
     };
   }
@@ -66,6 +75,7 @@ export function findingOf(line) {
   return {
     code, where, message: `${message[0]?.toUpperCase() ?? ''}${message.slice(1)}`,
     place: at ? at.slice(1).map(Number) : null, linedef: Number(/ of linedef (\d+)$/.exec(message)?.[1] ?? -1),
+    sector: Number(/^sector (\d+)$/.exec(where)?.[1] ?? -1),
   };
 }
 

@@ -134,10 +134,10 @@ function labelled(file, label) {
 }
 
 /**
- * The first two numbers of each record of a table of `show`. There may be a million of them, so they are read from the bytes.
- * @param {Uint8Array} shown @param {string} table
+ * Some numbers of each record of a table of `show`, by their places in its line. There may be a million of them, so they are read from the bytes.
+ * @param {Uint8Array} shown @param {string} table @param {number[]} places in their order
  */
-function pairsOf(shown, table) {
+function fieldsOf(shown, table, places) {
   const next = (/** @type {number} */ from) => shown.indexOf(10, from) + 1 || shown.length, first = table.charCodeAt(0);
   let at = 0;
   while (at < shown.length && !(shown[at] === first && isName(shown, at, at + table.length + 1, `${table} `))) at = next(at);
@@ -146,30 +146,65 @@ function pairsOf(shown, table) {
     if (sign < 0) at++;
     let value = 0;
     for (; shown[at] >= 48; at++) value = 10 * value + shown[at] - 48;
-    if (shown[at] === 32) at++;
     return sign * value;
   };
-  const pairs = new Int32Array(2 * Number(text(shown.subarray(at, next(at))).split(' ')[1] ?? 0));
-  for (let k = 0; k < pairs.length; k += 2) {
+  const fields = new Int32Array(places.length * Number(text(shown.subarray(at, next(at))).split(' ')[1] ?? 0));
+  for (let k = 0; k < fields.length; k += places.length) {
     at = next(at);
-    number();
-    pairs.set([number(), number()], k);
+    for (let place = 0, wanted = 0; wanted < places.length; place++) {
+      if (place === places[wanted]) fields[k + wanted++] = number();
+      else while (at < shown.length && shown[at] > 32) at++;
+      if (shown[at] === 32) at++;
+    }
   }
-  return pairs;
+  return fields;
 }
 
 /**
  * The ends of the linedefs: x y x y of each, where both vertexes are there.
- * @param {Uint8Array} shown
+ * @param {Int32Array} lines four fields of each, of which the first two are its vertexes @param {Int32Array} places of the vertexes
  */
-function endsOf(shown) {
-  const lines = pairsOf(shown, 'LINEDEFS'), places = pairsOf(shown, 'VERTEXES');
-  const ends = new Int32Array(2 * lines.length).fill(NOWHERE);
-  for (let k = 0; k < lines.length; k += 2) {
+function endsOf(lines, places) {
+  const ends = new Int32Array(lines.length).fill(NOWHERE);
+  for (let k = 0; k < lines.length; k += 4) {
     const [a, b] = [2 * lines[k], 2 * lines[k + 1]];
-    if (a in places && b in places) ends.set([places[a], places[a + 1], places[b], places[b + 1]], 2 * k);
+    if (a in places && b in places) ends.set([places[a], places[a + 1], places[b], places[b + 1]], k);
   }
   return ends;
+}
+
+/**
+ * The linedefs about each sector: those of sector `s` stand in `bounds` from place `first[s]` to `first[s + 1]`.
+ * @param {Int32Array} lines four fields of each, of which the last two are its sidedefs @param {Int32Array} sectors of the sidedefs
+ */
+function boundsOf(lines, sectors) {
+  /** @param {(sector: number, line: number) => void} act what is done for each linedef and each sector that it faces */
+  const each = (act) => {
+    for (let k = 0; k < lines.length; k += 4) {
+      const front = sectors[lines[k + 2]] ?? -1, back = sectors[lines[k + 3]] ?? -1;
+      if (front >= 0) act(front, k / 4);
+      if (back >= 0 && back !== front) act(back, k / 4);
+    }
+  };
+  const first = new Int32Array(2 + sectors.reduce((most, sector) => Math.max(most, sector), 0));
+  each((sector) => { first[sector + 1]++; });
+  for (let sector = 1; sector < first.length; sector++) first[sector] += first[sector - 1];
+  const bounds = new Int32Array(first[first.length - 1]), next = first.slice();
+  each((sector, line) => { bounds[next[sector]++] = line; });
+  return { first, bounds };
+}
+
+const IS_JUDGED = ',"format":"doom",'; // no name and no path has such letters: their quotes are escaped
+
+/** How many lines of a survey are of levels that are judged. There may be a million of them. @param {LinesData} lines */
+function judgedOf({ bytes, ends }) {
+  let judged = 0;
+  for (let k = 0; k < ends.length; k++) {
+    let at = k ? ends[k - 1] + 1 : 0;
+    while (at < ends[k] && !isName(bytes, at, at + IS_JUDGED.length, IS_JUDGED)) at++;
+    if (at < ends[k]) judged++;
+  }
+  return judged;
 }
 
 // Jobs -------------------------------------------------------------------------------------------------------------------------
@@ -183,10 +218,11 @@ const jobs = {
     return { kind: firstLine(lumps).split(' ')[2], ...contents(lumps.answer) };
   },
 
-  /** An object of each level, as lines. @param {Asked & { path: string, count: number }} asked */
+  /** An object of each level, as lines, and how many of them are of levels that are judged. @param {Asked & { path: string, count: number }} asked */
   async survey(asked) {
     const { bytes } = await hold(asked), bases = await basesOf(asked);
-    return linesOf((await judge(asked, { command: 'survey' }, bases, bytes, 65536 + 400 * asked.count, asked.path)).answer);
+    const lines = linesOf((await judge(asked, { command: 'survey' }, bases, bytes, 65536 + 400 * asked.count, asked.path)).answer);
+    return { lines, judged: judgedOf(lines) };
   },
 
   /** All findings of all levels, as text. @param {Asked & { path: string }} asked */
@@ -224,10 +260,12 @@ const jobs = {
     return picture ? { picture, svg: ended.answer } : { why: 'the picture is too large to be shown here; it can be saved', svg: ended.answer };
   },
 
-  /** The ends of all linedefs. @param {AskedLevel} asked */
+  /** The ends of all linedefs, and which are about each sector. @param {AskedLevel} asked */
   async ends(asked) {
     const { named, name } = await alone(asked);
-    return endsOf((await askLook(['show', ...reading(asked), name], named, undefined, 65536 + 3 * named.length)).answer);
+    const shown = (await askLook(['show', ...reading(asked), name], named, undefined, 65536 + 3 * named.length)).answer;
+    const lines = fieldsOf(shown, 'LINEDEFS', [1, 2, 6, 7]);
+    return { ends: endsOf(lines, fieldsOf(shown, 'VERTEXES', [1, 2])), ...boundsOf(lines, fieldsOf(shown, 'SIDEDEFS', [6])) };
   },
 
   /** The line of `points` or of `blocks` at a place, or why there is none. @param {AskedLevel & { word: string, x: number, y: number }} asked */

@@ -6,8 +6,9 @@ import { wait } from './browser.mjs';
 import { measure } from './measure.mjs';
 import { contrast, keys, labels, phone } from './page_access.mjs';
 import { games } from './page_games.mjs';
+import { mapper } from './page_mapper.mjs';
 import {
-  browser, built, check, drawn, drawnAnew, dropRooms, filterBy, fresh, hasInk, isHidden, isNative, judged, options, pick, pictures, pinAt,
+  browser, built, check, drawn, drawnAnew, dropRooms, filterBy, fresh, hasInk, isHidden, isNative, judged, legend, options, pick, pictures, pinAt,
   pinBy, placeOf, pointTold, printed, programs, room, roomsFile, root, saved, server, tally, textOf, textsOf, twoRooms, valueOf, viewOf,
   withhold, written,
 } from './person.mjs';
@@ -93,9 +94,6 @@ async function picture() {
   check('the brighter room is drawn brighter', east[0] > west[0], true);
 }
 
-/** What the legend tells. @returns {Promise<string[]>} */
-const legend = () => browser.run("[...document.querySelectorAll('#legend li')].filter((e) => e.checkVisibility()).map((e) => e.textContent)");
-
 async function point() {
   const [, east] = await groundOfRooms();
   await pinAt(100, 100);
@@ -118,7 +116,7 @@ async function point() {
   await pointTold('20000');
   check('a point out of range', await textOf('#point-line'), "20000 0 isn't told: places reach from -16384 to 16383");
   await browser.press('#unpin');
-  check('let go', await isHidden('#point'), true);
+  check('unpinned', await isHidden('#point'), true);
   await browser.press('#fit');
   check('and the map is as before', (await groundOfRooms())[1], east);
 }
@@ -152,7 +150,7 @@ async function unknown() {
   await browser.until("document.querySelector('#point-line').textContent.startsWith('300 100')", 'a point without its sight');
   await browser.run("document.querySelector('#stop').click()");
   await pointTold('300 100');
-  check('a sight that was stopped is not told', [...(await told()).slice(0, 2), await isHidden('#unknown-row')], ['not told', 'not told', true]);
+  check('a sight that was stopped is unknown', [...(await told()).slice(0, 2), await isHidden('#unknown-row')], ['unknown', 'unknown', true]);
   await browser.run('free()');
   await pinBy('100 100');
   await pointTold('100 100');
@@ -186,7 +184,7 @@ async function moves() {
   await browser.until("!document.querySelector('#point').hidden", 'a point by a key');
   check('Enter pins the middle', (await textOf('#point-line')).split(' ').slice(0, 2), [String(Math.floor(moved[0])), String(Math.floor(moved[1]))]);
   await browser.key('Escape');
-  check('Escape lets it go', await isHidden('#point'), true);
+  check('Escape unpins it', await isHidden('#point'), true);
 }
 
 async function finer() {
@@ -358,6 +356,7 @@ async function faults() {
   await browser.until("[...document.querySelectorAll('#findings .row')].pop().getAttribute('aria-posinset') === '21'", 'the last finding');
   check('as many as are listed at first', (await textsOf('#findings .row-name')).pop(), '80 more');
   await browser.key('End');
+  await browser.key('Enter');
   await browser.until("document.querySelector('#findings .row')?.getAttribute('aria-setsize') === '100'", 'all findings');
   check('all of them', await textOf('#findings .row .row-message'), "Start vertex 4000 isn't there (6 vertexes)");
   await pick('levels', 'MAP02');
@@ -462,8 +461,9 @@ async function manyFindings() {
   await fresh();
   await answering(`a level of ${lost} findings, to its picture`, () => browser.drop(file), "document.querySelector('#map').dataset.drawn === 'MAP01'");
   await browser.run("document.querySelector('#findings').focus()");
-  await answering('the list of all', () => browser.key('End'), `document.querySelector('#findings .row')?.getAttribute('aria-setsize') === '${lost}'`);
-  await answering('the last of them, by a key', () => browser.key('End'), "document.querySelector('#findings [aria-selected=true]')");
+  await browser.key('End');
+  await answering('the list of all', () => browser.key('Enter'), `document.querySelector('#findings .row')?.getAttribute('aria-setsize') === '${lost}'`);
+  await answering('the last of them, by a key', () => browser.key('End'), `document.querySelector('#findings [aria-selected=true]')?.getAttribute('aria-posinset') === '${lost}'`);
   check('the last of very many findings', await textOf('#findings [aria-selected=true] .row-name'), `linedef ${lost + 6}`);
   check('only findings in view', await browser.run("document.querySelectorAll('#findings .row').length < 40"), true);
   await browser.run("document.querySelector('#map').focus()");
@@ -580,6 +580,9 @@ async function wide() {
   check('faults under the signed reading alone', [await textOf('#told'), (await textsOf('#findings .row-name')).pop()], ['1 fault', 'sound with --wide']);
   await browser.run("document.querySelector('#findings').focus()");
   await browser.key('End');
+  await drawnAnew();
+  check('a key that passes the word on that reads nothing anew', await browser.run("document.querySelector('#wide').checked"), false);
+  await browser.key('Enter');
   await browser.until("document.querySelector('#told').textContent === 'sound, 3 warnings'", 'the wide reading');
   await judged();
   check('are none under the wide one', await textOf('#levels .row-state'), 'sound · W1 W6');
@@ -656,8 +659,9 @@ const isThere = await Promise.race([browser.attach().then(() => true, () => fals
 if (!isThere) console.log("skipped, as Chromium doesn't start here: the page");
 let at = 'the start';
 try {
-  const all = [files, levels, picture, point, moves, finer, findings, reading, early, late, edge, unknown, warnings, games, faults, undrawn, demos, saves,
-    markup, hostile, manyFindings, large, stop, stopAll, refusals, wide, contrast, labels, keys, phone, unable, unserved, engineless, anyHost, alone, policy];
+  const all = [files, levels, picture, point, moves, finer, findings, reading, early, late, edge, unknown, warnings, games, mapper, faults, undrawn, demos,
+    saves, markup, hostile, manyFindings, large, stop, stopAll, refusals, wide, contrast, labels, keys, phone, unable, unserved, engineless, anyHost, alone,
+    policy];
   const only = valueOf('--only').split(',');
   for (const one of all.filter(({ name }) => isThere && (!only[0] || only.includes(name)))) {
     at = one.name;

@@ -84,6 +84,8 @@ export const hasInk = async (ink, x, y, from = 0, to = from) => {
     for (let right = ${from}; right <= ${to}; right++) if (isIt(right)) return true;
     return false; })()`);
 };
+/** What the legend tells. @returns {Promise<string[]>} */
+export const legend = () => browser.run("[...document.querySelectorAll('#legend li')].filter((e) => e.checkVisibility()).map((e) => e.textContent)");
 /** Pins a point by its numbers. @param {string} numbers */
 export const pinBy = async (numbers) => {
   await browser.run(`{ document.querySelector('#at').value = ${JSON.stringify(numbers)}; }`);

@@ -90,3 +90,7 @@ export const twoUnknown = ({ SIDEDEFS, SECTORS }) => {
 };
 /** Makes linedef 4 tell two sides, where it has one. @param {Record<string, Buffer>} lumps */
 export const oneMistaken = ({ LINEDEFS }) => { LINEDEFS.writeUInt16LE(4, 4 * 14 + 4); };
+/** Lets linedef 5 name a front sidedef that isn't there. @param {Record<string, Buffer>} lumps */
+export const oneLost = ({ LINEDEFS }) => { LINEDEFS.writeUInt16LE(60000, 5 * 14 + 10); };
+/** Lets the node have its own ssector 0 twice: faults with which warnings are looked for. @param {Record<string, Buffer>} lumps */
+export const oneTwice = ({ NODES }) => { NODES.writeUInt16LE(0x8000, 24); };

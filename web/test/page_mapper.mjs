@@ -1,0 +1,321 @@
+// The cases of the page of a mapper, who follows findings, mends them and opens the file again.
+import { readFileSync } from 'node:fs';
+import { join } from 'node:path';
+import { wait } from './browser.mjs';
+import {
+  browser, check, drawn, drawnAnew, filterBy, fresh, hasInk, isHidden, judged, legend, pick, pinBy, placeOf, pointTold, room, root, textOf,
+  textsOf, viewOf, written,
+} from './person.mjs';
+import { demo, flats, lostLinedef, oneLost, oneMistaken, oneTwice, rooms, textures, twoOverlooked, twoUnknown, wad, wallsOfRooms, words } from './wads.mjs';
+
+/** Waits until the map stands still. */
+async function still() {
+  for (let before = '', now = 'none'; before !== now;) {
+    before = now;
+    await wait(400);
+    now = (await viewOf()).join(' ');
+  }
+  await drawnAnew();
+}
+
+/** A level that the two damages together make. @param {...(lumps: Record<string, Buffer>) => void} damages */
+const damaged = (...damages) => rooms('MAP01', { damage: (lumps) => damages.forEach((damage) => damage(lumps)) });
+
+/** What the page says wasn't looked for; nothing where that is hidden. @returns {Promise<string>} */
+const unlooked = async () => await isHidden('#unlooked') ? '' : textOf('#unlooked');
+
+/** Faults that keep warnings from being looked for are told as such, whether or not a game's file is there. */
+async function silenced() {
+  const lost = written('lost.wad', wad(damaged(twoUnknown, oneLost))), twice = written('twice.wad', wad(damaged(twoUnknown, oneTwice)));
+  const told = "Warnings aren't looked for until F3 to F9 are mended.";
+  await fresh();
+  await browser.drop(lost);
+  await drawn('MAP01');
+  check('a fault that silences warnings is told', [await textsOf('#findings .code'), await unlooked()], [['F4'], told]);
+  await fresh();
+  await browser.drop(lost, written('game.wad', wad([...rooms('MAP01'), ...wallsOfRooms()], 'IWAD')));
+  await drawn('MAP01');
+  check('and over a game\'s file', [await textsOf('#findings .code'), await unlooked()], [['F4'], told]);
+  await browser.drop(twice);
+  await browser.until("document.querySelector('#crumbs').textContent === 'twice.wadMAP01' && document.querySelector('#map').dataset.drawn", 'other faults');
+  check('other faults silence two of them', [await textsOf('#findings .code'), await unlooked()],
+    [['F15', 'F16', 'W9', 'W10'], "W3 and W5 aren't looked for until all faults are mended."]);
+}
+
+/** The row that stands for more findings waits for Enter or a click; then the first that is new is chosen in its place. */
+async function more() {
+  const lost = Buffer.concat(Array.from({ length: 33 }, () => lostLinedef));
+  const spare = (/** @type {Record<string, Buffer>} */ lumps) => {
+    lumps.SEGS = Buffer.concat([lumps.SEGS, ...Array.from({ length: 24 }, () => words(90, 91, 0, 0, 0, 0))]);
+  };
+  const file = written('more.wad', wad(rooms('MAP01', { linedefs: lost, damage: spare })));
+  const chosen = () => browser.run("(() => { const e = document.querySelector('#findings [aria-selected=true]'); return [e?.ariaPosInSet, e?.ariaSetSize, e?.querySelector('.row-name').textContent]; })()");
+  const listed = () => browser.until("document.querySelector('#findings .row')?.getAttribute('aria-setsize') === '57' && document.querySelector('#findings [aria-selected=true]')", 'all findings');
+  await fresh();
+  await browser.drop(file);
+  await drawn('MAP01');
+  await browser.run("document.querySelector('#findings').focus()");
+  for (let k = 0; k < 21; k++) await browser.key('ArrowDown');
+  await drawnAnew();
+  check('an arrow key onto the row of more lists nothing', await chosen(), ['21', '42', '13 more']);
+  await browser.key('ArrowDown');
+  check('and the next goes on', await chosen(), ['22', '42', 'seg 8']);
+  await browser.key('End');
+  await browser.key('Enter');
+  await listed();
+  check('Enter lists all, and chooses the first that is new', await chosen(), ['54', '57', 'seg 28']);
+  await browser.key('ArrowUp');
+  check('from which the keys go on', await chosen(), ['53', '57', 'seg 27']);
+  await pick('levels', 'MAP01');
+  await drawn('MAP01');
+  await browser.until("document.querySelector('#findings .row')?.getAttribute('aria-setsize') === '42'", 'a list that is short again');
+  await browser.run("document.querySelector('#findings').focus()");
+  for (let k = 0; k < 21; k++) await browser.key('ArrowDown');
+  await browser.press('#findings [aria-selected=true]');
+  await listed();
+  check('and so does a click', await chosen(), ['21', '57', 'linedef 27']);
+}
+
+/** What the page shows: the file and the level of the crumbs, the title, the verdict, the marked level, and whether the level can be saved. */
+const shown = () => browser.run(`[...['#crumbs', '#title', '#told', '#levels [aria-selected=true] .row-name'].map((s) => document.querySelector(s)?.textContent ?? ''),
+  !document.querySelector('#save-pwad').disabled]`);
+
+/** A file that is chosen shows its own level: that of the same name, or else its first. */
+async function others() {
+  const first = written('first.wad', wad([...rooms('MAP01'), ...rooms('MAP02', { damage: oneMistaken })]));
+  const second = written('second.wad', wad([...rooms('MAP03'), ...rooms('MAP02', { damage: oneLost })])), third = written('third.wad', wad(rooms('MAP04')));
+  const at = (/** @type {string} */ crumbs) => browser.until(`document.querySelector('#crumbs').textContent === '${crumbs}' && document.querySelector('#map').dataset.drawn`, crumbs);
+  await fresh();
+  await browser.drop(first, second, third, written('walk.lmp', demo(35)), written('notes.txt', 'notes about the rooms'), written('none.wad', wad([['BULK', Buffer.alloc(9)]])));
+  await browser.until("document.querySelectorAll('#files .row').length === 6 && !document.querySelector('#files').textContent.includes('reading')", 'six files');
+  await drawn('MAP01');
+  await pick('levels', 'MAP02');
+  await at('first.wadMAP02');
+  await pick('files', 'second.wad');
+  await at('second.wadMAP02');
+  await judged();
+  check('a file that is chosen shows its level of the same name', await shown(), ['second.wadMAP02', 'MAP02', '1 fault', 'MAP02 doom', true]);
+  await pick('files', 'third.wad');
+  await at('third.wadMAP04');
+  check('or else its first', await shown(), ['third.wadMAP04', 'MAP04', 'sound', 'MAP04 doom', true]);
+  await pick('files', 'notes.txt');
+  const refused = 'Refused: not a WAD file: it begins with neither IWAD nor PWAD.';
+  check('one that is refused shows nothing of another', [await shown(), await textOf('#map-none'), await textOf('#findings-none')],
+    [['notes.txt', 'No level', '', '', false], refused, refused]);
+  await pick('files', 'none.wad');
+  check('nor does one without levels', [await shown(), await textOf('#map-none')], [['none.wad', 'No level', '', '', false], 'No levels in this file.']);
+  await pick('files', 'third.wad');
+  await at('third.wadMAP04');
+  await browser.drop(written('bulk.wad', wad([['BULK', Buffer.alloc(9)]])));
+  await browser.until("document.querySelector('#title').textContent === 'No level'", 'a file without levels that is dropped');
+  check('nor one that is dropped', await shown(), ['bulk.wad', 'No level', '', '', false]);
+  await pick('files', 'walk.lmp');
+  await browser.until("document.querySelector('#told').textContent.startsWith('version 109')", 'a demo');
+  check('a demo is shown', (await shown()).slice(0, 2), ['walk.lmp', 'walk.lmp']);
+  await pick('files', 'first.wad');
+  await at('first.wadMAP01');
+  await pick('levels', 'MAP02');
+  await at('first.wadMAP02');
+  await pick('files', 'first.wad');
+  await drawnAnew();
+  check('the file of what is shown leaves it', await shown(), ['first.wadMAP02', 'MAP02', 'sound, 1 note', 'MAP02 doom', true]);
+}
+
+/** A file that was saved and is dropped again takes the place of the one before, and what is chosen stays. */
+async function again() {
+  const names = () => textsOf('#files .row-name'), game = wad([...rooms('MAP01'), ...wallsOfRooms()], 'IWAD');
+  /** Writes the file of a name anew and drops it. @param {string} name @param {Buffer | string} body @param {string} [told] the verdict that follows */
+  const drop = async (name, body, told = '') => {
+    await browser.run("{ document.querySelector('#told').textContent = ''; }");
+    await browser.drop(written(name, body));
+    await browser.until(`document.querySelector('#told').textContent === '${told}' && !document.querySelector('#files').textContent.includes('reading')`, `${name} again`);
+    await judged();
+  };
+  await fresh();
+  await browser.drop(written('game.wad', game), written('mine.wad', wad([...rooms('MAP01'), ...rooms('MAP02', { damage: oneMistaken }), ['DEMO1', demo(35)]])));
+  await drawn('MAP01');
+  await pick('levels', 'MAP02');
+  await drawn('MAP02');
+  await filterBy('map02');
+  await drop('mine.wad', wad([...rooms('MAP00'), ...rooms('MAP01'), ...rooms('MAP02', { damage: twoUnknown })]), 'sound, 2 warnings');
+  check('a file that is dropped again takes the place of the one before', await names(), ['game.wad', 'mine.wad']);
+  check('and shows what it has now', (await textsOf('#files .row-more'))[1].split(' · ').slice(1), ['3 levels over game.wad']);
+  check('of the same level', await shown(), ['mine.wadMAP02', 'MAP02', 'sound, 2 warnings', 'MAP02 doom', true]);
+  check('and the filter stays', [await textsOf('#levels .row-name'), await browser.run("document.querySelector('#filter').value")], [['MAP02 doom'], 'map02']);
+  await filterBy('');
+  await drop('mine.wad', wad(rooms('MAP01')), 'sound');
+  check('where that level is gone the first is shown', await shown(), ['mine.wadMAP01', 'MAP01', 'sound', 'MAP01 doom', true]);
+  await drop('mine.wad', wad(rooms('MAP01', { damage: twoUnknown })), 'sound, 2 warnings');
+  await drop('game.wad', wad([...rooms('MAP01'), ['TEXTURE1', textures(['STEP1', 'STONE2', 'NOWALL'])], ...flats('CEIL1_1')], 'IWAD'), 'sound, 2 warnings');
+  check('so does the game\'s file, and what stands on it is judged anew', [await names(), (await shown())[0], await textOf('#codes')], [['game.wad', 'mine.wad'], 'mine.wadMAP01', 'W10 2']);
+  await drop('game.wad', wad(rooms('MAP01')), 'sound');
+  await pick('files', 'mine.wad');
+  await browser.until("document.querySelector('#crumbs').textContent === 'mine.wadMAP01' && document.querySelector('#told').textContent === 'sound'", 'no game');
+  check('as where it is none any more', [await textsOf('#files .row-state'), await textOf('#codes')], [['PWAD', 'PWAD'], '']);
+  await browser.run("{ document.querySelector('#title').textContent = ''; }");
+  await browser.drop(written('mine.wad', 'no level any more'));
+  await browser.until("document.querySelector('#title').textContent === 'No level'", 'a file that is none any more');
+  check('and nothing is left of one that is refused', await textsOf('#files .row-state'), ['PWAD', 'refused']);
+}
+
+/** A finding on a sector leads to its outline; one without a place takes the mark of the one before away, and says so. */
+async function sectors() {
+  const file = written('flat.wad', wad([...rooms('MAP01', { damage: (lumps) => {
+    twoUnknown(lumps);
+    lumps.THINGS = lumps.THINGS.subarray(10); // no player 1 start
+    const [west, east] = [lumps.SECTORS.subarray(0, 26), lumps.SECTORS.subarray(26)];
+    lumps.SECTORS = Buffer.concat([west, east, west, west, east]); // the last three have no linedef
+    lumps.REJECT = Buffer.alloc(4);
+  } }), ...wallsOfRooms()]));
+  await fresh();
+  await browser.drop(file);
+  await drawn('MAP01');
+  check('findings with a sector and without a place', await textsOf('#findings .row > span:nth-child(-n + 2)'), ['N11', 'level', 'W9', 'sidedef 5', 'W10', 'sector 1', 'W10', 'sector 4']);
+  await drawnAnew();
+  const outline = () => Promise.all([[256, 60], [400, 256], [512, 60], [400, 0], [100, 256]].map(([x, y]) => hasInk('fault', x, y)));
+  check('a sector is marked as the other findings are', await outline(), [true, true, true, true, false]);
+  await browser.mouse('mouseMoved', ...await placeOf(400, 254));
+  check('and told under the pointer', (await textOf('#under')).split('  –  ')[0], "W10 sector 1 · Floor flat NOFLAT isn't there");
+  await browser.run("document.querySelector('#findings').focus()");
+  await browser.key('End');
+  await browser.until("document.querySelector('#under').textContent === 'W10 sector 4 has no place on the map.'", 'a sector without linedefs');
+  await browser.key('ArrowUp');
+  await browser.until("document.querySelector('#map').dataset.view.startsWith('384.000 128.000')", 'the view at the sector');
+  await still();
+  const [, , zoom] = await viewOf(), width = await browser.run("document.querySelector('#map').clientWidth");
+  check('a finding on a sector shows all of it', [await outline(), 256 * zoom < width, 256 * zoom > 60], [[true, true, true, true, false], true, true]);
+  check('with a line that is wider than the other marks', await hasInk('fault', 512 - 2 / zoom, 60), true);
+  await browser.key('ArrowUp');
+  await browser.until("document.querySelector('#map').dataset.view.startsWith('512.000 128.000')", 'the view at the linedef');
+  await still();
+  check('one on a linedef has a mark about it', await hasInk('fault', 512, 128, 19), true);
+  const view = await viewOf();
+  await browser.key('Home');
+  await still();
+  check('one without a place moves nothing, and takes that mark away', [await viewOf(), await hasInk('fault', 512, 128, 19)], [view, false]);
+  check('and says so', await textOf('#under'), 'N11 level has no place on the map.');
+}
+
+/** Only levels that were judged are told as such. */
+async function unjudged() {
+  const udmf = /** @type {[string, Buffer][]} */ ([['MAP08', Buffer.alloc(0)], ['TEXTMAP', Buffer.alloc(0)]]), name = ',"format":"doom",.wad';
+  for (const [lumps, told] of /** @type {[[string, Buffer][], string][]} */ ([[udmf, '1 level, 0 judged'], [[...rooms('MAP01'), ...udmf], '2 levels, 1 judged'],
+    [rooms('MAP01'), '1 level judged']])) {
+    await fresh();
+    await browser.run("{ window.told = []; new MutationObserver(() => window.told.push(document.querySelector('#said').textContent)).observe(document.querySelector('#said'), { childList: true }); }");
+    await browser.drop(written(name, wad(lumps)));
+    await judged();
+    check(`how many are judged: ${told}`, await browser.run("window.told.filter((one) => one.endsWith(' judged'))"), [`${name}: ${told}`]);
+  }
+}
+
+/** Notes and warnings of many codes. @param {Record<string, Buffer>} lumps */
+const manyCodes = (lumps) => {
+  [twoOverlooked, twoUnknown, oneMistaken].forEach((damage) => damage(lumps));
+  lumps.SIDEDEFS.write('-\0', 5 * 30 + 20, 'latin1');
+  lumps.SIDEDEFS.write('NOWALL', 3 * 30 + 20, 'latin1');
+  lumps.THINGS = lumps.THINGS.subarray(10, 20);
+};
+
+/** A level's name has room beside many codes; and where three columns have none, one is shown at a time. */
+async function widths() {
+  const file = written('codes.wad', wad([...rooms('MAP01', { damage: manyCodes }), ...rooms('LONGNAME', { damage: manyCodes }), ...wallsOfRooms()]));
+  const cut = () => browser.run("[...document.querySelectorAll('#levels .level-name > :first-child')].filter((e) => e.scrollWidth > e.clientWidth || !e.clientWidth).map((e) => e.textContent)");
+  for (const width of [1440, 1280, 1024]) {
+    await browser.screen(width, 800, 'dark');
+    await fresh();
+    await browser.drop(file);
+    await drawn('MAP01');
+    await judged();
+    check(`a level of many codes, ${width}`, (await textsOf('#levels .row-state'))[0], 'sound, 2 notes · W2 W3 W7 W8 W9 W10');
+    check(`keeps its name, ${width}`, await cut(), []);
+    check(`and tells all of them, ${width}`, await browser.run("document.querySelector('#levels .row-state').title.split('\\n')[0]"), 'sound, 2 notes · W2 W3 W7 W8 W9 W10');
+  }
+  const panes = () => browser.run("[...document.querySelectorAll('.pane')].filter((e) => e.checkVisibility()).map((e) => e.dataset.pane)");
+  check('four panes in three columns', await panes(), ['files', 'levels', 'map', 'notes']);
+  for (const width of [880, 768]) {
+    await browser.screen(width, 1024, 'dark');
+    await browser.press('.tabs [data-to=map]');
+    check(`one pane at a time, ${width}`, await panes(), ['map']);
+  }
+}
+
+/** The legend says how many findings are marked where there are more. */
+async function marked() {
+  const twoSided = Buffer.concat(Array.from({ length: 30 }, (_, k) => words(0, 1, 4, 0, 0, k ? 0 : 7, -1)));
+  await fresh();
+  await browser.drop(written('marked.wad', wad(rooms('MAP01', { linedefs: twoSided }))));
+  await drawn('MAP01');
+  await browser.until("document.querySelector('#legend').classList.contains('found')", 'the marks');
+  const codes = await textOf('#codes'), total = [...codes.matchAll(/ (\d+)/g)].reduce((sum, [, n]) => sum + Number(n), 0);
+  const listed = await browser.run("Number(document.querySelector('#findings .row').ariaSetSize)");
+  const left = [...codes.matchAll(/ (\d+)/g)].filter(([, n]) => Number(n) > 20).length;
+  check('the legend says how many findings are marked', await legend(), [`${listed - left} of ${total} findings`]);
+  await browser.run("document.querySelector('#findings').focus()");
+  for (let k = 0; k < 21; k++) await browser.key('ArrowDown');
+  await browser.key('Enter');
+  await browser.until(`document.querySelector('#findings .row').ariaSetSize === '${total}'`, 'all findings');
+  await browser.until("document.querySelector('#legend-found').textContent === 'findings'", 'all marks');
+  check('and no number once all are', await legend(), ['findings']);
+}
+
+/** Each code is told in words, where it is pointed at and where it is heard. */
+async function meanings() {
+  const page = readFileSync(join(root, 'docs/wadlens.1'), 'utf8'), told = page.slice(page.indexOf('.SH FINDINGS'), page.indexOf('.SH DIAGNOSTICS'));
+  const codes = [...told.matchAll(/^([FNW]\d+)\t/gm)].map(([, code]) => code);
+  await fresh();
+  const untold = await browser.run(`(async () => { const { meaningOf } = await import(new URL('codes.mjs', document.baseURI));
+    return ${JSON.stringify(codes)}.filter((code) => !meaningOf(code).startsWith({ F: 'Fault ', N: 'Note ', W: 'Warning ' }[code[0]] + code + ': ')); })()`);
+  check('each code of the man page has a meaning', [codes.length > 35, untold], [true, []]);
+  check('faults, notes and warnings are explained before any file', await browser.run("[...document.querySelectorAll('#welcome p')].some((e) => e.checkVisibility() && /fault.*note.*warning/.test(e.textContent))"), true);
+  await browser.drop(written('codes.wad', wad(rooms('MAP01', { damage: manyCodes }))));
+  await drawn('MAP01');
+  await judged();
+  const meaning = 'Note N3: a linedef is two-sided, without a back sidedef.';
+  check('a code in words', await browser.run("[...document.querySelectorAll('#findings .code, #codes span')].filter((e) => e.textContent.startsWith('N3')).map((e) => e.title)"), [meaning, meaning]);
+  check('beside a level, too', await browser.run("document.querySelector('#levels .row-state').title.split('\\n')[1]"), meaning);
+  const { nodes } = await browser.send('Accessibility.getFullAXTree');
+  const described = nodes.find((/** @type {any} */ node) => node.role?.value === 'option' && node.name?.value.includes('N3') && node.description?.value);
+  check('and heard', described?.description.value, meaning);
+  await browser.drop(written('lost.wad', wad(rooms('MAP01', { damage: oneLost }))));
+  await browser.until("document.querySelector('#crumbs').textContent === 'lost.wadMAP01' && document.querySelector('#map').dataset.drawn", 'a level with a fault');
+  await pinBy('100 100');
+  await pointTold('100 100');
+  check('a level with faults answers no point', await textOf('#point-line'), "100 100 can't be answered while the level has faults");
+  check('nor what it sees', [await textOf('#point-clear'), await textOf('#point-blocked')], ['unknown', 'unknown']);
+  check('and is unpinned by a word', await textOf('#unpin'), 'Unpin');
+}
+
+/** Whether an element is shown. @param {string} selector */
+const isSeen = (selector) => browser.run(`document.querySelector('${selector}').checkVisibility()`);
+
+/** Before any file, and where a demo is shown, there is no map to skip to; and what is dropped there is told once. */
+async function without() {
+  await fresh();
+  check('no way to a map before any file', await isSeen('.skip'), false);
+  await browser.key('Tab');
+  check('the first that is reached there', await browser.run('document.activeElement.id'), 'choose-too');
+  const data = { items: [], files: [join(room, 'rooms.wad')], dragOperationsMask: 1 };
+  const ink = () => browser.run("(({ color, display }) => [display, color])(getComputedStyle(document.querySelector('.over')))");
+  await browser.send('Input.dispatchDragEvent', { type: 'dragEnter', x: 300, y: 300, data });
+  check('files over the page are told by its own words alone', await ink(), ['grid', 'rgba(0, 0, 0, 0)']);
+  await browser.send('Input.dispatchDragEvent', { type: 'dragCancel', x: 300, y: 300, data });
+  await browser.screen(390, 844, 'dark', true);
+  await fresh();
+  await browser.drop(written('walk.lmp', demo(35)));
+  await browser.until("document.querySelector('#told').textContent.startsWith('version 109')", 'a demo');
+  check('nor where a demo is shown', await isSeen('.skip'), false);
+  await browser.press('.tabs [data-to=notes]');
+  check('a demo has no details, and says so', [await isSeen('#findings-none'), await textOf('#findings-none'), await isSeen('.point')], [true, 'A demo has no findings.', false]);
+  await browser.drop(written('walked.wad', wad(rooms('MAP01'))));
+  await drawn('MAP01');
+  await browser.press('.tabs [data-to=notes]');
+  check('a level has them', [await textOf('#findings-none'), await isSeen('.point')], ['Nothing was found: all links and nodes hold together, and there is nothing to warn of.', true]);
+}
+
+export async function mapper() {
+  for (const one of [silenced, more, others, again, sectors, unjudged, widths, marked, meanings, without]) {
+    await browser.screen(1440, 900, 'dark');
+    await one();
+  }
+}

@@ -8,7 +8,7 @@ import { make } from './rows.mjs';
 import { findingOf, get, field, inShort, isNarrow, notJudged, pane, say, unlookedWords, verdict, wordsOf } from './words.mjs';
 
 /** @typedef {import('./words.mjs').Level} Level @typedef {import('./words.mjs').Finding} Finding */
-/** @typedef {import('./questions.mjs').Questions} Questions */
+/** @typedef {import('./questions.mjs').Questions} Questions @typedef {import('./map_view.mjs').View} View */
 /** @typedef {{ ends: Int32Array, first: Int32Array, bounds: Int32Array }} Linedefs  where they lie, and which are about each sector: see worker.mjs */
 /** @typedef {import('./worker.mjs').AskedLevel & { wantsGame: boolean }} Asked  what a question about a level has */
 
@@ -21,6 +21,9 @@ const COUNTS = /** @type {const} */ (['things', 'linedefs', 'sidedefs', 'vertexe
 
 /** Where each of REJECT's answers is listed. */
 const SIGHTS = [['point-clear', 'clear'], ['point-blocked', 'blocked'], ['point-unknown', 'unknown']];
+
+/** Whether two questions are about one level. In a file that is opened again it may have another entry. @param {Asked} a @param {Asked} b */
+const isSame = (a, b) => a.file.name === b.file.name && a.name === b.name && (a.key !== b.key || a.entry === b.entry);
 
 const whyNot = (/** @type {unknown} */ error) => error instanceof Stopped ? 'Stopped. Choose the level again to draw it.' : wordsOf(error);
 
@@ -50,6 +53,8 @@ export class LevelView {
     this.pins = 0; // a late answer of an earlier pin is let go
     this.choices = 0; // so is the late place of an earlier finding
     this.sector = -1; // of the pinned point
+    /** @type {{ view: View | null, pinned: { x: number, y: number } | null } | null} */
+    this.kept = null; // what a level that is shown again will have in view
     /** @type {Promise<unknown>} */
     this.drawing = Promise.resolve();
     this.map = new MapView(get('map'), {
@@ -78,10 +83,11 @@ export class LevelView {
   }
 
   /**
-   * Shows a level: what was found first, and then its picture; or why it isn't judged.
+   * Shows a level: what was found first, and then its picture; or why it isn't judged. One that is shown already keeps its view and its point.
    * @param {Asked} asked @param {string} why
    */
   async show(asked, why) {
+    this.kept = this.asked && isSame(this.asked, asked) ? this.kept ?? this.#inView() : null;
     this.asked = asked;
     this.finer.stop();
     this.clear(why);
@@ -95,6 +101,12 @@ export class LevelView {
     } catch (error) {
       if (this.asked === asked) this.clear(whyNot(error));
     }
+  }
+
+  /** The pinned point, and the part that is in view; none where it is the whole picture. */
+  #inView() {
+    const { picture, fitted, view, pinned } = this.map;
+    return { view: picture && !fitted ? view : null, pinned };
   }
 
   /**
@@ -148,13 +160,16 @@ export class LevelView {
     get('unlooked').textContent = left;
     get('unlooked').hidden = !left;
     get('pin').removeAttribute('disabled');
+    const { kept } = this;
+    if (kept?.pinned) this.pin(kept.pinned.x, kept.pinned.y);
     const { picture, svg, why } = await this.desk.ask('picture', { ...asked, cells: CELLS }, `Drawing ${asked.name}`)
       .catch((error) => ({ why: whyNot(error) })); // the findings stay
     if (this.asked !== asked) return;
     this.svg = svg ?? null;
     get('save-svg').toggleAttribute('disabled', !svg);
     this.#none(why ?? '');
-    this.map.show(picture ?? null);
+    this.map.show(picture ?? null, kept?.view);
+    this.kept = null;
     this.#tellSector(); // of a point that was pinned meanwhile
     this.#mark();
     get('map').setAttribute('aria-label', `Map of ${asked.name}: ${verdict(level, warnings)}`);
@@ -356,7 +371,7 @@ export class LevelView {
     get('under').textContent = get('point').hidden ? (this.map?.picture ? 'Click or tap the map to pin a point.' : '') : get('point-line').textContent;
   }
 
-  /** @param {import('./map_view.mjs').View} view */
+  /** @param {View} view */
   #moved({ x, y, zoom }) {
     get('map').dataset.view = `${x.toFixed(3)} ${y.toFixed(3)} ${zoom.toFixed(4)}`;
     const units = 2 ** Math.max(0, Math.floor(Math.log2((isNarrow() ? 60 : 110) / zoom)));

@@ -136,8 +136,8 @@ export class MapView {
     this.seen = { sector: -1, answers: /** @type {string[]} */ ([]) };
   }
 
-  /** Shows a picture, the whole of it; none with null. @param {Picture | null} picture */
-  show(picture) {
+  /** Shows a picture, from a view of it or the whole of it; none with null. @param {Picture | null} picture @param {View | null} [view] */
+  show(picture, view) {
     this.picture = picture;
     this.ground = picture && new Ground(picture);
     this.fine = null;
@@ -149,7 +149,7 @@ export class MapView {
       this.mistaken = pathOf(picture.mistaken.flatMap(({ at }) => at));
     }
     this.#ink();
-    this.fit();
+    if (picture && view) this.#set(view); else this.fit();
     if (this.found && this.frame.checkVisibility()) this.mark(this.found);
   }
 

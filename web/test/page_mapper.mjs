@@ -3,8 +3,8 @@ import { readFileSync } from 'node:fs';
 import { join } from 'node:path';
 import { wait } from './browser.mjs';
 import {
-  browser, check, drawn, drawnAnew, filterBy, fresh, hasInk, isHidden, judged, legend, pick, pinBy, placeOf, pointTold, room, root, textOf,
-  textsOf, viewOf, written,
+  browser, check, drawn, drawnAnew, filterBy, fresh, hasInk, isHidden, judged, legend, pick, pinBy, placeOf, pointTold, printed, room, root,
+  textOf, textsOf, viewOf, written,
 } from './person.mjs';
 import { demo, flats, lostLinedef, oneLost, oneMistaken, oneTwice, rooms, textures, twoOverlooked, twoUnknown, wad, wallsOfRooms, words } from './wads.mjs';
 
@@ -137,14 +137,25 @@ async function again() {
   await pick('levels', 'MAP02');
   await drawn('MAP02');
   await filterBy('map02');
-  await drop('mine.wad', wad([...rooms('MAP00'), ...rooms('MAP01'), ...rooms('MAP02', { damage: twoUnknown })]), 'sound, 2 warnings');
+  await pinBy('100 100');
+  await pointTold('100 100 sector');
+  await browser.press('#in');
+  await drawnAnew();
+  const view = await viewOf(), mended = wad([...rooms('MAP00'), ...rooms('MAP01'), ...rooms('MAP02', { damage: twoUnknown })]);
+  await drop('mine.wad', mended, 'sound, 2 warnings');
+  await drawn('MAP02');
   check('a file that is dropped again takes the place of the one before', await names(), ['game.wad', 'mine.wad']);
   check('and shows what it has now', (await textsOf('#files .row-more'))[1].split(' · ').slice(1), ['3 levels over game.wad']);
   check('of the same level', await shown(), ['mine.wadMAP02', 'MAP02', 'sound, 2 warnings', 'MAP02 doom', true]);
+  check('from where it was seen', await viewOf(), view);
+  await pointTold('100 100 sector');
+  check('with its pinned point', `${await textOf('#point-line')}\n`, printed(['points', 'MAP02', 'f'], mended, '100 100\n').toString());
   check('and the filter stays', [await textsOf('#levels .row-name'), await browser.run("document.querySelector('#filter').value")], [['MAP02 doom'], 'map02']);
   await filterBy('');
   await drop('mine.wad', wad(rooms('MAP01')), 'sound');
   check('where that level is gone the first is shown', await shown(), ['mine.wadMAP01', 'MAP01', 'sound', 'MAP01 doom', true]);
+  await drawn('MAP01');
+  check('the whole of it, and no point', [(await viewOf())[2] < view[2], await isHidden('#point')], [true, true]);
   await drop('mine.wad', wad(rooms('MAP01', { damage: twoUnknown })), 'sound, 2 warnings');
   await drop('game.wad', wad([...rooms('MAP01'), ['TEXTURE1', textures(['STEP1', 'STONE2', 'NOWALL'])], ...flats('CEIL1_1')], 'IWAD'), 'sound, 2 warnings');
   check('so does the game\'s file, and what stands on it is judged anew', [await names(), (await shown())[0], await textOf('#codes')], [['game.wad', 'mine.wad'], 'mine.wadMAP01', 'W10 2']);

@@ -29,7 +29,8 @@ low_on_room() {
 clean_up() {
     trap '' HUP INT TERM
     if [[ -n $proof ]]; then
-        kill -- "-$proof" 2>/dev/null || true
+        # One that has only begun may have no group yet.
+        kill -- "-$proof" 2>/dev/null || kill "$proof" 2>/dev/null || true
         wait "$proof" 2>/dev/null || true
     fi
     rm -rf "${rooms[@]}"

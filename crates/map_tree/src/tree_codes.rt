@@ -1,6 +1,6 @@
 //! The tree part of a report.
 
-ghost use Rattle.std.specs.Prelude.{◌≡◌, ◌+◌, ◌<◌, ◌≤◌, ◌^◌, ℕ, IfNone, IfOk, IfSome};
+ghost use Rattle.std.specs.Prelude.{◌≡◌, ◌↔◌, ◌+◌, ◌<◌, ◌≤◌, ◌^◌, ℕ, IfNone, IfOk, IfSome, IsTrue};
 ghost use Rattle.map_level.specs.Findings.{AreFindings, IsFirst};
 ghost use Rattle.map_tree.specs.TreeFaults.{TreeHolds};
 ghost use Rattle.map_tree.specs.WordCounts.{AreWordCounts};
@@ -113,30 +113,39 @@ fn first_at(
     ensures none { IfNone result ((i : ℕ) → from ≤ i → ¬ TreeHolds places.now code i) }
     ensures below { IfSome result (λ at. at + 1 < 2 ^ 32) }
 {
-    let nodes = bounds.nodes;
-    let ssectors = bounds.ssectors;
+    let bound = index_bound(places, bounds, code);
+    first_where(places, code, from, bound, |i| {
+        holds_at(places, counts, reached, code, i)
+    })
+}
+
+// A number above all indexes at which a code holds.
+fn index_bound(_places: &Places<'_, '_>, bounds: &Bounds, code: Code) -> u32
+    requires { AreBounds _places.now bounds.now }
+    ensures { (i : ℕ) → TreeHolds _places.now code i → i < result }
+{
     match code {
-        Code::F11 => first_where(
-            places,
-            code,
-            from,
-            nodes,
-            |n| child_names_nothing(places, n),
-        ),
-        Code::F12 => first_where(places, code, from, nodes, |n| origin_outside(places, n)),
-        Code::F13 => first_where(places, code, from, nodes, |n| {
-            node_named_twice(places, counts, n)
-        }),
-        Code::F14 => first_where(places, code, from, nodes, |n| {
-            node_not_reached(places, reached, n)
-        }),
-        Code::F15 => first_where(places, code, from, ssectors, |t| {
-            ssector_named_twice(places, counts, t)
-        }),
-        Code::F16 => first_where(places, code, from, ssectors, |t| {
-            ssector_not_reached(places, reached, t)
-        }),
-        Code::N7 => first_where(places, code, from, nodes, |n| no_direction(places, n)),
-        _ => None,
+        Code::F11 | Code::F12 | Code::F13 | Code::F14 | Code::N7 => bounds.nodes,
+        Code::F15 | Code::F16 => bounds.ssectors,
+        _ => 0,
+    }
+}
+
+// Whether a code holds at an index.
+#[inline(always)]
+fn holds_at(places: &Places<'_, '_>, counts: &[u8], reached: &[bool], code: Code, i: u32) -> bool
+    requires counts { AreWordCounts places.now counts.now }
+    requires reached { AreReached places.now reached.now }
+    ensures { IsTrue result ↔ TreeHolds places.now code i }
+{
+    match code {
+        Code::F11 => child_names_nothing(places, i),
+        Code::F12 => origin_outside(places, i),
+        Code::F13 => node_named_twice(places, counts, i),
+        Code::F14 => node_not_reached(places, reached, i),
+        Code::F15 => ssector_named_twice(places, counts, i),
+        Code::F16 => ssector_not_reached(places, reached, i),
+        Code::N7 => no_direction(places, i),
+        _ => false,
     }
 }

@@ -592,6 +592,10 @@ cases_of_refused_in_atlas() {
         has "atlas: .. in its survey, $kind" survey.jsonl "$(sound base.wad E1M1 0)$(refused "$kind" "$text")"
         shows "atlas: .. on its page, $kind" index.html '1 levels in 2 files' "$kind" "$text" '<h2>E1M1</h2>'
     done <<<"$refusals"
+    # Controls of paths are told by their digits there, too.
+    cp base.wad $'a\e<b\xc2\x85.wad'
+    into_new 'atlas: controls in a path' 2 "$(told 'n\\x09o' "$missing")" '1-0.svg index.html survey.jsonl' $'a\e<b\xc2\x85.wad' $'n\to'
+    shows 'atlas: .. on its page, controls' index.html '<b>n\x09o</b>' '<p class="where">a\x1b&lt;b\xc2\x85.wad <'
 }
 
 # shows_not NAME FILE TEXT: a file of the folder doesn't have this text.

@@ -4,7 +4,7 @@ with what they show and lead to. How it is laid out isn't compared."""
 from html.parser import HTMLParser
 from typing import NamedTuple
 
-from plain.lens import CLEAN, FAULTY, UNJUDGED, WANTS, Format, unlooked_note
+from plain.lens import CLEAN, FAULTY, UNJUDGED, WANTS, Format, shown_path, unlooked_note
 from plain.levels import Level
 from plain.wads import USUAL
 
@@ -133,7 +133,7 @@ def row_events(row: Row) -> list[str]:
     else:
         events.append(text("no picture"))
     events += [tag("h2")] + ([text(row.name)] if row.name else [])
-    events += [text(row.path), text(f"entry {row.entry}, {row.form.name}")]
+    events += [text(shown_path(row.path)), text(f"entry {row.entry}, {row.form.name}")]
     if row.level is None:
         return [*events, text(row.form.words)]
     return [*events, *level_events(row.level, row.warned or {})]
@@ -148,7 +148,7 @@ def wanted(rows: list[Row], refused: list[tuple[str, str]], files: int, mapped: 
     if codes := [code for code in WANTS if any(code in row.unlooked for row in rows)]:
         events.append(text(unlooked_note(codes)))
     for path, why in refused:
-        events += [tag("li"), text(path), text(why)]
+        events += [tag("li"), text(shown_path(path)), text(why)]
     for faulty in (True, False):
         for row in rows:
             if (row.verdict == FAULTY) == faulty:

@@ -1,9 +1,10 @@
 -- Texts of the page, computed on small rows: each is what stands here.
-use Rattle.std.proofs.Common.{◌≡◌, ℕ, ◌+◌, true, false, List, [], ◌∷◌, ◌++◌, refl}
+use Rattle.std.proofs.Common.{◌≡◌, ℕ, ◌+◌, true, false, List, [], ◌∷◌, ◌++◌, refl, ap, ◌∙◌}
 use Rattle.std.specs.Fmt.{digits}
 use Rattle.std.specs.Prelude.{codes}
 use Rattle.level_starts.specs.declared.format.Format.TheVariants.{Incomplete}
 use Rattle.atlas_page.specs.Items.{code_item, number_item}
+use Rattle.atlas_page.specs.Text.{path_text}
 use Rattle.atlas_page.specs.Warned.{warning_item}
 use Rattle.atlas_page.specs.Page.{title_line}
 use Rattle.atlas_page.specs.Refused.{refused_part}
@@ -36,6 +37,19 @@ table_list =
     codes "<ul class=\"counts\">\n<li><b>1</b> things</li>\n<li><b>20</b> linedefs</li>\n<li><b>300</b> sidedefs</li>\n<li><b>4</b> vertexes</li>\n"
     ++ codes "<li><b>5</b> segs</li>\n<li><b>6</b> ssectors</li>\n<li><b>7</b> nodes</li>\n<li><b>65535</b> sectors</li>\n</ul>\n</div>\n</li>\n"
 
+-- in a path an escape, a control of two bytes and markup, and a letter of two bytes, which is none of them
+path_with_controls : path_text (60 ∷ 27 ∷ 194 ∷ 133 ∷ 195 ∷ 164 ∷ []) ≡ codes "&lt;\\x1b\\xc2\\x85" ++ (195 ∷ 164 ∷ [])
+unfolding path_text
+path_with_controls = refl
+
+plain_path : path_text (codes "a.wad") ≡ codes "a.wad"
+unfolding path_text
+plain_path = refl
+
+path_with_markup : path_text (codes "<a&b>.wad") ≡ codes "&lt;a&amp;b&gt;.wad"
+unfolding path_text
+path_with_markup = refl
+
 -- markup in a path and in a name; two faults of one code and seven notes of another
 faulty_row : (row : Row) → row.file ≡ 2 → row.path.now ≡ codes "<a&b>.wad" → row.entry ≡ 15 → row.name ≡ codes "E\"M1"
     → row.found ≡ surveyed.Judged (record { tables = tables; counts = counts 2 7; warnings = Told; warned = warned 0 0; unlooked = none_unlooked; drawn = true })
@@ -44,7 +58,7 @@ faulty_row : (row : Row) → row.file ≡ 2 → row.path.now ≡ codes "<a&b>.wa
     ++ (codes "<div>\n<h2>E&quot;M1</h2>\n<p class=\"where\">&lt;a&amp;b&gt;.wad <span>entry 15, doom</span></p>\n"
     ++ (codes "<ul class=\"found\">\n<li class=\"fault\">F3 &times; 2</li>\n<li class=\"note\">N3 &times; 7</li>\n</ul>\n" ++ table_list))
 unfolding digits number_item code_item picture_name
-faulty_row row file path entry name found = rw (file, path, entry, name, found) refl
+faulty_row row file path entry name found = rw (file, ap path_text path ∙ path_with_markup, entry, name, found) refl
 
 -- no fault, with a note and warnings of two codes, and nothing to draw
 sound_row : (row : Row) → row.file ≡ 1 → row.path.now ≡ codes "a.wad" → row.entry ≡ 0 → row.name ≡ codes "MAP01"
@@ -54,7 +68,7 @@ sound_row : (row : Row) → row.file ≡ 1 → row.path.now ≡ codes "a.wad" �
     ++ (codes "<div>\n<h2>MAP01</h2>\n<p class=\"where\">a.wad <span>entry 0, doom</span></p>\n"
     ++ (codes "<ul class=\"found\">\n<li class=\"sound\">sound</li>\n<li class=\"note\">N3 &times; 1</li>\n<li class=\"warning\">W1 &times; 4</li>\n<li class=\"warning\">W8 &times; 1</li>\n</ul>\n" ++ table_list))
 unfolding digits number_item code_item warning_item picture_name
-sound_row row file path entry name found = rw (file, path, entry, name, found) refl
+sound_row row file path entry name found = rw (file, ap path_text path ∙ plain_path, entry, name, found) refl
 
 -- the last lump isn't there
 broken_row : (row : Row) (unjudged : Unjudged) → row.file ≡ 1 → row.path.now ≡ codes "a.wad" → row.entry ≡ 3 → row.name ≡ codes "MAP01"
@@ -64,7 +78,7 @@ broken_row : (row : Row) (unjudged : Unjudged) → row.file ≡ 1 → row.path.n
     ++ (codes "<div>\n<h2>MAP01</h2>\n<p class=\"where\">a.wad <span>entry 3, incomplete</span></p>\n"
     ++ codes "<p class=\"told\">incomplete: no BLOCKMAP where it belongs\n</p>\n</div>\n</li>\n")
 unfolding digits
-broken_row row unjudged file path entry name format found = rw (file, path, entry, name, found, format) refl
+broken_row row unjudged file path entry name format found = rw (file, ap path_text path ∙ plain_path, entry, name, found, format) refl
 
 -- a row with a fault stands before one without, and each once
 faulty_first : (a b : Row) → is_faulty a ≡ false → is_faulty b ≡ true → faulty_rows (a ∷ b ∷ []) ++ other_rows (a ∷ b ∷ []) ≡ (row_text b ++ []) ++ (row_text a ++ [])
@@ -77,6 +91,6 @@ sample_title = refl
 none_refused : refused_part [] ≡ []
 none_refused = refl
 
-one_refused : (refused : Refused) → refused.path.now ≡ codes "big&.wad" → refused.why ≡ TooLarge
-    → refused_part (refused ∷ []) ≡ codes "<ul class=\"refused\">\n<li><b>big&amp;.wad</b> larger than 268435456 bytes</li>\n</ul>\n"
-one_refused refused path why = rw (path, why) refl
+one_refused : (refused : Refused) → refused.path.now ≡ codes "<a&b>.wad" → refused.why ≡ TooLarge
+    → refused_part (refused ∷ []) ≡ codes "<ul class=\"refused\">\n<li><b>&lt;a&amp;b&gt;.wad</b> larger than 268435456 bytes</li>\n</ul>\n"
+one_refused refused path why = rw (ap path_text path ∙ path_with_markup, why) refl

@@ -1,3 +1,4 @@
+pub mod Text
 pub mod Items
 pub mod Warned
 pub mod Rows

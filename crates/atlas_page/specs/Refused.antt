@@ -1,13 +1,13 @@
 -- The refused files of a page (ours).
 use Rattle.std.specs.Prelude.{ℕ, List, [], ◌∷◌, codes, length, map, nat_eq, if◌then◌else◌}
-use Rattle.map_picture.specs.Escape.{escaped}
 use Rattle.map_picture.specs.Parts.{joined}
+use Rattle.atlas_page.specs.Text.{path_text}
 use Rattle.atlas_page.specs.declared.refused.Refused.{Refused}
 use Rattle.lens_engines.specs.Objects.{refusal_text}
 
 -- a refused file, and why: `<li><b>{path}</b> {text}</li>`
 abbrev pub item_parts : Refused → List (List ℕ)
-item_parts refused = codes "<li><b>" ∷ escaped refused.path.now ∷ codes "</b> " ∷ refusal_text refused.why ∷ codes "</li>\n" ∷ []
+item_parts refused = codes "<li><b>" ∷ path_text refused.path.now ∷ codes "</b> " ∷ refusal_text refused.why ∷ codes "</li>\n" ∷ []
 
 abbrev pub refused_item : Refused → List ℕ
 refused_item refused = joined (item_parts refused)

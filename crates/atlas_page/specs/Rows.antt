@@ -6,6 +6,7 @@ use Rattle.level_starts.specs.declared.format.Format.{Format}
 use Rattle.map_picture.specs.Escape.{escaped}
 use Rattle.map_picture.specs.Parts.{joined}
 use Rattle.atlas_page.specs.Items.{code_items, table_items}
+use Rattle.atlas_page.specs.Text.{path_text}
 use Rattle.atlas_page.specs.Warned.{warning_parts}
 use Rattle.atlas_page.specs.declared.row.Row.{Row}
 use Rattle.lens_engines.specs.Counts.{fault_total}
@@ -57,7 +58,7 @@ picture_part row = if is_drawn row.found then joined (link_parts row) else codes
 -- where the level lies: its file's path, its entry and its format
 abbrev pub where_parts : Row → List (List ℕ)
 where_parts row =
-    codes "<p class=\"where\">" ∷ escaped row.path.now ∷ codes " <span>entry " ∷ decimal row.entry ∷ codes ", "
+    codes "<p class=\"where\">" ∷ path_text row.path.now ∷ codes " <span>entry " ∷ decimal row.entry ∷ codes ", "
     ∷ format_name (format_of row.found) ∷ codes "</span></p>\n" ∷ []
 
 -- `sound` where there is no fault

@@ -5,10 +5,10 @@ ghost use Rattle.line_io.specs.Writes.{Writes};
 ghost use Rattle.map_picture.specs.Parts.{joined};
 ghost use Rattle.atlas_page.specs.Refused.{refused_item, refused_part};
 
+use crate::text::write_page_path;
 use le_rec::Sink;
 use lens_engines::FileRefusal;
 use line_io::{IoFault, emit};
-use map_picture::escape::write_escaped;
 use map_picture::parts::{Parts, write_parts};
 
 /// A refused file.
@@ -35,7 +35,7 @@ impl Parts for ItemParts<'_, '_> {
     fn write<W: Sink>(&self, number: usize, out: &mut W) -> Result<(), IoFault> {
         match number {
             0 => emit(out, b"<li><b>"),
-            1 => write_escaped(self.refused.path, out),
+            1 => write_page_path(self.refused.path, out),
             2 => emit(out, b"</b> "),
             3 => emit(out, self.refused.why.text()),
             _ => emit(out, b"</li>\n"),

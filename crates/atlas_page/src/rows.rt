@@ -6,14 +6,13 @@ ghost use Rattle.atlas_page.specs.Rows.{faulty_rows, found_part, mark, other_row
 
 use crate::items::{write_codes, write_tables};
 use crate::row::Row;
-use crate::text::{write_name, write_number};
+use crate::text::{write_name, write_number, write_page_path};
 use crate::warned::write_warnings;
 use le_rec::Sink;
 use lens_engines::{
     CodeCounts, LevelCounts, Surveyed, Unjudged, Verdict, format_name, write_format_alone,
 };
 use line_io::{IoFault, TextLine, emit};
-use map_picture::escape::write_escaped;
 use map_picture::parts::{Parts, write_parts};
 
 /// Puts the name of a level's picture before the line: the number of its file, from 1, and that of its entry.
@@ -95,7 +94,7 @@ impl Parts for WhereLine<'_, '_> {
     fn write<W: Sink>(&self, number: usize, out: &mut W) -> Result<(), IoFault> {
         match number {
             0 => emit(out, b"<p class=\"where\">"),
-            1 => write_escaped(self.row.path, out),
+            1 => write_page_path(self.row.path, out),
             2 => emit(out, b" <span>entry "),
             3 => write_number(self.row.entry, out),
             4 => emit(out, b", "),

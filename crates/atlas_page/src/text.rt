@@ -1,14 +1,17 @@
 //! Small texts of the page.
 
-ghost use Rattle.std.specs.Prelude.{◌≡◌, false};
+ghost use Rattle.std.specs.Prelude.{◌≡◌, ◌<◌, false, length};
 ghost use Rattle.std.specs.Fmt.{decimal};
 ghost use Rattle.line_io.specs.Writes.{Writes};
 ghost use Rattle.le_rec.specs.Name.{shown_name};
 ghost use Rattle.map_picture.specs.Escape.{escaped};
+ghost use Rattle.atlas_page.specs.Text.{path_byte, path_text};
 
 use le_rec::{Name8, Sink};
+use lens_engines::{is_control_at, write_control};
 use line_io::{IoFault, TextLine, emit};
 use map_picture::escape::write_escaped;
+use map_picture::parts::{Parts, write_parts};
 
 /// Writes a number.
 pub fn write_number<W: Sink>(number: u64, out: &mut W) -> Result<(), IoFault>
@@ -28,4 +31,47 @@ pub fn write_name<W: Sink>(name: &Name8, out: &mut W) -> Result<(), IoFault>
     let mut text = [0; 32];
     let len = name.shown(&mut text);
     write_escaped(&text[..len], out)
+}
+
+// A path in its bytes.
+#[derive(Drop)]
+struct PathBytes<'p> {
+    path: &'p [u8],
+}
+
+impl Parts for PathBytes<'_> {
+    ghost use Rattle.atlas_page.specs.Text.{path_bytes};
+
+    ghost parts = { λ bytes. path_bytes bytes.path.now };
+
+    fn count(&self) -> usize {
+        self.path.len()
+    }
+
+    fn write<W: Sink>(&self, number: usize, out: &mut W) -> Result<(), IoFault> {
+        write_path_byte(self.path, number, out)
+    }
+}
+
+/// Writes a path: its control characters as lines show them, and without markup.
+#[tactic(auto, unfolding(crate::specs::Text::path_text))]
+pub fn write_page_path<W: Sink>(path: &[u8], out: &mut W) -> Result<(), IoFault>
+    requires { (W.state out.old).failed ≡ false }
+    ensures { Writes (W.state out.old) (W.state out.new) (path_text path.now) result }
+{
+    write_parts(&PathBytes { path }, out)
+}
+
+// Writes one byte of a path.
+fn write_path_byte<W: Sink>(path: &[u8], at: usize, out: &mut W) -> Result<(), IoFault>
+    requires there { at < length path.now }
+    requires sound { (W.state out.old).failed ≡ false }
+    ensures { Writes (W.state out.old) (W.state out.new) (path_byte path.now at) result }
+{
+    let byte = path[at];
+    if is_control_at(path, at) {
+        write_control(byte, out)
+    } else {
+        write_escaped(&[byte], out)
+    }
 }

@@ -54,7 +54,7 @@ pub use map_level::search::CODE_COUNT;
 pub use object::{FileRefusal, format_name, prepend_number, refused_line, write_file, write_name};
 pub use opened::{label_of, level_at};
 pub use owners::owners_of;
-pub use path::{write_after_path, write_path};
+pub use path::{is_control_at, write_after_path, write_control, write_path};
 pub use survey::survey_file;
 pub use surveyed::{Surveyed, write_surveyed};
 pub use tables::Tables;

@@ -49,8 +49,8 @@ fn is_suspect(byte: u8) -> bool
     byte < 32 || byte == 127 || byte == 0xC2
 }
 
-// Whether the byte at an index is a control character, or part of one.
-fn is_control_at(path: &[u8], at: usize) -> bool
+/// Whether the byte at an index is a control character, or part of one.
+pub fn is_control_at(path: &[u8], at: usize) -> bool
     requires { at < length path.now }
     ensures { result ≡ is_control_at path.now at }
 {
@@ -79,7 +79,8 @@ fn write_run<W: Sink>(path: &[u8], from: usize, at: usize, out: &mut W) -> Resul
     write_control(path[at], out)
 }
 
-fn write_control<W: Sink>(byte: u8, out: &mut W) -> Result<(), IoFault>
+/// Writes a byte of a control character: `\x` and two hexadecimal digits.
+pub fn write_control<W: Sink>(byte: u8, out: &mut W) -> Result<(), IoFault>
     requires { (W.state out.old).failed ≡ false }
     ensures { Writes (W.state out.old) (W.state out.new) (control_text byte) result }
 {

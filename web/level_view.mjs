@@ -44,6 +44,8 @@ export class LevelView {
     this.readWide = readWide;
     /** @type {Asked | null} */
     this.asked = null;
+    /** @type {Asked | null} the level that was shown last, also where none is shown now */
+    this.last = null;
     /** @type {Level | null} */
     this.level = null;
     /** @type {Uint8Array | null} the picture's text */
@@ -83,14 +85,15 @@ export class LevelView {
   }
 
   /**
-   * Shows a level: what was found first, and then its picture; or why it isn't judged. One that is shown already keeps its view and its point.
+   * Shows a level: what was found first, and then its picture; or why it isn't judged. One that was shown last keeps its view and its point.
    * @param {Asked} asked @param {string} why
    */
   async show(asked, why) {
-    this.kept = this.asked && isSame(this.asked, asked) ? this.kept ?? this.#inView() : null;
-    this.asked = asked;
+    const again = this.last && isSame(this.last, asked);
+    this.last = this.asked = asked;
     this.finer.stop();
     this.clear(why);
+    if (!again) this.kept = null;
     get('title').textContent = asked.name;
     if (why) return;
     try {
@@ -114,6 +117,7 @@ export class LevelView {
    * @param {string} why
    */
   clear(why) {
+    this.kept ??= this.level ? this.#inView() : null;
     this.level = null;
     this.svg = null;
     this.ends = undefined;

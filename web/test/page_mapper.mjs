@@ -163,10 +163,19 @@ async function again() {
   await pick('files', 'mine.wad');
   await browser.until("document.querySelector('#crumbs').textContent === 'mine.wadMAP01' && document.querySelector('#told').textContent === 'sound'", 'no game');
   check('as where it is none any more', [await textsOf('#files .row-state'), await textOf('#codes')], [['PWAD', 'PWAD'], '']);
+  await pinBy('100 100');
+  await pointTold('100 100 sector');
+  await browser.press('#in');
+  await drawnAnew();
+  const near = await viewOf();
   await browser.run("{ document.querySelector('#title').textContent = ''; }");
   await browser.drop(written('mine.wad', 'no level any more'));
   await browser.until("document.querySelector('#title').textContent === 'No level'", 'a file that is none any more');
-  check('and nothing is left of one that is refused', await textsOf('#files .row-state'), ['PWAD', 'refused']);
+  check('and nothing is left of one that is refused', [await textsOf('#files .row-state'), await isHidden('#point')], [['PWAD', 'refused'], true]);
+  await drop('mine.wad', wad(rooms('MAP01')), 'sound');
+  await drawn('MAP01');
+  await pointTold('100 100 sector');
+  check('until it can be read again, and is seen as before', await viewOf(), near);
 }
 
 /** A finding on a sector leads to its outline; one without a place takes the mark of the one before away, and says so. */

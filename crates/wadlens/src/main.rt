@@ -119,7 +119,7 @@ fn do_task<R: Files + Input + Print + AllocGlobal, E: Write + Drop>(
         ),
         Task::Draw(words) => run_picture(
             rt.alloc(),
-            &words.question(),
+            words.question(),
             words.files(),
             &Disk(rt),
             &mut output,

@@ -7,8 +7,7 @@ use crate::mistake::Mistake;
 use crate::shared_words::{cells_of, cells_word, reading_of, wide_word};
 use clap::{Arg, ArgAction, ArgMatches, Command};
 use lens_commands::PictureQuestion;
-use map_cells::{CellCount, Frame};
-use map_level::Reading;
+use map_cells::Frame;
 use map_picture::View;
 use std::alloc::{AllocError, Global};
 use wad_dir::MAX_FILES;
@@ -18,39 +17,46 @@ const BAD_FRAME: &str =
 
 /// The command with its arguments.
 pub fn picture_command<'a>(alloc: Global) -> Result<Command<'a>, AllocError> {
-    let wide = wide_word(alloc);
-    let cells = cells_word(alloc);
-    let frame = Arg::new(alloc, "frame")
+    Command::new(alloc, "picture")
+        .about("Draw a level as an SVG on standard output")
+        .arg(wide_word(alloc))?
+        .arg(cells_word(alloc))?
+        .arg(frame_word(alloc))?
+        .arg(name_word(alloc))?
+        .arg(files_word(alloc))
+}
+
+// The option `--frame`.
+fn frame_word<'a>(alloc: Global) -> Arg<'a> {
+    Arg::new(alloc, "frame")
         .long("frame")
         .value_name("X0,Y0,X1,Y1")
         .allow_hyphen_values(true)
-        .help("Draw the cells of this part of the map alone");
-    let name = Arg::new(alloc, "name")
+        .help("Draw the cells of this part of the map alone")
+}
+
+// The level's name.
+fn name_word<'a>(alloc: Global) -> Arg<'a> {
+    Arg::new(alloc, "name")
         .value_name("NAME")
         .required(true)
-        .help("The level's name, as E1M1");
-    let files = Arg::new(alloc, "files")
+        .help("The level's name, as E1M1")
+}
+
+// The files.
+fn files_word<'a>(alloc: Global) -> Arg<'a> {
+    Arg::new(alloc, "files")
         .value_name("FILE")
         .action(ArgAction::Append)
         .num_args(1..)
         .required(true)
-        .help("The files, at most 64, in one set: a later one hides the names of those before it");
-    Command::new(alloc, "picture")
-        .about("Draw a level as an SVG on standard output")
-        .arg(wide)?
-        .arg(cells)?
-        .arg(frame)?
-        .arg(name)?
-        .arg(files)
+        .help("The files, at most 64, in one set: a later one hides the names of those before it")
 }
 
 /// Which level is drawn, of which files.
 #[derive(Drop)]
 pub struct PictureWords<'a> {
-    name: &'a str,
-    reading: Reading,
-    frame: Option<Frame>,
-    cells: CellCount,
+    question: PictureQuestion<'a>,
     files: Vec<&'a str>,
     ghost few: { vec_len files ≤ MAX_FILES },
 }
@@ -69,26 +75,19 @@ impl<'a> PictureWords<'a> {
             Some(text) => Some(frame_of(text).ok_or(Mistake::Told(BAD_FRAME))?),
             None => None,
         };
-        Ok(PictureWords {
+        let cells = cells_of(matches)?;
+        let question = PictureQuestion {
             // It is required.
-            name: matches.get_str("name").unwrap_or(""),
+            name: matches.get_str("name").unwrap_or("").as_bytes(),
             reading: reading_of(matches),
-            frame,
-            cells: cells_of(matches)?,
-            files,
-        })
+            drawn: View { frame, cells },
+        };
+        Ok(PictureWords { question, files })
     }
 
     /// The question for the engine.
-    pub fn question(&self) -> PictureQuestion<'_> {
-        PictureQuestion {
-            name: self.name.as_bytes(),
-            reading: self.reading,
-            drawn: View {
-                frame: self.frame,
-                cells: self.cells,
-            },
-        }
+    pub fn question(&self) -> &PictureQuestion<'a> {
+        &self.question
     }
 
     /// The paths of the files.

@@ -1,4 +1,5 @@
 pub mod ItemLemmas
 pub mod TotalLemmas
 pub mod LevelLemmas
+pub mod TextLemmas
 mod WorkedCases

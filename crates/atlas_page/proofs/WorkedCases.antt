@@ -4,6 +4,7 @@ use Rattle.std.specs.Fmt.{digits}
 use Rattle.std.specs.Prelude.{codes}
 use Rattle.level_starts.specs.declared.format.Format.TheVariants.{Incomplete}
 use Rattle.atlas_page.specs.Items.{code_item, number_item}
+use Rattle.lens_texts.specs.ShownPath.{shown_after}
 use Rattle.atlas_page.specs.Text.{path_text}
 use Rattle.atlas_page.specs.Warned.{warning_item}
 use Rattle.atlas_page.specs.Page.{title_line}
@@ -39,15 +40,15 @@ table_list =
 
 -- in a path an escape, a control of two bytes and markup, and a letter of two bytes, which is none of them
 path_with_controls : path_text (60 ∷ 27 ∷ 194 ∷ 133 ∷ 195 ∷ 164 ∷ []) ≡ codes "&lt;\\x1b\\xc2\\x85" ++ (195 ∷ 164 ∷ [])
-unfolding path_text
+unfolding path_text shown_after
 path_with_controls = refl
 
 plain_path : path_text (codes "a.wad") ≡ codes "a.wad"
-unfolding path_text
+unfolding path_text shown_after
 plain_path = refl
 
 path_with_markup : path_text (codes "<a&b>.wad") ≡ codes "&lt;a&amp;b&gt;.wad"
-unfolding path_text
+unfolding path_text shown_after
 path_with_markup = refl
 
 -- markup in a path and in a name; two faults of one code and seven notes of another

@@ -4,7 +4,7 @@ use Rattle.std.specs.Fmt.{decimal}
 use Rattle.map_level.specs.Findings.{is_fault}
 use Rattle.map_level.specs.declared.finding.Code.{Code}
 use Rattle.lens_engines.specs.Counts.{report_order}
-use Rattle.lens_engines.specs.Kind.{code_text}
+use Rattle.lens_texts.specs.Kind.{code_text}
 use Rattle.lens_engines.specs.Objects.{count_of}
 use Rattle.lens_engines.specs.declared.tables.Tables.{Tables}
 

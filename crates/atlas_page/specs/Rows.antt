@@ -10,8 +10,8 @@ use Rattle.atlas_page.specs.Text.{path_text}
 use Rattle.atlas_page.specs.Warned.{warning_parts}
 use Rattle.atlas_page.specs.declared.row.Row.{Row}
 use Rattle.lens_engines.specs.Counts.{fault_total}
-use Rattle.lens_engines.specs.FormatLine.{format_text}
-use Rattle.lens_engines.specs.Objects.{format_name}
+use Rattle.lens_texts.specs.FormatLine.{format_text}
+use Rattle.lens_texts.specs.LevelObject.{format_name}
 use Rattle.lens_engines.specs.Surveyed.{format_of, is_drawn}
 use Rattle.lens_engines.specs.Totals.{no_totals, totals_of, totals_with, verdict_of_totals}
 use Rattle.lens_engines.specs.declared.level_counts.LevelCounts.{LevelCounts}

@@ -9,7 +9,8 @@ ghost use Rattle.lens_engines.specs.Counts.{report_order};
 ghost use Rattle.map_level.specs.declared.finding.Code.TheVariants.{F1};
 
 use le_rec::Sink;
-use lens_engines::{CODE_COUNT, CodeCounts, Tables, code_at, prepend_code};
+use lens_engines::{CODE_COUNT, CodeCounts, Tables, code_at};
+use lens_texts::prepend_code;
 use line_io::{IoFault, TextLine, emit};
 use map_level::Code;
 use map_picture::parts::{Parts, write_parts};

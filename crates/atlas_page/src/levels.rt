@@ -7,7 +7,8 @@ ghost use Rattle.lens_engines.specs.Warned.{known_files};
 ghost use Rattle.wad_dir.specs.Entries.{names};
 
 use crate::row::Row;
-use lens_engines::{Judging, Surveyed, label_of};
+use lens_engines::{Judging, Surveyed};
+use lens_texts::label_of;
 use level_starts::LevelStarts;
 use map_warnings::Resources;
 use std::alloc::{AllocError, Allocator};

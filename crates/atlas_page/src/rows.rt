@@ -9,9 +9,8 @@ use crate::row::Row;
 use crate::text::{write_name, write_number, write_page_path};
 use crate::warned::write_warnings;
 use le_rec::Sink;
-use lens_engines::{
-    CodeCounts, LevelCounts, Surveyed, Unjudged, Verdict, format_name, write_format_alone,
-};
+use lens_engines::{CodeCounts, LevelCounts, Surveyed, Unjudged, Verdict};
+use lens_texts::{format_name, write_format_alone};
 use line_io::{IoFault, TextLine, emit};
 use map_picture::parts::{Parts, write_parts};
 

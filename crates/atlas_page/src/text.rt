@@ -8,7 +8,7 @@ ghost use Rattle.map_picture.specs.Escape.{escaped};
 ghost use Rattle.atlas_page.specs.Text.{path_byte, path_text};
 
 use le_rec::{Name8, Sink};
-use lens_engines::{is_control_at, write_control};
+use lens_texts::{control_text, is_control_at};
 use line_io::{IoFault, TextLine, emit};
 use map_picture::escape::write_escaped;
 use map_picture::parts::{Parts, write_parts};
@@ -53,8 +53,7 @@ impl Parts for PathBytes<'_> {
     }
 }
 
-/// Writes a path: its control characters as lines show them, and without markup.
-#[tactic(auto, unfolding(crate::specs::Text::path_text))]
+/// Writes a path as lines show it, without markup.
 pub fn write_page_path<W: Sink>(path: &[u8], out: &mut W) -> Result<(), IoFault>
     requires { (W.state out.old).failed ≡ false }
     ensures { Writes (W.state out.old) (W.state out.new) (path_text path.now) result }
@@ -70,7 +69,7 @@ fn write_path_byte<W: Sink>(path: &[u8], at: usize, out: &mut W) -> Result<(), I
 {
     let byte = path[at];
     if is_control_at(path, at) {
-        write_control(byte, out)
+        write_escaped(&control_text(byte), out)
     } else {
         write_escaped(&[byte], out)
     }

@@ -3,10 +3,10 @@ use Rattle.std.proofs.Common.{◌≡◌, ℕ, List, [], ◌++◌, Option, Some, 
 use Rattle.std.specs.Prelude.{codes}
 use Rattle.le_rec.specs.Name.{shown_name}
 use Rattle.demo_lump.specs.Header.{players_in}
-use Rattle.lens_engines.proofs.MemberLemmas.{Tells, Tells-both, Tells-each, Tells-none, Tells-string, read_line}
-use Rattle.lens_engines.specs.JsonString.{json_string}
-use Rattle.lens_engines.specs.ObjectValues.{IsLineOf}
-use Rattle.lens_engines.specs.Objects.{file_member, number_member}
+use Rattle.lens_texts.proofs.MemberLemmas.{Tells, Tells-both, Tells-each, Tells-none, Tells-string, read_line}
+use Rattle.lens_texts.specs.JsonString.{json_string}
+use Rattle.lens_texts.specs.Members.{IsLineOf}
+use Rattle.lens_texts.specs.LevelObject.{file_member, number_member}
 use Rattle.demo_engines.specs.Laws.{ObjectIsRead, RefusedIsRead}
 use Rattle.demo_engines.specs.ObjectValues.{demo_value, lump_values, numbers_of, refused_value}
 use Rattle.demo_engines.specs.Objects.{lump_member}

@@ -13,8 +13,8 @@ use Rattle.wad_dir.specs.Wad.{IsRead, Wad}
 use Rattle.demo_engines.specs.Objects.{demo_object, refused_object}
 use Rattle.demo_engines.specs.RefusalText.{fault_text, outside_text, refusal_line}
 use Rattle.demo_engines.specs.Summary.{demo_line}
-use Rattle.lens_engines.specs.declared.form.Form.{Form}
-use Rattle.lens_engines.specs.declared.form.Form.TheVariants.{Lines, Objects}
+use Rattle.lens_texts.specs.declared.form.Form.{Form}
+use Rattle.lens_texts.specs.declared.form.Form.TheVariants.{Lines, Objects}
 use Rattle.demo_engines.specs.declared.demos.DemoQuestion.{DemoQuestion}
 use Rattle.demo_engines.specs.declared.demos.DemosFault.{DemosFault}
 use Rattle.demo_engines.specs.declared.demos.DemosFault.TheVariants.{NoWad, Write, Errors, Memory}

@@ -4,7 +4,7 @@ use Rattle.json.specs.Json.{Json}
 use Rattle.demo_lump.specs.Demo.{Demo}
 use Rattle.demo_lump.specs.Header.{players_in}
 use Rattle.le_rec.specs.Name.{shown_name}
-use Rattle.lens_engines.specs.ObjectValues.{file_value, number_at, object_of, text_at}
+use Rattle.lens_texts.specs.Members.{file_value, number_at, object_of, text_at}
 use Rattle.demo_engines.specs.Summary.{full_tics, odd_commands}
 
 -- the lump of a WAD file; none where the file is a demo

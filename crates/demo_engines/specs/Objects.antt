@@ -3,8 +3,8 @@ use Rattle.std.specs.Prelude.{ℕ, List, [], ◌++◌, Option, Some, None, codes
 use Rattle.demo_lump.specs.Demo.{Demo}
 use Rattle.demo_lump.specs.Header.{players_in}
 use Rattle.demo_lump.specs.declared.header.Header.{Header}
-use Rattle.lens_engines.specs.JsonString.{json_string}
-use Rattle.lens_engines.specs.Objects.{file_member, name_string, number_member}
+use Rattle.lens_texts.specs.JsonString.{json_string}
+use Rattle.lens_texts.specs.LevelObject.{file_member, name_string, number_member}
 use Rattle.demo_engines.specs.Summary.{full_tics, odd_commands}
 
 -- the lump of a WAD file; none where the file is a demo

@@ -2,7 +2,7 @@
 use Rattle.std.specs.Prelude.{ℕ, ◌*◌, ◌/◌, ◌%◌, ◌==◌, List, [], ◌∷◌, ◌++◌, Option, Some, None, codes, if◌then◌else◌, length, nat_lt}
 use Rattle.std.specs.Fmt.{decimal}
 use Rattle.le_rec.specs.Name.{shown_name}
-use Rattle.lens_engines.specs.ShownPath.{shown_path}
+use Rattle.lens_texts.specs.ShownPath.{shown_path}
 use Rattle.demo_lump.specs.Demo.{Demo}
 use Rattle.demo_lump.specs.Header.{players_in}
 use Rattle.demo_lump.specs.declared.header.Header.{Header}

@@ -15,7 +15,7 @@ use crate::summary::{Heading, write_summary};
 use crate::watch::Watch;
 use demo_lump::Demo;
 use le_rec::{Name8, Sink};
-use lens_engines::Form;
+use lens_texts::Form;
 use line_io::{IoFault, emit};
 use std::alloc::Allocator;
 use thiserror::Error;

@@ -11,7 +11,7 @@ use crate::refusal::{DemoRefusal, prepend_reason};
 use crate::summary::Heading;
 use demo_lump::{Demo, Header};
 use le_rec::{Name8, Sink};
-use lens_engines::{prepend_number, write_file, write_name, write_string};
+use lens_texts::{prepend_number, write_file, write_name, write_string};
 use line_io::{IoFault, TextLine, emit};
 
 /// Writes the object of a demo.

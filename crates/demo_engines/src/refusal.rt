@@ -3,14 +3,14 @@
 ghost use Rattle.std.specs.Prelude.{◌≡◌, ◌+◌, ◌≤◌, ◌++◌, codes, false, length, None};
 ghost use Rattle.line_io.specs.Writes.{Writes};
 ghost use Rattle.demo_engines.specs.RefusalText.{engine_text, fault_text, reason_text, refusal_line};
-ghost use Rattle.lens_engines.specs.ShownPath.{shown_path};
+ghost use Rattle.lens_texts.specs.ShownPath.{shown_path};
 ghost use Rattle.demo_engines.specs.Summary.{lump_text};
 ghost use Rattle.demo_lump.specs.declared.fault.DemoFault.TheVariants as fault;
 
 use crate::summary::{Heading, prepend_lump};
 use demo_lump::DemoFault;
 use le_rec::Sink;
-use lens_engines::write_path;
+use lens_texts::write_path;
 use line_io::{IoFault, TextLine, emit};
 
 /// Why a demo isn't read.

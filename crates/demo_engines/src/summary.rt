@@ -8,7 +8,7 @@ ghost use Rattle.demo_engines.specs.Summary.{demo_line, full_tics, game_text, le
 
 use demo_lump::{Demo, Header};
 use le_rec::{Name8, Sink};
-use lens_engines::write_path;
+use lens_texts::write_path;
 use line_io::{IoFault, TextLine, emit};
 
 /// What each line or object of a demo begins with.

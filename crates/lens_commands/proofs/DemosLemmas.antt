@@ -8,7 +8,7 @@ use Rattle.le_rec.specs.Sink.{SinkState}
 use Rattle.wad_dir.specs.Wad.{Wad}
 use Rattle.lens_commands.specs.DemosTold.{LeavesDemos, TellsDemos, answers_in, fault_of_demos}
 use Rattle.lens_commands.specs.Run.{OnBytesErrors}
-use Rattle.lens_engines.specs.declared.form.Form.{Form}
+use Rattle.lens_texts.specs.declared.form.Form.{Form}
 use Rattle.lens_commands.specs.declared.tell.Tally.{Tally}
 
 -- a demo isn't told to its end only where an end failed

@@ -1,6 +1,6 @@
 -- Messages about a folder on standard error (ours), and how the run ends.
 use Rattle.std.specs.Prelude.{ℕ, List, ◌++◌, codes}
-use Rattle.lens_engines.specs.ShownPath.{shown_path}
+use Rattle.lens_texts.specs.ShownPath.{shown_path}
 use Rattle.lens_commands.specs.declared.atlas.fault.AtlasFault.{AtlasFault}
 use Rattle.lens_commands.specs.declared.atlas.fault.AtlasFault.TheVariants as fault
 use Rattle.lens_commands.specs.declared.atlas.folder.FolderRefusal.{FolderRefusal}

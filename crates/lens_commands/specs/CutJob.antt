@@ -4,7 +4,7 @@ use Rattle.std.specs.Io.KnownBytes.{Keeps}
 use Rattle.le_rec.specs.Sink.{SinkState}
 use Rattle.line_io.specs.declared.input.TheConstants.{MAX_READ}
 use Rattle.lens_engines.specs.Cut.{IsCut, RefusesCut, cut_fault_text}
-use Rattle.lens_engines.specs.ShownPath.{shown_path}
+use Rattle.lens_texts.specs.ShownPath.{shown_path}
 use Rattle.lens_engines.specs.declared.cut.CutFault.{CutFault}
 use Rattle.lens_engines.specs.declared.cut.CutFault.TheVariants as fault
 use Rattle.lens_engines.specs.declared.cut.Uncut.{Uncut}

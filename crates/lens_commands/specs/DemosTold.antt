@@ -8,7 +8,7 @@ use Rattle.wad_dir.specs.Refusal.{RefusesWad}
 use Rattle.lens_engines.specs.Totals.{no_totals}
 use Rattle.lens_engines.specs.declared.verdict.Verdict.{Verdict}
 use Rattle.lens_engines.specs.declared.verdict.Verdict.TheVariants.{Clean, Unjudged}
-use Rattle.lens_engines.specs.declared.form.Form.{Form}
+use Rattle.lens_texts.specs.declared.form.Form.{Form}
 use Rattle.lens_commands.specs.declared.tell.BytesFault.{BytesFault}
 use Rattle.lens_commands.specs.declared.tell.BytesFault.TheVariants as fault
 use Rattle.lens_commands.specs.declared.tell.Tally.{Tally}

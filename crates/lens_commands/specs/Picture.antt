@@ -25,7 +25,7 @@ use Rattle.wad_dir.specs.Wad.{IsRead, Wad}
 use Rattle.wad_dir.specs.Refusal.{IsFirstRefused}
 use Rattle.wad_dir.specs.Winner.{Wins}
 use Rattle.wad_dir.specs.declared.wad.WadFault.{WadFault}
-use Rattle.lens_engines.specs.FormatLine.{format_text}
+use Rattle.lens_texts.specs.FormatLine.{format_text}
 use Rattle.lens_engines.specs.Survey.{verdict_of_format}
 use Rattle.lens_engines.specs.declared.object.FileRefusal.{FileRefusal}
 use Rattle.lens_engines.specs.declared.object.FileRefusal.TheVariants.{NoWad}

@@ -3,7 +3,7 @@ use Rattle.std.specs.Prelude.{◌≡◌, ◌⊎◌, ℕ, ◌≤◌, false, true,
 use Rattle.std.specs.Io.KnownBytes.{Appends, Keeps}
 use Rattle.le_rec.specs.Sink.{SinkState}
 use Rattle.demo_engines.specs.Demos.{is_wad_file}
-use Rattle.lens_engines.specs.declared.form.Form.{Form}
+use Rattle.lens_texts.specs.declared.form.Form.{Form}
 use Rattle.lens_engines.specs.declared.judging.Judging.{Judging}
 use Rattle.wad_dir.specs.Refusal.{RefusesWad}
 use Rattle.wad_dir.specs.Wad.{IsRead, Wad}
@@ -12,9 +12,9 @@ use Rattle.line_io.specs.Writes.{TakesFront, Writes}
 use Rattle.line_io.specs.declared.fault.IoFault.{IoFault}
 use Rattle.line_io.specs.declared.input.TheConstants.{MAX_READ}
 use Rattle.lens_engines.specs.Check.{ChecksAll, ChecksFile}
-use Rattle.lens_engines.specs.Head.{by_form}
+use Rattle.lens_texts.specs.Head.{by_form}
 use Rattle.lens_engines.specs.Objects.{refusal_text, refused_object}
-use Rattle.lens_engines.specs.ShownPath.{shown_path}
+use Rattle.lens_texts.specs.ShownPath.{shown_path}
 use Rattle.lens_engines.specs.Survey.{SurveysAll, SurveysFile, graver}
 use Rattle.lens_engines.specs.Totals.{no_totals, totals_with, verdict_with}
 use Rattle.lens_engines.specs.declared.object.FileRefusal.{FileRefusal}
@@ -24,7 +24,7 @@ use Rattle.lens_engines.specs.declared.verdict.LevelsFault.TheVariants as engine
 use Rattle.lens_engines.specs.declared.verdict.Verdict.{Verdict}
 use Rattle.lens_engines.specs.declared.verdict.Verdict.TheVariants.{Clean, Unjudged}
 use Rattle.lens_commands.specs.DemosTold.{StopsDemos, StopsRefusals, TellsDemosOf}
-use Rattle.lens_engines.specs.declared.form.Form.TheVariants.{Lines, Objects}
+use Rattle.lens_texts.specs.declared.form.Form.TheVariants.{Lines, Objects}
 use Rattle.lens_commands.specs.Files.{Known, RefusesKnown}
 use Rattle.lens_commands.specs.declared.files.ReadFault.TheVariants.{Refused}
 use Rattle.lens_commands.specs.declared.tell.Request.{Request}

@@ -7,7 +7,8 @@ ghost use Rattle.lens_commands.specs.Run.{OnBytesErrors};
 use crate::tell::{BytesFault, Tally, no_tally};
 use demo_engines::{DemoQuestion, DemosFault, HandOn, Watch, demos_file};
 use le_rec::Sink;
-use lens_engines::{Form, Verdict};
+use lens_engines::Verdict;
+use lens_texts::Form;
 use std::alloc::Allocator;
 
 /// Reports on the demos of a file's bytes, in order. The message about one that isn't read comes after what was answered

@@ -12,9 +12,10 @@ use crate::files::{ReadFault, RunFiles};
 use demo_engines::{HandOn, Watch};
 use le_rec::Sink;
 use lens_engines::{
-    FileRefusal, Form, Judging, LevelsFault, Question, Totals, Verdict, check_file, refused_line,
-    survey_file, write_path,
+    FileRefusal, Judging, LevelsFault, Question, Totals, Verdict, check_file, refused_line,
+    survey_file,
 };
+use lens_texts::{Form, write_path};
 use line_io::{IoFault, emit};
 use std::alloc::Allocator;
 use std::mem::replace;

@@ -32,14 +32,14 @@ use Rattle.lens_engines.specs.Check.{CheckAsked, Checks, ChecksAll, ChecksDoom, 
 use Rattle.lens_engines.specs.Counts.{AreCounts, IsCount, fault_total, report_order}
 use Rattle.lens_engines.specs.Ignored.{HoldsUnlessIgnored, ignores, no_codes}
 use Rattle.lens_engines.specs.declared.ignored.Ignored.{Ignored}
-use Rattle.lens_engines.specs.Label.{IsLabelOf}
+use Rattle.lens_texts.specs.Label.{IsLabelOf}
 use Rattle.lens_engines.specs.LevelLines.{AreCounted, AreShown, AreTold, judged_text}
-use Rattle.lens_engines.specs.LevelText.{unjudged_text}
+use Rattle.lens_texts.specs.LevelText.{unjudged_text}
 use Rattle.lens_engines.specs.Survey.{fault_after}
 use Rattle.lens_engines.specs.Totals.{format_totals, judged_totals, no_totals, totals_with, verdict_with}
 use Rattle.lens_engines.specs.Unlooked.{AreUnlooked}
 use Rattle.lens_engines.specs.Warned.{AreAskedFor, Warned, kept_count, known_files, warned_total}
-use Rattle.lens_engines.specs.declared.label.LevelLabel.{LevelLabel}
+use Rattle.lens_texts.specs.declared.label.LevelLabel.{LevelLabel}
 use Rattle.lens_engines.specs.declared.totals.Totals.{Totals}
 use Rattle.lens_engines.specs.declared.unlooked.Unlooked.{Unlooked}
 use Rattle.lens_engines.specs.declared.verdict.LevelsFault.{LevelsFault}

@@ -15,7 +15,7 @@ use Rattle.line_io.proofs.WriteProgressLemmas.{SoFar, SoFar-none, SoFar-end}
 use Rattle.line_io.specs.Writes.{Writes}
 use Rattle.map_level.specs.Level.{Level}
 use Rattle.lens_engines.specs.LevelLines.{AreCounted, code_part, findings_part, shown_count}
-use Rattle.lens_engines.specs.Head.{Head}
+use Rattle.lens_texts.specs.Head.{Head}
 use Rattle.wad_look.proofs.RestLemmas.{drop-at}
 
 -- what is told of the codes from a rank on begins with the code there

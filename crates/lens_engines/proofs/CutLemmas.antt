@@ -12,11 +12,11 @@ use Rattle.wad_dir.specs.Packing.{NamedLump}
 use Rattle.wad_dir.specs.Slice.{IsLump}
 use Rattle.wad_dir.specs.Wad.{Wad}
 use Rattle.lens_engines.specs.Cut.{AddsLump, AreNamedLumps, Belong, BelongAt, HasLumpsAt, IsEndMap, LacksLump, RefusesEntry, none, more}
-use Rattle.lens_engines.specs.Label.{IsLabelOf}
+use Rattle.lens_texts.specs.Label.{IsLabelOf}
 use Rattle.lens_engines.specs.declared.cut.CutFault.{CutFault}
 use Rattle.lens_engines.specs.declared.cut.CutFault.TheVariants as fault
 use Rattle.lens_engines.specs.declared.cut.Uncut.TheVariants as uncut
-use Rattle.lens_engines.specs.declared.label.LevelLabel.{LevelLabel}
+use Rattle.lens_texts.specs.declared.label.LevelLabel.{LevelLabel}
 
 -- no level starts at an entry from which on the first that does is another, or none
 pub no_start : (all : List (List ℕ)) (g : ℕ) (next : Option ℕ) → next ≢ Some g → IfSome next (IsNextStart all g) → IfNone next (NoneStartsFrom all g) → ¬ LevelStartsAt all g

@@ -15,10 +15,10 @@ use Rattle.map_level.specs.declared.finding.Code.TheVariants.{F1}
 use Rattle.map_level.specs.declared.finding.Finding.{Finding}
 use Rattle.map_level.specs.declared.search.TheConstants.{CODE_COUNT}
 use Rattle.lens_engines.specs.Counts.{report_order}
-use Rattle.lens_engines.specs.LevelText.{finding_text}
+use Rattle.lens_texts.specs.LevelText.{finding_text}
 use Rattle.lens_engines.specs.Laws.{LinesAreOfTheReport}
 use Rattle.lens_engines.specs.LevelLines.{code_lines, code_part, findings_part}
-use Rattle.lens_engines.specs.Head.{Head}
+use Rattle.lens_texts.specs.Head.{Head}
 use Rattle.lens_engines.proofs.ReportLemmas.{indexes_of_report, pick}
 
 module _ (line : Finding → List ℕ) where

@@ -19,15 +19,17 @@ use Rattle.map_level.specs.Findings.{is_fault, rank}
 use Rattle.map_level.specs.declared.finding.Code.{Code}
 use Rattle.map_level.specs.declared.finding.Code.TheVariants.{F1, F2, F3, F4, F5, F6, F7, F8, F9, F10, F11, F12, F13, F14, F15, F16, F17, F18, N1, N2, N3, N4, N5, N6, N7, N8, N9, N10, N11, N12}
 use Rattle.wad_dir.specs.declared.wad.WadFault.TheVariants as wad
-use Rattle.lens_engines.proofs.MemberLemmas.{ArePlain, IsPlain, Tells, Tells-bool, Tells-both, Tells-each, Tells-none, Tells-number, Tells-numbers, Tells-one, Tells-plain, Tells-string, Tells-two, read_line}
+use Rattle.lens_texts.proofs.MemberLemmas.{ArePlain, IsPlain, Tells, Tells-bool, Tells-both, Tells-each, Tells-none, Tells-number, Tells-numbers, Tells-one, Tells-plain, Tells-string, Tells-two, read_line}
 use Rattle.lens_engines.specs.Counts.{fault_total, note_total, report_order}
-use Rattle.lens_engines.specs.Kind.{code_text}
+use Rattle.lens_texts.specs.Kind.{code_text}
 use Rattle.lens_engines.specs.Laws.{DoomIsRead, ObjectsAreRead, OtherIsRead, RefusedIsRead}
-use Rattle.lens_engines.specs.ObjectValues.{IsLineOf, doom_value, file_value, findings_values, found_values, label_values, number_at, object_of, other_value, size_values, sizes_of, telling_values, text_at, unlooked_at, warnings_values}
-use Rattle.lens_engines.specs.Objects.{count_member, count_of, file_member, findings_text, format_member, format_name, found_members, label_members, lump_members, number_member, refusal_text, refused_object, telling_members, usual_name, warnings_member}
+use Rattle.lens_engines.specs.ObjectValues.{doom_value, findings_values, found_values, label_values, other_value, size_values, sizes_of, telling_values, unlooked_at, warnings_values}
+use Rattle.lens_texts.specs.Members.{IsLineOf, file_value, number_at, object_of, text_at}
+use Rattle.lens_engines.specs.Objects.{count_member, count_of, findings_text, found_members, lump_members, refusal_text, refused_object, warnings_member}
+use Rattle.lens_texts.specs.LevelObject.{file_member, format_member, format_name, label_members, number_member, telling_members, usual_name}
 use Rattle.lens_engines.specs.Unlooked.{member_at, unlooked_member}
 use Rattle.lens_engines.specs.WarningCounts.{warning_count}
-use Rattle.lens_engines.specs.WarningLine.{warning_name}
+use Rattle.lens_texts.specs.WarningLine.{warning_name}
 use Rattle.lens_engines.specs.declared.judging.Warnings.{Warnings}
 use Rattle.lens_engines.specs.declared.judging.Warnings.TheVariants.{Unasked, Told, Strict}
 use Rattle.lens_engines.specs.declared.object.FileRefusal.{FileRefusal}

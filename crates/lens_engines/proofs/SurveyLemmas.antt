@@ -21,7 +21,7 @@ use Rattle.line_io.specs.declared.fault.IoFault.TheVariants as io
 use Rattle.lens_engines.specs.declared.judging.Judging.{Judging}
 use Rattle.wad_dir.specs.Entries.{names}
 use Rattle.wad_dir.specs.Wad.{IsRead, Wad}
-use Rattle.lens_engines.specs.Objects.{NamesLump}
+use Rattle.lens_texts.specs.LevelObject.{NamesLump}
 use Rattle.lens_engines.specs.Survey.{AreStartsBelow, AreTold, AreToldBelow, IsTold, RunsSurvey, Surveys, SurveysAll, SurveysFile, SurveysLevel, SurveysOrWants, SurveysSome, Told, WritesLevel}
 use Rattle.lens_engines.specs.Survey.{fault_after, gravest, graver, line_end, lines_of}
 use Rattle.lens_engines.specs.declared.verdict.LevelsFault.{LevelsFault}

@@ -1,258 +1,30 @@
--- The texts of findings, warnings, formats and totals, and the objects of a survey, computed on small levels: each is what
--- stands here.
-use Rattle.std.proofs.Common.{◌≡◌, ℕ, ℤ, pos, negsuc, true, false, List, [], ◌∷◌, ◌++◌, replicate, refl}
+-- The parts of a level's report, the totals, and the objects of a survey, computed on small levels: each is what stands here.
+use Rattle.std.proofs.Common.{◌≡◌, ℕ, pos, negsuc, true, false, [], ◌∷◌, ◌++◌, replicate, refl}
 use lib.Utf8.{encode}
 use Rattle.std.specs.Fmt.{digits}
 use Rattle.std.specs.Prelude.{codes}
 use Rattle.std.specs.Str.{chars, is_utf8}
 use Rattle.std.specs.Str.Lossy.{utf8_error_len, utf8_lossy, utf8_valid_len}
-use Rattle.level_starts.specs.declared.format.Format.TheVariants.{Udmf, Incomplete, Hexen, Outside, Extended, Doom}
-use Rattle.le_rec.specs.Number.{signed16, unsigned16}
-use Rattle.le_rec.specs.Table.{Rows}
-use Rattle.le_rec.specs.declared.records.LineDef.{LineDef}
-use Rattle.le_rec.specs.declared.records.Sector.{Sector}
-use Rattle.le_rec.specs.declared.records.Thing.{Thing}
-use Rattle.map_warnings.specs.declared.warning.Part.TheVariants.{Middle, Upper, Lower}
-use Rattle.map_warnings.specs.declared.warning.Plane.TheVariants.{Ceiling}
-use Rattle.map_warnings.specs.declared.warning.Side.TheVariants.{Front, Back}
-use Rattle.map_warnings.specs.declared.warning.Warning.{Warning}
-use Rattle.map_warnings.specs.declared.warning.Warning.TheVariants as warning
+use Rattle.level_starts.specs.declared.format.Format.TheVariants.{Doom}
 use Rattle.map_warnings.specs.declared.warning.WarningCode.TheVariants.{W2}
 use Rattle.map_level.specs.Level.{Level}
-use Rattle.map_level.specs.declared.finding.Code.{Code}
-use Rattle.map_level.specs.declared.finding.Code.TheVariants.{F3, F4, F5, F6, F7, F8, F9, F10, F11, F12, F13, F14, F15, F16, F17, F18, N2, N3, N4, N5, N6, N7, N8, N9, N10, N11, N12}
-use Rattle.map_level.specs.declared.reading.Reading.{Reading}
-use Rattle.map_level.specs.declared.reading.Reading.TheVariants.{Signed, Wide}
+use Rattle.map_level.specs.declared.finding.Code.TheVariants.{F9, N3, N4, N6, N12}
+use Rattle.map_level.specs.declared.reading.Reading.TheVariants.{Signed}
 use Rattle.wad_dir.specs.declared.wad.WadFault.TheVariants as wad
-use Rattle.lens_engines.specs.FindingLine.{finding_line, lead_text}
-use Rattle.lens_engines.specs.FormatLine.{format_text}
-use Rattle.lens_engines.specs.JsonString.{json_string}
-use Rattle.lens_engines.specs.Head.{Head}
-use Rattle.lens_engines.specs.Label.{label_text}
 use Rattle.lens_engines.specs.LevelLines.{code_part, wide_part}
-use Rattle.lens_engines.specs.Message.{message}
-use Rattle.lens_engines.specs.Objects.{doom_members, level_members, other_members, refused_object}
-use Rattle.lens_engines.specs.Place.{place_of, place_text}
-use Rattle.lens_engines.specs.ShownPath.{shown_after, shown_path}
+use Rattle.lens_engines.specs.Objects.{doom_members, refused_object}
+use Rattle.lens_texts.specs.LevelObject.{level_members}
+use Rattle.lens_texts.specs.ShownPath.{shown_after}
 use Rattle.lens_engines.specs.Tables.{tables_of}
 use Rattle.lens_engines.specs.Totals.{totals_line}
 use Rattle.lens_engines.specs.TotalsObject.{totals_object}
 use Rattle.lens_engines.specs.Unlooked.{none_unlooked}
 use Rattle.lens_engines.specs.WarnedText.{more_warnings}
-use Rattle.lens_engines.specs.WarningLine.{missing_text, texture_text, unknown_flat_text, unknown_thing_text}
-use Rattle.lens_engines.specs.WarningLine.{warning_lead, warning_message, warning_place}
-use Rattle.lens_engines.specs.declared.form.Form.TheVariants.{Lines}
-use Rattle.lens_engines.specs.declared.label.LevelLabel.{LevelLabel}
 use Rattle.lens_engines.specs.declared.judging.Warnings.TheVariants.{Unasked, Told, Strict}
 use Rattle.lens_engines.specs.declared.object.FileRefusal.TheVariants.{TooLarge, NoWad}
 use Rattle.lens_engines.specs.declared.totals.Totals.{Totals}
 use Rattle.lens_engines.specs.declared.warning_counts.WarningCounts.{WarningCounts}
-
-abbrev rows : {R : Type 0} → List R → Rows R
-rows records = record { records = records; rest = 3 }
-
-abbrev line : ℤ → ℤ → ℤ → ℤ → LineDef
-line v1 v2 side0 side1 = record { v1 = v1; v2 = v2; flags = pos 4; special = pos 0; tag = pos 0; side0 = side0; side1 = side1 }
-
-abbrev name : List ℕ
-name = codes "FLAT"
-
-abbrev sector : Sector
-sector = record { floor = pos 0; ceiling = pos 128; floor_name = name; ceiling_name = name; light = pos 160; special = pos 0; tag = pos 0 }
-
-abbrev thing : Thing
-thing = record { x = pos 8; y = pos 8; angle = pos 0; kind = pos 32000; options = pos 7 }
-
--- two vertexes, one sector, two sidedefs; linedef 1 names sidedef 1, and so does linedef 2
-abbrev level : Reading → Level
-level reading = record {
-  label = 0;
-  reading = reading;
-  names = [];
-  things = rows [];
-  linedefs = rows (line (pos 0) (pos 7) (pos 0) (negsuc 0) ∷ line (pos 0) (pos 1) (pos 9) (pos 1) ∷ line (negsuc 1) (pos 0) (negsuc 0) (pos 1) ∷ []);
-  sidedefs = rows (record { xoff = pos 0; yoff = pos 0; top = name; bottom = name; middle = name; sector = pos 4 }
-      ∷ record { xoff = pos 0; yoff = pos 0; top = name; bottom = name; middle = name; sector = negsuc 0 } ∷ []);
-  vertexes = rows (record { x = pos 16; y = negsuc 15 } ∷ record { x = pos 20000; y = pos 1 } ∷ []);
-  segs = rows (record { v1 = pos 1; v2 = pos 0; angle = pos 0; linedef = pos 5; side = pos 2; offset = pos 0 }
-      ∷ record { v1 = pos 0; v2 = pos 2; angle = pos 0; linedef = pos 2; side = pos 1; offset = pos 0 } ∷ []);
-  ssectors = rows (record { count = pos 9; first = pos 0 } ∷ record { count = pos 1; first = pos 2 } ∷ []);
-  nodes = rows (record { x = pos 3; y = negsuc 3; dx = pos 0; dy = pos 0; box0 = []; box1 = []; child0 = 32768; child1 = 32771 }
-      ∷ record { x = pos 20000; y = pos 0; dx = pos 0; dy = pos 0; box0 = []; box1 = []; child0 = 2; child1 = 32768 } ∷ []);
-  sectors = rows [];
-  reject = 1 ∷ [];
-  blockmap = 0 ∷ 0 ∷ 0 ∷ 0 ∷ 2 ∷ 0 ∷ 2 ∷ 0 ∷ 5 ∷ 0 ∷ 255 ∷ 127 ∷ [];
-}
-
--- what stands behind the index
-abbrev told : Reading → Code → ℕ → List ℕ
-told reading code i = message (level reading) code i (place_text (place_of (level reading) code i) [])
-
-end_vertex : told Signed F3 0 ≡ codes "end vertex 7 isn't there (2 vertexes)"
-unfolding digits
-end_vertex = refl
-
-start_vertex : told Signed F3 2 ≡ codes "start vertex -2 isn't there (2 vertexes)"
-unfolding digits
-start_vertex = refl
-
-start_vertex_wide : told Wide F3 2 ≡ codes "start vertex 65534 isn't there (2 vertexes)"
-unfolding digits
-start_vertex_wide = refl
-
-front_sidedef : told Signed F4 1 ≡ codes "front sidedef 9 isn't there (2 sidedefs), from (16, -16) to (20000, 1)"
-unfolding digits
-front_sidedef = refl
-
-sector_named_second : told Signed F5 1 ≡ codes "sector -1 isn't there (0 sectors), of linedef 1"
-unfolding digits
-sector_named_second = refl
-
-sector_named_first : told Signed F5 0 ≡ codes "sector 4 isn't there (0 sectors), of linedef 0"
-unfolding digits
-sector_named_first = refl
-
-sector_wide : told Wide F5 1 ≡ codes "sector 65535 isn't there (0 sectors), of linedef 1"
-unfolding digits
-sector_wide = refl
-
-seg_end : told Signed F6 1 ≡ codes "end vertex 2 isn't there (2 vertexes)"
-unfolding digits
-seg_end = refl
-
-seg_linedef : told Signed F7 0 ≡ codes "linedef 5 isn't there (3 linedefs), from (20000, 1) to (16, -16)"
-unfolding digits
-seg_linedef = refl
-
-seg_side : told Signed F8 0 ≡ codes "side 2 is neither 0 nor 1, from (20000, 1) to (16, -16)"
-unfolding digits
-seg_side = refl
-
-sideless : told Signed F9 1 ≡ codes "linedef 2 has no sidedef on side 1"
-unfolding digits
-sideless = refl
-
-segs_missing : told Signed F10 0 ≡ codes "segs from 0, 9 of them, aren't all there (2 segs), at (20000, 1)"
-unfolding digits
-segs_missing = refl
-
-segs_nowhere : told Signed F10 1 ≡ codes "segs from 2, 1 of them, aren't all there (2 segs)"
-unfolding digits
-segs_nowhere = refl
-
-second_child : told Signed F11 0 ≡ codes "child 1 names ssector 3, which isn't there (2 ssectors), at (3, -4)"
-unfolding digits
-second_child = refl
-
-first_child : told Signed F11 1 ≡ codes "child 0 names node 2, which isn't there (2 nodes), at (20000, 0)"
-unfolding digits
-first_child = refl
-
-origin : told Signed F12 1 ≡ codes "origin (20000, 0) is outside -16384 to 16383"
-unfolding digits
-origin = refl
-
-named_twice : told Signed F13 0 ≡ codes "named more than once, or the root and named, at (3, -4)"
-unfolding digits
-named_twice = refl
-
-not_reached : told Signed F14 0 ≡ codes "not reached from the root, at (3, -4)"
-unfolding digits
-not_reached = refl
-
-ssector_twice : told Signed F15 0 ≡ codes "named more than once, at (20000, 1)"
-unfolding digits
-ssector_twice = refl
-
-ssector_not_reached : told Signed F16 0 ≡ codes "not reached from the root, at (20000, 1)"
-unfolding digits
-ssector_not_reached = refl
-
-no_ssector : told Signed F17 0 ≡ codes "no ssector"
-unfolding digits
-no_ssector = refl
-
-many_nodes : told Signed F18 0 ≡ codes "2 nodes, 32767 are the most"
-unfolding digits
-many_nodes = refl
-
-left_over : told Signed N2 8 ≡ codes "3 bytes left over"
-unfolding digits
-left_over = refl
-
-two_sided : told Signed N3 1 ≡ codes "two-sided, without a back sidedef, from (16, -16) to (20000, 1)"
-unfolding digits
-two_sided = refl
-
-no_front : told Signed N4 2 ≡ codes "without a front sidedef"
-unfolding digits
-no_front = refl
-
-no_length : told Signed N5 1 ≡ codes "without length, from (16, -16) to (20000, 1)"
-unfolding digits
-no_length = refl
-
-no_segs : told Signed N6 1 ≡ codes "without segs"
-unfolding digits
-no_segs = refl
-
-no_direction : told Signed N7 0 ≡ codes "without direction, at (3, -4)"
-unfolding digits
-no_direction = refl
-
-reject : told Signed N8 0 ≡ codes "REJECT has 1 bytes, 0 are wanted"
-unfolding digits
-reject = refl
-
-blockmap : told Signed N9 0 ≡ codes "BLOCKMAP has 6 words, 8 are wanted"
-unfolding digits signed16 unsigned16
-blockmap = refl
-
-list_outside : told Signed N10 2 ≡ codes "its list isn't inside BLOCKMAP"
-unfolding digits
-list_outside = refl
-
-list_endless : told Signed N10 0 ≡ codes "its list has no end"
-unfolding digits signed16 unsigned16
-list_endless = refl
-
-no_start : told Signed N11 0 ≡ codes "no player 1 start"
-unfolding digits
-no_start = refl
-
-vertex_outside : told Signed N12 1 ≡ codes "(20000, 1) is outside -16384 to 16383"
-unfolding digits
-vertex_outside = refl
-
--- what stands before the message: a block by its column and row, a whole level without an index
-block_lead : lead_text (level Signed) (record { code = N10; index = 3 }) ≡ codes "N10 block (1, 1): "
-unfolding digits signed16 unsigned16
-block_lead = refl
-
-level_lead : lead_text (level Signed) (record { code = F17; index = 0 }) ≡ codes "F17 level: "
-unfolding digits
-level_lead = refl
-
-lump_lead : lead_text (level Signed) (record { code = N2; index = 8 }) ≡ codes "N2 lump 8: "
-unfolding digits
-lump_lead = refl
-
--- the label of a level at entry 7
-abbrev shown : List ℕ → LevelLabel
-shown name = record { name = name; entry = 7; hidden = false }
-
-abbrev lines_of : List ℕ → List ℕ → Head
-lines_of path name = record { form = Lines; path = path; label = shown name }
-
-hidden_label : label_text (record { name = codes "MAP01"; entry = 7; hidden = true }) (codes ": ") ≡ codes "MAP01 (entry 7): "
-unfolding digits
-hidden_label = refl
-
--- a whole line, of a label with a byte that isn't visible
-whole_line : finding_line (codes "a b.wad") (shown (77 ∷ 1 ∷ [])) (level Signed) (record { code = N7; index = 0 })
-    ≡ codes "a b.wad: M\\x01: N7 node 0: without direction, at (3, -4)" ++ 10 ∷ []
-unfolding digits shown_after
-whole_line = refl
+use Rattle.lens_texts.proofs.CaseLevels.{rows, line, name, sector, level, shown, lines_of}
 
 -- of three findings one is shown, and all are where the number is 0 or as great
 one_of_three : code_part (lines_of (codes "a") (codes "M")) 1 (level Signed) N4 (0 ∷ 1 ∷ 2 ∷ [])
@@ -265,83 +37,9 @@ two_of_two : code_part (lines_of (codes "a") (codes "M")) 2 (level Signed) N6 (0
 unfolding digits shown_after
 two_of_two = refl
 
--- what is told of a warning
-abbrev warns : Warning → List ℕ
-warns w = warning_lead w ++ warning_message (level Signed) w (place_text (warning_place (level Signed) w) [])
-
-unclosed_told : warns (warning.Unclosed 3 0) ≡ codes "W1 sector 3: isn't closed, at (16, -16)"
-unfolding digits
-unclosed_told = refl
-
-bare_front_told : warns (warning.Bare 1 Front Middle) ≡ codes "W2 linedef 1: no middle texture in front, from (16, -16) to (20000, 1)"
-unfolding digits
-bare_front_told = refl
-
-bare_back_told : warns (warning.Bare 1 Back Upper) ≡ codes "W2 linedef 1: no upper texture at the back, from (16, -16) to (20000, 1)"
-unfolding digits
-bare_back_told = refl
-
-bare_lower_told : warns (warning.Bare 0 Front Lower) ≡ codes "W2 linedef 0: no lower texture in front"
-unfolding digits
-bare_lower_told = refl
-
-void_told : warns (warning.InVoid 12) ≡ codes "W3 thing 12: stands in the void"
-unfolding digits
-void_told = refl
-
-untagged_told : warns (warning.Untagged 1) ≡ codes "W4 linedef 1: no sector has tag 0, from (16, -16) to (20000, 1)"
-unfolding digits
-untagged_told = refl
-
-mismatched_told : warns (warning.Mismatched 0 4 2) ≡ codes "W5 ssector 0: its segs face sectors 4 and 2, at (20000, 1)"
-unfolding digits
-mismatched_told = refl
-
-twin_told : warns (warning.Twin 1 0) ≡ codes "W6 linedef 1: lies on linedef 0, from (16, -16) to (20000, 1)"
-unfolding digits
-twin_told = refl
-
-no_start_told : warns (warning.NoStart 3) ≡ codes "W7 level: no player 3 start"
-unfolding digits
-no_start_told = refl
-
-few_starts_told : warns (warning.FewStarts 2) ≡ codes "W8 level: 2 deathmatch starts"
-unfolding digits
-few_starts_told = refl
-
-unknown_texture_told : warns (warning.UnknownTexture 1 Upper) ≡ codes "W9 sidedef 1: upper texture FLAT isn't there, of linedef 1"
-unfolding digits
-unknown_texture_told = refl
-
-empty_texture_told : texture_text Middle (missing_text (replicate 8 0) []) ≡ codes "middle texture (empty) isn't there"
-empty_texture_told = refl
-
-unknown_flat_told : unknown_flat_text (record (level Signed) { sectors = rows (sector ∷ []) }) 0 Ceiling [] ≡ codes "ceiling flat FLAT isn't there"
-unknown_flat_told = refl
-
-unknown_thing_told : unknown_thing_text (record (level Signed) { things = rows (thing ∷ []) }) 0 [] ≡ codes "type 32000 is none of the game's"
-unfolding digits
-unknown_thing_told = refl
-
 warnings_left_told : more_warnings (lines_of (codes "a.wad") name) W2 5 ≡ codes "a.wad: FLAT: W2: 5 more" ++ 10 ∷ []
 unfolding digits shown_after
 warnings_left_told = refl
-
--- what tells a level that isn't judged
-udmf_told : format_text Udmf ≡ codes "udmf: not read\n"
-udmf_told = refl
-
-incomplete_told : format_text (Incomplete 10) ≡ codes "incomplete: no BLOCKMAP where it belongs\n"
-incomplete_told = refl
-
-hexen_told : format_text Hexen ≡ codes "hexen: not read\n"
-hexen_told = refl
-
-outside_told : format_text (Outside 7) ≡ codes "outside: NODES\n"
-outside_told = refl
-
-extended_told : format_text (Extended (codes "XNOD")) ≡ codes "extended nodes XNOD: not read\n"
-extended_told = refl
 
 sound_wide_told : wide_part (lines_of (codes "a.wad") (codes "E1M1")) true ≡ codes "a.wad: E1M1: sound with --wide\n"
 unfolding shown_after
@@ -378,15 +76,6 @@ unfoldable strings : Unit {0}
 unfolding digits utf8_lossy utf8_valid_len utf8_error_len is_utf8 chars encode
 strings = tt
 
--- strings: what has to be escaped, and what is no UTF-8
-escaped_string : json_string (34 ∷ 92 ∷ 10 ∷ 31 ∷ 47 ∷ 127 ∷ []) ≡ codes "\"\\\"\\\\\\u000a\\u001f/" ++ 127 ∷ 34 ∷ []
-unfolding strings
-escaped_string = refl
-
-replaced_string : json_string (195 ∷ 169 ∷ 255 ∷ 65 ∷ []) ≡ 34 ∷ 195 ∷ 169 ∷ 239 ∷ 191 ∷ 189 ∷ 65 ∷ 34 ∷ []
-unfolding strings
-replaced_string = refl
-
 -- the objects of refused files
 short_object : refused_object (codes "a.wad") (NoWad wad.Short) ≡ codes "{\"file\":\"a.wad\",\"refused\":\"shorter than a WAD header\"}\n"
 unfolding strings
@@ -395,22 +84,6 @@ short_object = refl
 large_object : refused_object (codes "b") TooLarge ≡ codes "{\"file\":\"b\",\"refused\":\"larger than 268435456 bytes\"}\n"
 unfolding strings
 large_object = refl
-
--- those of levels that aren't judged
-udmf_object : level_members (codes "a.wad") (codes "MAP01") 3 Udmf ++ other_members Udmf
-    ≡ codes "{\"file\":\"a.wad\",\"level\":\"MAP01\",\"entry\":3,\"format\":\"udmf\"}\n"
-unfolding strings
-udmf_object = refl
-
-incomplete_object : level_members (codes "a.wad") (codes "MAP01") 12 (Incomplete 10) ++ other_members (Incomplete 10)
-    ≡ codes "{\"file\":\"a.wad\",\"level\":\"MAP01\",\"entry\":12,\"format\":\"incomplete\",\"lump\":\"BLOCKMAP\"}\n"
-unfolding strings
-incomplete_object = refl
-
-extended_object : level_members (codes "a.wad") (codes "MAP01") 0 (Extended (codes "XNOD")) ++ other_members (Extended (codes "XNOD"))
-    ≡ codes "{\"file\":\"a.wad\",\"level\":\"MAP01\",\"entry\":0,\"format\":\"extended\",\"tag\":\"XNOD\"}\n"
-unfolding strings
-extended_object = refl
 
 -- that of the sample, and of a level of as many records with a fault, notes and warnings
 abbrev sample : Level
@@ -456,14 +129,3 @@ found_object : doom_members (record {
     ++ codes "\"reject\":1,\"blockmap\":16,\"sound\":false,\"faults\":2,\"notes\":12,\"findings\":{\"F9\":2,\"N3\":1,\"N12\":11},\"warnings\":{\"W4\":7},\"unlooked\":[\"W10\"]}\n"
 unfolding digits
 found_object = refl
-
--- a line's end, an escape, a control of eight bits and 127, between letters
-path_with_controls : shown_path (97 ∷ 10 ∷ 27 ∷ 91 ∷ 194 ∷ 133 ∷ 127 ∷ 98 ∷ [])
-    ≡ codes "a\\x0a\\x1b[\\xc2\\x85\\x7fb"
-unfolding shown_after
-path_with_controls = refl
-
--- a backslash, a letter of two bytes and a space of two: none is a control
-path_without_controls : shown_path (92 ∷ 195 ∷ 164 ∷ 194 ∷ 160 ∷ []) ≡ 92 ∷ 195 ∷ 164 ∷ 194 ∷ 160 ∷ []
-unfolding shown_after
-path_without_controls = refl

@@ -17,22 +17,22 @@ use Rattle.map_tree.specs.Sound.{IsSound}
 use Rattle.wad_dir.specs.Entries.{names}
 use Rattle.wad_dir.specs.Wad.{IsRead, Wad}
 use Rattle.lens_engines.specs.Counts.{AreCounts}
-use Rattle.lens_engines.specs.Head.{Head}
+use Rattle.lens_texts.specs.Head.{Head}
 use Rattle.lens_engines.specs.Ignored.{HoldsUnlessIgnored}
-use Rattle.lens_engines.specs.Label.{IsLabelOf}
+use Rattle.lens_texts.specs.Label.{IsLabelOf}
 use Rattle.lens_engines.specs.Left.{LeavesFile, LeavesLevel, WantsMemory}
 use Rattle.lens_engines.specs.LevelLines.{AreCounted, AreTold, judged_text}
-use Rattle.lens_engines.specs.LevelText.{unjudged_text}
+use Rattle.lens_texts.specs.LevelText.{unjudged_text}
 use Rattle.lens_engines.specs.Survey.{graver}
 use Rattle.lens_engines.specs.Totals.{format_totals, judged_totals, no_totals, totals_with, verdict_with}
 use Rattle.lens_engines.specs.Unlooked.{AreUnlooked}
 use Rattle.lens_engines.specs.declared.unlooked.Unlooked.{Unlooked}
 use Rattle.lens_engines.specs.Warned.{AreAskedFor, Warned, kept_count, known_files, warned_total}
 use Rattle.lens_engines.specs.declared.check.Question.{Question}
-use Rattle.lens_engines.specs.declared.form.Form.{Form}
+use Rattle.lens_texts.specs.declared.form.Form.{Form}
 use Rattle.lens_engines.specs.declared.judging.Judging.{Judging}
 use Rattle.lens_engines.specs.declared.judging.Warnings.{Warnings}
-use Rattle.lens_engines.specs.declared.label.LevelLabel.{LevelLabel}
+use Rattle.lens_texts.specs.declared.label.LevelLabel.{LevelLabel}
 use Rattle.lens_engines.specs.declared.totals.Totals.{Totals}
 use Rattle.lens_engines.specs.declared.verdict.LevelsFault.{LevelsFault}
 use Rattle.lens_engines.specs.declared.verdict.LevelsFault.TheVariants.{NoWad, Write, Memory}

@@ -15,14 +15,14 @@ use Rattle.wad_dir.specs.Refusal.{RefusesWad}
 use Rattle.wad_dir.specs.Slice.{IsLump}
 use Rattle.wad_dir.specs.Wad.{IsRead, Wad}
 use Rattle.wad_dir.specs.declared.packer.TheConstants.{MAX_BYTES}
-use Rattle.lens_engines.specs.FormatLine.{format_text}
-use Rattle.lens_engines.specs.Label.{IsLabelOf, label_text}
+use Rattle.lens_texts.specs.FormatLine.{format_text}
+use Rattle.lens_texts.specs.Label.{IsLabelOf, label_text}
 use Rattle.lens_engines.specs.Objects.{refusal_text}
 use Rattle.lens_engines.specs.declared.cut.CutFault.{CutFault}
 use Rattle.lens_engines.specs.declared.cut.CutFault.TheVariants.{NoWad, NoLevel, Level, Memory, Write}
 use Rattle.lens_engines.specs.declared.cut.Uncut.{Uncut}
 use Rattle.lens_engines.specs.declared.cut.Uncut.TheVariants.{Incomplete, Outside, NoEndMap, TooLarge}
-use Rattle.lens_engines.specs.declared.label.LevelLabel.{LevelLabel}
+use Rattle.lens_texts.specs.declared.label.LevelLabel.{LevelLabel}
 use Rattle.lens_engines.specs.declared.object.FileRefusal.TheVariants as refusal
 use Rattle.wad_look.specs.Engines.Extract.{HoldsLumps}
 

@@ -10,7 +10,7 @@ use Rattle.map_warnings.specs.declared.warning.Warning.{Warning}
 use Rattle.map_warnings.specs.declared.warning.WarningCode.{WarningCode}
 use Rattle.map_warnings.specs.declared.warning.WarningCode.TheVariants.{W1, W2, W3, W4, W5, W6, W7, W8, W9, W10, W11}
 use Rattle.wad_dir.specs.Wad.{Wad}
-use Rattle.lens_engines.specs.WarningLine.{warning_name}
+use Rattle.lens_texts.specs.WarningLine.{warning_name}
 use Rattle.lens_engines.specs.declared.ignored.Ignored.{Ignored}
 
 -- no code is

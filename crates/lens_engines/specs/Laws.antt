@@ -1,9 +1,6 @@
 -- The laws of this crate's definitions (ours).
-use Rattle.std.specs.Prelude.{◌≡◌, ◌↔◌, ℕ, ◌<◌, ◌^◌, List, ◌∷◌, ◌++◌, ◌==◌, count_by, not, slice_index}
+use Rattle.std.specs.Prelude.{◌≡◌, ◌↔◌, ℕ, ◌<◌, ◌^◌, List, ◌++◌, ◌==◌, count_by, not, slice_index}
 use Rattle.std.specs.List.{flat_map}
-use Rattle.std.specs.Str.Lossy.{utf8_lossy}
-use Rattle.json.specs.Lex.{between, lex, token}
-use Rattle.json.specs.Token.{string}
 use Rattle.le_rec.specs.Sink.{SinkState}
 use Rattle.level_starts.specs.Format.{IsFormat}
 use Rattle.level_starts.specs.Starts.{LevelStartsAt}
@@ -20,12 +17,13 @@ use Rattle.wad_dir.specs.Entries.{names}
 use Rattle.wad_dir.specs.Wad.{Wad}
 use Rattle.lens_engines.specs.Check.{CheckAsked, ChecksAll}
 use Rattle.lens_engines.specs.Counts.{AreCounts, fault_total, note_total}
-use Rattle.lens_engines.specs.Head.{Head}
-use Rattle.lens_engines.specs.JsonString.{json_string}
+use Rattle.lens_texts.specs.Head.{Head}
 use Rattle.lens_engines.specs.LevelLines.{AreTold, findings_part}
-use Rattle.lens_engines.specs.LevelText.{finding_text}
-use Rattle.lens_engines.specs.ObjectValues.{HasSmallNumbers, IsLineOf, doom_value, other_value, refused_value}
-use Rattle.lens_engines.specs.Objects.{doom_members, level_members, other_members, refused_object}
+use Rattle.lens_texts.specs.LevelText.{finding_text}
+use Rattle.lens_engines.specs.ObjectValues.{HasSmallNumbers, doom_value, other_value, refused_value}
+use Rattle.lens_texts.specs.Members.{IsLineOf}
+use Rattle.lens_engines.specs.Objects.{doom_members, refused_object}
+use Rattle.lens_texts.specs.LevelObject.{level_members, other_members}
 use Rattle.lens_engines.specs.declared.level_counts.LevelCounts.{LevelCounts}
 use Rattle.lens_engines.specs.declared.object.FileRefusal.{FileRefusal}
 use Rattle.lens_engines.specs.declared.totals.Totals.{Totals}
@@ -51,10 +49,6 @@ abbrev pub LinesAreOfTheReport : Type 0
 LinesAreOfTheReport =
     (head : Head) (level : Level) (found : List Finding) (told : Code → List ℕ) → AreFindings (AuditHolds level) found
     → AreTold (AuditHolds level) told → findings_part head 0 level told ≡ flat_map (finding_text head level) found
-
--- the kit's reader of JSON reads a written string as the bytes' text, and goes on behind it
-abbrev pub StringsAreRead : Type 0
-StringsAreRead = (bytes rest : List ℕ) → lex between (json_string bytes ++ rest) ≡ token (string (utf8_lossy bytes)) ∷ lex between rest
 
 -- the object of a refused file is read as its members
 abbrev pub RefusedIsRead : Type 0

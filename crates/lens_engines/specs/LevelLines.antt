@@ -5,9 +5,9 @@ use Rattle.map_level.specs.Findings.{rank}
 use Rattle.map_level.specs.Level.{Level}
 use Rattle.map_level.specs.declared.finding.Code.{Code}
 use Rattle.lens_engines.specs.Counts.{report_order}
-use Rattle.lens_engines.specs.Head.{Head}
-use Rattle.lens_engines.specs.Kind.{code_text}
-use Rattle.lens_engines.specs.LevelText.{finding_text, left_text, wide_text}
+use Rattle.lens_texts.specs.Head.{Head}
+use Rattle.lens_texts.specs.Kind.{code_text}
+use Rattle.lens_texts.specs.LevelText.{finding_text, left_text, wide_text}
 use Rattle.lens_engines.specs.Warned.{Warned}
 use Rattle.lens_engines.specs.WarnedText.{warned_text}
 

@@ -1,17 +1,18 @@
 -- The members of a survey's objects and their values (ours), as a reader of JSON gives them.
-use Rattle.std.specs.Prelude.{◌≡◌, ℕ, Bool, true, false, Contains, Some, ◌<◌, ◌^◌, ◌==◌, nat_lt, All, List, [], ◌∷◌, ◌++◌, codes, decimal, filter, map}
-use Rattle.std.specs.Str.Lossy.{utf8_lossy}
-use Rattle.json.specs.Json.{Json, Members, array, boolean, document, item, member, no_items, no_members, number, object, string}
+use Rattle.std.specs.Prelude.{ℕ, Bool, true, false, ◌<◌, ◌^◌, ◌==◌, nat_lt, All, List, [], ◌∷◌, ◌++◌, codes, filter, map}
+use Rattle.json.specs.Json.{Json, array, boolean, item, no_items, string}
 use Rattle.le_rec.specs.Name.{shown_name}
 use Rattle.level_starts.specs.declared.format.Format.{Format}
 use Rattle.level_starts.specs.declared.format.Format.TheVariants.{Udmf, Incomplete, Hexen, Outside, Extended, Doom}
 use Rattle.map_warnings.specs.declared.warning.WarningCode.{WarningCode}
 use Rattle.lens_engines.specs.Counts.{fault_total, note_total, report_order}
-use Rattle.lens_engines.specs.Kind.{code_text}
-use Rattle.lens_engines.specs.Objects.{count_of, format_name, refusal_text, usual_name}
+use Rattle.lens_texts.specs.Kind.{code_text}
+use Rattle.lens_engines.specs.Objects.{count_of, refusal_text}
+use Rattle.lens_texts.specs.LevelObject.{format_name, usual_name}
+use Rattle.lens_texts.specs.Members.{file_value, number_at, object_of, text_at}
 use Rattle.lens_engines.specs.Warned.{warning_order}
 use Rattle.lens_engines.specs.WarningCounts.{warning_count}
-use Rattle.lens_engines.specs.WarningLine.{warning_name}
+use Rattle.lens_texts.specs.WarningLine.{warning_name}
 use Rattle.lens_engines.specs.declared.judging.Warnings.{Warnings}
 use Rattle.lens_engines.specs.declared.judging.Warnings.TheVariants.{Unasked, Told, Strict}
 use Rattle.lens_engines.specs.declared.level_counts.LevelCounts.{LevelCounts}
@@ -19,26 +20,6 @@ use Rattle.lens_engines.specs.declared.object.FileRefusal.{FileRefusal}
 use Rattle.lens_engines.specs.declared.tables.Tables.{Tables}
 use Rattle.lens_engines.specs.declared.unlooked.Unlooked.{Unlooked}
 use Rattle.lens_engines.specs.declared.warning_counts.WarningCounts.{WarningCounts}
-
--- members with their names, in their order
-abbrev pub members_of : List (List ℕ × Json) → Members
-members_of [] = no_members
-members_of (m ∷ ms) = member m.0 m.1 (members_of ms)
-
-abbrev pub object_of : List (List ℕ × Json) → Json
-object_of ms = object (members_of ms)
-
--- a member whose value is bytes' text
-abbrev pub text_at : List ℕ → List ℕ → List ℕ × Json
-text_at name bytes = (name, string (utf8_lossy bytes))
-
--- a member whose value is a number: its text are the digits
-abbrev pub number_at : List ℕ → ℕ → List ℕ × Json
-number_at name n = (name, number (decimal n))
-
--- what each object begins with
-abbrev pub file_value : List ℕ → List ℕ × Json
-file_value path = text_at (codes "file") path
 
 -- the members of a level: its label, the label's entry, its format
 abbrev pub label_values : List ℕ → ℕ → Format → List (List ℕ × Json)
@@ -125,10 +106,3 @@ pub record HasSmallNumbers (counted : LevelCounts) : Type 0 where
   pub faults : fault_total counted.counts < 2 ^ 64
   pub notes : note_total counted.counts < 2 ^ 64
   pub warnings : (code : WarningCode) → warning_count counted.warned code < 2 ^ 64
-
--- a text is a line that the kit's reader of JSON reads as a value, and it has no other line break
-pub record IsLineOf (value : Json) (text : List ℕ) : Type 0 where
-  pub line : List ℕ
-  pub ended : text ≡ line ++ 10 ∷ []
-  pub unbroken : ¬ Contains line 10
-  pub read : document line ≡ Some value

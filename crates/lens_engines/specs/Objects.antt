@@ -1,21 +1,18 @@
--- The objects of a survey, a line each (ours): a level of Doom's format, one of another format, a refused file.
-use Rattle.std.specs.Prelude.{ℕ, ◌-◌, ◌≤◌, ◌==◌, nat_lt, filter, map, List, [], ◌∷◌, ◌++◌, codes, decimal, slice_index, slice_index_or}
+-- The objects of a survey, a line each (ours): what was found at a level of Doom's format, and a refused file.
+use Rattle.std.specs.Prelude.{ℕ, ◌==◌, nat_lt, filter, map, List, [], ◌∷◌, ◌++◌, codes, decimal, slice_index}
 use Rattle.std.specs.List.{flat_map, join_with_byte}
-use Rattle.le_rec.specs.Name.{shown_name}
-use Rattle.level_starts.specs.declared.format.Format.{Format}
-use Rattle.level_starts.specs.declared.format.Format.TheVariants.{Udmf, Incomplete, Hexen, Outside, Extended, Doom}
 use Rattle.map_level.specs.Findings.{rank}
-use Rattle.map_level.specs.LinkFaults.{usual_names}
 use Rattle.map_level.specs.declared.finding.Code.{Code}
 use Rattle.map_warnings.specs.declared.warning.WarningCode.{WarningCode}
 use Rattle.wad_dir.specs.declared.wad.WadFault.TheVariants as wad
 use Rattle.lens_engines.specs.Counts.{fault_total, note_total, report_order}
-use Rattle.lens_engines.specs.JsonString.{bool_text, json_string}
-use Rattle.lens_engines.specs.Kind.{code_text}
+use Rattle.lens_texts.specs.JsonString.{bool_text, json_string}
+use Rattle.lens_texts.specs.Kind.{code_text}
+use Rattle.lens_texts.specs.LevelObject.{file_member, number_member}
 use Rattle.lens_engines.specs.Unlooked.{unlooked_member}
 use Rattle.lens_engines.specs.Warned.{warning_order}
 use Rattle.lens_engines.specs.WarningCounts.{warning_count}
-use Rattle.lens_engines.specs.WarningLine.{warning_name}
+use Rattle.lens_texts.specs.WarningLine.{warning_name}
 use Rattle.lens_engines.specs.declared.judging.Warnings.{Warnings}
 use Rattle.lens_engines.specs.declared.judging.Warnings.TheVariants.{Unasked, Told, Strict}
 use Rattle.lens_engines.specs.declared.level_counts.LevelCounts.{LevelCounts}
@@ -23,38 +20,6 @@ use Rattle.lens_engines.specs.declared.object.FileRefusal.{FileRefusal}
 use Rattle.lens_engines.specs.declared.tables.Tables.{Tables}
 use Rattle.lens_engines.specs.declared.warning_counts.WarningCounts.{WarningCounts}
 use Rattle.lens_engines.specs.declared.object.FileRefusal.TheVariants.{Unopened, Unread, TooLarge, NoWad}
-
--- a name as a string, as it is shown
-abbrev pub name_string : List ℕ → List ℕ
-name_string name = json_string (shown_name name)
-
--- a member behind others whose value is a number: `,"name":12`
-abbrev pub number_member : List ℕ → ℕ → List ℕ
-number_member name number = codes ",\"" ++ (name ++ (codes "\":" ++ decimal number))
-
--- what each object begins with
-abbrev pub file_member : List ℕ → List ℕ
-file_member path = codes "{\"file\":" ++ json_string path
-
--- a format as it is named
-abbrev pub format_name : Format → List ℕ
-format_name Udmf = codes "udmf"
-format_name (Incomplete k) = codes "incomplete"
-format_name Hexen = codes "hexen"
-format_name (Outside k) = codes "outside"
-format_name (Extended tag) = codes "extended"
-format_name Doom = codes "doom"
-
--- the label of a level as it is shown, and its number
-abbrev pub label_members : List ℕ → ℕ → List ℕ
-label_members name g = codes ",\"level\":" ++ (name_string name ++ number_member (codes "entry") g)
-
-abbrev pub format_member : Format → List ℕ
-format_member format = codes ",\"format\":\"" ++ (format_name format ++ codes "\"")
-
--- what the object of a level begins with
-abbrev pub level_members : List ℕ → List ℕ → ℕ → Format → List ℕ
-level_members path name g format = file_member path ++ (label_members name g ++ format_member format)
 
 -- how many records the eight tables have, and how many bytes the last two lumps
 abbrev pub lump_members : Tables → List (List ℕ)
@@ -120,29 +85,6 @@ abbrev pub doom_members : LevelCounts → List ℕ
 doom_members counted =
     flat_map (λ text. text) (lump_members counted.tables)
     ++ (found_members counted.counts ++ (warnings_member counted.warnings counted.warned ++ (unlooked_member counted.unlooked ++ codes "}\n")))
-
--- the usual name of a lump, by its number behind the label
-abbrev pub usual_name : ℕ → List ℕ
-usual_name k = slice_index_or usual_names (k - 1) []
-
--- what decides another format: the lump that isn't there or isn't inside its file, or the first bytes of the nodes
-abbrev pub telling_members : Format → List ℕ
-telling_members Udmf = []
-telling_members (Incomplete k) = codes ",\"lump\":" ++ name_string (usual_name k)
-telling_members Hexen = []
-telling_members (Outside k) = codes ",\"lump\":" ++ name_string (usual_name k)
-telling_members (Extended tag) = codes ",\"tag\":" ++ json_string tag
-telling_members Doom = []
-
--- what the object of a level of another format ends with
-abbrev pub other_members : Format → List ℕ
-other_members format = telling_members format ++ codes "}\n"
-
--- the lump that decides a format is one of the ten
-abbrev pub NamesLump : Format → Type 0
-NamesLump (Incomplete k) = (1 ≤ k) × (k ≤ 10)
-NamesLump (Outside k) = (1 ≤ k) × (k ≤ 10)
-NamesLump _ = Unit {0}
 
 -- why a file is refused, in words
 abbrev pub refusal_text : FileRefusal → List ℕ

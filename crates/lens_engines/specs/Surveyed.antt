@@ -5,7 +5,8 @@ use Rattle.level_starts.specs.declared.format.Format.{Format}
 use Rattle.level_starts.specs.declared.format.Format.TheVariants.{Doom}
 use Rattle.wad_dir.specs.Wad.{Wad}
 use Rattle.lens_engines.specs.LevelCounts.{IsCounted}
-use Rattle.lens_engines.specs.Objects.{doom_members, level_members, other_members}
+use Rattle.lens_engines.specs.Objects.{doom_members}
+use Rattle.lens_texts.specs.LevelObject.{level_members, other_members}
 use Rattle.lens_engines.specs.declared.judging.Judging.{Judging}
 use Rattle.lens_engines.specs.declared.surveyed.Surveyed.{Surveyed}
 use Rattle.lens_engines.specs.declared.surveyed.Surveyed.TheVariants.{Judged, Unjudged}

@@ -1,11 +1,11 @@
 -- The totals as an object of JSON, and in the form that is asked for (ours).
 use Rattle.std.specs.Prelude.{ℕ, List, ◌++◌, codes}
 use Rattle.std.specs.Fmt.{decimal}
-use Rattle.lens_engines.specs.Head.{by_form}
-use Rattle.lens_engines.specs.Objects.{number_member}
+use Rattle.lens_texts.specs.Head.{by_form}
+use Rattle.lens_texts.specs.LevelObject.{number_member}
 use Rattle.lens_engines.specs.Totals.{capped, totals_line}
 use Rattle.lens_engines.specs.Unlooked.{unlooked_member}
-use Rattle.lens_engines.specs.declared.form.Form.{Form}
+use Rattle.lens_texts.specs.declared.form.Form.{Form}
 use Rattle.lens_engines.specs.declared.judging.Warnings.{Warnings}
 use Rattle.lens_engines.specs.declared.judging.Warnings.TheVariants.{Unasked, Told, Strict}
 use Rattle.lens_engines.specs.declared.totals.Totals.{Totals}

@@ -3,10 +3,10 @@ use Rattle.std.specs.Prelude.{ℕ, ◌-◌, List, [], ◌++◌, length, nat_eq, 
 use Rattle.std.specs.List.{flat_map}
 use Rattle.map_level.specs.Level.{Level}
 use Rattle.map_warnings.specs.declared.warning.WarningCode.{WarningCode}
-use Rattle.lens_engines.specs.Head.{Head}
-use Rattle.lens_engines.specs.LevelText.{left_text, warning_text}
+use Rattle.lens_texts.specs.Head.{Head}
+use Rattle.lens_texts.specs.LevelText.{left_text, warning_text}
 use Rattle.lens_engines.specs.Warned.{Warned}
-use Rattle.lens_engines.specs.WarningLine.{warning_name}
+use Rattle.lens_texts.specs.WarningLine.{warning_name}
 
 -- how many warnings of a code are left out, where some are
 abbrev pub more_warnings : Head → WarningCode → ℕ → List ℕ

@@ -9,27 +9,23 @@ ghost use Rattle.map_audit.specs.Findings.{AuditHolds};
 ghost use Rattle.wad_dir.specs.Entries.{names};
 ghost use Rattle.lens_engines.specs.Check.{asked_of, head_in, text_end, Checks, ChecksDoom, ChecksLevel, ChecksOrWants, IsSoundWideAlone, RunsCheck};
 ghost use Rattle.lens_engines.specs.Counts.{AreCounts};
-ghost use Rattle.lens_engines.specs.Head.{head_of};
-ghost use Rattle.lens_engines.specs.LevelText.{unjudged_text};
-ghost use Rattle.lens_engines.specs.Objects.{NamesLump, level_members, other_members};
+ghost use Rattle.lens_texts.specs.Head.{head_of};
+ghost use Rattle.lens_texts.specs.LevelText.{unjudged_text};
+ghost use Rattle.lens_texts.specs.LevelObject.{NamesLump, level_members, other_members};
 ghost use Rattle.line_io.specs.Writes.{Writes};
-ghost use Rattle.lens_engines.specs.Warned.{known_files};
+ghost use Rattle.lens_engines.specs.Warned.{AreAskedFor, kept_count, known_files};
 
 use crate::base::over_base;
 use crate::counts::CodeCounts;
-use crate::form::Form;
 use crate::judged::Judged;
 use crate::judging::{Judging, Warnings};
-use crate::label::label_by;
 use crate::level_lines::write_judged;
-use crate::lines::{Heading, write_format};
-use crate::object::{write_level, write_other};
-use crate::opened::level_at;
 use crate::totals::{Totals, format_totals, judged_totals};
 use crate::unlooked::Unlooked;
 use crate::verdict::LevelsFault;
-use crate::warned::{asked_resources, kept_count, known_warnings, warned_total};
+use crate::warned::{Warned, asked_resources, kept_count, known_warnings, warned_total};
 use le_rec::Sink;
+use lens_texts::{Form, Heading, label_by, level_at, write_format, write_level, write_other};
 use level_starts::{Format, Holders, LevelStarts, format_of};
 use line_io::IoFault;
 use map_level::{Level, Reading};
@@ -198,26 +194,53 @@ fn check_doom<A: Allocator + Copy, W: Sink>(
 {
     let judging = question.judging;
     let level = level_at(set, g, judging.reading);
-    let most = kept_count(question.most);
-    let Ok(told) = judge(alloc, set, g, judging.reading, &level) else {
+    let Ok(found) = look_over(alloc, question, set, resources, g, &level) else {
         return Err(LevelsFault::Memory);
     };
-    let Ok(warned) = known_warnings(alloc, &level, resources, &told.counts, most, judging) else {
-        return Err(LevelsFault::Memory);
-    };
-    let counts = told.counts.without(&judging.ignored);
+    let counts = found.told.counts.without(&judging.ignored);
     let wrote = write_judged(
-        &told.judged,
+        &found.told.judged,
         heading,
         question.most,
         &counts,
-        &warned,
-        told.sound_wide,
+        &found.warned,
+        found.told.sound_wide,
         out,
     );
     let unlooked = Unlooked::of(resources, &judging.ignored);
-    let totals = judged_totals(&counts, warned_total(&warned), unlooked);
+    let totals = judged_totals(&counts, warned_total(&found.warned), unlooked);
     text_end(judging.warnings, totals, wrote)
+}
+
+// What is found at a level: findings, and warnings.
+#[derive(Drop)]
+struct Found<'l, 'a, A: Allocator> {
+    told: Told<'l, 'a, A>,
+    warned: Vec<Warned<A>, A>,
+}
+
+// Looks the level at a label over for both.
+fn look_over<'l, 'a, A: Allocator + Copy>(
+    alloc: A,
+    question: &Question<'_>,
+    set: &Set<'_, A>,
+    resources: &Option<Resources<'_, '_, A>>,
+    g: usize,
+    level: &'l Level<'a>,
+) -> Result<Found<'l, 'a, A>, AllocError>
+    requires is { IsFormat set.now g format.Doom }
+    ensures judged { IfOk result (λ found. found.told.judged ≡ level.now) }
+    ensures counts { IfOk result (λ found. AreCounts (AuditHolds level.now) found.told.counts) }
+    ensures wide { IfOk result (λ found. IsTrue found.told.sound_wide
+        ↔ IsSoundWideAlone set.now g question.now.judging.reading level.now) }
+    ensures warned { IfOk result (λ found. AreAskedFor question.now.judging resources.now level.now
+        (kept_count question.now.most) found.warned.items) }
+{
+    let judging = question.judging;
+    let told = judge(alloc, set, g, judging.reading, level)?;
+    let most = kept_count(question.most);
+    let warned = known_warnings(alloc, level, resources, &told.counts, most, judging)?;
+    Ok(Found { told, warned })
 }
 
 // What a level's lines are made of.

@@ -8,12 +8,13 @@ ghost use Rattle.line_io.specs.Writes.{Writes};
 ghost use Rattle.wad_dir.specs.Entries.{joined, names};
 ghost use Rattle.lens_engines.specs.Cut.{AddsLump, Belong, BelongAt, CutsLevel, HasLump, HasLumpsAt, HasPlace, HasScripts, IsCut, IsEndMap, LacksEndMap, LacksLump};
 ghost use Rattle.lens_engines.specs.Cut.{RefusesCut, RefusesEntry, RefusesLevel, RunsCut, cut_fault_text, uncut_text};
-ghost use Rattle.lens_engines.specs.Label.{IsLabelOf};
+ghost use Rattle.lens_texts.specs.Label.{IsLabelOf};
 
-use crate::label::{LevelLabel, label_looked_up, prepend_label, prepend_name};
-use crate::lines::{write_both, write_format_alone};
 use crate::object::FileRefusal;
 use le_rec::{Name8, Sink};
+use lens_texts::{
+    LevelLabel, label_looked_up, prepend_label, prepend_name, write_both, write_format_alone,
+};
 use level_starts::{Format, format_of, is_named, next_start};
 use line_io::{IoFault, TextLine, emit};
 use std::alloc::Allocator;

@@ -4,7 +4,7 @@ ghost use Rattle.std.specs.Prelude.{◌≡◌, ◌↔◌, ◌<◌, Some, IfNone,
 ghost use Rattle.map_level.specs.declared.finding.Code.{Code};
 ghost use Rattle.map_warnings.specs.declared.warning.WarningCode.{WarningCode};
 ghost use Rattle.lens_engines.specs.Ignored.{AddsNamed, IsNamed, ignores, ignores_warning, no_codes, note_name, warning_rank, with_note, with_warning};
-ghost use Rattle.lens_engines.specs.WarningLine.{warning_name};
+ghost use Rattle.lens_texts.specs.WarningLine.{warning_name};
 
 use map_level::Code;
 use map_level::search::CODE_COUNT;

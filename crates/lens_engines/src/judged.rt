@@ -5,16 +5,13 @@ ghost use Rattle.line_io.specs.Writes.{Writes};
 ghost use Rattle.map_audit.specs.Findings.{AuditHolds};
 ghost use Rattle.map_level.specs.Findings.{IsFirst};
 ghost use Rattle.lens_engines.specs.Counts.{AreCounts};
-ghost use Rattle.lens_engines.specs.Head.{head_of};
-ghost use Rattle.lens_engines.specs.LevelText.{finding_text};
-ghost use Rattle.lens_engines.specs.Owners.{AreOwners};
+ghost use Rattle.lens_texts.specs.Head.{head_of};
+ghost use Rattle.lens_texts.specs.LevelText.{finding_text};
+ghost use Rattle.lens_texts.specs.Owners.{AreOwners};
 
 use crate::counts::{CodeCounts, count_all};
-use crate::finding_object::write_finding_object;
-use crate::form::Form;
-use crate::lines::{Heading, write_finding};
-use crate::owners::owners_of;
 use le_rec::Sink;
+use lens_texts::{Form, Heading, owners_of, write_finding, write_finding_object};
 use line_io::IoFault;
 use map_audit::Parts;
 use map_level::search::Search;
@@ -33,7 +30,7 @@ pub struct Judged<'l, 'a, A: Allocator = Global> {
 impl<'l, 'a, A: Allocator> Model for Judged<'l, 'a, A> {
     ghost use Rattle.std.specs.Prelude.{◌≡◌};
     ghost use Rattle.map_level.specs.Level.{Level};
-    ghost use Rattle.lens_engines.specs.Owners.{AreOwners};
+    ghost use Rattle.lens_texts.specs.Owners.{AreOwners};
 
     ghost Value = { Level };
 

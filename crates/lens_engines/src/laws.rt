@@ -17,11 +17,6 @@ pub fn lines_are_of_the_report()
     ensures { law.LinesAreOfTheReport }
 {}
 
-/// The kit's reader of JSON reads a written string back as the bytes' text, wherever it stands.
-pub fn strings_are_read()
-    ensures { law.StringsAreRead }
-{}
-
 /// The kit's reader of JSON reads a survey back. Each line is one object of the file, the level and the report on it, if the
 /// numbers have at most 64 bits.
 pub fn objects_are_read()

@@ -9,11 +9,11 @@ ghost use Rattle.lens_engines.specs.Warned.{known_files};
 
 use crate::counts::CodeCounts;
 use crate::judging::{Judging, Warnings};
-use crate::opened::level_at;
 use crate::tables::Tables;
 use crate::unlooked::Unlooked;
 use crate::verdict::Verdict;
 use crate::warning_counts::WarningCounts;
+use lens_texts::level_at;
 use map_cells::Frame;
 use map_level::Level;
 use map_warnings::Resources;

@@ -3,20 +3,18 @@
 ghost use Rattle.std.specs.Prelude.{◌≡◌, ◌-◌, ◌<◌, ◌≤◌, ◌++◌, ℕ, List, false, length, take};
 ghost use Rattle.line_io.specs.Writes.{EndsWriting, Writes};
 ghost use Rattle.map_audit.specs.Findings.{AuditHolds};
-ghost use Rattle.lens_engines.specs.Head.{head_of};
+ghost use Rattle.lens_texts.specs.Head.{head_of};
 ghost use Rattle.lens_engines.specs.LevelLines.{AreCounted, AreIndexes, AreShown, code_lines, code_part, findings_part, judged_text};
 ghost use Rattle.lens_engines.specs.LevelLines.{more_line, shown_count, wide_part};
-ghost use Rattle.lens_engines.specs.Owners.{AreOwners};
+ghost use Rattle.lens_texts.specs.Owners.{AreOwners};
 ghost use Rattle.lens_engines.specs.WarnedText.{warned_text};
 ghost use Rattle.map_level.specs.declared.finding.Code.{Code};
 
 use crate::counts::{CodeCounts, code_at};
-use crate::finding_object::{write_left_object, write_wide_object};
-use crate::form::Form;
 use crate::judged::Judged;
-use crate::lines::{Heading, write_left, write_line};
 use crate::warned::{Warned, write_warned};
 use le_rec::Sink;
+use lens_texts::{Form, Heading, write_left, write_left_object, write_line, write_wide_object};
 use line_io::IoFault;
 use map_level::search::CODE_COUNT;
 use map_level::{Code, Finding, Level};

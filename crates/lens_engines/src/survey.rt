@@ -8,11 +8,11 @@ ghost use Rattle.lens_engines.specs.Warned.{known_files};
 
 use crate::base::over_base;
 use crate::judging::Judging;
-use crate::opened::label_of;
 use crate::surveyed::{Surveyed, write_surveyed};
 use crate::verdict::{LevelsFault, Verdict};
 use crate::warned::asked_resources;
 use le_rec::Sink;
+use lens_texts::label_of;
 use level_starts::LevelStarts;
 use line_io::IoFault;
 use map_warnings::Resources;

@@ -12,11 +12,12 @@ ghost use Rattle.lens_engines.specs.Warned.{known_files};
 
 use crate::judging::Judging;
 use crate::level_counts::LevelCounts;
-use crate::object::{write_doom, write_level, write_other};
+use crate::object::write_doom;
 use crate::totals::{Totals, format_totals, judged_totals};
 use crate::unjudged::Unjudged;
 use crate::verdict::Verdict;
 use le_rec::{Name8, Sink};
+use lens_texts::{write_level, write_other};
 use level_starts::{Format, format_of};
 use line_io::IoFault;
 use map_warnings::Resources;

@@ -7,13 +7,11 @@ ghost use Rattle.lens_engines.specs.Totals.{format_totals, found_text, judged_to
 ghost use Rattle.lens_engines.specs.TotalsObject.{found_numbers, levels_members, totals_object, totals_text, warnings_number};
 
 use crate::counts::CodeCounts;
-use crate::form::Form;
 use crate::judging::Warnings;
-use crate::lines::write_both;
-use crate::object::prepend_number;
 use crate::unlooked::Unlooked;
 use crate::verdict::Verdict;
 use le_rec::Sink;
+use lens_texts::{Form, prepend_number, write_both};
 use level_starts::Format;
 use line_io::{IoFault, TextLine};
 

@@ -14,7 +14,7 @@ pub struct Unjudged {
 
 impl Unjudged {
     ghost use Rattle.std.specs.Prelude.{◌≡◌};
-    ghost use Rattle.lens_engines.specs.Objects.{NamesLump};
+    ghost use Rattle.lens_texts.specs.LevelObject.{NamesLump};
 
     /// A level of this format. If the format has a lump's number, it is one of the ten.
     pub fn new(format: Format) -> Unjudged

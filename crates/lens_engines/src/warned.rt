@@ -8,21 +8,21 @@ ghost use Rattle.map_warnings.specs.declared.warning.WarningCode.TheVariants.{W1
 ghost use Rattle.map_tree.specs.Sound.{IsSound};
 ghost use Rattle.map_warnings.specs.Warnings.{Tells};
 ghost use Rattle.lens_engines.specs.Counts.{AreCounts};
-ghost use Rattle.lens_engines.specs.Head.{head_of};
+ghost use Rattle.lens_texts.specs.Head.{head_of};
 ghost use Rattle.lens_engines.specs.Ignored.{WarnsUnlessIgnored};
-ghost use Rattle.lens_engines.specs.LevelText.{warning_text};
-ghost use Rattle.lens_engines.specs.Owners.{AreOwners};
+ghost use Rattle.lens_texts.specs.LevelText.{warning_text};
+ghost use Rattle.lens_texts.specs.Owners.{AreOwners};
 ghost use Rattle.lens_engines.specs.Warned.{AddsWarned, AreAskedFor, AreWarned, kept_count, warned_total, warning_order, where_asked};
 ghost use Rattle.lens_engines.specs.WarnedText.{more_warnings, warned_part, warned_text};
 
 use crate::counts::CodeCounts;
-use crate::finding_object::{write_left_warnings_object, write_warning_object};
-use crate::form::Form;
 use crate::ignored::{Ignored, WARNING_COUNT};
 use crate::judging::{Judging, Warnings};
-use crate::lines::Heading;
-use crate::warning_lines::{write_left_warnings, write_warning};
 use le_rec::Sink;
+use lens_texts::{
+    Form, Heading, write_left_warnings, write_left_warnings_object, write_warning,
+    write_warning_object,
+};
 use line_io::IoFault;
 use map_level::Level;
 use map_warnings::{Checks, Resources, Told, Warning, WarningCode};

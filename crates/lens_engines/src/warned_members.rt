@@ -9,8 +9,8 @@ use crate::ignored::WARNING_COUNT;
 use crate::judging::Warnings;
 use crate::warned::code_at;
 use crate::warning_counts::WarningCounts;
-use crate::warning_lines::warning_name;
 use le_rec::Sink;
+use lens_texts::warning_name;
 use line_io::{IoFault, TextLine, emit};
 use map_warnings::WarningCode;
 

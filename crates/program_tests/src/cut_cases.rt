@@ -5,7 +5,8 @@ ghost use Rattle.lens_engines.specs.Cut.{HasLump};
 use crate::compare::{check_bytes, check_same};
 use crate::sample::{Lump, UDMF, lumps, outside_at, pack, pack_both, pack_three};
 use le_rec::{Name8, Sink};
-use lens_engines::{CutFault, LevelLabel, Uncut, cut_level, write_cut_fault};
+use lens_engines::{CutFault, Uncut, cut_level, write_cut_fault};
+use lens_texts::LevelLabel;
 use std::process::Abort;
 use test_streams::SliceSink;
 

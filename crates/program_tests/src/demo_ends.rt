@@ -5,7 +5,7 @@ use crate::demo_cases::TWO;
 use crate::sample::pack;
 use demo_engines::{AtOnce, DemoQuestion, DemosFault, Unwatched, demos_file};
 use le_rec::Sink;
-use lens_engines::Form;
+use lens_texts::Form;
 use std::process::Abort;
 use test_streams::SliceSink;
 

@@ -7,9 +7,10 @@ use crate::sample::{
 };
 use le_rec::Sink;
 use lens_engines::{
-    Base, Form, Ignored, Judging, LevelsFault, Question, Rules, Totals, Unlooked, Verdict,
-    Warnings, check_file, write_totals,
+    Base, Ignored, Judging, LevelsFault, Question, Rules, Totals, Unlooked, Verdict, Warnings,
+    check_file, write_totals,
 };
+use lens_texts::Form;
 use map_level::Reading;
 use std::alloc::Allocator;
 use std::process::Abort;

@@ -7,9 +7,10 @@ use crate::sample::{LINE_WITHOUT_SIDE_1, base, base_with, pack};
 use demo_engines::{AtOnce, DemoQuestion, DemosFault, Unwatched, demos_file};
 use le_rec::{Name8, Sink};
 use lens_engines::{
-    Base, CodeCounts, CutFault, Form, Ignored, Rules, Warned, Warnings, asked_warnings, cut_level,
+    Base, CodeCounts, CutFault, Ignored, Rules, Warned, Warnings, asked_warnings, cut_level,
     warned_total, warnings_of,
 };
+use lens_texts::Form;
 use map_level::{Level, Reading};
 use map_warnings::WarningCode;
 use std::alloc::Allocator;

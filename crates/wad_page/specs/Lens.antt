@@ -20,7 +20,7 @@ use Rattle.lens_commands.specs.declared.tell.Request.{Request}
 use Rattle.lens_commands.specs.declared.tell.Tally.{Tally}
 use Rattle.lens_commands.specs.declared.tell.Word.TheVariants.{Check, Survey, Demos}
 use Rattle.lens_engines.specs.Cut.{IsCut, RefusesCut}
-use Rattle.lens_engines.specs.declared.form.Form.TheVariants.{Lines, Objects}
+use Rattle.lens_texts.specs.declared.form.Form.TheVariants.{Lines, Objects}
 use Rattle.lens_engines.specs.declared.cut.CutFault.{CutFault}
 use Rattle.lens_engines.specs.declared.cut.CutFault.TheVariants as fault
 use Rattle.lens_engines.specs.declared.cut.Uncut.{Uncut}

@@ -15,7 +15,8 @@ use lens_commands::{
     AtOnce, BaseFault, HandOn, Held, ReadFault, Request, RunFiles, Unwatched, Word, read_bases,
     status, tell_paths, wads_of, write_cut_line, write_last, write_refusal, write_unlooked,
 };
-use lens_engines::{Base, CutFault, Form, Ignored, Rules, Uncut, Verdict, Warnings, cut_level};
+use lens_engines::{Base, CutFault, Ignored, Rules, Uncut, Verdict, Warnings, cut_level};
+use lens_texts::Form;
 use map_level::Reading;
 use memory_streams::ToVec;
 use std::alloc::{AllocError, Allocator};

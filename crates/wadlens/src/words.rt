@@ -6,7 +6,7 @@ use crate::mistake::Mistake;
 use crate::picture_words::{PictureWords, picture_command};
 use clap::{Arg, ArgAction, ArgMatches, Command, value_parser};
 use lens_commands::{Job, SHOWN, Word};
-use lens_engines::Form;
+use lens_texts::Form;
 use std::alloc::{AllocError, Global};
 
 /// What the command line asks for.

@@ -9,9 +9,8 @@ use crate::fault::Fault;
 use crate::inputs::{demo, point_lines, square_lines};
 use crate::random::Random;
 use crate::varied::varied;
-use lens_engines::{
-    Base, Form, Ignored, Question, Rules, Warnings, check_file, label_of, level_at,
-};
+use lens_engines::{Base, Ignored, Question, Rules, Warnings, check_file};
+use lens_texts::{Form, label_of, level_at};
 use level_starts::{Format, LevelStarts, format_of};
 use map_cells::{CellCount, Frame};
 use map_level::{Level, Reading};

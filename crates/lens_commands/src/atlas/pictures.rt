@@ -8,7 +8,7 @@ ghost use Rattle.lens_engines.specs.LevelCounts.{HasLines};
 use crate::atlas::fault::KeepFault;
 use crate::atlas::folder::Folder;
 use atlas_page::{Origin, Row, prepend_picture_name};
-use lens_engines::level_at;
+use lens_texts::level_at;
 use line_io::TextLine;
 use map_cells::CellCount;
 use map_level::Level;

@@ -7,7 +7,7 @@ ghost use Rattle.line_io.specs.Writes.{Writes};
 use crate::End;
 use crate::atlas::fault::AtlasFault;
 use le_rec::Sink;
-use lens_engines::write_path;
+use lens_texts::write_path;
 use line_io::{IoFault, emit};
 
 /// Writes a line on a folder: `wadlens: FOLDER: TEXT`.

@@ -4,7 +4,7 @@ ghost use Rattle.std.specs.Prelude.{◌↔◌, IsTrue};
 ghost use Rattle.lens_commands.specs.PictureFormat.{IsFormatAt};
 ghost use Rattle.level_starts.specs.Starts.{LevelStartsAt};
 ghost use Rattle.wad_dir.specs.Entries.{names};
-ghost use Rattle.lens_engines.specs.Objects.{NamesLump};
+ghost use Rattle.lens_texts.specs.LevelObject.{NamesLump};
 
 use level_starts::{Format, format_of, next_start};
 use std::alloc::Allocator;

@@ -3,12 +3,13 @@
 ghost use Rattle.std.specs.Prelude.{◌≡◌, ◌<◌, ◌++◌, codes, false, length, map};
 ghost use Rattle.lens_commands.specs.PictureTold.{TellsRefused, name_head, named_line};
 ghost use Rattle.line_io.specs.Writes.{Writes};
-ghost use Rattle.lens_engines.specs.FormatLine.{format_text};
-ghost use Rattle.lens_engines.specs.Objects.{NamesLump};
+ghost use Rattle.lens_texts.specs.FormatLine.{format_text};
+ghost use Rattle.lens_texts.specs.LevelObject.{NamesLump};
 
 use crate::write_refusal;
 use le_rec::Sink;
-use lens_engines::{FileRefusal, write_format_alone, write_path};
+use lens_engines::FileRefusal;
+use lens_texts::{write_format_alone, write_path};
 use level_starts::Format;
 use line_io::{IoFault, emit};
 

@@ -1,7 +1,7 @@
 use Rattle.std.proofs.Common.{◌++◌, codes, sym, ◌∙◌}
 use Rattle.std.proofs.lemmas.Result.{err_from_is_err_and}
 use Rattle.line_io.proofs.WriteLemmas.{Writes-stop}
-use Rattle.lens_engines.proofs.WritingLemmas.{Writes-after, Writes-later}
+use Rattle.lens_texts.proofs.WritingLemmas.{Writes-after, Writes-later}
 use Rattle.lens_engines.specs.Unlooked.{unlooked_note}
 use Rattle.atlas_page.proofs.page.write_unlooked.Goals as goal
 

@@ -1,7 +1,7 @@
 use Rattle.std.proofs.lemmas.Result.{err_from_is_err_and}
 use Rattle.line_io.proofs.WriteLemmas.{Writes-stop}
-use Rattle.lens_engines.proofs.WritingLemmas.{Writes-after}
-use Rattle.lens_engines.specs.Objects.{name_string}
+use Rattle.lens_texts.proofs.WritingLemmas.{Writes-after}
+use Rattle.lens_texts.specs.LevelObject.{name_string}
 use Rattle.demo_engines.proofs.object.write_named.Goals as goal
 
 pub returns-in_err-emit : goal.returns-in_err-emit

@@ -1,6 +1,6 @@
 use Rattle.std.proofs.lemmas.Result.{err_from_is_err_and}
 use Rattle.line_io.proofs.WriteLemmas.{Writes-stop}
-use Rattle.lens_engines.proofs.WritingLemmas.{Writes-after}
+use Rattle.lens_texts.proofs.WritingLemmas.{Writes-after}
 use Rattle.demo_lump.specs.Header.{players_in}
 use Rattle.demo_engines.specs.Objects.{length_members}
 use Rattle.demo_engines.specs.Summary.{full_tics, odd_commands}

@@ -1,7 +1,7 @@
 use Rattle.std.proofs.Common.{◌++◌}
 use Rattle.std.proofs.lemmas.Result.{err_from_is_err_and}
 use Rattle.line_io.proofs.WriteLemmas.{Writes-stop}
-use Rattle.lens_engines.proofs.WritingLemmas.{Writes-after, Writes-later}
+use Rattle.lens_texts.proofs.WritingLemmas.{Writes-after, Writes-later}
 use Rattle.demo_lump.specs.Header.{players_in}
 use Rattle.demo_engines.specs.Objects.{game_members, length_members, lump_member}
 use Rattle.demo_engines.specs.Summary.{full_tics, odd_commands}

@@ -3,8 +3,8 @@ use Rattle.std.proofs.Common.{◌++◌}
 use Rattle.std.proofs.lemmas.List.{append-nil}
 use Rattle.std.proofs.lemmas.Result.{err_from_is_err_and}
 use Rattle.line_io.proofs.WriteLemmas.{Writes-stop}
-use Rattle.lens_engines.proofs.WritingLemmas.{Writes-after, Writes-later}
-use Rattle.lens_engines.specs.JsonString.{json_string}
+use Rattle.lens_texts.proofs.WritingLemmas.{Writes-after, Writes-later}
+use Rattle.lens_texts.specs.JsonString.{json_string}
 use Rattle.demo_engines.specs.RefusalText.{reason_text}
 use Rattle.demo_engines.proofs.object.write_reason.Goals as goal
 

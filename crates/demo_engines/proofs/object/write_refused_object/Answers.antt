@@ -1,7 +1,7 @@
 use Rattle.std.proofs.Common.{◌++◌}
 use Rattle.std.proofs.lemmas.Result.{err_from_is_err_and}
 use Rattle.line_io.proofs.WriteLemmas.{Writes-stop}
-use Rattle.lens_engines.proofs.WritingLemmas.{Writes-after, Writes-later}
+use Rattle.lens_texts.proofs.WritingLemmas.{Writes-after, Writes-later}
 use Rattle.demo_engines.specs.Objects.{lump_member, refused_member}
 use Rattle.demo_engines.specs.RefusalText.{reason_text}
 use Rattle.demo_engines.proofs.object.write_refused_object.Goals as goal

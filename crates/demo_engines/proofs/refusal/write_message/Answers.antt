@@ -2,8 +2,8 @@ use Rattle.std.specs.Prelude.{codes}
 use Rattle.std.proofs.Common.{◌++◌}
 use Rattle.std.proofs.lemmas.Result.{err_from_is_err_and}
 use Rattle.line_io.proofs.WriteLemmas.{Writes-stop}
-use Rattle.lens_engines.proofs.WritingLemmas.{Writes-after, Writes-later}
-use Rattle.lens_engines.specs.ShownPath.{shown_path}
+use Rattle.lens_texts.proofs.WritingLemmas.{Writes-after, Writes-later}
+use Rattle.lens_texts.specs.ShownPath.{shown_path}
 use Rattle.demo_engines.specs.Summary.{lump_text}
 use Rattle.demo_engines.proofs.refusal.write_message.Goals as goal
 

@@ -7,7 +7,7 @@ use Rattle.le_rec.specs.Sink.{SinkState}
 use Rattle.line_io.proofs.WriteLemmas.{Writes-stop}
 use Rattle.line_io.specs.Writes.{Writes}
 use Rattle.line_io.specs.declared.fault.IoFault.{IoFault}
-use Rattle.lens_engines.proofs.WritingLemmas.{Writes-after}
+use Rattle.lens_texts.proofs.WritingLemmas.{Writes-after}
 use Rattle.lens_commands.specs.AssembleJob.{line_text, wanted_text}
 use Rattle.lens_commands.proofs.assemble.write_wrong_line.Goals as goal
 

@@ -1,6 +1,6 @@
 use Rattle.std.proofs.lemmas.Result.{err_from_is_err_and}
 use Rattle.line_io.proofs.WriteLemmas.{Writes-stop}
-use Rattle.lens_engines.proofs.WritingLemmas.{Writes-after}
+use Rattle.lens_texts.proofs.WritingLemmas.{Writes-after}
 use Rattle.lens_commands.proofs.CompareLemmas.{told_some}
 use Rattle.lens_commands.proofs.compare.write_both.Goals as goal
 

@@ -1,7 +1,7 @@
 use Rattle.std.proofs.lemmas.Result.{err_from_is_err_and}
 use Rattle.line_io.proofs.WriteLemmas.{Writes-stop}
-use Rattle.lens_engines.proofs.WritingLemmas.{Writes-after}
-use Rattle.lens_engines.specs.Objects.{other_members}
+use Rattle.lens_texts.proofs.WritingLemmas.{Writes-after}
+use Rattle.lens_texts.specs.LevelObject.{other_members}
 use Rattle.lens_engines.proofs.check.write_format_object.Goals as goal
 
 pub returns-in_err-write_level : goal.returns-in_err-write_level

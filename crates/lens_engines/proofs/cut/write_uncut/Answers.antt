@@ -3,8 +3,8 @@ use Rattle.std.specs.Prelude.{codes}
 use Rattle.std.proofs.lemmas.Result.{err_from_is_err_and}
 use Rattle.line_io.proofs.WriteLemmas.{Writes-stop}
 use Rattle.lens_engines.specs.Cut.{uncut_text}
-use Rattle.lens_engines.specs.Label.{label_text}
-use Rattle.lens_engines.proofs.WritingLemmas.{Writes-after}
+use Rattle.lens_texts.specs.Label.{label_text}
+use Rattle.lens_texts.proofs.WritingLemmas.{Writes-after}
 use Rattle.lens_engines.proofs.cut.write_uncut.Goals as goal
 
 pub returns-in_err-emit : goal.returns-in_err-emit

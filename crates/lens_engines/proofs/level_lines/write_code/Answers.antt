@@ -3,7 +3,7 @@ use Rattle.std.proofs.lemmas.Result.{err_from_is_err_and}
 use Rattle.line_io.proofs.WriteLemmas.{Writes-stop, Writes-then}
 use Rattle.line_io.proofs.WriteProgressLemmas.{SoFar-end, SoFar-none}
 use Rattle.lens_engines.proofs.CodeLemmas.{none_told}
-use Rattle.lens_engines.specs.Head.{head_of}
+use Rattle.lens_texts.specs.Head.{head_of}
 use Rattle.lens_engines.specs.LevelLines.{more_line}
 use Rattle.lens_engines.proofs.level_lines.write_code.Goals as goal
 

@@ -4,7 +4,7 @@ use Rattle.std.specs.List.{flat_map}
 use Rattle.line_io.proofs.WriteProgressLemmas.{SoFar-more, SoFar-stop}
 use Rattle.map_level.specs.declared.finding.Code.{Code}
 use Rattle.map_level.specs.declared.search.TheConstants.{CODE_COUNT}
-use Rattle.lens_engines.specs.Head.{head_of}
+use Rattle.lens_texts.specs.Head.{head_of}
 use Rattle.lens_engines.specs.Counts.{report_order}
 use Rattle.lens_engines.specs.LevelLines.{code_part}
 use Rattle.lens_engines.proofs.CodeLemmas.{codes-drop, codes-end, codes-none, counted_at}

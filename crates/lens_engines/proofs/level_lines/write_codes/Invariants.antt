@@ -3,7 +3,7 @@ use Rattle.std.specs.List.{flat_map}
 use Rattle.line_io.proofs.WriteProgressLemmas.{SoFar}
 use Rattle.map_audit.specs.Findings.{AuditHolds}
 use Rattle.map_level.specs.declared.finding.Code.{Code}
-use Rattle.lens_engines.specs.Head.{head_of}
+use Rattle.lens_texts.specs.Head.{head_of}
 use Rattle.lens_engines.specs.Counts.{report_order}
 use Rattle.lens_engines.specs.LevelLines.{AreCounted, AreShown, code_part, findings_part}
 use Rattle.lens_engines.proofs.level_lines.write_codes.Given as goal

@@ -1,7 +1,7 @@
 use Rattle.std.proofs.Common.{◌++◌}
 use Rattle.std.proofs.lemmas.Result.{err_from_is_err_and}
 use Rattle.line_io.proofs.WriteLemmas.{Writes-stop, Writes-then}
-use Rattle.lens_engines.specs.Head.{head_of}
+use Rattle.lens_texts.specs.Head.{head_of}
 use Rattle.lens_engines.specs.LevelLines.{wide_part}
 use Rattle.lens_engines.specs.WarnedText.{warned_text}
 use Rattle.lens_engines.proofs.level_lines.write_judged.Goals as goal

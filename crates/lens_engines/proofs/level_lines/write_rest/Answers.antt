@@ -1,8 +1,8 @@
 use Rattle.std.proofs.lemmas.Result.{err_from_is_err_and}
 use Rattle.line_io.proofs.WriteLemmas.{Writes-stop}
-use Rattle.lens_engines.specs.Head.{head_of}
+use Rattle.lens_texts.specs.Head.{head_of}
 use Rattle.lens_engines.specs.LevelLines.{wide_part}
-use Rattle.lens_engines.proofs.WritingLemmas.{Writes-after}
+use Rattle.lens_texts.proofs.WritingLemmas.{Writes-after}
 use Rattle.lens_engines.proofs.level_lines.write_rest.Goals as goal
 
 pub returns-in_err-write_warned : goal.returns-in_err-write_warned

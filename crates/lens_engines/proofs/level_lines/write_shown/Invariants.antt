@@ -1,7 +1,7 @@
 use Rattle.std.proofs.Common.{◌≡◌, ℕ, false, List, take}
 use Rattle.map_audit.specs.Findings.{AuditHolds}
-use Rattle.lens_engines.specs.Head.{head_of}
-use Rattle.lens_engines.specs.LevelText.{finding_text}
+use Rattle.lens_texts.specs.Head.{head_of}
+use Rattle.lens_texts.specs.LevelText.{finding_text}
 use Rattle.lens_engines.specs.LevelLines.{AreIndexes, code_lines}
 use Rattle.lens_engines.proofs.ShownLemmas.{Shows}
 use Rattle.lens_engines.proofs.level_lines.write_shown.Given as goal

@@ -4,7 +4,7 @@ use Rattle.lens_engines.specs.Objects.{found_members, warnings_member}
 use Rattle.lens_engines.specs.Unlooked.{unlooked_member}
 use Rattle.std.proofs.lemmas.Result.{err_from_is_err_and}
 use Rattle.line_io.proofs.WriteLemmas.{Writes-stop}
-use Rattle.lens_engines.proofs.WritingLemmas.{Writes-after}
+use Rattle.lens_texts.proofs.WritingLemmas.{Writes-after}
 use Rattle.lens_engines.proofs.object.write_doom.Goals as goal
 
 pub returns-in_err-write_lumps : goal.returns-in_err-write_lumps

@@ -4,7 +4,7 @@ use Rattle.std.proofs.lemmas.Result.{err_from_is_err_and}
 use Rattle.line_io.proofs.WriteLemmas.{Writes-stop}
 use Rattle.lens_engines.specs.Objects.{warnings_member}
 use Rattle.lens_engines.specs.Unlooked.{unlooked_member}
-use Rattle.lens_engines.proofs.WritingLemmas.{Writes-after, Writes-later}
+use Rattle.lens_texts.proofs.WritingLemmas.{Writes-after, Writes-later}
 use Rattle.lens_engines.proofs.object.write_end.Goals as goal
 
 pub returns-in_err-write_found : goal.returns-in_err-write_found

@@ -1,10 +1,10 @@
 use Rattle.std.specs.Prelude.{codes}
 use Rattle.std.proofs.Common.{◌++◌}
-use Rattle.lens_engines.specs.JsonString.{json_string}
+use Rattle.lens_texts.specs.JsonString.{json_string}
 use Rattle.lens_engines.specs.Objects.{refusal_text}
 use Rattle.std.proofs.lemmas.Result.{err_from_is_err_and}
 use Rattle.line_io.proofs.WriteLemmas.{Writes-stop}
-use Rattle.lens_engines.proofs.WritingLemmas.{Writes-after, Writes-later}
+use Rattle.lens_texts.proofs.WritingLemmas.{Writes-after, Writes-later}
 use Rattle.lens_engines.proofs.object.write_refusal.Goals as goal
 
 pub returns-in_err-emit : goal.returns-in_err-emit

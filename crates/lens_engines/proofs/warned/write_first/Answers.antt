@@ -3,8 +3,8 @@ use Rattle.std.specs.List.{flat_map}
 use Rattle.std.proofs.lemmas.Option.{slice_get-get_or}
 use Rattle.std.proofs.lemmas.Result.{err_from_is_err_and}
 use Rattle.line_io.proofs.WriteProgressLemmas.{SoFar-more, SoFar-stop}
-use Rattle.lens_engines.specs.Head.{head_of}
-use Rattle.lens_engines.specs.LevelText.{warning_text}
+use Rattle.lens_texts.specs.Head.{head_of}
+use Rattle.lens_texts.specs.LevelText.{warning_text}
 use Rattle.lens_engines.proofs.WarnedLemmas.{parts-drop}
 use Rattle.lens_engines.proofs.warned.write_first.Goals as goal
 

@@ -1,8 +1,8 @@
 use Rattle.std.proofs.Common.{◌≡◌, false, drop}
 use Rattle.std.specs.List.{flat_map}
 use Rattle.line_io.proofs.WriteProgressLemmas.{SoFar}
-use Rattle.lens_engines.specs.Head.{head_of}
-use Rattle.lens_engines.specs.LevelText.{warning_text}
+use Rattle.lens_texts.specs.Head.{head_of}
+use Rattle.lens_texts.specs.LevelText.{warning_text}
 use Rattle.lens_engines.proofs.warned.write_first.Given as goal
 
 abbrev pub invariant-first : goal.invariant-first

@@ -1,7 +1,7 @@
 use Rattle.std.proofs.Common.{◌≡◌, ◌-◌, length, rules}
 use Rattle.std.proofs.lemmas.Result.{err_from_is_err_and}
 use Rattle.line_io.proofs.WriteLemmas.{Writes-stop, Writes-then}
-use Rattle.lens_engines.specs.Head.{head_of}
+use Rattle.lens_texts.specs.Head.{head_of}
 use Rattle.lens_engines.specs.WarnedText.{more_warnings}
 use Rattle.lens_engines.proofs.warned.write_part.Goals as goal
 

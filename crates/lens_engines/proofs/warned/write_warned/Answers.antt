@@ -3,7 +3,7 @@ use Rattle.std.specs.List.{flat_map, slice_get}
 use Rattle.std.proofs.lemmas.Option.{slice_get-get_or}
 use Rattle.std.proofs.lemmas.Result.{err_from_is_err_and}
 use Rattle.line_io.proofs.WriteProgressLemmas.{SoFar-more, SoFar-stop}
-use Rattle.lens_engines.specs.Head.{head_of}
+use Rattle.lens_texts.specs.Head.{head_of}
 use Rattle.lens_engines.specs.WarnedText.{warned_part}
 use Rattle.lens_engines.proofs.WarnedLemmas.{parts-drop}
 use Rattle.lens_engines.proofs.warned.write_warned.Goals as goal

@@ -1,8 +1,8 @@
 use Rattle.std.proofs.Common.{◌++◌, codes}
 use Rattle.std.proofs.lemmas.Result.{err_from_is_err_and}
 use Rattle.line_io.proofs.WriteLemmas.{Writes-stop}
-use Rattle.lens_engines.proofs.WritingLemmas.{Writes-after, Writes-later}
-use Rattle.lens_engines.specs.ShownPath.{shown_path}
+use Rattle.lens_texts.proofs.WritingLemmas.{Writes-after, Writes-later}
+use Rattle.lens_texts.specs.ShownPath.{shown_path}
 use Rattle.lens_commands.proofs.atlas.tell.write_folder_line.Goals as goal
 
 pub returns-in_err-emit : goal.returns-in_err-emit

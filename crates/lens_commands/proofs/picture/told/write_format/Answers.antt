@@ -1,7 +1,7 @@
 use Rattle.std.proofs.lemmas.Result.{err_from_is_err_and}
 use Rattle.line_io.proofs.WriteLemmas.{Writes-stop}
-use Rattle.lens_engines.proofs.WritingLemmas.{Writes-after}
-use Rattle.lens_engines.specs.FormatLine.{format_text}
+use Rattle.lens_texts.proofs.WritingLemmas.{Writes-after}
+use Rattle.lens_texts.specs.FormatLine.{format_text}
 use Rattle.lens_commands.proofs.picture.told.write_format.Goals as goal
 
 pub returns-in_err-write_head : goal.returns-in_err-write_head

@@ -1,5 +1,0 @@
-use Rattle.lens_engines.proofs.ReadBackLemmas.{law_strings_are_read}
-use Rattle.lens_engines.proofs.laws.strings_are_read.Goals as goal
-
-pub returns : goal.returns
-returns c = law_strings_are_read

@@ -1,4 +1,0 @@
-use Rattle.lens_engines.proofs.message.prepend_named_ssector.Goals as goal
-
-pub returns-clause-text : goal.returns-clause-text
-returns-clause-text c = cc

@@ -1,0 +1,10 @@
+pub mod CaseLevels
+pub mod JsonLemmas
+mod LabelLemmas
+pub mod MemberLemmas
+pub mod OwnersLemmas
+pub mod PathLemmas
+pub mod ReadBackLemmas
+pub mod ValueLemmas
+mod WorkedCases
+pub mod WritingLemmas

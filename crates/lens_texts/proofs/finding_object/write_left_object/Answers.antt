@@ -1,0 +1,20 @@
+use Rattle.std.proofs.lemmas.Result.{err_from_is_err_and}
+use Rattle.line_io.proofs.WriteLemmas.{Writes-stop}
+use Rattle.lens_texts.proofs.WritingLemmas.{Writes-after}
+use Rattle.std.proofs.Common.{◌≡◌, ◌++◌, ap, ◌∙◌}
+use Rattle.std.specs.Prelude.{codes}
+use Rattle.std.specs.Fmt.{decimal}
+use Rattle.lens_texts.specs.Kind.{code_text}
+use Rattle.lens_texts.proofs.finding_object.write_left_object.Goals as goal
+
+pub returns-in_err-write_front : goal.returns-in_err-write_front
+returns-in_err-write_front g c =
+    let p = err_from_is_err_and c.from_residual.result c.from_residual.ensures.1 in
+    rw (p.1, p.2) (Writes-stop (codes ",\"code\":\"" ++ code_text c.args.code (codes "\",\"more\":" ++ (decimal c.args.left ++ codes "}\n"))) c.in_err-write_front.ensures)
+
+pub returns : goal.returns
+returns g c =
+    let line : c.as_bytes.result.now ≡ codes ",\"code\":\"" ++ code_text c.args.code (codes "\",\"more\":" ++ (decimal c.args.left ++ codes "}\n")) =
+    c.as_bytes.ensures ∙ c.prepend_bytes.ensures.text
+    ∙ ap (λ text. codes ",\"code\":\"" ++ text) (c.prepend_code.ensures.text ∙ ap (code_text c.args.code) (rw c.from.ensures at c.prepend_left.ensures.text)) in
+    Writes-after c.in_ok-write_front.ensures (rw line at c.emit.ensures)

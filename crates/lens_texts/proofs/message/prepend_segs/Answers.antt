@@ -1,0 +1,4 @@
+use Rattle.lens_texts.proofs.message.prepend_segs.Goals as goal
+
+pub returns-clause-text : goal.returns-clause-text
+returns-clause-text c = cc

@@ -1,0 +1,46 @@
+-- The lines of a level (ours): each begins with the file's path and the level's label.
+use Rattle.std.specs.Prelude.{ℕ, ◌/◌, ◌%◌, List, [], ◌∷◌, ◌++◌, codes, nat_eq, if◌then◌else◌}
+use Rattle.std.specs.Fmt.{decimal}
+use Rattle.map_level.specs.Level.{Level}
+use Rattle.map_level.specs.declared.finding.Finding.{Finding}
+use Rattle.map_tables.specs.BlockMap.{count_of, head}
+use Rattle.lens_texts.specs.Kind.{code_text, kind_name, kind_of}
+use Rattle.lens_texts.specs.Label.{label_text}
+use Rattle.lens_texts.specs.Message.{message}
+use Rattle.lens_texts.specs.Place.{place_of, place_text}
+use Rattle.lens_texts.specs.ShownPath.{shown_path}
+use Rattle.lens_texts.specs.declared.kind.Kind.{Kind}
+use Rattle.lens_texts.specs.declared.kind.Kind.TheVariants.{Block, Whole}
+use Rattle.lens_texts.specs.declared.label.LevelLabel.{LevelLabel}
+
+-- block i of rows of so many, as ` (BX, BY)`
+abbrev pub block_text : ℕ → ℕ → List ℕ → List ℕ
+block_text columns i rest =
+    if nat_eq columns 0 then rest else codes " (" ++ (decimal (i % columns) ++ (codes ", " ++ (decimal (i / columns) ++ (codes ")" ++ rest))))
+
+-- the index of what is of a kind, a space before it; a whole level has none
+abbrev pub index_text : Level → Kind → ℕ → List ℕ → List ℕ
+index_text level Whole i rest = rest
+index_text level Block i rest = block_text (count_of (head level.blockmap 2)) i rest
+index_text level _ i rest = codes " " ++ (decimal i ++ rest)
+
+-- `CODE KIND INDEX: `
+abbrev pub lead_text : Level → Finding → List ℕ
+lead_text level f =
+    code_text f.code (codes " " ++ (kind_name (kind_of f.code) ++ index_text level (kind_of f.code) f.index (codes ": ")))
+
+-- `MESSAGE[, PLACE]`, and the line's end
+abbrev pub body_text : Level → Finding → List ℕ
+body_text level f = message level f.code f.index (place_text (place_of level f.code f.index) (10 ∷ []))
+
+-- `PATH: LEVEL: `
+abbrev pub heading_text : List ℕ → LevelLabel → List ℕ
+heading_text path label = shown_path path ++ (codes ": " ++ label_text label (codes ": "))
+
+-- that and a text, which has the line's end
+abbrev pub level_line : List ℕ → LevelLabel → List ℕ → List ℕ
+level_line path label text = heading_text path label ++ text
+
+-- `PATH: LEVEL: CODE KIND INDEX: MESSAGE[, PLACE]`
+abbrev pub finding_line : List ℕ → LevelLabel → Level → Finding → List ℕ
+finding_line path label level f = heading_text path label ++ (lead_text level f ++ body_text level f)

@@ -1,0 +1,16 @@
+pub mod FindingLine
+pub mod FindingObject
+pub mod FormatLine
+pub mod Head
+pub mod JsonString
+pub mod Kind
+pub mod Label
+pub mod Laws
+pub mod LevelObject
+pub mod LevelText
+pub mod Members
+pub mod Message
+pub mod Owners
+pub mod Place
+pub mod ShownPath
+pub mod WarningLine

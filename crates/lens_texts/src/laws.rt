@@ -1,0 +1,8 @@
+//! A law of the definitions alone, the contract of a function that does nothing: a caller gets the law from a call.
+
+ghost use Rattle.lens_texts.specs.Laws as law;
+
+/// The kit's reader of JSON reads a written string back as the bytes' text, wherever it stands.
+pub fn strings_are_read()
+    ensures { law.StringsAreRead }
+{}

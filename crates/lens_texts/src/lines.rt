@@ -1,0 +1,242 @@
+//! The lines of a level's report.
+
+ghost use Rattle.std.specs.Prelude.{◌≡◌, ◌+◌, ◌<◌, ◌≤◌, ◌++◌, ◌∷◌, [], codes, decimal, false, length};
+ghost use Rattle.line_io.specs.Writes.{Writes};
+ghost use Rattle.line_io.specs.declared.text_line.TheConstants.{ROOM};
+ghost use Rattle.lens_texts.specs.FindingLine.{block_text, body_text, finding_line, heading_text, index_text, lead_text, level_line};
+ghost use Rattle.le_rec.specs.Name.{shown_name};
+ghost use Rattle.level_starts.specs.declared.format.Format.TheVariants as format;
+ghost use Rattle.lens_texts.specs.FormatLine.{format_text};
+ghost use Rattle.lens_texts.specs.Kind.{code_text};
+ghost use Rattle.lens_texts.specs.LevelObject.{NamesLump};
+ghost use Rattle.lens_texts.specs.Owners.{AreOwners};
+
+use crate::digits::{prepend_count, prepend_short};
+use crate::form::Form;
+use crate::kind::{Kind, kind_name, kind_of, prepend_code};
+use crate::label::{LevelLabel, prepend_label, prepend_name};
+use crate::message::prepend_message;
+use crate::path::write_after_path;
+use crate::place::{place_of, prepend_place};
+use le_rec::Sink;
+use level_starts::Format;
+use line_io::{IoFault, TextLine, emit};
+use map_level::{Code, Finding, Level, usual_name};
+use map_tables::blocks_along;
+
+/// What each line or object of a level begins with: its form, the file's path and the label.
+#[derive(Clone, Copy)]
+pub struct Heading<'p> {
+    pub form: Form,
+    pub path: &'p [u8],
+    pub label: LevelLabel,
+}
+
+/// Writes the line of a finding.
+pub fn write_finding<W: Sink>(
+    heading: &Heading<'_>,
+    level: &Level<'_>,
+    owners: &[Option<u32>],
+    finding: &Finding,
+    out: &mut W,
+) -> Result<(), IoFault>
+    requires owners { AreOwners level.now owners.now }
+    requires sound { (W.state out.old).failed ≡ false }
+    ensures { Writes (W.state out.old) (W.state out.new)
+        (finding_line heading.now.path.now heading.now.label level.now finding.now) result }
+{
+    let mut lead = TextLine::new();
+    prepend_lead(&mut lead, level, finding);
+    let mut body = TextLine::new();
+    prepend_body(&mut body, level, owners, finding);
+    write_heading(heading, out)?;
+    write_both(lead.as_bytes(), body.as_bytes(), out)
+}
+
+/// Writes a line of a level, from a text with the line's end.
+pub fn write_line<W: Sink>(heading: &Heading<'_>, text: &[u8], out: &mut W) -> Result<(), IoFault>
+    requires { (W.state out.old).failed ≡ false }
+    ensures { Writes (W.state out.old) (W.state out.new)
+        (level_line heading.now.path.now heading.now.label text.now) result }
+{
+    write_heading(heading, out)?;
+    emit(out, text)
+}
+
+/// `PATH: LEVEL: `
+pub fn write_heading<W: Sink>(heading: &Heading<'_>, out: &mut W) -> Result<(), IoFault>
+    requires { (W.state out.old).failed ≡ false }
+    ensures { Writes (W.state out.old) (W.state out.new)
+        (heading_text heading.now.path.now heading.now.label) result }
+{
+    let mut line = TextLine::new();
+    line.prepend_bytes(b": ");
+    prepend_label(&mut line, &heading.label);
+    line.prepend_bytes(b": ");
+    write_after_path(heading.path, line.as_bytes(), out)
+}
+
+/// Writes one text and another.
+pub fn write_both<W: Sink>(first: &[u8], second: &[u8], out: &mut W) -> Result<(), IoFault>
+    requires { (W.state out.old).failed ≡ false }
+    ensures { Writes (W.state out.old) (W.state out.new) (first.now ++ second.now) result }
+{
+    emit(out, first)?;
+    emit(out, second)
+}
+
+/// Writes how many findings of a code are left out.
+pub fn write_left<W: Sink>(
+    heading: &Heading<'_>,
+    code: Code,
+    left: u32,
+    out: &mut W,
+) -> Result<(), IoFault>
+    requires { (W.state out.old).failed ≡ false }
+    ensures { Writes (W.state out.old) (W.state out.new)
+        (level_line heading.now.path.now heading.now.label
+        (code_text code (codes ": " ++ (decimal left ++ (codes " more" ++ 10 ∷ []))))) result }
+{
+    let mut line = TextLine::new();
+    line.prepend_bytes(b" more\n");
+    line.prepend_natural(u64::from(left));
+    line.prepend_bytes(b": ");
+    prepend_code(&mut line, code);
+    write_line(heading, line.as_bytes(), out)
+}
+
+/// Writes the line of a level that isn't judged.
+pub fn write_format<W: Sink>(
+    heading: &Heading<'_>,
+    format: Format,
+    out: &mut W,
+) -> Result<(), IoFault>
+    requires lump { NamesLump format }
+    requires sound { (W.state out.old).failed ≡ false }
+    ensures { Writes (W.state out.old) (W.state out.new)
+        (level_line heading.now.path.now heading.now.label (format_text format)) result }
+{
+    let mut line = TextLine::new();
+    prepend_format(&mut line, format);
+    write_line(heading, line.as_bytes(), out)
+}
+
+/// Writes the line of a format, without the path and the label before it.
+pub fn write_format_alone<W: Sink>(format: Format, out: &mut W) -> Result<(), IoFault>
+    requires lump { NamesLump format }
+    requires sound { (W.state out.old).failed ≡ false }
+    ensures { Writes (W.state out.old) (W.state out.new) (format_text format) result }
+{
+    let mut line = TextLine::new();
+    prepend_format(&mut line, format);
+    emit(out, line.as_bytes())
+}
+
+// Puts the text for a level that isn't judged.
+fn prepend_format(line: &mut TextLine, format: Format)
+    requires lump { NamesLump format }
+    requires empty { line.old ≡ [] }
+    ensures text { line.new ≡ format_text format }
+    ensures length { length line.new ≤ 108 }
+{
+    match format {
+        Format::Udmf => line.prepend_bytes(b"udmf: not read\n"),
+        Format::Incomplete(k) => prepend_incomplete(line, k as usize),
+        Format::Hexen => line.prepend_bytes(b"hexen: not read\n"),
+        Format::Outside(k) => prepend_outside_file(line, k as usize),
+        Format::Extended(tag) => prepend_extended(line, &tag),
+        Format::Doom => {}
+    }
+}
+
+fn prepend_incomplete(line: &mut TextLine, k: usize)
+    requires from { 1 ≤ k }
+    requires to { k ≤ 10 }
+    requires empty { line.old ≡ [] }
+    ensures text { line.new ≡ format_text (format.Incomplete k) }
+    ensures length { length line.new ≤ 108 }
+{
+    line.prepend_bytes(b" where it belongs\n");
+    prepend_name(line, usual_name(k));
+    line.prepend_bytes(b"incomplete: no ");
+}
+
+fn prepend_outside_file(line: &mut TextLine, k: usize)
+    requires from { 1 ≤ k }
+    requires to { k ≤ 10 }
+    requires empty { line.old ≡ [] }
+    ensures text { line.new ≡ format_text (format.Outside k) }
+    ensures length { length line.new ≤ 108 }
+{
+    line.prepend_bytes(b"\n");
+    prepend_name(line, usual_name(k));
+    line.prepend_bytes(b"outside: ");
+}
+
+fn prepend_extended(line: &mut TextLine, tag: &[u8; 4])
+    requires { line.old ≡ [] }
+    ensures text { line.new ≡ format_text (format.Extended tag.now) }
+    ensures length { length line.new ≤ 108 }
+{
+    line.prepend_bytes(b": not read\n");
+    line.prepend_bytes(tag);
+    line.prepend_bytes(b"extended nodes ");
+}
+
+// `CODE KIND INDEX: `
+fn prepend_lead(line: &mut TextLine, level: &Level<'_>, finding: &Finding)
+    requires { line.old ≡ [] }
+    ensures text { line.new ≡ lead_text level.now finding.now }
+    ensures length { length line.new ≤ 108 }
+{
+    let kind = kind_of(finding.code);
+    line.prepend_bytes(b": ");
+    prepend_index_of(line, level, kind, finding.index);
+    line.prepend_bytes(kind_name(kind));
+    line.prepend_bytes(b" ");
+    prepend_code(line, finding.code);
+}
+
+// The index of a finding, by the kind of what it is found at.
+fn prepend_index_of(line: &mut TextLine, level: &Level<'_>, kind: Kind, index: u32)
+    requires { length line.old ≤ 2 }
+    ensures text { line.new ≡ index_text level.now kind index line.old }
+    ensures length { length line.new ≤ length line.old + 20 }
+{
+    match kind {
+        Kind::Whole => {}
+        Kind::Block => prepend_block(line, blocks_along(level.blockmap(), 2), index),
+        _ => {
+            prepend_count(line, index as usize);
+            line.prepend_bytes(b" ");
+        }
+    }
+}
+
+// A block by its column and its row.
+fn prepend_block(line: &mut TextLine, columns: u16, index: u32)
+    requires { length line.old ≤ 2 }
+    ensures text { line.new ≡ block_text columns index line.old }
+    ensures length { length line.new ≤ length line.old + 20 }
+{
+    if columns == 0 {
+        return;
+    }
+    let columns = u32::from(columns);
+    line.prepend_bytes(b")");
+    prepend_count(line, (index / columns) as usize);
+    line.prepend_bytes(b", ");
+    prepend_short(line, (index % columns) as u16);
+    line.prepend_bytes(b" (");
+}
+
+// `MESSAGE[, PLACE]`
+fn prepend_body(line: &mut TextLine, level: &Level<'_>, owners: &[Option<u32>], finding: &Finding)
+    requires owners { AreOwners level.now owners.now }
+    requires empty { line.old ≡ [] }
+    ensures { line.new ≡ body_text level.now finding.now }
+{
+    line.prepend_bytes(b"\n");
+    prepend_place(line, place_of(level, owners, finding.code, finding.index));
+    prepend_message(line, level, finding.code, finding.index);
+}

@@ -1,0 +1,155 @@
+//! Where on the map a finding lies.
+
+ghost use Rattle.std.specs.Prelude.{◌≡◌, ◌+◌, ◌≤◌, length};
+ghost use Rattle.line_io.specs.declared.text_line.TheConstants.{ROOM};
+ghost use Rattle.lens_texts.specs.Owners.{AreOwners};
+ghost use Rattle.lens_texts.specs.declared.kind.Kind.TheVariants as kind;
+ghost use Rattle.lens_texts.specs.Place.{between, owner_of, place_at, place_of, place_text, spot_text};
+
+use crate::digits::{prepend_count, prepend_word};
+use crate::kind::{Kind, kind_of};
+use crate::records::{first_spot, spot_at};
+use line_io::TextLine;
+use map_level::{Code, Level};
+
+/// A place on the map, in map units.
+#[derive(Clone, Copy)]
+pub struct Spot {
+    pub x: i16,
+    pub y: i16,
+}
+
+/// Where on the map a finding lies.
+#[derive(Clone, Copy)]
+pub enum Place {
+    /// It isn't known.
+    Nowhere,
+    At(Spot),
+    Between(Spot, Spot),
+    /// On the linedef of this number.
+    OfLinedef(u32),
+}
+
+/// Where a finding lies, by the linedefs of the sidedefs.
+pub fn place_of(level: &Level<'_>, owners: &[Option<u32>], code: Code, index: u32) -> Place
+    requires { AreOwners level.now owners.now }
+    ensures { result ≡ place_of level.now code index }
+{
+    if code.rank() == Code::F12.rank() {
+        return Place::Nowhere;
+    }
+    place_at(level, owners, kind_of(code), index as usize)
+}
+
+// The place of a record, a lump or a block, by its kind and its number.
+fn place_at(level: &Level<'_>, owners: &[Option<u32>], kind: Kind, i: usize) -> Place
+    requires { AreOwners level.now owners.now }
+    ensures { result ≡ place_at level.now kind i }
+{
+    match kind {
+        Kind::Linedef => linedef_place(level, i),
+        Kind::Seg => match level.segs().get(i) {
+            Some(seg) => between(level, &seg.v1, &seg.v2),
+            None => Place::Nowhere,
+        },
+        Kind::Sidedef => sidedef_place(level, owners, i),
+        Kind::Ssector => ssector_place(level, i),
+        Kind::Node => match level.nodes().get(i) {
+            Some(node) => Place::At(Spot {
+                x: node.x,
+                y: node.y,
+            }),
+            None => Place::Nowhere,
+        },
+        Kind::Vertex | Kind::Lump | Kind::Block | Kind::Whole => Place::Nowhere,
+    }
+}
+
+/// Where a linedef lies: between its vertexes.
+pub fn linedef_place(level: &Level<'_>, i: usize) -> Place
+    ensures { result ≡ place_at level.now kind.Linedef i }
+{
+    match level.linedefs().get(i) {
+        Some(linedef) => between(level, &linedef.v1, &linedef.v2),
+        None => Place::Nowhere,
+    }
+}
+
+/// Where a sidedef lies: on the first linedef that names it.
+pub fn sidedef_place(level: &Level<'_>, owners: &[Option<u32>], i: usize) -> Place
+    requires { AreOwners level.now owners.now }
+    ensures { result ≡ place_at level.now kind.Sidedef i }
+{
+    match owner_of(level, owners, i) {
+        Some(linedef) => Place::OfLinedef(linedef),
+        None => Place::Nowhere,
+    }
+}
+
+/// Where an ssector lies: where its first seg starts.
+pub fn ssector_place(level: &Level<'_>, i: usize) -> Place
+    ensures { result ≡ place_at level.now kind.Ssector i }
+{
+    match first_spot(level, i) {
+        Some(spot) => Place::At(spot),
+        None => Place::Nowhere,
+    }
+}
+
+// Between the vertexes that two words name.
+fn between(level: &Level<'_>, v1: &i16, v2: &i16) -> Place
+    ensures { result ≡ between level.now v1.now v2.now }
+{
+    match (spot_at(level, *v1), spot_at(level, *v2)) {
+        (Some(from), Some(to)) => Place::Between(from, to),
+        _ => Place::Nowhere,
+    }
+}
+
+// The linedef of a sidedef.
+fn owner_of(level: &Level<'_>, owners: &[Option<u32>], i: usize) -> Option<u32>
+    requires { AreOwners level.now owners.now }
+    ensures { result ≡ owner_of level.now i }
+{
+    // Only the clauses speak of the level.
+    let _level = level;
+    if i < owners.len() { owners[i] } else { None }
+}
+
+/// Puts a place before the line, as it follows a message.
+pub fn prepend_place(line: &mut TextLine, place: Place)
+    requires { length line.old ≤ 1 }
+    ensures text { line.new ≡ place_text place line.old }
+    ensures length { length line.new ≤ length line.old + 43 }
+{
+    match place {
+        Place::Nowhere => {}
+        Place::At(spot) => {
+            prepend_spot(line, &spot.x, &spot.y);
+            line.prepend_bytes(b", at ");
+        }
+        Place::Between(from, to) => {
+            prepend_spot(line, &to.x, &to.y);
+            line.prepend_bytes(b" to ");
+            prepend_spot(line, &from.x, &from.y);
+            line.prepend_bytes(b", from ");
+        }
+        Place::OfLinedef(linedef) => {
+            prepend_count(line, linedef as usize);
+            line.prepend_bytes(b", of linedef ");
+        }
+    }
+}
+
+/// Puts `(X, Y)` before the line.
+pub fn prepend_spot(line: &mut TextLine, x: &i16, y: &i16)
+    requires { length line.old + 36 ≤ ROOM }
+    ensures text { line.new ≡ spot_text x.now y.now line.old }
+    ensures length { length line.new ≤ length line.old + 16 }
+{
+    line.prepend_bytes(b")");
+    prepend_word(line, y);
+    line.prepend_bytes(b", ");
+    prepend_word(line, x);
+    line.prepend_bytes(b"(");
+}

@@ -58,7 +58,7 @@ pub fn write_label<W: Sink>(name: &Name8, g: u64, out: &mut W) -> Result<(), IoF
     write_number(b"entry", g, out)
 }
 
-/// `,"<name>":<number>`
+/// `,"<name>":<number>`, by a name of at most 16 bytes.
 pub fn write_number<W: Sink>(name: &[u8], number: u64, out: &mut W) -> Result<(), IoFault>
     requires short { length name.now ≤ 16 }
     requires sound { (W.state out.old).failed ≡ false }

@@ -192,6 +192,7 @@ fn is_same(a: Option<u32>, b: Option<u32>) -> bool
 }
 
 // The sector that a seg faces.
+#[inline]
 fn sector_faced(level: &Level<'_>, j: usize) -> Option<u32>
     ensures { result ≡ sector_faced level.now (pos j) }
 {

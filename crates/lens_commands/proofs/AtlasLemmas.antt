@@ -4,15 +4,15 @@ use Rattle.std.proofs.lemmas.List.{append-nil, append_assoc}
 use Rattle.le_rec.specs.Sink.{SinkState}
 use Rattle.atlas_page.specs.declared.refused.Refused.{Refused}
 use Rattle.atlas_page.specs.declared.row.Row.{Row}
-use Rattle.lens_commands.specs.Files.{stored}
-use Rattle.lens_commands.specs.Run.{ToldTo}
-use Rattle.lens_commands.specs.declared.tell.Tally.{Tally}
+use Rattle.lens_reports.specs.Files.{stored}
+use Rattle.lens_reports.specs.Run.{ToldTo}
+use Rattle.lens_reports.specs.declared.tell.Tally.{Tally}
 use Rattle.lens_engines.specs.declared.verdict.Verdict.{Verdict}
 use Rattle.lens_commands.specs.Atlas.{LacksPage, RunsAtlas, RunsTaken, WritesAtlas, index_file, survey_file, survey_of}
-use Rattle.lens_commands.specs.Job.{HoldsList, job_paths}
+use Rattle.lens_reports.specs.Job.{HoldsList, job_paths}
 use Rattle.lens_commands.specs.declared.atlas.folder.FolderRefusal.{FolderRefusal}
 use Rattle.lens_commands.specs.declared.atlas.job.AtlasJob.{AtlasJob}
-use Rattle.lens_commands.specs.declared.end.End.{End}
+use Rattle.lens_reports.specs.declared.end.End.{End}
 use Rattle.lens_commands.specs.Folder.{IsBegun, Kept, KeepsFile, with_files}
 use Rattle.lens_commands.specs.Gathered.{GathersAll, GathersSome}
 use Rattle.lens_commands.specs.declared.atlas.job.AtlasRequest.{AtlasRequest}

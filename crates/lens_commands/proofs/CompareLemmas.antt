@@ -5,13 +5,13 @@ use Rattle.demo_engines.specs.RefusalText.{fault_text, refusal_line}
 use Rattle.demo_lump.proofs.LawLemmas.{read_or_refused}
 use Rattle.demo_lump.specs.Demo.{Demo}
 use Rattle.lens_commands.specs.CompareJob.{TellsGiven}
-use Rattle.lens_commands.specs.Job.{TellsRest}
-use Rattle.lens_commands.specs.Output.{output_state}
+use Rattle.lens_reports.specs.Job.{TellsRest}
+use Rattle.lens_reports.specs.Output.{output_state}
 use Rattle.lens_commands.specs.declared.compare.Given.{Given}
 use Rattle.lens_commands.specs.declared.compare.Given.TheVariants as given
-use Rattle.lens_commands.specs.declared.end.End.{End}
-use Rattle.lens_commands.specs.declared.output.Output.{Output}
-use Rattle.lens_commands.proofs.JobLemmas.{rest_after}
+use Rattle.lens_reports.specs.declared.end.End.{End}
+use Rattle.lens_reports.specs.declared.output.Output.{Output}
+use Rattle.lens_reports.proofs.JobLemmas.{rest_after}
 use Rattle.lens_engines.specs.declared.verdict.Verdict.{Verdict}
 use Rattle.lens_engines.specs.declared.verdict.Verdict.TheVariants.{Faulty}
 

@@ -1,11 +1,11 @@
 -- What is drawn of a level, from how its picture ended.
 use Rattle.std.proofs.Common.{◌≡◌, ℕ, List, [], Option, Result, Err, refl}
 use Rattle.lens_commands.specs.Picture.{DrawsWhole, IsFound}
-use Rattle.lens_commands.proofs.JobLemmas.{rest_after}
-use Rattle.lens_commands.specs.Job.{TellsRest, output_end}
-use Rattle.lens_commands.specs.Output.{is_closed, output_state}
-use Rattle.lens_commands.specs.declared.end.End.{End}
-use Rattle.lens_commands.specs.declared.output.Output.{Output}
+use Rattle.lens_reports.proofs.JobLemmas.{rest_after}
+use Rattle.lens_reports.specs.Job.{TellsRest, output_end}
+use Rattle.lens_reports.specs.Output.{is_closed, output_state}
+use Rattle.lens_reports.specs.declared.end.End.{End}
+use Rattle.lens_reports.specs.declared.output.Output.{Output}
 use Rattle.le_rec.specs.Sink.{SinkState}
 use Rattle.map_level.specs.Level.{Level}
 use Rattle.map_picture.specs.Drawing.{IsPicture, TakesSome, TakesWhole}

@@ -12,9 +12,9 @@ use Rattle.line_io.specs.declared.storage.FirstUnread.{FirstUnread}
 use Rattle.line_io.specs.declared.storage.StorageFault.{StorageFault}
 use Rattle.line_io.specs.declared.storage.StorageFault.TheVariants as storage
 use Rattle.lens_engines.specs.declared.object.FileRefusal.{FileRefusal}
-use Rattle.lens_commands.specs.Files.{RefusesRead, read_fault_of}
+use Rattle.lens_reports.specs.Files.{RefusesRead, read_fault_of}
 use Rattle.lens_commands.specs.PictureFiles.{IsFirstUnread}
-use Rattle.lens_commands.specs.declared.files.ReadFault.TheVariants.{Refused}
+use Rattle.lens_reports.specs.declared.files.ReadFault.TheVariants.{Refused}
 use Rattle.wad_dir.specs.Refusal.{IsFirstRefused}
 use Rattle.wad_dir.specs.declared.wad.WadFault.{WadFault}
 

@@ -12,12 +12,12 @@ use Rattle.atlas_page.specs.declared.refused.Refused.{Refused}
 use Rattle.atlas_page.specs.declared.row.Row.{Row}
 use Rattle.wad_dir.specs.Entries.{names}
 use Rattle.wad_dir.specs.Wad.{IsRead, Wad}
-use Rattle.lens_commands.specs.Files.{RefusesRead, at_path}
-use Rattle.lens_commands.specs.Run.{RefusesFile, TellsPath, TellsWord, WritesRefusal, no_tally, tally_with}
-use Rattle.lens_commands.specs.declared.files.ReadFault.TheVariants as read
-use Rattle.lens_commands.specs.declared.tell.Request.{Request}
-use Rattle.lens_commands.specs.declared.tell.Tally.{Tally}
-use Rattle.lens_commands.specs.declared.tell.Word.TheVariants.{Survey}
+use Rattle.lens_reports.specs.Files.{RefusesRead, at_path}
+use Rattle.lens_reports.specs.Run.{RefusesFile, TellsPath, TellsWord, WritesRefusal, no_tally, tally_with}
+use Rattle.lens_reports.specs.declared.files.ReadFault.TheVariants as read
+use Rattle.lens_reports.specs.declared.tell.Request.{Request}
+use Rattle.lens_reports.specs.declared.tell.Tally.{Tally}
+use Rattle.lens_reports.specs.declared.tell.Word.TheVariants.{Survey}
 use Rattle.line_io.specs.declared.input.TheConstants.{MAX_READ}
 use Rattle.lens_commands.specs.Folder.{Kept, with_files}
 use Rattle.lens_commands.specs.Gathered.{AddsFront, AddsLevels, AddsPath, AddsSome, Gathers, GathersAll, GathersSome, IsOrigin, of_none, with_path}

@@ -3,7 +3,7 @@ use Rattle.std.proofs.Common.{◌≡◌, true, ℕ, List, [], Err, refl}
 use Rattle.std.proofs.KnownBytes.{Appends-nil}
 use Rattle.le_rec.specs.Sink.{SinkState}
 use Rattle.line_io.specs.declared.fault.IoFault.TheVariants.{Write}
-use Rattle.lens_commands.specs.Run.{IsTold}
+use Rattle.lens_reports.specs.Run.{IsTold}
 
 -- nothing, which is a front of each text
 pub told_none : (end : SinkState) (text : List ℕ) → end.failed ≡ true → IsTold end end text

@@ -6,14 +6,14 @@ use Rattle.le_rec.specs.Sink.{SinkState}
 use Rattle.lens_engines.specs.declared.judging.Judging.{Judging}
 use Rattle.lens_engines.specs.declared.object.FileRefusal.{FileRefusal}
 use Rattle.lens_engines.specs.declared.verdict.Verdict.{Verdict}
-use Rattle.lens_commands.specs.Files.{at_path, stored}
-use Rattle.lens_commands.specs.Run.{RefusesFile, StopsRefusal, TellsPath, TellsSome, ToldTo, WantsMore, survey_tally}
-use Rattle.lens_commands.specs.declared.tell.Request.{Request}
-use Rattle.lens_commands.specs.declared.tell.Stop.{Stop}
-use Rattle.lens_commands.specs.declared.tell.Stop.TheVariants as stop
-use Rattle.lens_commands.specs.declared.tell.Tally.{Tally}
-use Rattle.lens_commands.specs.declared.tell.Word.TheVariants.{Survey}
-use Rattle.lens_commands.proofs.TellLemmas.{survey_taken, told_before}
+use Rattle.lens_reports.specs.Files.{at_path, stored}
+use Rattle.lens_reports.specs.Run.{RefusesFile, StopsRefusal, TellsPath, TellsSome, ToldTo, WantsMore, survey_tally}
+use Rattle.lens_reports.specs.declared.tell.Request.{Request}
+use Rattle.lens_reports.specs.declared.tell.Stop.{Stop}
+use Rattle.lens_reports.specs.declared.tell.Stop.TheVariants as stop
+use Rattle.lens_reports.specs.declared.tell.Tally.{Tally}
+use Rattle.lens_reports.specs.declared.tell.Word.TheVariants.{Survey}
+use Rattle.lens_reports.proofs.TellLemmas.{survey_taken, told_before}
 use Rattle.line_io.specs.declared.input.TheConstants.{MAX_READ}
 use Rattle.lens_commands.specs.Atlas.{survey_of}
 use Rattle.lens_commands.specs.Folder.{IsNotErrors, of_file}

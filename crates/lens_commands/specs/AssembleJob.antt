@@ -5,13 +5,13 @@ use Rattle.demo_engines.specs.Assembly.{IsAssembled, RefusesListing as RefusesTe
 use Rattle.demo_engines.specs.declared.assembly.Wanted.{Wanted}
 use Rattle.demo_engines.specs.declared.assembly.Wanted.TheVariants.{LineEnd, Header, Nothing, Totals, TicCommand}
 use Rattle.le_rec.specs.Sink.{SinkState}
-use Rattle.lens_commands.specs.Files.{RefusesRead}
-use Rattle.lens_commands.specs.Job.{TellsRest, WantsMemory}
-use Rattle.lens_commands.specs.Run.{refusal_line}
-use Rattle.lens_commands.specs.declared.end.End.{End}
-use Rattle.lens_commands.specs.declared.end.End.TheVariants as end
-use Rattle.lens_commands.specs.declared.files.ReadFault.TheVariants.{Refused}
-use Rattle.lens_commands.specs.declared.output.Output.{Output}
+use Rattle.lens_reports.specs.Files.{RefusesRead}
+use Rattle.lens_reports.specs.Job.{TellsRest, WantsMemory}
+use Rattle.lens_reports.specs.Run.{refusal_line}
+use Rattle.lens_reports.specs.declared.end.End.{End}
+use Rattle.lens_reports.specs.declared.end.End.TheVariants as end
+use Rattle.lens_reports.specs.declared.files.ReadFault.TheVariants.{Refused}
+use Rattle.lens_reports.specs.declared.output.Output.{Output}
 use Rattle.line_io.specs.declared.input.TheConstants.{MAX_READ}
 use Rattle.line_io.specs.Writes.{Writes}
 use Rattle.line_io.specs.declared.fault.IoFault.{IoFault}

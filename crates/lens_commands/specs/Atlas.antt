@@ -7,21 +7,21 @@ use Rattle.atlas_page.specs.declared.refused.Refused.{Refused}
 use Rattle.atlas_page.specs.declared.row.Row.{Row}
 use Rattle.lens_engines.specs.declared.object.FileRefusal.{FileRefusal}
 use Rattle.lens_engines.specs.declared.verdict.Verdict.{Verdict}
-use Rattle.lens_commands.specs.Job.{HoldsList, ListUnread, job_paths, list_name}
-use Rattle.lens_commands.specs.Run.{IsTold, ToldTo, refusal_line}
-use Rattle.lens_commands.specs.declared.end.End.{End}
-use Rattle.lens_commands.specs.declared.end.End.TheVariants as end
-use Rattle.lens_commands.specs.declared.files.ReadFault.TheVariants as read
-use Rattle.lens_commands.specs.declared.tell.Request.{Request}
-use Rattle.lens_commands.specs.declared.tell.Tally.{Tally}
-use Rattle.lens_commands.specs.declared.tell.Word.TheVariants.{Survey}
+use Rattle.lens_reports.specs.Job.{HoldsList, ListUnread, job_paths, list_name}
+use Rattle.lens_reports.specs.Run.{IsTold, ToldTo, refusal_line}
+use Rattle.lens_reports.specs.declared.end.End.{End}
+use Rattle.lens_reports.specs.declared.end.End.TheVariants as end
+use Rattle.lens_reports.specs.declared.files.ReadFault.TheVariants as read
+use Rattle.lens_reports.specs.declared.tell.Request.{Request}
+use Rattle.lens_reports.specs.declared.tell.Tally.{Tally}
+use Rattle.lens_reports.specs.declared.tell.Word.TheVariants.{Survey}
 use Rattle.wad_dir.specs.Wad.{Wad}
 use Rattle.lens_engines.specs.Rules.{IsOver}
-use Rattle.lens_commands.specs.Bases.{AreBases, EndsAtBase, IsRefusedAt, path_at}
-use Rattle.lens_commands.specs.declared.bases.BaseFault.{BaseFault}
+use Rattle.lens_reports.specs.Bases.{AreBases, EndsAtBase, IsRefusedAt, path_at}
+use Rattle.lens_reports.specs.declared.bases.BaseFault.{BaseFault}
 use Rattle.lens_engines.specs.declared.judging.Judging.{Judging}
 use Rattle.lens_engines.specs.declared.judging.Warnings.{Warnings}
-use Rattle.lens_commands.specs.Files.{stored}
+use Rattle.lens_reports.specs.Files.{stored}
 use Rattle.lens_commands.specs.Folder.{IsBegun, Kept, with_files}
 use Rattle.lens_commands.specs.Gathered.{Gathers, GathersSome}
 use Rattle.lens_commands.specs.AtlasTold.{fault_end, folder_line, refusal_text, write_text}

@@ -5,8 +5,8 @@ use Rattle.lens_commands.specs.declared.atlas.fault.AtlasFault.{AtlasFault}
 use Rattle.lens_commands.specs.declared.atlas.fault.AtlasFault.TheVariants as fault
 use Rattle.lens_commands.specs.declared.atlas.folder.FolderRefusal.{FolderRefusal}
 use Rattle.lens_commands.specs.declared.atlas.folder.FolderRefusal.TheVariants.{NotEmpty, NoFolder, Unread, NoParent, Unmade}
-use Rattle.lens_commands.specs.declared.end.End.{End}
-use Rattle.lens_commands.specs.declared.end.End.TheVariants as end
+use Rattle.lens_reports.specs.declared.end.End.{End}
+use Rattle.lens_reports.specs.declared.end.End.TheVariants as end
 
 -- why it isn't taken, in words
 abbrev pub refusal_text : FolderRefusal → List ℕ

@@ -7,15 +7,15 @@ use Rattle.demo_engines.specs.RefusalText.{refusal_line as demo_refusal_line}
 use Rattle.demo_lump.specs.Demo.{Demo, IsRead, RefusesDemo}
 use Rattle.demo_lump.specs.declared.fault.DemoFault.{DemoFault}
 use Rattle.le_rec.specs.Sink.{SinkState}
-use Rattle.lens_commands.specs.Files.{RefusesRead}
-use Rattle.lens_commands.specs.Job.{TellsRest, WantsMemory}
-use Rattle.lens_commands.specs.Run.{refusal_line}
+use Rattle.lens_reports.specs.Files.{RefusesRead}
+use Rattle.lens_reports.specs.Job.{TellsRest, WantsMemory}
+use Rattle.lens_reports.specs.Run.{refusal_line}
 use Rattle.lens_commands.specs.declared.compare.Given.{Given}
 use Rattle.lens_commands.specs.declared.compare.Given.TheVariants as given
-use Rattle.lens_commands.specs.declared.end.End.{End}
-use Rattle.lens_commands.specs.declared.end.End.TheVariants as end
-use Rattle.lens_commands.specs.declared.files.ReadFault.TheVariants.{Refused}
-use Rattle.lens_commands.specs.declared.output.Output.{Output}
+use Rattle.lens_reports.specs.declared.end.End.{End}
+use Rattle.lens_reports.specs.declared.end.End.TheVariants as end
+use Rattle.lens_reports.specs.declared.files.ReadFault.TheVariants.{Refused}
+use Rattle.lens_reports.specs.declared.output.Output.{Output}
 use Rattle.line_io.specs.declared.input.TheConstants.{MAX_READ}
 use Rattle.line_io.specs.Writes.{Writes}
 use Rattle.line_io.specs.declared.fault.IoFault.{IoFault}

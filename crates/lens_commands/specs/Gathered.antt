@@ -8,11 +8,11 @@ use Rattle.atlas_page.specs.declared.row.Row.{Row}
 use Rattle.wad_dir.specs.Entries.{names}
 use Rattle.wad_dir.specs.Wad.{IsRead, Wad}
 use Rattle.le_rec.specs.Sink.{SinkState}
-use Rattle.lens_commands.specs.Run.{RefusesFile, TellsWord, WritesRefusal, no_tally, tally_with}
-use Rattle.lens_commands.specs.declared.tell.Tally.{Tally}
-use Rattle.lens_commands.specs.declared.tell.Word.TheVariants.{Survey}
+use Rattle.lens_reports.specs.Run.{RefusesFile, TellsWord, WritesRefusal, no_tally, tally_with}
+use Rattle.lens_reports.specs.declared.tell.Tally.{Tally}
+use Rattle.lens_reports.specs.declared.tell.Word.TheVariants.{Survey}
 use Rattle.line_io.specs.declared.input.TheConstants.{MAX_READ}
-use Rattle.lens_commands.specs.Files.{at_path}
+use Rattle.lens_reports.specs.Files.{at_path}
 use Rattle.lens_commands.specs.Folder.{Kept, with_files}
 use Rattle.lens_commands.specs.AtlasPictures.{ShowsRows}
 use Rattle.lens_commands.specs.declared.atlas.gather.Gathered.{Gathered}

@@ -8,11 +8,11 @@ use Rattle.lens_commands.specs.PictureFiles.{IsFirstUnread}
 use Rattle.lens_commands.specs.PictureFormat.{IsFormatAt}
 use Rattle.lens_commands.specs.PictureTold.{TellsRefused, named_line}
 use Rattle.lens_commands.specs.declared.picture.draw.PictureQuestion.{PictureQuestion}
-use Rattle.lens_commands.specs.Job.{TellsRest, WantsMemory}
-use Rattle.lens_commands.specs.Run.{IsTold}
-use Rattle.lens_commands.specs.declared.end.End.{End}
-use Rattle.lens_commands.specs.declared.end.End.TheVariants as end
-use Rattle.lens_commands.specs.declared.output.Output.{Output}
+use Rattle.lens_reports.specs.Job.{TellsRest, WantsMemory}
+use Rattle.lens_reports.specs.Run.{IsTold}
+use Rattle.lens_reports.specs.declared.end.End.{End}
+use Rattle.lens_reports.specs.declared.end.End.TheVariants as end
+use Rattle.lens_reports.specs.declared.output.Output.{Output}
 use Rattle.level_starts.specs.declared.format.Format.{Format}
 use Rattle.level_starts.specs.declared.format.Format.TheVariants.{Doom}
 use Rattle.map_level.specs.Level.{Level}

@@ -2,8 +2,8 @@
 use Rattle.std.specs.Prelude.{◌≡◌, ℕ, List, Option, Some, take}
 use Rattle.std.specs.List.{slice_get}
 use Rattle.line_io.specs.Storage.{AreHeld}
-use Rattle.lens_commands.specs.Files.{RefusesRead}
-use Rattle.lens_commands.specs.declared.files.ReadFault.TheVariants.{Refused}
+use Rattle.lens_reports.specs.Files.{RefusesRead}
+use Rattle.lens_reports.specs.declared.files.ReadFault.TheVariants.{Refused}
 use Rattle.lens_engines.specs.declared.object.FileRefusal.{FileRefusal}
 
 -- the files before the one of an index are read, and that one isn't

@@ -2,7 +2,7 @@
 use Rattle.std.specs.Prelude.{◌≡◌, ℕ, List, ◌++◌, Some, codes}
 use Rattle.std.specs.List.{slice_get}
 use Rattle.le_rec.specs.Sink.{SinkState}
-use Rattle.lens_commands.specs.Run.{IsTold, refusal_line}
+use Rattle.lens_reports.specs.Run.{IsTold, refusal_line}
 use Rattle.lens_texts.specs.ShownPath.{shown_path}
 use Rattle.lens_engines.specs.declared.object.FileRefusal.{FileRefusal}
 

@@ -10,13 +10,13 @@ use Rattle.lens_engines.specs.declared.judging.Judging.{Judging}
 use Rattle.lens_engines.specs.declared.object.FileRefusal.{FileRefusal}
 use Rattle.lens_engines.specs.declared.verdict.LevelsFault.TheVariants as engine
 use Rattle.lens_engines.specs.declared.verdict.Verdict.{Verdict}
-use Rattle.lens_commands.specs.Run.{StopsPath, StopsRefusal, TellsPath, ToldBefore, ToldTo, WritesRefusal}
-use Rattle.lens_commands.specs.declared.tell.Request.{Request}
-use Rattle.lens_commands.specs.declared.tell.Stop.{Stop}
-use Rattle.lens_commands.specs.declared.tell.Stop.TheVariants as stop
-use Rattle.lens_commands.specs.declared.tell.Tally.{Tally}
-use Rattle.lens_commands.specs.declared.tell.Word.TheVariants.{Survey}
-use Rattle.lens_commands.specs.Files.{at_path, stored}
+use Rattle.lens_reports.specs.Run.{StopsPath, StopsRefusal, TellsPath, ToldBefore, ToldTo, WritesRefusal}
+use Rattle.lens_reports.specs.declared.tell.Request.{Request}
+use Rattle.lens_reports.specs.declared.tell.Stop.{Stop}
+use Rattle.lens_reports.specs.declared.tell.Stop.TheVariants as stop
+use Rattle.lens_reports.specs.declared.tell.Tally.{Tally}
+use Rattle.lens_reports.specs.declared.tell.Word.TheVariants.{Survey}
+use Rattle.lens_reports.specs.Files.{at_path, stored}
 use Rattle.lens_commands.specs.Folder.{IsBegun, IsNotErrors, Kept}
 use Rattle.lens_commands.specs.Gathered.{AddsSome}
 use Rattle.lens_commands.specs.declared.atlas.fault.AtlasFault.{AtlasFault}

@@ -3,20 +3,16 @@
 ghost use Rattle.std.specs.Prelude.{◌≡◌, ◌≤◌, ◌++◌, [], codes, decimal, false, length};
 ghost use Rattle.demo_engines.specs.declared.assembly.Wanted.TheVariants as wanted;
 ghost use Rattle.lens_commands.specs.AssembleJob.{AssemblesBytes, RunsAssemble, line_text, wanted_text};
-ghost use Rattle.lens_commands.specs.Job.{TellsRest};
-ghost use Rattle.lens_commands.specs.Output.{output_state};
-ghost use Rattle.lens_commands.specs.Run.{AreSound};
+ghost use Rattle.lens_reports.specs.Job.{TellsRest};
+ghost use Rattle.lens_reports.specs.Output.{output_state};
+ghost use Rattle.lens_reports.specs.Run.{AreSound};
 ghost use Rattle.line_io.specs.Writes.{Writes};
 ghost use Rattle.lens_engines.specs.declared.verdict.Verdict.TheVariants.{Clean};
 
-use crate::end::End;
-use crate::files::{ReadFault, read_input};
-use crate::output::Output;
-use crate::run::{output_end, write_rest};
-use crate::tell::write_refusal;
 use demo_engines::{AssembleFault, Wanted, assemble};
 use le_rec::Sink;
 use lens_engines::Verdict;
+use lens_reports::{End, Output, ReadFault, output_end, read_input, write_refusal, write_rest};
 use line_io::{IoFault, TextLine, emit};
 use std::alloc::Global;
 use std::io::{Read, Write};

@@ -3,22 +3,18 @@
 ghost use Rattle.std.specs.Prelude.{◌≡◌, ◌⊎◌, [], false, IfOk, IfErr, Err};
 ghost use Rattle.demo_engines.specs.Differences.{AreSame, Differs};
 ghost use Rattle.lens_commands.specs.CompareJob.{IsGiven, RunsCompare, TellsGiven, ToldBoth, WritesBoth};
-ghost use Rattle.lens_commands.specs.Job.{TellsRest};
-ghost use Rattle.lens_commands.specs.Output.{output_state};
-ghost use Rattle.lens_commands.specs.Run.{AreSound};
-ghost use Rattle.lens_commands.specs.declared.end.End.TheVariants as end;
+ghost use Rattle.lens_reports.specs.Job.{TellsRest};
+ghost use Rattle.lens_reports.specs.Output.{output_state};
+ghost use Rattle.lens_reports.specs.Run.{AreSound};
+ghost use Rattle.lens_reports.specs.declared.end.End.TheVariants as end;
 ghost use Rattle.line_io.specs.Writes.{Writes};
 ghost use Rattle.lens_engines.specs.declared.verdict.Verdict.TheVariants.{Clean, Faulty};
 
-use crate::end::End;
-use crate::files::{ReadFault, read_path};
-use crate::output::Output;
-use crate::run::{output_end, write_rest};
-use crate::tell::write_refusal;
 use demo_engines::{compare_demos, write_demo_refusal};
 use demo_lump::Demo;
 use le_rec::Sink;
 use lens_engines::{FileRefusal, Verdict};
+use lens_reports::{End, Output, ReadFault, output_end, read_path, write_refusal, write_rest};
 use line_io::{IoFault, Storage, emit};
 use std::alloc::Global;
 use std::io::Write;

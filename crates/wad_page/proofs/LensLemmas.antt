@@ -5,10 +5,10 @@ use Rattle.std.specs.Option.{option_map}
 use Rattle.std.proofs.lemmas.List.{drop-map, length-drop, take-map, take_all}
 use Rattle.std.proofs.lemmas.Option.{same_Some}
 use Rattle.le_rec.specs.Sink.{SinkState}
-use Rattle.lens_commands.specs.Bases.{AreBases, IsRefusedAt, path_at}
-use Rattle.lens_commands.specs.Files.{lent}
-use Rattle.lens_commands.specs.declared.bases.BaseFault.{BaseFault}
-use Rattle.lens_commands.specs.declared.tell.Word.{Word}
+use Rattle.lens_reports.specs.Bases.{AreBases, IsRefusedAt, path_at}
+use Rattle.lens_reports.specs.Files.{lent}
+use Rattle.lens_reports.specs.declared.bases.BaseFault.{BaseFault}
+use Rattle.lens_reports.specs.declared.tell.Word.{Word}
 use Rattle.lens_engines.specs.Rules.{IsOver}
 use Rattle.lens_engines.specs.declared.judging.Judging.{Judging}
 use Rattle.lens_engines.specs.declared.judging.Rules.{Rules}

@@ -2,23 +2,23 @@
 use Rattle.std.specs.Prelude.{◌≡◌, ◌≢◌, ◌⊎◌, ℕ, ◌==◌, ◌<◌, ◌≤◌, List, [], codes, drop, length, slice_index_or, take, Some, Result, Ok, Err, if◌then◌else◌}
 use Rattle.std.specs.Io.KnownBytes.{Appends}
 use Rattle.le_rec.specs.Sink.{SinkState}
-use Rattle.lens_commands.specs.CutJob.{IsOfFile, cut_fault_line}
-use Rattle.lens_commands.specs.Files.{lent}
-use Rattle.lens_commands.specs.Bases.{AreBases, IsRefusedAt, path_at}
-use Rattle.lens_commands.specs.Job.{closing_line, unlooked_line}
-use Rattle.lens_commands.specs.declared.bases.BaseFault.{BaseFault}
-use Rattle.lens_commands.specs.declared.files.ReadFault.{ReadFault}
-use Rattle.lens_commands.specs.declared.files.ReadFault.TheVariants.{Refused, Memory}
-use Rattle.lens_commands.specs.declared.tell.Word.{Word}
+use Rattle.lens_reports.specs.CutJob.{IsOfFile, cut_fault_line}
+use Rattle.lens_reports.specs.Files.{lent}
+use Rattle.lens_reports.specs.Bases.{AreBases, IsRefusedAt, path_at}
+use Rattle.lens_reports.specs.Job.{closing_line, unlooked_line}
+use Rattle.lens_reports.specs.declared.bases.BaseFault.{BaseFault}
+use Rattle.lens_reports.specs.declared.files.ReadFault.{ReadFault}
+use Rattle.lens_reports.specs.declared.files.ReadFault.TheVariants.{Refused, Memory}
+use Rattle.lens_reports.specs.declared.tell.Word.{Word}
 use Rattle.lens_engines.specs.Ignored.{no_codes}
 use Rattle.lens_engines.specs.Rules.{IsOver}
 use Rattle.lens_engines.specs.declared.judging.Rules.{Rules}
 use Rattle.wad_dir.specs.Wad.{Wad}
-use Rattle.lens_commands.specs.Run.{ToldTo, refusal_line}
-use Rattle.lens_commands.specs.Status.{status_of}
-use Rattle.lens_commands.specs.declared.tell.Request.{Request}
-use Rattle.lens_commands.specs.declared.tell.Tally.{Tally}
-use Rattle.lens_commands.specs.declared.tell.Word.TheVariants.{Check, Survey, Demos}
+use Rattle.lens_reports.specs.Run.{ToldTo, refusal_line}
+use Rattle.lens_reports.specs.Status.{status_of}
+use Rattle.lens_reports.specs.declared.tell.Request.{Request}
+use Rattle.lens_reports.specs.declared.tell.Tally.{Tally}
+use Rattle.lens_reports.specs.declared.tell.Word.TheVariants.{Check, Survey, Demos}
 use Rattle.lens_engines.specs.Cut.{IsCut, RefusesCut}
 use Rattle.lens_texts.specs.declared.form.Form.TheVariants.{Lines, Objects}
 use Rattle.lens_engines.specs.declared.cut.CutFault.{CutFault}

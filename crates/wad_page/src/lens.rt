@@ -1,7 +1,7 @@
 //! Commands of `wadlens` over files in memory.
 
 ghost use Rattle.std.specs.Prelude.{◌≡◌, ◌↔◌, ◌<◌, ◌≤◌, [], false, Some, length, map, slice_index_or, IfErr, IfOk};
-ghost use Rattle.lens_commands.specs.Run.{AreSound};
+ghost use Rattle.lens_reports.specs.Run.{AreSound};
 ghost use Rattle.wad_page.specs.Lens.{Asks, AsksWarnings, AsksWord, CutsBytes, CutsFile, DoesLens, TellsAll, TellsOver, TellsRefused, lens_message, lens_status, reading_of, verdict_of_cut, verdict_of_uncut};
 ghost use Rattle.lens_engines.specs.declared.judging.Warnings.{Warnings};
 ghost use Rattle.memory_streams.specs.ToVec.{state_of as vec_state};
@@ -11,11 +11,11 @@ ghost use Rattle.wad_page.specs.declared.lens.LensWord.{LensWord};
 
 use crate::parts::{Parts, slices};
 use le_rec::Sink;
-use lens_commands::{
+use lens_engines::{Base, CutFault, Ignored, Rules, Uncut, Verdict, Warnings, cut_level};
+use lens_reports::{
     AtOnce, BaseFault, HandOn, Held, ReadFault, Request, RunFiles, Unwatched, Word, read_bases,
     status, tell_paths, wads_of, write_cut_line, write_last, write_refusal, write_unlooked,
 };
-use lens_engines::{Base, CutFault, Ignored, Rules, Uncut, Verdict, Warnings, cut_level};
 use lens_texts::Form;
 use map_level::Reading;
 use memory_streams::ToVec;

@@ -1,7 +1,8 @@
 //! A folder on disk that an atlas is written into.
 
 use le_rec::{EndFault, Sink};
-use lens_commands::{Folder, FolderFault, FolderRefusal, HandOn, KeepFault, Output};
+use lens_commands::{Folder, FolderFault, FolderRefusal, KeepFault};
+use lens_reports::{HandOn, Output};
 use std::alloc::Global;
 use std::fs::File;
 use std::io::{ErrorKind, Write};
@@ -84,7 +85,7 @@ pub struct DiskFile<W: Write + Drop> {
 impl<W: Write + Drop> Sink for DiskFile<W> {
     ghost use Rattle.std.specs.Prelude.{None};
     ghost use Rattle.le_rec.specs.Sink.{SinkState};
-    ghost use Rattle.lens_commands.specs.Output.{output_state};
+    ghost use Rattle.lens_reports.specs.Output.{output_state};
 
     ghost state = { λ file. record { taken = None; failed = (output_state W.contents file.output).failed } };
 

@@ -3,8 +3,8 @@
 use crate::mistake::Mistake;
 use crate::shared_words::{reading_of, wide_word};
 use clap::{Arg, ArgAction, ArgMatches, Command};
-use lens_commands::BasePaths;
 use lens_engines::{Ignored, Rules, Warnings};
+use lens_reports::BasePaths;
 use std::alloc::{AllocError, Global};
 
 // The codes that can be ignored.

@@ -14,10 +14,9 @@ mod words;
 use clap::error::ErrorKind;
 use disk_folder::DiskFolder;
 use le_rec::ToWrite;
-use lens_commands::{
-    End, Output, exit_status, run_assemble, run_atlas, run_compare, run_cut, run_job, run_picture,
-};
+use lens_commands::{run_assemble, run_atlas, run_compare, run_picture};
 use lens_engines::Verdict;
+use lens_reports::{End, Output, exit_status, run_cut, run_job};
 use line_io::Disk;
 use mistake::Mistake;
 use progress::Progress;

@@ -5,7 +5,7 @@ use crate::judging_words::{bases_of, ignore_word, rules_of, with_judging};
 use crate::mistake::Mistake;
 use crate::picture_words::{PictureWords, picture_command};
 use clap::{Arg, ArgAction, ArgMatches, Command, value_parser};
-use lens_commands::{Job, SHOWN, Word};
+use lens_reports::{Job, SHOWN, Word};
 use lens_texts::Form;
 use std::alloc::{AllocError, Global};
 

@@ -1,7 +1,7 @@
 //! What a run is asked.
 
-use crate::Job;
 use lens_engines::Judging;
+use lens_reports::Job;
 use map_cells::CellCount;
 
 /// How levels are judged and drawn.

@@ -5,20 +5,20 @@ ghost use Rattle.lens_commands.specs.Atlas.{RunsAtlas, RunsTaken, StopsAtlas, Te
 ghost use Rattle.lens_commands.specs.Folder.{with_files};
 ghost use Rattle.lens_commands.specs.AtlasTold.{fault_end, folder_line, write_text};
 ghost use Rattle.lens_commands.specs.Until.{TellsUntil};
-ghost use Rattle.lens_commands.specs.Run.{IsTold};
+ghost use Rattle.lens_reports.specs.Run.{IsTold};
 
 use crate::atlas::fault::{AtlasFault, KeepFault};
 use crate::atlas::folder::{Folder, FolderFault};
 use crate::atlas::gather::{Gathered, gather};
 use crate::atlas::job::{AtlasJob, AtlasRequest};
 use crate::atlas::tell::{fault_end, write_folder_line};
-use crate::{
-    End, ReadFault, Stored, Watch, all_paths, read_bases, read_list, refuse_base, wads_of,
-    word_paths, write_refusal,
-};
 use atlas_page::{Page, write_page};
 use le_rec::Sink;
 use lens_engines::{Base, Verdict, Warnings};
+use lens_reports::{
+    End, ReadFault, Stored, Watch, all_paths, read_bases, read_list, refuse_base, wads_of,
+    word_paths, write_refusal,
+};
 use line_io::Storage;
 use std::alloc::Global;
 use std::io::Read;

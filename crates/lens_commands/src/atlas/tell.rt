@@ -4,9 +4,9 @@ ghost use Rattle.std.specs.Prelude.{◌≡◌, ◌++◌, codes, false};
 ghost use Rattle.lens_commands.specs.AtlasTold.{fault_end, folder_line};
 ghost use Rattle.line_io.specs.Writes.{Writes};
 
-use crate::End;
 use crate::atlas::fault::AtlasFault;
 use le_rec::Sink;
+use lens_reports::End;
 use lens_texts::write_path;
 use line_io::{IoFault, emit};
 

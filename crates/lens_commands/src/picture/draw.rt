@@ -2,16 +2,16 @@
 
 ghost use Rattle.std.specs.Prelude.{◌≡◌, ◌≤◌, IfErr, IfOk};
 ghost use Rattle.lens_commands.specs.Picture.{DrawsAt, DrawsLevel, DrawsNamed, IsFound, drawn_verdict};
-ghost use Rattle.lens_commands.specs.Job.{output_end};
-ghost use Rattle.lens_commands.specs.Output.{is_closed, output_state};
-ghost use Rattle.lens_commands.specs.Run.{AreSound};
+ghost use Rattle.lens_reports.specs.Job.{output_end};
+ghost use Rattle.lens_reports.specs.Output.{is_closed, output_state};
+ghost use Rattle.lens_reports.specs.Run.{AreSound};
 ghost use Rattle.lens_engines.specs.Survey.{verdict_of_format};
 
 use crate::picture::format::format_at;
 use crate::picture::told::{write_format, write_named};
-use crate::{End, Output, output_end, write_rest};
 use le_rec::{Name8, Sink};
 use lens_engines::{Verdict, format_totals};
+use lens_reports::{End, Output, output_end, write_rest};
 use lens_texts::level_at;
 use level_starts::Format;
 use map_level::{Level, Reading};

@@ -2,17 +2,16 @@
 
 ghost use Rattle.std.specs.Prelude.{◌≡◌, ◌≤◌, length, map};
 ghost use Rattle.lens_commands.specs.Picture.{DrawsFiles, DrawsPaths};
-ghost use Rattle.lens_commands.specs.Output.{output_state};
-ghost use Rattle.lens_commands.specs.Run.{AreSound};
+ghost use Rattle.lens_reports.specs.Output.{output_state};
+ghost use Rattle.lens_reports.specs.Run.{AreSound};
 ghost use Rattle.wad_dir.specs.declared.set.TheConstants.{MAX_FILES};
 ghost use Rattle.wad_look.specs.Opening.{bytes_of};
 
-use crate::files::ReadFault;
 use crate::picture::draw::{PictureQuestion, draw_named};
 use crate::picture::told::tell_refused;
-use crate::{End, Output};
 use le_rec::Sink;
 use lens_engines::{FileRefusal, Verdict};
+use lens_reports::{End, Output, ReadFault};
 use line_io::{MAX_READ, Storage, read_files};
 use std::alloc::Global;
 use std::io::Write;

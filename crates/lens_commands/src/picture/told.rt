@@ -6,9 +6,9 @@ ghost use Rattle.line_io.specs.Writes.{Writes};
 ghost use Rattle.lens_texts.specs.FormatLine.{format_text};
 ghost use Rattle.lens_texts.specs.LevelObject.{NamesLump};
 
-use crate::write_refusal;
 use le_rec::Sink;
 use lens_engines::FileRefusal;
+use lens_reports::write_refusal;
 use lens_texts::{write_format_alone, write_path};
 use level_starts::Format;
 use line_io::{IoFault, emit};

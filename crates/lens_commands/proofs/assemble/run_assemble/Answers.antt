@@ -1,5 +1,5 @@
 use Rattle.std.proofs.Common.{inl, inr, refl, subst}
-use Rattle.lens_commands.specs.Files.{RefusesRead}
+use Rattle.lens_reports.specs.Files.{RefusesRead}
 use Rattle.lens_commands.proofs.assemble.run_assemble.Goals as goal
 
 pub returns-in-Err-Refused : goal.returns-in-Err-Refused

@@ -1,5 +1,5 @@
 use Rattle.lens_engines.specs.declared.verdict.Verdict.TheVariants.{Clean}
-use Rattle.lens_commands.proofs.JobLemmas.{rest_after}
+use Rattle.lens_reports.proofs.JobLemmas.{rest_after}
 use Rattle.lens_commands.proofs.assemble.write_demo.Goals as goal
 
 pub returns-in-Ok : goal.returns-in-Ok

@@ -1,8 +1,8 @@
 use Rattle.std.proofs.Common.{◌≡◌, ◌<◌, ◌∙◌, length, map, ap, refl, subst, arith}
 use Rattle.std.specs.Prelude.{take}
 use Rattle.std.proofs.lemmas.List.{length-map, length-take}
-use Rattle.lens_commands.specs.Files.{bytes_in, lent}
-use Rattle.lens_commands.proofs.BaseLemmas.{as_many_wads, have_wads, job_bases}
+use Rattle.lens_reports.specs.Files.{bytes_in, lent}
+use Rattle.lens_reports.proofs.BaseLemmas.{as_many_wads, have_wads, job_bases}
 use Rattle.lens_engines.specs.Rules.{IsOver}
 use Rattle.wad_page.proofs.LensLemmas.{first_slices, other_slices, refuses_base, tells_others}
 use Rattle.wad_page.proofs.lens.tell_over.Goals as goal

@@ -1,10 +1,10 @@
 use Rattle.std.proofs.Common.{inl, refl, rules, subst}
 use Rattle.std.specs.Prelude.{IfErr}
 use Rattle.lens_engines.specs.declared.object.FileRefusal.TheVariants.{NoWad}
-use Rattle.lens_commands.specs.Files.{RefusesRead}
+use Rattle.lens_reports.specs.Files.{RefusesRead}
 use Rattle.lens_commands.specs.Atlas.{survey_of}
 use Rattle.lens_commands.specs.Until.{LeavesLevels, LeavesRefused}
-use Rattle.lens_commands.proofs.TellLemmas.{survey_taken}
+use Rattle.lens_reports.proofs.TellLemmas.{survey_taken}
 use Rattle.lens_commands.proofs.UntilLemmas.{levels_left, refused_left}
 use Rattle.lens_commands.proofs.GatherLemmas.{file_refused, front_none, on_err_always, path_levels, path_refused, path_told, written_from}
 use Rattle.lens_commands.proofs.atlas.gather.add_path.Goals as goal

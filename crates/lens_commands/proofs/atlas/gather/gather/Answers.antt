@@ -1,8 +1,8 @@
 use Rattle.std.proofs.Common.{ℕ, List, Bor, arith, refl}
 use Rattle.std.proofs.lemmas.Result.{err_from_is_err_and}
-use Rattle.lens_commands.specs.Files.{stored}
-use Rattle.lens_commands.specs.Run.{at_start}
-use Rattle.lens_commands.proofs.TellLemmas.{told_more}
+use Rattle.lens_reports.specs.Files.{stored}
+use Rattle.lens_reports.specs.Run.{at_start}
+use Rattle.lens_reports.proofs.TellLemmas.{told_more}
 use Rattle.lens_commands.specs.Atlas.{survey_of}
 use Rattle.lens_commands.proofs.GatherLemmas.{all_more, all_none, some_stopped}
 use Rattle.lens_commands.proofs.UntilLemmas.{stopped_at}

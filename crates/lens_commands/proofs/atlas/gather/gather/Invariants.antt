@@ -1,6 +1,6 @@
 use Rattle.std.proofs.Common.{◌≡◌, true, map, take}
-use Rattle.lens_commands.specs.Files.{stored}
-use Rattle.lens_commands.specs.Run.{AreSound, ToldTo}
+use Rattle.lens_reports.specs.Files.{stored}
+use Rattle.lens_reports.specs.Run.{AreSound, ToldTo}
 use Rattle.lens_commands.specs.Atlas.{survey_of}
 use Rattle.lens_commands.specs.Gathered.{GathersAll}
 use Rattle.lens_commands.proofs.atlas.gather.gather.Given as goal

@@ -1,5 +1,5 @@
 use Rattle.std.proofs.Common.{◌≡◌, inl, inr, map, ap, ◌∙◌, refl, rules, subst}
-use Rattle.lens_commands.specs.Job.{ListUnread, job_paths}
+use Rattle.lens_reports.specs.Job.{ListUnread, job_paths}
 use Rattle.lens_commands.specs.Atlas.{RunsTaken}
 use Rattle.lens_commands.specs.Folder.{IsWhy}
 use Rattle.lens_commands.proofs.AtlasLemmas.{run_in_folder}

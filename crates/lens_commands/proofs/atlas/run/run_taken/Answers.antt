@@ -1,7 +1,7 @@
 use Rattle.std.proofs.Common.{◌≡◌, Err, inl, inr, map, ap, ◌∙◌, refl, subst}
 use Rattle.lens_engines.specs.Rules.{IsOver}
-use Rattle.lens_commands.specs.Files.{bytes_in, stored}
-use Rattle.lens_commands.proofs.BaseLemmas.{have_wads, job_bases}
+use Rattle.lens_reports.specs.Files.{bytes_in, stored}
+use Rattle.lens_reports.proofs.BaseLemmas.{have_wads, job_bases}
 use Rattle.lens_commands.proofs.atlas.run.run_taken.Goals as goal
 
 pub wads_of-requires : goal.wads_of-requires

@@ -1,0 +1,6 @@
+pub mod BaseLemmas
+mod DemosLemmas
+pub mod CutLemmas
+pub mod JobLemmas
+pub mod PathLemmas
+pub mod TellLemmas

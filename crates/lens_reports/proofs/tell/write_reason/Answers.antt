@@ -1,0 +1,19 @@
+use Rattle.std.proofs.Common.{◌++◌, codes}
+use Rattle.std.proofs.lemmas.Result.{err_from_is_err_and}
+use Rattle.line_io.proofs.WriteLemmas.{Writes-stop}
+use Rattle.lens_texts.proofs.WritingLemmas.{Writes-after, Writes-later}
+use Rattle.lens_engines.specs.Objects.{refusal_text}
+use Rattle.lens_reports.proofs.tell.write_reason.Goals as goal
+
+pub returns-in_err-emit : goal.returns-in_err-emit
+returns-in_err-emit g c =
+    let p = err_from_is_err_and c.from_residual.result c.from_residual.ensures.1 in
+    rw (p.1, p.2) (Writes-stop (refusal_text c.args.refusal ++ codes "\n") c.in_err-emit.ensures)
+
+pub returns-in_err-emit-2 : goal.returns-in_err-emit-2
+returns-in_err-emit-2 g c =
+    let p = err_from_is_err_and c.from_residual-in_err-emit-2.result c.from_residual-in_err-emit-2.ensures.1 in
+    rw (p.1, p.2, ← c.text.ensures) (Writes-later {T = Unit {0}} c.in_ok-emit.ensures (Writes-stop (codes "\n") c.in_err-emit-2.ensures))
+
+pub returns : goal.returns
+returns g c = rw (← c.text.ensures) (Writes-after c.in_ok-emit.ensures (Writes-after c.in_ok-emit-2.ensures c.emit-3.ensures))

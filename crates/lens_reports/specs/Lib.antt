@@ -1,0 +1,9 @@
+pub mod Bases
+pub mod CutJob
+pub mod DemosTold
+pub mod Files
+pub mod Job
+pub mod Output
+pub mod Paths
+pub mod Run
+pub mod Status

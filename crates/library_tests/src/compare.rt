@@ -8,5 +8,5 @@ pub(crate) fn check_same<T: PartialEq + Debug + Drop>(rt: &impl Abort, found: T,
 }
 
 pub(crate) fn check_bytes(rt: &impl Abort, found: &[u8], expected: &[u8]) {
-    assert_eq!(rt; found, expected);
+    check_same(rt, found, expected);
 }

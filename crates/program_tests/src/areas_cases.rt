@@ -3,15 +3,14 @@
 use crate::census_cases::{rect_of, shuffled, small_rect};
 use crate::compare::check_same;
 use crate::made_trees::{Shape, made_tree};
+use crate::opening::{level_of, sectors_of, tree_of};
 use crate::sample::{base, base_chain, base_two_nodes, base_with_node};
-use le_rec::Name8;
 use map_geo::Rect;
-use map_level::{Level, Reading};
-use map_tree::{Areas, Counts, SectorTree, Tally, Tree, is_sound};
-use std::alloc::Allocator;
+use map_level::Level;
+use map_tree::{Areas, Counts, SectorTree, Tally, Tree};
+use std::alloc::{Allocator, Global};
 use std::process::Abort;
 use test_alloc::Refusing;
-use wad_dir::Set;
 
 // A rectangle and its pairs.
 type Case = ([i32; 4], &'static [(u16, u32)]);
@@ -33,6 +32,27 @@ fn check_pairs<A: Allocator>(rt: &impl Abort, areas: &Areas<A>, counts: &Counts<
     check_same(rt, areas.get(counts.len()), None);
 }
 
+fn areas_of(rt: &(impl Abort + AllocGlobal), tree: &Tree<'_, '_>, rect: Rect) -> Areas<Global> {
+    tree.areas(rt.alloc(), rect)
+        .expect(rt, "no memory for the areas")
+}
+
+fn census_of(rt: &(impl Abort + AllocGlobal), tree: &Tree<'_, '_>, rect: Rect) -> Counts<Global> {
+    tree.census(rt.alloc(), rect)
+        .expect(rt, "no memory for the census")
+}
+
+// The areas in a tree whose sectors are listed.
+fn listed_areas_of<B: Allocator>(
+    rt: &(impl Abort + AllocGlobal),
+    sectors: &SectorTree<'_, '_, B>,
+    rect: Rect,
+) -> Areas<Global> {
+    sectors
+        .areas(rt.alloc(), rect)
+        .expect(rt, "no memory for the areas")
+}
+
 // Compares the areas of a rectangle with pairs, in each form, and with its census.
 fn check_case<B: Allocator>(
     rt: &(impl Abort + AllocGlobal),
@@ -42,24 +62,15 @@ fn check_case<B: Allocator>(
 ) {
     let (bounds, pairs) = case;
     let rect = rect_of(rt, bounds);
-    let areas = tree
-        .areas(rt.alloc(), rect)
-        .expect(rt, "no memory for the areas");
+    let areas = areas_of(rt, tree, rect);
     check_areas(rt, &areas, pairs);
-    let counts = tree
-        .census(rt.alloc(), rect)
-        .expect(rt, "no memory for the census");
-    check_pairs(rt, &areas, &counts);
-    let areas = sectors
-        .areas(rt.alloc(), rect)
-        .expect(rt, "no memory for the areas");
-    check_areas(rt, &areas, pairs);
+    check_pairs(rt, &areas, &census_of(rt, tree, rect));
+    check_areas(rt, &listed_areas_of(rt, sectors, rect), pairs);
 }
 
 fn check_level(rt: &(impl Abort + AllocGlobal), level: &Level<'_>, cases: &[Case]) {
-    assert!(rt; is_sound(rt.alloc(), level).expect(rt, "no memory for the tree"));
-    let tree = Tree::of(level);
-    let sectors = SectorTree::of(rt.alloc(), Tree::of(level)).expect(rt, "no memory for the tree");
+    let tree = tree_of(rt, level);
+    let sectors = sectors_of(rt, level);
     for case in cases {
         check_case(rt, &tree, &sectors, *case);
     }
@@ -67,9 +78,7 @@ fn check_level(rt: &(impl Abort + AllocGlobal), level: &Level<'_>, cases: &[Case
 
 // Opens the level of a file and compares the areas of rectangles.
 fn check_cases(rt: &(impl Abort + AllocGlobal), file: Vec<u8>, cases: &[Case]) {
-    let set = Set::one(rt.alloc(), &file).expect(rt, "a set of the file");
-    let opened = Level::open(&set, Name8::query(b"E1M1"), Reading::Signed);
-    check_level(rt, &opened.expect(rt, "a level"), cases);
+    check_level(rt, &level_of(rt, &file), cases);
 }
 
 const OF_BASE: [Case; 5] = [
@@ -120,8 +129,7 @@ fn check_made<A: Allocator + Copy>(rt: &impl Abort, tally: &mut Tally<'_, '_, A>
 
 // Compares those of 300 rectangles.
 fn check_tree(rt: &(impl Abort + AllocGlobal), level: &Level<'_>, first: u64) {
-    assert!(rt; is_sound(rt.alloc(), level).expect(rt, "no memory for the tree"));
-    let tree = SectorTree::of(rt.alloc(), Tree::of(level)).expect(rt, "no memory for the tree");
+    let tree = sectors_of(rt, level);
     let mut tally = Tally::of(rt.alloc(), &tree).expect(rt, "no memory for the tally");
     for i in 0..300u64 {
         check_made(rt, &mut tally, made_rect(rt, first ^ i));
@@ -129,9 +137,7 @@ fn check_tree(rt: &(impl Abort + AllocGlobal), level: &Level<'_>, first: u64) {
 }
 
 fn check_file(rt: &(impl Abort + AllocGlobal), file: Vec<u8>, first: u64) {
-    let set = Set::one(rt.alloc(), &file).expect(rt, "a set of the file");
-    let opened = Level::open(&set, Name8::query(b"E1M1"), Reading::Signed);
-    check_tree(rt, &opened.expect(rt, "a level"), first);
+    check_tree(rt, &level_of(rt, &file), first);
 }
 
 #[test]
@@ -166,8 +172,7 @@ fn growths_of(
 }
 
 fn check_growths(rt: &(impl Abort + AllocGlobal), level: &Level<'_>, first: u64) {
-    assert!(rt; is_sound(rt.alloc(), level).expect(rt, "no memory for the tree"));
-    let tree = Tree::of(level);
+    let tree = tree_of(rt, level);
     for i in 0..40u64 {
         let rect = made_rect(rt, first ^ i);
         let growths = growths_of(rt, &tree, rect, true);
@@ -176,9 +181,7 @@ fn check_growths(rt: &(impl Abort + AllocGlobal), level: &Level<'_>, first: u64)
 }
 
 fn check_file_growths(rt: &(impl Abort + AllocGlobal), file: Vec<u8>, first: u64) {
-    let set = Set::one(rt.alloc(), &file).expect(rt, "a set of the file");
-    let opened = Level::open(&set, Name8::query(b"E1M1"), Reading::Signed);
-    check_growths(rt, &opened.expect(rt, "a level"), first);
+    check_growths(rt, &level_of(rt, &file), first);
 }
 
 #[test]
@@ -204,8 +207,7 @@ fn is_refused(rt: &(impl Abort + AllocGlobal), tree: &Tree<'_, '_>, n: u64) -> b
 
 // Growths 1 to 5 are refused in turn, and after each one none; there is no sixth.
 fn check_refusals(rt: &(impl Abort + AllocGlobal), level: &Level<'_>) {
-    assert!(rt; is_sound(rt.alloc(), level).expect(rt, "no memory for the tree"));
-    let tree = Tree::of(level);
+    let tree = tree_of(rt, level);
     for n in 1..6 {
         assert!(rt; is_refused(rt, &tree, n));
         assert!(rt; !is_refused(rt, &tree, 0));
@@ -216,7 +218,5 @@ fn check_refusals(rt: &(impl Abort + AllocGlobal), level: &Level<'_>) {
 #[test]
 fn growth_refused(rt: HostRuntime) {
     let file = base(&rt);
-    let set = Set::one(rt.alloc(), &file).expect(&rt, "a set of the file");
-    let opened = Level::open(&set, Name8::query(b"E1M1"), Reading::Signed);
-    check_refusals(&rt, &opened.expect(&rt, "a level"));
+    check_refusals(&rt, &level_of(&rt, &file));
 }

@@ -1,6 +1,7 @@
 //! The rows and the page of an atlas, with each growth refused in turn.
 
 use crate::compare::{check_bytes, check_same, contains};
+use crate::opening::level_of;
 use crate::sample::{UDMF, base, lumps, pack_three};
 use atlas_page::{Origin, Page, Refused, Row, push_rows, write_page};
 use le_rec::{Name8, Sink};
@@ -12,7 +13,7 @@ use level_starts::Format;
 use line_io::IoFault;
 use map_level::{Level, Reading};
 use memory_streams::ToVec;
-use std::alloc::{AllocError, Allocator};
+use std::alloc::{AllocError, Allocator, Global};
 use std::process::Abort;
 use test_alloc::Refusing;
 use wad_dir::{Set, WadFault};
@@ -197,9 +198,7 @@ fn check_warned(rt: &(impl Abort + AllocGlobal), level: &Level<'_>) {
 #[test]
 fn warnings_refused(rt: HostRuntime) {
     let file = base(&rt);
-    let set = Set::one(rt.alloc(), &file).expect(&rt, "a set of the file");
-    let opened = Level::open(&set, Name8::query(b"E1M1"), Reading::Signed);
-    check_warned(&rt, &opened.expect(&rt, "a level"));
+    check_warned(&rt, &level_of(&rt, &file));
 }
 
 // The page written into a vector whose growth `n` is refused, and whether it was.
@@ -229,17 +228,23 @@ const SHOWN: [&[u8]; 5] = [
     b"<li class=\"warning\">W1 &times; 4</li>\n",
 ];
 
-fn check_page(rt: &(impl Abort + AllocGlobal), page: &Page<'_, '_>) {
+// The page, written with memory.
+fn whole_page(rt: &(impl Abort + AllocGlobal), page: &Page<'_, '_>) -> ToVec<Global> {
     let mut out = ToVec::new(rt.alloc());
     let fresh = !out.failed();
     assert!(rt; fresh);
     check_same(rt, write_page(page, &mut out), Ok(()));
+    out
+}
+
+fn check_page(rt: &(impl Abort + AllocGlobal), page: &Page<'_, '_>) {
+    let whole = whole_page(rt, page);
     for shown in SHOWN {
-        assert!(rt; contains(out.taken(), shown));
+        assert!(rt; contains(whole.taken(), shown));
     }
     let mut met = 0;
     for n in 1..99 {
-        if !page_before(rt, page, out.taken(), n) {
+        if !page_before(rt, page, whole.taken(), n) {
             break;
         }
         met = n;

@@ -2,15 +2,14 @@
 
 use crate::compare::check_same;
 use crate::findings::{NOT_REACHED, Pair, SIDE_MISSING, finding};
+use crate::opening::level_of;
 use crate::sample::{LINE_WITHOUT_SIDE_1, base, base_not_reached, base_with};
-use le_rec::Name8;
 use map_audit::{Refused, Report, accept, audit};
-use map_level::{Code, Level, Reading};
+use map_level::{Code, Level};
 use map_tree::Tree;
 use std::alloc::Allocator;
 use std::process::Abort;
 use test_alloc::Refusing;
-use wad_dir::Set;
 
 // A report has these findings, so many of them faults.
 fn check_report<A: Allocator>(
@@ -131,9 +130,7 @@ fn growths(
     expected: &[Pair],
     faults: usize,
 ) -> Met {
-    let set = Set::one(rt.alloc(), &file).expect(rt, "a set of the file");
-    let opened = Level::open(&set, Name8::query(b"E1M1"), Reading::Signed);
-    growths_at(rt, &opened.expect(rt, "a level"), expected, faults)
+    growths_at(rt, &level_of(rt, &file), expected, faults)
 }
 
 #[test]

@@ -2,16 +2,16 @@
 
 use crate::compare::{check_bytes, check_same};
 use crate::findings::{NOT_REACHED, finding};
+use crate::opening::level_of;
 use crate::sample::{base, base_not_reached};
 use demo_lump::{DemoFault, StreamFault};
 use examples::{
     ExchangeFault, commands_firing, first_fault, full_tics, points_in_sector, sectors_of_things,
     with_lump,
 };
-use le_rec::Name8;
 use map_audit::sound_tree;
 use map_geo::Rect;
-use map_level::{Finding, Level, Reading};
+use map_level::{Finding, Level};
 use std::alloc::Allocator;
 use std::process::Abort;
 use test_streams::SliceSource;
@@ -71,9 +71,7 @@ struct Told {
 
 // Compares what is told of the level E1M1 of a file.
 fn check_told(rt: &(impl Abort + AllocGlobal), file: &[u8], expected: Told) {
-    let set = Set::one(rt.alloc(), file).expect(rt, "a set of the file");
-    let opened = Level::open(&set, Name8::query(b"E1M1"), Reading::Signed);
-    let level = opened.expect(rt, "a level");
+    let level = level_of(rt, file);
     let fault = first_fault(rt.alloc(), &level).expect(rt, NO_MEMORY);
     check_same(rt, fault, expected.fault);
     check_same(rt, first_thing(rt, &level), expected.thing);

@@ -1,15 +1,14 @@
 //! Censuses of rectangles: counts and work, each growth refused in turn, and a plain loop over points.
 
 use crate::compare::check_same;
+use crate::opening::{level_of, tree_of};
 use crate::sample::{base, base_chain, base_two_nodes, base_with, base_with_node};
-use le_rec::Name8;
 use map_geo::{Point, Rect};
-use map_level::{Level, Reading};
-use map_tree::{Counts, Tree, is_sound};
+use map_level::Level;
+use map_tree::{Counts, Tree};
 use std::alloc::Allocator;
 use std::process::Abort;
 use test_alloc::Refusing;
-use wad_dir::Set;
 
 // A rectangle, the pairs of its census, and its tests and pending pieces.
 type Case = ([i32; 4], &'static [(u16, u32)], (u64, u32));
@@ -39,8 +38,7 @@ fn check_census(rt: &(impl Abort + AllocGlobal), tree: &Tree<'_, '_>, case: Case
 }
 
 fn check_level(rt: &(impl Abort + AllocGlobal), level: &Level<'_>, cases: &[Case]) {
-    assert!(rt; is_sound(rt.alloc(), level).expect(rt, "no memory for the tree"));
-    let tree = Tree::of(level);
+    let tree = tree_of(rt, level);
     for case in cases {
         check_census(rt, &tree, *case);
     }
@@ -48,9 +46,7 @@ fn check_level(rt: &(impl Abort + AllocGlobal), level: &Level<'_>, cases: &[Case
 
 // Opens the level of a file and compares the censuses of rectangles.
 fn check_censuses(rt: &(impl Abort + AllocGlobal), file: Vec<u8>, cases: &[Case]) {
-    let set = Set::one(rt.alloc(), &file).expect(rt, "a set of the file");
-    let opened = Level::open(&set, Name8::query(b"E1M1"), Reading::Signed);
-    check_level(rt, &opened.expect(rt, "a level"), cases);
+    check_level(rt, &level_of(rt, &file), cases);
 }
 
 // The accepted level without nodes.
@@ -129,8 +125,7 @@ pub fn small_rect(rt: &impl Abort, seed: u64) -> Rect {
 
 // Compares the censuses of 400 rectangles with plain counts.
 fn check_tree(rt: &(impl Abort + AllocGlobal), level: &Level<'_>, first: u64) {
-    assert!(rt; is_sound(rt.alloc(), level).expect(rt, "no memory for the tree"));
-    let tree = Tree::of(level);
+    let tree = tree_of(rt, level);
     for i in 0..400u64 {
         check_plain(rt, &tree, small_rect(rt, first ^ i));
     }
@@ -138,9 +133,7 @@ fn check_tree(rt: &(impl Abort + AllocGlobal), level: &Level<'_>, first: u64) {
 
 // Compares those of a file's level.
 fn check_all_plain(rt: &(impl Abort + AllocGlobal), file: Vec<u8>, first: u64) {
-    let set = Set::one(rt.alloc(), &file).expect(rt, "a set of the file");
-    let opened = Level::open(&set, Name8::query(b"E1M1"), Reading::Signed);
-    check_tree(rt, &opened.expect(rt, "a level"), first);
+    check_tree(rt, &level_of(rt, &file), first);
 }
 
 #[test]
@@ -165,8 +158,7 @@ fn is_refused(rt: &(impl Abort + AllocGlobal), tree: &Tree<'_, '_>, n: u64) -> b
 
 // Growths 1 to 5 are refused in turn, and after each one none; there is no sixth.
 fn check_growths(rt: &(impl Abort + AllocGlobal), level: &Level<'_>) {
-    assert!(rt; is_sound(rt.alloc(), level).expect(rt, "no memory for the tree"));
-    let tree = Tree::of(level);
+    let tree = tree_of(rt, level);
     for n in 1..6 {
         assert!(rt; is_refused(rt, &tree, n));
         assert!(rt; !is_refused(rt, &tree, 0));
@@ -177,7 +169,5 @@ fn check_growths(rt: &(impl Abort + AllocGlobal), level: &Level<'_>) {
 #[test]
 fn growth_refused(rt: HostRuntime) {
     let file = base(&rt);
-    let set = Set::one(rt.alloc(), &file).expect(&rt, "a set of the file");
-    let opened = Level::open(&set, Name8::query(b"E1M1"), Reading::Signed);
-    check_growths(&rt, &opened.expect(&rt, "a level"));
+    check_growths(&rt, &level_of(&rt, &file));
 }

@@ -1,16 +1,16 @@
 //! Pictures of levels as texts, with each growth refused in turn.
 
 use crate::compare::{check_bytes, check_same, contains};
+use crate::opening::level_of;
 use crate::sample::{LINE_WITHOUT_SIDE_1, base, base_with};
-use le_rec::{Name8, Sink};
+use le_rec::Sink;
 use map_cells::{CellCount, Frame};
-use map_level::{Level, Reading};
+use map_level::Level;
 use map_picture::{DrawFault, View, draw_level};
 use memory_streams::ToVec;
 use std::alloc::Allocator;
 use std::process::Abort;
 use test_alloc::Refusing;
-use wad_dir::Set;
 
 // Draws into an output that hasn't failed.
 fn draw<A: Allocator + Copy>(
@@ -109,20 +109,11 @@ fn check_file(
     faulty: bool,
     spared: u32,
 ) {
-    let set = Set::one(rt.alloc(), file).expect(rt, "a set of the file");
-    let opened = Level::open(&set, Name8::query(b"E1M1"), Reading::Signed);
     let view = View {
         frame: Frame::new(-64, 0, 63, 127),
         cells: CellCount::new(16).expect(rt, "so many cells"),
     };
-    check_level(
-        rt,
-        &opened.expect(rt, "a level"),
-        &view,
-        lines,
-        faulty,
-        spared,
-    );
+    check_level(rt, &level_of(rt, file), &view, lines, faulty, spared);
 }
 
 // Sixteen by sixteen cells of eight map units: the sample level's linedef is in their middle, and each sector has a half.
@@ -150,9 +141,7 @@ fn faulty_level(rt: HostRuntime) {
 #[test]
 fn nothing_to_draw(rt: HostRuntime) {
     let file = base_with(&rt, &[(2, &[])]);
-    let set = Set::one(rt.alloc(), &file).expect(&rt, "a set of the file");
-    let opened = Level::open(&set, Name8::query(b"E1M1"), Reading::Signed);
-    let level = opened.expect(&rt, "a level");
+    let level = level_of(&rt, &file);
     let heap = Refusing::new(rt.alloc(), 1);
     let mut out = ToVec::new(rt.alloc());
     let view = View {

@@ -3,9 +3,10 @@
 
 use crate::compare::{check_bytes, check_same};
 use crate::demo_cases::TWO;
+use crate::opening::level_of;
 use crate::sample::{LINE_WITHOUT_SIDE_1, base, base_with, pack};
 use demo_engines::{AtOnce, DemoQuestion, DemosFault, Unwatched, demos_file};
-use le_rec::{Name8, Sink};
+use le_rec::Sink;
 use lens_engines::{
     Base, CodeCounts, CutFault, Ignored, Rules, Warned, Warnings, asked_warnings, cut_level,
     warned_total, warnings_of,
@@ -17,7 +18,6 @@ use std::alloc::Allocator;
 use std::process::Abort;
 use test_alloc::Refusing;
 use test_streams::SliceSink;
-use wad_dir::Set;
 
 // How many faults and notes a level has; None where a growth was refused.
 fn counted(rt: &(impl Abort + AllocGlobal), level: &Level<'_>, n: u64) -> Option<(u64, u64)> {
@@ -92,9 +92,7 @@ fn check_counts(rt: &(impl Abort + AllocGlobal), level: &Level<'_>) {
 #[test]
 fn counts_refused(rt: HostRuntime) {
     let file = base_with(&rt, &[(2, &LINE_WITHOUT_SIDE_1)]);
-    let set = Set::one(rt.alloc(), &file).expect(&rt, "a set of the file");
-    let opened = Level::open(&set, Name8::query(b"E1M1"), Reading::Signed);
-    check_counts(&rt, &opened.expect(&rt, "a level"));
+    check_counts(&rt, &level_of(&rt, &file));
 }
 
 fn check_warnings(rt: &(impl Abort + AllocGlobal), level: &Level<'_>) {
@@ -121,9 +119,7 @@ fn check_warnings(rt: &(impl Abort + AllocGlobal), level: &Level<'_>) {
 #[test]
 fn warnings_refused(rt: HostRuntime) {
     let file = base(&rt);
-    let set = Set::one(rt.alloc(), &file).expect(&rt, "a set of the file");
-    let opened = Level::open(&set, Name8::query(b"E1M1"), Reading::Signed);
-    check_warnings(&rt, &opened.expect(&rt, "a level"));
+    check_warnings(&rt, &level_of(&rt, &file));
 }
 
 // Whether cutting the level at entry 0 met growth `n` refused: then nothing was written.

@@ -46,6 +46,8 @@ mod made_trees;
 #[cfg(test)]
 mod memory;
 #[cfg(test)]
+mod opening;
+#[cfg(test)]
 mod picture_cases;
 #[cfg(test)]
 mod refusal_words;

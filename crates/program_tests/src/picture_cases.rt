@@ -3,15 +3,14 @@
 ghost use Rattle.map_tree.specs.Sound.{IsSound};
 
 use crate::compare::check_same;
+use crate::opening::level_of;
 use crate::sample::{SEGS, base, base_with};
-use le_rec::Name8;
 use map_cells::{Block, CellCount, Cells, Frame, Grid, Groups, SectorCounts, Shown};
-use map_level::{Level, Reading};
+use map_level::Level;
 use map_tree::is_sound;
 use std::alloc::{AllocError, Allocator};
 use std::process::Abort;
 use test_alloc::Refusing;
-use wad_dir::Set;
 
 // The outcome of a call with one growth to be refused: it returned `Memory`, it did without the growth, or it met none.
 #[derive(Clone, Copy, Debug, PartialEq, Eq)]
@@ -100,9 +99,7 @@ fn check_outcomes(
     drawing: Drawing,
     expected: &[Outcome],
 ) {
-    let set = Set::one(rt.alloc(), &file).expect(rt, "a set of the file");
-    let opened = Level::open(&set, Name8::query(b"E1M1"), Reading::Signed);
-    check_level(rt, &opened.expect(rt, "a level"), drawing, expected);
+    check_level(rt, &level_of(rt, &file), drawing, expected);
 }
 
 // The sectors of the ssectors are listed, then there are the cells, and then the ends of the segs.
@@ -227,7 +224,5 @@ fn check_square(rt: &(impl Abort + AllocGlobal), level: &Level<'_>) {
 #[test]
 fn growths_of_groups(rt: HostRuntime) {
     let file = base(&rt);
-    let set = Set::one(rt.alloc(), &file).expect(&rt, "a set of the file");
-    let opened = Level::open(&set, Name8::query(b"E1M1"), Reading::Signed);
-    check_square(&rt, &opened.expect(&rt, "a level"));
+    check_square(&rt, &level_of(&rt, &file));
 }

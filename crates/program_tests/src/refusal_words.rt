@@ -1,16 +1,17 @@
 //! What the libraries' errors say in words.
 
+use crate::opening::level_of;
 use crate::sample::{LINE_WITHOUT_SIDE_1, base_with};
 use demo_lump::{DemoFault, StreamFault};
-use le_rec::{EndFault, Name8};
+use le_rec::EndFault;
 use line_io::IoFault;
 use map_audit::{Refused, accept};
-use map_level::{Level, LevelFault, Reading};
+use map_level::LevelFault;
 use map_tables::BlockFault;
 use std::alloc::Global;
 use std::error::Error;
 use std::process::Abort;
-use wad_dir::{LumpFault, PackFault, Set, SetFault, WadFault};
+use wad_dir::{LumpFault, PackFault, SetFault, WadFault};
 
 fn check_words(rt: &(impl Abort + AllocGlobal), fault: impl Error + Drop, words: &str) {
     let said = format!(in rt.alloc(); "{fault}").expect(rt, "no memory for the words");
@@ -99,9 +100,7 @@ fn failed_ends(rt: HostRuntime) {
 
 // What the refusal of a file's level E1M1 says.
 fn check_refused(rt: &(impl Abort + AllocGlobal), file: &[u8], words: &str) {
-    let set = Set::one(rt.alloc(), file).expect(rt, "a set of the file");
-    let opened = Level::open(&set, Name8::query(b"E1M1"), Reading::Signed);
-    let level = opened.expect(rt, "a level");
+    let level = level_of(rt, file);
     match accept(rt.alloc(), &level) {
         Ok(_) => assert!(rt; false, "accepted"),
         Err(refused) => check_words(rt, refused, words),

@@ -2,13 +2,12 @@
 
 use crate::compare::check_same;
 use crate::findings::finding;
+use crate::opening::level_of;
 use crate::sample::{LINE_WITHOUT_SIDE_1, base, base_not_reached, base_with};
-use le_rec::Name8;
-use map_level::{Code, Finding, Level, Reading};
+use map_level::{Code, Finding, Level};
 use map_tables::{Reject, table_findings};
 use std::process::Abort;
 use test_alloc::Refusing;
-use wad_dir::Set;
 
 const REJECT: usize = 9;
 
@@ -48,9 +47,7 @@ fn check_growths(
     refused: [bool; 3],
     expected: &[Finding],
 ) {
-    let set = Set::one(rt.alloc(), &file).expect(rt, "a set of the file");
-    let opened = Level::open(&set, Name8::query(b"E1M1"), Reading::Signed);
-    let level = opened.expect(rt, "a level");
+    let level = level_of(rt, &file);
     assert!(rt; is_refused(rt, &level, 0, expected) == refused[0]);
     assert!(rt; is_refused(rt, &level, 1, expected) == refused[1]);
     assert!(rt; is_refused(rt, &level, 2, expected) == refused[2]);

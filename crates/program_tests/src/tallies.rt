@@ -2,15 +2,14 @@
 //! growth.
 
 use crate::compare::check_same;
+use crate::opening::{level_of, sectors_of};
 use crate::sample::base;
-use le_rec::Name8;
 use map_geo::Rect;
-use map_level::{Level, Reading};
-use map_tree::{Counts, SectorTree, Tally, Tree, is_sound};
+use map_level::Level;
+use map_tree::{Counts, SectorTree, Tally};
 use std::alloc::Allocator;
 use std::process::Abort;
 use test_alloc::Refusing;
-use wad_dir::Set;
 
 // Rectangles and the pairs of their censuses.
 const CASES: [([i32; 4], &[(u16, u32)]); 4] = [
@@ -86,15 +85,12 @@ fn check_growths<B: Allocator>(rt: &(impl Abort + AllocGlobal), tree: &SectorTre
 }
 
 fn check_level(rt: &(impl Abort + AllocGlobal), level: &Level<'_>) {
-    assert!(rt; is_sound(rt.alloc(), level).expect(rt, "no memory for the tree"));
-    let tree = SectorTree::of(rt.alloc(), Tree::of(level)).expect(rt, "no memory for the tree");
+    let tree = sectors_of(rt, level);
     check_growths(rt, &tree);
 }
 
 #[test]
 fn one_tally(rt: HostRuntime) {
     let file = base(&rt);
-    let set = Set::one(rt.alloc(), &file).expect(&rt, "a set of the file");
-    let opened = Level::open(&set, Name8::query(b"E1M1"), Reading::Signed);
-    check_level(&rt, &opened.expect(&rt, "a level"));
+    check_level(&rt, &level_of(&rt, &file));
 }

@@ -2,17 +2,17 @@
 
 use crate::compare::check_same;
 use crate::findings::{NOT_REACHED, Pair, check_list};
+use crate::opening::{level_of, tree_of};
 use crate::sample::{
     LINE_WITHOUT_SIDE_1, base, base_chain, base_not_reached, base_two_nodes, base_with,
 };
-use le_rec::{Name8, Node, Record};
+use le_rec::{Node, Record};
 use map_geo::Point;
-use map_level::{Level, Reading};
-use map_tree::{Tree, is_sound, tree_findings};
+use map_level::Level;
+use map_tree::{Tree, tree_findings};
 use std::alloc::{AllocError, Global};
 use std::process::Abort;
 use test_alloc::Refusing;
-use wad_dir::Set;
 
 // A node of these first four fields and children.
 fn node(line: [i16; 4], children: [u16; 2]) -> Node {
@@ -53,8 +53,7 @@ fn check_leaf(rt: &impl Abort, tree: &Tree<'_, '_>, expected: Case) {
 }
 
 fn check_level(rt: &(impl Abort + AllocGlobal), level: &Level<'_>, expected: &[Case]) {
-    assert!(rt; is_sound(rt.alloc(), level).expect(rt, "no memory for the tree"));
-    let tree = Tree::of(level);
+    let tree = tree_of(rt, level);
     for case in expected {
         check_leaf(rt, &tree, *case);
     }
@@ -62,9 +61,7 @@ fn check_level(rt: &(impl Abort + AllocGlobal), level: &Level<'_>, expected: &[C
 
 // Opens the level of a file and compares the leaves and sectors of points.
 fn check_leaves(rt: &(impl Abort + AllocGlobal), file: Vec<u8>, expected: &[Case]) {
-    let set = Set::one(rt.alloc(), &file).expect(rt, "a set of the file");
-    let opened = Level::open(&set, Name8::query(b"E1M1"), Reading::Signed);
-    check_level(rt, &opened.expect(rt, "a level"), expected);
+    check_level(rt, &level_of(rt, &file), expected);
 }
 
 #[test]
@@ -170,9 +167,7 @@ fn check_growths_at(
 }
 
 fn check_growths(rt: &(impl Abort + AllocGlobal), file: Vec<u8>, growths: u8, expected: &[Pair]) {
-    let set = Set::one(rt.alloc(), &file).expect(rt, "a set of the file");
-    let opened = Level::open(&set, Name8::query(b"E1M1"), Reading::Signed);
-    check_growths_at(rt, &opened.expect(rt, "a level"), growths, expected);
+    check_growths_at(rt, &level_of(rt, &file), growths, expected);
 }
 
 #[test]

@@ -3,6 +3,7 @@
 
 use crate::compare::check_same;
 use crate::line_levels::{Ends, base_with_lines, round, round_and};
+use crate::opening::level_of;
 use crate::sample::{base, base_with, lumps, pack_both};
 use le_rec::Name8;
 use map_level::{Level, Reading};
@@ -280,7 +281,5 @@ fn check_growths(rt: &(impl Abort + AllocGlobal), level: &Level<'_>) {
 #[test]
 fn looked_over(rt: HostRuntime) {
     let file = base(&rt);
-    let set = Set::one(rt.alloc(), &file).expect(&rt, "a set of the file");
-    let opened = Level::open(&set, Name8::query(b"E1M1"), Reading::Signed);
-    check_growths(&rt, &opened.expect(&rt, "a level"));
+    check_growths(&rt, &level_of(&rt, &file));
 }

@@ -1,5 +1,4 @@
-//! The commands of `wadlens` that make something of their own, over any files, readers, writers and folders: a picture of a level, an
-//! atlas, two demos compared, and a demo from its listing.
+//! The commands `picture`, `atlas`, `compare` and `assemble` of `wadlens`, over any files, readers, writers and folders.
 #![tactic(auto)]
 
 mod assemble;

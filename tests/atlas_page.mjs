@@ -6,25 +6,19 @@ import { join } from 'node:path';
 import { inflateSync } from 'node:zlib';
 import { Browser, chromium } from '../web/test/browser.mjs';
 import { oneMistaken, rooms, twoOverlooked, wad } from '../web/test/wads.mjs';
+import { addUp, check, programs, skipped } from './harness.mjs';
 
-const [root, ...rest] = process.argv.slice(2);
+const rest = process.argv.slice(2);
 /** @param {string} name @returns {string | undefined} */
 const option = (name) => (rest.includes(name) ? rest.splice(rest.indexOf(name), 2)[1] : undefined);
 const pictures = option('--pictures'), games = option('--games');
-const program = rest[0] ?? join(root, 'crates/wadlens/out/wadlens');
+const program = rest[0] ?? programs.wadlens;
 const room = mkdtempSync(join(tmpdir(), 'atlas-'));
 
 /** Of which atlas the cases are. */
 let atlasName = '';
-let passed = 0, failed = 0;
 /** @param {string} name @param {unknown} came @param {unknown} [wanted] */
-function is(name, came, wanted = true) {
-  if (JSON.stringify(came) === JSON.stringify(wanted)) passed += 1;
-  else {
-    failed += 1;
-    console.log(`FAILED ${atlasName}: ${name}\n  wanted ${JSON.stringify(wanted)}\n  came   ${JSON.stringify(came)}`);
-  }
-}
+const is = (name, came, wanted = true) => check(`${atlasName}: ${name}`, came, wanted);
 
 /** Small files, which are made: a name that is markup, faults, warnings, levels that aren't judged, one without a picture, none at all. */
 function smallFiles() {
@@ -55,7 +49,7 @@ function atlases() {
   if (games) return [['games', gamesIn(games)]];
   const folder = process.env.FREEDOOM || '/usr/share/games/doom', given = gamesIn(folder);
   if (given.every((path) => existsSync(path))) return [['small', smallFiles()], ['games', given]];
-  console.log(`skipped, as there are no freedoom1.wad, freedoom2.wad and freedm.wad in ${folder}: the page of many levels`);
+  skipped(`there are no freedoom1.wad, freedoom2.wad and freedm.wad in ${folder}`, 'the page of many levels');
   return [['small', smallFiles()]];
 }
 
@@ -193,7 +187,7 @@ async function follow(browser) {
   await browser.screen(1200, 900, 'light');
   await browser.press('a.map');
   await browser.until(`location.pathname.endsWith('/${first}') && document.documentElement.localName === 'svg'`, 'a click shows the picture');
-  passed += 1;
+  is('a click on it', true);
 }
 
 try {
@@ -207,5 +201,4 @@ try {
 } finally {
   rmSync(room, { recursive: true, force: true, maxRetries: 5 });
 }
-console.log(`${passed} passed, ${failed} failed`);
-process.exitCode = failed ? 1 : 0;
+process.exitCode = addUp();

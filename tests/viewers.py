@@ -9,6 +9,8 @@ from collections.abc import Callable, Iterator
 from pathlib import Path
 from typing import NamedTuple
 
+from harness import PROGRAMS, add_up, check, skipped
+
 WIDTH = 1000
 """How wide the pictures are shown, in pixels."""
 PLACES = 10
@@ -195,22 +197,20 @@ def view_of(picture: str) -> tuple[int, int, int, int]:
     return int(left), int(top), int(width), int(height)
 
 
-def judged(image: Image, view: tuple[int, int, int, int], place: Place, what: str) -> bool:
-    """Whether a picture shows a place in its grey."""
+def judge(image: Image, view: tuple[int, int, int, int], place: Place, what: str) -> None:
+    """Checks that a picture shows a place in its grey."""
     left, top, width, _ = view
     scale = WIDTH / width
     came = image.at(int((place.x - left) * scale), int((-place.y - top) * scale))
     wanted = shade(place.light)
-    if all(abs(a - b) <= 1 for a, b in zip(came, wanted, strict=True)):
-        return True
-    print(f"FAILED {what}: ({place.x}, {place.y}) is shown as {came}, its sector is {wanted}")
-    return False
+    is_grey = all(abs(a - b) <= 1 for a, b in zip(came, wanted, strict=True))
+    check(f"{what}: ({place.x}, {place.y}) is shown as {came}, its sector is {wanted}", is_grey)
 
 
 def main() -> int:
     root, games, folder, room = (Path(word) for word in sys.argv[1:5])
     folder.mkdir(parents=True, exist_ok=True)
-    look, lens = (root / "crates" / name / "out" / name for name in ("wadlook", "wadlens"))
+    look, lens = Path(PROGRAMS["wadlook"]), Path(PROGRAMS["wadlens"])
     levels = [("E1M1", games / "freedoom1.wad", CLEAR, 64, []), ("MAP01", games / "freedoom2.wad", CLEAR, 64, [])]
     levels = [level for level in levels if level[1].exists()]
     if not levels:
@@ -218,8 +218,7 @@ def main() -> int:
         levels = [("E1M1", root / "sample" / "base.wad", FREE, 16, ["--frame", "-200,-200,200,200"])]
     found = programs()
     for name in VIEWERS.keys() - found.keys():
-        print(f"skipped, as there is no {name}: the pictures in it")
-    passed = failed = 0
+        skipped(f"there is no {name}", "the pictures in it")
     for name, wad, clear, step, words in levels:
         text = ask(lens, ["picture", *words, name, str(wad)])
         picture = room / f"{name}.svg"
@@ -231,10 +230,9 @@ def main() -> int:
             shown = folder / f"{name}-{viewer}.png"
             VIEWERS[viewer].shows(program, picture, WIDTH, height, shown)
             image = decoded(shown)
-            right = sum(judged(image, view, place, f"{name} in {viewer}") for place in chosen)
-            passed, failed = passed + right, failed + len(chosen) - right
-    print(f"{passed} passed, {failed} failed")
-    return 1 if failed else 0
+            for place in chosen:
+                judge(image, view, place, f"{name} in {viewer}")
+    return add_up()
 
 
 sys.exit(main())

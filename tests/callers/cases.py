@@ -9,17 +9,10 @@ import sys
 from array import array
 
 import wadlook
+from harness import add_up, check
 from wadlook import NOWHERE, Block, Command, Place, Status, Wad, WadlookError
 
-passed = failed = 0
 SIDEDEFS, NODES, REJECT, BLOCKMAP, DIRECTORY = 36, 136, 216, 217, 233
-
-
-def check(name, holds):
-    global passed, failed
-    passed, failed = passed + bool(holds), failed + (not holds)
-    if not holds:
-        print("FAILED", name)
 
 
 def refused(status, call, *words):
@@ -229,5 +222,4 @@ def numpy_cases(path):
 
 cases(sys.argv[1])
 numpy_cases(sys.argv[1])
-print(f"{passed} passed, {failed} failed")
-sys.exit(failed != 0)
+sys.exit(add_up())

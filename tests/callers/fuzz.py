@@ -11,13 +11,14 @@ from array import array
 from functools import cached_property
 
 import wadlook
+from harness import add_up, each_seeded
 from plain import demos, look
 from plain.cases import case
 from plain.levels import Level, is_in_range, opening_fault
 from plain.wads import entries, lump, packed, refusal, winner
 from wadlook import NOWHERE, Block, Command, Demo, Finding, Lump, Place, Status, Wad, WadlookError
 
-CASES, SEED, MOST_TOLD = 400, 1, 20
+CASES, SEED = 400, 1
 WAD_STATUS = {1: Status.SHORT, 2: Status.MAGIC, 3: Status.COUNT, 4: Status.DIRECTORY}
 LEVEL_STATUS = {"F1": Status.LUMP_MISSING, "F2": Status.LUMP_OUTSIDE}
 LIST_STATUS = {1: Status.OFFSET_OUTSIDE, 2: Status.NO_END}
@@ -281,17 +282,8 @@ def judge(seed, number):
 
 def main(words):
     count, seed, first = [int(word) for word in words] + [CASES, SEED, 0][len(words) :]
-    passed = failed = 0
-    for number in range(first, first + count):
-        if judge(seed, number):
-            passed += 1
-        else:
-            failed += 1
-        if failed == MOST_TOLD:
-            print("and so on: the cases after this one weren't run")
-            break
-    print(f"{passed} passed, {failed} failed")
-    return failed != 0
+    each_seeded(judge, count, seed, first)
+    return add_up()
 
 
 sys.exit(main(sys.argv[1:]))

@@ -459,7 +459,7 @@ cases_of_wrong_lines() {
 
 # The demos of Freedoom 0.12.1, where it is there, four in each file: each is told by its length, is listed, put together again, and compared.
 cases_of_games() {
-    local games=${FREEDOOM:-/usr/share/games/doom} look=$root/crates/wadlook/out/wadlook file at size name count=0 wanted=0
+    local games=${FREEDOOM:-/usr/share/games/doom} look=$WADLOOK file at size name count=0 wanted=0
     if [[ ! -f $games/freedoom1.wad || ! -x $look ]]; then
         printf 'skipped, as there is no Freedoom or no wadlook: its demos\n'
         return

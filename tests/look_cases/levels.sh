@@ -90,9 +90,9 @@ cases_of_accept() {
     answers two_nodes '1 5\n1 10\n0 5\n1 11\n' \
         '1 5 sector 0 ssector 0\n1 10 sector 0 ssector 0\n0 5 sector 1 ssector 1\n1 11 sector 1 ssector 2\n' \
         points E1M1 two_nodes.wad
-    local near='1 5 sector 0 ssector 0\n' far='1 11 sector 1 ssector 2\n' behind='0 5 sector 1 ssector 1\n'
+    local near='1 5 sector 0 ssector 0\n' far='1 11 sector 1 ssector 2\n' past='0 5 sector 1 ssector 1\n'
     answers 'two_nodes: depths side by side' '1 5\n1 11\n0 5\n1 5\n0 5\n0 5\n0 5\n1 11\n0 5\n1 5\n' \
-        "$near$far$behind$near$behind$behind$behind$far$behind$near" points E1M1 two_nodes.wad
+        "$near$far$past$near$past$past$past$far$past$near" points E1M1 two_nodes.wad
     answers chain '1 5\n0 5\n' '1 5 sector 0 ssector 0\n0 5 sector 0 ssector 32767\n' points E1M1 chain.wad
     local first='1 5 sector 0 ssector 0\n' last='0 5 sector 0 ssector 32767\n'
     answers 'chain: depths side by side' '0 5\n0 5\n1 5\n1 5\n0 5\n' "$last$last$first$first$last" points E1M1 chain.wad

@@ -3,7 +3,6 @@ status, standard output, standard error and folders are compared with what a pla
 of the definitions gives. The last line is `N passed, M failed`. With --json first the cases
 are written down for the page's module."""
 
-import os
 import shlex
 import shutil
 import subprocess
@@ -11,6 +10,7 @@ import sys
 import tempfile
 from pathlib import Path
 
+from harness import PROGRAMS, TOP, add_up, each_seeded
 from plain import memory
 from plain.cases import Case, case, wanted
 from plain.look import Answer
@@ -18,9 +18,7 @@ from plain.page import events_of
 from plain.runs import Run
 from plain.wadlens import MISTAKEN
 
-ROOT = Path(__file__).resolve().parent.parent.parent
-CASES, SEED, MOST_TOLD, SECONDS = 800, 1, 20, 120
-PROGRAMS = {name: os.environ.get(name.upper(), str(ROOT / f"crates/{name}/out/{name}")) for name in ("wadlook", "wadlens")}
+CASES, SEED, SECONDS = 800, 1, 120
 
 
 def gathered(folder: Path) -> dict[str, bytes] | None:
@@ -81,7 +79,7 @@ def names_in(answer: Answer) -> bytes:
 
 def keep(seed: int, number: int, found: Case, run: Run, want: Answer) -> Path:
     """A folder with the files of a case, a run's input and what is wanted of it."""
-    folder = ROOT / f"out/fuzz/{seed}-{number}"
+    folder = TOP / f"out/fuzz/{seed}-{number}"
     folder.mkdir(parents=True, exist_ok=True)
     write_files(found, str(folder))
     (folder / "input").write_bytes(run.given)
@@ -133,17 +131,8 @@ def main(words: list[str]) -> int:
         if shutil.which(program) is None:
             print(f"tests/fuzz: there is no program {program}\n0 passed, 1 failed")
             return 1
-    passed = failed = 0
-    for number in range(first, first + count):
-        if judge(seed, number):
-            passed += 1
-        else:
-            failed += 1
-        if failed == MOST_TOLD:
-            print("and so on: the cases after this one weren't run")
-            break
-    print(f"{passed} passed, {failed} failed")
-    return 0 if failed == 0 else 1
+    each_seeded(judge, count, seed, first)
+    return add_up()
 
 
 if __name__ == "__main__":

@@ -5,6 +5,7 @@ import { spawnSync } from 'node:child_process';
 import { tmpdir } from 'node:os';
 import { join } from 'node:path';
 import { pathToFileURL } from 'node:url';
+import { addUp, check as same, count, fail } from '../../tests/harness.mjs';
 import { byWords } from './asked.mjs';
 import { seeded } from './engine_fuzz.mjs';
 import { refusals } from './engine_refusals.mjs';
@@ -21,7 +22,6 @@ const run = byWords(host);
 
 const room = mkdtempSync(join(tmpdir(), 'engine-'));
 process.on('exit', () => rmSync(room, { recursive: true, force: true }));
-let passed = 0, failed = 0;
 
 /** The files that cases name. */
 const base = readFileSync(sample), names = new Map();
@@ -47,22 +47,8 @@ const native = (program, words, input) => spawnSync(program, words, { cwd: room,
 
 /** Compares a run of a program with that of the module, of which `reason` is told besides. */
 function compare(words, program, page, reason) {
-  if (page.status === program.status && program.stdout.equals(page.answer) && program.stderr.toString() === reason) {
-    passed++;
-    return;
-  }
-  failed++;
-  console.log(`FAILED ${words.join(' ')}\n`, page.status, program.status, reason, program.stderr.toString());
-}
-
-/** @param {string} what @param {unknown} came @param {unknown} wanted */
-function same(what, came, wanted) {
-  if (JSON.stringify(came) === JSON.stringify(wanted)) {
-    passed++;
-    return;
-  }
-  failed++;
-  console.log(`FAILED ${what}\n`, came, wanted);
+  if (page.status === program.status && program.stdout.equals(page.answer) && program.stderr.toString() === reason) count(true);
+  else fail(`${words.join(' ')}\n`, page.status, program.status, reason, program.stderr.toString());
 }
 
 /** Compares a run of words of `wadlook`; those of `paths` are files. */
@@ -204,8 +190,5 @@ for (const [name, bytes] of workedDemos()) {
 for (const path of ['base.wad', ...Array.from({ length: 40 }, (_, i) => `damaged${i}.wad`)]) await draws(path);
 await drawsOddLabel();
 for (const path of [...names.keys()].filter((name) => name.endsWith('.wad'))) await lists(path);
-const fuzzed = await seeded(process.stdin, run);
-passed += fuzzed.passed;
-failed += fuzzed.failed;
-console.log(`${passed} passed, ${failed} failed`);
-process.exitCode = failed ? 1 : 0;
+await seeded(process.stdin, run);
+process.exitCode = addUp();

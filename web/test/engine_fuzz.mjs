@@ -1,5 +1,6 @@
 // Seeded cases beside a plain reading of the definitions: lines of JSON, as `tests/fuzz --json` writes them, a case each.
 import { createInterface } from 'node:readline';
+import { count } from '../../tests/harness.mjs';
 import { isLens } from './asked.mjs';
 
 /** @typedef {import('../wad_page.mjs').Ended} Ended */
@@ -51,17 +52,17 @@ async function judge(one, run) {
 }
 
 /**
- * Judges the cases of a stream of lines.
+ * Judges and counts the cases of a stream of lines.
  * @param {NodeJS.ReadableStream} lines @param {Run} run
  */
 export async function seeded(lines, run) {
-  let passed = 0, failed = 0;
+  let failed = 0;
   for await (const line of createInterface(lines)) {
-    if (await judge(JSON.parse(line), run)) passed++;
-    else if (++failed === MOST_TOLD) {
+    const holds = await judge(JSON.parse(line), run);
+    count(holds);
+    if (!holds && ++failed === MOST_TOLD) {
       console.log("and so on: the cases after this one weren't run");
       break;
     }
   }
-  return { passed, failed };
 }

@@ -9,9 +9,10 @@ import { games } from './page_games.mjs';
 import { mapper } from './page_mapper.mjs';
 import {
   browser, built, check, drawn, drawnAnew, dropRooms, filterBy, fresh, hasInk, isHidden, isNative, judged, legend, options, pick, pictures, pinAt,
-  pinBy, placeOf, pointTold, printed, programs, room, roomsFile, root, saved, server, tally, textOf, textsOf, twoRooms, valueOf, viewOf,
+  pinBy, placeOf, pointTold, printed, programs, room, roomsFile, root, saved, server, textOf, textsOf, twoRooms, valueOf, viewOf,
   withhold, written,
 } from './person.mjs';
+import { addUp, fail, skipped } from '../../tests/harness.mjs';
 import { pythonHost, runProgram, serve } from './server.mjs';
 import { demo, farLinedef, lostLinedef, oneMistaken, rooms, twoOverlooked, wad, words } from './wads.mjs';
 
@@ -656,7 +657,7 @@ async function alone() {
 }
 
 const isThere = await Promise.race([browser.attach().then(() => true, () => false), wait(60000).then(() => false)]);
-if (!isThere) console.log("skipped, as Chromium doesn't start here: the page");
+if (!isThere) skipped("Chromium doesn't start here", 'the page');
 let at = 'the start';
 try {
   const all = [files, levels, picture, point, moves, finer, findings, reading, early, late, edge, unknown, warnings, games, mapper, faults, undrawn, demos,
@@ -671,13 +672,11 @@ try {
   const folder = valueOf('--games');
   if (folder && isThere) await measure({ browser, address: server.address, games: folder, pictures, check, programs });
 } catch (error) {
-  tally.failed++;
-  console.log(`FAILED at ${at}\n${error instanceof Error ? error.stack : error}\n${browser.complaints.join('\n')}`);
+  fail(`at ${at}\n${error instanceof Error ? error.stack : error}\n${browser.complaints.join('\n')}`);
   if (pictures) writeFileSync(join(pictures, 'failed.png'), await browser.picture());
 } finally {
   await browser.close();
   server.close();
   rmSync(room, { recursive: true, force: true, maxRetries: 5 });
 }
-console.log(`${tally.passed} passed, ${tally.failed} failed`);
-process.exit(tally.failed ? 1 : 0);
+process.exit(addUp());

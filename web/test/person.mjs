@@ -2,14 +2,14 @@
 import { existsSync, mkdirSync, mkdtempSync, readFileSync, statSync, writeFileSync } from 'node:fs';
 import { tmpdir } from 'node:os';
 import { join } from 'node:path';
+import { built, check, programs, root } from '../../tests/harness.mjs';
 import { Browser, chromium, wait } from './browser.mjs';
 import { runProgram, serve } from './server.mjs';
 import { demo, oneMistaken, rooms, wad } from './wads.mjs';
 
-export const [root, ...options] = process.argv.slice(2);
+export { built, check, programs, root };
+export const options = process.argv.slice(2);
 export const valueOf = (/** @type {string} */ name) => options.includes(name) ? options[options.indexOf(name) + 1] : '';
-export const programs = { wadlook: join(root, 'crates/wadlook/out/wadlook'), wadlens: join(root, 'crates/wadlens/out/wadlens') };
-export const built = join(root, 'web/out');
 export const isNative = options.includes('--native') || !existsSync(join(built, 'wad_page.wasm'));
 export const pictures = valueOf('--pictures');
 if (pictures) mkdirSync(pictures, { recursive: true });
@@ -18,19 +18,6 @@ if (isNative) console.log("the programs answer in the module's place");
 export const room = mkdtempSync(join(tmpdir(), 'page-'));
 export const server = isNative ? await serve(join(root, 'web'), room, programs) : await serve(built, room);
 export const browser = new Browser(chromium(), join(room, 'profile'));
-
-/** How many checks passed and failed. */
-export const tally = { passed: 0, failed: 0 };
-/** @param {string} what @param {unknown} came @param {unknown} wanted */
-export function check(what, came, wanted) {
-  const [is, should] = [came, wanted].map((value) => typeof value === 'string' ? value : JSON.stringify(value));
-  if (is === should) {
-    tally.passed++;
-    return;
-  }
-  tally.failed++;
-  console.log(`FAILED ${what}\n--- wanted\n${should?.slice(0, 1000)}\n--- came\n${is?.slice(0, 1000)}\n---`);
-}
 
 // What a person sees and does ---------------------------------------------------------------------------------------------------
 

@@ -324,11 +324,72 @@ def _fit(*numbers: int) -> None:
         raise OverflowError("a coordinate doesn't fit 32 bits")
 
 
+_Given = Union[bytes, "ctypes.Array[ctypes.c_char]"]
+
+
+class _Lent:
+    """A file's bytes. Calls take `given`: `bytes`, or an array over a lender's buffer, which neither frees nor moves it meanwhile.
+
+    Each call asks `given` for its address. None is kept: a copy would take along the address of bytes that it doesn't hold.
+    """
+
+    def __init__(self, source: Union[bytes, bytearray, memoryview]) -> None:
+        view = memoryview(source)
+        self.given: _Given
+        if type(source) is bytes:
+            self.given = source
+        elif view.readonly or not view.nbytes:
+            self.given = view.tobytes()
+        else:
+            self.given = (ctypes.c_char * view.nbytes).from_buffer(view)
+
+    def _own(self) -> Union[bytes, bytearray]:
+        """The bytes as they are now, apart from the lender's. They can be written to where the lender's can."""
+        return self.given if isinstance(self.given, bytes) else bytearray(self.given)
+
+    def __reduce__(self) -> tuple[type[_Lent], tuple[Union[bytes, bytearray]]]:
+        return _Lent, (self._own(),)
+
+    def __deepcopy__(self, memo: dict[int, object]) -> _Lent:
+        return _Lent(self._own())
+
+    def at(self, lump: Lump) -> int:
+        """The address of a lump, for a call during which the caller holds this."""
+        if isinstance(self.given, bytes):
+            return (ctypes.c_void_p.from_buffer(ctypes.c_char_p(self.given)).value or 0) + lump.place
+        return ctypes.addressof(self.given) + lump.place
+
+    def view(self, lump: Lump) -> memoryview:
+        """A lump's bytes, lent on."""
+        return memoryview(self.given).cast("B")[lump.place : lump.place + lump.size]
+
+    def part(self, lump: Lump) -> _Given:
+        """A lump for many calls: lent, or a copy of `bytes`, which don't change."""
+        if isinstance(self.given, bytes):
+            return self.given[lump.place : lump.place + lump.size]
+        return (ctypes.c_char * lump.size).from_buffer(self.given, lump.place)
+
+    def find(self, name: str, after: int) -> Lump:
+        """What `Wad.find` answers: a lump of these bytes, whatever a kind of `Wad` makes of `find`."""
+        given, asked, lump = self.given, name.encode(), _Lump()
+        if not 0 <= operator.index(after) <= _MOST:
+            raise OverflowError("the number of entries behind a name isn't that of any")
+        _stop_at(_so.wadlook_find(given, len(given), asked, len(asked), after, ctypes.byref(lump)), name)
+        return Lump(lump.entry, lump.place, lump.size)
+
+
 class Wad:
     """A WAD file: its path, or its bytes, which are lent where they are `bytes`, a `bytearray` or a writable buffer.
 
     Calls let other threads run, so don't change lent bytes during a call. As a level keeps what was found of
     it, call `level` again after a change.
+
+    A writable buffer stays lent while the `Wad`, a level or a lump of it is left. Until then Python refuses to resize a `bytearray`
+    or an `array` and to close an `mmap`, with `BufferError`. It can't refuse that a file is cut short under a writable `mmap`, nor
+    that `ctypes.resize` moves a buffer: a call after that can end the process.
+
+    A pickle and `copy.deepcopy` take the bytes along as they are then, those of a path, too: later changes of the first aren't seen
+    in them. `copy.copy` shares lent bytes.
     """
 
     def __init__(self, source: Union[str, "os.PathLike[str]", bytes, bytearray, memoryview]) -> None:
@@ -338,27 +399,15 @@ class Wad:
                 source = file.read()
         else:
             self.name = ""
-        view = memoryview(source)
-        self._held = bytes(source) if (view.readonly or not view.nbytes) and not isinstance(source, bytes) else source
-        self._size = view.nbytes
-        if isinstance(self._held, bytes):
-            self._at = ctypes.cast(ctypes.c_char_p(self._held), ctypes.c_void_p).value or 0
-        else:
-            self._held = (ctypes.c_char * self._size).from_buffer(self._held)
-            self._at = ctypes.addressof(self._held)
+        self._lent = _Lent(source)
 
     def find(self, name: str, after: int = 0) -> Lump:
         """The entry that many entries behind the last one of a name; behind a level's label 1 to 10 are its lumps."""
-        asked, lump = name.encode(), _Lump()
-        if not 0 <= operator.index(after) <= _MOST:
-            raise OverflowError("the number of entries behind a name isn't that of any")
-        _stop_at(_so.wadlook_find(self._at, self._size, asked, len(asked), after, ctypes.byref(lump)), name)
-        return Lump(lump.entry, lump.place, lump.size)
+        return self._lent.find(name, after)
 
     def lump(self, name: str, after: int = 0) -> memoryview:
         """The bytes of that entry's lump, lent."""
-        found = self.find(name, after)
-        return memoryview(self._held).cast("B")[found.place : found.place + found.size]
+        return self._lent.view(self.find(name, after))
 
     def level(self, name: str, wide: bool = False) -> Level:
         """The level of a name, its indexes read as unsigned where `wide` says so."""
@@ -369,14 +418,28 @@ class Wad:
         return _demo_in(bytes(self.lump(name)), name)
 
 
+class _Prepared(NamedTuple):
+    """What single places ask: NODES, and the sectors of so many ssectors. It is of one file's bytes: over others a level prepares anew."""
+
+    nodes: _Given
+    sectors: ctypes.Array[ctypes.c_uint16]
+    ssectors: int
+
+    def __reduce__(self) -> tuple[type[None], tuple[()]]:
+        return type(None), ()
+
+
 class Level:
-    """A level of a file. What asks for a sound level raises `WadlookError` with `Status.UNSOUND` at another."""
+    """A level of a file. What asks for a sound level raises `WadlookError` with `Status.UNSOUND` at another.
+
+    A pickle and `copy.deepcopy` take its `wad` along, once for all levels of it that go together; `copy.copy` shares it.
+    """
 
     def __init__(self, wad: Wad, name: str, wide: bool = False) -> None:
         self.wad, self.name, self.wide = wad, name, wide
         self._asked = name.encode()
         self._audited: list[Finding] | None = None
-        self._prepared: tuple[Lump, ctypes.Array[ctypes.c_uint16], int] | None = None
+        self._prepared: _Prepared | None = None
         try:
             wad.find(name)
         except WadlookError as why:
@@ -386,8 +449,9 @@ class Level:
     def __repr__(self) -> str:
         return f"<Level {self.name!r} of {self.wad.name!r}>"
 
-    def _words(self) -> tuple[int, int, bytes, int, bool]:
-        return self.wad._at, self.wad._size, self._asked, len(self._asked), self.wide
+    def _words(self) -> tuple[_Given, int, bytes, int, bool]:
+        given = self.wad._lent.given
+        return given, len(given), self._asked, len(self._asked), self.wide
 
     @property
     def findings(self) -> list[Finding]:
@@ -449,14 +513,17 @@ class Level:
         """The sector and the ssector of one point. The level is audited at the first call alone."""
         _fit(x, y)
         if self._prepared is None:
-            count, room = ctypes.c_size_t(), 32768  # no sound level has more ssectors
-            sectors = (ctypes.c_uint16 * room)()
-            status = _so.wadlook_prepare(*self._words(), sectors, room, ctypes.byref(count))
-            _stop_at(Status.UNSOUND if status == Status.NO_ROOM else status, self.name)
-            self._prepared = self.wad.find(self.name, 7), sectors, count.value
-        nodes, sectors, count = self._prepared
-        told = _so.wadlook_point(self.wad._at + nodes.place, nodes.size, sectors, count, _Point(x, y))
+            self._prepared = self._prepare()
+        nodes, sectors, ssectors = self._prepared
+        told = _so.wadlook_point(nodes, len(nodes), sectors, ssectors, _Point(x, y))
         return None if told.ssector == NOWHERE else Place(told.sector, told.ssector)
+
+    def _prepare(self) -> _Prepared:
+        lent, count, room = self.wad._lent, ctypes.c_size_t(), 32768  # no sound level has more ssectors
+        sectors = (ctypes.c_uint16 * room)()
+        status = _so.wadlook_prepare(*self._words(), sectors, room, ctypes.byref(count))
+        _stop_at(Status.UNSOUND if status == Status.NO_ROOM else status, self.name)
+        return _Prepared(lent.part(lent.find(self.name, 7)), sectors, count.value)
 
     def census(self, x0: int, y0: int, x1: int, y1: int) -> dict[int, int]:
         """How many whole points of the columns x0 to x1 and the rows y0 to y1 lie in each sector, of those that have some."""
@@ -472,11 +539,12 @@ class Level:
 
     def is_blocked(self, a: int, b: int) -> Union[bool, None]:
         """Whether REJECT refuses the sight from sector a to sector b, None where it ends before their bit."""
-        reject, count = self.wad.find(self.name, 9), self.wad.find(self.name, 8).size // 26
+        lent = self.wad._lent
+        reject, count = lent.find(self.name, 9), lent.find(self.name, 8).size // 26
         if not (0 <= operator.index(a) < count and 0 <= operator.index(b) < count):
             raise WadlookError(Status.NO_SECTOR, self.name)
         bit = ctypes.c_uint32()
-        status = _so.wadlook_sight(self.wad._at + reject.place, reject.size, count, a, b, ctypes.byref(bit))
+        status = _so.wadlook_sight(lent.at(reject), reject.size, count, a, b, ctypes.byref(bit))
         if status == Status.UNKNOWN:
             return None
         _stop_at(status, self.name)
@@ -485,13 +553,13 @@ class Level:
     def block(self, x: int, y: int) -> Union[Block, None]:
         """The block that holds a point and its list, None where no block does."""
         _fit(x, y)
-        lump, block = self.wad.find(self.name, 10), _Block()
-        at = self.wad._at + lump.place
-        status = _so.wadlook_block(at, lump.size, self.wide, _Point(x, y), ctypes.byref(block))
+        lent, block = self.wad._lent, _Block()
+        lump = lent.find(self.name, 10)
+        status = _so.wadlook_block(lent.at(lump), lump.size, self.wide, _Point(x, y), ctypes.byref(block))
         if status == Status.NO_BLOCK:
             return None
         _stop_at(status, self.name)
-        words = ctypes.string_at(at + 2 * block.first, 2 * block.count)
+        words = bytes(lent.view(lump)[2 * block.first : 2 * (block.first + block.count)])
         signed = not self.wide
         lines = (int.from_bytes(words[k : k + 2], "little", signed=signed) for k in range(0, len(words), 2))
         return Block(block.column, block.row, tuple(lines))

@@ -72,6 +72,7 @@ cases_of_demos() {
     says 'demos: the object of one outside its file' 2 "$(printf '{"file":"gone.wad","lump":"DEMO1","version":109,"skill":3,"episode":1,"map":1,')$(
         printf '"players":1,"tics":2,"odd":0,"after":0}\\n')$(unlisted gone.wad DEMO2 'outside its file')" \
         'wadlens: gone.wad: DEMO2: outside its file\n' demos --json gone.wad
+    cases_of_demos_in_order
     cases_of_logged_demos
     cases_of_refused_demos
     cases_of_lists_of_demos
@@ -80,6 +81,18 @@ cases_of_demos() {
     mistaken 'demos alone' 'FILE' demos
     mistaken '--wide of demos' "unexpected argument '--wide'" demos --wide two.lmp
     mistaken '--json of a survey' "unexpected argument '--json'" survey --json base.wad
+}
+
+# Three demos of a WAD file, of which the second is refused.
+cases_of_demos_in_order() {
+    local two sound="$game, 1 player, 2 tics, 0:00.05, after 1" message='wadlens: three.wad: DEMO2: version 203 (MBF): not read\n'
+    local members='"version":109,"skill":3,"episode":1,"map":1,"players":1,"tics":2,"odd":0,"after":1}\n'
+    two=$(bytes "${header[@]}" "${two_commands[@]}" 128 7)
+    pack DEMO1 "$two" DEMO2 "$(bytes 203)" DEMO3 "$two" >three.wad
+    says demos_in_order 2 "three.wad: DEMO1: $sound\nthree.wad: DEMO3: $sound\n" "$message" demos three.wad
+    says 'demos_in_order: the objects' 2 "{\"file\":\"three.wad\",\"lump\":\"DEMO1\",$members$(
+        unlisted three.wad DEMO2 'version 203 (MBF): not read'){\"file\":\"three.wad\",\"lump\":\"DEMO3\",$members" "$message" \
+        demos --json three.wad
 }
 
 # The message about a demo or a file that is refused stands behind what was answered before, and before its object.

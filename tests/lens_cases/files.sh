@@ -1,4 +1,5 @@
-# Cases of words, paths, lists, refused files, surveys, levels cut out, progress, failed ends and memory, which tests/wadlens runs.
+# Cases of words, paths, lists, refused files, surveys, where levels start, levels cut out, progress, failed ends and memory, which
+# tests/wadlens runs.
 # shellcheck shell=bash disable=SC2034,SC2154  # what tests/wadlens sets and reads
 
 cases_of_words() {
@@ -171,6 +172,38 @@ END
     says 'a file of one byte more' 2 "$(refused most.wad 'larger than 268435456 bytes')" \
         "$(told most.wad 'larger than 268435456 bytes')" survey most.wad
     rm most.wad
+    cases_of_refused_objects
+}
+
+# refused_as NAME TEXT: the file a"b is refused so.
+refused_as() { says "$1" 2 "$(refused 'a\\"b' "$2")" "$(told 'a"b' "$2")" survey 'a"b'; }
+
+# Refused files under a path that JSON escapes, and two more that are no WAD file.
+cases_of_refused_objects() {
+    local kind text
+    refused_as 'refusals: a file that is not there' "$missing"
+    mkdir 'a"b'
+    refused_as 'refusals: a folder' "$unread"
+    rmdir 'a"b'
+    ln -s /dev/zero 'a"b'
+    refused_as 'refusals: a file without end' 'larger than 268435456 bytes'
+    rm 'a"b'
+    printf PWAD >four.wad
+    while read -r kind text; do
+        cp "$kind" 'a"b'
+        refused_as "refused_directories: $kind" "$text"
+    done <<END
+four.wad shorter than a WAD header
+magic.wad not a WAD file: it begins with neither IWAD nor PWAD
+count.wad a negative count of lumps
+cut.wad its directory isn't inside the file
+END
+    rm 'a"b'
+    says 'refused: four bytes' 2 '0 levels in 1 files: 0 faults, 0 notes, 0 not judged\n' "$(told four.wad 'shorter than a WAD header')" \
+        check four.wad
+    printf 'PWAX%b' "$(words 0 0 0 0)" >pwax.wad
+    says 'refused: PWAX' 2 '0 levels in 1 files: 0 faults, 0 notes, 0 not judged\n' \
+        "$(told pwax.wad 'not a WAD file: it begins with neither IWAD nor PWAD')" check pwax.wad
 }
 
 # Files that are there, and can't be opened or read.
@@ -216,6 +249,158 @@ cases_of_survey() {
         survey faulty.wad no.wad
     says 'wide' 0 "$(sound base.wad E1M1 0)" '' survey --wide base.wad
     says 'a name as it is shown' 0 "$(sound odd.wad 'a\\"\\\\x5c\\\\x20\\\\x01b' 0)" '' survey odd.wad
+    several_formats
+    says 'formats, surveyed' 1 "$(
+        printf '{"file":"several.wad","level":%s}\\n' '"MAP01","entry":0,"format":"udmf"' '"E1M1","entry":3,"format":"hexen"' \
+            '"E1M2","entry":15,"format":"incomplete","lump":"LINEDEFS"'
+    )" '' survey several.wad
+    level >starts.wad
+    before_byte_0 7
+    says lump_outside 1 '{"file":"starts.wad","level":"E1M1","entry":0,"format":"outside","lump":"NODES"}\n' '' survey starts.wad
+    cases_of_starts
+}
+
+# letters TEXT: its bytes.
+letters() {
+    local i
+    for ((i = 0; i < ${#1}; i++)); do bytes "'${1:i:1}"; done
+}
+
+# before_byte_0 ENTRY: in starts.wad the lump of this entry begins at -1.
+before_byte_0() {
+    local at
+    at=$(od -An -tu4 -j8 -N4 starts.wad)
+    printf '\xff\xff\xff\xff' | dd of=starts.wad bs=1 seek=$((at + 16 * $1)) conv=notrunc status=none
+}
+
+# starts NAME STATUS [TEXT...]: the levels that start in starts.wad, each by its entry, its format, and what its format tells of it.
+starts() {
+    local member='"entry":([0-9]+),"format":"([a-z]+)"(,"(lump|tag)":"([^"]*)")?' text=''
+    run_on '' survey starts.wad
+    sed -E 's/^\{"file":"starts.wad","level":"[^"]*",'"$member"'.*\}$/\1 \2 \5/; s/ $//' output >levels
+    mv levels output
+    (($# < 3)) || text=$(printf '%s\\n' "${@:3}")
+    judge "$1" "$2" "$text" ''
+}
+
+# starts_with NAME STATUS TEXT [LUMP BYTES]...: how the one level of the sample with these lumps starts.
+starts_with() {
+    level "${@:4}" >starts.wad
+    starts "${@:1:3}"
+}
+
+cases_of_starts() {
+    local parts behind=()
+    pack >starts.wad
+    starts 'files_without_starts: no entries' 0
+    pack E1M1 '' >starts.wad
+    starts 'files_without_starts: a label alone' 0
+    lumps 10
+    pack "${parts[@]}" >starts.wad
+    starts 'files_without_starts: no label before THINGS' 0
+    pack MAP01 '' things '' >starts.wad
+    starts 'files_without_starts: small letters' 0
+    behind=(E1M2 '')
+    starts_with label_as_last_entry 0 '0 doom'
+    behind=(E1M1 '' "${parts[@]}")
+    level >starts.wad
+    starts hidden_label 0 '0 doom' '11 doom'
+    behind=()
+    # The second THINGS is the first lump of a level whose label is the first.
+    pack E1M1 '' "${parts[@]:0:2}" "${parts[@]}" >starts.wad
+    starts two_things_in_a_row 1 '0 incomplete LINEDEFS' '1 doom'
+    cases_of_formats_by_names
+    cases_of_formats_by_places
+    cases_of_tagged_nodes
+    cases_of_tagged_ssectors
+}
+
+# in_parts NAME STATUS TEXT [NAME BYTES]...: how the level E1M1 of `parts` starts, with these lumps behind it.
+in_parts() {
+    pack E1M1 '' "${parts[@]}" "${@:4}" >starts.wad
+    starts "${@:1:3}"
+}
+
+cases_of_formats_by_names() {
+    local parts behind=()
+    pack MAP01 '' TEXTMAP '\x78' ENDMAP '' >starts.wad
+    starts udmf 2 '0 udmf'
+    pack MAP01 '' TEXTMAP '\x78' >starts.wad
+    starts 'udmf: no ENDMAP' 2 '0 udmf'
+    lumps 10
+    parts[0]=TEXTMAP parts[1]=''
+    in_parts 'udmf: TEXTMAP in place of THINGS' 2 '0 udmf'
+    lumps 1
+    in_parts 'incomplete: THINGS alone' 1 '0 incomplete LINEDEFS'
+    lumps 9
+    in_parts 'incomplete: all but BLOCKMAP' 1 '0 incomplete BLOCKMAP'
+    lumps 10
+    parts[4]=sidedefs parts[5]='' parts[16]=REJECTS parts[17]=''
+    in_parts incomplete_by_names 1 '0 incomplete SIDEDEFS'
+    # If an entry isn't there, and one before it has another name, the latter is told.
+    lumps 4
+    parts[4]=sidedefs parts[5]=''
+    in_parts incomplete_by_the_first 1 '0 incomplete SIDEDEFS'
+    behind=(BEHAVIOR '')
+    starts_with hexen 2 '0 hexen'
+    behind=(SCRIPTS '' BEHAVIOR '')
+    starts_with 'hexen: BEHAVIOR in another place' 0 '0 doom'
+    lumps 10
+    parts[18]=BEHAVIOR parts[19]=''
+    in_parts hexen_without_a_blockmap 1 '0 incomplete BLOCKMAP'
+    in_parts 'hexen_without_a_blockmap: more of them' 1 '0 incomplete BLOCKMAP' BEHAVIOR '' BEHAVIOR ''
+}
+
+# Names decide before places, and places before what lumps hold.
+cases_of_formats_by_places() {
+    local parts behind=()
+    level >starts.wad
+    before_byte_0 7
+    starts 'outside: NODES' 1 '0 outside NODES'
+    before_byte_0 4
+    starts 'outside: VERTEXES before it' 1 '0 outside VERTEXES'
+    before_byte_0 1
+    starts 'outside: THINGS before both' 1 '0 outside THINGS'
+    level >starts.wad
+    before_byte_0 0
+    starts 'outside: the label: not told' 0 '0 doom'
+    behind=(BEHAVIOR '')
+    level >starts.wad
+    before_byte_0 7
+    starts 'outside_and_other_formats: hexen' 2 '0 hexen'
+    lumps 10
+    renamed BLOCKMAP BLOCKMAQ
+    pack E1M1 '' "${parts[@]}" >starts.wad
+    before_byte_0 7
+    starts 'outside_and_other_formats: incomplete' 1 '0 incomplete BLOCKMAP'
+    behind=()
+    starts_with 'outside_and_extended_nodes: inside' 2 '0 extended XNOD' NODES "$(letters XNOD)${own[NODES]:16}"
+    before_byte_0 1
+    starts outside_and_extended_nodes 1 '0 outside THINGS'
+}
+
+# A level of Doom's format has no node here, and so a fault.
+cases_of_tagged_nodes() {
+    local name=nodes_of_later_formats tag
+    starts_with "$name: XNOD" 2 '0 extended XNOD' NODES "$(letters XNOD)"
+    starts_with "$name: ZNOD" 2 '0 extended ZNOD' NODES "$(letters ZNOD)$(bytes 120 156)"
+    starts_with "$name: xNd4" 2 '0 extended xNd4' NODES "$(letters xNd4)$(bytes 0 0 0 0 1)"
+    starts_with "$name: xNd4 and no zero" 1 '0 doom' NODES "$(letters xNd4)"
+    starts_with "$name: xNd4 and three zeros" 1 '0 doom' NODES "$(letters xNd4)$(bytes 0 0 0)"
+    starts_with "$name: xNd4 and a 1 behind three zeros" 1 '0 doom' NODES "$(letters xNd4)$(bytes 0 0 0 1)"
+    for tag in XNO XGLN ''; do starts_with "$name: '$tag'" 1 '0 doom' NODES "$(letters "$tag")"; done
+}
+
+# A level of Doom's format has no such segs here, and so a fault.
+cases_of_tagged_ssectors() {
+    local name=ssectors_of_later_formats tag
+    for tag in XGLN ZGLN XGL2 ZGL2 XGL3 ZGL3; do
+        starts_with "$name: $tag" 2 "0 extended $tag" SSECTORS "$(letters "$tag")"
+    done
+    starts_with "$name: a byte behind the tag" 2 '0 extended ZGLN' SSECTORS "$(letters ZGLN)$(bytes 0)"
+    for tag in XGL4 XNOD; do starts_with "$name: $tag" 1 '0 doom' SSECTORS "$(letters "$tag")"; done
+    starts_with "$name: a tag of NODES goes first" 2 '0 extended ZNOD' SSECTORS "$(letters XGLN)" NODES "$(letters ZNOD)"
+    starts_with "$name: NODES without the zeros" 2 '0 extended ZGL2' SSECTORS "$(letters ZGL2)" NODES "$(letters xNd4)"
 }
 
 # cuts NAME FILE WORD...: `cut` writes the bytes of that file, and nothing else.
@@ -302,6 +487,43 @@ cases_of_cut_formats() {
     pack MAP01 '' TEXTMAP '\x01' MAP01 '' TEXTMAP '\x02' >format.wad
     says 'cut: a hidden level is told with its entry' 2 '' 'wadlens: format.wad: MAP01 (entry 0): udmf: no ENDMAP\n' \
         cut --entry 0 format.wad
+    cases_of_whole_cuts
+    cases_of_uncut_levels
+}
+
+# What follows a level belongs to the next one, or to none.
+cases_of_whole_cuts() {
+    local parts behavior scripts text=(MAP01 '' TEXTMAP '\x78' ENDMAP '')
+    lumps 10
+    behavior=(BEHAVIOR "$(letters ACS)") scripts=(SCRIPTS "$(letters 'script 1')")
+    pack E1M1 '' "${parts[@]}" "${behavior[@]}" >alone.wad
+    cuts hexen_whole alone.wad --entry 0 alone.wad
+    pack E1M1 '' "${parts[@]}" "${behavior[@]}" "${text[@]}" >format.wad
+    cuts 'hexen_whole: a level in UDMF behind it' alone.wad --entry 0 format.wad
+    pack E1M1 '' "${parts[@]}" "${behavior[@]}" "${scripts[@]}" >alone.wad
+    pack E1M1 '' "${parts[@]}" "${behavior[@]}" "${scripts[@]}" DIALOGUE '\x78' >format.wad
+    cuts 'hexen_whole: SCRIPTS' alone.wad --entry 0 format.wad
+    pack "${text[@]}" >alone.wad
+    pack "${text[@]}" ENDMAP '\x78' E1M1 '' "${parts[@]}" >format.wad
+    cuts udmf_whole alone.wad --entry 0 format.wad
+    cuts 'udmf_whole: the level behind it' base.wad --entry 4 format.wad
+}
+
+# uncut NAME STATUS TEXT WORD...: why no level of starts.wad is cut out.
+uncut() { says "uncut: $1" "$2" '' "wadlens: starts.wad: $3\\n" cut "${@:4}" starts.wad; }
+
+cases_of_uncut_levels() {
+    pack MAP01 '' TEXTMAP '\x78' MAP02 '' >starts.wad
+    uncut 'no ENDMAP' 2 'MAP01: udmf: no ENDMAP' --entry 0
+    pack MAP01 '' TEXTMAP '\x78' MAP01 '' >starts.wad
+    uncut 'no ENDMAP, of a hidden label' 2 'MAP01 (entry 0): udmf: no ENDMAP' --entry 0
+    pack MAP01 '' THINGS '' >starts.wad
+    uncut incomplete 1 'MAP01: incomplete: no LINEDEFS where it belongs' --entry 0
+    uncut 'an entry behind the label' 2 'no level starts at entry 1' --entry 1
+    uncut 'no such entry' 2 'no level starts at entry 2' --entry 2
+    pack MAP01 '' TEXTMAP '\x07' ENDMAP '' >starts.wad
+    before_byte_0 1
+    uncut outside 1 'MAP01: outside: TEXTMAP' --entry 0
 }
 
 cases_of_cut_ends() {

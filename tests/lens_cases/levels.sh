@@ -55,6 +55,51 @@ cases_of_check() {
     says 'wide' 0 '1 levels in 1 files: 0 faults, 0 notes, 0 not judged\n' '' check --wide wide.wad
     says 'not judged alone' 2 'udmf.wad: MAP03: udmf: not read\n1 levels in 1 files: 0 faults, 0 notes, 1 not judged\n' '' \
         check udmf.wad
+    cases_of_checked_files
+    cases_of_linedefs_without_length
+}
+
+# several_formats: in several.wad levels of three formats: UDMF, Hexen's, and one that lacks its LINEDEFS.
+several_formats() {
+    local parts
+    lumps 10
+    pack MAP01 '' TEXTMAP '\x78' ENDMAP '' E1M1 '' "${parts[@]}" BEHAVIOR '' E1M2 '' THINGS '' >several.wad
+}
+
+cases_of_checked_files() {
+    says 'sample: no level' 0 '0 levels in 1 files: 0 faults, 0 notes, 0 not judged\n' '' check empty.wad
+    # Of two labels of one name the later one is looked up, and none with a small letter is.
+    pack MAP01 '' TEXTMAP '' MAP01 '' TEXTMAP '' map02 '' TEXTMAP '' >twice.wad
+    says labels_told_with_their_entries 2 "$(
+        printf '%s' 'twice.wad: MAP01 (entry 0): udmf: not read\n' 'twice.wad: MAP01: udmf: not read\n' \
+            'twice.wad: map02 (entry 4): udmf: not read\n' '3 levels in 1 files: 0 faults, 0 notes, 3 not judged\n'
+    )" '' check twice.wad
+    several_formats
+    says formats 1 "$(
+        printf '%s' 'several.wad: MAP01: udmf: not read\n' 'several.wad: E1M1: hexen: not read\n' \
+            'several.wad: E1M2: incomplete: no LINEDEFS where it belongs\n' '3 levels in 1 files: 0 faults, 0 notes, 3 not judged\n'
+    )" '' check several.wad
+}
+
+# Three linedefs without length and without sides, and a REJECT of another size.
+cases_of_linedefs_without_length() {
+    local i rows=() sideless none='from (0, 0) to (0, 0)' three
+    three=$(words 0 0 0 0 0 -1 -1 0 0 0 0 0 -1 -1 0 0 0 0 0 -1 -1)
+    sideless=$(two 'F9 seg 0: linedef 0 has no sidedef on side 0, from (0, 0) to (0, 64)' \
+        'F9 seg 1: linedef 0 has no sidedef on side 1, from (0, 64) to (0, 0)')
+    for i in 0 1; do rows+=("N4 linedef $i: without a front sidedef, $none"); done
+    rows+=('N4: 1 more')
+    for i in 0 1; do rows+=("N5 linedef $i: without length, $none"); done
+    rows+=('N5: 1 more' 'N8 level: REJECT has 0 bytes, 1 are wanted')
+    flags=(--max 2)
+    finds at_most_two_of_a_code "$(two "$sideless" "${rows[@]}")" 2 7 LINEDEFS "$three" REJECT ''
+    rows[2]="N4 linedef 2: without a front sidedef, $none" rows[5]="N5 linedef 2: without length, $none"
+    flags=(--wide --max 0)
+    finds all_of_a_code "$(two "$sideless" "${rows[@]}")" 2 7 LINEDEFS "$three" REJECT ''
+    flags=()
+    says codes_more_than_once 1 '{"file":"code.wad","level":"E1M1","entry":0,"format":"doom",'"$(
+        sed 's/"linedefs":1/"linedefs":3/; s/"reject":1/"reject":0/' <<<"$counts"
+    )"',"sound":false,"faults":2,"notes":7,"findings":{"F9":2,"N4":3,"N5":3,"N8":1}}\n' '' survey code.wad
 }
 
 # How many findings of a code are told where nothing is said: 20.
@@ -479,6 +524,25 @@ cases_of_warned_levels() {
         '{"file":"faulty.wad","level":"E1M1","entry":0,"format":"doom",'"$counts"',"sound":false,"faults":1,"notes":1,"findings":{"F9":1,"N3":1},"warnings":{},"unlooked":["W9","W10"]}\n' \
         '' survey --map faulty.wad
     says 'surveyed, of another format' 2 '{"file":"udmf.wad","level":"MAP03","entry":0,"format":"udmf"}\n' '' survey --map udmf.wad
+    cases_of_warned_sample
+}
+
+# The sample's two sectors are open at both ends of its linedef, and it has one start.
+cases_of_warned_sample() {
+    local text object
+    text=$(
+        printf 'base.wad: E1M1: %s\\n' "W1 sector 0: isn't closed, at (0, 0)" "W1 sector 0: isn't closed, at (0, 64)" \
+            "W1 sector 1: isn't closed, at (0, 0)" 'W1: 1 more' 'W7 level: no player 2 start' 'W8 level: 0 deathmatch starts'
+        printf '%s' '1 levels in 1 files: 0 faults, 0 notes, 6 warnings, 0 not judged\n'
+    )
+    says warnings 0 "$text" "$neither" check --map --max 3 base.wad
+    says 'warnings, strict' 1 "$text" "$neither" check --map --strict --max 3 base.wad
+    says no_warnings 1 "${faults_of_faulty}1 levels in 1 files: 1 faults, 1 notes, 0 warnings, 0 not judged\\n" "$neither" \
+        check --map --strict --max 20 faulty.wad
+    object='{"file":"base.wad","level":"E1M1","entry":0,"format":"doom",'$counts',"sound":true,"faults":0,"notes":0,"findings":{}'
+    object+=',"warnings":{"W1":4,"W7":1,"W8":1},"unlooked":["W9","W10"]}\n'
+    says 'warnings, surveyed' 0 "$object" '' survey --map base.wad
+    says 'warnings, surveyed strictly' 1 "$object" '' survey --map --strict base.wad
 }
 
 # The warnings of Freedoom 0.12.1's 100 levels, where these are (FREEDOOM names their folder): of each code how many there are, and

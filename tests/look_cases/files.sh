@@ -264,6 +264,19 @@ cases_of_extract() {
     truncate -s "$size" large.wad
     memory=1048576 refuses pack_is_too_large '7 too large' extract E1M1 large.wad
     rm large.wad
+    cases_of_little_memory
     refuses 'extract is never wide' usage extract --wide E1M1 base.wad
     cannot_write extract '' extract E1M1 base.wad
+}
+
+# Ten lumps over the same 20 MB: there is memory for the file, and none for the 200 MB that are packed.
+cases_of_little_memory() {
+    local name size=20000000
+    {
+        printf "PWAD$(words 11 0 12 0 0 0 0 0)$(name8 E1M1)"
+        for name in "${usual[@]}"; do printf "$(words 0 0 "$size" $((size >> 16)))$(name8 "$name")"; done
+    } >large.wad
+    truncate -s "$size" large.wad
+    wants_memory 'texts: no memory for what is packed' 131072 extract E1M1 large.wad
+    rm large.wad
 }

@@ -10,7 +10,7 @@ use std::process::Abort;
 use test_alloc::Refusing;
 use test_streams::{SliceSink, SliceSource};
 use wad_dir::MAX_FILES;
-use wad_look::{Cmd, Job, RunFault, job, run, status};
+use wad_look::{Job, RunFault, job, run, status};
 
 // A command line, its input, and what it writes.
 #[derive(Clone, Copy)]
@@ -74,48 +74,6 @@ fn words_of(alloc: Global, line: &str) -> Result<Vec<String>, AllocError> {
         words.push(String::from_str(alloc, word)?)?;
     }
     Ok(words)
-}
-
-// What words ask for: the command, the place of the first file, and whether `--wide` stands. None of what is no form.
-const JOBS: [(&str, Option<Job>); 9] = [
-    (
-        "points E1M1 a b",
-        Some(Job {
-            command: Cmd::Points,
-            first: 2,
-            wide: false,
-        }),
-    ),
-    (
-        "lumps a",
-        Some(Job {
-            command: Cmd::Lumps,
-            first: 1,
-            wide: false,
-        }),
-    ),
-    (
-        "points --wide E1M1 a",
-        Some(Job {
-            command: Cmd::Points,
-            first: 3,
-            wide: true,
-        }),
-    ),
-    ("points E1M1", None),
-    ("Points E1M1 a", None),
-    ("lmp a b", None),
-    ("lumps -x", None),
-    ("sight --wide E1M1 a", None),
-    ("points E1M1 --wide a", None),
-];
-
-#[test]
-fn jobs(rt: HostRuntime) {
-    for (line, expected) in JOBS {
-        let words = words_of(rt.alloc(), line).expect(&rt, "no memory for the words");
-        check_same(&rt, job(&words), expected);
-    }
 }
 
 // How a job over these files ends.

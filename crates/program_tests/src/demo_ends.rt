@@ -63,19 +63,6 @@ fn check_ends(
     check_bytes(rt, errors.taken(), messages);
 }
 
-#[test]
-fn demos_in_order(rt: HostRuntime) {
-    check_ends(&rt, Form::Lines, (1024, 1024), Ok(false), LINES, MESSAGE);
-    check_ends(
-        &rt,
-        Form::Objects,
-        (1024, 1024),
-        Ok(false),
-        OBJECTS,
-        MESSAGE,
-    );
-}
-
 // The message goes before the object, so nothing of that is there.
 #[test]
 fn errors_full(rt: HostRuntime) {

@@ -6,8 +6,8 @@ use le_rec::{Sink, Source};
 use map_level::Reading;
 use std::alloc::Global;
 use std::process::Abort;
-use test_streams::{RepeatSource, SliceSink, SliceSource};
-use wad_look::{MAX_READ, RunFault, points, read_all, status};
+use test_streams::{SliceSink, SliceSource};
+use wad_look::{MAX_READ, RunFault, points, read_all};
 
 const INPUT: &[u8] = b"1 5\n0 5\n-1 5\n";
 
@@ -118,12 +118,6 @@ fn line_forms(rt: HostRuntime) {
     check_answered(&rt, b"1 5", b"1 5 sector 0 ssector 0\n");
 }
 
-#[test]
-fn endless_reader(rt: HostRuntime) {
-    let source = RepeatSource { byte: b'1' };
-    check_end(&rt, source, 64, &mut [0; 100], Err(RunFault::TooLong), b"");
-}
-
 // How many bytes of TEXT are written where call `n` fails.
 fn answered(n: u8) -> usize {
     match n {
@@ -151,16 +145,4 @@ fn reader_fails(rt: HostRuntime) {
     for n in 1..15 {
         check_failing_reader(&rt, &files, n);
     }
-}
-
-fn check_status(rt: &impl Abort, ended: Result<bool, RunFault>, expected: u8) {
-    check_same(rt, status(&ended), expected);
-}
-
-#[test]
-fn statuses(rt: HostRuntime) {
-    check_status(&rt, Ok(true), 0);
-    check_status(&rt, Ok(false), 1);
-    check_status(&rt, Err(RunFault::Audit), 2);
-    check_status(&rt, Err(RunFault::Memory), 3);
 }

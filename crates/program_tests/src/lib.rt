@@ -16,8 +16,6 @@ mod commands;
 #[cfg(test)]
 mod compare;
 #[cfg(test)]
-mod cut_cases;
-#[cfg(test)]
 mod demo_cases;
 #[cfg(test)]
 mod demo_ends;
@@ -27,8 +25,6 @@ mod directory_cases;
 mod drawing_growths;
 #[cfg(test)]
 mod ends;
-#[cfg(test)]
-mod fault_texts;
 #[cfg(test)]
 mod findings;
 #[cfg(test)]

@@ -19,7 +19,7 @@ pub const SEGS: [u8; 24] = [
     0, 0, 1, 0, 0, 64, 0, 0, 0, 0, 0, 0, 1, 0, 0, 0, 0, 192, 0, 0, 1, 0, 0, 0,
 ];
 
-pub const NODES: [u8; 28] = [
+const NODES: [u8; 28] = [
     0, 0, 0, 0, 0, 0, 64, 0, 64, 0, 0, 0, 0, 0, 0, 0, 64, 0, 0, 0, 0, 0, 0, 0, 0, 128, 1, 128,
 ];
 
@@ -195,13 +195,6 @@ fn copies(alloc: Global, bytes: &[u8], count: u16) -> Result<Vec<u8>, AllocError
     Ok(all)
 }
 
-/// The sample level's file with SEGS of 32768 copies of its seg 0 and then its seg 1, the first of the second ssector.
-pub fn base_many_segs(rt: &(impl Abort + AllocGlobal)) -> Vec<u8> {
-    let first = copies(rt.alloc(), &SEGS[..12], 32768).expect(rt, NO_MEMORY);
-    let segs = joined(rt.alloc(), &first, &SEGS[12..]).expect(rt, NO_MEMORY);
-    base_with(rt, &[(5, &segs), (6, &[1, 0, 0, 0, 1, 0, 0, 128])])
-}
-
 /// The sample level's linedef with two sides by its flags and one by its fields.
 pub const LINE_WITHOUT_SIDE_1: [u8; 14] = [0, 0, 1, 0, 4, 0, 0, 0, 0, 0, 0, 0, 255, 255];
 
@@ -227,30 +220,5 @@ pub fn node_with(line: [i16; 4]) -> [u8; 28] {
     node
 }
 
-/// The sample level's file with filepos -1 in the entry NODES.
-pub fn nodes_outside(rt: &(impl Abort + AllocGlobal)) -> Vec<u8> {
-    let file = base(rt);
-    assert!(rt; file.len() == 409);
-    outside_at(rt, file, 345)
-}
-
-/// The file with filepos -1 in the entry whose record begins there.
-pub fn outside_at(rt: &impl Abort, file: Vec<u8>, at: usize) -> Vec<u8> {
-    let mut file = file;
-    assert!(rt; at < 400 && file.len() >= 404);
-    for i in at..at + 4 {
-        file[i] = 255;
-    }
-    file
-}
-
 /// A level of the format UDMF.
 pub const UDMF: [Lump<'static>; 3] = [(b"MAP01", &[]), (b"TEXTMAP", b"x"), (b"ENDMAP", &[])];
-
-// What makes the level before it one of Hexen's, and a level that lacks its LINEDEFS.
-const BEHIND: [Lump<'static>; 3] = [(b"BEHAVIOR", &[]), (b"E1M2", &[]), (b"THINGS", &[])];
-
-/// A file of levels of three formats: UDMF, Hexen's, and one that lacks its LINEDEFS.
-pub fn levels_of_formats(rt: &(impl Abort + AllocGlobal)) -> Vec<u8> {
-    pack_three(rt, &UDMF, &lumps(), &BEHIND)
-}

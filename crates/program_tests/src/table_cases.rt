@@ -5,24 +5,11 @@ use crate::findings::finding;
 use crate::opening::level_of;
 use crate::sample::{LINE_WITHOUT_SIDE_1, base, base_not_reached, base_with};
 use map_level::{Code, Finding, Level};
-use map_tables::{Reject, table_findings};
+use map_tables::table_findings;
 use std::process::Abort;
 use test_alloc::Refusing;
 
 const REJECT: usize = 9;
-
-// The bit of two of three sectors, in a lump of one byte.
-fn bit_of(rt: &impl Abort, byte: u8, a: u32, b: u32) -> Option<bool> {
-    assert!(rt; a < 3 && b < 3);
-    Reject::of(&[byte], 3).bit(a, b)
-}
-
-#[test]
-fn sight_bits(rt: HostRuntime) {
-    check_same(&rt, bit_of(&rt, 2, 0, 1), Some(true));
-    check_same(&rt, bit_of(&rt, 2, 1, 0), Some(false));
-    check_same(&rt, bit_of(&rt, 2, 2, 2), None);
-}
 
 // Whether the findings of the level met growth `n` refused; else they are these.
 fn is_refused(

@@ -20,9 +20,9 @@ fail() {
     exit "$failed"
 }
 
-# low_on_room: tells of a disk that has less than 1 GB left.
+# low_on_room FOLDER: tells of a disk that has less than 1 GB left.
 low_on_room() {
-    df -Pm . "${TMPDIR:-/tmp}" 2>/dev/null | awk 'NR > 1 && $4 < 1024 { printf " (%d MB are left on %s)", $4, $6; exit }'
+    df -Pm "$1" "${TMPDIR:-/tmp}" 2>/dev/null | awk 'NR > 1 && $4 < 1024 { printf " (%d MB are left on %s)", $4, $6; exit }'
 }
 
 # clean_up STATUS: ends the proof that runs, with all that it started, and removes the temporary folders.
@@ -35,12 +35,15 @@ clean_up() {
     fi
     rm -rf "${rooms[@]}"
     rmdir "${made[@]}" 2>/dev/null || true
-    (($1 == 0)) || [[ -n $told ]] || say "nothing was built$(low_on_room)"
+    (($1 == 0)) || [[ -n $told ]] || say "nothing was built$(low_on_room .)"
 }
+
+# What is told of a stop.
+goes_on='What was proved is kept: started again it goes on from there'
 
 # stopped NUMBER: ends by the signal of this number.
 stopped() {
-    say 'stopped. What was proved is kept: started again it goes on from there'
+    say "stopped. $goes_on"
     told=yes
     exit $((128 + $1))
 }
@@ -92,7 +95,7 @@ below() {
         # shellcheck disable=SC2086  # names are words
         set -- "$@" ${named[$each]}
     done
-    printf '%s\n' "${!seen[@]}"
+    ((${#seen[@]} == 0)) || printf '%s\n' "${!seen[@]}"
 }
 
 # lines_of NAME...: the lines of crates.txt for these crates, in its order.
@@ -171,7 +174,7 @@ prove() {
     proof=''
     if ((status > 0)); then
         printf '%s\n' "${log[@]}" | grep -v ': proved$\|^statements \|^note: ' >&2 || true
-        fail "rt $command in crates/$name ended with status $status, and nothing was built$(low_on_room)." \
+        fail "rt $command in crates/$name ended with status $status, and nothing was built$(low_on_room .)." \
             'What was proved is kept: started again it goes on from there'
     fi
     finish "$name"

@@ -34,11 +34,12 @@ list_sources() {
 # take_sources PART...: names in `source_lines` a line `DIGEST  PART` for VERSION, each of these parts and each crate below: the digest of what
 # sha256sum says of its files, and of a crate's line of crates.txt before that. It fails where one can't be read.
 take_sources() {
-    local room
+    local room temporary=${TMPDIR:-/tmp}
+    [[ -d $temporary ]] || temporary=/tmp
     find_roots "$@"
     list_sources
     ((${#files[@]} > 0)) || return
-    new_room "${TMPDIR:-/tmp}" "${places[@]}" || return
+    new_room "$temporary" "${places[@]}" || return
     # A part may have no file.
     (cd "$room" && touch "${parts[@]}") || return
     {

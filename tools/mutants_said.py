@@ -14,7 +14,9 @@ REFUSED = re.compile(r"^(src/\S+?\.rt):(\d+):\d+: error(.*)")
 STATED = re.compile(r"^note: `([^`]+)` of (proofs/\S+)/Answers\.antt must prove: (.*)")
 
 # What an answer's error says where a name that it takes isn't there.
-GONE = re.compile(r"can be named from here|cannot find|unknown|not in scope|has no (?:field|member|component|projection)|no such|is not bound")
+GONE = re.compile(
+    r"can be named from here|cannot find|unknown|not in scope|has no (?:field|member|component|projection)|no such|is not bound"
+)
 VALUES = "allow values at which this goal is false"
 
 
@@ -116,7 +118,11 @@ class Said:
         if function.path in self.verdicts:
             return [function.path, *inner]
         within = [path for path in self.verdicts if path.startswith(start) and path.split("::")[-1] == function.name]
-        of_type = [path for path in within if function.owner and path.split("::")[-2:-1] and path.split("::")[-2].startswith(function.owner)]
+        of_type = [
+            path
+            for path in within
+            if function.owner and path.split("::")[-2:-1] and path.split("::")[-2].startswith(function.owner)
+        ]
         return (of_type or within) + inner
 
     def is_of(self, path: str, functions: Iterable[Optional[Function]]) -> bool:

@@ -206,9 +206,8 @@ class Crate:
             self.lay()
             status, said = self.check([], [])
             if status != 0 or not said.proved:
-                why = "NOT TRIED: the crate isn't proved as it stands: " + shorter(said.first_other())
                 for mutant in list(self.waiting):
-                    self.tell(mutant, why)
+                    self.tell(mutant, "NOT TRIED: the crate isn't proved as it stands: " + shorter(said.first_other()))
         while self.waiting:
             self.try_batch(next_batch(self.waiting, self.most))
         rmtree(self.root, ignore_errors=True)
@@ -245,6 +244,7 @@ class Crate:
         """Finds which mutants don't parse or compile: those whose lines are named, and else by halves."""
         if len(batch) == 1:
             self.tell(batch[0], "BAD MUTANT: it doesn't compile: " + shorter(said.compile[0][1]))
+            self.most = MOST
             return
         named = [mutant for mutant in batch if any(place in mutant.lines for place, _ in said.compile)]
         if not named:
@@ -305,7 +305,10 @@ class Crate:
             if not goal.error and text is not None and text not in before:
                 self.tell_goal(mutant, goal, goals, "answer")
                 return
-        self.tell(mutant, f"NO VERDICT: refused only by a name that is gone: {goals[0].of} of {path} ({goals[0].name}) {shorter(goals[0].error)}")
+        self.tell(
+            mutant,
+            f"NO VERDICT: refused only by a name that is gone: {goals[0].of} of {path} ({goals[0].name}) {shorter(goals[0].error)}",
+        )
 
 
 def path_of(folder: str) -> str:

@@ -23,16 +23,16 @@ find_roots() {
     done
 }
 
-# list_sources: names in `files` the sources below `roots`, in the order of their names. What editors, builds and tests leave there has other
-# names, or begins with a dot or a hash.
+# list_sources: names in `files` the sources below `roots`, in the order of their names. What editors, builds and tests leave there has
+# other names, or begins with a dot or a hash.
 list_sources() {
     mapfile -t files < <(find "${roots[@]}" \( -path 'web/*/*' -o -name __pycache__ \) -prune -o -type f ! -name '[.#]*' \
         \( -name '*.rt' -o -name '*.antt' -o -name '*.h' -o -name '*.py' -o -name '*.rs' -o -name Cargo.toml -o -name Cargo.lock \
         -o -name '*.html' -o -name '*.css' -o -name '*.mjs' -o -name '*.svg' -o -name VERSION \) -print 2>/dev/null | LC_ALL=C sort)
 }
 
-# take_sources PART...: names in `source_lines` a line `DIGEST  PART` for VERSION, each of these parts and each crate below: the digest of what
-# sha256sum says of its files, and of a crate's line of crates.txt before that. It fails where one can't be read.
+# take_sources PART...: names in `source_lines` a line `DIGEST  PART` for VERSION, each of these parts and each crate below: the digest of
+# what sha256sum says of its files, and of a crate's line of crates.txt before that. It fails where one can't be read.
 take_sources() {
     local room temporary=${TMPDIR:-/tmp}
     [[ -d $temporary ]] || temporary=/tmp
@@ -52,8 +52,8 @@ take_sources() {
     rm -rf "$room"
 }
 
-# is_touched FILE PART...: whether a source of these parts, or what it is compared with, was changed since that file was written. By the times
-# of change, which the system alone sets; a folder has a later one where something was taken out of it.
+# is_touched FILE PART...: whether a source of these parts, or what it is compared with, was changed since that file was written. By the
+# times of change, which the system alone sets; a folder has a later one where something was taken out of it.
 is_touched() {
     local each
     find_roots "${@:2}"
@@ -85,8 +85,8 @@ runs_here() {
     [[ $machine == 'Linux x86_64' ]] || not_taken unfit "what is released runs on Linux on x86-64, and this is $machine"
 }
 
-# find_file PATTERN: names in `file` the released file of that name, in `digest` what SHA256SUMS says of it, in `release` its version, and in
-# `top` the one folder that it holds.
+# find_file PATTERN: names in `file` the released file of that name, in `digest` what SHA256SUMS says of it, in `release` its version, and
+# in `top` the one folder that it holds.
 find_file() {
     local sum name each
     [[ -e released/SOURCES || -e released/SHA256SUMS ]] || not_taken none 'nothing is released here' || return
@@ -191,8 +191,8 @@ unpack() {
     find "$place" -maxdepth 1 -name '.new.*' -mmin +60 -exec rm -rf {} + 2>/dev/null || true
 }
 
-# take_released PATTERN WITHIN PART...: names in `taken` the folder of the released file of that name, unpacked, which has the file WITHIN, where
-# these parts are as they were released. They are compared again only once one was touched.
+# take_released PATTERN WITHIN PART...: names in `taken` the folder of the released file of that name, unpacked, which has the file
+# WITHIN, where these parts are as they were released. They are compared again only once one was touched.
 take_released() {
     local stamp began=${EPOCHREALTIME/[.,]/}
     find_file "$1" || return

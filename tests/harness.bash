@@ -140,6 +140,9 @@ wants_cargo() {
     ((${minor:-0} >= 81)) || { skipped 'there is no cargo 1.81' "$1" && return 1; }
 }
 
+# run_node FILE WORD...: runs Node.js where the test was started, in the machine's own language, which Chromium goes by.
+run_node() { (cd "$began" && unset LC_ALL && node "$root/$1" "${@:2}"); }
+
 # wants_chromium WHAT: whether there are Chromium and the Node.js that drives it.
 wants_chromium() {
     local version

@@ -1,10 +1,9 @@
 # How `tests/run` and `.ci/run` run parts: commands, each with the last line `N passed, M failed`, side by side, each in a process group of its
-# own. A script sources it behind harness.bash. An interruption ends all parts, and with the folder of the script their temporary ones.
+# own. A script sources it behind harness.bash. An interruption ends all parts.
 # shellcheck disable=SC2154  # what harness.bash sets
 
-# What parts said, and their temporary folder.
-mkdir "$room/said" "$room/tmp"
-export TMPDIR=$room/tmp
+# What parts said.
+mkdir "$room/said"
 
 # As many parts run at a time as there are processors. So many seconds they have to end once they are stopped.
 at_once=$(nproc) patience=10

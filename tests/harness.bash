@@ -11,7 +11,7 @@ itself=${itself#"$root/"}
 cd "$root" || exit 1
 
 # path_of FILE: the whole path of a file that was named where the test was started.
-path_of() { (cd "$began" && readlink -f "$1"); }
+path_of() { (cd "$began" && realpath -m -- "$1"); }
 
 # ---- What is tested -------------------------------------------------------------------------------------------------
 

@@ -1,11 +1,11 @@
 //! The arguments of `atlas`.
 
+use crate::arg_row::{ArgRow, Bound, Takes};
 use crate::mistake::Mistake;
-use crate::shared_words::{cells_of, cells_word};
+use crate::shared_words::{CELLS, cells_of};
 use crate::words::Telling;
-use clap::{Arg, ArgMatches, Command};
+use clap::ArgMatches;
 use lens_commands::AtlasJob;
-use std::alloc::{AllocError, Global};
 
 /// What `atlas` is asked for.
 #[derive(Drop)]
@@ -17,19 +17,17 @@ pub struct AtlasWords<'a> {
     pub progress: bool,
 }
 
-/// The command, without the arguments for its files.
-pub fn atlas_command<'a>(alloc: Global) -> Result<Command<'a>, AllocError> {
-    let out = Arg::new(alloc, "out")
-        .long("out")
-        .value_name("FOLDER")
-        .required(true)
-        .help("The folder to write into, which is made or is empty");
-    let cells = cells_word(alloc);
-    Command::new(alloc, "atlas")
-        .about("Write a folder of pictures with a page over all levels, and their survey")
-        .arg(out)?
-        .arg(cells)
-}
+/// The arguments of `atlas`, without those for its files.
+pub const ATLAS: &[ArgRow] = &[
+    ArgRow {
+        id: "out",
+        value: Some("FOLDER"),
+        takes: Takes::Text,
+        bound: Bound::Required,
+        help: "The folder to write into, which is made or is empty",
+    },
+    CELLS,
+];
 
 impl<'a> AtlasWords<'a> {
     /// Reads the arguments of `atlas`; `telling` has those for its files.

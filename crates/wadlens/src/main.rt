@@ -2,7 +2,9 @@
 //! ended.
 #![tactic(auto)]
 
+mod arg_row;
 mod atlas_words;
+mod command_words;
 mod disk_folder;
 mod judging_words;
 mod mistake;

@@ -3,55 +3,45 @@
 ghost use Rattle.std.specs.Prelude.{◌≡◌, ◌≤◌, length, vec_len};
 ghost use Rattle.wad_dir.specs.declared.set.TheConstants.{MAX_FILES};
 
+use crate::arg_row::{ArgRow, Bound, Takes};
 use crate::mistake::Mistake;
-use crate::shared_words::{cells_of, cells_word, reading_of, wide_word};
-use clap::{Arg, ArgAction, ArgMatches, Command};
+use crate::shared_words::{CELLS, WIDE, cells_of, reading_of, texts_of};
+use clap::ArgMatches;
 use lens_commands::PictureQuestion;
 use map_cells::Frame;
 use map_picture::View;
-use std::alloc::{AllocError, Global};
+use std::alloc::Global;
 use wad_dir::MAX_FILES;
 
 const BAD_FRAME: &str =
     "--frame wants four numbers from -32768 to 32767, the lesser first: X0,Y0,X1,Y1";
 
-/// The command with its arguments.
-pub fn picture_command<'a>(alloc: Global) -> Result<Command<'a>, AllocError> {
-    Command::new(alloc, "picture")
-        .about("Draw a level as an SVG on standard output")
-        .arg(wide_word(alloc))?
-        .arg(cells_word(alloc))?
-        .arg(frame_word(alloc))?
-        .arg(name_word(alloc))?
-        .arg(files_word(alloc))
-}
-
-// The option `--frame`.
-fn frame_word<'a>(alloc: Global) -> Arg<'a> {
-    Arg::new(alloc, "frame")
-        .long("frame")
-        .value_name("X0,Y0,X1,Y1")
-        .allow_hyphen_values(true)
-        .help("Draw the cells of this part of the map alone")
-}
-
-// The level's name.
-fn name_word<'a>(alloc: Global) -> Arg<'a> {
-    Arg::new(alloc, "name")
-        .value_name("NAME")
-        .required(true)
-        .help("The level's name, as E1M1")
-}
-
-// The files.
-fn files_word<'a>(alloc: Global) -> Arg<'a> {
-    Arg::new(alloc, "files")
-        .value_name("FILE")
-        .action(ArgAction::Append)
-        .num_args(1..)
-        .required(true)
-        .help("The files, at most 64, in one set: a later one hides the names of those before it")
-}
+/// The arguments of `picture`.
+pub const PICTURE: &[ArgRow] = &[
+    WIDE,
+    CELLS,
+    ArgRow {
+        id: "frame",
+        value: Some("X0,Y0,X1,Y1"),
+        takes: Takes::Hyphened,
+        bound: Bound::Free,
+        help: "Draw the cells of this part of the map alone",
+    },
+    ArgRow {
+        id: "name",
+        value: Some("NAME"),
+        takes: Takes::Place,
+        bound: Bound::Required,
+        help: "The level's name, as E1M1",
+    },
+    ArgRow {
+        id: "files",
+        value: Some("FILE"),
+        takes: Takes::Places,
+        bound: Bound::Required,
+        help: "The files, at most 64, in one set: a later one hides the names of those before it",
+    },
+];
 
 /// Which level is drawn, of which files.
 #[derive(Drop)]
@@ -64,10 +54,7 @@ pub struct PictureWords<'a> {
 impl<'a> PictureWords<'a> {
     /// Reads the arguments of `picture`.
     pub fn of(alloc: Global, matches: &ArgMatches<'a>) -> Result<PictureWords<'a>, Mistake> {
-        let mut files = Vec::new(alloc);
-        if let Some(paths) = matches.get_strs("files") {
-            files.extend_from_slice(paths)?;
-        }
+        let files = texts_of(alloc, matches, "files")?;
         if files.len() > MAX_FILES {
             return Err(Mistake::Told("at most 64 files form a set"));
         }

@@ -1,21 +1,23 @@
 //! Arguments that several commands take.
 
+use crate::arg_row::{ArgRow, Bound, Takes};
 use crate::mistake::Mistake;
-use clap::{Arg, ArgAction, ArgMatches, value_parser};
+use clap::ArgMatches;
 use map_cells::CellCount;
 use map_level::Reading;
-use std::alloc::Global;
+use std::alloc::{AllocError, Global};
 
 /// The default of `--cells`: how many cells the longer side of a picture has at most.
-const CELLS: u32 = 512;
+const DEFAULT_CELLS: u32 = 512;
 
 /// The option `--wide`: a level's indexes are read as numbers from 0 to 65535.
-pub fn wide_word<'a>(alloc: Global) -> Arg<'a> {
-    Arg::new(alloc, "wide")
-        .long("wide")
-        .action(ArgAction::SetTrue)
-        .help("Read a level's indexes as numbers from 0 to 65535")
-}
+pub const WIDE: ArgRow = ArgRow {
+    id: "wide",
+    value: None,
+    takes: Takes::Flag,
+    bound: Bound::Free,
+    help: "Read a level's indexes as numbers from 0 to 65535",
+};
 
 /// How a level's indexes are read, by a command's arguments.
 pub fn reading_of(matches: &ArgMatches<'_>) -> Reading {
@@ -26,17 +28,30 @@ pub fn reading_of(matches: &ArgMatches<'_>) -> Reading {
     }
 }
 
-/// The word for how many cells the longer side of a picture has at most.
-pub fn cells_word<'a>(alloc: Global) -> Arg<'a> {
-    Arg::new(alloc, "cells")
-        .long("cells")
-        .value_name("N")
-        .value_parser(value_parser!(u32).range(1..=1024))
-        .help("Draw at most N cells along the longer side [default: 512]")
-}
+/// The option `--cells`: how many cells the longer side of a picture has at most.
+pub const CELLS: ArgRow = ArgRow {
+    id: "cells",
+    value: Some("N"),
+    takes: Takes::Cells,
+    bound: Bound::Free,
+    help: "Draw at most N cells along the longer side [default: 512]",
+};
 
 /// How many cells a command's arguments ask for.
 pub fn cells_of(matches: &ArgMatches<'_>) -> Result<CellCount, Mistake> {
-    let cells = matches.get_one::<u32>("cells").unwrap_or(CELLS);
+    let cells = matches.get_one::<u32>("cells").unwrap_or(DEFAULT_CELLS);
     CellCount::new(cells).ok_or(Mistake::Told("--cells wants a number from 1 to 1024"))
+}
+
+/// The texts that a command's arguments have of this name.
+pub fn texts_of<'a>(
+    alloc: Global,
+    matches: &ArgMatches<'a>,
+    id: &str,
+) -> Result<Vec<&'a str>, AllocError> {
+    let mut texts = Vec::new(alloc);
+    if let Some(given) = matches.get_strs(id) {
+        texts.extend_from_slice(given)?;
+    }
+    Ok(texts)
 }

@@ -1,10 +1,12 @@
 //! What the command line asks for.
 
-use crate::atlas_words::{AtlasWords, atlas_command};
-use crate::judging_words::{bases_of, ignore_word, rules_of, with_judging};
+use crate::atlas_words::AtlasWords;
+use crate::command_words::{command_named, commands};
+use crate::judging_words::{bases_of, rules_of};
 use crate::mistake::Mistake;
-use crate::picture_words::{PictureWords, picture_command};
-use clap::{Arg, ArgAction, ArgMatches, Command, value_parser};
+use crate::picture_words::PictureWords;
+use crate::shared_words::texts_of;
+use clap::{ArgMatches, Command};
 use lens_reports::{Job, SHOWN, Word};
 use lens_texts::Form;
 use std::alloc::{AllocError, Global};
@@ -61,184 +63,35 @@ pub fn read_words<'a>(alloc: Global, words: &'a [String]) -> Result<Task<'a>, Mi
 /// The usage of a command that takes values, and of the program for any other name. It goes with a mistake whose text lacks
 /// it.
 pub fn usage(alloc: Global, command: &str) -> Result<String, AllocError> {
-    command_named(alloc, command)?.render_usage()
+    match shown(command) {
+        Some(shown) => command_named(alloc, command)?
+            .bin_name(shown)?
+            .render_usage(),
+        None => program(alloc)?.render_usage(),
+    }
 }
 
-// The command of this name, if it takes values, and else the program.
-fn command_named<'a>(alloc: Global, name: &str) -> Result<Command<'a>, AllocError> {
-    match name {
-        "check" => check_command(alloc)?.bin_name("wadlens check"),
-        "survey" => survey_command(alloc)?.bin_name("wadlens survey"),
-        "picture" => picture_command(alloc)?.bin_name("wadlens picture"),
-        "cut" => cut_command(alloc)?.bin_name("wadlens cut"),
-        "atlas" => with_levels(alloc, atlas_command(alloc)?)?.bin_name("wadlens atlas"),
-        _ => program(alloc),
+// The command of this name as its usage shows it, if it takes values.
+fn shown(command: &str) -> Option<&'static str> {
+    match command {
+        "check" => Some("wadlens check"),
+        "survey" => Some("wadlens survey"),
+        "picture" => Some("wadlens picture"),
+        "cut" => Some("wadlens cut"),
+        "atlas" => Some("wadlens atlas"),
+        _ => None,
     }
 }
 
 // The program with all its commands.
 fn program<'a>(alloc: Global) -> Result<Command<'a>, AllocError> {
-    let program = Command::new(alloc, "wadlens")
+    let commands = commands(alloc)?;
+    Command::new(alloc, "wadlens")
         .version("0.1.0")
         .about("Looks over all levels of Doom WAD files")
         .subcommand_required(true)
-        .disable_help_subcommand(true);
-    with_single(alloc, with_archives(alloc, program)?)
-}
-
-// Adds the commands over many files.
-fn with_archives<'a>(alloc: Global, program: Command<'a>) -> Result<Command<'a>, AllocError> {
-    program
-        .subcommand(check_command(alloc)?)?
-        .subcommand(survey_command(alloc)?)?
-        .subcommand(with_levels(alloc, atlas_command(alloc)?)?)?
-        .subcommand(demos_command(alloc)?)
-}
-
-// Adds the commands over one level or demo.
-fn with_single<'a>(alloc: Global, program: Command<'a>) -> Result<Command<'a>, AllocError> {
-    program
-        .subcommand(picture_command(alloc)?)?
-        .subcommand(cut_command(alloc)?)?
-        .subcommand(compare_command(alloc)?)?
-        .subcommand(assemble_command(alloc))
-}
-
-// The command `check`.
-fn check_command<'a>(alloc: Global) -> Result<Command<'a>, AllocError> {
-    let most = Arg::new(alloc, "max")
-        .long("max")
-        .value_name("N")
-        .value_parser(value_parser!(u64))
-        .help(
-            "Show at most N findings or warnings of one code in one level; 0 shows all [default: 20]",
-        );
-    let json = Arg::new(alloc, "json")
-        .long("json")
-        .action(ArgAction::SetTrue)
-        .help("Write a JSON object a line for each finding");
-    let quiet = Arg::new(alloc, "quiet")
-        .long("quiet")
-        .action(ArgAction::SetTrue)
-        .help("Write nothing to standard output: the status says what was found")
-        .conflicts_with("json")?;
-    let check = Command::new(alloc, "check")
-        .about("Report what is wrong with each level, a line for each finding")
-        .arg(most)?
-        .arg(json)?
-        .arg(quiet)?
-        .arg(ignore_word(alloc))?;
-    with_levels(alloc, check)
-}
-
-// The command `survey`.
-fn survey_command<'a>(alloc: Global) -> Result<Command<'a>, AllocError> {
-    let survey = Command::new(alloc, "survey")
-        .about("Write a JSON object a line for each level and each refused file")
-        .arg(ignore_word(alloc))?;
-    with_levels(alloc, survey)
-}
-
-// The command `demos`.
-fn demos_command<'a>(alloc: Global) -> Result<Command<'a>, AllocError> {
-    let json = Arg::new(alloc, "json")
-        .long("json")
-        .action(ArgAction::SetTrue)
-        .help("Write a JSON object a line for each demo");
-    let demos = Command::new(alloc, "demos")
-        .about("List demos, one a line: demo files, and the demos in WAD files")
-        .arg(json)?;
-    with_files(alloc, demos)
-}
-
-// The command `compare`.
-fn compare_command<'a>(alloc: Global) -> Result<Command<'a>, AllocError> {
-    let a = Arg::new(alloc, "a")
-        .value_name("A")
-        .required(true)
-        .help("A demo file");
-    let b = Arg::new(alloc, "b")
-        .value_name("B")
-        .required(true)
-        .help("Another one");
-    Command::new(alloc, "compare")
-        .about("Report where two demo files first differ, in one line")
-        .arg(a)?
-        .arg(b)
-}
-
-// The command `assemble`, which takes no arguments.
-fn assemble_command<'a>(alloc: Global) -> Command<'a> {
-    Command::new(alloc, "assemble").about(
-        "Make a demo from a listing on standard input, as `wadlook demo` prints it",
-    )
-}
-
-// The command `cut`.
-fn cut_command<'a>(alloc: Global) -> Result<Command<'a>, AllocError> {
-    let entry = Arg::new(alloc, "entry")
-        .long("entry")
-        .value_name("G")
-        .value_parser(value_parser!(u64))
-        .required(true)
-        .help("The number of the level's label among the entries of FILE, from 0 on");
-    let file = Arg::new(alloc, "file")
-        .value_name("FILE")
-        .required(true)
-        .help("A WAD file");
-    Command::new(alloc, "cut")
-        .about("Extract one level, even a hidden one, as a WAD file on standard output")
-        .arg(entry)?
-        .arg(file)
-}
-
-// Adds the arguments for files, and for how their levels are judged.
-fn with_levels<'a>(alloc: Global, command: Command<'a>) -> Result<Command<'a>, AllocError> {
-    with_files(alloc, with_judging(alloc, command)?)
-}
-
-// Adds the arguments for files.
-fn with_files<'a>(alloc: Global, command: Command<'a>) -> Result<Command<'a>, AllocError> {
-    command
-        .arg(files_word(alloc)?)?
-        .arg(list_word(alloc))?
-        .arg(null_word(alloc)?)?
-        .arg(progress_word(alloc))
-}
-
-// The arguments that are files.
-fn files_word<'a>(alloc: Global) -> Result<Arg<'a>, AllocError> {
-    Arg::new(alloc, "files")
-        .value_name("FILE")
-        .action(ArgAction::Append)
-        .num_args(1..)
-        .help("The files, each a set by itself")
-        .required_unless_present("files-from")
-}
-
-// The option `--files-from`: a list of more files.
-fn list_word<'a>(alloc: Global) -> Arg<'a> {
-    Arg::new(alloc, "files-from")
-        .long("files-from")
-        .value_name("LIST")
-        .help("After FILE... take the paths in LIST, one a line; `-` is standard input")
-}
-
-// The option `--null`: the paths of that list end in NULs.
-fn null_word<'a>(alloc: Global) -> Result<Arg<'a>, AllocError> {
-    Arg::new(alloc, "null")
-        .long("null")
-        .action(ArgAction::SetTrue)
-        .help("The paths of LIST are ended by NULs")
-        .requires_arg("files-from")
-}
-
-// The option `--progress`.
-fn progress_word<'a>(alloc: Global) -> Arg<'a> {
-    Arg::new(alloc, "progress")
-        .long("progress")
-        .action(ArgAction::SetTrue)
-        .help("Show on standard error how many files and levels are done")
+        .disable_help_subcommand(true)
+        .subcommands(commands)
 }
 
 // What the arguments ask for. Values that are read here without a default are required.
@@ -300,15 +153,14 @@ fn job_over<'a>(
     word: Word,
     matches: &ArgMatches<'a>,
 ) -> Result<Telling<'a>, Mistake> {
-    let mut files = Vec::new(alloc);
-    if let Some(paths) = matches.get_strs("files") {
-        files.extend_from_slice(paths)?;
-    }
+    let rules = rules_of(matches)?;
+    let bases = bases_of(alloc, matches)?;
+    let files = texts_of(alloc, matches, "files")?;
     Ok(Telling {
         job: Job {
             word,
-            rules: rules_of(matches)?,
-            bases: bases_of(alloc, matches)?,
+            rules,
+            bases,
             files,
             list: matches.get_str("files-from"),
             list_end: if matches.get_flag("null") { 0 } else { b'\n' },

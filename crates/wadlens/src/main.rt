@@ -13,6 +13,7 @@ mod progress;
 mod shared_words;
 mod words;
 
+use atlas_words::AtlasWords;
 use clap::error::ErrorKind;
 use disk_folder::DiskFolder;
 use le_rec::ToWrite;
@@ -21,13 +22,14 @@ use lens_engines::Verdict;
 use lens_reports::{End, Output, exit_status, run_cut, run_job};
 use line_io::Disk;
 use mistake::Mistake;
+use picture_words::PictureWords;
 use progress::Progress;
 use std::fmt::Display;
 use std::io::{IsTerminal, Write};
 use std::process::ExitCode;
 use std::rt::{Env, Files};
 use std::{env, io};
-use words::{Task, read_words, usage};
+use words::{CompareWords, CutWords, Task, Telling, read_words, usage};
 
 // The refusal of a run with an argument that isn't UTF-8: the kit hands arguments on as text only.
 const NOT_UTF_8: &str =
@@ -56,7 +58,10 @@ fn do_words<R: Env + Files + Input + Print + Eprint + AllocGlobal, E: Write + Dr
     match read_words(rt.alloc(), &words) {
         Ok(task) => do_task(rt, &task, errors, line, is_terminal),
         Err(mistake) => {
-            let command = words.get(1).map(|word| word.as_str()).unwrap_or("");
+            let command = match words.get(1) {
+                Some(word) => word.as_str(),
+                None => "",
+            };
             Err(tell_mistake(rt, command, &mistake))
         }
     }
@@ -70,72 +75,128 @@ fn do_task<R: Files + Input + Print + AllocGlobal, E: Write + Drop>(
     line: E,
     is_terminal: bool,
 ) -> Result<Verdict, End> {
-    let mut output = Output::new(rt.alloc(), io::writer(rt))?;
-    let mut told = ToWrite::new(errors);
     match task {
         Task::Tell(telling) => {
             let shown = (telling.progress || is_terminal).then_some(line);
-            let mut watch = Progress::new(shown);
             if telling.quiet {
-                let mut nowhere = Output::new(rt.alloc(), io::sink())?;
-                return run_job(
-                    rt.alloc(),
-                    &telling.job,
-                    &Disk(rt),
-                    rt.reader(),
-                    &mut nowhere,
-                    &mut told,
-                    &mut watch,
-                );
+                tell(rt, telling, io::sink(), errors, shown)
+            } else {
+                tell(rt, telling, io::writer(rt), errors, shown)
             }
-            run_job(
-                rt.alloc(),
-                &telling.job,
-                &Disk(rt),
-                rt.reader(),
-                &mut output,
-                &mut told,
-                &mut watch,
-            )
         }
         Task::Atlas(words) => {
             let shown = (words.progress || is_terminal).then_some(line);
-            run_atlas(
-                rt.alloc(),
-                &words.job,
-                &Disk(rt),
-                rt.reader(),
-                &mut DiskFolder::new(rt, words.folder),
-                &mut told,
-                &mut Progress::new(shown),
-            )
+            make_atlas(rt, words, errors, shown)
         }
-        Task::Cut(cut) => run_cut(
-            rt.alloc(),
-            cut.entry,
-            cut.path.as_bytes(),
-            &Disk(rt),
-            &mut output,
-            &mut told,
-        ),
-        Task::Draw(words) => run_picture(
-            rt.alloc(),
-            words.question(),
-            words.files(),
-            &Disk(rt),
-            &mut output,
-            &mut told,
-        ),
-        Task::Compare(compare) => run_compare(
-            rt.alloc(),
-            compare.path_a.as_bytes(),
-            compare.path_b.as_bytes(),
-            &Disk(rt),
-            &mut output,
-            &mut told,
-        ),
-        Task::Assemble => run_assemble(rt.alloc(), rt.reader(), &mut output, &mut told),
+        Task::Cut(words) => cut(rt, words, errors),
+        Task::Draw(words) => draw(rt, words, errors),
+        Task::Compare(words) => compare(rt, words, errors),
+        Task::Assemble => assemble(rt, errors),
     }
+}
+
+// Reports on files.
+fn tell<R: Files + Input + AllocGlobal, O: Write + Drop, E: Write + Drop>(
+    rt: &R,
+    telling: &Telling<'_>,
+    output: O,
+    errors: E,
+    shown: Option<E>,
+) -> Result<Verdict, End> {
+    let mut output = Output::new(rt.alloc(), output)?;
+    let mut told = ToWrite::new(errors);
+    let mut watch = Progress::new(shown);
+    run_job(
+        rt.alloc(),
+        &telling.job,
+        &Disk(rt),
+        rt.reader(),
+        &mut output,
+        &mut told,
+        &mut watch,
+    )
+}
+
+// Makes an atlas.
+fn make_atlas<R: Files + Input + AllocGlobal, E: Write + Drop>(
+    rt: &R,
+    words: &AtlasWords<'_>,
+    errors: E,
+    shown: Option<E>,
+) -> Result<Verdict, End> {
+    run_atlas(
+        rt.alloc(),
+        &words.job,
+        &Disk(rt),
+        rt.reader(),
+        &mut DiskFolder::new(rt, words.folder),
+        &mut ToWrite::new(errors),
+        &mut Progress::new(shown),
+    )
+}
+
+// Cuts a level out.
+fn cut<R: Files + Print + AllocGlobal, E: Write + Drop>(
+    rt: &R,
+    words: &CutWords<'_>,
+    errors: E,
+) -> Result<Verdict, End> {
+    let mut output = Output::new(rt.alloc(), io::writer(rt))?;
+    let mut told = ToWrite::new(errors);
+    run_cut(
+        rt.alloc(),
+        words.entry,
+        words.path.as_bytes(),
+        &Disk(rt),
+        &mut output,
+        &mut told,
+    )
+}
+
+// Draws a level.
+fn draw<R: Files + Print + AllocGlobal, E: Write + Drop>(
+    rt: &R,
+    words: &PictureWords<'_>,
+    errors: E,
+) -> Result<Verdict, End> {
+    let mut output = Output::new(rt.alloc(), io::writer(rt))?;
+    let mut told = ToWrite::new(errors);
+    run_picture(
+        rt.alloc(),
+        words.question(),
+        words.files(),
+        &Disk(rt),
+        &mut output,
+        &mut told,
+    )
+}
+
+// Compares two demo files.
+fn compare<R: Files + Print + AllocGlobal, E: Write + Drop>(
+    rt: &R,
+    words: &CompareWords<'_>,
+    errors: E,
+) -> Result<Verdict, End> {
+    let mut output = Output::new(rt.alloc(), io::writer(rt))?;
+    let mut told = ToWrite::new(errors);
+    run_compare(
+        rt.alloc(),
+        words.path_a.as_bytes(),
+        words.path_b.as_bytes(),
+        &Disk(rt),
+        &mut output,
+        &mut told,
+    )
+}
+
+// Puts a demo together from its listing on standard input.
+fn assemble<R: Input + Print + AllocGlobal, E: Write + Drop>(
+    rt: &R,
+    errors: E,
+) -> Result<Verdict, End> {
+    let mut output = Output::new(rt.alloc(), io::writer(rt))?;
+    let mut told = ToWrite::new(errors);
+    run_assemble(rt.alloc(), rt.reader(), &mut output, &mut told)
 }
 
 // The program's arguments, its name first.

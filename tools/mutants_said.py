@@ -11,7 +11,6 @@ ANSWER = re.compile(r"^\./proofs/(.+)/(Answers|Invariants|Proof)\.antt:\d+:\d+: 
 BEHIND = re.compile(r"\d+ declarations? that depends? on .* not checked: (.*)")
 LEMMA = re.compile(r"^\./((?:proofs|specs)/\S+\.antt):\d+:\d+: error: (.*)")
 REFUSED = re.compile(r"^(src/\S+?\.rt):(\d+):\d+: error(.*)")
-STATED = re.compile(r"^note: `([^`]+)` of (proofs/\S+)/Answers\.antt must prove: (.*)")
 
 # What an answer's error says where a name that it takes isn't there.
 GONE = re.compile(
@@ -56,7 +55,6 @@ class Said:
         self.goals: List[Goal] = []
         self.compile: List[Tuple[Line, str]] = []
         self.lemmas: List[str] = []
-        self.stated: Dict[Tuple[str, str], str] = {}
         self.unfit: Dict[str, Dict[str, str]] = {}
         for line in self.lines:
             self.read(line)
@@ -74,10 +72,6 @@ class Said:
         found = OPEN.match(line)
         if found:
             self.goals.append(self.open_goal(found))
-            return
-        found = STATED.match(line)
-        if found:
-            self.stated[found[2], found[1]] = found[3]
             return
         found = REFUSED.match(line)
         if found:

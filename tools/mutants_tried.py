@@ -174,12 +174,12 @@ class Crate:
             if (self.folder / part).is_dir():
                 copytree(self.folder / part, self.copy / part)
 
-    def check(self, batch: List[Mutant], bare: List[Mutant]) -> Tuple[Optional[int], Said]:
-        """Checks the crate with the lines of a batch, and without the answers that no longer fit those in `bare`."""
+    def check(self, batch: List[Mutant]) -> Tuple[Optional[int], Said]:
+        """Checks the crate with the lines of a batch, and without the answers that no longer fit it."""
         began = time.time()
         self.restore()
         put_lines(self.copy, self.sources, batch)
-        unfit = unfit_of(bare)
+        unfit = unfit_of(batch)
         for folder, names in unfit.items():
             leave_out(self.copy / folder / "Answers.antt", names)
         status, log, cpu = self.machine.check(self.copy)
@@ -204,7 +204,7 @@ class Crate:
                 self.tell(mutant, f"BAD MUTANT: {mutant.bad}")
         if self.waiting:
             self.lay()
-            status, said = self.check([], [])
+            status, said = self.check([])
             if status != 0 or not said.proved:
                 for mutant in list(self.waiting):
                     self.tell(mutant, "NOT TRIED: the crate isn't proved as it stands: " + shorter(said.first_other()))
@@ -229,15 +229,13 @@ class Crate:
         )
 
     def try_batch(self, batch: List[Mutant]) -> None:
-        status, said = self.check(batch, batch)
+        status, said = self.check(batch)
         if said.compile and not said.judged:
             self.part_uncompiled(batch, said)
         elif status not in (0, 1) or not said.judged:
             self.part_unanswered(batch, status, said)
         else:
-            gone = [mutant for mutant in batch if mutant.gone and mutant.unfit]
-            stands = self.check([], gone)[1] if gone else said
-            moved = [self.judge(mutant, said, stands, len(batch) == 1) for mutant in batch]
+            moved = [self.judge(mutant, said, len(batch) == 1) for mutant in batch]
             self.most = self.most if any(moved) else max(1, len(batch) // 2)
 
     def part_uncompiled(self, batch: List[Mutant], said: Said) -> None:
@@ -262,7 +260,7 @@ class Crate:
 
     # ---- The verdicts
 
-    def judge(self, mutant: Mutant, said: Said, stands: Said, alone: bool) -> bool:
+    def judge(self, mutant: Mutant, said: Said, alone: bool) -> bool:
         """Judges a mutant of a batch, where that can be done; gives whether it is done with, or is tried in another way."""
         goals = said.of(mutant.functions)
         if alone and not goals:
@@ -270,7 +268,7 @@ class Crate:
         if alone and said.proved:
             self.tell(mutant, "NOT REFUSED: all is proved" + (", without the answers that no longer fit" if mutant.unfit else ""))
         elif goals:
-            self.judge_goals(mutant, goals, said, stands)
+            self.judge_goals(mutant, goals, said)
         elif alone:
             self.tell(mutant, "NO VERDICT: " + shorter(said.first_other()))
         elif said.all_proved(mutant.functions):
@@ -280,35 +278,21 @@ class Crate:
             return False
         return True
 
-    def judge_goals(self, mutant: Mutant, goals: List[Goal], said: Said, stands: Said) -> None:
+    def judge_goals(self, mutant: Mutant, goals: List[Goal], said: Said) -> None:
         """Tells at which goal a mutant is refused, or has it tried again without the answers that no longer fit."""
         unfit = {folder: names for folder, names in said.unfit.items() if any(path_of(folder) == goal.path for goal in goals)}
         gone = mutant.gone or any(is_gone(text) for names in unfit.values() for text in names.values())
         first = goals[0]
         if first.values:
             self.tell_goal(mutant, first, goals, "values")
-        elif not first.error and not gone:
-            self.tell_goal(mutant, first, goals, "answer" if mutant.unfit else "search")
+        elif not first.error and (mutant.unfit or not gone):
+            self.tell_goal(mutant, first, goals, "name" if gone else "answer" if mutant.unfit else "search")
         elif any(not set(names) <= mutant.unfit.get(folder, set()) for folder, names in unfit.items()):
             for folder, names in unfit.items():
                 mutant.unfit.setdefault(folder, set()).update(names)
             mutant.gone = gone
         else:
-            self.judge_gone(mutant, goals, said, stands)
-
-    def judge_gone(self, mutant: Mutant, goals: List[Goal], said: Said, stands: Said) -> None:
-        """Tells of a mutant whose answers took a name that is gone: some goal has to be another one than those of the body as it stands."""
-        path = goals[0].path
-        before = {text for (folder, _), text in stands.stated.items() if path_of(folder) == path}
-        for goal in goals:
-            text = next((text for key, text in said.stated.items() if key[1] == goal.name and path_of(key[0]) == path), None)
-            if not goal.error and text is not None and text not in before:
-                self.tell_goal(mutant, goal, goals, "answer")
-                return
-        self.tell(
-            mutant,
-            f"NO VERDICT: refused only by a name that is gone: {goals[0].of} of {path} ({goals[0].name}) {shorter(goals[0].error)}",
-        )
+            self.tell(mutant, f"NO VERDICT: {first.of} of {first.path} ({first.name}): {shorter(first.error)}")
 
 
 def path_of(folder: str) -> str:

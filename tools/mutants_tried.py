@@ -126,11 +126,14 @@ class Crate:
     def __init__(self, name: str, machine: Machine) -> None:
         self.name, self.machine = name, machine
         self.folder = Path("crates") / name
+        # What is tried, also where somebody changes the files meanwhile.
+        self.digest = kept.digest_of(self.folder)
         self.sources = Sources(self.folder)
         self.mutants = mutants_of(self.folder)
         self.waiting = [mutant for mutant in self.mutants if not mutant.bad]
         self.root = (machine.room or Path()) / name
         self.copy = self.root / "crates" / name
+        self.stands = self.root / "as_it_stands"
         self.refused, self.failed = 0, False
         self.checks, self.cpu = 0, 0.0
         self.most = MOST
@@ -165,14 +168,15 @@ class Crate:
         for line in lines:
             each = line.split(":")[0].split()[0]
             copytree(Path("crates") / each, root / "crates" / each, ignore=skipped)
+        copytree(self.copy, self.stands)
         subprocess.run(["git", "init", "-q", str(root)], check=True)
 
     def restore(self) -> None:
-        """Puts the crate as it stands into the copy."""
+        """Puts the crate back as it stands."""
         for part in ("src", "specs", "proofs"):
             rmtree(self.copy / part, ignore_errors=True)
-            if (self.folder / part).is_dir():
-                copytree(self.folder / part, self.copy / part)
+            if (self.stands / part).is_dir():
+                copytree(self.stands / part, self.copy / part)
 
     def check(self, batch: List[Mutant]) -> Tuple[Optional[int], Said]:
         """Checks the crate with the lines of a batch, and without the answers that no longer fit it."""
@@ -216,7 +220,9 @@ class Crate:
     def record(self) -> None:
         """Writes that all were refused; takes an earlier record away where one isn't."""
         path = self.folder / kept.RECORD
-        if self.refused == len(self.mutants):
+        if kept.digest_of(self.folder) != self.digest:
+            print(f"== {self.name} changed while its mutants were tried: nothing is recorded", flush=True)
+        elif self.refused == len(self.mutants):
             path.parent.mkdir(exist_ok=True)
             path.write_text(kept.text_of(self.folder, self.machine.kit, date.today().isoformat()), encoding="utf-8")
         elif self.failed and path.exists():
@@ -251,7 +257,7 @@ class Crate:
             mutant.alone = True
 
     def part_unanswered(self, batch: List[Mutant], status: Optional[int], said: Said) -> None:
-        """Tries those of a check that died in smaller batches, each twice at most by itself."""
+        """Tries those of a check that died in smaller batches."""
         if len(batch) > 1:
             self.most = max(1, len(batch) // 2)
             return

@@ -204,6 +204,14 @@ def put_lines(crate: Path, sources: Sources, batch: Iterable[Mutant]) -> None:
 DECLARED = re.compile(r"^(?:pub\s+|private\s+|abbrev\s+|ghost\s+)*([^\s:=(){}]+)\s")
 
 
+ANSWERED = re.compile(r"^pub\s+(\S+)\s+: goal\.", re.M)
+
+
+def goals_of(path: Path) -> Set[str]:
+    """The goals that a file of answers answers."""
+    return set(ANSWERED.findall(path.read_text(encoding="utf-8"))) if path.exists() else set()
+
+
 def leave_out(path: Path, names: Set[str]) -> None:
     """Takes these declarations out of a file of answers, and the whole file where one of them isn't found at its margin."""
     block, kept, seen = "", [], set()

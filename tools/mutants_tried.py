@@ -12,7 +12,7 @@ from shutil import copytree, ignore_patterns, rmtree
 from typing import Dict, List, Optional, Set, Tuple
 
 import mutants_kept as kept
-from mutants_edits import Function, Mutant, Sources, leave_out, mutants_of, next_batch, put_lines
+from mutants_edits import Function, Mutant, Sources, goals_of, leave_out, mutants_of, next_batch, put_lines
 from mutants_said import Goal, Said, in_order, is_gone, shorter
 
 # At most so many mutants are tried in one copy, and a check has at most so many seconds, and so many MB to begin with.
@@ -285,20 +285,36 @@ class Crate:
         return True
 
     def judge_goals(self, mutant: Mutant, goals: List[Goal], said: Said) -> None:
-        """Tells at which goal a mutant is refused, or has it tried again without the answers that no longer fit."""
-        unfit = {folder: names for folder, names in said.unfit.items() if any(path_of(folder) == goal.path for goal in goals)}
-        gone = mutant.gone or any(is_gone(text) for names in unfit.values() for text in names.values())
+        """Tells at which goal a mutant is refused, or has it tried again without an answer that no longer fits."""
         first = goals[0]
         if first.values:
             self.tell_goal(mutant, first, goals, "values")
-        elif not first.error and (mutant.unfit or not gone):
-            self.tell_goal(mutant, first, goals, "name" if gone else "answer" if mutant.unfit else "search")
-        elif any(not set(names) <= mutant.unfit.get(folder, set()) for folder, names in unfit.items()):
-            for folder, names in unfit.items():
-                mutant.unfit.setdefault(folder, set()).update(names)
-            mutant.gone = gone
-        else:
+        elif not first.error:
+            self.tell_goal(mutant, first, goals, self.how(mutant, first, said))
+        elif not self.leave_out_next(mutant, goals, said):
             self.tell(mutant, f"NO VERDICT: {first.of} of {first.path} ({first.name}): {shorter(first.error)}")
+
+    def how(self, mutant: Mutant, goal: Goal, said: Said) -> str:
+        """How a goal that is left open was proved as the body stands."""
+        if any(goal.name in names for names in mutant.unfit.values()):
+            return "name" if mutant.gone else "answer"
+        # A goal is named by the conditions on its way: that of an answer which isn't there may be this one.
+        texts = [text for folder, names in said.unfit.items() if path_of(folder) == goal.path for text in names.values()]
+        return "name" if any(is_gone(text) for text in texts) else "search"
+
+    def leave_out_next(self, mutant: Mutant, goals: List[Goal], said: Said) -> bool:
+        """Notes one answer more that is left out: one search that fails is enough. Gives whether there is one."""
+        for folder, names in said.unfit.items():
+            left = [name for name in names if name not in mutant.unfit.get(folder, ())]
+            if not left or not any(path_of(folder) == goal.path for goal in goals):
+                continue
+            answered = goals_of(self.stands / folder / "Answers.antt")
+            left.sort(key=lambda name: (not names[name], is_gone(names[name]), not name.startswith("returns")))
+            chosen = [name for name in left if name in answered][:1] or left
+            mutant.unfit.setdefault(folder, set()).update(chosen)
+            mutant.gone = any(is_gone(names[name]) for name in chosen)
+            return True
+        return False
 
 
 def path_of(folder: str) -> str:

@@ -60,8 +60,14 @@ def is_tried(crate: Path) -> bool:
     return (crate / RECORD).read_text(encoding="utf-8") == text_of(crate, kit, day)
 
 
+def wants_record(crate: Path) -> bool:
+    """Whether a crate has mutants that the gate doesn't try itself, or a record."""
+    return any((crate / RECORD.parent).glob("*.edit")) or (crate / RECORD).exists()
+
+
 def check(names: List[str]) -> int:
-    """Prints which of these crates have no right record; gives how many."""
+    """Prints which of these crates lack a right record; gives how many."""
+    names = [name for name in names if wants_record(Path("crates") / name)]
     wrong = [name for name in names if not is_tried(Path("crates") / name)]
     for name in wrong:
         print(f"{name} changed since its mutants were tried: tools/mutants {name}")

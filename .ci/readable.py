@@ -2,6 +2,8 @@
 
     limits PAGE      more than 180 lines, a line of more than 110 columns, a table's cell of more than 20 words
     sentences PAGE   a mean of more than 18 words a sentence, with the longest ones; of Markdown, or of a man page
+    plain PAGE       each sentence that begins with What, That or an -ing form, and those with three pronouns or more where they are more
+                     than one in a hundred; of Markdown, or of a man page
     links PAGE       links and pictures that lead nowhere, within the page's folder tree; of Markdown
 
 Of a page's sentences no code, table, heading or synopsis is counted, and of a link its text alone. A list's item, a paragraph or what
@@ -13,6 +15,7 @@ import re
 import sys
 
 MOST_LINES, MOST_COLUMNS, MOST_WORDS_A_CELL, MOST_WORDS_A_SENTENCE = 180, 110, 20, 18
+MANY_PRONOUNS, SENTENCES_PER_DENSE = 3, 100
 
 FENCE = re.compile(r"^\s*```")
 ITEM = re.compile(r"^\s*(?:[-*]|\d+\.)\s+")
@@ -131,6 +134,65 @@ def sentences(page):
         yield from (f"{len(each)}: {' '.join(each)}" for each in sorted(found, key=len)[-5:])
 
 
+# ---- Plain sentences ----------------------------------------------------------------------------------------------------
+
+# Words in -ing that are no forms of a verb.
+NOUNS = {"anything", "everything", "nothing", "something", "string", "thing"}
+
+# Words that always stand for a noun, and words that do where no noun follows.
+PRONOUNS = {"it", "its", "ones", "their", "them", "they"}
+POINTERS = {"one", "that", "these", "this", "those"}
+NUMBERS = re.compile(r"\bone (by one|after another)\b")
+
+PREPOSITIONS = set("after at before behind by for from in like of on over than to under with without".split())
+# Words before which `one`, `this` and the like stand alone.
+FOLLOWERS = PREPOSITIONS | set(
+    "also alone and are aren't as be both but can can't did do does doesn't don't had has have if is isn't may must nor only or so than "
+    "that then too until was were when where which while who whose will would".split()
+)
+
+
+def bare(word):
+    """A word without the marks around it."""
+    return re.sub(r"^\W+|\W+$", "", word).lower()
+
+
+def is_pronoun(before, word, after):
+    """Whether a word stands for a noun. `one`, `this` and the like do where no noun follows, and `that` where no clause does."""
+    this, following = bare(word).partition("'")[0], bare(after)
+    if this not in POINTERS:
+        return this in PRONOUNS
+    if re.search(r"[,.;:)]$", word) or not after:
+        return True
+    if this == "that":
+        return not before or following == "of" or (bare(before) in PREPOSITIONS and following in FOLLOWERS)
+    if this == "this" and re.search(r"[^s]s$", following):
+        return True
+    return following in FOLLOWERS and (this, following) != ("one", "of")
+
+
+def pronouns(sentence):
+    """How many pronouns a sentence has."""
+    row = ["", *NUMBERS.sub("", " ".join(sentence)).split(), ""]
+    return sum(map(is_pronoun, row, row[1:], row[2:]))
+
+
+def has_odd_beginning(sentence):
+    """Whether a sentence begins with a clause or an -ing form, where a plain subject would do."""
+    first = bare(sentence[0])
+    return first in ("what", "that") or (first.endswith("ing") and first.isalpha() and first not in NOUNS)
+
+
+def plain(page):
+    """The sentences of a page that are hard to follow, where there are too many."""
+    found = list(sentences_of(page))
+    for sentence in filter(has_odd_beginning, found):
+        yield f"begins with {sentence[0]}: {' '.join(sentence)}"
+    dense = [each for each in found if pronouns(each) >= MANY_PRONOUNS]
+    if len(dense) > len(found) // SENTENCES_PER_DENSE:
+        yield from (f"{pronouns(each)} pronouns: {' '.join(each)}" for each in dense)
+
+
 # ---- Links --------------------------------------------------------------------------------------------------------------
 
 
@@ -154,7 +216,7 @@ def links(page):
                 yield f"line {number}: there is no heading {target}"
 
 
-CHECKS = {"limits": limits, "sentences": sentences, "links": links}
+CHECKS = {"limits": limits, "sentences": sentences, "plain": plain, "links": links}
 
 
 def main():

@@ -136,8 +136,8 @@ def sentences(page):
 
 # ---- Plain sentences ----------------------------------------------------------------------------------------------------
 
-# Words in -ing that are no forms of a verb.
-NOUNS = {"anything", "everything", "nothing", "something", "string", "thing"}
+# Words in -ing that are no -ing forms.
+NO_FORMS = {"anything", "bring", "during", "everything", "nothing", "something", "string", "thing"}
 
 # Words that always stand for a noun, and words that do where no noun follows.
 PRONOUNS = {"it", "its", "ones", "their", "them", "they"}
@@ -180,7 +180,7 @@ def pronouns(sentence):
 def has_odd_beginning(sentence):
     """Whether a sentence begins with a clause or an -ing form, where a plain subject would do."""
     first = bare(sentence[0])
-    return first in ("what", "that") or (first.endswith("ing") and first.isalpha() and first not in NOUNS)
+    return first in ("what", "that") or (first.endswith("ing") and first.isalpha() and first not in NO_FORMS)
 
 
 def plain(page):

@@ -8,7 +8,7 @@ use crate::compare::{check_bytes, check_same};
 use demo_lump::{Command, Demo, Header, write_demo};
 use std::process::Abort;
 use std::test::Fail;
-use test_alloc::Refusing;
+use test_refusals::Refusing;
 
 // Two commands of one player, the marker and one byte behind it.
 pub(crate) const TWO: [u8; 23] = [

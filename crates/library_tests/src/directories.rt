@@ -5,7 +5,7 @@ use le_rec::Name8;
 use std::alloc::{Allocator, Global};
 use std::process::Abort;
 use std::test::Fail;
-use test_alloc::Refusing;
+use test_refusals::Refusing;
 use wad_dir::{LumpFault, MAX_FILES, PackFault, Packer, Set, SetFault};
 
 // A name, and a lump under it.

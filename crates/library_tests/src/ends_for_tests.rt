@@ -3,7 +3,7 @@
 use crate::compare::check_bytes;
 use crate::end_calls::{check_pull, check_put};
 use le_rec::{EndFault, Sink, Source};
-use test_streams::{RepeatSource, SliceSink, SliceSource};
+use test_refusals::{RepeatSource, SliceSink, SliceSource};
 
 #[test]
 fn gives_at_most_two_and_fails_at_its_third_call(rt: HostRuntime) {

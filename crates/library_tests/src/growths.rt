@@ -1,7 +1,7 @@
 //! The allocator that refuses a chosen growth.
 
 use std::test::Fail;
-use test_alloc::Refusing;
+use test_refusals::Refusing;
 
 #[test]
 fn one_growth_is_refused(rt: HostRuntime) -> Result<(), Fail> {

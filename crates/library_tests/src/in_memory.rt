@@ -5,7 +5,7 @@ use crate::end_calls::{check_pull, check_put};
 use le_rec::{EndFault, Sink, Source};
 use memory_streams::{FromSlice, ToVec};
 use std::test::Fail;
-use test_alloc::Refusing;
+use test_refusals::Refusing;
 
 #[test]
 fn a_slice_gives_all_that_there_is_room_for(rt: HostRuntime) {

@@ -9,8 +9,8 @@ use std::alloc::Global;
 use std::cell::Cell;
 use std::process::Abort;
 use std::test::Fail;
-use test_alloc::Refusing;
-use test_streams::{RepeatSource, SliceSink, SliceSource};
+use test_refusals::Refusing;
+use test_refusals::{RepeatSource, SliceSink, SliceSource};
 
 #[derive(Drop)]
 struct Length;

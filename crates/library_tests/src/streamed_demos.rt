@@ -1,13 +1,13 @@
 //! Demos from sources that give one byte a pull, or fail.
 
 ghost use Rattle.std.specs.Prelude.{◌≡◌, ◌≤◌, false, None};
-ghost use Rattle.test_streams.specs.SliceSource.{pull_failed};
+ghost use Rattle.test_refusals.specs.SliceSource.{pull_failed};
 
 use crate::compare::{check_bytes, check_same};
 use crate::demos::{LONG, TWO, command_of, header_of};
 use demo_lump::{Command, Demo, DemoFault, DemoReader, Header, MAX_READ, StreamFault};
 use std::process::Abort;
-use test_streams::SliceSource;
+use test_refusals::SliceSource;
 
 // A reader with its source, of which a test is to know nothing before it asks.
 #[derive(Drop)]

@@ -10,7 +10,7 @@ use map_level::Level;
 use map_tree::{Areas, Counts, SectorTree, Tally, Tree};
 use std::alloc::{Allocator, Global};
 use std::process::Abort;
-use test_alloc::Refusing;
+use test_refusals::Refusing;
 
 // A rectangle and its pairs.
 type Case = ([i32; 4], &'static [(u16, u32)]);

@@ -15,7 +15,7 @@ use map_level::{Level, Reading};
 use memory_streams::ToVec;
 use std::alloc::{AllocError, Allocator, Global};
 use std::process::Abort;
-use test_alloc::Refusing;
+use test_refusals::Refusing;
 use wad_dir::{Set, WadFault};
 
 // The signed reading, with warnings asked for so.

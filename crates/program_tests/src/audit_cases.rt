@@ -9,7 +9,7 @@ use map_level::{Code, Level};
 use map_tree::Tree;
 use std::alloc::Allocator;
 use std::process::Abort;
-use test_alloc::Refusing;
+use test_refusals::Refusing;
 
 // A report has these findings, so many of them faults.
 fn check_report<A: Allocator>(

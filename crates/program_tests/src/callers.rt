@@ -14,7 +14,7 @@ use map_geo::Rect;
 use map_level::{Finding, Level};
 use std::alloc::Allocator;
 use std::process::Abort;
-use test_streams::SliceSource;
+use test_refusals::SliceSource;
 use wad_dir::{LumpFault, Set, SetFault, WadFault};
 
 const NO_MEMORY: &str = "no memory for the callers";

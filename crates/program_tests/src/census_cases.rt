@@ -8,7 +8,7 @@ use map_level::Level;
 use map_tree::{Counts, Tree};
 use std::alloc::Allocator;
 use std::process::Abort;
-use test_alloc::Refusing;
+use test_refusals::Refusing;
 
 // A rectangle, the pairs of its census, and its tests and pending pieces.
 type Case = ([i32; 4], &'static [(u16, u32)], (u64, u32));

@@ -4,7 +4,7 @@ use crate::compare::{check_bytes, check_same};
 use demo_lump::DemoFault;
 use le_rec::{Sink, Source};
 use std::process::Abort;
-use test_streams::{SliceSink, SliceSource};
+use test_refusals::{SliceSink, SliceSource};
 use wad_look::{MAX_READ, RunFault, lmp};
 
 /// Two commands of one player, the marker and one byte behind it.

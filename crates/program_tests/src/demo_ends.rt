@@ -7,7 +7,7 @@ use demo_engines::{AtOnce, DemoQuestion, DemosFault, Unwatched, demos_file};
 use le_rec::Sink;
 use lens_texts::Form;
 use std::process::Abort;
-use test_streams::SliceSink;
+use test_refusals::SliceSink;
 
 // The second is refused.
 const LINES: &[u8] =

@@ -4,7 +4,7 @@ use crate::compare::{check_bytes, check_same};
 use le_rec::Sink;
 use std::alloc::Global;
 use std::process::Abort;
-use test_streams::SliceSink;
+use test_refusals::SliceSink;
 use wad_dir::MAX_FILES;
 use wad_look::{RunFault, lumps};
 

@@ -10,7 +10,7 @@ use map_picture::{DrawFault, View, draw_level};
 use memory_streams::ToVec;
 use std::alloc::Allocator;
 use std::process::Abort;
-use test_alloc::Refusing;
+use test_refusals::Refusing;
 
 // Draws into an output that hasn't failed.
 fn draw<A: Allocator + Copy>(

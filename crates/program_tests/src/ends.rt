@@ -6,7 +6,7 @@ use le_rec::{Sink, Source};
 use map_level::Reading;
 use std::alloc::Global;
 use std::process::Abort;
-use test_streams::{SliceSink, SliceSource};
+use test_refusals::{SliceSink, SliceSource};
 use wad_look::{MAX_READ, RunFault, points, read_all};
 
 const INPUT: &[u8] = b"1 5\n0 5\n-1 5\n";

@@ -12,12 +12,12 @@ use lens_engines::{
     warned_total, warnings_of,
 };
 use lens_texts::Form;
+use level_codes::WarningCode;
 use map_level::{Level, Reading};
-use map_warnings::WarningCode;
 use std::alloc::Allocator;
 use std::process::Abort;
-use test_alloc::Refusing;
-use test_streams::SliceSink;
+use test_refusals::Refusing;
+use test_refusals::SliceSink;
 
 // How many faults and notes a level has; None where a growth was refused.
 fn counted(rt: &(impl Abort + AllocGlobal), level: &Level<'_>, n: u64) -> Option<(u64, u64)> {

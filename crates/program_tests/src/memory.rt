@@ -2,8 +2,8 @@
 
 use crate::compare::{check_bytes, check_same};
 use std::process::Abort;
-use test_alloc::Refusing;
-use test_streams::SliceSource;
+use test_refusals::Refusing;
+use test_refusals::SliceSource;
 use wad_look::{RunFault, read_all};
 
 // Whether `read_all` met growth `n` refused.

@@ -10,7 +10,7 @@ use map_level::Level;
 use map_tree::is_sound;
 use std::alloc::{AllocError, Allocator};
 use std::process::Abort;
-use test_alloc::Refusing;
+use test_refusals::Refusing;
 
 // The outcome of a call with one growth to be refused: it returned `Memory`, it did without the growth, or it met none.
 #[derive(Clone, Copy, Debug, PartialEq, Eq)]

@@ -7,7 +7,7 @@ use crate::sample::{LINE_WITHOUT_SIDE_1, base, base_not_reached, base_with};
 use map_level::{Code, Finding, Level};
 use map_tables::table_findings;
 use std::process::Abort;
-use test_alloc::Refusing;
+use test_refusals::Refusing;
 
 const REJECT: usize = 9;
 

@@ -9,7 +9,7 @@ use map_level::Level;
 use map_tree::{Counts, SectorTree, Tally};
 use std::alloc::Allocator;
 use std::process::Abort;
-use test_alloc::Refusing;
+use test_refusals::Refusing;
 
 // Rectangles and the pairs of their censuses.
 const CASES: [([i32; 4], &[(u16, u32)]); 4] = [

@@ -12,7 +12,7 @@ use map_level::Level;
 use map_tree::{Tree, tree_findings};
 use std::alloc::{AllocError, Global};
 use std::process::Abort;
-use test_alloc::Refusing;
+use test_refusals::Refusing;
 
 // A node of these first four fields and children.
 fn node(line: [i16; 4], children: [u16; 2]) -> Node {

@@ -6,11 +6,12 @@ use crate::line_levels::{Ends, base_with_lines, round, round_and};
 use crate::opening::level_of;
 use crate::sample::{base, base_with, lumps, pack_both};
 use le_rec::Name8;
+use level_codes::WarningCode;
 use map_level::{Level, Reading};
-use map_warnings::{Checks, Part, Plane, Resources, Warning, WarningCode};
+use map_warnings::{Checks, Part, Plane, Resources, Warning};
 use std::alloc::Allocator;
 use std::process::Abort;
-use test_alloc::Refusing;
+use test_refusals::Refusing;
 use wad_dir::Set;
 
 /// How many warnings of a code there are, and the first of them.

@@ -1,10 +1,17 @@
-//! An allocator for tests: over another one, it refuses one growth, by its number, and grants the
-//! others. A test runs a call with growth 1 refused, then growth 2, and so on until a run meets no
-//! refusal.
+//! What refuses, for tests alone: an allocator that refuses a chosen growth, and sources and sinks over memory that move a few
+//! bytes a call and fail at a chosen call.
+//!
+//! A test runs a call with growth 1 refused, then growth 2, and so on until a run meets no refusal.
 #![tactic(auto)]
+
+mod countdown;
+mod sink;
+mod source;
 
 ghost use Rattle.std.specs.Prelude.{◌≡◌, ◌<◌, IsTrue};
 
+pub use sink::SliceSink;
+pub use source::{RepeatSource, SliceSource};
 use std::alloc::{AllocError, Allocator, Global};
 use std::cell::Cell;
 
@@ -21,7 +28,7 @@ fn is_granted(count: &Count) -> bool {
     growth != count.refused
 }
 
-/// An allocator that refuses one growth. Collections get a `&` to it.
+/// An allocator over another one: it refuses one growth, by its number, and grants the others. Collections get a `&` to it.
 #[derive(Drop)]
 pub struct Refusing<B: Allocator = Global> {
     inner: B,

@@ -14,9 +14,9 @@ use denote.Builtin.{bool}
 use denote.Steps.{nothing, only}
 use denote.Triple.Statement.{Contract}
 use denote.Triple.Spec.{triple_of}
-use Rattle.test_alloc.specs.declared.Count.{Count}
-use Rattle.test_alloc.specs.contracts.Count.{the_row as Row}
-use Rattle.test_alloc.specs.contracts.is_granted as G
+use Rattle.test_refusals.specs.declared.Count.{Count}
+use Rattle.test_refusals.specs.contracts.Count.{the_row as Row}
+use Rattle.test_refusals.specs.contracts.is_granted as G
 
 module _ {M : Type 1} {𝓤 : Ura M} (𝓛 : Logic 𝓤) (at_mem : Memory → SProp 𝓤) (run : Routine → Fun 𝓤) where
   abbrev pub Asks : Contract 𝓤

@@ -2,7 +2,7 @@
 use Rattle.std.specs.Prelude.{ℕ, Bool, Some, List, Result, Ok, Err, length, min, ◌==◌, if◌then◌else◌}
 use Rattle.le_rec.specs.Source.{SourceState}
 use Rattle.le_rec.specs.declared.ends.EndFault.{EndFault}
-use Rattle.test_streams.specs.declared.source.SliceSource.{SliceSource}
+use Rattle.test_refusals.specs.declared.source.SliceSource.{SliceSource}
 
 -- the bytes still to come
 abbrev pub bytes_left : SliceSource → List ℕ

@@ -18,7 +18,7 @@ pub struct SliceSource<'a> {
 }
 
 impl<'a> SliceSource<'a> {
-    ghost use Rattle.test_streams.specs.SliceSource.{bytes_left, failing_pull, most_pulled, pull_failed};
+    ghost use Rattle.test_refusals.specs.SliceSource.{bytes_left, failing_pull, most_pulled, pull_failed};
 
     /// A source of `bytes` that hasn't failed.
     pub fn new(bytes: &'a [u8]) -> Self
@@ -67,7 +67,7 @@ impl<'a> SliceSource<'a> {
 }
 
 impl Source for SliceSource<'_> {
-    ghost use Rattle.test_streams.specs.SliceSource.{failing_pull, most_pulled, pull_answer, state_of};
+    ghost use Rattle.test_refusals.specs.SliceSource.{failing_pull, most_pulled, pull_answer, state_of};
 
     ghost state = { state_of };
 

@@ -2,7 +2,7 @@
 use Rattle.std.specs.Prelude.{ℕ, ◌-◌, Bool, Some, ◌||◌, ◌&&◌, nat_lt, List, Result, Ok, Err, length, take, min, ◌==◌, if◌then◌else◌}
 use Rattle.le_rec.specs.Sink.{SinkState}
 use Rattle.le_rec.specs.declared.ends.EndFault.{EndFault}
-use Rattle.test_streams.specs.declared.sink.SliceSink.{SliceSink}
+use Rattle.test_refusals.specs.declared.sink.SliceSink.{SliceSink}
 
 -- the bytes taken
 abbrev pub bytes_taken : SliceSink → List ℕ

@@ -21,7 +21,7 @@ pub struct SliceSink<'a> {
 }
 
 impl<'a> SliceSink<'a> {
-    ghost use Rattle.test_streams.specs.SliceSink.{bytes_taken, failing_put, most_put, put_failed, room_left};
+    ghost use Rattle.test_refusals.specs.SliceSink.{bytes_taken, failing_put, most_put, put_failed, room_left};
 
     /// A sink that writes to the front of `buffer`, has taken nothing and hasn't failed.
     pub fn new(buffer: &'a mut [u8]) -> Self
@@ -75,7 +75,7 @@ impl<'a> SliceSink<'a> {
 }
 
 impl Sink for SliceSink<'_> {
-    ghost use Rattle.test_streams.specs.SliceSink.{failing_put, most_put, put_answer, room_left, state_of};
+    ghost use Rattle.test_refusals.specs.SliceSink.{failing_put, most_put, put_answer, room_left, state_of};
 
     ghost state = { state_of };
 

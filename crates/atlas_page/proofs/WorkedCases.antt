@@ -12,6 +12,7 @@ use Rattle.atlas_page.specs.Refused.{refused_part}
 use Rattle.atlas_page.specs.Rows.{faulty_rows, is_faulty, other_rows, picture_name, row_text, totals_of_rows}
 use Rattle.atlas_page.specs.declared.refused.Refused.{Refused}
 use Rattle.atlas_page.specs.declared.row.Row.{Row}
+use Rattle.level_codes.specs.Codes.{code_table}
 use Rattle.lens_engines.specs.Unlooked.{none_unlooked}
 use Rattle.lens_engines.specs.declared.judging.Warnings.TheVariants.{Told}
 use Rattle.lens_engines.specs.declared.object.FileRefusal.TheVariants.{TooLarge}
@@ -58,7 +59,7 @@ faulty_row : (row : Row) → row.file ≡ 2 → row.path.now ≡ codes "<a&b>.wa
     ≡ codes "<li class=\"faulty\">\n<a class=\"map\" href=\"2-15.svg\"><img loading=\"lazy\" src=\"2-15.svg\" alt=\"map of E&quot;M1\"></a>\n"
     ++ (codes "<div>\n<h2>E&quot;M1</h2>\n<p class=\"where\">&lt;a&amp;b&gt;.wad <span>entry 15, doom</span></p>\n"
     ++ (codes "<ul class=\"found\">\n<li class=\"fault\">F3 &times; 2</li>\n<li class=\"note\">N3 &times; 7</li>\n</ul>\n" ++ table_list))
-unfolding digits number_item code_item picture_name
+unfolding digits number_item code_item picture_name code_table
 faulty_row row file path entry name found = rw (file, ap path_text path ∙ path_with_markup, entry, name, found) refl
 
 -- no fault, with a note and warnings of two codes, and nothing to draw
@@ -68,7 +69,7 @@ sound_row : (row : Row) → row.file ≡ 1 → row.path.now ≡ codes "a.wad" �
     ≡ codes "<li class=\"sound\">\n<p class=\"map\">no picture</p>\n"
     ++ (codes "<div>\n<h2>MAP01</h2>\n<p class=\"where\">a.wad <span>entry 0, doom</span></p>\n"
     ++ (codes "<ul class=\"found\">\n<li class=\"sound\">sound</li>\n<li class=\"note\">N3 &times; 1</li>\n<li class=\"warning\">W1 &times; 4</li>\n<li class=\"warning\">W8 &times; 1</li>\n</ul>\n" ++ table_list))
-unfolding digits number_item code_item warning_item picture_name
+unfolding digits number_item code_item warning_item picture_name code_table
 sound_row row file path entry name found = rw (file, ap path_text path ∙ plain_path, entry, name, found) refl
 
 -- the last lump isn't there

@@ -1,10 +1,11 @@
 -- Items of the page's lists (HTML, ours): a number with what it counts, and a code with how often it holds.
 use Rattle.std.specs.Prelude.{ℕ, List, [], ◌∷◌, ◌++◌, codes, filter, map, nat_lt, if◌then◌else◌}
 use Rattle.std.specs.Fmt.{decimal}
+use Rattle.level_codes.specs.Codes.{code_name}
+use Rattle.level_codes.specs.declared.code.ReportCode.TheVariants as report
 use Rattle.map_level.specs.Findings.{is_fault}
 use Rattle.map_level.specs.declared.finding.Code.{Code}
 use Rattle.lens_engines.specs.Counts.{report_order}
-use Rattle.lens_texts.specs.Kind.{code_text}
 use Rattle.lens_engines.specs.Objects.{count_of}
 use Rattle.lens_engines.specs.declared.tables.Tables.{Tables}
 
@@ -33,7 +34,7 @@ class_of code = if is_fault code then codes "fault" else codes "note"
 unfoldable pub code_item : Code → ℕ → List ℕ
 code_item code count =
     codes "<li class=\"" ++ (class_of code
-    ++ (codes "\">" ++ code_text code (codes " &times; " ++ (decimal count ++ codes "</li>\n"))))
+    ++ (codes "\">" ++ (code_name (report.Finding code) ++ (codes " &times; " ++ (decimal count ++ codes "</li>\n")))))
 
 -- of a code that doesn't hold, nothing
 abbrev pub code_part : List ℕ → Code → List ℕ

@@ -10,7 +10,7 @@ ghost use Rattle.map_level.specs.declared.finding.Code.TheVariants.{F1};
 
 use le_rec::Sink;
 use lens_engines::{CODE_COUNT, CodeCounts, Tables, code_at};
-use lens_texts::prepend_code;
+use level_codes::ReportCode;
 use line_io::{IoFault, TextLine, emit};
 use map_level::Code;
 use map_picture::parts::{Parts, write_parts};
@@ -131,7 +131,7 @@ fn prepend_code_item(line: &mut TextLine, code: Code, count: u32)
     line.prepend_bytes(b"</li>\n");
     line.prepend_natural(u64::from(count));
     line.prepend_bytes(b" &times; ");
-    prepend_code(line, code);
+    line.prepend_bytes(ReportCode::Finding(code).name());
     line.prepend_bytes(b"\">");
     line.prepend_bytes(class_of(code));
     line.prepend_bytes(b"<li class=\"");

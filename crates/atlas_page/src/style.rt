@@ -7,8 +7,8 @@ ghost use Rattle.atlas_page.specs.Style.{style_text};
 use le_rec::Sink;
 use line_io::{IoFault, emit};
 
-// The style sheet, a rule a line.
-const STYLE: &[u8] = b"<style>\n\
+/// The style sheet, a rule a line.
+pub const STYLE: &[u8] = b"<style>\n\
     :root{color-scheme:dark light;--ground:#15171b;--panel:#1d2026;--rule:#31363e;--edge:#7b828d;--ink:#eae7e0;--soft:#a3a8b0;--fault:#ff7f6b;--fault-wash:#3d2321;--note:#dcc78f;--note-wash:#332d1e;--warning:#ffb84d;--warning-wash:#472e08;--sound:#8ecf9f;--sound-wash:#1c3226}\n\
     @media print,(prefers-color-scheme:light){:root{--ground:#efece5;--panel:#fbf9f5;--rule:#d9d4c8;--edge:#7f7c74;--ink:#1f2124;--soft:#595c61;--fault:#b02a1a;--fault-wash:#f6dfd9;--note:#6b4f17;--note-wash:#efe5cb;--warning:#7a4300;--warning-wash:#fcdca4;--sound:#1f6637;--sound-wash:#d9eadb}}\n\
     *{box-sizing:border-box}\n\

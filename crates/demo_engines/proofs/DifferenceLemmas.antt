@@ -7,7 +7,7 @@ use Rattle.std.specs.Prelude.{IfSome}
 use Rattle.demo_lump.specs.Demo.{Demo}
 use Rattle.demo_lump.specs.declared.command.Command.{Command}
 use Rattle.demo_lump.specs.declared.header.Header.{Header}
-use Rattle.wad_look.proofs.RestLemmas.{drop_past}
+use Rattle.line_io.proofs.RestLemmas.{drop_past}
 use Rattle.wad_look.specs.Turn.{Turn, player_of, tic_of}
 use Rattle.demo_engines.specs.Differences.{AreSame, Differs, HeadersDiffer, IsCompared, a_ends, b_ends, command_line, end_line, header_numbers, in_command, in_header, in_number, in_players, number_line, other, players_line, same}
 

@@ -20,7 +20,8 @@ use Rattle.lens_engines.specs.Surveyed.{survey_line}
 use Rattle.lens_engines.specs.declared.verdict.LevelsFault.TheVariants.{Write}
 use Rattle.lens_engines.specs.declared.verdict.Verdict.{Verdict}
 use Rattle.lens_engines.specs.declared.verdict.Verdict.TheVariants.{Clean}
-use Rattle.lens_engines.proofs.SurveyLemmas.{line_stopped, one_file}
+use Rattle.line_io.proofs.WriteLemmas.{line_stopped}
+use Rattle.lens_engines.proofs.SurveyLemmas.{one_file}
 use Rattle.lens_commands.specs.AtlasLines.{StopsAtLine, TakesLines, told_of}
 use Rattle.lens_commands.specs.Until.{StopsInSurvey}
 use Rattle.lens_commands.specs.declared.atlas.fault.KeepFault.TheVariants as file

@@ -30,6 +30,7 @@ use Rattle.wad_dir.specs.Entries.{names}
 use Rattle.wad_dir.specs.Wad.{IsRead, Wad}
 use Rattle.lens_engines.specs.Check.{CheckAsked, Checks, ChecksAll, ChecksDoom, ChecksFile, ChecksLevel, ChecksOrWants, ChecksSome, IsLevelText, IsSoundWideAlone, IsToldBy, RunsCheck, ToldTo, WritesText, at_start, head_in, with_level, text_end}
 use Rattle.lens_engines.specs.Counts.{AreCounts, IsCount, fault_total, report_order}
+use Rattle.level_codes.specs.declared.code.ReportCode.TheVariants as report
 use Rattle.lens_engines.specs.Ignored.{HoldsUnlessIgnored, ignores, no_codes}
 use Rattle.lens_engines.specs.declared.ignored.Ignored.{Ignored}
 use Rattle.lens_texts.specs.Label.{IsLabelOf}
@@ -46,14 +47,14 @@ use Rattle.lens_engines.specs.declared.verdict.LevelsFault.{LevelsFault}
 use Rattle.lens_engines.specs.declared.verdict.LevelsFault.TheVariants as fault
 use Rattle.lens_engines.proofs.CountLemmas.{none_ignored_code, shown_kept}
 use Rattle.lens_engines.proofs.LawLemmas.{nothing_holds}
-use Rattle.lens_engines.proofs.SurveyLemmas.{line_stopped}
+use Rattle.line_io.proofs.WriteLemmas.{line_stopped}
 
 -- an index is counted
 some_counted : (holds : ℕ → Type 0) (count i : ℕ) → IsCount holds count → holds i → 0 < count
 some_counted holds count i is here = omega (arith, is.counted, ((is.exact i).1 here).1)
 
 -- a fault is never ignored
-fault_kept : (ignored : Ignored) (code : Code) → IsTrue (is_fault code) → ignores ignored code ≡ false
+fault_kept : (ignored : Ignored) (code : Code) → IsTrue (is_fault code) → ignores ignored (report.Finding code) ≡ false
 fault_kept ignored code fault = rw fault refl
 
 -- a level is sound exactly where no fault is counted

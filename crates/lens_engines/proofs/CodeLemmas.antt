@@ -16,7 +16,7 @@ use Rattle.line_io.specs.Writes.{Writes}
 use Rattle.map_level.specs.Level.{Level}
 use Rattle.lens_engines.specs.LevelLines.{AreCounted, code_part, findings_part, shown_count}
 use Rattle.lens_texts.specs.Head.{Head}
-use Rattle.wad_look.proofs.RestLemmas.{drop-at}
+use Rattle.line_io.proofs.RestLemmas.{drop-at}
 
 -- what is told of the codes from a rank on begins with the code there
 pub codes-drop : (part : Code → List ℕ) (i : ℕ) (code : Code) → i < CODE_COUNT → code ≡ get_or report_order i F1

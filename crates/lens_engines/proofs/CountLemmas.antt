@@ -8,11 +8,12 @@ use Rattle.std.proofs.lemmas.List.Quantifiers.{all_pairs_push}
 use Rattle.map_level.proofs.FindingLemmas.{rank_at, rank-below, same_from_rank}
 use Rattle.map_level.specs.Findings.{rank, IsFirst}
 use Rattle.map_level.specs.declared.finding.Code.{Code}
-use Rattle.map_level.specs.declared.finding.Code.TheVariants.{F1, F2, F3, F4, F5, F6, F7, F8, F9, F10, F11, F12, F13, F14, F15, F16, F17, F18, N1, N2, N3, N4, N5, N6, N7, N8, N9, N10, N11, N12}
+use Rattle.map_level.specs.declared.finding.Code.TheVariants.{F1}
 use Rattle.map_audit.specs.Findings.{AuditHolds}
 use Rattle.map_level.specs.Level.{Level}
 use Rattle.map_level.specs.declared.search.TheConstants.{CODE_COUNT}
 use Rattle.lens_engines.specs.Counts.{AreCounts, IsCount, kept_count, report_order}
+use Rattle.level_codes.specs.declared.code.ReportCode.TheVariants as report
 use Rattle.lens_engines.specs.Ignored.{HoldsUnlessIgnored, ignores, no_codes}
 use Rattle.lens_engines.specs.LevelLines.{AreIndexes}
 use Rattle.lens_engines.specs.declared.ignored.Ignored.{Ignored}
@@ -75,40 +76,12 @@ all_counted holds from count before none = record {
 }
 
 -- of no codes none is ignored
-pub none_ignored_code : (code : Code) → ignores no_codes code ≡ false
+pub none_ignored_code : (code : Code) → ignores no_codes (report.Finding code) ≡ false
 none_ignored_code F1 = refl
-none_ignored_code F2 = refl
-none_ignored_code F3 = refl
-none_ignored_code F4 = refl
-none_ignored_code F5 = refl
-none_ignored_code F6 = refl
-none_ignored_code F7 = refl
-none_ignored_code F8 = refl
-none_ignored_code F9 = refl
-none_ignored_code F10 = refl
-none_ignored_code F11 = refl
-none_ignored_code F12 = refl
-none_ignored_code F13 = refl
-none_ignored_code F14 = refl
-none_ignored_code F15 = refl
-none_ignored_code F16 = refl
-none_ignored_code F17 = refl
-none_ignored_code F18 = refl
-none_ignored_code N1 = refl
-none_ignored_code N2 = refl
-none_ignored_code N3 = refl
-none_ignored_code N4 = refl
-none_ignored_code N5 = refl
-none_ignored_code N6 = refl
-none_ignored_code N7 = refl
-none_ignored_code N8 = refl
-none_ignored_code N9 = refl
-none_ignored_code N10 = refl
-none_ignored_code N11 = refl
-none_ignored_code N12 = refl
+none_ignored_code _ = refl
 
 -- what is told of a code that isn't ignored is what holds of it
-kept_is : (ignored : Ignored) (level : Level) (code : Code) (n : ℕ) (b : Bool) → ignores ignored code ≡ b → IsCount (AuditHolds level code) n
+kept_is : (ignored : Ignored) (level : Level) (code : Code) (n : ℕ) (b : Bool) → ignores ignored (report.Finding code) ≡ b → IsCount (AuditHolds level code) n
     → IsCount (HoldsUnlessIgnored ignored level code) (if b then 0 else n)
 kept_is ignored level code n true is count = record {
   indexes = [];
@@ -129,7 +102,7 @@ pub counts_kept : (ignored : Ignored) (level : Level) (counts kept : List ℕ) �
 counts_kept ignored level counts kept long each are = record {
   all = long;
   each = λ code. subst (IsCount (HoldsUnlessIgnored ignored level code)) (sym (each code))
-      (kept_is ignored level code (slice_index counts (rank code)) (ignores ignored code) refl (are.each code));
+      (kept_is ignored level code (slice_index counts (rank code)) (ignores ignored (report.Finding code)) refl (are.each code));
 }
 
 -- a code that is told of at all isn't ignored

@@ -13,3 +13,4 @@ pub mod ShownLemmas
 pub mod SurveyLemmas
 mod WorkedCases
 pub mod WarnedLemmas
+pub mod ReferenceLemmas

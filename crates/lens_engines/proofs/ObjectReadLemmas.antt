@@ -1,8 +1,7 @@
 -- The objects of a survey are read back as their members.
-use Rattle.std.proofs.Common.{◌≡◌, ℕ, ◌+◌, ◌-◌, ◌^◌, ◌<◌, ◌≤◌, inl, inr, Bool, true, false, List, [], ◌∷◌, ◌++◌, length, take, drop, map, get_or, get_or-take, get_or-drop, length-take, length-drop, refl, sym, ap, subst, ◌∙◌, append_assoc, append-nil, arith, decimal}
-use Rattle.std.specs.Prelude.{codes, ◌==◌, if◌then◌else◌, sum, filter, nat_lt}
-use Rattle.std.specs.Fmt.{digits}
-use Rattle.std.specs.List.{flat_map, join_with_byte}
+use Rattle.std.proofs.Common.{◌≡◌, ℕ, ◌+◌, ◌-◌, ◌^◌, ◌<◌, ◌≤◌, inl, inr, Bool, true, false, List, [], ◌∷◌, ◌++◌, length, take, drop, get_or, get_or-take, get_or-drop, length-take, length-drop, refl, sym, ap, subst, ◌∙◌, append_assoc, arith}
+use Rattle.std.specs.Prelude.{codes, ◌==◌, sum}
+use Rattle.std.specs.List.{flat_map}
 use Rattle.std.specs.Str.Lossy.{utf8_lossy}
 use Rattle.std.proofs.lemmas.Bool.{cases_lt}
 use Rattle.std.proofs.lemmas.List.{get_or_past}
@@ -13,23 +12,24 @@ use Rattle.json.specs.Json.{string}
 use Rattle.le_rec.specs.Name.{shown_name}
 use Rattle.level_starts.specs.declared.format.Format.{Format}
 use Rattle.level_starts.specs.declared.format.Format.TheVariants.{Udmf, Incomplete, Hexen, Outside, Extended, Doom}
-use Rattle.map_warnings.specs.declared.warning.WarningCode.{WarningCode}
-use Rattle.map_warnings.specs.declared.warning.WarningCode.TheVariants.{W1, W2, W3, W4, W5, W6, W7, W8, W9, W10, W11}
-use Rattle.map_level.specs.Findings.{is_fault, rank}
+use Rattle.level_codes.specs.declared.code.WarningCode.{WarningCode}
+use Rattle.level_codes.specs.declared.code.WarningCode.TheVariants.{W1}
+use Rattle.map_level.specs.Findings.{rank}
 use Rattle.map_level.specs.declared.finding.Code.{Code}
-use Rattle.map_level.specs.declared.finding.Code.TheVariants.{F1, F2, F3, F4, F5, F6, F7, F8, F9, F10, F11, F12, F13, F14, F15, F16, F17, F18, N1, N2, N3, N4, N5, N6, N7, N8, N9, N10, N11, N12}
+use Rattle.map_level.specs.declared.finding.Code.TheVariants.{F1}
 use Rattle.wad_dir.specs.declared.wad.WadFault.TheVariants as wad
 use Rattle.lens_texts.proofs.MemberLemmas.{ArePlain, IsPlain, Tells, Tells-bool, Tells-both, Tells-each, Tells-none, Tells-number, Tells-numbers, Tells-one, Tells-plain, Tells-string, Tells-two, read_line}
-use Rattle.lens_engines.specs.Counts.{fault_total, note_total, report_order}
-use Rattle.lens_texts.specs.Kind.{code_text}
+use Rattle.lens_engines.specs.Counts.{fault_total, note_total}
 use Rattle.lens_engines.specs.Laws.{DoomIsRead, ObjectsAreRead, OtherIsRead, RefusedIsRead}
 use Rattle.lens_engines.specs.ObjectValues.{doom_value, findings_values, found_values, label_values, other_value, size_values, sizes_of, telling_values, unlooked_at, warnings_values}
 use Rattle.lens_texts.specs.Members.{IsLineOf, file_value, number_at, object_of, text_at}
-use Rattle.lens_engines.specs.Objects.{count_member, count_of, findings_text, found_members, lump_members, refusal_text, refused_object, warnings_member}
+use Rattle.lens_engines.specs.Objects.{count_of, findings_text, found_members, lump_members, refusal_text, refused_object, warnings_member}
 use Rattle.lens_texts.specs.LevelObject.{file_member, format_member, format_name, label_members, number_member, telling_members, usual_name}
 use Rattle.lens_engines.specs.Unlooked.{member_at, unlooked_member}
 use Rattle.lens_engines.specs.WarningCounts.{warning_count}
-use Rattle.lens_texts.specs.WarningLine.{warning_name}
+use Rattle.level_codes.specs.Codes.{code_name, code_table}
+use Rattle.level_codes.specs.declared.code.ReportCode.{ReportCode}
+use Rattle.level_codes.specs.declared.code.ReportCode.TheVariants as report
 use Rattle.lens_engines.specs.declared.judging.Warnings.{Warnings}
 use Rattle.lens_engines.specs.declared.judging.Warnings.TheVariants.{Unasked, Told, Strict}
 use Rattle.lens_engines.specs.declared.object.FileRefusal.{FileRefusal}
@@ -94,67 +94,12 @@ law_other_is_read path name g format small =
 sizes_plain : (tables : Tables) → ArePlain (sizes_of tables)
 sizes_plain tables = (refl, (refl, (refl, (refl, (refl, (refl, (refl, (refl, (refl, (refl, tt))))))))))
 
-code_plain : (code : Code) → IsPlain (code_text code [])
-unfolding digits
-code_plain F1 = refl
-code_plain F2 = refl
-code_plain F3 = refl
-code_plain F4 = refl
-code_plain F5 = refl
-code_plain F6 = refl
-code_plain F7 = refl
-code_plain F8 = refl
-code_plain F9 = refl
-code_plain F10 = refl
-code_plain F11 = refl
-code_plain F12 = refl
-code_plain F13 = refl
-code_plain F14 = refl
-code_plain F15 = refl
-code_plain F16 = refl
-code_plain F17 = refl
-code_plain F18 = refl
-code_plain N1 = refl
-code_plain N2 = refl
-code_plain N3 = refl
-code_plain N4 = refl
-code_plain N5 = refl
-code_plain N6 = refl
-code_plain N7 = refl
-code_plain N8 = refl
-code_plain N9 = refl
-code_plain N10 = refl
-code_plain N11 = refl
-code_plain N12 = refl
-
-warning_plain : (code : WarningCode) → IsPlain (warning_name code)
-warning_plain W1 = refl
-warning_plain W2 = refl
-warning_plain W3 = refl
-warning_plain W4 = refl
-warning_plain W5 = refl
-warning_plain W6 = refl
-warning_plain W7 = refl
-warning_plain W8 = refl
-warning_plain W9 = refl
-warning_plain W10 = refl
-warning_plain W11 = refl
-
--- a code's text before other bytes
-chosen : (b : Bool) (fault note rest : List ℕ)
-    → (if b then codes "F" ++ (fault ++ rest) else codes "N" ++ (note ++ rest)) ≡ (if b then codes "F" ++ (fault ++ []) else codes "N" ++ (note ++ [])) ++ rest
-chosen true fault note rest = ap (λ t. 70 ∷ (t ++ rest)) (sym (append-nil fault))
-chosen false fault note rest = ap (λ t. 78 ∷ (t ++ rest)) (sym (append-nil note))
-
-code_before : (code : Code) (rest : List ℕ) → code_text code rest ≡ code_text code [] ++ rest
-code_before code rest = chosen (is_fault code) (decimal (rank code + 1)) (decimal (rank code - 17)) rest
-
-counted_texts : (counts : List ℕ) (all : List Code)
-    → map (λ code. count_member code (count_of counts code)) all ≡ map (λ code. 34 ∷ (code_text code [] ++ (34 ∷ 58 ∷ decimal (count_of counts code)))) all
-counted_texts counts [] = refl
-counted_texts counts (code ∷ all) =
-    ap (λ text. (34 ∷ text) ∷ map (λ code. count_member code (count_of counts code)) all) (code_before code (34 ∷ 58 ∷ decimal (count_of counts code)))
-    ∙ ap (λ texts. (34 ∷ (code_text code [] ++ (34 ∷ 58 ∷ decimal (count_of counts code)))) ∷ texts) (counted_texts counts all)
+name_plain : (code : ReportCode) → IsPlain (code_name code)
+unfolding code_table
+name_plain (report.Finding F1) = refl
+name_plain (report.Finding _) = refl
+name_plain (report.Warning W1) = refl
+name_plain (report.Warning _) = refl
 
 -- a count is within its total
 in_front : (xs : List ℕ) (n k : ℕ) → k < n → get_or xs k 0 ≤ sum (take n xs)
@@ -184,9 +129,8 @@ count_small counts faults notes code = elim (cases_lt (rank code) 18) [
 findings_tell : (counts : List ℕ) → fault_total counts < 2 ^ 64 → note_total counts < 2 ^ 64
     → Tells (codes ",\"findings\":{" ++ (findings_text counts ++ codes "}")) ((codes "findings", object_of (findings_values counts)) ∷ [])
 findings_tell counts faults notes =
-    let held = filter (λ code. nat_lt 0 (count_of counts code)) report_order in
-    subst (λ texts. Tells (codes ",\"findings\":{" ++ (join_with_byte 44 texts ++ codes "}")) ((codes "findings", object_of (findings_values counts)) ∷ [])) (sym (counted_texts counts held))
-    (Tells-numbers (λ code. code_text code []) (count_of counts) code_plain (codes "findings") held refl (λ k d within. count_small counts faults notes _))
+    Tells-numbers (λ code. code_name (report.Finding code)) (count_of counts) (λ code. name_plain (report.Finding code)) (codes "findings") _ refl
+    (λ k d within. count_small counts faults notes _)
 
 found_tells : (counts : List ℕ) → fault_total counts < 2 ^ 64 → note_total counts < 2 ^ 64 → Tells (found_members counts) (found_values counts)
 found_tells counts faults notes =
@@ -198,8 +142,8 @@ found_tells counts faults notes =
 warnings_tell : (warnings : Warnings) (warned : WarningCounts) → ((code : WarningCode) → warning_count warned code < 2 ^ 64)
     → Tells (warnings_member warnings warned) (warnings_values warnings warned)
 warnings_tell Unasked warned small = Tells-none
-warnings_tell Told warned small = Tells-numbers warning_name (warning_count warned) warning_plain (codes "warnings") _ refl (λ k d within. small _)
-warnings_tell Strict warned small = Tells-numbers warning_name (warning_count warned) warning_plain (codes "warnings") _ refl (λ k d within. small _)
+warnings_tell Told warned small = Tells-numbers (λ code. code_name (report.Warning code)) (warning_count warned) (λ code. name_plain (report.Warning code)) (codes "warnings") _ refl (λ k d within. small _)
+warnings_tell Strict warned small = Tells-numbers (λ code. code_name (report.Warning code)) (warning_count warned) (λ code. name_plain (report.Warning code)) (codes "warnings") _ refl (λ k d within. small _)
 
 unlooked_tell : (textures flats : Bool) → Tells (member_at textures flats) (unlooked_at textures flats)
 unlooked_tell true true = Tells-two (codes "unlooked") (codes "W9") (codes "W10") refl refl refl

@@ -1,5 +1,5 @@
 -- How a survey goes on from level to level.
-use Rattle.std.proofs.Common.{◌≡◌, ℕ, ◌+◌, ◌<◌, inl, inr, true, false, List, [], ◌∷◌, ◌++◌, length, get_or, Result, Ok, Err, refl, sym, ap, ◌∙◌, subst, arith}
+use Rattle.std.proofs.Common.{◌≡◌, ℕ, ◌+◌, ◌<◌, inl, inr, false, List, [], ◌∷◌, ◌++◌, length, get_or, Result, Ok, Err, refl, sym, ap, ◌∙◌, subst, arith}
 use Rattle.std.specs.Prelude.{All, Contains, map}
 use Rattle.std.specs.Io.KnownBytes.{Appends}
 use Rattle.std.proofs.KnownBytes.{Appends-nil, Appends-trans}
@@ -17,7 +17,7 @@ use Rattle.level_starts.specs.declared.format.Format.TheVariants.{Udmf, Incomple
 use Rattle.level_starts.proofs.StartLemmas.{start_within}
 use Rattle.line_io.specs.Writes.{Writes}
 use Rattle.line_io.specs.declared.fault.IoFault.{IoFault}
-use Rattle.line_io.specs.declared.fault.IoFault.TheVariants as io
+use Rattle.line_io.proofs.WriteLemmas.{line_stopped}
 use Rattle.lens_engines.specs.declared.judging.Judging.{Judging}
 use Rattle.wad_dir.specs.Entries.{names}
 use Rattle.wad_dir.specs.Wad.{IsRead, Wad}
@@ -131,13 +131,6 @@ ToldSoFar-more path files judging before between after from g worst verdict so_f
           writes.ends.sound,
         )
     go (Err e) writes ended = absurd (cc)
-
--- a line that stopped, stopped as its write failed
-pub line_stopped : (between after : SinkState) (line : List ℕ) (e : IoFault) → Writes {T = Unit {0}} between after line (Err e) → after.failed ≡ true
-line_stopped between after line io.Write writes = writes.ends.fault
-line_stopped between after line io.Read writes = absurd writes.ends.fault
-line_stopped between after line io.TooLong writes = absurd writes.ends.fault
-line_stopped between after line io.Memory writes = absurd writes.ends.fault
 
 -- the survey stopped within the line of a level
 pub stopped_in_line : (path : List ℕ) (files : List Wad) (judging : Judging) (before between after : SinkState) (from g : ℕ) (worst : Verdict) (why : LevelsFault)

@@ -10,10 +10,11 @@ use Rattle.std.proofs.lemmas.List.Sums.{sum_by-append}
 use Rattle.std.proofs.lemmas.Option.{same_Some}
 use Rattle.map_warnings.specs.Holds.{IsWarning}
 use Rattle.map_warnings.specs.Warnings.{Cut, Tells}
-use Rattle.map_warnings.specs.declared.warning.WarningCode.{WarningCode}
+use Rattle.level_codes.specs.declared.code.WarningCode.{WarningCode}
 use Rattle.map_level.specs.Level.{Level}
 use Rattle.wad_dir.specs.Wad.{Wad}
-use Rattle.lens_engines.specs.Ignored.{WarnsUnlessIgnored, ignores_warning}
+use Rattle.level_codes.specs.declared.code.ReportCode.TheVariants as report
+use Rattle.lens_engines.specs.Ignored.{WarnsUnlessIgnored, ignores}
 use Rattle.lens_engines.specs.Objects.{warned_member, warned_members}
 use Rattle.lens_engines.specs.Warned.{AddsWarned, IsWarned, Warned, warned_total, warning_order}
 use Rattle.lens_engines.specs.WarningCounts.{warning_count}
@@ -40,7 +41,7 @@ pub record AreWarnedTo (ignored : Ignored) (files : Option (List Wad)) (level : 
   pub each : All (IsWarned ignored files level most) all
 
 -- of an ignored code nothing is told
-pub none_ignored : (ignored : Ignored) (files : Option (List Wad)) (level : Level) (most : ℕ) (code : WarningCode) → ignores_warning ignored code ≡ true
+pub none_ignored : (ignored : Ignored) (files : Option (List Wad)) (level : Level) (most : ℕ) (code : WarningCode) → ignores ignored (report.Warning code) ≡ true
     → Tells (WarnsUnlessIgnored ignored files level code) (record { most = most; first = []; count = 0 })
 none_ignored ignored files level most code is = record {
   all = [];
@@ -52,7 +53,7 @@ none_ignored ignored files level most code is = record {
 }
 
 -- of another what holds
-pub all_kept : (ignored : Ignored) (files : Option (List Wad)) (level : Level) (code : WarningCode) (cut : Cut) → ignores_warning ignored code ≡ false
+pub all_kept : (ignored : Ignored) (files : Option (List Wad)) (level : Level) (code : WarningCode) (cut : Cut) → ignores ignored (report.Warning code) ≡ false
     → Tells (IsWarning files level code) cut → Tells (WarnsUnlessIgnored ignored files level code) cut
 all_kept ignored files level code cut is tells = record {
   all = tells.all;

@@ -6,9 +6,10 @@ use Rattle.std.specs.Prelude.{codes}
 use Rattle.std.specs.Str.{chars, is_utf8}
 use Rattle.std.specs.Str.Lossy.{utf8_error_len, utf8_lossy, utf8_valid_len}
 use Rattle.level_starts.specs.declared.format.Format.TheVariants.{Doom}
-use Rattle.map_warnings.specs.declared.warning.WarningCode.TheVariants.{W2}
+use Rattle.level_codes.specs.Codes.{code_table}
+use Rattle.level_codes.specs.declared.code.WarningCode.TheVariants.{W2}
 use Rattle.map_level.specs.Level.{Level}
-use Rattle.map_level.specs.declared.finding.Code.TheVariants.{F9, N3, N4, N6, N12}
+use Rattle.map_level.specs.declared.finding.Code.TheVariants.{N4, N6}
 use Rattle.map_level.specs.declared.reading.Reading.TheVariants.{Signed}
 use Rattle.wad_dir.specs.declared.wad.WadFault.TheVariants as wad
 use Rattle.lens_engines.specs.LevelLines.{code_part, wide_part}
@@ -24,21 +25,21 @@ use Rattle.lens_engines.specs.declared.judging.Warnings.TheVariants.{Unasked, To
 use Rattle.lens_engines.specs.declared.object.FileRefusal.TheVariants.{TooLarge, NoWad}
 use Rattle.lens_engines.specs.declared.totals.Totals.{Totals}
 use Rattle.lens_engines.specs.declared.warning_counts.WarningCounts.{WarningCounts}
-use Rattle.lens_texts.proofs.CaseLevels.{rows, line, name, sector, level, shown, lines_of}
+use Rattle.lens_texts.proofs.CaseLevels.{rows, line, name, sector, level, lines_of}
 
 -- of three findings one is shown, and all are where the number is 0 or as great
 one_of_three : code_part (lines_of (codes "a") (codes "M")) 1 (level Signed) N4 (0 ∷ 1 ∷ 2 ∷ [])
     ≡ codes "a: M: N4 linedef 0: without a front sidedef" ++ (10 ∷ codes "a: M: N4: 2 more" ++ 10 ∷ [])
-unfolding digits shown_after
+unfolding digits code_table shown_after
 one_of_three = refl
 
 two_of_two : code_part (lines_of (codes "a") (codes "M")) 2 (level Signed) N6 (0 ∷ 1 ∷ [])
     ≡ codes "a: M: N6 ssector 0: without segs, at (20000, 1)" ++ (10 ∷ codes "a: M: N6 ssector 1: without segs" ++ 10 ∷ [])
-unfolding digits shown_after
+unfolding digits code_table shown_after
 two_of_two = refl
 
 warnings_left_told : more_warnings (lines_of (codes "a.wad") name) W2 5 ≡ codes "a.wad: FLAT: W2: 5 more" ++ 10 ∷ []
-unfolding digits shown_after
+unfolding digits code_table shown_after
 warnings_left_told = refl
 
 sound_wide_told : wide_part (lines_of (codes "a.wad") (codes "E1M1")) true ≡ codes "a.wad: E1M1: sound with --wide\n"
@@ -53,27 +54,27 @@ abbrev totals : Totals
 totals = record { levels = 12; faults = 3; notes = 45; warnings = 1; broken = 1; unread = 2; unlooked = none_unlooked }
 
 totals_told : totals_line 2 Unasked totals ≡ codes "12 levels in 2 files: 3 faults, 45 notes, 3 not judged\n"
-unfolding digits
+unfolding digits code_table
 totals_told = refl
 
 totals_with_warnings_told : totals_line 1 Told totals ≡ codes "12 levels in 1 files: 3 faults, 45 notes, 1 warnings, 3 not judged\n"
-unfolding digits
+unfolding digits code_table
 totals_with_warnings_told = refl
 
 totals_of_none_told : totals_line 0 Strict (record { levels = 0; faults = 0; notes = 0; warnings = 0; broken = 0; unread = 0; unlooked = none_unlooked })
     ≡ codes "0 levels in 0 files: 0 faults, 0 notes, 0 warnings, 0 not judged\n"
-unfolding digits
+unfolding digits code_table
 totals_of_none_told = refl
 
 -- and its object, where neither W9 nor W10 was looked for
 totals_object_told : totals_object 1 Strict (record totals { unlooked = record { textures = true; flats = true } })
     ≡ codes "{\"levels\":12,\"files\":1,\"faults\":3,\"notes\":45,\"warnings\":1,\"not_judged\":3,\"unlooked\":[\"W9\",\"W10\"]}\n"
-unfolding digits
+unfolding digits code_table
 totals_object_told = refl
 
 -- one name to unfold for strings and numbers
 unfoldable strings : Unit {0}
-unfolding digits utf8_lossy utf8_valid_len utf8_error_len is_utf8 chars encode
+unfolding digits code_table utf8_lossy utf8_valid_len utf8_error_len is_utf8 chars encode
 strings = tt
 
 -- the objects of refused files
@@ -127,5 +128,5 @@ found_object : doom_members (record {
 })
     ≡ codes ",\"things\":1,\"linedefs\":1,\"sidedefs\":2,\"vertexes\":2,\"segs\":2,\"ssectors\":2,\"nodes\":1,\"sectors\":2,"
     ++ codes "\"reject\":1,\"blockmap\":16,\"sound\":false,\"faults\":2,\"notes\":12,\"findings\":{\"F9\":2,\"N3\":1,\"N12\":11},\"warnings\":{\"W4\":7},\"unlooked\":[\"W10\"]}\n"
-unfolding digits
+unfolding digits code_table
 found_object = refl

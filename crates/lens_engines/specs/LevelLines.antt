@@ -1,12 +1,12 @@
 -- The lines of a level (ours).
 use Rattle.std.specs.Prelude.{◌≡◌, ◌↔◌, ℕ, ◌-◌, ◌<◌, Bool, List, [], ◌++◌, length, min, take, AllPairs, Contains, nat_eq, slice_index, if◌then◌else◌}
 use Rattle.std.specs.List.{flat_map}
+use Rattle.level_codes.specs.declared.code.ReportCode.TheVariants as report
 use Rattle.map_level.specs.Findings.{rank}
 use Rattle.map_level.specs.Level.{Level}
 use Rattle.map_level.specs.declared.finding.Code.{Code}
 use Rattle.lens_engines.specs.Counts.{report_order}
 use Rattle.lens_texts.specs.Head.{Head}
-use Rattle.lens_texts.specs.Kind.{code_text}
 use Rattle.lens_texts.specs.LevelText.{finding_text, left_text, wide_text}
 use Rattle.lens_engines.specs.Warned.{Warned}
 use Rattle.lens_engines.specs.WarnedText.{warned_text}
@@ -37,7 +37,7 @@ abbrev pub more_line : Head → Code → ℕ → List ℕ
 more_line head code left =
     if nat_eq left 0
     then []
-    else left_text head (code_text code) left
+    else left_text head (report.Finding code) left
 
 -- the report on a code
 abbrev pub code_part : Head → ℕ → Level → Code → List ℕ → List ℕ

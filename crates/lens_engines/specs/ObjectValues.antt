@@ -2,17 +2,17 @@
 use Rattle.std.specs.Prelude.{ℕ, Bool, true, false, ◌<◌, ◌^◌, ◌==◌, nat_lt, All, List, [], ◌∷◌, ◌++◌, codes, filter, map}
 use Rattle.json.specs.Json.{Json, array, boolean, item, no_items, string}
 use Rattle.le_rec.specs.Name.{shown_name}
+use Rattle.level_codes.specs.Codes.{code_name}
+use Rattle.level_codes.specs.declared.code.ReportCode.TheVariants as report
 use Rattle.level_starts.specs.declared.format.Format.{Format}
 use Rattle.level_starts.specs.declared.format.Format.TheVariants.{Udmf, Incomplete, Hexen, Outside, Extended, Doom}
-use Rattle.map_warnings.specs.declared.warning.WarningCode.{WarningCode}
+use Rattle.level_codes.specs.declared.code.WarningCode.{WarningCode}
 use Rattle.lens_engines.specs.Counts.{fault_total, note_total, report_order}
-use Rattle.lens_texts.specs.Kind.{code_text}
 use Rattle.lens_engines.specs.Objects.{count_of, refusal_text}
 use Rattle.lens_texts.specs.LevelObject.{format_name, usual_name}
 use Rattle.lens_texts.specs.Members.{file_value, number_at, object_of, text_at}
 use Rattle.lens_engines.specs.Warned.{warning_order}
 use Rattle.lens_engines.specs.WarningCounts.{warning_count}
-use Rattle.lens_texts.specs.WarningLine.{warning_name}
 use Rattle.lens_engines.specs.declared.judging.Warnings.{Warnings}
 use Rattle.lens_engines.specs.declared.judging.Warnings.TheVariants.{Unasked, Told, Strict}
 use Rattle.lens_engines.specs.declared.level_counts.LevelCounts.{LevelCounts}
@@ -55,7 +55,7 @@ size_values tables = map (λ size. number_at size.0 size.1) (sizes_of tables)
 
 -- the codes that hold, each with how often
 abbrev pub findings_values : List ℕ → List (List ℕ × Json)
-findings_values counts = map (λ code. number_at (code_text code []) (count_of counts code)) (filter (λ code. nat_lt 0 (count_of counts code)) report_order)
+findings_values counts = map (λ code. number_at (code_name (report.Finding code)) (count_of counts code)) (filter (λ code. nat_lt 0 (count_of counts code)) report_order)
 
 -- what was found at a level
 abbrev pub found_values : List ℕ → List (List ℕ × Json)
@@ -68,7 +68,7 @@ found_values counts =
 
 -- the codes of warnings of which there are some, each with how many
 abbrev pub warned_values : WarningCounts → List (List ℕ × Json)
-warned_values warned = map (λ code. number_at (warning_name code) (warning_count warned code)) (filter (λ code. nat_lt 0 (warning_count warned code)) warning_order)
+warned_values warned = map (λ code. number_at (code_name (report.Warning code)) (warning_count warned code)) (filter (λ code. nat_lt 0 (warning_count warned code)) warning_order)
 
 -- a level's warnings, where they are asked for
 abbrev pub warnings_values : Warnings → WarningCounts → List (List ℕ × Json)

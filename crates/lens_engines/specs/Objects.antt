@@ -1,18 +1,19 @@
 -- The objects of a survey, a line each (ours): what was found at a level of Doom's format, and a refused file.
 use Rattle.std.specs.Prelude.{ℕ, ◌==◌, nat_lt, filter, map, List, [], ◌∷◌, ◌++◌, codes, decimal, slice_index}
 use Rattle.std.specs.List.{flat_map, join_with_byte}
+use Rattle.level_codes.specs.Codes.{code_name}
+use Rattle.level_codes.specs.declared.code.ReportCode.{ReportCode}
+use Rattle.level_codes.specs.declared.code.ReportCode.TheVariants as report
 use Rattle.map_level.specs.Findings.{rank}
 use Rattle.map_level.specs.declared.finding.Code.{Code}
-use Rattle.map_warnings.specs.declared.warning.WarningCode.{WarningCode}
+use Rattle.level_codes.specs.declared.code.WarningCode.{WarningCode}
 use Rattle.wad_dir.specs.declared.wad.WadFault.TheVariants as wad
 use Rattle.lens_engines.specs.Counts.{fault_total, note_total, report_order}
 use Rattle.lens_texts.specs.JsonString.{bool_text, json_string}
-use Rattle.lens_texts.specs.Kind.{code_text}
 use Rattle.lens_texts.specs.LevelObject.{file_member, number_member}
 use Rattle.lens_engines.specs.Unlooked.{unlooked_member}
 use Rattle.lens_engines.specs.Warned.{warning_order}
 use Rattle.lens_engines.specs.WarningCounts.{warning_count}
-use Rattle.lens_texts.specs.WarningLine.{warning_name}
 use Rattle.lens_engines.specs.declared.judging.Warnings.{Warnings}
 use Rattle.lens_engines.specs.declared.judging.Warnings.TheVariants.{Unasked, Told, Strict}
 use Rattle.lens_engines.specs.declared.level_counts.LevelCounts.{LevelCounts}
@@ -41,9 +42,13 @@ abbrev pub sound_members : ℕ → ℕ → List ℕ
 sound_members faults notes =
     codes ",\"sound\":" ++ (bool_text (faults == 0) ++ (number_member (codes "faults") faults ++ number_member (codes "notes") notes))
 
--- a code with how often it holds: `"F3":12`
+-- a code with a number: `"F3":12`
+abbrev pub number_member_of : ReportCode → ℕ → List ℕ
+number_member_of code count = codes "\"" ++ (code_name code ++ (codes "\":" ++ decimal count))
+
+-- a code of findings with how often it holds
 abbrev pub count_member : Code → ℕ → List ℕ
-count_member code count = codes "\"" ++ code_text code (codes "\":" ++ decimal count)
+count_member code count = number_member_of (report.Finding code) count
 
 -- how often a code holds, by the counts of all codes
 abbrev pub count_of : List ℕ → Code → ℕ
@@ -62,9 +67,9 @@ abbrev pub found_members : List ℕ → List ℕ
 found_members counts =
     sound_members (fault_total counts) (note_total counts) ++ (codes ",\"findings\":{" ++ (findings_text counts ++ codes "}"))
 
--- a code of warnings with how many there are: `"W2":12`
+-- a code of warnings with how many there are
 abbrev pub warned_member : WarningCode → ℕ → List ℕ
-warned_member code count = codes "\"" ++ (warning_name code ++ (codes "\":" ++ decimal count))
+warned_member code count = number_member_of (report.Warning code) count
 
 -- those of some codes of which there are warnings
 abbrev pub warned_members : WarningCounts → List WarningCode → List (List ℕ)

@@ -1,9 +1,10 @@
 -- Which warnings weren't looked for, though they were asked for (ours).
 use Rattle.std.specs.Prelude.{◌≡◌, ◌↔◌, ◌||◌, Bool, not, true, false, List, [], ℕ, Option, IsSomeAnd, IsTrue, codes}
 use Rattle.map_warnings.specs.Listed.{HasFlats, HasTextures}
-use Rattle.map_warnings.specs.declared.warning.WarningCode.TheVariants.{W9, W10}
+use Rattle.level_codes.specs.declared.code.ReportCode.TheVariants as report
+use Rattle.level_codes.specs.declared.code.WarningCode.TheVariants.{W9, W10}
 use Rattle.wad_dir.specs.Wad.{Wad}
-use Rattle.lens_engines.specs.Ignored.{ignores_warning}
+use Rattle.lens_engines.specs.Ignored.{ignores}
 use Rattle.lens_engines.specs.declared.ignored.Ignored.{Ignored}
 use Rattle.lens_engines.specs.declared.unlooked.Unlooked.{Unlooked}
 
@@ -18,8 +19,8 @@ is_none unlooked = not (unlooked.textures || unlooked.flats)
 -- of a level with these files, where they are known: W9 where no lump of textures is found, W10 where no entry begins the flats,
 -- each unless it is ignored
 pub record AreUnlooked (ignored : Ignored) (files : Option (List Wad)) (unlooked : Unlooked) : Type 0 where
-  pub textures : IsTrue unlooked.textures ↔ (IsSomeAnd files (λ known. ¬ HasTextures known) × (ignores_warning ignored W9 ≡ false))
-  pub flats : IsTrue unlooked.flats ↔ (IsSomeAnd files (λ known. ¬ HasFlats known) × (ignores_warning ignored W10 ≡ false))
+  pub textures : IsTrue unlooked.textures ↔ (IsSomeAnd files (λ known. ¬ HasTextures known) × (ignores ignored (report.Warning W9) ≡ false))
+  pub flats : IsTrue unlooked.flats ↔ (IsSomeAnd files (λ known. ¬ HasFlats known) × (ignores ignored (report.Warning W10) ≡ false))
 
 -- of levels together: those of any
 abbrev pub unlooked_with : Unlooked → Unlooked → Unlooked

@@ -2,8 +2,8 @@
 use Rattle.std.specs.Prelude.{◌≡◌, ℕ, ◌-◌, ◌^◌, ◌==◌, Bool, true, false, List, [], ◌∷◌, ◌++◌, Option, Some, None, All, map, min, nat_eq, if◌then◌else◌}
 use Rattle.std.specs.List.{sum_by}
 use Rattle.map_warnings.specs.Warnings.{Cut, Tells}
-use Rattle.map_warnings.specs.declared.warning.WarningCode.{WarningCode}
-use Rattle.map_warnings.specs.declared.warning.WarningCode.TheVariants.{W1, W2, W3, W4, W5, W6, W7, W8, W9, W10, W11}
+use Rattle.level_codes.specs.declared.code.WarningCode.{WarningCode}
+use Rattle.level_codes.specs.declared.code.WarningCode.TheVariants.{W1, W2, W3, W4, W5, W6, W7, W8, W9, W10, W11}
 use Rattle.map_level.specs.Level.{Level}
 use Rattle.wad_dir.specs.Wad.{Wad}
 use Rattle.lens_engines.specs.Ignored.{WarnsUnlessIgnored}

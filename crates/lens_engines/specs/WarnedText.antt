@@ -1,19 +1,19 @@
 -- The report on a level's warnings, in the form that is asked for (ours).
 use Rattle.std.specs.Prelude.{ℕ, ◌-◌, List, [], ◌++◌, length, nat_eq, if◌then◌else◌}
 use Rattle.std.specs.List.{flat_map}
+use Rattle.level_codes.specs.declared.code.ReportCode.TheVariants as report
 use Rattle.map_level.specs.Level.{Level}
-use Rattle.map_warnings.specs.declared.warning.WarningCode.{WarningCode}
+use Rattle.level_codes.specs.declared.code.WarningCode.{WarningCode}
 use Rattle.lens_texts.specs.Head.{Head}
 use Rattle.lens_texts.specs.LevelText.{left_text, warning_text}
 use Rattle.lens_engines.specs.Warned.{Warned}
-use Rattle.lens_texts.specs.WarningLine.{warning_name}
 
 -- how many warnings of a code are left out, where some are
 abbrev pub more_warnings : Head → WarningCode → ℕ → List ℕ
 more_warnings head code left =
     if nat_eq left 0
     then []
-    else left_text head (λ rest. warning_name code ++ rest) left
+    else left_text head (report.Warning code) left
 
 -- the lines of a code's warnings
 abbrev pub warned_part : Head → Level → Warned → List ℕ

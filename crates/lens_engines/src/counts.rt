@@ -9,6 +9,7 @@ ghost use Rattle.std.specs.Prelude.{slice_index_or};
 ghost use Rattle.lens_engines.specs.Counts.{AreCounts, IsCount, fault_total, kept_count, note_total, report_order};
 
 use crate::ignored::Ignored;
+use level_codes::ReportCode;
 use map_audit::Parts;
 use map_level::search::{CODE_COUNT, CODES, Search};
 use map_level::{Code, Level};
@@ -89,7 +90,11 @@ pub fn code_at(rank: usize) -> Code
 fn kept_count(ignored: &Ignored, code: Code, count: u32) -> u32
     ensures { result ≡ kept_count ignored.now code count }
 {
-    if ignored.ignores(code) { 0 } else { count }
+    if ignored.ignores(ReportCode::Finding(code)) {
+        0
+    } else {
+        count
+    }
 }
 
 // The sum of some counts.

@@ -11,7 +11,7 @@ ghost use Rattle.lens_texts.specs.Owners.{AreOwners};
 
 use crate::counts::{CodeCounts, count_all};
 use le_rec::Sink;
-use lens_texts::{Form, Heading, owners_of, write_finding, write_finding_object};
+use lens_texts::{Heading, Remark, owners_of, write_remark};
 use line_io::IoFault;
 use map_audit::Parts;
 use map_level::search::Search;
@@ -97,11 +97,12 @@ impl<'l, 'a, A: Allocator> Judged<'l, 'a, A> {
         ensures { Writes (W.state out.old) (W.state out.new)
             (finding_text (head_of heading.now) self.now finding.now) result }
     {
-        match heading.form {
-            Form::Lines => write_finding(heading, self.level, &self.owners, finding, out),
-            Form::Objects => {
-                write_finding_object(heading, self.level, &self.owners, finding, out)
-            }
-        }
+        write_remark(
+            heading,
+            self.level,
+            &self.owners,
+            Remark::Finding(*finding),
+            out,
+        )
     }
 }

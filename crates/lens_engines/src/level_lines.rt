@@ -14,7 +14,8 @@ use crate::counts::{CodeCounts, code_at};
 use crate::judged::Judged;
 use crate::warned::{Warned, write_warned};
 use le_rec::Sink;
-use lens_texts::{Form, Heading, write_left, write_left_object, write_line, write_wide_object};
+use lens_texts::{Form, Heading, write_left, write_line, write_wide_object};
+use level_codes::ReportCode;
 use line_io::IoFault;
 use map_level::search::CODE_COUNT;
 use map_level::{Code, Finding, Level};
@@ -171,8 +172,5 @@ fn write_more<W: Sink>(
     if left == 0 {
         return Ok(());
     }
-    match heading.form {
-        Form::Lines => write_left(heading, code, left, out),
-        Form::Objects => write_left_object(heading, code, left, out),
-    }
+    write_left(heading, ReportCode::Finding(code), u64::from(left), out)
 }

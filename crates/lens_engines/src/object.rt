@@ -15,9 +15,8 @@ use crate::level_counts::LevelCounts;
 use crate::tables::Tables;
 use crate::warned_members::write_warnings;
 use le_rec::Sink;
-use lens_texts::{
-    prepend_code, prepend_number, write_both, write_file, write_number, write_string,
-};
+use lens_texts::{prepend_number, write_both, write_file, write_number, write_string};
+use level_codes::ReportCode;
 use line_io::{IoFault, TextLine, emit};
 use map_level::Code;
 use map_level::search::CODE_COUNT;
@@ -200,7 +199,7 @@ fn write_count<W: Sink>(
     let mut line = TextLine::new();
     line.prepend_natural(u64::from(count));
     line.prepend_bytes(b"\":");
-    prepend_code(&mut line, code);
+    line.prepend_bytes(ReportCode::Finding(code).name());
     line.prepend_bytes(b"\"");
     line.prepend_bytes(separator);
     emit(out, line.as_bytes())

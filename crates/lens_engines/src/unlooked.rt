@@ -4,7 +4,8 @@ ghost use Rattle.std.specs.Prelude.{◌≡◌, length, ◌≤◌};
 ghost use Rattle.lens_engines.specs.Unlooked.{AreUnlooked, is_none, none_unlooked, unlooked_member, unlooked_note, unlooked_with};
 
 use crate::ignored::Ignored;
-use map_warnings::{Resources, WarningCode};
+use level_codes::{ReportCode, WarningCode};
+use map_warnings::Resources;
 use std::alloc::Allocator;
 
 /// Which warnings were asked for but not looked for, as no file lists the names that they need.
@@ -33,8 +34,10 @@ impl Unlooked {
     {
         match resources {
             Some(known) => Unlooked {
-                textures: !known.has_textures() && !ignored.ignores_warning(WarningCode::W9),
-                flats: !known.has_flats() && !ignored.ignores_warning(WarningCode::W10),
+                textures: !known.has_textures()
+                    && !ignored.ignores(ReportCode::Warning(WarningCode::W9)),
+                flats: !known.has_flats()
+                    && !ignored.ignores(ReportCode::Warning(WarningCode::W10)),
             },
             None => Unlooked::none(),
         }

@@ -4,8 +4,9 @@ ghost use Rattle.std.specs.Prelude.{◌≡◌, ◌↔◌, ◌-◌, ◌<◌, IfOk
 ghost use Rattle.std.specs.List.{flat_map};
 ghost use Rattle.line_io.specs.Writes.{Writes};
 ghost use Rattle.map_audit.specs.Findings.{AuditHolds};
-ghost use Rattle.map_warnings.specs.declared.warning.WarningCode.TheVariants.{W1};
+ghost use Rattle.level_codes.specs.declared.code.WarningCode.TheVariants.{W1};
 ghost use Rattle.map_tree.specs.Sound.{IsSound};
+ghost use Rattle.map_warnings.specs.References.{HasReferences};
 ghost use Rattle.map_warnings.specs.Warnings.{Tells};
 ghost use Rattle.lens_engines.specs.Counts.{AreCounts};
 ghost use Rattle.lens_texts.specs.Head.{head_of};
@@ -16,19 +17,20 @@ ghost use Rattle.lens_engines.specs.Warned.{AddsWarned, AreAskedFor, AreWarned, 
 ghost use Rattle.lens_engines.specs.WarnedText.{more_warnings, warned_part, warned_text};
 
 use crate::counts::CodeCounts;
-use crate::ignored::{Ignored, WARNING_COUNT};
+use crate::ignored::Ignored;
 use crate::judging::{Judging, Warnings};
 use le_rec::Sink;
-use lens_texts::{
-    Form, Heading, write_left_warnings, write_left_warnings_object, write_warning,
-    write_warning_object,
-};
+use lens_texts::{Heading, Remark, write_left, write_remark};
+use level_codes::{ReportCode, WarningCode};
 use line_io::IoFault;
 use map_level::Level;
-use map_warnings::{Checks, Resources, Told, Warning, WarningCode};
+use map_warnings::{Checks, Resources, Told, Warning};
 use std::alloc::{AllocError, Allocator, Global};
 use std::marker::Model;
 use wad_dir::Set;
+
+/// How many codes of warnings there are.
+pub(crate) const WARNING_COUNT: usize = 11;
 
 // The codes in their order.
 const WARNINGS: [WarningCode; WARNING_COUNT] = [
@@ -178,24 +180,36 @@ fn counted_warnings<A: Allocator + Copy>(
     requires { AreCounts (AuditHolds level.now) counts.now }
     ensures { IfOk result (λ all. AreWarned ignored.now resources.now level.now most all.items) }
 {
-    let checks = counted_checks(alloc, level, counts)?;
+    let checks = counted_checks(level, counts);
     let all = warned_by(alloc, &checks, resources, ignored, most)?;
     Ok(all)
 }
 
-// The checks for a level's warnings. A sound level isn't looked over again.
-fn counted_checks<'l, 'a, A: Allocator + Copy>(
-    alloc: A,
-    level: &'l Level<'a>,
-    counts: &CodeCounts,
-) -> Result<Checks<'l, 'a>, AllocError>
+// The checks for a level's warnings, by the counts of its findings: it isn't looked over again.
+fn counted_checks<'l, 'a>(level: &'l Level<'a>, counts: &CodeCounts) -> Checks<'l, 'a>
     requires { AreCounts (AuditHolds level.now) counts.now }
-    ensures { IfOk result (λ checks. checks ≡ level.now) }
+    ensures { result ≡ level.now }
 {
-    if is_faultless(level, counts) {
-        return Ok(Checks::of_sound(level));
+    Checks::known(
+        level,
+        have_references(level, counts),
+        is_faultless(level, counts),
+    )
+}
+
+// Whether the references of a level hold, by its counts: there is no fault F3 to F9.
+fn have_references(level: &Level<'_>, counts: &CodeCounts) -> bool
+    requires { AreCounts (AuditHolds level.now) counts.now }
+    ensures { IsTrue result ↔ HasReferences level.now }
+{
+    // Only the clauses speak of the level.
+    let _level = level;
+    for rank in 2..9 {
+        if counts.get(rank) > 0 {
+            return false;
+        }
     }
-    Checks::of(alloc, level)
+    true
 }
 
 // Whether a level has no fault, by its counts.
@@ -270,7 +284,7 @@ fn told_of<A: Allocator + Copy>(
     ensures told { IfOk result (λ told. Tells (WarnsUnlessIgnored ignored.now resources.now checks.now code) told) }
     ensures most { IfOk result (λ told. told.most ≡ most) }
 {
-    if ignored.ignores_warning(code) {
+    if ignored.ignores(ReportCode::Warning(code)) {
         return Ok(Told::new(alloc, most));
     }
     checks.told(alloc, code, resources, most)
@@ -345,10 +359,7 @@ fn write_one<W: Sink>(
     requires sound { (W.state out.old).failed ≡ false }
     ensures { Writes (W.state out.old) (W.state out.new) (warning_text (head_of heading.now) level.now warning) result }
 {
-    match heading.form {
-        Form::Lines => write_warning(heading, level, owners, warning, out),
-        Form::Objects => write_warning_object(heading, level, owners, warning, out),
-    }
+    write_remark(heading, level, owners, Remark::Warning(warning), out)
 }
 
 // Writes how many warnings of a code are left out.
@@ -365,8 +376,5 @@ fn write_more<W: Sink>(
     if left == 0 {
         return Ok(());
     }
-    match heading.form {
-        Form::Lines => write_left_warnings(heading, code, left as u64, out),
-        Form::Objects => write_left_warnings_object(heading, code, left as u64, out),
-    }
+    write_left(heading, ReportCode::Warning(code), left as u64, out)
 }

@@ -5,14 +5,12 @@ ghost use Rattle.line_io.specs.Writes.{Writes};
 ghost use Rattle.lens_engines.specs.Objects.{warned_member, warned_text, warnings_member};
 ghost use Rattle.lens_engines.specs.declared.judging.Warnings.TheVariants as warnings;
 
-use crate::ignored::WARNING_COUNT;
 use crate::judging::Warnings;
-use crate::warned::code_at;
+use crate::warned::{WARNING_COUNT, code_at};
 use crate::warning_counts::WarningCounts;
 use le_rec::Sink;
-use lens_texts::warning_name;
+use level_codes::{ReportCode, WarningCode};
 use line_io::{IoFault, TextLine, emit};
-use map_warnings::WarningCode;
 
 /// `,"warnings":{<codes>}`, where they are asked for.
 pub fn write_warnings<W: Sink>(
@@ -69,7 +67,7 @@ fn write_code<W: Sink>(
     let mut line = TextLine::new();
     line.prepend_natural(count);
     line.prepend_bytes(b"\":");
-    line.prepend_bytes(warning_name(code));
+    line.prepend_bytes(ReportCode::Warning(code).name());
     line.prepend_bytes(b"\"");
     line.prepend_bytes(separator);
     emit(out, line.as_bytes())

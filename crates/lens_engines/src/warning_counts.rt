@@ -8,8 +8,9 @@ ghost use Rattle.lens_engines.specs.WarningCounts.{CountsWarnings, count_at, cou
 use crate::counts::CodeCounts;
 use crate::judging::Judging;
 use crate::warned::{Warned, known_warnings, warned_total};
+use level_codes::WarningCode;
 use map_level::Level;
-use map_warnings::{Resources, WarningCode};
+use map_warnings::Resources;
 use std::alloc::{AllocError, Allocator};
 
 /// How many warnings of each code a level has; 0 if they aren't looked for.

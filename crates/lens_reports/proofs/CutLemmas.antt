@@ -3,7 +3,7 @@ use Rattle.std.proofs.Common.{◌≡◌, ℕ, List, [], Option, Result, Ok, Err,
 use Rattle.le_rec.specs.Sink.{SinkState}
 use Rattle.line_io.specs.Writes.{Writes}
 use Rattle.line_io.specs.declared.fault.IoFault.{IoFault}
-use Rattle.lens_engines.proofs.SurveyLemmas.{line_stopped}
+use Rattle.line_io.proofs.WriteLemmas.{line_stopped}
 use Rattle.lens_engines.specs.Cut.{RefusesCut, RunsCut, cut_end}
 use Rattle.lens_engines.specs.declared.cut.CutFault.{CutFault}
 use Rattle.lens_engines.specs.declared.cut.CutFault.TheVariants as fault

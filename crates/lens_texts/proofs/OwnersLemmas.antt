@@ -13,7 +13,7 @@ use Rattle.le_rec.specs.declared.records.LineDef.{LineDef}
 use Rattle.map_level.specs.Level.{Level}
 use Rattle.lens_texts.specs.Owners.{PutsOwner}
 use Rattle.lens_texts.specs.Place.{names_sidedef, first_naming, owner_from}
-use Rattle.wad_look.proofs.RestLemmas.{drop-at}
+use Rattle.line_io.proofs.RestLemmas.{drop-at}
 
 -- a number put at the sidedef that an index names
 pub put_at : (count n i linedef : ℕ) (owners : List (Option ℕ)) (index none : ℤ) → length owners ≡ count → index ≡ pos n → index ≢ none → n < count

@@ -12,232 +12,234 @@ use Rattle.map_warnings.specs.declared.warning.Plane.TheVariants.{Ceiling}
 use Rattle.map_warnings.specs.declared.warning.Side.TheVariants.{Front, Back}
 use Rattle.map_warnings.specs.declared.warning.Warning.{Warning}
 use Rattle.map_warnings.specs.declared.warning.Warning.TheVariants as warning
-use Rattle.map_warnings.specs.declared.warning.WarningCode.TheVariants.{W2}
+use Rattle.level_codes.specs.Codes.{code_table}
+use Rattle.level_codes.specs.declared.code.ReportCode.TheVariants as report
+use Rattle.map_warnings.specs.Warnings.{code_of, number_of}
 use Rattle.map_level.specs.declared.finding.Code.{Code}
 use Rattle.map_level.specs.declared.finding.Code.TheVariants.{F3, F4, F5, F6, F7, F8, F9, F10, F11, F12, F13, F14, F15, F16, F17, F18, N2, N3, N4, N5, N6, N7, N8, N9, N10, N11, N12}
 use Rattle.map_level.specs.declared.reading.Reading.{Reading}
 use Rattle.map_level.specs.declared.reading.Reading.TheVariants.{Signed, Wide}
-use Rattle.lens_texts.specs.FindingLine.{finding_line, lead_text}
 use Rattle.lens_texts.specs.FormatLine.{format_text}
 use Rattle.lens_texts.specs.JsonString.{json_string}
 use Rattle.lens_texts.specs.Label.{label_text}
 use Rattle.lens_texts.specs.Message.{message}
 use Rattle.lens_texts.specs.LevelObject.{level_members, other_members}
 use Rattle.lens_texts.specs.Place.{place_of, place_text}
+use Rattle.lens_texts.specs.RemarkLine.{lead_text, remark_line}
+use Rattle.lens_texts.specs.declared.remark.Remark.TheVariants as remark
 use Rattle.lens_texts.specs.ShownPath.{shown_after, shown_path}
-use Rattle.lens_texts.specs.WarningLine.{missing_text, texture_text, unknown_flat_text, unknown_thing_text}
-use Rattle.lens_texts.specs.WarningLine.{warning_lead, warning_message, warning_place}
-use Rattle.lens_texts.proofs.CaseLevels.{rows, line, name, sector, thing, level, shown}
+use Rattle.lens_texts.specs.WarningMessage.{missing_text, texture_text, unknown_flat_text, unknown_thing_text, warning_message, warning_place}
+use Rattle.lens_texts.proofs.CaseLevels.{rows, sector, thing, level, shown}
 
 -- what stands behind the index
 abbrev told : Reading → Code → ℕ → List ℕ
 told reading code i = message (level reading) code i (place_text (place_of (level reading) code i) [])
 
 end_vertex : told Signed F3 0 ≡ codes "end vertex 7 isn't there (2 vertexes)"
-unfolding digits
+unfolding digits code_table
 end_vertex = refl
 
 start_vertex : told Signed F3 2 ≡ codes "start vertex -2 isn't there (2 vertexes)"
-unfolding digits
+unfolding digits code_table
 start_vertex = refl
 
 start_vertex_wide : told Wide F3 2 ≡ codes "start vertex 65534 isn't there (2 vertexes)"
-unfolding digits
+unfolding digits code_table
 start_vertex_wide = refl
 
 front_sidedef : told Signed F4 1 ≡ codes "front sidedef 9 isn't there (2 sidedefs), from (16, -16) to (20000, 1)"
-unfolding digits
+unfolding digits code_table
 front_sidedef = refl
 
 sector_named_second : told Signed F5 1 ≡ codes "sector -1 isn't there (0 sectors), of linedef 1"
-unfolding digits
+unfolding digits code_table
 sector_named_second = refl
 
 sector_named_first : told Signed F5 0 ≡ codes "sector 4 isn't there (0 sectors), of linedef 0"
-unfolding digits
+unfolding digits code_table
 sector_named_first = refl
 
 sector_wide : told Wide F5 1 ≡ codes "sector 65535 isn't there (0 sectors), of linedef 1"
-unfolding digits
+unfolding digits code_table
 sector_wide = refl
 
 seg_end : told Signed F6 1 ≡ codes "end vertex 2 isn't there (2 vertexes)"
-unfolding digits
+unfolding digits code_table
 seg_end = refl
 
 seg_linedef : told Signed F7 0 ≡ codes "linedef 5 isn't there (3 linedefs), from (20000, 1) to (16, -16)"
-unfolding digits
+unfolding digits code_table
 seg_linedef = refl
 
 seg_side : told Signed F8 0 ≡ codes "side 2 is neither 0 nor 1, from (20000, 1) to (16, -16)"
-unfolding digits
+unfolding digits code_table
 seg_side = refl
 
 sideless : told Signed F9 1 ≡ codes "linedef 2 has no sidedef on side 1"
-unfolding digits
+unfolding digits code_table
 sideless = refl
 
 segs_missing : told Signed F10 0 ≡ codes "segs from 0, 9 of them, aren't all there (2 segs), at (20000, 1)"
-unfolding digits
+unfolding digits code_table
 segs_missing = refl
 
 segs_nowhere : told Signed F10 1 ≡ codes "segs from 2, 1 of them, aren't all there (2 segs)"
-unfolding digits
+unfolding digits code_table
 segs_nowhere = refl
 
 second_child : told Signed F11 0 ≡ codes "child 1 names ssector 3, which isn't there (2 ssectors), at (3, -4)"
-unfolding digits
+unfolding digits code_table
 second_child = refl
 
 first_child : told Signed F11 1 ≡ codes "child 0 names node 2, which isn't there (2 nodes), at (20000, 0)"
-unfolding digits
+unfolding digits code_table
 first_child = refl
 
 origin : told Signed F12 1 ≡ codes "origin (20000, 0) is outside -16384 to 16383"
-unfolding digits
+unfolding digits code_table
 origin = refl
 
 named_twice : told Signed F13 0 ≡ codes "named more than once, or the root and named, at (3, -4)"
-unfolding digits
+unfolding digits code_table
 named_twice = refl
 
 not_reached : told Signed F14 0 ≡ codes "not reached from the root, at (3, -4)"
-unfolding digits
+unfolding digits code_table
 not_reached = refl
 
 ssector_twice : told Signed F15 0 ≡ codes "named more than once, at (20000, 1)"
-unfolding digits
+unfolding digits code_table
 ssector_twice = refl
 
 ssector_not_reached : told Signed F16 0 ≡ codes "not reached from the root, at (20000, 1)"
-unfolding digits
+unfolding digits code_table
 ssector_not_reached = refl
 
 no_ssector : told Signed F17 0 ≡ codes "no ssector"
-unfolding digits
+unfolding digits code_table
 no_ssector = refl
 
 many_nodes : told Signed F18 0 ≡ codes "2 nodes, 32767 are the most"
-unfolding digits
+unfolding digits code_table
 many_nodes = refl
 
 left_over : told Signed N2 8 ≡ codes "3 bytes left over"
-unfolding digits
+unfolding digits code_table
 left_over = refl
 
 two_sided : told Signed N3 1 ≡ codes "two-sided, without a back sidedef, from (16, -16) to (20000, 1)"
-unfolding digits
+unfolding digits code_table
 two_sided = refl
 
 no_front : told Signed N4 2 ≡ codes "without a front sidedef"
-unfolding digits
+unfolding digits code_table
 no_front = refl
 
 no_length : told Signed N5 1 ≡ codes "without length, from (16, -16) to (20000, 1)"
-unfolding digits
+unfolding digits code_table
 no_length = refl
 
 no_segs : told Signed N6 1 ≡ codes "without segs"
-unfolding digits
+unfolding digits code_table
 no_segs = refl
 
 no_direction : told Signed N7 0 ≡ codes "without direction, at (3, -4)"
-unfolding digits
+unfolding digits code_table
 no_direction = refl
 
 reject : told Signed N8 0 ≡ codes "REJECT has 1 bytes, 0 are wanted"
-unfolding digits
+unfolding digits code_table
 reject = refl
 
 blockmap : told Signed N9 0 ≡ codes "BLOCKMAP has 6 words, 8 are wanted"
-unfolding digits signed16 unsigned16
+unfolding digits code_table signed16 unsigned16
 blockmap = refl
 
 list_outside : told Signed N10 2 ≡ codes "its list isn't inside BLOCKMAP"
-unfolding digits
+unfolding digits code_table
 list_outside = refl
 
 list_endless : told Signed N10 0 ≡ codes "its list has no end"
-unfolding digits signed16 unsigned16
+unfolding digits code_table signed16 unsigned16
 list_endless = refl
 
 no_start : told Signed N11 0 ≡ codes "no player 1 start"
-unfolding digits
+unfolding digits code_table
 no_start = refl
 
 vertex_outside : told Signed N12 1 ≡ codes "(20000, 1) is outside -16384 to 16383"
-unfolding digits
+unfolding digits code_table
 vertex_outside = refl
 
 -- what stands before the message: a block by its column and row, a whole level without an index
-block_lead : lead_text (level Signed) (record { code = N10; index = 3 }) ≡ codes "N10 block (1, 1): "
-unfolding digits signed16 unsigned16
+block_lead : lead_text (level Signed) (report.Finding N10) 3 ≡ codes "N10 block (1, 1): "
+unfolding digits code_table signed16 unsigned16
 block_lead = refl
 
-level_lead : lead_text (level Signed) (record { code = F17; index = 0 }) ≡ codes "F17 level: "
-unfolding digits
+level_lead : lead_text (level Signed) (report.Finding F17) 0 ≡ codes "F17 level: "
+unfolding digits code_table
 level_lead = refl
 
-lump_lead : lead_text (level Signed) (record { code = N2; index = 8 }) ≡ codes "N2 lump 8: "
-unfolding digits
+lump_lead : lead_text (level Signed) (report.Finding N2) 8 ≡ codes "N2 lump 8: "
+unfolding digits code_table
 lump_lead = refl
 
 hidden_label : label_text (record { name = codes "MAP01"; entry = 7; hidden = true }) (codes ": ") ≡ codes "MAP01 (entry 7): "
-unfolding digits
+unfolding digits code_table
 hidden_label = refl
 
 -- a whole line, of a label with a byte that isn't visible
-whole_line : finding_line (codes "a b.wad") (shown (77 ∷ 1 ∷ [])) (level Signed) (record { code = N7; index = 0 })
+whole_line : remark_line (codes "a b.wad") (shown (77 ∷ 1 ∷ [])) (level Signed) (remark.Finding (record { code = N7; index = 0 }))
     ≡ codes "a b.wad: M\\x01: N7 node 0: without direction, at (3, -4)" ++ 10 ∷ []
-unfolding digits shown_after
+unfolding digits shown_after code_table
 whole_line = refl
 
 -- what is told of a warning
 abbrev warns : Warning → List ℕ
-warns w = warning_lead w ++ warning_message (level Signed) w (place_text (warning_place (level Signed) w) [])
+warns w = lead_text (level Signed) (report.Warning (code_of w)) (number_of w) ++ warning_message (level Signed) w (place_text (warning_place (level Signed) w) [])
 
 unclosed_told : warns (warning.Unclosed 3 0) ≡ codes "W1 sector 3: isn't closed, at (16, -16)"
-unfolding digits
+unfolding digits code_table
 unclosed_told = refl
 
 bare_front_told : warns (warning.Bare 1 Front Middle) ≡ codes "W2 linedef 1: no middle texture in front, from (16, -16) to (20000, 1)"
-unfolding digits
+unfolding digits code_table
 bare_front_told = refl
 
 bare_back_told : warns (warning.Bare 1 Back Upper) ≡ codes "W2 linedef 1: no upper texture at the back, from (16, -16) to (20000, 1)"
-unfolding digits
+unfolding digits code_table
 bare_back_told = refl
 
 bare_lower_told : warns (warning.Bare 0 Front Lower) ≡ codes "W2 linedef 0: no lower texture in front"
-unfolding digits
+unfolding digits code_table
 bare_lower_told = refl
 
 void_told : warns (warning.InVoid 12) ≡ codes "W3 thing 12: stands in the void"
-unfolding digits
+unfolding digits code_table
 void_told = refl
 
 untagged_told : warns (warning.Untagged 1) ≡ codes "W4 linedef 1: no sector has tag 0, from (16, -16) to (20000, 1)"
-unfolding digits
+unfolding digits code_table
 untagged_told = refl
 
 mismatched_told : warns (warning.Mismatched 0 4 2) ≡ codes "W5 ssector 0: its segs face sectors 4 and 2, at (20000, 1)"
-unfolding digits
+unfolding digits code_table
 mismatched_told = refl
 
 twin_told : warns (warning.Twin 1 0) ≡ codes "W6 linedef 1: lies on linedef 0, from (16, -16) to (20000, 1)"
-unfolding digits
+unfolding digits code_table
 twin_told = refl
 
 no_start_told : warns (warning.NoStart 3) ≡ codes "W7 level: no player 3 start"
-unfolding digits
+unfolding digits code_table
 no_start_told = refl
 
 few_starts_told : warns (warning.FewStarts 2) ≡ codes "W8 level: 2 deathmatch starts"
-unfolding digits
+unfolding digits code_table
 few_starts_told = refl
 
 unknown_texture_told : warns (warning.UnknownTexture 1 Upper) ≡ codes "W9 sidedef 1: upper texture FLAT isn't there, of linedef 1"
-unfolding digits
+unfolding digits code_table
 unknown_texture_told = refl
 
 empty_texture_told : texture_text Middle (missing_text (replicate 8 0) []) ≡ codes "middle texture (empty) isn't there"
@@ -247,7 +249,7 @@ unknown_flat_told : unknown_flat_text (record (level Signed) { sectors = rows (s
 unknown_flat_told = refl
 
 unknown_thing_told : unknown_thing_text (record (level Signed) { things = rows (thing ∷ []) }) 0 [] ≡ codes "type 32000 is none of the game's"
-unfolding digits
+unfolding digits code_table
 unknown_thing_told = refl
 
 -- what tells a level that isn't judged

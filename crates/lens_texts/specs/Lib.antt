@@ -1,9 +1,6 @@
-pub mod FindingLine
-pub mod FindingObject
 pub mod FormatLine
 pub mod Head
 pub mod JsonString
-pub mod Kind
 pub mod Label
 pub mod Laws
 pub mod LevelObject
@@ -12,5 +9,8 @@ pub mod Members
 pub mod Message
 pub mod Owners
 pub mod Place
+pub mod Remark
+pub mod RemarkLine
+pub mod RemarkObject
 pub mod ShownPath
-pub mod WarningLine
+pub mod WarningMessage

@@ -11,9 +11,10 @@ use Rattle.map_level.specs.Links.{named, no_side, ◌>>=◌}
 use Rattle.map_level.specs.Reading.{number_of}
 use Rattle.map_level.specs.declared.finding.Code.{Code}
 use Rattle.map_level.specs.declared.finding.Code.TheVariants.{F12}
-use Rattle.lens_texts.specs.Kind.{kind_of}
-use Rattle.lens_texts.specs.declared.kind.Kind.{Kind}
-use Rattle.lens_texts.specs.declared.kind.Kind.TheVariants.{Linedef, Sidedef, Seg, Ssector, Node}
+use Rattle.level_codes.specs.Codes.{kind_of}
+use Rattle.level_codes.specs.declared.code.ReportCode.TheVariants as report
+use Rattle.level_codes.specs.declared.kind.Kind.{Kind}
+use Rattle.level_codes.specs.declared.kind.Kind.TheVariants.{Linedef, Sidedef, Seg, Ssector, Node, Thing}
 use Rattle.lens_texts.specs.declared.place.Place.{Place}
 use Rattle.lens_texts.specs.declared.place.Place.TheVariants.{Nowhere, At, Between, OfLinedef}
 use Rattle.lens_texts.specs.declared.place.Spot.{Spot}
@@ -71,11 +72,12 @@ place_at level Seg i = option_map_or (λ seg. between level seg.v1 seg.v2) (slic
 place_at level Sidedef i = option_map_or (λ linedef. OfLinedef linedef) (owner_of level i) Nowhere
 place_at level Ssector i = option_map_or (λ spot. At spot) (first_spot level i) Nowhere
 place_at level Node i = option_map_or (λ node. At (record { x = node.x; y = node.y })) (slice_get level.nodes.records i) Nowhere
+place_at level Thing i = option_map_or (λ thing. At (record { x = thing.x; y = thing.y })) (slice_get level.things.records i) Nowhere
 place_at level _ i = Nowhere
 
 -- where a finding lies; the message of F12 has the node's origin itself
 abbrev pub place_of : Level → Code → ℕ → Place
-place_of level code i = if nat_eq (rank code) (rank F12) then Nowhere else place_at level (kind_of code) i
+place_of level code i = if nat_eq (rank code) (rank F12) then Nowhere else place_at level (kind_of (report.Finding code)) i
 
 -- `(X, Y)`, before other bytes
 abbrev pub spot_text : ℤ → ℤ → List ℕ → List ℕ

@@ -3,10 +3,8 @@
 #![tactic(auto)]
 
 mod digits;
-mod finding_object;
 mod form;
 mod json_string;
-mod kind;
 mod label;
 pub mod laws;
 mod level_object;
@@ -17,23 +15,21 @@ mod owners;
 mod path;
 mod place;
 mod records;
-mod warning_lines;
+mod remark;
+mod remark_object;
+mod report;
+mod warning_message;
 
-pub use finding_object::{
-    write_finding_object, write_left_object, write_left_warnings_object, write_warning_object,
-    write_wide_object,
-};
 pub use form::Form;
 pub use json_string::write_string;
-pub use kind::prepend_code;
 pub use label::{LevelLabel, label_by, label_looked_up, prepend_label, prepend_name};
 pub use level_object::{
     format_name, prepend_number, write_file, write_level, write_name, write_number, write_other,
 };
-pub use lines::{
-    Heading, write_both, write_finding, write_format, write_format_alone, write_left, write_line,
-};
+pub use lines::{Heading, write_both, write_format, write_format_alone, write_line};
 pub use opened::{label_of, level_at};
 pub use owners::owners_of;
 pub use path::{control_text, is_control_at, write_after_path, write_path};
-pub use warning_lines::{warning_name, write_left_warnings, write_warning};
+pub use remark::Remark;
+pub use remark_object::write_wide_object;
+pub use report::{write_left, write_remark};

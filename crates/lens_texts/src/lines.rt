@@ -1,27 +1,26 @@
 //! The lines of a level's report.
 
-ghost use Rattle.std.specs.Prelude.{◌≡◌, ◌+◌, ◌<◌, ◌≤◌, ◌++◌, ◌∷◌, [], codes, decimal, false, length};
+ghost use Rattle.std.specs.Prelude.{◌≡◌, ◌+◌, ◌≤◌, ◌++◌, [], false, length};
 ghost use Rattle.line_io.specs.Writes.{Writes};
 ghost use Rattle.line_io.specs.declared.text_line.TheConstants.{ROOM};
-ghost use Rattle.lens_texts.specs.FindingLine.{block_text, body_text, finding_line, heading_text, index_text, lead_text, level_line};
+ghost use Rattle.lens_texts.specs.RemarkLine.{block_text, body_text, heading_text, index_text, lead_text, left_line, level_line, remark_line};
 ghost use Rattle.le_rec.specs.Name.{shown_name};
 ghost use Rattle.level_starts.specs.declared.format.Format.TheVariants as format;
 ghost use Rattle.lens_texts.specs.FormatLine.{format_text};
-ghost use Rattle.lens_texts.specs.Kind.{code_text};
 ghost use Rattle.lens_texts.specs.LevelObject.{NamesLump};
 ghost use Rattle.lens_texts.specs.Owners.{AreOwners};
 
 use crate::digits::{prepend_count, prepend_short};
 use crate::form::Form;
-use crate::kind::{Kind, kind_name, kind_of, prepend_code};
 use crate::label::{LevelLabel, prepend_label, prepend_name};
-use crate::message::prepend_message;
 use crate::path::write_after_path;
-use crate::place::{place_of, prepend_place};
+use crate::place::prepend_place;
+use crate::remark::Remark;
 use le_rec::Sink;
+use level_codes::{Kind, ReportCode};
 use level_starts::Format;
 use line_io::{IoFault, TextLine, emit};
-use map_level::{Code, Finding, Level, usual_name};
+use map_level::{Level, usual_name};
 use map_tables::blocks_along;
 
 /// What each line or object of a level begins with: its form, the file's path and the label.
@@ -32,23 +31,23 @@ pub struct Heading<'p> {
     pub label: LevelLabel,
 }
 
-/// Writes the line of a finding.
-pub fn write_finding<W: Sink>(
+/// Writes the line of a remark.
+pub fn write_remark_line<W: Sink>(
     heading: &Heading<'_>,
     level: &Level<'_>,
     owners: &[Option<u32>],
-    finding: &Finding,
+    remark: Remark,
     out: &mut W,
 ) -> Result<(), IoFault>
     requires owners { AreOwners level.now owners.now }
     requires sound { (W.state out.old).failed ≡ false }
     ensures { Writes (W.state out.old) (W.state out.new)
-        (finding_line heading.now.path.now heading.now.label level.now finding.now) result }
+        (remark_line heading.now.path.now heading.now.label level.now remark) result }
 {
     let mut lead = TextLine::new();
-    prepend_lead(&mut lead, level, finding);
+    prepend_lead(&mut lead, level, remark.code(), remark.index());
     let mut body = TextLine::new();
-    prepend_body(&mut body, level, owners, finding);
+    prepend_body(&mut body, level, owners, remark);
     write_heading(heading, out)?;
     write_both(lead.as_bytes(), body.as_bytes(), out)
 }
@@ -85,23 +84,22 @@ pub fn write_both<W: Sink>(first: &[u8], second: &[u8], out: &mut W) -> Result<(
     emit(out, second)
 }
 
-/// Writes how many findings of a code are left out.
-pub fn write_left<W: Sink>(
+/// Writes how many findings, or warnings, of a code are left out.
+pub fn write_left_line<W: Sink>(
     heading: &Heading<'_>,
-    code: Code,
-    left: u32,
+    code: ReportCode,
+    left: u64,
     out: &mut W,
 ) -> Result<(), IoFault>
     requires { (W.state out.old).failed ≡ false }
     ensures { Writes (W.state out.old) (W.state out.new)
-        (level_line heading.now.path.now heading.now.label
-        (code_text code (codes ": " ++ (decimal left ++ (codes " more" ++ 10 ∷ []))))) result }
+        (left_line heading.now.path.now heading.now.label code left) result }
 {
     let mut line = TextLine::new();
     line.prepend_bytes(b" more\n");
-    line.prepend_natural(u64::from(left));
+    line.prepend_natural(left);
     line.prepend_bytes(b": ");
-    prepend_code(&mut line, code);
+    line.prepend_bytes(code.name());
     write_line(heading, line.as_bytes(), out)
 }
 
@@ -184,20 +182,19 @@ fn prepend_extended(line: &mut TextLine, tag: &[u8; 4])
 }
 
 // `CODE KIND INDEX: `
-fn prepend_lead(line: &mut TextLine, level: &Level<'_>, finding: &Finding)
+fn prepend_lead(line: &mut TextLine, level: &Level<'_>, code: ReportCode, index: u32)
     requires { line.old ≡ [] }
-    ensures text { line.new ≡ lead_text level.now finding.now }
-    ensures length { length line.new ≤ 108 }
+    ensures { line.new ≡ lead_text level.now code index }
 {
-    let kind = kind_of(finding.code);
+    let kind = code.kind();
     line.prepend_bytes(b": ");
-    prepend_index_of(line, level, kind, finding.index);
-    line.prepend_bytes(kind_name(kind));
+    prepend_index_of(line, level, kind, index);
+    line.prepend_bytes(kind.name());
     line.prepend_bytes(b" ");
-    prepend_code(line, finding.code);
+    line.prepend_bytes(code.name());
 }
 
-// The index of a finding, by the kind of what it is found at.
+// The index of what is of a kind.
 fn prepend_index_of(line: &mut TextLine, level: &Level<'_>, kind: Kind, index: u32)
     requires { length line.old ≤ 2 }
     ensures text { line.new ≡ index_text level.now kind index line.old }
@@ -231,12 +228,12 @@ fn prepend_block(line: &mut TextLine, columns: u16, index: u32)
 }
 
 // `MESSAGE[, PLACE]`
-fn prepend_body(line: &mut TextLine, level: &Level<'_>, owners: &[Option<u32>], finding: &Finding)
+fn prepend_body(line: &mut TextLine, level: &Level<'_>, owners: &[Option<u32>], remark: Remark)
     requires owners { AreOwners level.now owners.now }
     requires empty { line.old ≡ [] }
-    ensures { line.new ≡ body_text level.now finding.now }
+    ensures { line.new ≡ body_text level.now remark }
 {
     line.prepend_bytes(b"\n");
-    prepend_place(line, place_of(level, owners, finding.code, finding.index));
-    prepend_message(line, level, finding.code, finding.index);
+    prepend_place(line, remark.place(level, owners));
+    remark.prepend_message(line, level);
 }

@@ -3,12 +3,11 @@
 ghost use Rattle.std.specs.Prelude.{◌≡◌, ◌+◌, ◌≤◌, length};
 ghost use Rattle.line_io.specs.declared.text_line.TheConstants.{ROOM};
 ghost use Rattle.lens_texts.specs.Owners.{AreOwners};
-ghost use Rattle.lens_texts.specs.declared.kind.Kind.TheVariants as kind;
 ghost use Rattle.lens_texts.specs.Place.{between, owner_of, place_at, place_of, place_text, spot_text};
 
 use crate::digits::{prepend_count, prepend_word};
-use crate::kind::{Kind, kind_of};
 use crate::records::{first_spot, spot_at};
+use level_codes::{Kind, ReportCode};
 use line_io::TextLine;
 use map_level::{Code, Level};
 
@@ -38,22 +37,37 @@ pub fn place_of(level: &Level<'_>, owners: &[Option<u32>], code: Code, index: u3
     if code.rank() == Code::F12.rank() {
         return Place::Nowhere;
     }
-    place_at(level, owners, kind_of(code), index as usize)
+    place_at(
+        level,
+        owners,
+        ReportCode::Finding(code).kind(),
+        index as usize,
+    )
 }
 
-// The place of a record, a lump or a block, by its kind and its number.
-fn place_at(level: &Level<'_>, owners: &[Option<u32>], kind: Kind, i: usize) -> Place
+/// Where what is of a kind and a number lies: a linedef or a seg between its vertexes, a sidedef on the first linedef that names
+/// it, an ssector where its first seg starts, a node at its origin.
+pub fn place_at(level: &Level<'_>, owners: &[Option<u32>], kind: Kind, i: usize) -> Place
     requires { AreOwners level.now owners.now }
     ensures { result ≡ place_at level.now kind i }
 {
     match kind {
-        Kind::Linedef => linedef_place(level, i),
+        Kind::Linedef => match level.linedefs().get(i) {
+            Some(linedef) => between(level, &linedef.v1, &linedef.v2),
+            None => Place::Nowhere,
+        },
         Kind::Seg => match level.segs().get(i) {
             Some(seg) => between(level, &seg.v1, &seg.v2),
             None => Place::Nowhere,
         },
-        Kind::Sidedef => sidedef_place(level, owners, i),
-        Kind::Ssector => ssector_place(level, i),
+        Kind::Sidedef => match owner_of(level, owners, i) {
+            Some(linedef) => Place::OfLinedef(linedef),
+            None => Place::Nowhere,
+        },
+        Kind::Ssector => match first_spot(level, i) {
+            Some(spot) => Place::At(spot),
+            None => Place::Nowhere,
+        },
         Kind::Node => match level.nodes().get(i) {
             Some(node) => Place::At(Spot {
                 x: node.x,
@@ -61,38 +75,14 @@ fn place_at(level: &Level<'_>, owners: &[Option<u32>], kind: Kind, i: usize) -> 
             }),
             None => Place::Nowhere,
         },
-        Kind::Vertex | Kind::Lump | Kind::Block | Kind::Whole => Place::Nowhere,
-    }
-}
-
-/// Where a linedef lies: between its vertexes.
-pub fn linedef_place(level: &Level<'_>, i: usize) -> Place
-    ensures { result ≡ place_at level.now kind.Linedef i }
-{
-    match level.linedefs().get(i) {
-        Some(linedef) => between(level, &linedef.v1, &linedef.v2),
-        None => Place::Nowhere,
-    }
-}
-
-/// Where a sidedef lies: on the first linedef that names it.
-pub fn sidedef_place(level: &Level<'_>, owners: &[Option<u32>], i: usize) -> Place
-    requires { AreOwners level.now owners.now }
-    ensures { result ≡ place_at level.now kind.Sidedef i }
-{
-    match owner_of(level, owners, i) {
-        Some(linedef) => Place::OfLinedef(linedef),
-        None => Place::Nowhere,
-    }
-}
-
-/// Where an ssector lies: where its first seg starts.
-pub fn ssector_place(level: &Level<'_>, i: usize) -> Place
-    ensures { result ≡ place_at level.now kind.Ssector i }
-{
-    match first_spot(level, i) {
-        Some(spot) => Place::At(spot),
-        None => Place::Nowhere,
+        Kind::Thing => match level.things().get(i) {
+            Some(thing) => Place::At(Spot {
+                x: thing.x,
+                y: thing.y,
+            }),
+            None => Place::Nowhere,
+        },
+        Kind::Vertex | Kind::Sector | Kind::Lump | Kind::Block | Kind::Whole => Place::Nowhere,
     }
 }
 

@@ -9,6 +9,7 @@ pub mod PartsLemmas
 pub mod PrintedLemmas
 pub mod ProgressLemmas
 pub mod ReadingLemmas
+pub mod RestLemmas
 pub mod SmallLemmas
 pub mod StorageLemmas
 pub mod TextLemmas

@@ -1,10 +1,11 @@
 -- How one write after another comes together.
-use Rattle.std.proofs.Common.{ℕ, List, [], ◌++◌, Result, Ok, Err, refl, sym, ap, ◌∙◌}
+use Rattle.std.proofs.Common.{◌≡◌, ℕ, true, List, [], ◌++◌, Result, Ok, Err, refl, sym, ap, ◌∙◌}
 use Rattle.std.proofs.KnownBytes.{Appends-nil, Appends-trans}
 use Rattle.std.proofs.lemmas.List.{append_assoc}
 use Rattle.std.specs.Io.KnownBytes.{Appends}
 use Rattle.le_rec.specs.Sink.{SinkState}
 use Rattle.line_io.specs.declared.fault.IoFault.{IoFault}
+use Rattle.line_io.specs.declared.fault.IoFault.TheVariants as io
 use Rattle.line_io.specs.Writes.{TakesFront, TakesText, Writes}
 
 -- a front of the next text, behind a whole one
@@ -77,3 +78,10 @@ Writes-stop more w =
       takes = TakesText-stop more w.takes;
       ends = record { sound = tt; fault = w.ends.fault };
     }
+
+-- a text that stopped, stopped as its write failed
+pub line_stopped : (between after : SinkState) (line : List ℕ) (e : IoFault) → Writes {T = Unit {0}} between after line (Err e) → after.failed ≡ true
+line_stopped between after line io.Write writes = writes.ends.fault
+line_stopped between after line io.Read writes = absurd writes.ends.fault
+line_stopped between after line io.TooLong writes = absurd writes.ends.fault
+line_stopped between after line io.Memory writes = absurd writes.ends.fault

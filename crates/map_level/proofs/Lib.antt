@@ -1,4 +1,5 @@
 pub mod FindingLemmas
+pub mod IndexTextLemmas
 pub mod LevelLemmas
 pub mod LinkedLemmas
 pub mod OneListLemmas

@@ -5,8 +5,8 @@ use Rattle.map_level.specs.Level.{Level}
 use Rattle.wad_dir.specs.Wad.{Wad}
 use Rattle.map_warnings.specs.declared.warning.Warning.{Warning}
 use Rattle.map_warnings.specs.declared.warning.Warning.TheVariants.{Unclosed, Bare, InVoid, Untagged, Mismatched, Twin, NoStart, FewStarts, UnknownTexture, UnknownFlat, UnknownThing}
-use Rattle.map_warnings.specs.declared.warning.WarningCode.{WarningCode}
-use Rattle.map_warnings.specs.declared.warning.WarningCode.TheVariants.{W9, W10}
+use Rattle.level_codes.specs.declared.code.WarningCode.{WarningCode}
+use Rattle.level_codes.specs.declared.code.WarningCode.TheVariants.{W9, W10}
 use Rattle.map_warnings.specs.Holds.{HoldsIn, HoldsOf}
 use Rattle.map_warnings.specs.Warnings.{Cut, Tells}
 

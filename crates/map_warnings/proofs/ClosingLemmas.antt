@@ -16,7 +16,7 @@ use Rattle.map_level.specs.Reading.{linedef_under}
 use Rattle.map_warnings.specs.declared.closing.SideRun.{SideRun}
 use Rattle.map_warnings.specs.declared.warning.Warning.{Warning}
 use Rattle.map_warnings.specs.declared.warning.Warning.TheVariants.{Unclosed}
-use Rattle.map_warnings.specs.declared.warning.WarningCode.TheVariants.{W1}
+use Rattle.level_codes.specs.declared.code.WarningCode.TheVariants.{W1}
 use Rattle.map_warnings.specs.Closing.{run_of, runs_of, runs_of_linedef, leaving, reaching, IsUnclosed}
 use Rattle.map_warnings.specs.Balance.{AreBalanced, end_in, sector_in}
 use Rattle.map_level.specs.Links.{linedefs_of, sectors_of, vertexes_of}

@@ -23,7 +23,7 @@ use Rattle.map_warnings.specs.Twin.{ends_of_linedef, AreSamePlaces}
 use Rattle.map_warnings.specs.EndsKey.{AreApart, ends_key, keys_of, keys_of_linedef}
 use Rattle.map_warnings.specs.declared.warning.Warning.{Warning}
 use Rattle.map_warnings.specs.declared.warning.Warning.TheVariants.{Twin}
-use Rattle.map_warnings.specs.declared.warning.WarningCode.TheVariants.{W6}
+use Rattle.level_codes.specs.declared.code.WarningCode.TheVariants.{W6}
 use Rattle.map_warnings.specs.Holds.{HoldsOf}
 use Rattle.map_warnings.proofs.TwinLemmas.{key_of_same}
 

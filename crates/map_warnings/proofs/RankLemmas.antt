@@ -18,7 +18,7 @@ use Rattle.map_warnings.specs.declared.warning.Plane.{Plane}
 use Rattle.map_warnings.specs.declared.warning.Plane.TheVariants.{Floor, Ceiling}
 use Rattle.map_warnings.specs.declared.warning.Warning.{Warning}
 use Rattle.map_warnings.specs.declared.warning.Warning.TheVariants.{Bare, InVoid, Untagged, Mismatched, Twin, UnknownTexture, UnknownFlat, UnknownThing}
-use Rattle.map_warnings.specs.declared.warning.WarningCode.TheVariants.{W2, W3, W4, W5, W6, W9, W10, W11}
+use Rattle.level_codes.specs.declared.code.WarningCode.TheVariants.{W2, W3, W4, W5, W6, W9, W10, W11}
 use Rattle.map_warnings.specs.Warnings.{rank, side_number, part_number, plane_number, texture_number}
 use Rattle.map_warnings.specs.Facing.{IsMismatched}
 use Rattle.map_warnings.specs.Twin.{ends_of, AreSamePlaces, HaveSameEnds}

@@ -5,7 +5,7 @@ use Rattle.map_level.specs.Level.{Level}
 use Rattle.map_warnings.specs.Starts.{IsOfKind, HasNone, IsWithoutStart, deathmatch_starts}
 use Rattle.map_warnings.specs.declared.warning.Warning.{Warning}
 use Rattle.map_warnings.specs.declared.warning.Warning.TheVariants.{NoStart, FewStarts}
-use Rattle.map_warnings.specs.declared.warning.WarningCode.TheVariants.{W7, W8}
+use Rattle.level_codes.specs.declared.code.WarningCode.TheVariants.{W7, W8}
 use Rattle.map_warnings.specs.Holds.{HoldsOf}
 
 one_without : (level : Level) (a b : ℕ) → IsWithoutStart level a → IsWithoutStart level b → a ≡ b

@@ -14,7 +14,7 @@ use Rattle.map_warnings.specs.Twin.{ends_of, IsOnePlace, AreSamePlaces, HaveSame
 use Rattle.map_warnings.specs.EndsKey.{place_number, ends_key, IsShort, AreShortEnds, IsFirstOf, AreFirsts}
 use Rattle.map_warnings.specs.declared.warning.Warning.{Warning}
 use Rattle.map_warnings.specs.declared.warning.Warning.TheVariants.{Twin}
-use Rattle.map_warnings.specs.declared.warning.WarningCode.TheVariants.{W6}
+use Rattle.level_codes.specs.declared.code.WarningCode.TheVariants.{W6}
 use Rattle.map_warnings.specs.Warnings.{rank}
 use Rattle.map_warnings.specs.Holds.{HoldsOf}
 

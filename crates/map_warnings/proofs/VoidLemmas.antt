@@ -2,6 +2,7 @@
 use Rattle.std.proofs.Common.{◌≡◌, ◌↔◌, ℕ, Option, Some, refl, sym, subst}
 use Rattle.std.specs.Prelude.{IsSomeAnd}
 use Rattle.le_rec.specs.declared.records.Thing.{Thing}
+use Rattle.level_codes.specs.Codes.{code_table}
 use Rattle.map_cells.proofs.ShownLemmas.{none-told}
 use Rattle.map_cells.specs.Cells.{cell}
 use Rattle.map_cells.specs.Shown.{IsShown}
@@ -9,6 +10,7 @@ use Rattle.map_warnings.specs.Laws.{VoidIsAnEmptyCell, VoidShowsNoSector}
 use Rattle.map_warnings.specs.Void.{ShowsNothing}
 
 pub law_void_shows_no_sector : VoidShowsNoSector
+unfolding code_table
 law_void_shows_no_sector files level k thing shown sound at tells =
     let none = none-told (IsShown level thing.x thing.y) shown tells in
     let Stands = λ (o : Option Thing). IsSomeAnd o (λ (t : Thing). ShowsNothing level t.x t.y) in (

@@ -18,8 +18,11 @@ use Rattle.map_warnings.specs.UnknownThing.{IsUnknownThing}
 use Rattle.wad_dir.specs.Wad.{Wad}
 use Rattle.map_warnings.specs.declared.warning.Warning.{Warning}
 use Rattle.map_warnings.specs.declared.warning.Warning.TheVariants.{Unclosed, Bare, InVoid, Untagged, Mismatched, Twin, NoStart, FewStarts, UnknownTexture, UnknownFlat, UnknownThing}
-use Rattle.map_warnings.specs.declared.warning.WarningCode.{WarningCode}
-use Rattle.map_warnings.specs.declared.warning.WarningCode.TheVariants.{W3, W5, W9, W10}
+use Rattle.level_codes.specs.declared.code.WarningCode.{WarningCode}
+use Rattle.level_codes.specs.Codes.{wants_of}
+use Rattle.level_codes.specs.declared.code.ReportCode.TheVariants as report
+use Rattle.level_codes.specs.declared.kind.Wants.{Wants}
+use Rattle.level_codes.specs.declared.kind.Wants.TheVariants.{Lumps, References, Soundness, Textures, Flats}
 
 -- a warning holds of a level; the level's textures and flats are those of some files, if these are known
 abbrev pub Holds : Option (List Wad) → Level → Warning → Type 0
@@ -43,14 +46,17 @@ HoldsIn files level code w = (code_of w ≡ code) × Holds files level w
 abbrev pub HoldsOf : Level → WarningCode → Warning → Type 0
 HoldsOf level code w = HoldsIn None level code w
 
--- whether warnings of a code are looked for: if the references hold; those that need to know which ssector is where, only in a sound level; those of
--- textures and flats, only if these are known
+-- a level has what is wanted of it; its textures and flats are those of some files, if these are known
+abbrev pub Has : Option (List Wad) → Level → Wants → Type 0
+Has files level Lumps = Unit {0}
+Has files level References = HasReferences level
+Has files level Soundness = IsSound level
+Has files level Textures = HasReferences level × IsSomeAnd files HasTextures
+Has files level Flats = HasReferences level × IsSomeAnd files HasFlats
+
+-- warnings of a code are looked for, by what the code wants of the level
 abbrev pub IsLookedFor : Option (List Wad) → Level → WarningCode → Type 0
-IsLookedFor files level W3 = IsSound level
-IsLookedFor files level W5 = IsSound level
-IsLookedFor files level W9 = HasReferences level × IsSomeAnd files HasTextures
-IsLookedFor files level W10 = HasReferences level × IsSomeAnd files HasFlats
-IsLookedFor files level code = HasReferences level
+IsLookedFor files level code = Has files level (wants_of (report.Warning code))
 
 -- a warning of a code is reported for a level
 abbrev pub IsWarning : Option (List Wad) → Level → WarningCode → Warning → Type 0

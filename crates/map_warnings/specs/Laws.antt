@@ -14,7 +14,7 @@ use Rattle.map_warnings.specs.Closing.{leaving, reaching}
 use Rattle.map_warnings.specs.Holds.{HoldsOf, IsWarning}
 use Rattle.map_warnings.specs.declared.warning.Warning.{Warning}
 use Rattle.map_warnings.specs.declared.warning.Warning.TheVariants.{InVoid}
-use Rattle.map_warnings.specs.declared.warning.WarningCode.TheVariants.{W1, W3}
+use Rattle.level_codes.specs.declared.code.WarningCode.TheVariants.{W1, W3}
 
 -- in a level without W1 each sector's sides make closed walks: as many leave each vertex as reach it
 abbrev pub ClosedIsBalanced : Type 0

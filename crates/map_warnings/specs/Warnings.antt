@@ -9,8 +9,8 @@ use Rattle.map_warnings.specs.declared.warning.Plane.{Plane}
 use Rattle.map_warnings.specs.declared.warning.Plane.TheVariants.{Floor, Ceiling}
 use Rattle.map_warnings.specs.declared.warning.Warning.{Warning}
 use Rattle.map_warnings.specs.declared.warning.Warning.TheVariants.{Unclosed, Bare, InVoid, Untagged, Mismatched, Twin, NoStart, FewStarts, UnknownTexture, UnknownFlat, UnknownThing}
-use Rattle.map_warnings.specs.declared.warning.WarningCode.{WarningCode}
-use Rattle.map_warnings.specs.declared.warning.WarningCode.TheVariants.{W1, W2, W3, W4, W5, W6, W7, W8, W9, W10, W11}
+use Rattle.level_codes.specs.declared.code.WarningCode.{WarningCode}
+use Rattle.level_codes.specs.declared.code.WarningCode.TheVariants.{W1, W2, W3, W4, W5, W6, W7, W8, W9, W10, W11}
 
 -- the code of a warning
 abbrev pub code_of : Warning → WarningCode
@@ -25,6 +25,20 @@ code_of (FewStarts starts) = W8
 code_of (UnknownTexture sidedef part) = W9
 code_of (UnknownFlat sector plane) = W10
 code_of (UnknownThing thing) = W11
+
+-- the number of the record that a warning is of; 0 for what can hold only once
+abbrev pub number_of : Warning → ℕ
+number_of (Unclosed sector vertex) = sector
+number_of (Bare linedef side part) = linedef
+number_of (InVoid thing) = thing
+number_of (Untagged linedef) = linedef
+number_of (Mismatched ssector first other) = ssector
+number_of (Twin linedef earlier) = linedef
+number_of (NoStart player) = 0
+number_of (FewStarts starts) = 0
+number_of (UnknownTexture sidedef part) = sidedef
+number_of (UnknownFlat sector plane) = sector
+number_of (UnknownThing thing) = thing
 
 -- the front before the back
 abbrev pub side_number : Side → ℕ

@@ -14,8 +14,9 @@ ghost use Rattle.map_warnings.specs.Holds.{HoldsOf};
 
 use crate::records::sidedef;
 use crate::told::{Told, tell_where};
-use crate::warning::{Part, Side, Warning, WarningCode};
+use crate::warning::{Part, Side, Warning};
 use le_rec::{LineDef, Name8, Sector, SideDef};
+use level_codes::WarningCode;
 use map_level::links::{linedef_at, named};
 use map_level::{Level, number};
 use std::alloc::{AllocError, Allocator};

@@ -20,7 +20,7 @@ use crate::unknown_flat::unknown_flats;
 use crate::unknown_texture::unknown_textures;
 use crate::unknown_thing::unknown_things;
 use crate::void::in_void;
-use crate::warning::WarningCode;
+use level_codes::{ReportCode, Wants, WarningCode};
 use map_level::Level;
 use map_tree::is_sound;
 use std::alloc::{AllocError, Allocator};
@@ -52,6 +52,7 @@ impl<'l, 'a> Checks<'l, 'a> {
     ghost use Rattle.std.specs.Prelude.{◌↔◌, IsTrue};
     ghost use Rattle.map_tree.specs.Sound.{IsSound};
     ghost use Rattle.map_warnings.specs.Holds.{IsWarning};
+    ghost use Rattle.map_warnings.specs.References.{HasReferences};
 
     /// The checks of a level. Its references and its nodes are looked over.
     pub fn of<A: Allocator + Copy>(
@@ -61,22 +62,19 @@ impl<'l, 'a> Checks<'l, 'a> {
         ensures { IfOk result (λ checks. checks ≡ level.now) }
     {
         let is_sound = is_sound(alloc, level)?;
-        Ok(Checks {
-            level,
-            has_references: references_hold(level, is_sound),
-            is_sound,
-        })
+        let has_references = references_hold(level, is_sound);
+        Ok(Checks::known(level, has_references, is_sound))
     }
 
-    /// The checks of a sound level, by `is_sound`. It isn't looked over again.
-    pub fn of_sound(level: &'l Level<'a>) -> Checks<'l, 'a>
-        requires { IsSound level.now }
+    /// The checks of a level of which it is known whether its references hold and whether it is sound. It isn't looked over.
+    pub fn known(level: &'l Level<'a>, has_references: bool, is_sound: bool) -> Checks<'l, 'a>
+        requires references { IsTrue has_references ↔ HasReferences level.now }
+        requires sound { IsTrue is_sound ↔ IsSound level.now }
         ensures { result ≡ level.now }
     {
-        let is_sound = true;
         Checks {
             level,
-            has_references: references_hold(level, is_sound),
+            has_references,
             is_sound,
         }
     }
@@ -88,8 +86,7 @@ impl<'l, 'a> Checks<'l, 'a> {
         self.level
     }
 
-    /// Whether warnings of a code are looked for. W3 and W5 are in a sound level, the others in one whose references hold. W9 and
-    /// W10 also need the textures and the flats of the level's files to be known.
+    /// Whether warnings of a code are looked for: whether the level, and its files where they are known, have what the code wants.
     pub fn looks_for<A: Allocator>(
         &self,
         code: WarningCode,
@@ -97,18 +94,12 @@ impl<'l, 'a> Checks<'l, 'a> {
     ) -> bool
         ensures { IsTrue result ↔ IsLookedFor resources.now self.now code }
     {
-        match code {
-            WarningCode::W3 => self.is_sound,
-            WarningCode::W5 => self.is_sound,
-            WarningCode::W1 => self.has_references,
-            WarningCode::W2 => self.has_references,
-            WarningCode::W4 => self.has_references,
-            WarningCode::W6 => self.has_references,
-            WarningCode::W7 => self.has_references,
-            WarningCode::W8 => self.has_references,
-            WarningCode::W9 => self.has_references && knows_textures(resources),
-            WarningCode::W10 => self.has_references && knows_flats(resources),
-            WarningCode::W11 => self.has_references,
+        match ReportCode::Warning(code).wants() {
+            Wants::Lumps => true,
+            Wants::References => self.has_references,
+            Wants::Soundness => self.is_sound,
+            Wants::Textures => self.has_references && knows_textures(resources),
+            Wants::Flats => self.has_references && knows_flats(resources),
         }
     }
 

@@ -11,8 +11,9 @@ ghost use Rattle.map_warnings.specs.Holds.{HoldsOf};
 use crate::balance::are_balanced;
 use crate::records::{number_named, sidedef};
 use crate::told::{Told, tell_where};
-use crate::warning::{Warning, WarningCode};
+use crate::warning::Warning;
 use le_rec::LineDef;
+use level_codes::WarningCode;
 use map_level::{Level, number};
 use std::alloc::{AllocError, Allocator};
 

@@ -10,8 +10,9 @@ ghost use Rattle.map_warnings.specs.Holds.{HoldsOf};
 
 use crate::records::number_named;
 use crate::told::{Told, tell_where};
-use crate::warning::{Warning, WarningCode};
+use crate::warning::Warning;
 use le_rec::SSector;
+use level_codes::WarningCode;
 use map_level::links::{seg_at, sidedef_of, ssector_at};
 use map_level::{Level, number};
 use std::alloc::{AllocError, Allocator};

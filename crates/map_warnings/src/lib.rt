@@ -31,4 +31,4 @@ pub use references::has_references;
 pub use resources::Resources;
 pub use told::Told;
 pub use twins::Ends;
-pub use warning::{Part, Plane, Side, Warning, WarningCode};
+pub use warning::{Part, Plane, Side, Warning};

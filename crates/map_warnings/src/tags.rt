@@ -8,8 +8,9 @@ ghost use Rattle.map_warnings.specs.Warnings.{Tells};
 ghost use Rattle.map_warnings.specs.Holds.{HoldsOf};
 
 use crate::told::{Told, tell_where};
-use crate::warning::{Warning, WarningCode};
+use crate::warning::Warning;
 use le_rec::LineDef;
+use level_codes::WarningCode;
 use map_level::Level;
 use map_level::links::linedef_at;
 use std::alloc::{AllocError, Allocator};

@@ -5,7 +5,8 @@ ghost use Rattle.map_warnings.specs.Warnings.{Cut, cut_with, rank, Tells, TellsB
 ghost use Rattle.map_warnings.specs.Holds.{HoldsIn, HoldsOf};
 
 use crate::resources::Resources;
-use crate::warning::{Warning, WarningCode};
+use crate::warning::Warning;
+use level_codes::WarningCode;
 use map_level::Level;
 use std::alloc::{AllocError, Allocator, Global};
 use std::marker::Model;

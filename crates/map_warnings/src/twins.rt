@@ -11,8 +11,9 @@ ghost use Rattle.map_warnings.specs.Holds.{HoldsOf};
 
 use crate::apart::are_surely_apart;
 use crate::told::{Told, tell_where};
-use crate::warning::{Warning, WarningCode};
+use crate::warning::Warning;
 use le_rec::{LineDef, Vertex};
+use level_codes::WarningCode;
 use map_level::Level;
 use map_level::links::{linedef_at, vertex};
 use std::alloc::{AllocError, Allocator};

@@ -8,8 +8,9 @@ ghost use Rattle.map_warnings.specs.Warnings.{plane_number, Tells, TellsBelow};
 
 use crate::resources::Resources;
 use crate::told::{Told, tell_among};
-use crate::warning::{Plane, Warning, WarningCode};
+use crate::warning::{Plane, Warning};
 use le_rec::{Name8, Sector};
+use level_codes::WarningCode;
 use map_level::Level;
 use std::alloc::{AllocError, Allocator};
 

@@ -10,8 +10,9 @@ ghost use Rattle.map_warnings.specs.Warnings.{texture_number, Tells, TellsBelow}
 
 use crate::resources::Resources;
 use crate::told::{Told, tell_among};
-use crate::warning::{Part, Warning, WarningCode};
+use crate::warning::{Part, Warning};
 use le_rec::{Name8, SideDef};
+use level_codes::WarningCode;
 use map_level::Level;
 use map_level::links::sidedef_at;
 use std::alloc::{AllocError, Allocator};

@@ -7,8 +7,9 @@ ghost use Rattle.map_warnings.specs.Warnings.{Tells};
 ghost use Rattle.map_warnings.specs.Holds.{HoldsOf};
 
 use crate::told::{Told, tell_where};
-use crate::warning::{Warning, WarningCode};
+use crate::warning::Warning;
 use le_rec::Thing;
+use level_codes::WarningCode;
 use map_cells::Shown;
 use map_geo::Point;
 use map_level::Level;

@@ -1,34 +1,9 @@
-//! Warnings of a level: their codes and what each says.
+//! Warnings of a level: what each says, and its code.
 
 ghost use Rattle.std.specs.Prelude.{◌≡◌};
-ghost use Rattle.map_warnings.specs.Warnings.{code_of};
+ghost use Rattle.map_warnings.specs.Warnings.{code_of, number_of};
 
-/// The codes of warnings, in the order of a report.
-#[derive(Clone, Copy, Debug, PartialEq, Eq)]
-pub enum WarningCode {
-    /// A sector isn't closed at a vertex.
-    W1,
-    /// A part of a wall can be seen and has no texture.
-    W2,
-    /// A thing is in the void.
-    W3,
-    /// No sector has a linedef's tag.
-    W4,
-    /// An ssector's segs face several sectors.
-    W5,
-    /// A linedef lies on an earlier one.
-    W6,
-    /// A player from 2 to 4 has no start.
-    W7,
-    /// There are fewer than four deathmatch starts.
-    W8,
-    /// A sidedef's texture isn't in the set.
-    W9,
-    /// A sector's flat isn't in the set.
-    W10,
-    /// The game doesn't know a thing's kind.
-    W11,
-}
+use level_codes::WarningCode;
 
 /// A side of a linedef.
 #[derive(Clone, Copy, Debug, PartialEq, Eq)]
@@ -128,6 +103,22 @@ impl Warning {
             Warning::UnknownTexture { .. } => WarningCode::W9,
             Warning::UnknownFlat { .. } => WarningCode::W10,
             Warning::UnknownThing { .. } => WarningCode::W11,
+        }
+    }
+
+    /// The number of the record that it is of, a sector's where it is of a sector; 0 for what can hold only once.
+    pub fn number(self) -> u32
+        ensures { result ≡ number_of self }
+    {
+        match self {
+            Warning::Unclosed { sector, .. } | Warning::UnknownFlat { sector, .. } => sector,
+            Warning::Bare { linedef, .. }
+            | Warning::Untagged { linedef }
+            | Warning::Twin { linedef, .. } => linedef,
+            Warning::InVoid { thing } | Warning::UnknownThing { thing } => thing,
+            Warning::Mismatched { ssector, .. } => ssector,
+            Warning::UnknownTexture { sidedef, .. } => sidedef,
+            Warning::NoStart { .. } | Warning::FewStarts { .. } => 0,
         }
     }
 }

@@ -5,7 +5,7 @@ use Rattle.std.specs.List.{slice_get}
 use Rattle.demo_lump.specs.declared.command.Command.{Command}
 use Rattle.wad_look.specs.Listing.{ticcmd_line, ticcmds_text}
 use Rattle.wad_look.specs.Turn.{player_of, tic_of}
-use Rattle.wad_look.proofs.RestLemmas.{drop-at}
+use Rattle.line_io.proofs.RestLemmas.{drop-at}
 
 -- the text of the commands from a place on
 pub ticcmds_text-drop : (players : List ℕ) (commands : List Command) (i : ℕ) (c : Command) (more : List ℕ) → slice_get commands i ≡ Some c

@@ -9,7 +9,7 @@ use Rattle.line_io.specs.declared.fault.IoFault.{IoFault}
 use Rattle.map_level.specs.declared.finding.Finding.{Finding}
 use Rattle.map_level.specs.declared.finding.Code.TheVariants.{F1, F2}
 use Rattle.wad_look.specs.Engines.Audit.{TellsFindings, finding_line, totals_line}
-use Rattle.wad_look.proofs.RestLemmas.{drop-at}
+use Rattle.line_io.proofs.RestLemmas.{drop-at}
 
 -- the lines of the findings from a place on
 pub finding_lines-drop : (findings : List Finding) (i : ℕ) (f : Finding) → slice_get findings i ≡ Some f

@@ -8,7 +8,7 @@ use Rattle.std.specs.Fmt.{signed_decimal}
 use Rattle.std.specs.List.{slice_get}
 use Rattle.wad_look.specs.Engines.Blocks.{block_text}
 use Rattle.wad_look.specs.Engines.Show.{number_text, numbers_text}
-use Rattle.wad_look.proofs.RestLemmas.{drop-at}
+use Rattle.line_io.proofs.RestLemmas.{drop-at}
 
 pub block_text-more : (x y : ℤ) (bx by : ℕ) (text more : List ℕ) → block_text x y bx by (text ++ more) ≡ block_text x y bx by text ++ more
 block_text-more x y bx by text more = simp append_assoc

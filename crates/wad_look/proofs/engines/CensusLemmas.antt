@@ -15,7 +15,7 @@ use Rattle.map_tree.proofs.CountedLemmas.{one_list_of_pairs, some_counts}
 use Rattle.map_tree.proofs.LawLemmas.{law_sectors}
 use Rattle.wad_look.specs.Engines.Census.{AreRect, TellsCensus, TellsCounts, count_text, counts_text, rect_text}
 use Rattle.wad_look.proofs.ContentsLemmas.{coordinates_near, rect_or_not}
-use Rattle.wad_look.proofs.RestLemmas.{drop-at}
+use Rattle.line_io.proofs.RestLemmas.{drop-at}
 
 -- the nearest `i32`s of numbers, as a rectangle
 abbrev near_rect : List ℤ → Rect

@@ -7,7 +7,7 @@ use Rattle.std.proofs.lemmas.List.{get_or-map, length-map, map_push}
 use Rattle.std.proofs.lemmas.List.Elements.{All-contains, All-push, Contains-append_left, Contains-get_or, Contains-push, Contains-push_cases}
 use Rattle.std.proofs.lemmas.List.Quantifiers.{all_pairs_push}
 use Rattle.std.proofs.lemmas.Option.{slice_get_within, slice_get-get_or, none-some}
-use Rattle.wad_look.proofs.RestLemmas.{drop-at}
+use Rattle.line_io.proofs.RestLemmas.{drop-at}
 use Rattle.wad_look.specs.Engines.Levels.{AreLabels, AreListed, IsLabel, IsListed, level_line}
 use Rattle.wad_look.specs.declared.engines.levels.Listed.{Listed}
 

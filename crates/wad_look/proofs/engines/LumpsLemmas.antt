@@ -5,7 +5,7 @@ use Rattle.le_rec.specs.Name.{name_of}
 use Rattle.le_rec.specs.declared.records.Entry.{Entry}
 use Rattle.wad_dir.specs.Wad.{Wad}
 use Rattle.wad_look.specs.Engines.Lumps.{entry_line, entries_text, file_text, files_text}
-use Rattle.wad_look.proofs.RestLemmas.{drop-at}
+use Rattle.line_io.proofs.RestLemmas.{drop-at}
 
 -- the text of the entries from a place on
 pub entries_text-drop : (entries : List Entry) (first i : ℕ) (e : Entry) → slice_get entries i ≡ Some e

@@ -31,7 +31,7 @@ use Rattle.std.specs.Io.KnownBytes.{Appends}
 use Rattle.std.specs.List.{AllByRecursion, flat_map}
 use Rattle.std.proofs.Math.Seq.{take-append_seam}
 use Rattle.wad_look.proofs.ContentsLemmas.{coordinates_or_not}
-use Rattle.wad_look.proofs.DigitLemmas.{signed_decimal-short}
+use Rattle.map_level.proofs.IndexTextLemmas.{signed_decimal-short}
 use Rattle.wad_look.specs.Laws.{EachPointIsAnswered, LinesNameTheLeaf, NamesTheLeaf}
 use Rattle.wad_look.specs.Engines.Points.{AnswersPoints, AreLeaves, TellsPoints, point_text}
 use Rattle.wad_look.specs.NamedPoints.{NamesPoint, NamesPoints, told_point}

@@ -4,7 +4,7 @@ use Rattle.std.proofs.lemmas.List.{append_assoc}
 use Rattle.std.specs.List.{slice_get}
 use Rattle.le_rec.specs.Layout.{Field, Values, Layout}
 use Rattle.wad_look.specs.Engines.Show.{field_text, fields_text, record_text, record_line, record_lines}
-use Rattle.wad_look.proofs.RestLemmas.{drop-at}
+use Rattle.line_io.proofs.RestLemmas.{drop-at}
 
 -- the text of fields before other bytes, field by field
 abbrev pub fields_before : (fields : List Field) → Values fields → List ℕ → List ℕ

@@ -4,7 +4,7 @@ use Rattle.std.specs.Prelude.{slice_index_or}
 use Rattle.std.specs.List.{flat_map}
 use Rattle.line_io.proofs.WriteProgressLemmas.{SoFar-more, SoFar-stop}
 use Rattle.lens_engines.specs.Objects.{lump_members}
-use Rattle.wad_look.proofs.RestLemmas.{texts-drop}
+use Rattle.line_io.proofs.RestLemmas.{texts-drop}
 use Rattle.lens_engines.proofs.object.write_lumps.Goals as goal
 
 pub returns-in_err-write_count_of : goal.returns-in_err-write_count_of

@@ -1,6 +1,6 @@
 use Rattle.std.proofs.Common.{◌≡◌, ◌+◌, ◌++◌, ◌∷◌, [], ◌<◌, ◌∙◌, take, ap, sym, arith}
 use Rattle.std.proofs.lemmas.List.{take_all, take_more}
-use Rattle.map_warnings.specs.declared.warning.WarningCode.TheVariants.{W1}
+use Rattle.level_codes.specs.declared.code.WarningCode.TheVariants.{W1}
 use Rattle.lens_engines.specs.Warned.{warning_order}
 use Rattle.lens_engines.proofs.WarnedLemmas.{warned_more}
 use Rattle.lens_engines.proofs.warned.warned_by.Goals as goal

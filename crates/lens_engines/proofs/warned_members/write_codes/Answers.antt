@@ -2,7 +2,7 @@ use Rattle.std.proofs.Common.{◌≡◌, ◌+◌, ◌<◌, ◌++◌, ◌∷◌, 
 use Rattle.std.specs.List.{slice_get}
 use Rattle.std.proofs.lemmas.Option.{slice_get-get_or}
 use Rattle.std.proofs.lemmas.Result.{err_from_is_err_and}
-use Rattle.map_warnings.specs.declared.warning.WarningCode.TheVariants.{W1}
+use Rattle.level_codes.specs.declared.code.WarningCode.TheVariants.{W1}
 use Rattle.line_io.proofs.WriteProgressLemmas.{SoFar-end, SoFar-more, SoFar-stop}
 use Rattle.lens_engines.specs.Objects.{warned_member, warned_members}
 use Rattle.lens_engines.specs.Warned.{warning_order}

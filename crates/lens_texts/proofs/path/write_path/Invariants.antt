@@ -1,4 +1,4 @@
-use Rattle.std.proofs.Common.{◌≡◌, ◌≤◌, false, length}
+use Rattle.std.proofs.Common.{◌≡◌, ◌≤◌, false}
 use Rattle.line_io.proofs.WriteProgressLemmas.{SoFar}
 use Rattle.lens_texts.specs.ShownPath.{shown_path}
 use Rattle.lens_texts.proofs.PathLemmas.{unwritten}

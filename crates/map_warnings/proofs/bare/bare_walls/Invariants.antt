@@ -1,7 +1,7 @@
 use Rattle.std.proofs.Common.{◌*◌, ◌≡◌}
 use Rattle.map_warnings.specs.Warnings.{TellsBelow}
 use Rattle.map_warnings.specs.Holds.{HoldsOf}
-use Rattle.map_warnings.specs.declared.warning.WarningCode.TheVariants.{W2}
+use Rattle.level_codes.specs.declared.code.WarningCode.TheVariants.{W2}
 use Rattle.map_warnings.proofs.bare.bare_walls.Given as goal
 
 abbrev pub invariant-loop-i : goal.invariant-loop-i

@@ -1,6 +1,20 @@
-use Rattle.map_warnings.specs.declared.warning.WarningCode.TheVariants.{W1, W2, W3, W4, W5, W6, W7, W8, W11}
+use Rattle.level_codes.specs.declared.code.WarningCode.TheVariants.{W1, W2, W3, W4, W5, W6, W7, W8, W11}
 use Rattle.map_warnings.proofs.AloneLemmas.{ok_alone}
+use Rattle.level_codes.specs.Codes.{code_table}
 use Rattle.map_warnings.proofs.checks.warnings.Goals as goal
+
+-- what is looked for has what it wants
+pub in_void-requires : goal.in_void-requires
+unfolding code_table
+in_void-requires g c = rw c.in-W3.is at c.requires
+
+pub textures_in-requires : goal.textures_in-requires
+unfolding code_table
+textures_in-requires g c = let looked = rw c.in-W9.is at c.requires in looked.1
+
+pub flats_in-requires : goal.flats_in-requires
+unfolding code_table
+flats_in-requires g c = let looked = rw c.in-W10.is at c.requires in looked.1
 
 pub returns-in-W1-clause-told : goal.returns-in-W1-clause-told
 returns-in-W1-clause-told g c =

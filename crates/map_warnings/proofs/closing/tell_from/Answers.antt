@@ -2,7 +2,7 @@ use Rattle.std.proofs.Common.{◌≡◌, ◌+◌, ◌-◌, ◌*◌, ◌/◌, ◌
 use Rattle.map_warnings.specs.Holds.{HoldsOf}
 use Rattle.map_warnings.specs.RunNumbers.{pair_bound}
 use Rattle.map_warnings.specs.Warnings.{TellsBelow}
-use Rattle.map_warnings.specs.declared.warning.WarningCode.TheVariants.{W1}
+use Rattle.level_codes.specs.declared.code.WarningCode.TheVariants.{W1}
 use Rattle.map_warnings.proofs.ClosingLemmas.{bound_below, unclosed_alone, unclosed_between, unclosed_first}
 use Rattle.map_warnings.proofs.ToldLemmas.{told_past}
 use Rattle.map_warnings.proofs.closing.tell_from.Goals as goal

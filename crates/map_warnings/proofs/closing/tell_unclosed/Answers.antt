@@ -1,7 +1,7 @@
 use Rattle.std.proofs.Common.{rules}
 use Rattle.map_warnings.specs.Holds.{HoldsOf}
 use Rattle.map_warnings.specs.RunNumbers.{pair_bound}
-use Rattle.map_warnings.specs.declared.warning.WarningCode.TheVariants.{W1}
+use Rattle.level_codes.specs.declared.code.WarningCode.TheVariants.{W1}
 use Rattle.map_warnings.proofs.ToldLemmas.{told_none, told_all}
 use Rattle.map_warnings.proofs.ClosingLemmas.{unclosed_within}
 use Rattle.map_warnings.proofs.closing.tell_unclosed.Goals as goal

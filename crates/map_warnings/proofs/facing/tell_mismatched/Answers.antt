@@ -1,6 +1,6 @@
 use Rattle.std.proofs.Common.{arith, refl}
 use Rattle.map_warnings.specs.Holds.{HoldsOf}
-use Rattle.map_warnings.specs.declared.warning.WarningCode.TheVariants.{W5}
+use Rattle.level_codes.specs.declared.code.WarningCode.TheVariants.{W5}
 use Rattle.map_warnings.proofs.ToldLemmas.{told_none, told_all}
 use Rattle.map_warnings.proofs.RankLemmas.{mismatched_within}
 use Rattle.map_warnings.proofs.facing.tell_mismatched.Goals as goal

@@ -1,7 +1,7 @@
 use Rattle.std.proofs.Common.{◌≡◌}
 use Rattle.map_warnings.specs.Warnings.{TellsBelow}
 use Rattle.map_warnings.specs.Holds.{HoldsOf}
-use Rattle.map_warnings.specs.declared.warning.WarningCode.TheVariants.{W5}
+use Rattle.level_codes.specs.declared.code.WarningCode.TheVariants.{W5}
 use Rattle.map_warnings.proofs.facing.tell_mismatched.Given as goal
 
 abbrev pub invariant-loop-t : goal.invariant-loop-t

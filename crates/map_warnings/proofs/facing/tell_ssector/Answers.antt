@@ -1,6 +1,6 @@
 use Rattle.std.proofs.Common.{◌+◌, arith}
 use Rattle.map_warnings.specs.Holds.{HoldsOf}
-use Rattle.map_warnings.specs.declared.warning.WarningCode.TheVariants.{W5}
+use Rattle.level_codes.specs.declared.code.WarningCode.TheVariants.{W5}
 use Rattle.map_warnings.proofs.ToldLemmas.{told_past}
 use Rattle.map_warnings.proofs.RankLemmas.{no_mismatched, mismatched_alone}
 use Rattle.map_warnings.proofs.facing.tell_ssector.Goals as goal

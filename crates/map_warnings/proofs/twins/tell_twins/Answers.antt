@@ -1,6 +1,6 @@
 use Rattle.std.proofs.Common.{refl, arith}
 use Rattle.map_warnings.specs.Holds.{HoldsOf}
-use Rattle.map_warnings.specs.declared.warning.WarningCode.TheVariants.{W6}
+use Rattle.level_codes.specs.declared.code.WarningCode.TheVariants.{W6}
 use Rattle.map_warnings.proofs.ToldLemmas.{told_none, told_all}
 use Rattle.map_warnings.proofs.RankLemmas.{twin_within}
 use Rattle.map_warnings.proofs.TwinLemmas.{no_firsts}

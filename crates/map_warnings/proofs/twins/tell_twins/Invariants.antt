@@ -2,7 +2,7 @@ use Rattle.std.proofs.Common.{◌≡◌}
 use Rattle.map_warnings.specs.Warnings.{TellsBelow}
 use Rattle.map_warnings.specs.EndsKey.{AreFirsts}
 use Rattle.map_warnings.specs.Holds.{HoldsOf}
-use Rattle.map_warnings.specs.declared.warning.WarningCode.TheVariants.{W6}
+use Rattle.level_codes.specs.declared.code.WarningCode.TheVariants.{W6}
 use Rattle.map_warnings.proofs.twins.tell_twins.Given as goal
 
 abbrev pub invariant-loop-i : goal.invariant-loop-i

@@ -1,7 +1,7 @@
 use Rattle.std.proofs.Common.{rules}
 use Rattle.map_warnings.specs.EndsKey.{AreApart, keys_of}
 use Rattle.map_warnings.specs.Holds.{HoldsOf}
-use Rattle.map_warnings.specs.declared.warning.WarningCode.TheVariants.{W6}
+use Rattle.level_codes.specs.declared.code.WarningCode.TheVariants.{W6}
 use Rattle.map_warnings.proofs.KeyLemmas.{apart_no_twin}
 use Rattle.map_warnings.proofs.ToldLemmas.{told_nothing}
 use Rattle.map_warnings.proofs.twins.twins.Goals as goal

@@ -1,6 +1,6 @@
 use Rattle.std.proofs.Common.{◌≡◌, ◌+◌, ◌*◌, ◌∙◌, Some, arith, rules}
 use Rattle.map_warnings.specs.Holds.{HoldsIn}
-use Rattle.map_warnings.specs.declared.warning.WarningCode.TheVariants.{W10}
+use Rattle.level_codes.specs.declared.code.WarningCode.TheVariants.{W10}
 use Rattle.map_warnings.proofs.ToldLemmas.{told_none, told_all}
 use Rattle.map_warnings.proofs.RankLemmas.{flat_within}
 use Rattle.map_warnings.proofs.unknown_flat.unknown_flats.Goals as goal

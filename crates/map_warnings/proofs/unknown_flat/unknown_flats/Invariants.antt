@@ -1,7 +1,7 @@
 use Rattle.std.proofs.Common.{◌*◌, ◌≡◌, Some}
 use Rattle.map_warnings.specs.Warnings.{TellsBelow}
 use Rattle.map_warnings.specs.Holds.{HoldsIn}
-use Rattle.map_warnings.specs.declared.warning.WarningCode.TheVariants.{W10}
+use Rattle.level_codes.specs.declared.code.WarningCode.TheVariants.{W10}
 use Rattle.map_warnings.proofs.unknown_flat.unknown_flats.Given as goal
 
 abbrev pub invariant-loop-i : goal.invariant-loop-i

@@ -1,6 +1,6 @@
 use Rattle.std.proofs.Common.{◌≡◌, ◌+◌, ◌*◌, ◌∙◌, Some, arith, rules}
 use Rattle.map_warnings.specs.Holds.{HoldsIn}
-use Rattle.map_warnings.specs.declared.warning.WarningCode.TheVariants.{W9}
+use Rattle.level_codes.specs.declared.code.WarningCode.TheVariants.{W9}
 use Rattle.map_warnings.proofs.ToldLemmas.{told_none, told_all}
 use Rattle.map_warnings.proofs.RankLemmas.{texture_within}
 use Rattle.map_warnings.proofs.unknown_texture.unknown_textures.Goals as goal

@@ -1,6 +1,6 @@
 use Rattle.std.proofs.Common.{arith, rules}
 use Rattle.map_warnings.specs.Holds.{HoldsOf}
-use Rattle.map_warnings.specs.declared.warning.WarningCode.TheVariants.{W3}
+use Rattle.level_codes.specs.declared.code.WarningCode.TheVariants.{W3}
 use Rattle.map_warnings.proofs.ToldLemmas.{told_none, told_all}
 use Rattle.map_warnings.proofs.RankLemmas.{void_alone, void_within}
 use Rattle.map_warnings.proofs.void.tell_in_void.Goals as goal

@@ -1,4 +1,4 @@
-use Rattle.std.proofs.Common.{◌≡◌, ◌<◌, ◌≢◌, ◌∙◌, arith, below_more, get_or, get_or-set_other, get_or-set_same, length, ap, subst}
+use Rattle.std.proofs.Common.{◌≡◌, ◌<◌, ◌≢◌, ◌∙◌, arith, below_more, get_or, get_or-set_other, get_or-set_same, length, subst}
 use Rattle.std.proofs.lemmas.List.{length-set}
 use Rattle.map_level.proofs.FindingLemmas.{rank-below}
 use Rattle.map_level.specs.Findings.{rank}

@@ -4,7 +4,7 @@ use Rattle.std.specs.List.{slice_get, flat_map}
 use Rattle.line_io.proofs.WriteProgressLemmas.{SoFar-more, SoFar-stop, SoFar-end}
 use Rattle.wad_look.specs.Engines.Audit.{finding_line}
 use Rattle.wad_look.proofs.engines.AuditLemmas.{finding_lines-drop}
-use Rattle.wad_look.proofs.RestLemmas.{drop_past}
+use Rattle.line_io.proofs.RestLemmas.{drop_past}
 use Rattle.wad_look.proofs.engines.audit.write_findings.Goals as goal
 
 pub returns-in_err-write_finding : goal.returns-in_err-write_finding

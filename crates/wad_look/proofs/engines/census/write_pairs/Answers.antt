@@ -4,7 +4,7 @@ use Rattle.std.specs.List.{slice_get, flat_map}
 use Rattle.line_io.proofs.WriteProgressLemmas.{SoFar-more, SoFar-stop, SoFar-end}
 use Rattle.wad_look.specs.Engines.Census.{count_text}
 use Rattle.wad_look.proofs.engines.CensusLemmas.{counts-drop}
-use Rattle.wad_look.proofs.RestLemmas.{drop_past}
+use Rattle.line_io.proofs.RestLemmas.{drop_past}
 use Rattle.wad_look.proofs.engines.census.write_pairs.Goals as goal
 
 pub returns-in_err-write_count : goal.returns-in_err-write_count

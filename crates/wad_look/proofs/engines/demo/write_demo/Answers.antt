@@ -5,7 +5,7 @@ use Rattle.std.specs.List.{slice_get}
 use Rattle.demo_lump.specs.declared.header.Header.{Header}
 use Rattle.line_io.proofs.WriteProgressLemmas.{SoFar-none, SoFar-more, SoFar-stop}
 use Rattle.wad_look.proofs.ListingLemmas.{ticcmds_text-drop}
-use Rattle.wad_look.proofs.RestLemmas.{drop_past}
+use Rattle.line_io.proofs.RestLemmas.{drop_past}
 use Rattle.wad_look.proofs.engines.DemoLemmas.{SoFar-last}
 use Rattle.wad_look.specs.Listing.{ticcmds_text, listing, totals_text}
 use Rattle.wad_look.specs.Turn.{Turn}

@@ -3,7 +3,7 @@ use Rattle.std.proofs.lemmas.Result.{err_from_is_err_and}
 use Rattle.std.specs.List.{slice_get}
 use Rattle.wad_look.specs.Engines.Lumps.{file_text, files_text}
 use Rattle.wad_look.proofs.engines.LumpsLemmas.{files_text-drop}
-use Rattle.wad_look.proofs.RestLemmas.{drop_past}
+use Rattle.line_io.proofs.RestLemmas.{drop_past}
 use Rattle.line_io.proofs.WriteProgressLemmas.{SoFar-more, SoFar-stop, SoFar-end}
 use Rattle.wad_look.proofs.engines.lumps.write_files.Goals as goal
 

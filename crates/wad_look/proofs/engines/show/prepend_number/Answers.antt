@@ -2,7 +2,7 @@ use Rattle.std.proofs.Common.{length, ap, ◌∙◌, arith, rules, FitsSigned, w
 use Rattle.std.proofs.lemmas.Int.{ints, to_z-of_z}
 use Rattle.std.proofs.lemmas.List.{length-append}
 use Rattle.std.specs.Fmt.{signed_decimal}
-use Rattle.wad_look.proofs.DigitLemmas.{signed_decimal-short}
+use Rattle.map_level.proofs.IndexTextLemmas.{signed_decimal-short}
 use Rattle.wad_look.proofs.engines.show.prepend_number.Goals as goal
 
 pub returns-clause-length : goal.returns-clause-length

@@ -5,7 +5,7 @@ use Rattle.std.specs.List.{flat_map}
 use Rattle.line_io.proofs.WriteLemmas.{Writes-stop}
 use Rattle.line_io.proofs.WriteProgressLemmas.{SoFar-more, SoFar-stop}
 use Rattle.wad_look.specs.Engines.Show.{lump_texts}
-use Rattle.wad_look.proofs.RestLemmas.{texts-drop}
+use Rattle.line_io.proofs.RestLemmas.{texts-drop}
 use Rattle.wad_look.proofs.engines.show.write_level.Goals as goal
 
 pub returns-in_err-write_label : goal.returns-in_err-write_label

@@ -8,7 +8,7 @@ use Rattle.line_io.proofs.WriteLemmas.{Writes-stop}
 use Rattle.line_io.proofs.WriteProgressLemmas.{SoFar-more, SoFar-stop, SoFar-end}
 use Rattle.wad_look.specs.Engines.Show.{record_line, record_lines}
 use Rattle.wad_look.proofs.engines.ShowLemmas.{record_lines-drop}
-use Rattle.wad_look.proofs.RestLemmas.{drop_past}
+use Rattle.line_io.proofs.RestLemmas.{drop_past}
 use Rattle.wad_look.proofs.engines.show.write_table.Goals as goal
 
 pub returns-in_err-write_counts : goal.returns-in_err-write_counts

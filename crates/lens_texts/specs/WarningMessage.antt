@@ -1,12 +1,11 @@
--- The lines of warnings (ours).
-use Rattle.std.specs.Prelude.{ℕ, List, [], ◌∷◌, ◌++◌, codes, length, nat_eq, if◌then◌else◌}
+-- What a warning says, and where it lies (ours).
+use Rattle.std.specs.Prelude.{ℕ, List, ◌++◌, codes, length, nat_eq, if◌then◌else◌}
 use Rattle.std.specs.Fmt.{decimal, signed_decimal}
 use Rattle.std.specs.List.{slice_get}
 use Rattle.std.specs.Option.{option_map_or}
 use Rattle.le_rec.specs.Name.{name_of, shown_name}
 use Rattle.map_warnings.specs.UnknownFlat.{flat_of}
 use Rattle.map_warnings.specs.UnknownTexture.{texture_of}
-use Rattle.map_warnings.specs.Warnings.{code_of}
 use Rattle.map_warnings.specs.declared.warning.Part.{Part}
 use Rattle.map_warnings.specs.declared.warning.Part.TheVariants.{Middle, Upper, Lower}
 use Rattle.map_warnings.specs.declared.warning.Plane.{Plane}
@@ -15,43 +14,13 @@ use Rattle.map_warnings.specs.declared.warning.Side.{Side}
 use Rattle.map_warnings.specs.declared.warning.Side.TheVariants.{Front, Back}
 use Rattle.map_warnings.specs.declared.warning.Warning.{Warning}
 use Rattle.map_warnings.specs.declared.warning.Warning.TheVariants as warning
-use Rattle.map_warnings.specs.declared.warning.WarningCode.{WarningCode}
-use Rattle.map_warnings.specs.declared.warning.WarningCode.TheVariants.{W1, W2, W3, W4, W5, W6, W7, W8, W9, W10, W11}
+use Rattle.level_codes.specs.Codes.{kind_of}
+use Rattle.level_codes.specs.declared.code.ReportCode.TheVariants as report
 use Rattle.map_level.specs.Level.{Level}
-use Rattle.lens_texts.specs.FindingLine.{heading_text}
-use Rattle.lens_texts.specs.Place.{place_at, place_text}
-use Rattle.lens_texts.specs.declared.kind.Kind.TheVariants.{Linedef, Sidedef, Ssector}
-use Rattle.lens_texts.specs.declared.label.LevelLabel.{LevelLabel}
+use Rattle.map_warnings.specs.Warnings.{code_of, number_of}
+use Rattle.lens_texts.specs.Place.{place_at}
 use Rattle.lens_texts.specs.declared.place.Place.{Place}
 use Rattle.lens_texts.specs.declared.place.Place.TheVariants.{Nowhere, At}
-
--- a code as it is printed
-abbrev pub warning_name : WarningCode → List ℕ
-warning_name W1 = codes "W1"
-warning_name W2 = codes "W2"
-warning_name W3 = codes "W3"
-warning_name W4 = codes "W4"
-warning_name W5 = codes "W5"
-warning_name W6 = codes "W6"
-warning_name W7 = codes "W7"
-warning_name W8 = codes "W8"
-warning_name W9 = codes "W9"
-warning_name W10 = codes "W10"
-warning_name W11 = codes "W11"
-
--- what a warning is of, and its number, a space before it
-abbrev pub subject_text : Warning → List ℕ → List ℕ
-subject_text (warning.Unclosed sector vertex) rest = codes " sector " ++ (decimal sector ++ rest)
-subject_text (warning.Bare linedef side part) rest = codes " linedef " ++ (decimal linedef ++ rest)
-subject_text (warning.InVoid thing) rest = codes " thing " ++ (decimal thing ++ rest)
-subject_text (warning.Untagged linedef) rest = codes " linedef " ++ (decimal linedef ++ rest)
-subject_text (warning.Mismatched ssector first other) rest = codes " ssector " ++ (decimal ssector ++ rest)
-subject_text (warning.Twin linedef earlier) rest = codes " linedef " ++ (decimal linedef ++ rest)
-subject_text (warning.NoStart player) rest = codes " level" ++ rest
-subject_text (warning.FewStarts starts) rest = codes " level" ++ rest
-subject_text (warning.UnknownTexture sidedef part) rest = codes " sidedef " ++ (decimal sidedef ++ rest)
-subject_text (warning.UnknownFlat sector plane) rest = codes " sector " ++ (decimal sector ++ rest)
-subject_text (warning.UnknownThing thing) rest = codes " thing " ++ (decimal thing ++ rest)
 
 -- a part of a wall that has no texture
 abbrev pub part_text : Part → List ℕ → List ℕ
@@ -118,35 +87,11 @@ warning_message level (warning.UnknownTexture sidedef part) rest = unknown_textu
 warning_message level (warning.UnknownFlat sector plane) rest = unknown_flat_text level sector plane rest
 warning_message level (warning.UnknownThing thing) rest = unknown_thing_text level thing rest
 
--- where a vertex is, and where a thing
+-- where a vertex is
 abbrev pub vertex_place : Level → ℕ → Place
 vertex_place level i = option_map_or (λ found. At (record { x = found.x; y = found.y })) (slice_get level.vertexes.records i) Nowhere
 
-abbrev pub thing_place : Level → ℕ → Place
-thing_place level i = option_map_or (λ found. At (record { x = found.x; y = found.y })) (slice_get level.things.records i) Nowhere
-
--- where a warning lies
+-- where a warning lies: W1 at the vertex, and each other where its record is
 abbrev pub warning_place : Level → Warning → Place
 warning_place level (warning.Unclosed sector vertex) = vertex_place level vertex
-warning_place level (warning.Bare linedef side part) = place_at level Linedef linedef
-warning_place level (warning.InVoid thing) = thing_place level thing
-warning_place level (warning.Untagged linedef) = place_at level Linedef linedef
-warning_place level (warning.Mismatched ssector first other) = place_at level Ssector ssector
-warning_place level (warning.Twin linedef earlier) = place_at level Linedef linedef
-warning_place level (warning.NoStart player) = Nowhere
-warning_place level (warning.FewStarts starts) = Nowhere
-warning_place level (warning.UnknownTexture sidedef part) = place_at level Sidedef sidedef
-warning_place level (warning.UnknownFlat sector plane) = Nowhere
-warning_place level (warning.UnknownThing thing) = thing_place level thing
-
--- `CODE KIND INDEX: `
-abbrev pub warning_lead : Warning → List ℕ
-warning_lead w = warning_name (code_of w) ++ subject_text w (codes ": ")
-
--- `MESSAGE[, PLACE]`, and the line's end
-abbrev pub warning_body : Level → Warning → List ℕ
-warning_body level w = warning_message level w (place_text (warning_place level w) (10 ∷ []))
-
--- `PATH: LEVEL: CODE KIND INDEX: MESSAGE[, PLACE]`
-abbrev pub warning_line : List ℕ → LevelLabel → Level → Warning → List ℕ
-warning_line path label level w = heading_text path label ++ (warning_lead w ++ warning_body level w)
+warning_place level w = place_at level (kind_of (report.Warning (code_of w))) (number_of w)

@@ -1,17 +1,19 @@
 -- The lines of a level (ours): each begins with the file's path and the level's label.
 use Rattle.std.specs.Prelude.{ℕ, ◌/◌, ◌%◌, List, [], ◌∷◌, ◌++◌, codes, nat_eq, if◌then◌else◌}
 use Rattle.std.specs.Fmt.{decimal}
+use Rattle.level_codes.specs.Codes.{code_name, kind_of}
+use Rattle.level_codes.specs.Kind.{kind_name}
+use Rattle.level_codes.specs.declared.code.ReportCode.{ReportCode}
+use Rattle.level_codes.specs.declared.kind.Kind.{Kind}
+use Rattle.level_codes.specs.declared.kind.Kind.TheVariants.{Block, Whole}
 use Rattle.map_level.specs.Level.{Level}
-use Rattle.map_level.specs.declared.finding.Finding.{Finding}
 use Rattle.map_tables.specs.BlockMap.{count_of, head}
-use Rattle.lens_texts.specs.Kind.{code_text, kind_name, kind_of}
 use Rattle.lens_texts.specs.Label.{label_text}
-use Rattle.lens_texts.specs.Message.{message}
-use Rattle.lens_texts.specs.Place.{place_of, place_text}
+use Rattle.lens_texts.specs.Place.{place_text}
+use Rattle.lens_texts.specs.Remark.{remark_code, remark_index, remark_message, remark_place}
 use Rattle.lens_texts.specs.ShownPath.{shown_path}
-use Rattle.lens_texts.specs.declared.kind.Kind.{Kind}
-use Rattle.lens_texts.specs.declared.kind.Kind.TheVariants.{Block, Whole}
 use Rattle.lens_texts.specs.declared.label.LevelLabel.{LevelLabel}
+use Rattle.lens_texts.specs.declared.remark.Remark.{Remark}
 
 -- block i of rows of so many, as ` (BX, BY)`
 abbrev pub block_text : ℕ → ℕ → List ℕ → List ℕ
@@ -25,13 +27,12 @@ index_text level Block i rest = block_text (count_of (head level.blockmap 2)) i 
 index_text level _ i rest = codes " " ++ (decimal i ++ rest)
 
 -- `CODE KIND INDEX: `
-abbrev pub lead_text : Level → Finding → List ℕ
-lead_text level f =
-    code_text f.code (codes " " ++ (kind_name (kind_of f.code) ++ index_text level (kind_of f.code) f.index (codes ": ")))
+abbrev pub lead_text : Level → ReportCode → ℕ → List ℕ
+lead_text level code i = code_name code ++ (codes " " ++ (kind_name (kind_of code) ++ index_text level (kind_of code) i (codes ": ")))
 
 -- `MESSAGE[, PLACE]`, and the line's end
-abbrev pub body_text : Level → Finding → List ℕ
-body_text level f = message level f.code f.index (place_text (place_of level f.code f.index) (10 ∷ []))
+abbrev pub body_text : Level → Remark → List ℕ
+body_text level remark = remark_message level remark (place_text (remark_place level remark) (10 ∷ []))
 
 -- `PATH: LEVEL: `
 abbrev pub heading_text : List ℕ → LevelLabel → List ℕ
@@ -42,5 +43,10 @@ abbrev pub level_line : List ℕ → LevelLabel → List ℕ → List ℕ
 level_line path label text = heading_text path label ++ text
 
 -- `PATH: LEVEL: CODE KIND INDEX: MESSAGE[, PLACE]`
-abbrev pub finding_line : List ℕ → LevelLabel → Level → Finding → List ℕ
-finding_line path label level f = heading_text path label ++ (lead_text level f ++ body_text level f)
+abbrev pub remark_line : List ℕ → LevelLabel → Level → Remark → List ℕ
+remark_line path label level remark =
+    heading_text path label ++ (lead_text level (remark_code remark) (remark_index remark) ++ body_text level remark)
+
+-- `PATH: LEVEL: CODE: N more`
+abbrev pub left_line : List ℕ → LevelLabel → ReportCode → ℕ → List ℕ
+left_line path label code left = level_line path label (code_name code ++ (codes ": " ++ (decimal left ++ (codes " more" ++ 10 ∷ []))))

@@ -1,8 +1,8 @@
 use Rattle.std.proofs.lemmas.Result.{err_from_is_err_and}
 use Rattle.line_io.proofs.WriteLemmas.{Writes-stop}
 use Rattle.lens_texts.proofs.WritingLemmas.{Writes-after}
-use Rattle.lens_texts.specs.FindingObject.{told_members}
-use Rattle.lens_texts.proofs.finding_object.write_told.Goals as goal
+use Rattle.lens_texts.specs.RemarkObject.{told_members}
+use Rattle.lens_texts.proofs.remark_object.write_told.Goals as goal
 
 pub returns-in_err-emit : goal.returns-in_err-emit
 returns-in_err-emit g c =

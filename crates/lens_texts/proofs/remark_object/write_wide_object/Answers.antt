@@ -2,7 +2,7 @@ use Rattle.std.proofs.lemmas.Result.{err_from_is_err_and}
 use Rattle.line_io.proofs.WriteLemmas.{Writes-stop}
 use Rattle.lens_texts.proofs.WritingLemmas.{Writes-after}
 use Rattle.std.specs.Prelude.{codes}
-use Rattle.lens_texts.proofs.finding_object.write_wide_object.Goals as goal
+use Rattle.lens_texts.proofs.remark_object.write_wide_object.Goals as goal
 
 pub returns-in_err-write_front : goal.returns-in_err-write_front
 returns-in_err-write_front g c =

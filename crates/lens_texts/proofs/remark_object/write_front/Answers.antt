@@ -2,7 +2,7 @@ use Rattle.std.proofs.lemmas.Result.{err_from_is_err_and}
 use Rattle.line_io.proofs.WriteLemmas.{Writes-stop}
 use Rattle.lens_texts.proofs.WritingLemmas.{Writes-after}
 use Rattle.lens_texts.specs.LevelObject.{label_members}
-use Rattle.lens_texts.proofs.finding_object.write_front.Goals as goal
+use Rattle.lens_texts.proofs.remark_object.write_front.Goals as goal
 
 pub returns-in_err-write_file : goal.returns-in_err-write_file
 returns-in_err-write_file g c =

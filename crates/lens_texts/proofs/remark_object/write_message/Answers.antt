@@ -2,10 +2,10 @@ use Rattle.std.proofs.Common.{◌≡◌, ◌++◌, rules}
 use Rattle.std.specs.Prelude.{codes}
 use Rattle.std.proofs.lemmas.Result.{err_from_is_err_and}
 use Rattle.line_io.proofs.WriteLemmas.{Writes-stop}
-use Rattle.lens_texts.specs.FindingObject.{place_member}
+use Rattle.lens_texts.specs.RemarkObject.{place_member}
 use Rattle.lens_texts.specs.JsonString.{json_string}
 use Rattle.lens_texts.proofs.WritingLemmas.{Writes-after, Writes-later}
-use Rattle.lens_texts.proofs.finding_object.write_message.Goals as goal
+use Rattle.lens_texts.proofs.remark_object.write_message.Goals as goal
 
 pub returns-in_err-emit : goal.returns-in_err-emit
 returns-in_err-emit g c =

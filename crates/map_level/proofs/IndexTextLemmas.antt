@@ -1,4 +1,4 @@
--- How many bytes the text of a number takes.
+-- How many bytes the text of an index takes.
 use Rattle.std.proofs.Common.{◌≡◌, ◌≤◌, ◌≤ℤ◌, ℤ, pos, negsuc, neg_ℤ, decimal, suc, ◌<ℤ◌, ◌+ℤ◌, Bool, true, false, cond, length, refl, arith, FitsSigned, w16}
 use Rattle.std.proofs.lemmas.Fmt.{length-decimal-le}
 use Rattle.std.proofs.lemmas.Int.{ints}

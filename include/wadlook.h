@@ -115,7 +115,43 @@ uint32_t wadlook_census(const uint8_t *wad, size_t wad_len, const uint8_t *name,
 
 /* ---- What is wrong with a level ---------------------------------------------------------------------------------- */
 
-/* `code` is 0 to 17 for F1 to F18, 18 to 29 for N1 to N12. */
+/* The codes of findings: the faults, and then the notes. */
+/* tools/tables writes from here */
+enum wadlook_code {
+    WADLOOK_F1 = 0,   /* lump missing after the label */
+    WADLOOK_F2 = 1,   /* lump outside its file */
+    WADLOOK_F3 = 2,   /* linedef vertex names none */
+    WADLOOK_F4 = 3,   /* linedef side names none */
+    WADLOOK_F5 = 4,   /* sidedef sector names none */
+    WADLOOK_F6 = 5,   /* seg vertex names none */
+    WADLOOK_F7 = 6,   /* seg linedef names none */
+    WADLOOK_F8 = 7,   /* seg side is not 0 or 1 */
+    WADLOOK_F9 = 8,   /* seg's linedef has no side there */
+    WADLOOK_F10 = 9,  /* ssector's segs out of range */
+    WADLOOK_F11 = 10, /* child names nothing */
+    WADLOOK_F12 = 11, /* node origin out of range */
+    WADLOOK_F13 = 12, /* node named twice or root named */
+    WADLOOK_F14 = 13, /* node not reached */
+    WADLOOK_F15 = 14, /* ssector named more than once */
+    WADLOOK_F16 = 15, /* ssector not reached */
+    WADLOOK_F17 = 16, /* no ssector */
+    WADLOOK_F18 = 17, /* more than 32767 nodes */
+    WADLOOK_N1 = 18,  /* lump name differs */
+    WADLOOK_N2 = 19,  /* bytes left over */
+    WADLOOK_N3 = 20,  /* two-sided flag without side 1 */
+    WADLOOK_N4 = 21,  /* no side 0 */
+    WADLOOK_N5 = 22,  /* linedef of no length */
+    WADLOOK_N6 = 23,  /* ssector without segs */
+    WADLOOK_N7 = 24,  /* partition without direction */
+    WADLOOK_N8 = 25,  /* REJECT size */
+    WADLOOK_N9 = 26,  /* BLOCKMAP short */
+    WADLOOK_N10 = 27, /* block list faulty */
+    WADLOOK_N11 = 28, /* no player 1 start */
+    WADLOOK_N12 = 29  /* vertex out of range */
+};
+/* tools/tables writes up to here */
+
+/* `code` is one of wadlook_code. */
 typedef struct {
     uint32_t code, index;
 } wadlook_finding;

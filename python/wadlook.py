@@ -171,6 +171,7 @@ class Demo(NamedTuple):
 
 Points = Union[Sequence[tuple[int, int]], Iterable[tuple[int, int]], "array[int]", memoryview]
 
+# tools/tables writes from here
 _TEXTS = {
     "F1": "lump missing after the label",
     "F2": "lump outside its file",
@@ -203,6 +204,7 @@ _TEXTS = {
     "N11": "no player 1 start",
     "N12": "vertex out of range",
 }
+# tools/tables writes up to here
 _CODES = list(_TEXTS)
 
 

@@ -1,7 +1,10 @@
-// What the codes of findings and warnings mean: docs/wadlens.1 has them under FINDINGS and WARNINGS.
+// What the codes of findings and warnings mean, as the table of codes has it. docs/wadlens.1 has them under FINDINGS and WARNINGS.
 
+// tools/tables writes from here
 /** @type {Record<string, string>} */
 const MEANINGS = {
+  F1: "a lump isn't there behind the label",
+  F2: "a lump isn't inside its file",
   F3: "a linedef's vertex isn't there",
   F4: "a linedef's sidedef isn't there",
   F5: "a sidedef's sector isn't there",
@@ -18,6 +21,7 @@ const MEANINGS = {
   F16: "an ssector isn't reached from the root",
   F17: 'the level has no ssector',
   F18: 'the level has more than 32767 nodes',
+  N1: "a lump's name isn't the usual one",
   N2: 'a lump has bytes left over',
   N3: 'a linedef is two-sided, without a back sidedef',
   N4: 'a linedef is without a front sidedef',
@@ -42,6 +46,7 @@ const MEANINGS = {
   W11: "a thing's type is none of the game's",
 };
 const KINDS = /** @type {Record<string, string>} */ ({ F: 'Fault', N: 'Note', W: 'Warning' });
+// tools/tables writes up to here
 
 /** What a code means; nothing where it is none. @param {string} code */
 export const meaningOf = (code) => code in MEANINGS ? `${KINDS[code[0]]} ${code}: ${MEANINGS[code]}.` : '';

@@ -13,8 +13,13 @@ declare -gA _wadlens_options=(
     [assemble]='--help'
 )
 
+# The codes that --ignore takes.
+# tools/tables writes from here
+_wadlens_codes='N1 N2 N3 N4 N5 N6 N7 N8 N9 N10 N11 N12 W1 W2 W3 W4 W5 W6 W7 W8 W9 W10 W11'
+# tools/tables writes up to here
+
 _wadlens() {
-    local current=${COMP_WORDS[COMP_CWORD]} before=${COMP_WORDS[COMP_CWORD - 1]}
+    local current=${COMP_WORDS[COMP_CWORD]} before=${COMP_WORDS[COMP_CWORD - 1]} given=''
     COMPREPLY=()
     if ((COMP_CWORD == 1)); then
         mapfile -t COMPREPLY < <(compgen -W "${!_wadlens_options[*]} --help --version" -- "$current")
@@ -22,7 +27,13 @@ _wadlens() {
     fi
     [[ -n ${_wadlens_options[${COMP_WORDS[1]}]-} ]] || return
     case $before in
-        --max | --ignore | --entry | --cells | --frame) return ;;
+        --max | --entry | --cells | --frame) return ;;
+        --ignore)
+            # A list with commas between: the last code is being written.
+            [[ $current != *,* ]] || given=${current%,*},
+            mapfile -t COMPREPLY < <(compgen -P "$given" -W "$_wadlens_codes" -- "${current##*,}")
+            return
+            ;;
         --out)
             mapfile -t COMPREPLY < <(compgen -d -- "$current")
             compopt -o filenames 2>/dev/null

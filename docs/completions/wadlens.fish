@@ -6,6 +6,42 @@ function __wadlens_is
     contains -- "$words[2]" $argv
 end
 
+# The codes that --ignore takes, each with what it says.
+# tools/tables writes from here
+set -g __wadlens_codes \
+    N1 'lump name differs' \
+    N2 'bytes left over' \
+    N3 'two-sided flag without side 1' \
+    N4 'no side 0' \
+    N5 'linedef of no length' \
+    N6 'ssector without segs' \
+    N7 'partition without direction' \
+    N8 'REJECT size' \
+    N9 'BLOCKMAP short' \
+    N10 'block list faulty' \
+    N11 'no player 1 start' \
+    N12 'vertex out of range' \
+    W1 'sector not closed' \
+    W2 'wall without texture' \
+    W3 'thing in the void' \
+    W4 'tag of no sector' \
+    W5 'segs face several sectors' \
+    W6 'linedef on another' \
+    W7 'no start of players 2 to 4' \
+    W8 'fewer than 4 deathmatch starts' \
+    W9 'texture not there' \
+    W10 'flat not there' \
+    W11 'thing of no known type'
+# tools/tables writes up to here
+
+# Prints these behind those that stand there, with commas between.
+function __wadlens_ignorable
+    set -l given (commandline -ct | string replace -r '^--ignore=' '' | string replace -r '[^,]*$' '')
+    for k in (seq 1 2 (count $__wadlens_codes))
+        printf '%s%s\t%s\n' "$given" $__wadlens_codes[$k] $__wadlens_codes[(math $k + 1)]
+    end
+end
+
 # Prints the folders, and the files with one of these endings in small or capital letters.
 function __wadlens_files
     set -l endings (string join '|' $argv)
@@ -29,7 +65,7 @@ complete -c wadlens -n '__wadlens_is check survey picture atlas' -l wide -d 'rea
 complete -c wadlens -n '__wadlens_is check survey atlas' -l map -d 'also report likely mapping mistakes'
 complete -c wadlens -n '__wadlens_is check survey atlas' -l strict -d 'end with status 1 at a warning, too'
 complete -c wadlens -n '__wadlens_is check survey atlas' -l base -x -a '(__wadlens_files wad)' -d 'a file on which every file stands, as a game\'s IWAD'
-complete -c wadlens -n '__wadlens_is check survey' -l ignore -x -d 'ignore these notes and warnings, as N2,W7'
+complete -c wadlens -n '__wadlens_is check survey' -l ignore -x -a '(__wadlens_ignorable)' -d 'ignore these notes and warnings, as N2,W7'
 complete -c wadlens -n '__wadlens_is check' -l max -x -d 'show at most so many findings or warnings of one code in one level, 0: all'
 complete -c wadlens -n '__wadlens_is picture atlas' -l cells -x -d 'at most so many cells along the longer side of a picture'
 complete -c wadlens -n '__wadlens_is picture' -l frame -x -d 'the cells of this part of the map alone, X0,Y0,X1,Y1'

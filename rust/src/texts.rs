@@ -1,5 +1,6 @@
 //! What each fault and note says, from F1 and from N1 on.
 
+// tools/tables writes from here
 pub const FAULTS: [&str; 18] = [
     "lump missing after the label",
     "lump outside its file",
@@ -35,3 +36,4 @@ pub const NOTES: [&str; 12] = [
     "no player 1 start",
     "vertex out of range",
 ];
+// tools/tables writes up to here

@@ -1,5 +1,5 @@
-"""Demos, read plainly: Header, Command, Demo, Listing, Difference of demos, Assembled demo
-and Wrong line of docs/DEFINITIONS.md."""
+"""Demos, read plainly: Header, Command, Demo, Listing, Differences and Assembly of
+docs/DEFINITIONS.md."""
 
 import re
 from typing import NamedTuple

@@ -1,5 +1,5 @@
-"""Pictures of levels, read plainly: Frame, Grid, Run, block and Groups of `map_cells`, and
-Picture, Window, Grey, Lines and Escaped of `map_picture` in docs/DEFINITIONS.md."""
+"""Pictures of levels, read plainly: Frame, Grid, Blocks and Groups of `map_cells`, and
+Picture, Window, Grey, Lines and Escape of `map_picture` in docs/DEFINITIONS.md."""
 
 from itertools import count, groupby, takewhile
 from typing import NamedTuple

@@ -1,56 +1,150 @@
-//! The sides of points, for nodes that a seed makes: by `released_side` of `released`, and by `side` of `map_geo`.
-//! `tests/released` compares them with the same routines in C.
+//! What the routines of `released` give on cases that a seed makes. `tests/released` compares that with the same routines in C.
 //!
-//! `SEED LINES` prints so many lines of 64 cases, two letters each: `F` or `B` by `released_side`, and then by `side`,
-//! or `-` if that isn't asked.
+//! `SEED LINES [ROUTINE]` prints so many lines of a routine, or of each in turn. Each begins anew with the seed. A line tells
+//!
+//! - of `sides`: for 64 cases two letters each, `F` or `B` by `released_side` and then by `side` of `map_geo`, or `-` if that
+//!   isn't asked;
+//! - of `levels`: for one level the ssectors of eight points, by `released_leaf`, the sectors of its ssectors, by
+//!   `released_sector`, and for each seg the sidedef behind it, by `released_back`, with that one's sector. It is -1 alone if there
+//!   is no side, and `none` of a linedef that isn't two-sided;
+//! - of `links`: for eight levels, some of whose links don't hold, `F` if one of F3 to F10 holds. Else it is `N` if the game follows
+//!   -1 behind a seg, and `L` if it doesn't;
+//! - of `sights`: eight bits of a REJECT, by `released_sight_bit`;
+//! - of `blocks`: the blocks of eight points as the game computes them and, behind `=`, by `block_of` of `map_tables`: `none` past
+//!   the BLOCKMAP, and `outside` if the point isn't in range;
+//! - of `lists`: the words of eight blocks of a BLOCKMAP, by `released_list`;
+//! - of `commands`: eight commands of a demo, by `released_ticcmd`, or `end` at the marker;
+//! - of `numbers`: the numbers of eight names in a list of names, by `released_number`.
 #![tactic(auto)]
 
-mod cases;
+mod blocks;
+mod commands;
+mod fault;
+mod levels;
+mod links;
+mod lists;
+mod lumps;
+mod numbers;
 mod random;
+mod sides;
+mod sights;
+mod tables;
 
-use cases::letters;
+use blocks::add_blocks;
+use commands::add_commands;
+use fault::Fault;
+use levels::add_levels;
+use links::add_links;
+use lists::add_lists;
+use numbers::add_numbers;
 use random::Random;
-use std::alloc::{AllocError, Global};
+use sides::add_sides;
+use sights::add_sights;
+use std::alloc::Global;
 use std::env;
 use std::process::ExitCode;
 use std::rt::Env;
 
+// A routine, or what several are asked about.
+#[derive(Clone, Copy, PartialEq, Eq)]
+enum Routine {
+    Sides,
+    Levels,
+    Links,
+    Sights,
+    Blocks,
+    Lists,
+    Commands,
+    Numbers,
+}
+
+const ALL: [Routine; 8] = [
+    Routine::Sides,
+    Routine::Levels,
+    Routine::Links,
+    Routine::Sights,
+    Routine::Blocks,
+    Routine::Lists,
+    Routine::Commands,
+    Routine::Numbers,
+];
+
+// What the words ask for: no routine for all.
+#[derive(Clone, Copy)]
+struct Asked {
+    seed: u64,
+    lines: u32,
+    routine: Option<Routine>,
+}
+
 fn main(rt: HostRuntime) -> ExitCode {
-    let Some((seed, lines)) = asked(&rt) else {
+    let Some(asked) = read_words(&rt) else {
         // If standard error fails too, the message is lost.
-        let _ = rt.eprintln(format_args!("usage: released_cases SEED LINES"));
+        let _ = rt.eprintln(format_args!("usage: released_cases SEED LINES [ROUTINE]"));
         return ExitCode::from(2);
     };
-    let mut random = Random::new(seed);
-    for _line in 0..lines {
-        let Ok(line) = line_of(rt.alloc(), &mut random) else {
-            return ExitCode::FAILURE;
-        };
-        if rt.println(format_args!("{line}")).is_err() {
+    for routine in ALL {
+        if asked.routine.is_none_or(|one| one == routine) && !prints(&rt, &asked, routine) {
             return ExitCode::FAILURE;
         }
     }
     ExitCode::SUCCESS
 }
 
-// The seed and the number of lines that the words ask for.
-fn asked<R: Env + AllocGlobal>(rt: &R) -> Option<(u64, u32)> {
+fn read_words<R: Env + AllocGlobal>(rt: &R) -> Option<Asked> {
     let words: Vec<String> = env::args(rt).ok()?.collect(rt.alloc()).ok()?;
-    let [_, seed, lines] = words.as_slice() else {
-        return None;
+    let (seed, lines, routine) = match words.as_slice() {
+        [_, seed, lines] => (seed, lines, None),
+        [_, seed, lines, routine] => (seed, lines, Some(routine_named(routine.as_str())?)),
+        _ => return None,
     };
-    let seed = seed.as_str().parse::<u64>().ok()?;
-    let lines = lines.as_str().parse::<u32>().ok()?;
-    Some((seed, lines))
+    Some(Asked {
+        seed: seed.as_str().parse::<u64>().ok()?,
+        lines: lines.as_str().parse::<u32>().ok()?,
+        routine,
+    })
 }
 
-// The letters of 64 cases.
-fn line_of(alloc: Global, random: &mut Random) -> Result<String, AllocError> {
+fn routine_named(word: &str) -> Option<Routine> {
+    match word.as_bytes() {
+        b"sides" => Some(Routine::Sides),
+        b"levels" => Some(Routine::Levels),
+        b"links" => Some(Routine::Links),
+        b"sights" => Some(Routine::Sights),
+        b"blocks" => Some(Routine::Blocks),
+        b"lists" => Some(Routine::Lists),
+        b"commands" => Some(Routine::Commands),
+        b"numbers" => Some(Routine::Numbers),
+        _ => None,
+    }
+}
+
+// Prints the lines of a routine; whether all were made and printed.
+fn prints<R: Print + AllocGlobal>(rt: &R, asked: &Asked, routine: Routine) -> bool {
+    let mut random = Random::new(asked.seed);
+    for _line in 0..asked.lines {
+        let Ok(line) = line_of(rt.alloc(), routine, &mut random) else {
+            return false;
+        };
+        if rt.println(format_args!("{line}")).is_err() {
+            return false;
+        }
+    }
+    true
+}
+
+// The next line of a routine.
+fn line_of(alloc: Global, routine: Routine, random: &mut Random) -> Result<String, Fault> {
     let mut line = String::new(alloc);
-    for _case in 0..64 {
-        let (released, defined) = letters(random);
-        line.push(released)?;
-        line.push(defined)?;
+    match routine {
+        Routine::Sides => add_sides(&mut line, random)?,
+        Routine::Levels => add_levels(&mut line, alloc, random)?,
+        Routine::Links => add_links(&mut line, alloc, random)?,
+        Routine::Sights => add_sights(&mut line, random)?,
+        Routine::Blocks => add_blocks(&mut line, random)?,
+        Routine::Lists => add_lists(&mut line, random)?,
+        Routine::Commands => add_commands(&mut line, random)?,
+        Routine::Numbers => add_numbers(&mut line, random)?,
     }
     Ok(line)
 }

@@ -29,9 +29,34 @@ impl Random {
         (self.next() % 8) as usize
     }
 
+    /// The next number, cut to so many from 0 on.
+    pub fn below(&mut self, count: usize) -> usize
+        requires { 0 < count }
+        ensures { result < count }
+    {
+        (self.next() % count as u64) as usize
+    }
+
+    /// The next number, cut to those of 8 bits.
+    pub fn byte(&mut self) -> u8 {
+        (self.next() & 0xff) as u8
+    }
+
+    /// The next number, cut to those of 16 bits.
+    pub fn half(&mut self) -> i16 {
+        ((self.next() & 0xffff) as u16).cast_signed()
+    }
+
     /// The next number, cut to those of 32 bits.
     pub fn word(&mut self) -> i32 {
         ((self.next() & 0xffff_ffff) as u32).cast_signed()
+    }
+
+    /// The next number, cut to so many of 16 bits from a least one on.
+    pub fn near(&mut self, least: i16, count: u16) -> i16
+        requires { 0 < count }
+    {
+        least.wrapping_add(((self.next() % u64::from(count)) as u16).cast_signed())
     }
 
     /// The next number, cut to so many from a least one on.

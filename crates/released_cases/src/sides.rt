@@ -1,4 +1,4 @@
-//! Cases: a point and a node, of several kinds by turns.
+//! Sides: of a point and a node, of several kinds by turns.
 
 ghost use Rattle.std.specs.Prelude.{◌<◌};
 
@@ -6,6 +6,7 @@ use crate::random::Random;
 use le_rec::Node;
 use map_geo::{Partition, Point, Side, side};
 use released::{FixedNode, released_side};
+use std::alloc::AllocError;
 
 /// A point and a node's origin and direction.
 #[derive(Clone, Copy)]
@@ -19,8 +20,18 @@ const PLACES: [i32; 8] = [-16384, -16383, -1, 0, 1, 2, 16382, 16383];
 
 const STEPS: [i32; 8] = [-32768, -32767, -1, 0, 1, 2, 32766, 32767];
 
-/// The letters of the next case: the side by `released_side`, and by `side`.
-pub fn letters(random: &mut Random) -> (char, char) {
+/// The letters of 64 cases.
+pub fn add_sides(line: &mut String, random: &mut Random) -> Result<(), AllocError> {
+    for _case in 0..64 {
+        let (released, defined) = letters(random);
+        line.push(released)?;
+        line.push(defined)?;
+    }
+    Ok(())
+}
+
+// The letters of the next case: the side by `released_side`, and by `side`.
+fn letters(random: &mut Random) -> (char, char) {
     match random.choice() {
         0 => both(&near(random, -8, 16, -8, 16)),
         1 => both(&near(random, -16384, 32768, -32768, 65536)),

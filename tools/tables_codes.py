@@ -9,7 +9,7 @@ TABLE = "crates/level_codes/src/table.rt"
 
 SPACE = r"\s*(?://[^\n]*\s*)*"
 STRING = r'b"((?:[^"\\]|\\.)*)"'
-ROW = re.compile(rf"(fault|note|warning)!\(\s*(\w+),\s*{STRING},\s*(\w+),\s*(?:(\w+),\s*)?{STRING},\s*{STRING},?\s*\),{SPACE}")
+ROW = re.compile(rf"(fault|note|warning)!\s*\{{\s*(\w+),\s*{STRING},\s*(\w+),\s*(?:(\w+),\s*)?{STRING},\s*{STRING},?\s*\}},{SPACE}")
 
 # The classes in their order, each with the letter of its codes.
 CLASSES = {"fault": "F", "note": "N", "warning": "W"}
@@ -50,7 +50,7 @@ def row_of(found: Optional["re.Match[str]"]) -> Optional[Row]:
 
 def rows_in(text: str) -> List[Row]:
     """The rows of a table, none of which may have another form."""
-    head = re.search(rf"pub const TABLE: .*= \[{SPACE}", text)
+    head = re.search(rf"const TABLE: .*= \[{SPACE}", text)
     if not head:
         raise Amiss(f"{TABLE} has no table")
     at, out = head.end(), []

@@ -194,7 +194,8 @@ fn texts_are_the_reports() {
 #[test]
 fn statuses_are_the_headers() {
     let header = text("include/wadlook.h");
-    let numbers = header.lines().filter_map(|line| line.strip_prefix("    WADLOOK_")?.split_once(" = "));
+    let statuses = header.lines().skip_while(|line| *line != "enum wadlook_status {").take_while(|line| *line != "};");
+    let numbers = statuses.filter_map(|line| line.strip_prefix("    WADLOOK_")?.split_once(" = "));
     let told: Vec<(String, u32)> = numbers
         .map(|(name, rest)| {
             let number = rest.split(|c: char| !c.is_ascii_digit()).next().unwrap();

@@ -165,9 +165,8 @@ def cases(path):
     with open("crates/wad_look/specs/Engines/Audit.antt", encoding="utf-8") as file:
         texts = dict(re.findall(r'^meaning ([FN]\d+) = codes "(.*)"$', file.read(), re.M))
     check("the findings' texts", wadlook._TEXTS == texts and list(wadlook._TEXTS) == list(texts))
-    with open("include/wadlook.h", encoding="utf-8") as file:
-        numbers = dict(re.findall(r"^    WADLOOK_(\w+) = (\d+)", file.read(), re.M))
-    check("the statuses", {it.name: str(it.value) for it in Status} == numbers)
+    check("the statuses", {it.name: str(it.value) for it in Status} == numbers_of("wadlook_status"))
+    check("the codes' numbers", {code: str(number) for number, code in enumerate(texts)} == numbers_of("wadlook_code"))
     public = [getattr(wadlook, name) for name in wadlook.__all__ if callable(getattr(wadlook, name))]
     members = [
         it
@@ -177,6 +176,13 @@ def cases(path):
         if name[0] != "_" and (callable(it) or isinstance(it, property))
     ]
     check("docstrings", all(it.__doc__ for it in public + members))
+
+
+def numbers_of(enum):
+    """The names and numbers of an enum of the header."""
+    with open("include/wadlook.h", encoding="utf-8") as file:
+        block = re.search(rf"^enum {enum} {{$(.*?)^}};$", file.read(), re.M | re.S)
+    return dict(re.findall(r"^    WADLOOK_(\w+) = (\d+)", block[1], re.M))
 
 
 def many_sectors(base):

@@ -9,8 +9,7 @@ use std::alloc::Global;
 use std::cell::Cell;
 use std::process::Abort;
 use std::test::Fail;
-use test_refusals::Refusing;
-use test_refusals::{RepeatSource, SliceSink, SliceSource};
+use test_refusals::{Refusing, RepeatSource, SliceSink, SliceSource};
 
 #[derive(Drop)]
 struct Length;

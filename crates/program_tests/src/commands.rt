@@ -7,8 +7,7 @@ use crate::texts::{LISTED, NOT_REACHED, SHOWN, SIDE_MISSING};
 use le_rec::{Sink, Source};
 use std::alloc::{AllocError, Allocator, Global};
 use std::process::Abort;
-use test_refusals::Refusing;
-use test_refusals::{SliceSink, SliceSource};
+use test_refusals::{Refusing, SliceSink, SliceSource};
 use wad_dir::MAX_FILES;
 use wad_look::{Job, RunFault, job, run, status};
 

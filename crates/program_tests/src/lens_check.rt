@@ -12,8 +12,7 @@ use lens_texts::Form;
 use map_level::Reading;
 use std::alloc::Allocator;
 use std::process::Abort;
-use test_refusals::Refusing;
-use test_refusals::SliceSink;
+use test_refusals::{Refusing, SliceSink};
 
 // A check into an output that hasn't failed.
 fn check<A: Allocator + Copy>(

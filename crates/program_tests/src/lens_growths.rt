@@ -16,8 +16,7 @@ use level_codes::WarningCode;
 use map_level::{Level, Reading};
 use std::alloc::Allocator;
 use std::process::Abort;
-use test_refusals::Refusing;
-use test_refusals::SliceSink;
+use test_refusals::{Refusing, SliceSink};
 
 // How many faults and notes a level has; None where a growth was refused.
 fn counted(rt: &(impl Abort + AllocGlobal), level: &Level<'_>, n: u64) -> Option<(u64, u64)> {

@@ -2,8 +2,7 @@
 
 use crate::compare::{check_bytes, check_same};
 use std::process::Abort;
-use test_refusals::Refusing;
-use test_refusals::SliceSource;
+use test_refusals::{Refusing, SliceSource};
 use wad_look::{RunFault, read_all};
 
 // Whether `read_all` met growth `n` refused.

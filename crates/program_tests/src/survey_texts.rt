@@ -7,8 +7,7 @@ use lens_engines::{Base, Ignored, LevelsFault, Rules, Verdict, Warnings, survey_
 use map_level::Reading;
 use std::alloc::Allocator;
 use std::process::Abort;
-use test_refusals::Refusing;
-use test_refusals::SliceSink;
+use test_refusals::{Refusing, SliceSink};
 
 // The signed reading, where no warnings are asked for.
 fn signed() -> Rules {

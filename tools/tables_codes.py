@@ -183,15 +183,16 @@ def blocks() -> Dict[str, List[str]]:
 # ---- What stays by hand -----------------------------------------------------------------------------------------------------
 
 SECOND_PAGE = "docs/wadlens.1"
+EXPLAINED = "docs/CODES.md"
 
 
 def section(text: str, name: str) -> str:
     return text.partition(f"\n.SH {name}\n")[2].partition("\n.SH ")[0]
 
 
-def faults() -> List[str]:
+def page_faults(rows: List[Row]) -> List[str]:
     """What the man page of wadlens, whose messages have values, doesn't have as the table does."""
-    rows, text, out = table(), text_of(SECOND_PAGE), []
+    text, out = text_of(SECOND_PAGE), []
     for name, is_finding in (("FINDINGS", True), ("WARNINGS", False)):
         wanted = [(row.name, row.kind.lower().replace("whole", "level")) for row in rows if row.is_finding == is_finding]
         wanted = [pair for pair in wanted if pair[0] not in FORMATS]
@@ -203,3 +204,23 @@ def faults() -> List[str]:
     if f"N1 to {last.get('N')} and W1 to {last.get('W')}" not in text:
         out.append(f"{SECOND_PAGE}: --ignore takes N1 to {last.get('N')} and W1 to {last.get('W')}")
     return out
+
+
+def explained_faults(rows: List[Row]) -> List[str]:
+    """Where the heads of the page that explains each code differ from the table."""
+    text = text_of(EXPLAINED)
+    there = re.findall(r"^```\n([FNW]\d+: .*)$", text, re.M)
+    wanted = [f"{row.name}: {row.text}" for row in rows]
+    out = [f"{EXPLAINED}: no code has the head {head}" for head in there if head not in wanted]
+    out += [f"{EXPLAINED}: there is no head {head}" for head in wanted if head not in there]
+    if not out and there != wanted:
+        out.append(f"{EXPLAINED}: the codes stand in another order")
+    if f" {len(rows)} codes" not in text:
+        out.append(f"{EXPLAINED}: there are {len(rows)} codes")
+    return out
+
+
+def faults() -> List[str]:
+    """What pages that are written by hand don't have as the table does."""
+    rows = table()
+    return [*page_faults(rows), *explained_faults(rows)]

@@ -365,7 +365,13 @@ cases_of_warnings() {
     warns 'W3, on the wall: none' '' 0 "${closed[@]}" THINGS "$starts$(words 64 32 0 3001 7)"
     warns 'W3, past the range: none' '' 0 "${closed[@]}" THINGS "$starts$(words 16384 32 0 3001 7)"
     warns W4 "W4 linedef 0: no sector has tag 7, $front" 1 "${closed[@]}" \
-        LINEDEFS "$(words 0 1 1 11 7 0 -1 1 2 1 0 0 1 -1 2 3 1 0 0 2 -1 3 0 1 0 0 3 -1)"
+        LINEDEFS "$(words 0 1 1 18 7 0 -1 1 2 1 0 0 1 -1 2 3 1 0 0 2 -1 3 0 1 0 0 3 -1)"
+    warns 'W4, of a teleporter' "W4 linedef 0: no sector has tag 7, $front" 1 "${closed[@]}" \
+        LINEDEFS "$(words 0 1 1 97 7 0 -1 1 2 1 0 0 1 -1 2 3 1 0 0 2 -1 3 0 1 0 0 3 -1)"
+    for special in 1 11 48 85 142; do
+        warns "W4, of special $special, which goes without a tag: none" '' 0 "${closed[@]}" \
+            LINEDEFS "$(words 0 1 1 $special 7 0 -1 1 2 1 0 0 1 -1 2 3 1 0 0 2 -1 3 0 1 0 0 3 -1)"
+    done
     warns 'W4, without a special: none' '' 0 "${closed[@]}" \
         LINEDEFS "$(words 0 1 1 0 7 0 -1 1 2 1 0 0 1 -1 2 3 1 0 0 2 -1 3 0 1 0 0 3 -1)"
     warns W5 "$(two "$w1" 'W5 ssector 0: its segs face sectors 0 and 1, at (0, 0)')" 5 SSECTORS "$(words 2 0)" NODES '' \
@@ -567,7 +573,7 @@ cases_of_warned_games() {
     done
     grep '"W6"' surveyed | grep -o '"level":"[^"]*"' >>output
     judge 'warnings of 100 levels' 0 "$(
-        printf '%s\\n' 100 'W1 0 0' 'W2 1288 52' 'W3 0 0' 'W4 45 11' 'W5 33 10' 'W6 1 1' 'W7 0 0' 'W8 1 1' 'W9 0 0' 'W10 0 0' 'W11 0 0' \
+        printf '%s\\n' 100 'W1 0 0' 'W2 1288 52' 'W3 0 0' 'W4 17 8' 'W5 33 10' 'W6 1 1' 'W7 0 0' 'W8 1 1' 'W9 0 0' 'W10 0 0' 'W11 0 0' \
             '"level":"E3M6"'
     )" ''
 }

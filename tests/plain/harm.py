@@ -142,7 +142,7 @@ def move_thing(random: Random, draft: Draft) -> None:
 def lose_tag(random: Random, draft: Draft) -> None:
     """A tag and a special, and mostly no sector of that tag."""
     linedef = random.choice(draft.tables[LINEDEFS])
-    linedef[3] = random.choice((0, 11, 97, -1))
+    linedef[3] = random.choice((0, 11, 18, 97, -1))
     linedef[4] = random.choice((0, 7, 666, 667, -1))
 
 

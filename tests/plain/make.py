@@ -115,7 +115,7 @@ class Builder:
             self.draft.tables[LINEDEFS][other][2] |= 4
             self.draft.tables[LINEDEFS][other][6] = self.sidedef(sector)
             return other, 1
-        special, tag = self.random.choice((0, 0, 1, 11)), self.random.choice((0, 0, 7))
+        special, tag = self.random.choice((0, 0, 1, 11, 18)), self.random.choice((0, 0, 7))
         record = [v1, v2, 1, special, tag, self.sidedef(sector), -1]
         self.linedefs[v1, v2] = self.add(LINEDEFS, record)
         return self.linedefs[v1, v2], 0

@@ -98,10 +98,16 @@ def in_void(level: Level) -> Iterator[Warned]:
             yield Warned(f"thing {i}", "stands in the void", at(thing.x, thing.y))
 
 
+# Of the game's specials of linedefs 1 to 141, those that mean no sector: doors that are opened by hand, exits, and scrolling; and numbers without
+# a special.
+GOES_WITHOUT_TAG = {1, 26, 27, 28, 31, 32, 33, 34, 117, 118, 11, 51, 52, 124, 48, 78, 85}
+
+
 def untagged(level: Level) -> Iterator[Warned]:
     tags = {sector.tag for sector in level.sectors}
     for i, linedef in enumerate(level.linedefs):
-        if linedef.special and linedef.tag and linedef.tag not in tags:
+        by_tag = 1 <= linedef.special <= 141 and linedef.special not in GOES_WITHOUT_TAG
+        if by_tag and linedef.tag and linedef.tag not in tags:
             message = f"no sector has tag {linedef.tag}"
             yield Warned(f"linedef {i}", message, along(level, linedef))
 

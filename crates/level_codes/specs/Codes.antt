@@ -83,7 +83,7 @@ code_table =
     ∷ warning W1 (codes "W1") Sector References (codes "sector not closed") (codes "a sector isn't closed: its outline has a gap or an extra line")
     ∷ warning W2 (codes "W2") Linedef References (codes "wall without texture") (codes "a texture that is seen is missing")
     ∷ warning W3 (codes "W3") Thing Soundness (codes "thing in the void") (codes "a thing stands in the void")
-    ∷ warning W4 (codes "W4") Linedef References (codes "tag of no sector") (codes "a linedef has a special, and a tag that no sector has")
+    ∷ warning W4 (codes "W4") Linedef References (codes "tag of no sector") (codes "a linedef's special goes by a tag that no sector has")
     ∷ warning W5 (codes "W5") Ssector Soundness (codes "segs face several sectors") (codes "the segs of an ssector face several sectors")
     ∷ warning W6 (codes "W6") Linedef References (codes "linedef on another") (codes "a linedef lies on another")
     ∷ warning W7 (codes "W7") Whole References (codes "no start of players 2 to 4") (codes "a start of players 2 to 4 is missing")

@@ -18,7 +18,7 @@ pub enum WarningCode {
     W2,
     /// A thing is in the void.
     W3,
-    /// No sector has a linedef's tag.
+    /// A linedef's special goes by a tag that no sector has.
     W4,
     /// An ssector's segs face several sectors.
     W5,

@@ -104,7 +104,7 @@ const TABLE: [Row; REPORT_COUNT] = [
     warning! { W1, b"W1", Sector, References, b"sector not closed", b"a sector isn't closed: its outline has a gap or an extra line" },
     warning! { W2, b"W2", Linedef, References, b"wall without texture", b"a texture that is seen is missing" },
     warning! { W3, b"W3", Thing, Soundness, b"thing in the void", b"a thing stands in the void" },
-    warning! { W4, b"W4", Linedef, References, b"tag of no sector", b"a linedef has a special, and a tag that no sector has" },
+    warning! { W4, b"W4", Linedef, References, b"tag of no sector", b"a linedef's special goes by a tag that no sector has" },
     warning! { W5, b"W5", Ssector, Soundness, b"segs face several sectors", b"the segs of an ssector face several sectors" },
     warning! { W6, b"W6", Linedef, References, b"linedef on another", b"a linedef lies on another" },
     warning! { W7, b"W7", Whole, References, b"no start of players 2 to 4", b"a start of players 2 to 4 is missing" },

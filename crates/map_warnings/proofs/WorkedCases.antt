@@ -1,5 +1,5 @@
 -- Each warning on small levels, one that has it and one that lacks it.
-use Rattle.std.proofs.Common.{◌≡◌, ◌≢◌, ◌++◌, inl, inr, ℕ, zero, suc, ◌<◌, ℤ, pos, negsuc, ◌<ℤ◌, List, [], ◌∷◌, get_or, Some, None, refl, sym, ap, subst, arith, below_none, below_more}
+use Rattle.std.proofs.Common.{◌≡◌, ◌≢◌, ◌++◌, inl, inr, ℕ, zero, suc, ◌<◌, ℤ, pos, negsuc, ◌<ℤ◌, Bool, true, false, List, [], ◌∷◌, get_or, Some, None, refl, sym, ap, subst, arith, below_none, below_more}
 use Rattle.std.specs.Prelude.{codes}
 use Rattle.std.proofs.lemmas.Bool.{cases_eq, le-ltb}
 use Rattle.std.proofs.lemmas.Option.{same_Some}
@@ -48,7 +48,7 @@ passage = record { v1 = pos 0; v2 = pos 1; flags = pos 4; special = pos 0; tag =
 
 -- one that acts on the sectors of tag 5
 abbrev switch : LineDef
-switch = record { v1 = pos 0; v2 = pos 1; flags = pos 1; special = pos 11; tag = pos 5; side0 = pos 0; side1 = negsuc 0 }
+switch = record { v1 = pos 0; v2 = pos 1; flags = pos 1; special = pos 18; tag = pos 5; side0 = pos 0; side1 = negsuc 0 }
 
 -- a sidedef of one texture
 abbrev side : List ℕ → ℤ → SideDef
@@ -190,10 +190,14 @@ no_tag (zero, is) = cc
 no_tag (suc s, is) = is
 
 untagged : Holds None (level [] (switch ∷ []) [] (plain ∷ [])) (Untagged 0)
-untagged = (λ e. cc, λ e. cc, no_tag)
+untagged = (refl, λ e. cc, no_tag)
 
 tagged : ¬ Holds None (level [] (switch ∷ []) [] (plain ∷ sector (pos 0) (pos 128) (codes "CEIL") (pos 5) ∷ [])) (Untagged 0)
 tagged none = none.2 (1, refl)
+
+-- an exit's tag means no sector
+exit : ¬ Holds None (level [] (record switch { special = pos 11 } ∷ []) [] (plain ∷ [])) (Untagged 0)
+exit told = absurd (let f : ◌≡◌ {A = Bool} false true = told.0 in cc)
 
 -- W5: the segs of the ssector face one sector, and the second of them another one
 mismatched : Holds None two_sectors (Mismatched 0 0 1)

@@ -7,6 +7,8 @@ pub mod KeyLinks
 pub mod Balance
 pub mod Bare
 pub mod Void
+pub mod Between
+pub mod Special
 pub mod Tag
 pub mod Facing
 pub mod Twin

@@ -1,14 +1,11 @@
 -- W11: things of a kind that the game doesn't know (P_SpawnMapThing of p_mobj.c).
-use Rattle.std.specs.Prelude.{◌≡◌, ◌≢◌, ◌||◌, ◌&&◌, ℕ, ℤ, pos, ◌<ℤ◌, Bool, false, int_le, IsSomeAnd}
+use Rattle.std.specs.Prelude.{◌≡◌, ◌≢◌, ◌||◌, ℕ, ℤ, pos, ◌<ℤ◌, Bool, false, IsSomeAnd}
 use Rattle.std.specs.Int.{int_bit_and, w16}
 use Rattle.std.specs.List.{slice_get}
 use Rattle.le_rec.specs.declared.records.Thing.{Thing}
 use Rattle.map_level.specs.Level.{Level}
 use Rattle.map_level.specs.Links.{things_of}
-
--- a kind stands from one number up to another
-abbrev pub is_between : ℤ → ℤ → ℤ → Bool
-is_between least greatest kind = int_le least kind && int_le kind greatest
+use Rattle.map_warnings.specs.Between.{is_between}
 
 -- the kinds of the game's things that stand in levels, 118 of them (mobjinfo of info.c)
 abbrev pub is_of_the_game : ℤ → Bool

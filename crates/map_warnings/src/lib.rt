@@ -4,6 +4,7 @@
 mod apart;
 mod balance;
 mod bare;
+mod between;
 mod checks;
 mod closing;
 mod facing;
@@ -14,6 +15,7 @@ mod records;
 mod references;
 mod resources;
 mod sector_links;
+mod special;
 mod starts;
 mod tags;
 mod told;

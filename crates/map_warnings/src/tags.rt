@@ -3,10 +3,12 @@
 ghost use Rattle.std.specs.Prelude.{◌≡◌, ◌≢◌, ◌+◌, ◌↔◌, ℕ, false, length, pos, slice_index_or};
 ghost use Rattle.std.specs.Prelude.{IfOk, IsTrue};
 ghost use Rattle.std.specs.Int.{cast_unsigned};
+ghost use Rattle.map_warnings.specs.Special.{GoesByTag};
 ghost use Rattle.map_warnings.specs.Tag.{AreTags, IsSectorTag, IsUntagged};
 ghost use Rattle.map_warnings.specs.Warnings.{Tells};
 ghost use Rattle.map_warnings.specs.Holds.{HoldsOf};
 
+use crate::special::goes_by_tag;
 use crate::told::{Told, tell_where};
 use crate::warning::Warning;
 use le_rec::LineDef;
@@ -18,7 +20,7 @@ use std::alloc::{AllocError, Allocator};
 // How many tags there are, which have 16 bits.
 const TAG_COUNT: usize = 65536;
 
-/// W4 of a level: its linedefs with a special and a tag that no sector has. It takes 64 KiB for the sectors' tags.
+/// W4 of a level: its linedefs whose special goes by a tag that no sector has. It takes 64 KiB for the sectors' tags.
 pub fn untagged<A: Allocator + Copy>(
     alloc: A,
     level: &Level<'_>,
@@ -55,7 +57,7 @@ fn tell_untagged<A: Allocator>(
     Ok(told)
 }
 
-// Whether a linedef has a special and a tag that no sector has.
+// Whether a linedef's special goes by a tag that no sector has.
 fn is_untagged(level: &Level<'_>, tags: &[bool], i: u32) -> bool
     requires { AreTags level.now tags.now }
     ensures { IsTrue result ↔ IsUntagged level.now i }
@@ -68,10 +70,18 @@ fn is_untagged(level: &Level<'_>, tags: &[bool], i: u32) -> bool
 
 fn acts_on_none(level: &Level<'_>, tags: &[bool], linedef: &LineDef) -> bool
     requires { AreTags level.now tags.now }
-    ensures { IsTrue result ↔ ((linedef.now.special ≢ pos 0) × (linedef.now.tag ≢ pos 0)
+    ensures { IsTrue result ↔ (GoesByTag linedef.now.special × (linedef.now.tag ≢ pos 0)
         × (¬ IsSectorTag level.now linedef.now.tag)) }
 {
-    linedef.special != 0 && linedef.tag != 0 && !is_sector_tag(level, tags, linedef.tag)
+    goes_by_tag(linedef.special) && is_of_none(level, tags, linedef.tag)
+}
+
+// Whether a tag isn't 0, and no sector has it.
+fn is_of_none(level: &Level<'_>, tags: &[bool], tag: i16) -> bool
+    requires { AreTags level.now tags.now }
+    ensures { IsTrue result ↔ ((tag ≢ pos 0) × (¬ IsSectorTag level.now tag)) }
+{
+    tag != 0 && !is_sector_tag(level, tags, tag)
 }
 
 // Whether some sector has a tag.

@@ -2,10 +2,11 @@
 
 ghost use Rattle.std.specs.Prelude.{◌≡◌, ◌≢◌, ◌↔◌, ◌<ℤ◌, pos, IfOk, IsTrue};
 ghost use Rattle.std.specs.Int.{int_bit_and, w16};
-ghost use Rattle.map_warnings.specs.UnknownThing.{is_between, is_of_the_game, IsUnknown, IsUnknownThing};
+ghost use Rattle.map_warnings.specs.UnknownThing.{is_of_the_game, IsUnknown, IsUnknownThing};
 ghost use Rattle.map_warnings.specs.Warnings.{Tells};
 ghost use Rattle.map_warnings.specs.Holds.{HoldsOf};
 
+use crate::between::is_between;
 use crate::told::{Told, tell_where};
 use crate::warning::Warning;
 use le_rec::Thing;
@@ -95,10 +96,4 @@ fn is_of_the_game(kind: i16) -> bool
         | is_between(2035, 2035, kind)
         | is_between(2045, 2049, kind)
         | is_between(3001, 3006, kind)
-}
-
-fn is_between(least: i16, greatest: i16, kind: i16) -> bool
-    ensures { result ≡ is_between least greatest kind }
-{
-    (least <= kind) & (kind <= greatest)
 }

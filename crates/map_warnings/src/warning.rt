@@ -46,7 +46,7 @@ pub enum Warning {
     InVoid {
         thing: u32,
     },
-    /// W4: a linedef has a special and a tag, and no sector has the tag.
+    /// W4: a linedef's special goes by its tag to a sector, and no sector has the tag.
     Untagged {
         linedef: u32,
     },

@@ -36,7 +36,7 @@ const MEANINGS = {
   W1: "a sector isn't closed: its outline has a gap or an extra line",
   W2: 'a texture that is seen is missing',
   W3: 'a thing stands in the void',
-  W4: 'a linedef has a special, and a tag that no sector has',
+  W4: "a linedef's special goes by a tag that no sector has",
   W5: 'the segs of an ssector face several sectors',
   W6: 'a linedef lies on another',
   W7: 'a start of players 2 to 4 is missing',

@@ -1,12 +1,11 @@
 -- Texts of the page, computed on small rows: each is what stands here.
-use Rattle.std.proofs.Common.{◌≡◌, ℕ, ◌+◌, true, false, List, [], ◌∷◌, ◌++◌, refl, ap, ◌∙◌}
+use Rattle.std.proofs.Common.{◌≡◌, ℕ, true, false, List, [], ◌∷◌, ◌++◌, refl, ap, ◌∙◌}
 use Rattle.std.specs.Fmt.{digits}
 use Rattle.std.specs.Prelude.{codes}
 use Rattle.level_starts.specs.declared.format.Format.TheVariants.{Incomplete}
 use Rattle.atlas_page.specs.Items.{code_item, number_item}
 use Rattle.lens_texts.specs.ShownPath.{shown_after}
 use Rattle.atlas_page.specs.Text.{path_text}
-use Rattle.atlas_page.specs.Warned.{warning_item}
 use Rattle.atlas_page.specs.Page.{title_line}
 use Rattle.atlas_page.specs.Refused.{refused_part}
 use Rattle.atlas_page.specs.Rows.{faulty_rows, is_faulty, other_rows, picture_name, row_text, totals_of_rows}
@@ -19,19 +18,15 @@ use Rattle.lens_engines.specs.declared.object.FileRefusal.TheVariants.{TooLarge}
 use Rattle.lens_engines.specs.declared.surveyed.Surveyed.TheVariants as surveyed
 use Rattle.lens_engines.specs.declared.tables.Tables.{Tables}
 use Rattle.lens_engines.specs.declared.unjudged.Unjudged.{Unjudged}
-use Rattle.lens_engines.specs.declared.warning_counts.WarningCounts.{WarningCounts}
 
 abbrev tables : Tables
 tables = record { things = 1; linedefs = 20; sidedefs = 300; vertexes = 4; segs = 5; ssectors = 6; nodes = 7; sectors = 65535; reject = 8; blockmap = 9 }
 
--- so often F3, and so often N3
-abbrev counts : ℕ → ℕ → List ℕ
-counts faults notes =
-    0 ∷ 0 ∷ faults ∷ 0 ∷ 0 ∷ 0 ∷ 0 ∷ 0 ∷ 0 ∷ 0 ∷ 0 ∷ 0 ∷ 0 ∷ 0 ∷ 0 ∷ 0 ∷ 0 ∷ 0 ∷ 0 ∷ 0 ∷ notes ∷ 0 ∷ 0 ∷ 0 ∷ 0 ∷ 0 ∷ 0 ∷ 0 ∷ 0 ∷ 0 ∷ []
-
--- so many W1 and W8
-abbrev warned : ℕ → ℕ → WarningCounts
-warned first last = record { w1 = first; w2 = 0; w3 = 0; w4 = 0; w5 = 0; w6 = 0; w7 = 0; w8 = last; w9 = 0; w10 = 0; w11 = 0; total = first + last }
+-- so often F3, so often N3, and so many W1 and W8
+abbrev counts : ℕ → ℕ → ℕ → ℕ → List ℕ
+counts faults notes first last =
+    0 ∷ 0 ∷ faults ∷ 0 ∷ 0 ∷ 0 ∷ 0 ∷ 0 ∷ 0 ∷ 0 ∷ 0 ∷ 0 ∷ 0 ∷ 0 ∷ 0 ∷ 0 ∷ 0 ∷ 0 ∷ 0 ∷ 0 ∷ notes ∷ 0 ∷ 0 ∷ 0 ∷ 0 ∷ 0 ∷ 0 ∷ 0 ∷ 0 ∷ 0
+    ∷ first ∷ 0 ∷ 0 ∷ 0 ∷ 0 ∷ 0 ∷ 0 ∷ last ∷ 0 ∷ 0 ∷ 0 ∷ []
 
 -- the items of a level's tables
 abbrev table_list : List ℕ
@@ -54,7 +49,7 @@ path_with_markup = refl
 
 -- markup in a path and in a name; two faults of one code and seven notes of another
 faulty_row : (row : Row) → row.file ≡ 2 → row.path.now ≡ codes "<a&b>.wad" → row.entry ≡ 15 → row.name ≡ codes "E\"M1"
-    → row.found ≡ surveyed.Judged (record { tables = tables; counts = counts 2 7; warnings = Told; warned = warned 0 0; unlooked = none_unlooked; drawn = true })
+    → row.found ≡ surveyed.Judged (record { tables = tables; counts = counts 2 7 0 0; warnings = Told; unlooked = none_unlooked; drawn = true })
     → row_text row
     ≡ codes "<li class=\"faulty\">\n<a class=\"map\" href=\"2-15.svg\"><img loading=\"lazy\" src=\"2-15.svg\" alt=\"map of E&quot;M1\"></a>\n"
     ++ (codes "<div>\n<h2>E&quot;M1</h2>\n<p class=\"where\">&lt;a&amp;b&gt;.wad <span>entry 15, doom</span></p>\n"
@@ -64,12 +59,12 @@ faulty_row row file path entry name found = rw (file, ap path_text path ∙ path
 
 -- no fault, with a note and warnings of two codes, and nothing to draw
 sound_row : (row : Row) → row.file ≡ 1 → row.path.now ≡ codes "a.wad" → row.entry ≡ 0 → row.name ≡ codes "MAP01"
-    → row.found ≡ surveyed.Judged (record { tables = tables; counts = counts 0 1; warnings = Told; warned = warned 4 1; unlooked = none_unlooked; drawn = false })
+    → row.found ≡ surveyed.Judged (record { tables = tables; counts = counts 0 1 4 1; warnings = Told; unlooked = none_unlooked; drawn = false })
     → row_text row
     ≡ codes "<li class=\"sound\">\n<p class=\"map\">no picture</p>\n"
     ++ (codes "<div>\n<h2>MAP01</h2>\n<p class=\"where\">a.wad <span>entry 0, doom</span></p>\n"
     ++ (codes "<ul class=\"found\">\n<li class=\"sound\">sound</li>\n<li class=\"note\">N3 &times; 1</li>\n<li class=\"warning\">W1 &times; 4</li>\n<li class=\"warning\">W8 &times; 1</li>\n</ul>\n" ++ table_list))
-unfolding digits number_item code_item warning_item picture_name code_table
+unfolding digits number_item code_item picture_name code_table
 sound_row row file path entry name found = rw (file, ap path_text path ∙ plain_path, entry, name, found) refl
 
 -- the last lump isn't there

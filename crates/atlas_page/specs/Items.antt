@@ -1,12 +1,10 @@
--- Items of the page's lists (HTML, ours): a number with what it counts, and a code with how often it holds.
+-- Items of the page's lists (HTML, ours): a number with what it counts, and a code with how many there are of it.
 use Rattle.std.specs.Prelude.{ℕ, List, [], ◌∷◌, ◌++◌, codes, filter, map, nat_lt, if◌then◌else◌}
 use Rattle.std.specs.Fmt.{decimal}
-use Rattle.level_codes.specs.Codes.{code_name}
-use Rattle.level_codes.specs.declared.code.ReportCode.TheVariants as report
-use Rattle.map_level.specs.Findings.{is_fault}
-use Rattle.map_level.specs.declared.finding.Code.{Code}
-use Rattle.lens_engines.specs.Counts.{report_order}
-use Rattle.lens_engines.specs.Objects.{count_of}
+use Rattle.level_codes.specs.Codes.{class_of, code_name, report_order}
+use Rattle.level_codes.specs.Kind.{class_name}
+use Rattle.level_codes.specs.declared.code.ReportCode.{ReportCode}
+use Rattle.lens_engines.specs.ReportCounts.{count_of}
 use Rattle.lens_engines.specs.declared.tables.Tables.{Tables}
 
 -- `<li><b>{number}</b> {what}</li>`
@@ -26,20 +24,16 @@ table_items tables =
     ∷ number_item (codes "sectors") tables.sectors
     ∷ []
 
--- a fault or a note
-abbrev pub class_of : Code → List ℕ
-class_of code = if is_fault code then codes "fault" else codes "note"
-
 -- `<li class="{class}">{code} &times; {count}</li>`
-unfoldable pub code_item : Code → ℕ → List ℕ
+unfoldable pub code_item : ReportCode → ℕ → List ℕ
 code_item code count =
-    codes "<li class=\"" ++ (class_of code
-    ++ (codes "\">" ++ (code_name (report.Finding code) ++ (codes " &times; " ++ (decimal count ++ codes "</li>\n")))))
+    codes "<li class=\"" ++ (class_name (class_of code)
+    ++ (codes "\">" ++ (code_name code ++ (codes " &times; " ++ (decimal count ++ codes "</li>\n")))))
 
--- of a code that doesn't hold, nothing
-abbrev pub code_part : List ℕ → Code → List ℕ
+-- of a code of which there are none, nothing
+abbrev pub code_part : List ℕ → ReportCode → List ℕ
 code_part counts code = if nat_lt 0 (count_of counts code) then code_item code (count_of counts code) else []
 
--- the codes that hold, in the order of a report
+-- the codes of which there are any, in the order of a report
 abbrev pub code_items : List ℕ → List (List ℕ)
 code_items counts = map (λ code. code_item code (count_of counts code)) (filter (λ code. nat_lt 0 (count_of counts code)) report_order)

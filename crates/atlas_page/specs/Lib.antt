@@ -1,6 +1,5 @@
 pub mod Text
 pub mod Items
-pub mod Warned
 pub mod Rows
 pub mod Refused
 pub mod Style

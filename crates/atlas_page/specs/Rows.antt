@@ -7,7 +7,6 @@ use Rattle.map_picture.specs.Escape.{escaped}
 use Rattle.map_picture.specs.Parts.{joined}
 use Rattle.atlas_page.specs.Items.{code_items, table_items}
 use Rattle.atlas_page.specs.Text.{path_text}
-use Rattle.atlas_page.specs.Warned.{warning_parts}
 use Rattle.atlas_page.specs.declared.row.Row.{Row}
 use Rattle.lens_engines.specs.Counts.{fault_total}
 use Rattle.lens_texts.specs.FormatLine.{format_text}
@@ -65,10 +64,10 @@ where_parts row =
 abbrev pub sound_item : List ℕ → List ℕ
 sound_item counts = if nat_eq (fault_total counts) 0 then codes "<li class=\"sound\">sound</li>\n" else []
 
--- what was found at a level of Doom's format: the codes that hold, its warnings, and its counts
+-- what was found at a level of Doom's format: the codes of which there are any, and how large its tables are
 abbrev pub judged_parts : LevelCounts → List (List ℕ)
 judged_parts judged =
-    codes "<ul class=\"found\">\n" ∷ sound_item judged.counts ∷ joined (code_items judged.counts) ∷ joined (warning_parts judged.warned)
+    codes "<ul class=\"found\">\n" ∷ sound_item judged.counts ∷ joined (code_items judged.counts)
     ∷ codes "</ul>\n<ul class=\"counts\">\n" ∷ joined (table_items judged.tables) ∷ codes "</ul>\n" ∷ []
 
 -- why another isn't judged

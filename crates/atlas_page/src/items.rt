@@ -1,18 +1,16 @@
-//! Items of the page's lists: a number with what it counts, and a code with how often it holds.
+//! Items of the page's lists: a number with what it counts, and a code with how many there are of it.
 
-ghost use Rattle.std.specs.Prelude.{◌≡◌, ◌<◌, ◌≤◌, ◌++◌, [], codes, false, length, slice_index_or};
+ghost use Rattle.std.specs.Prelude.{◌≡◌, ◌<◌, ◌≤◌, [], false, length};
+ghost use Rattle.level_codes.specs.Codes.{code_at};
+ghost use Rattle.level_codes.specs.declared.table.TheConstants.{REPORT_COUNT};
 ghost use Rattle.line_io.specs.Writes.{Writes};
-ghost use Rattle.map_level.specs.Findings.{is_fault};
 ghost use Rattle.map_picture.specs.Parts.{joined};
-ghost use Rattle.atlas_page.specs.Items.{class_of, code_item, code_items, code_part, number_item, table_items};
-ghost use Rattle.lens_engines.specs.Counts.{report_order};
-ghost use Rattle.map_level.specs.declared.finding.Code.TheVariants.{F1};
+ghost use Rattle.atlas_page.specs.Items.{code_item, code_items, code_part, number_item, table_items};
 
 use le_rec::Sink;
-use lens_engines::{CODE_COUNT, CodeCounts, Tables, code_at};
-use level_codes::ReportCode;
+use lens_engines::{ReportCounts, Tables};
+use level_codes::{REPORT_COUNT, ReportCode};
 use line_io::{IoFault, TextLine, emit};
-use map_level::Code;
 use map_picture::parts::{Parts, write_parts};
 
 /// Writes a number with what it counts.
@@ -77,21 +75,21 @@ pub fn write_tables<W: Sink>(tables: &Tables, out: &mut W) -> Result<(), IoFault
     write_parts(&TableItems { tables }, out)
 }
 
-// The items of all codes, empty where a code doesn't hold.
+// The items of all codes, each empty if there are none of its code.
 #[derive(Drop)]
 struct CodeParts<'c> {
-    counts: &'c CodeCounts,
+    counts: &'c ReportCounts,
 }
 
 impl Parts for CodeParts<'_> {
     ghost use Rattle.std.specs.Prelude.{map};
     ghost use Rattle.atlas_page.specs.Items.{code_part};
-    ghost use Rattle.lens_engines.specs.Counts.{report_order};
+    ghost use Rattle.level_codes.specs.Codes.{report_order};
 
     ghost parts = { λ parts. map (code_part parts.counts.now) report_order };
 
     fn count(&self) -> usize {
-        CODE_COUNT
+        REPORT_COUNT
     }
 
     fn write<W: Sink>(&self, number: usize, out: &mut W) -> Result<(), IoFault> {
@@ -99,22 +97,23 @@ impl Parts for CodeParts<'_> {
     }
 }
 
-// Writes the item of the code of a rank, where it holds.
-fn write_code_part<W: Sink>(counts: &CodeCounts, rank: usize, out: &mut W) -> Result<(), IoFault>
-    requires there { rank < CODE_COUNT }
+// Writes the item of the code of a rank, where there are any.
+fn write_code_part<W: Sink>(counts: &ReportCounts, rank: usize, out: &mut W) -> Result<(), IoFault>
+    requires there { rank < REPORT_COUNT }
     requires sound { (W.state out.old).failed ≡ false }
-    ensures { Writes (W.state out.old) (W.state out.new) (code_part counts.now (slice_index_or report_order rank F1)) result }
+    ensures { Writes (W.state out.old) (W.state out.new) (code_part counts.now (code_at rank)) result }
 {
-    let count = counts.get(rank);
+    let code = ReportCode::at(rank);
+    let count = counts.get(code);
     if count > 0 {
-        write_code_item(code_at(rank), count, out)
+        write_code_item(code, count, out)
     } else {
         emit(out, b"")
     }
 }
 
 // Writes the item of a code.
-fn write_code_item<W: Sink>(code: Code, count: u32, out: &mut W) -> Result<(), IoFault>
+fn write_code_item<W: Sink>(code: ReportCode, count: u64, out: &mut W) -> Result<(), IoFault>
     requires { (W.state out.old).failed ≡ false }
     ensures { Writes (W.state out.old) (W.state out.new) (code_item code count) result }
 {
@@ -124,29 +123,21 @@ fn write_code_item<W: Sink>(code: Code, count: u32, out: &mut W) -> Result<(), I
 }
 
 // `<li class="{class}">{code} &times; {count}</li>`
-fn prepend_code_item(line: &mut TextLine, code: Code, count: u32)
+fn prepend_code_item(line: &mut TextLine, code: ReportCode, count: u64)
     requires { line.old ≡ [] }
     ensures { line.new ≡ code_item code count }
 {
     line.prepend_bytes(b"</li>\n");
-    line.prepend_natural(u64::from(count));
+    line.prepend_natural(count);
     line.prepend_bytes(b" &times; ");
-    line.prepend_bytes(ReportCode::Finding(code).name());
+    line.prepend_bytes(code.name());
     line.prepend_bytes(b"\">");
-    line.prepend_bytes(class_of(code));
+    line.prepend_bytes(code.class().name());
     line.prepend_bytes(b"<li class=\"");
 }
 
-// A fault or a note.
-fn class_of(code: Code) -> &'static [u8]
-    ensures text { result.now ≡ class_of code }
-    ensures short { length result.now ≤ 5 }
-{
-    if code.is_fault() { b"fault" } else { b"note" }
-}
-
-/// Writes the items of the codes that hold, in the order of a report.
-pub fn write_codes<W: Sink>(counts: &CodeCounts, out: &mut W) -> Result<(), IoFault>
+/// Writes the items of the codes of which there are any, in the order of a report.
+pub fn write_codes<W: Sink>(counts: &ReportCounts, out: &mut W) -> Result<(), IoFault>
     requires { (W.state out.old).failed ≡ false }
     ensures { Writes (W.state out.old) (W.state out.new) (joined (code_items counts.now)) result }
 {

@@ -10,7 +10,6 @@ mod row;
 mod rows;
 mod style;
 mod text;
-mod warned;
 
 pub use levels::{Origin, push_rows};
 pub use page::{Page, write_page};

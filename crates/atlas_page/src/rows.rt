@@ -7,9 +7,8 @@ ghost use Rattle.atlas_page.specs.Rows.{faulty_rows, found_part, mark, other_row
 use crate::items::{write_codes, write_tables};
 use crate::row::Row;
 use crate::text::{write_name, write_number, write_page_path};
-use crate::warned::write_warnings;
 use le_rec::Sink;
-use lens_engines::{CodeCounts, LevelCounts, Surveyed, Unjudged, Verdict};
+use lens_engines::{LevelCounts, ReportCounts, Surveyed, Unjudged, Verdict};
 use lens_texts::{format_name, write_format_alone};
 use line_io::{IoFault, TextLine, emit};
 use map_picture::parts::{Parts, write_parts};
@@ -104,7 +103,7 @@ impl Parts for WhereLine<'_, '_> {
 }
 
 // Writes `sound`, where there is no fault.
-fn write_sound<W: Sink>(counts: &CodeCounts, out: &mut W) -> Result<(), IoFault>
+fn write_sound<W: Sink>(counts: &ReportCounts, out: &mut W) -> Result<(), IoFault>
     requires { (W.state out.old).failed ≡ false }
     ensures { Writes (W.state out.old) (W.state out.new) (sound_item counts.now) result }
 {
@@ -115,7 +114,7 @@ fn write_sound<W: Sink>(counts: &CodeCounts, out: &mut W) -> Result<(), IoFault>
     }
 }
 
-// What was found at a level of Doom's format, its warnings, and its counts.
+// What was found at a level of Doom's format, warnings too, and how large its tables are.
 #[derive(Drop)]
 struct JudgedParts<'r> {
     judged: &'r LevelCounts,
@@ -127,7 +126,7 @@ impl Parts for JudgedParts<'_> {
     ghost parts = { λ parts. judged_parts parts.judged.now };
 
     fn count(&self) -> usize {
-        7
+        6
     }
 
     fn write<W: Sink>(&self, number: usize, out: &mut W) -> Result<(), IoFault> {
@@ -135,9 +134,8 @@ impl Parts for JudgedParts<'_> {
             0 => emit(out, b"<ul class=\"found\">\n"),
             1 => write_sound(&self.judged.counts, out),
             2 => write_codes(&self.judged.counts, out),
-            3 => write_warnings(&self.judged.warned, out),
-            4 => emit(out, b"</ul>\n<ul class=\"counts\">\n"),
-            5 => write_tables(&self.judged.tables, out),
+            3 => emit(out, b"</ul>\n<ul class=\"counts\">\n"),
+            4 => write_tables(&self.judged.tables, out),
             _ => emit(out, b"</ul>\n"),
         }
     }

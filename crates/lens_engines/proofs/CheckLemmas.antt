@@ -22,6 +22,7 @@ use Rattle.map_level.specs.Level.{Level}
 use Rattle.map_level.specs.Opening.{IsLevelAt}
 use Rattle.map_level.specs.declared.finding.Code.{Code}
 use Rattle.map_level.specs.declared.finding.Code.TheVariants.{F1}
+use Rattle.map_level.specs.declared.search.TheConstants.{CODE_COUNT}
 use Rattle.map_level.specs.declared.reading.Reading.{Reading}
 use Rattle.map_level.specs.declared.reading.Reading.TheVariants.{Signed, Wide}
 use Rattle.map_tree.proofs.CountLemmas.{sum_zeros}
@@ -29,17 +30,19 @@ use Rattle.map_tree.specs.Sound.{IsSound}
 use Rattle.wad_dir.specs.Entries.{names}
 use Rattle.wad_dir.specs.Wad.{IsRead, Wad}
 use Rattle.lens_engines.specs.Check.{CheckAsked, Checks, ChecksAll, ChecksDoom, ChecksFile, ChecksLevel, ChecksOrWants, ChecksSome, IsLevelText, IsSoundWideAlone, IsToldBy, RunsCheck, ToldTo, WritesText, at_start, head_in, with_level, text_end}
-use Rattle.lens_engines.specs.Counts.{AreCounts, IsCount, fault_total, report_order}
+use Rattle.lens_engines.specs.Counts.{AreCounts, IsCount, fault_total, finding_order}
 use Rattle.level_codes.specs.declared.code.ReportCode.TheVariants as report
 use Rattle.lens_engines.specs.Ignored.{HoldsUnlessIgnored, ignores, no_codes}
 use Rattle.lens_engines.specs.declared.ignored.Ignored.{Ignored}
 use Rattle.lens_texts.specs.Label.{IsLabelOf}
 use Rattle.lens_engines.specs.LevelLines.{AreCounted, AreShown, AreTold, judged_text}
 use Rattle.lens_texts.specs.LevelText.{unjudged_text}
+use Rattle.lens_engines.specs.Judged.{JudgedLevel, Judges}
+use Rattle.lens_engines.specs.ReportCounts.{AreReportCounts}
 use Rattle.lens_engines.specs.Survey.{fault_after}
 use Rattle.lens_engines.specs.Totals.{format_totals, judged_totals, no_totals, totals_with, verdict_with}
 use Rattle.lens_engines.specs.Unlooked.{AreUnlooked}
-use Rattle.lens_engines.specs.Warned.{AreAskedFor, Warned, kept_count, known_files, warned_total}
+use Rattle.lens_engines.specs.Warned.{Warned, known_files}
 use Rattle.lens_texts.specs.declared.label.LevelLabel.{LevelLabel}
 use Rattle.lens_engines.specs.declared.totals.Totals.{Totals}
 use Rattle.lens_engines.specs.declared.unlooked.Unlooked.{Unlooked}
@@ -57,24 +60,29 @@ some_counted holds count i is here = omega (arith, is.counted, ((is.exact i).1 h
 fault_kept : (ignored : Ignored) (code : Code) → IsTrue (is_fault code) → ignores ignored (report.Finding code) ≡ false
 fault_kept ignored code fault = rw fault refl
 
+-- the numbers at the ranks of the codes of findings say how often these hold and aren't ignored
+pub record CountKept (ignored : Ignored) (level : Level) (counts : List ℕ) : Type 0 where
+  pub long : CODE_COUNT ≤ length counts
+  pub each : (code : Code) → IsCount (HoldsUnlessIgnored ignored level code) (get_or counts (rank code) 0)
+
 -- a level is sound exactly where no fault is counted
-pub kept_faultless : (ignored : Ignored) (level : Level) (counts : List ℕ) → AreCounts (HoldsUnlessIgnored ignored level) counts → fault_total counts ≡ 0 → IsSound level
-kept_faultless ignored level counts are none = (law_sound_is_no_fault level).1 (λ code i fault holds.
+pub kept_faultless : (ignored : Ignored) (level : Level) (counts : List ℕ) → CountKept ignored level counts → fault_total counts ≡ 0 → IsSound level
+kept_faultless ignored level counts kept none = (law_sound_is_no_fault level).1 (λ code i fault holds.
     let below : rank code < 18 = ltb-true (rank code) 18 fault in
-    let some = some_counted (HoldsUnlessIgnored ignored level code) (get_or counts (rank code) 0) i (are.each code) (fault_kept ignored code fault, holds) in
-    let long : rank code < length (take 18 counts) = omega (arith, below, are.all, length-take 18 counts) in
-    let within = get_or-le-sum_by (λ n. n) (take 18 counts) (rank code) 0 long in
+    let some = some_counted (HoldsUnlessIgnored ignored level code) (get_or counts (rank code) 0) i (kept.each code) (fault_kept ignored code fault, holds) in
+    let within_all : rank code < length (take 18 counts) = omega (arith, below, kept.long, length-take 18 counts) in
+    let within = get_or-le-sum_by (λ n. n) (take 18 counts) (rank code) 0 within_all in
     let same = get_or-take 18 counts (rank code) 0 below in
     omega (arith, some, within, same, none))
 
-pub sound_kept_faultless : (ignored : Ignored) (level : Level) (counts : List ℕ) → AreCounts (HoldsUnlessIgnored ignored level) counts → IsSound level → fault_total counts ≡ 0
-sound_kept_faultless ignored level counts are sound = sum_zeros (take 18 counts) (λ k. elim (cases_lt k 18) [
+pub sound_kept_faultless : (ignored : Ignored) (level : Level) (counts : List ℕ) → CountKept ignored level counts → IsSound level → fault_total counts ≡ 0
+sound_kept_faultless ignored level counts kept sound = sum_zeros (take 18 counts) (λ k. elim (cases_lt k 18) [
   | inl below ↦
-      let code = get_or report_order k F1 in
+      let code = get_or finding_order k F1 in
       let at : rank code ≡ k = rank_at k F1 (omega (arith, below)) in
       let fault : IsTrue (is_fault code) = lt-ltb (rank code) 18 (omega (arith, at, below)) in
       get_or-take 18 counts k 0 below ∙ ap (λ p. get_or counts p 0) (sym at)
-      ∙ nothing_holds (HoldsUnlessIgnored ignored level code) (get_or counts (rank code) 0) (are.each code) (λ i holds. (law_sound_is_no_fault level).0 sound code i fault holds.1)
+      ∙ nothing_holds (HoldsUnlessIgnored ignored level code) (get_or counts (rank code) 0) (kept.each code) (λ i holds. (law_sound_is_no_fault level).0 sound code i fault holds.1)
   | inr past ↦ beyond (take 18 counts) k (omega (arith, past, length-take 18 counts))
 ])
   where
@@ -85,9 +93,9 @@ sound_kept_faultless ignored level counts are sound = sum_zeros (take 18 counts)
     beyond (x ∷ xs) (suc k) past = beyond xs k (omega (arith, past))
 
 -- the counts of a level of which nothing is ignored
-unignored : (level : Level) (counts : List ℕ) → AreCounts (AuditHolds level) counts → AreCounts (HoldsUnlessIgnored no_codes level) counts
+unignored : (level : Level) (counts : List ℕ) → AreCounts (AuditHolds level) counts → CountKept no_codes level counts
 unignored level counts are = record {
-  all = are.all;
+  long = omega (arith, are.all);
   each = λ code.
       let count = are.each code in
       record {
@@ -97,6 +105,10 @@ unignored level counts are = record {
         counted = count.counted;
       };
 }
+
+-- those of a report
+pub report_kept : (ignored : Ignored) (level : Level) (warned : List Warned) (counts : List ℕ) → AreReportCounts ignored level warned counts → CountKept ignored level counts
+report_kept ignored level warned counts are = record { long = omega (arith, are.all); each = are.findings }
 
 pub faultless : (level : Level) (counts : List ℕ) → AreCounts (AuditHolds level) counts → fault_total counts ≡ 0 → IsSound level
 faultless level counts are none = kept_faultless no_codes level counts (unignored level counts are) none
@@ -114,31 +126,32 @@ wide_alone files g reading level wide (Ok sound) signed unsound there is = (
 wide_alone files g reading level wide (Err e) signed unsound there is = tt
 
 -- the text of a judged level was written
-pub judged_written : {W : Type 0} (state : W → SinkState) (asked : CheckAsked) (files : List Wad) (g : ℕ) (label : LevelLabel) (level : Level) (counts : List ℕ) (warned : List Warned) (unlooked : Unlooked) (sound_wide : Bool) (out out' : W)
+pub judged_written : {W : Type 0} (state : W → SinkState) (asked : CheckAsked) (files : List Wad) (g : ℕ) (label : LevelLabel) (level : Level) (judged : JudgedLevel) (unlooked : Unlooked) (sound_wide : Bool) (out out' : W)
     (wrote : Result (Unit {0}) IoFault) (result : Result Totals LevelsFault)
-    → IsLevelAt files g asked.judging.reading level → AreCounts (HoldsUnlessIgnored asked.judging.ignored level) counts → AreAskedFor asked.judging (known_files asked.judging files) level (kept_count asked.most) warned
+    → IsLevelAt files g asked.judging.reading level → Judges asked.judging (known_files asked.judging files) level asked.most judged
     → AreUnlooked asked.judging.ignored (known_files asked.judging files) unlooked
     → (IsTrue sound_wide ↔ IsSoundWideAlone files g asked.judging.reading level)
-    → ((told : Code → List ℕ) → AreShown (AuditHolds level) told → AreCounted counts told
-    → Writes (state out) (state out') (judged_text (head_in asked label) asked.most level told warned sound_wide) wrote)
-    → result ≡ text_end asked.judging.warnings (judged_totals counts (warned_total warned) unlooked) wrote → ChecksDoom state asked files g label out out' result
-judged_written state asked files g label level counts warned unlooked sound_wide out out' wrote result there are are_warned are_unlooked wide writes ended =
-    let told = λ (code : Code). (are.each code).indexes in
-    let are_told : AreTold (HoldsUnlessIgnored asked.judging.ignored level) told = λ code. record { ascending = (are.each code).ascending; exact = (are.each code).exact } in
-    let counted : AreCounted counts told = λ code. sym (are.each code).counted in
+    → ((told : Code → List ℕ) → AreShown (AuditHolds level) told → AreCounted judged.counts told
+    → Writes (state out) (state out') (judged_text (head_in asked label) asked.most level told judged.warned sound_wide) wrote)
+    → result ≡ text_end asked.judging.warnings (judged_totals judged.counts unlooked) wrote → ChecksDoom state asked files g label out out' result
+judged_written state asked files g label level judged unlooked sound_wide out out' wrote result there are are_unlooked wide writes ended =
+    let findings = are.counts.findings in
+    let told = λ (code : Code). (findings code).indexes in
+    let are_told : AreTold (HoldsUnlessIgnored asked.judging.ignored level) told = λ code. record { ascending = (findings code).ascending; exact = (findings code).exact } in
+    let counted : AreCounted judged.counts told = λ code. sym (findings code).counted in
     inr (record {
-      text = judged_text (head_in asked label) asked.most level told warned sound_wide;
-      totals = judged_totals counts (warned_total warned) unlooked;
+      text = judged_text (head_in asked label) asked.most level told judged.warned sound_wide;
+      totals = judged_totals judged.counts unlooked;
       is = record {
         level = level;
         there = there;
-        counts = counts;
-        are_counts = are;
         told = told;
         are_told = are_told;
+        warned = judged.warned;
+        are_warned = are.asked;
+        counts = judged.counts;
+        are_counts = are.counts;
         counted = counted;
-        warned = warned;
-        are_warned = are_warned;
         unlooked = unlooked;
         are_unlooked = are_unlooked;
         sound_wide = sound_wide;

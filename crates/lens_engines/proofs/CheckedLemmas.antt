@@ -15,7 +15,7 @@ use Rattle.wad_dir.specs.Wad.{Wad}
 use Rattle.lens_engines.specs.Check.{CheckAsked, IsJudged, IsLevelText, IsToldBy, ToldTo, at_start, with_level}
 use Rattle.lens_engines.specs.Laws.{CheckedIsSound}
 use Rattle.lens_engines.specs.declared.totals.Totals.{Totals}
-use Rattle.lens_engines.proofs.CheckLemmas.{kept_faultless, sound_kept_faultless}
+use Rattle.lens_engines.proofs.CheckLemmas.{kept_faultless, report_kept, sound_kept_faultless}
 
 -- all levels that start below an entry are sound
 abbrev AreSoundBelow : CheckAsked → List Wad → ℕ → Type 0
@@ -38,8 +38,8 @@ level_faultless : (asked : CheckAsked) (files : List Wad) (g : ℕ) (text : List
 level_faultless asked files g text totals doom is =
     let j = judged asked files g text totals doom is in
     let faults = ap (λ (t : Totals). t.faults) j.adds in (
-      (λ zero level there. subst IsSound (IsLevelAt-one files g asked.judging.reading j.level level j.there there) (kept_faultless asked.judging.ignored j.level j.counts j.are_counts (sym faults ∙ zero))),
-      (λ sound. faults ∙ sound_kept_faultless asked.judging.ignored j.level j.counts j.are_counts (sound j.level j.there)),
+      (λ zero level there. subst IsSound (IsLevelAt-one files g asked.judging.reading j.level level j.there there) (kept_faultless asked.judging.ignored j.level j.counts (report_kept _ _ _ _ j.are_counts) (sym faults ∙ zero))),
+      (λ sound. faults ∙ sound_kept_faultless asked.judging.ignored j.level j.counts (report_kept _ _ _ _ j.are_counts) (sound j.level j.there)),
     )
 
 below_faultless : (asked : CheckAsked) (files : List Wad) (from : ℕ) (text : List ℕ) (totals : Totals) → AreDoom files → ToldTo asked files from text totals

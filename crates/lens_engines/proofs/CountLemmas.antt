@@ -12,7 +12,7 @@ use Rattle.map_level.specs.declared.finding.Code.TheVariants.{F1}
 use Rattle.map_audit.specs.Findings.{AuditHolds}
 use Rattle.map_level.specs.Level.{Level}
 use Rattle.map_level.specs.declared.search.TheConstants.{CODE_COUNT}
-use Rattle.lens_engines.specs.Counts.{AreCounts, IsCount, kept_count, report_order}
+use Rattle.lens_engines.specs.Counts.{IsCount, finding_order}
 use Rattle.level_codes.specs.declared.code.ReportCode.TheVariants as report
 use Rattle.lens_engines.specs.Ignored.{HoldsUnlessIgnored, ignores, no_codes}
 use Rattle.lens_engines.specs.LevelLines.{AreIndexes}
@@ -81,7 +81,7 @@ none_ignored_code F1 = refl
 none_ignored_code _ = refl
 
 -- what is told of a code that isn't ignored is what holds of it
-kept_is : (ignored : Ignored) (level : Level) (code : Code) (n : ℕ) (b : Bool) → ignores ignored (report.Finding code) ≡ b → IsCount (AuditHolds level code) n
+pub kept_is : (ignored : Ignored) (level : Level) (code : Code) (n : ℕ) (b : Bool) → ignores ignored (report.Finding code) ≡ b → IsCount (AuditHolds level code) n
     → IsCount (HoldsUnlessIgnored ignored level code) (if b then 0 else n)
 kept_is ignored level code n true is count = record {
   indexes = [];
@@ -96,15 +96,6 @@ kept_is ignored level code n false is count = record {
   counted = count.counted;
 }
 
-pub counts_kept : (ignored : Ignored) (level : Level) (counts kept : List ℕ) → length kept ≡ CODE_COUNT
-    → ((code : Code) → slice_index kept (rank code) ≡ kept_count ignored code (slice_index counts (rank code)))
-    → AreCounts (AuditHolds level) counts → AreCounts (HoldsUnlessIgnored ignored level) kept
-counts_kept ignored level counts kept long each are = record {
-  all = long;
-  each = λ code. subst (IsCount (HoldsUnlessIgnored ignored level code)) (sym (each code))
-      (kept_is ignored level code (slice_index counts (rank code)) (ignores ignored (report.Finding code)) refl (are.each code));
-}
-
 -- a code that is told of at all isn't ignored
 pub shown_kept : (ignored : Ignored) (level : Level) (code : Code) (indexes : List ℕ) → 0 < length indexes
     → AreIndexes (HoldsUnlessIgnored ignored level code) indexes → AreIndexes (AuditHolds level code) indexes
@@ -116,5 +107,5 @@ shown_kept ignored level code indexes some are =
     }
 
 -- the code at a rank of the order
-pub order-rank : (code : Code) → get_or report_order (rank code) F1 ≡ code
+pub order-rank : (code : Code) → get_or finding_order (rank code) F1 ≡ code
 order-rank code = same_from_rank _ code (rank_at (rank code) F1 (rank-below code))

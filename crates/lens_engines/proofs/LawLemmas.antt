@@ -10,7 +10,7 @@ use Rattle.map_audit.specs.Findings.{AuditHolds}
 use Rattle.map_level.proofs.FindingLemmas.{rank_at}
 use Rattle.map_level.specs.Findings.{is_fault, rank}
 use Rattle.map_level.specs.declared.finding.Code.TheVariants.{F1}
-use Rattle.lens_engines.specs.Counts.{IsCount, report_order}
+use Rattle.lens_engines.specs.Counts.{IsCount, finding_order}
 use Rattle.lens_engines.specs.Laws.{FaultlessIsSound}
 
 -- a count of nothing
@@ -48,7 +48,7 @@ law_faultless_is_sound level counts are = (
       none_counted (AuditHolds level code) _ (are.each code)
       (each_zero counts 18 (rank code) (omega (arith, are.all)) none (ltb-true (rank code) 18 fault)) i)),
   (λ sound. zero_sum counts 18 (λ k below.
-      let code = get_or report_order k F1 in
+      let code = get_or finding_order k F1 in
       let at : rank code ≡ k = rank_at k F1 (omega arith) in
       let fault : IsTrue (is_fault code) = lt-ltb (rank code) 18 (omega (arith, at, below)) in
       subst (λ (p : ℕ). slice_index counts p ≡ 0) at

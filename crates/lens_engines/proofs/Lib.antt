@@ -8,6 +8,8 @@ pub mod LawLemmas
 pub mod LineLemmas
 pub mod ObjectLemmas
 pub mod ObjectReadLemmas
+pub mod OrderLemmas
+pub mod ReportCountLemmas
 pub mod ReportLemmas
 pub mod ShownLemmas
 pub mod SurveyLemmas

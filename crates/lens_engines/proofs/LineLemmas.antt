@@ -14,7 +14,7 @@ use Rattle.map_level.specs.declared.finding.Code.{Code}
 use Rattle.map_level.specs.declared.finding.Code.TheVariants.{F1}
 use Rattle.map_level.specs.declared.finding.Finding.{Finding}
 use Rattle.map_level.specs.declared.search.TheConstants.{CODE_COUNT}
-use Rattle.lens_engines.specs.Counts.{report_order}
+use Rattle.lens_engines.specs.Counts.{finding_order}
 use Rattle.lens_texts.specs.LevelText.{finding_text}
 use Rattle.lens_engines.specs.Laws.{LinesAreOfTheReport}
 use Rattle.lens_engines.specs.LevelLines.{code_lines, code_part, findings_part}
@@ -78,17 +78,17 @@ module _ (line : Finding → List ℕ) where
 
   -- those of the first codes are those of the findings below a rank
   lines_of_first : (found : List Finding) → AllPairs StandsBefore found → (n : ℕ) → n ≤ CODE_COUNT
-      → flat_map (λ code. lines_by code (pick code found)) (take n report_order) ≡ lines_below n found
+      → flat_map (λ code. lines_by code (pick code found)) (take n finding_order) ≡ lines_below n found
   lines_of_first found pairs zero within = sym (none_below 0 found (λ f there. omega arith))
   lines_of_first found pairs (suc n) within =
-      let code = get_or report_order n F1 in
+      let code = get_or finding_order n F1 in
       let at : rank code ≡ n = rank_at n F1 (omega arith) in
       let here : lines_at n found ≡ lines_by code (pick code found) = subst (λ p. lines_at p found ≡ lines_by code (pick code found)) at (lines_at-picked code found) in
       let before = lines_of_first found pairs n (omega arith) in
-      let cut : take (n + 1) report_order ≡ take n report_order ++ code ∷ [] = take_more report_order n F1 (omega arith) in
-      subst (λ k. flat_map (λ code. lines_by code (pick code found)) (take k report_order) ≡ lines_below k found) (add-one n) (
+      let cut : take (n + 1) finding_order ≡ take n finding_order ++ code ∷ [] = take_more finding_order n F1 (omega arith) in
+      subst (λ k. flat_map (λ code. lines_by code (pick code found)) (take k finding_order) ≡ lines_below k found) (add-one n) (
       ap (flat_map (λ code. lines_by code (pick code found))) cut
-      ∙ flat_map-append (λ code. lines_by code (pick code found)) (take n report_order) (code ∷ [])
+      ∙ flat_map-append (λ code. lines_by code (pick code found)) (take n finding_order) (code ∷ [])
       ∙ ap (λ text. text ++ (lines_by code (pick code found) ++ [])) before
       ∙ ap (λ text. lines_below n found ++ text) (append-nil (lines_by code (pick code found)) ∙ sym here)
       ∙ sym (lines_more n found pairs))
@@ -99,29 +99,29 @@ module _ (line : Finding → List ℕ) where
 
   -- and those of all codes those of the report
   pub lines_of_report : (found : List Finding) → AllPairs StandsBefore found
-      → flat_map (λ code. lines_by code (pick code found)) report_order ≡ flat_map line found
+      → flat_map (λ code. lines_by code (pick code found)) finding_order ≡ flat_map line found
   lines_of_report found pairs = lines_of_first found pairs CODE_COUNT (omega arith) ∙ lines_of_all found
 
--- where all of a code's findings are shown, none is left out
-whole_part : (head : Head) (level : Level) (code : Code) (indexes : List ℕ)
-    → code_part head 0 level code indexes ≡ code_lines head level code indexes
-whole_part head level code indexes =
-    let all : take (length indexes) indexes ≡ indexes = take_all (length indexes) indexes (omega arith) in
-    let none : length indexes - length indexes ≡ 0 = omega arith in
+-- where as many of a code's findings are shown as there are, none is left out
+whole_part : (head : Head) (level : Level) (code : Code) (most : ℕ) (indexes : List ℕ) → length indexes ≤ most
+    → code_part head most level code indexes ≡ code_lines head level code indexes
+whole_part head level code most indexes shown =
+    let all : take most indexes ≡ indexes = take_all most indexes shown in
+    let none : length indexes - most ≡ 0 = omega (arith, shown) in
     rw (all, none) (append-nil (code_lines head level code indexes))
 
-whole_parts : (head : Head) (level : Level) (told other : Code → List ℕ) → ((code : Code) → told code ≡ other code) → (codes : List Code)
-    → flat_map (λ code. code_part head 0 level code (told code)) codes ≡ flat_map (λ code. code_lines head level code (other code)) codes
-whole_parts head level told other same [] = refl
-whole_parts head level told other same (code ∷ codes) =
-    let part : code_part head 0 level code (told code) ≡ code_lines head level code (other code) =
-    whole_part head level code (told code) ∙ ap (code_lines head level code) (same code) in
-    ap (λ text. text ++ flat_map (λ code. code_part head 0 level code (told code)) codes) part
-    ∙ ap (λ text. code_lines head level code (other code) ++ text) (whole_parts head level told other same codes)
+whole_parts : (head : Head) (level : Level) (most : ℕ) (told other : Code → List ℕ) → ((code : Code) → length (told code) ≤ most) → ((code : Code) → told code ≡ other code) → (codes : List Code)
+    → flat_map (λ code. code_part head most level code (told code)) codes ≡ flat_map (λ code. code_lines head level code (other code)) codes
+whole_parts head level most told other shown same [] = refl
+whole_parts head level most told other shown same (code ∷ codes) =
+    let part : code_part head most level code (told code) ≡ code_lines head level code (other code) =
+    whole_part head level code most (told code) (shown code) ∙ ap (code_lines head level code) (same code) in
+    ap (λ text. text ++ flat_map (λ code. code_part head most level code (told code)) codes) part
+    ∙ ap (λ text. code_lines head level code (other code) ++ text) (whole_parts head level most told other shown same codes)
 
 pub law_lines_are_of_the_report : LinesAreOfTheReport
 unfolding findings_part
-law_lines_are_of_the_report head level found told are told_are =
+law_lines_are_of_the_report head level found told are told_are most shown =
     let same : (code : Code) → told code ≡ pick code found =
     λ code. indexes_of_report (AuditHolds level) found code (told code) are (told_are code).ascending (told_are code).exact in
-    whole_parts head level told (λ code. pick code found) same report_order ∙ lines_of_report (finding_text head level) found are.ascending
+    whole_parts head level most told (λ code. pick code found) shown same finding_order ∙ lines_of_report (finding_text head level) found are.ascending

@@ -1,40 +1,33 @@
 -- The objects of a survey are read back as their members.
-use Rattle.std.proofs.Common.{◌≡◌, ℕ, ◌+◌, ◌-◌, ◌^◌, ◌<◌, ◌≤◌, inl, inr, Bool, true, false, List, [], ◌∷◌, ◌++◌, length, take, drop, get_or, get_or-take, get_or-drop, length-take, length-drop, refl, sym, ap, subst, ◌∙◌, append_assoc, arith}
-use Rattle.std.specs.Prelude.{codes, ◌==◌, sum}
+use Rattle.std.proofs.Common.{◌≡◌, ℕ, ◌^◌, ◌<◌, Bool, true, false, List, [], ◌∷◌, ◌++◌, refl, sym, ap, subst, ◌∙◌, append_assoc}
+use Rattle.std.specs.Prelude.{codes, ◌==◌}
 use Rattle.std.specs.List.{flat_map}
 use Rattle.std.specs.Str.Lossy.{utf8_lossy}
-use Rattle.std.proofs.lemmas.Bool.{cases_lt}
-use Rattle.std.proofs.lemmas.List.{get_or_past}
-use Rattle.std.proofs.lemmas.List.Sums.{get_or-le-sum_by}
 use Rattle.std.proofs.lemmas.Str.{utf8_lossy-IsUtf8}
 use Rattle.json.proofs.Printed.Utf8.{IsUtf8-are_ascii, are_ascii}
 use Rattle.json.specs.Json.{string}
 use Rattle.le_rec.specs.Name.{shown_name}
+use Rattle.level_codes.specs.Codes.{code_name, code_table, finding_codes, warning_codes}
+use Rattle.level_codes.specs.declared.code.ReportCode.{ReportCode}
+use Rattle.level_codes.specs.declared.code.ReportCode.TheVariants as report
+use Rattle.level_codes.specs.declared.code.WarningCode.TheVariants.{W1}
 use Rattle.level_starts.specs.declared.format.Format.{Format}
 use Rattle.level_starts.specs.declared.format.Format.TheVariants.{Udmf, Incomplete, Hexen, Outside, Extended, Doom}
-use Rattle.level_codes.specs.declared.code.WarningCode.{WarningCode}
-use Rattle.level_codes.specs.declared.code.WarningCode.TheVariants.{W1}
-use Rattle.map_level.specs.Findings.{rank}
-use Rattle.map_level.specs.declared.finding.Code.{Code}
 use Rattle.map_level.specs.declared.finding.Code.TheVariants.{F1}
 use Rattle.wad_dir.specs.declared.wad.WadFault.TheVariants as wad
 use Rattle.lens_texts.proofs.MemberLemmas.{ArePlain, IsPlain, Tells, Tells-bool, Tells-both, Tells-each, Tells-none, Tells-number, Tells-numbers, Tells-one, Tells-plain, Tells-string, Tells-two, read_line}
 use Rattle.lens_engines.specs.Counts.{fault_total, note_total}
 use Rattle.lens_engines.specs.Laws.{DoomIsRead, ObjectsAreRead, OtherIsRead, RefusedIsRead}
-use Rattle.lens_engines.specs.ObjectValues.{doom_value, findings_values, found_values, label_values, other_value, size_values, sizes_of, telling_values, unlooked_at, warnings_values}
+use Rattle.lens_engines.specs.ObjectValues.{count_values, doom_value, found_values, label_values, other_value, size_values, sizes_of, telling_values, unlooked_at, warnings_values}
 use Rattle.lens_texts.specs.Members.{IsLineOf, file_value, number_at, object_of, text_at}
-use Rattle.lens_engines.specs.Objects.{count_of, findings_text, found_members, lump_members, refusal_text, refused_object, warnings_member}
+use Rattle.lens_engines.specs.Objects.{counts_text, found_members, lump_members, refusal_text, refused_object, warnings_member}
+use Rattle.lens_engines.specs.ReportCounts.{count_of}
 use Rattle.lens_texts.specs.LevelObject.{file_member, format_member, format_name, label_members, number_member, telling_members, usual_name}
 use Rattle.lens_engines.specs.Unlooked.{member_at, unlooked_member}
-use Rattle.lens_engines.specs.WarningCounts.{warning_count}
-use Rattle.level_codes.specs.Codes.{code_name, code_table}
-use Rattle.level_codes.specs.declared.code.ReportCode.{ReportCode}
-use Rattle.level_codes.specs.declared.code.ReportCode.TheVariants as report
 use Rattle.lens_engines.specs.declared.judging.Warnings.{Warnings}
 use Rattle.lens_engines.specs.declared.judging.Warnings.TheVariants.{Unasked, Told, Strict}
 use Rattle.lens_engines.specs.declared.object.FileRefusal.{FileRefusal}
 use Rattle.lens_engines.specs.declared.tables.Tables.{Tables}
-use Rattle.lens_engines.specs.declared.warning_counts.WarningCounts.{WarningCounts}
 use Rattle.lens_engines.specs.declared.object.FileRefusal.TheVariants.{Unopened, Unread, TooLarge, NoWad}
 
 -- ---- a refused file
@@ -101,49 +94,23 @@ name_plain (report.Finding _) = refl
 name_plain (report.Warning W1) = refl
 name_plain (report.Warning _) = refl
 
--- a count is within its total
-in_front : (xs : List ℕ) (n k : ℕ) → k < n → get_or xs k 0 ≤ sum (take n xs)
-in_front xs n k below = elim (cases_lt k (length xs)) [
-  | inl inside ↦
-      let within : k < length (take n xs) = simp length-take (omega (arith, inside)) in
-      omega (arith, get_or-le-sum_by (λ x. x) (take n xs) k 0 within, get_or-take n xs k 0 below)
-  | inr past ↦ omega (arith, get_or_past xs k 0 past)
-]
+findings_tell : (counts : List ℕ) → ((code : ReportCode) → count_of counts code < 2 ^ 64)
+    → Tells (codes ",\"findings\":{" ++ (counts_text counts finding_codes ++ codes "}")) ((codes "findings", object_of (count_values counts finding_codes)) ∷ [])
+findings_tell counts small = Tells-numbers code_name (count_of counts) name_plain (codes "findings") _ refl (λ k d within. small _)
 
-behind : (xs : List ℕ) (n k : ℕ) → n ≤ k → get_or xs k 0 ≤ sum (drop n xs)
-behind xs n k above = elim (cases_lt k (length xs)) [
-  | inl inside ↦
-      let within : k - n < length (drop n xs) = omega (arith, inside, length-drop n xs) in
-      let back : n + (k - n) ≡ k = omega arith in
-      let at : get_or (drop n xs) (k - n) 0 ≡ get_or xs k 0 = get_or-drop n xs (k - n) 0 ∙ ap (λ i. get_or xs i 0) back in
-      omega (arith, get_or-le-sum_by (λ x. x) (drop n xs) (k - n) 0 within, at)
-  | inr past ↦ omega (arith, get_or_past xs k 0 past)
-]
-
-count_small : (counts : List ℕ) → fault_total counts < 2 ^ 64 → note_total counts < 2 ^ 64 → (code : Code) → count_of counts code < 2 ^ 64
-count_small counts faults notes code = elim (cases_lt (rank code) 18) [
-  | inl front ↦ omega (arith, in_front counts 18 (rank code) front, faults)
-  | inr back ↦ omega (arith, behind counts 18 (rank code) back, notes)
-]
-
-findings_tell : (counts : List ℕ) → fault_total counts < 2 ^ 64 → note_total counts < 2 ^ 64
-    → Tells (codes ",\"findings\":{" ++ (findings_text counts ++ codes "}")) ((codes "findings", object_of (findings_values counts)) ∷ [])
-findings_tell counts faults notes =
-    Tells-numbers (λ code. code_name (report.Finding code)) (count_of counts) (λ code. name_plain (report.Finding code)) (codes "findings") _ refl
-    (λ k d within. count_small counts faults notes _)
-
-found_tells : (counts : List ℕ) → fault_total counts < 2 ^ 64 → note_total counts < 2 ^ 64 → Tells (found_members counts) (found_values counts)
-found_tells counts faults notes =
+found_tells : (counts : List ℕ) → fault_total counts < 2 ^ 64 → note_total counts < 2 ^ 64 → ((code : ReportCode) → count_of counts code < 2 ^ 64)
+    → Tells (found_members counts) (found_values counts)
+found_tells counts faults notes small =
     Tells-both _ _ _ _
     (Tells-both _ _ _ _ (Tells-bool (codes "sound") (fault_total counts == 0) refl)
     (Tells-both _ _ _ _ (Tells-number (codes "faults") (fault_total counts) refl faults) (Tells-number (codes "notes") (note_total counts) refl notes)))
-    (findings_tell counts faults notes)
+    (findings_tell counts small)
 
-warnings_tell : (warnings : Warnings) (warned : WarningCounts) → ((code : WarningCode) → warning_count warned code < 2 ^ 64)
-    → Tells (warnings_member warnings warned) (warnings_values warnings warned)
-warnings_tell Unasked warned small = Tells-none
-warnings_tell Told warned small = Tells-numbers (λ code. code_name (report.Warning code)) (warning_count warned) (λ code. name_plain (report.Warning code)) (codes "warnings") _ refl (λ k d within. small _)
-warnings_tell Strict warned small = Tells-numbers (λ code. code_name (report.Warning code)) (warning_count warned) (λ code. name_plain (report.Warning code)) (codes "warnings") _ refl (λ k d within. small _)
+warnings_tell : (warnings : Warnings) (counts : List ℕ) → ((code : ReportCode) → count_of counts code < 2 ^ 64)
+    → Tells (warnings_member warnings counts) (warnings_values warnings counts)
+warnings_tell Unasked counts small = Tells-none
+warnings_tell Told counts small = Tells-numbers code_name (count_of counts) name_plain (codes "warnings") _ refl (λ k d within. small _)
+warnings_tell Strict counts small = Tells-numbers code_name (count_of counts) name_plain (codes "warnings") _ refl (λ k d within. small _)
 
 unlooked_tell : (textures flats : Bool) → Tells (member_at textures flats) (unlooked_at textures flats)
 unlooked_tell true true = Tells-two (codes "unlooked") (codes "W9") (codes "W10") refl refl refl
@@ -161,7 +128,7 @@ law_doom_is_read : DoomIsRead
 law_doom_is_read path name g counted small numbers =
     let sizes = flat_map (λ text. text) (lump_members counted.tables) in
     let found = found_members counted.counts in
-    let told = warnings_member counted.warnings counted.warned in
+    let told = warnings_member counted.warnings counted.counts in
     let left = unlooked_member counted.unlooked in
     let label = label_members name g ++ format_member Doom in
     subst (IsLineOf (doom_value path name g counted))
@@ -169,8 +136,8 @@ law_doom_is_read path name g counted small numbers =
     (read_line path _ _
     (Tells-both _ _ _ _ (label_tells name g Doom small)
     (Tells-both sizes _ (size_values counted.tables) _ (Tells-each (sizes_of counted.tables) (sizes_plain counted.tables) numbers.sizes)
-    (Tells-both _ _ _ _ (found_tells counted.counts numbers.faults numbers.notes)
-    (Tells-both _ _ _ _ (warnings_tell counted.warnings counted.warned numbers.warnings) (unlooked_tell counted.unlooked.textures counted.unlooked.flats))))))
+    (Tells-both _ _ _ _ (found_tells counted.counts numbers.faults numbers.notes numbers.each)
+    (Tells-both _ _ _ _ (warnings_tell counted.warnings counted.counts numbers.each) (unlooked_tell counted.unlooked.textures counted.unlooked.flats))))))
 
 pub law_objects_are_read : ObjectsAreRead
 law_objects_are_read = record { refused = law_refused_is_read; other = law_other_is_read; doom = law_doom_is_read }

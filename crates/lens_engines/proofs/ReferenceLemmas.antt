@@ -8,7 +8,7 @@ use Rattle.map_level.specs.Level.{Level}
 use Rattle.map_level.specs.declared.finding.Code.{Code}
 use Rattle.map_level.specs.declared.finding.Code.TheVariants.{F1, F3, F4, F5, F6, F7, F8, F9}
 use Rattle.map_warnings.specs.References.{HasReferences, HoldsNowhere}
-use Rattle.lens_engines.specs.Counts.{AreCounts, report_order}
+use Rattle.lens_engines.specs.Counts.{AreCounts, finding_order}
 use Rattle.lens_engines.proofs.LawLemmas.{nothing_holds}
 
 module _ (level : Level) (counts : List ℕ) (are : AreCounts (AuditHolds level) counts) where
@@ -44,7 +44,7 @@ module _ (level : Level) (counts : List ℕ) (are : AreCounts (AuditHolds level)
 
   pub counted : (k : ℕ) → 2 ≤ k → k < 9 → 0 < get_or counts k 0 → ¬ HasReferences level
   counted k from to some all =
-      let code = get_or report_order k F1 in
+      let code = get_or finding_order k F1 in
       let is : rank code ≡ k = rank_at k F1 (omega (arith, to)) in
       let none : get_or counts (rank code) 0 ≡ 0 =
       nothing_holds (AuditHolds level code) (get_or counts (rank code) 0) (are.each code) (unbroken code (omega (arith, is, from)) (omega (arith, is, to)) all) in

@@ -1,5 +1,5 @@
 -- The counts of a level's codes are those of its report.
-use Rattle.std.proofs.Common.{◌≡◌, ◌↔◌, ℕ, zero, suc, ◌+◌, ◌<◌, ◌≤◌, inl, inr, Bool, true, false, List, [], ◌∷◌, length, take, get_or, refl, sym, ap, ◌∙◌, subst, arith, add-one}
+use Rattle.std.proofs.Common.{◌≡◌, ◌↔◌, ℕ, zero, suc, ◌+◌, ◌<◌, ◌≤◌, inl, inr, Bool, true, false, List, [], ◌∷◌, length, take, drop, get_or, length-drop, refl, sym, ap, ◌∙◌, subst, arith, add-one}
 use Rattle.std.specs.Prelude.{AllPairs, Contains, cond, count_by, if◌then◌else◌, nat_lt, not, slice_index, sum, ◌==◌}
 use Rattle.std.proofs.lemmas.Bool.{cases_eq, cases_order, eq-eqb, le-ltb, lt-ltb, ne_eqb}
 use Rattle.std.proofs.lemmas.List.{take_all}
@@ -12,7 +12,7 @@ use Rattle.map_level.specs.declared.finding.Code.{Code}
 use Rattle.map_level.specs.declared.finding.Code.TheVariants.{F1}
 use Rattle.map_level.specs.declared.finding.Finding.{Finding}
 use Rattle.map_level.specs.declared.search.TheConstants.{CODE_COUNT}
-use Rattle.lens_engines.specs.Counts.{IsCount, report_order}
+use Rattle.lens_engines.specs.Counts.{IsCount, finding_order}
 use Rattle.lens_engines.specs.Laws.{CountsAreOfTheReport}
 
 -- the indexes of a code's findings
@@ -165,7 +165,7 @@ first_counts : (found : List Finding) (counts : List ℕ) → length counts ≡ 
     → (n : ℕ) → n ≤ CODE_COUNT → sum (take n counts) ≡ count_by (λ f. nat_lt (rank f.code) n) found
 first_counts found counts long each zero within = sym (count_none found)
 first_counts found counts long each (suc n) within =
-    let code = get_or report_order n F1 in
+    let code = get_or finding_order n F1 in
     let at : rank code ≡ n = rank_at n F1 (omega arith) in
     let here : slice_index counts n ≡ count_by (λ f. rank f.code == n) found =
     subst (λ (p : ℕ). slice_index counts p ≡ count_by (λ f. rank f.code == p) found) at (each code) in
@@ -179,8 +179,9 @@ law_counts_are_of_the_report level found counts are is =
     let faults = first_counts found counts is.all each 18 (omega arith) in
     let all = first_counts found counts is.all each CODE_COUNT (omega arith) in
     let whole : take CODE_COUNT counts ≡ counts = take_all CODE_COUNT counts (omega (arith, is.all)) in
+    let behind : take 12 (drop 18 counts) ≡ drop 18 counts = take_all 12 (drop 18 counts) (omega (arith, is.all, length-drop 18 counts)) in
     record {
       each = each;
       faults = faults;
-      notes = omega (arith, faults, rw whole at all, count_both found, sum_by-take-drop (λ (x : ℕ). x) counts 18);
+      notes = rw behind (omega (arith, faults, rw whole at all, count_both found, sum_by-take-drop (λ (x : ℕ). x) counts 18));
     }

@@ -7,6 +7,7 @@ use Rattle.std.specs.Str.{chars, is_utf8}
 use Rattle.std.specs.Str.Lossy.{utf8_error_len, utf8_lossy, utf8_valid_len}
 use Rattle.level_starts.specs.declared.format.Format.TheVariants.{Doom}
 use Rattle.level_codes.specs.Codes.{code_table}
+use Rattle.level_codes.specs.declared.code.ReportCode.TheVariants.{Warning}
 use Rattle.level_codes.specs.declared.code.WarningCode.TheVariants.{W2}
 use Rattle.map_level.specs.Level.{Level}
 use Rattle.map_level.specs.declared.finding.Code.TheVariants.{N4, N6}
@@ -20,11 +21,10 @@ use Rattle.lens_engines.specs.Tables.{tables_of}
 use Rattle.lens_engines.specs.Totals.{totals_line}
 use Rattle.lens_engines.specs.TotalsObject.{totals_object}
 use Rattle.lens_engines.specs.Unlooked.{none_unlooked}
-use Rattle.lens_engines.specs.WarnedText.{more_warnings}
+use Rattle.lens_engines.specs.WarnedText.{more_text}
 use Rattle.lens_engines.specs.declared.judging.Warnings.TheVariants.{Unasked, Told, Strict}
 use Rattle.lens_engines.specs.declared.object.FileRefusal.TheVariants.{TooLarge, NoWad}
 use Rattle.lens_engines.specs.declared.totals.Totals.{Totals}
-use Rattle.lens_engines.specs.declared.warning_counts.WarningCounts.{WarningCounts}
 use Rattle.lens_texts.proofs.CaseLevels.{rows, line, name, sector, level, lines_of}
 
 -- of three findings one is shown, and all are where the number is 0 or as great
@@ -38,7 +38,7 @@ two_of_two : code_part (lines_of (codes "a") (codes "M")) 2 (level Signed) N6 (0
 unfolding digits code_table shown_after
 two_of_two = refl
 
-warnings_left_told : more_warnings (lines_of (codes "a.wad") name) W2 5 ≡ codes "a.wad: FLAT: W2: 5 more" ++ 10 ∷ []
+warnings_left_told : more_text (lines_of (codes "a.wad") name) (Warning W2) 5 ≡ codes "a.wad: FLAT: W2: 5 more" ++ 10 ∷ []
 unfolding digits code_table shown_after
 warnings_left_told = refl
 
@@ -106,12 +106,8 @@ sample = record {
   blockmap = replicate 16 0;
 }
 
--- so many W4, and no other warnings
-abbrev warned : ℕ → WarningCounts
-warned count = record { w1 = 0; w2 = 0; w3 = 0; w4 = count; w5 = 0; w6 = 0; w7 = 0; w8 = 0; w9 = 0; w10 = 0; w11 = 0; total = count }
-
 sample_object : level_members (codes "a.wad") (codes "E1M1") 0 Doom
-    ++ doom_members (record { tables = tables_of sample; counts = replicate 30 0; warnings = Unasked; warned = warned 0; unlooked = none_unlooked; drawn = true })
+    ++ doom_members (record { tables = tables_of sample; counts = replicate 41 0; warnings = Unasked; unlooked = none_unlooked; drawn = true })
     ≡ codes "{\"file\":\"a.wad\",\"level\":\"E1M1\",\"entry\":0,\"format\":\"doom\",\"things\":1,\"linedefs\":1,\"sidedefs\":2,\"vertexes\":2,\"segs\":2,\"ssectors\":2,\"nodes\":1,\"sectors\":2,"
     ++ codes "\"reject\":1,\"blockmap\":16,\"sound\":true,\"faults\":0,\"notes\":0,\"findings\":{}}\n"
 unfolding strings
@@ -120,9 +116,8 @@ sample_object = refl
 -- F9 twice, N3 once and N12 eleven times, of a code of warnings 7, and W10 wasn't looked for
 found_object : doom_members (record {
   tables = tables_of sample;
-  counts = replicate 8 0 ++ (2 ∷ replicate 11 0 ++ (1 ∷ replicate 8 0 ++ (11 ∷ [])));
+  counts = replicate 8 0 ++ (2 ∷ replicate 11 0 ++ (1 ∷ replicate 8 0 ++ (11 ∷ replicate 3 0 ++ (7 ∷ replicate 7 0))));
   warnings = Told;
-  warned = warned 7;
   unlooked = record { textures = false; flats = true };
   drawn = true;
 })

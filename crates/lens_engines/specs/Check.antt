@@ -16,18 +16,18 @@ use Rattle.map_level.specs.declared.reading.Reading.TheVariants.{Signed, Wide}
 use Rattle.map_tree.specs.Sound.{IsSound}
 use Rattle.wad_dir.specs.Entries.{names}
 use Rattle.wad_dir.specs.Wad.{IsRead, Wad}
-use Rattle.lens_engines.specs.Counts.{AreCounts}
 use Rattle.lens_texts.specs.Head.{Head}
 use Rattle.lens_engines.specs.Ignored.{HoldsUnlessIgnored}
 use Rattle.lens_texts.specs.Label.{IsLabelOf}
 use Rattle.lens_engines.specs.Left.{LeavesFile, LeavesLevel, WantsMemory}
 use Rattle.lens_engines.specs.LevelLines.{AreCounted, AreTold, judged_text}
 use Rattle.lens_texts.specs.LevelText.{unjudged_text}
+use Rattle.lens_engines.specs.ReportCounts.{AreReportCounts}
 use Rattle.lens_engines.specs.Survey.{graver}
 use Rattle.lens_engines.specs.Totals.{format_totals, judged_totals, no_totals, totals_with, verdict_with}
 use Rattle.lens_engines.specs.Unlooked.{AreUnlooked}
 use Rattle.lens_engines.specs.declared.unlooked.Unlooked.{Unlooked}
-use Rattle.lens_engines.specs.Warned.{AreAskedFor, Warned, kept_count, known_files, warned_total}
+use Rattle.lens_engines.specs.Warned.{AreAskedFor, Warned, known_files}
 use Rattle.lens_engines.specs.declared.check.Question.{Question}
 use Rattle.lens_texts.specs.declared.form.Form.{Form}
 use Rattle.lens_engines.specs.declared.judging.Judging.{Judging}
@@ -66,19 +66,19 @@ pub record IsSoundWideAlone (files : List Wad) (g : ℕ) (reading : Reading) (le
 pub record IsJudged (asked : CheckAsked) (files : List Wad) (g : ℕ) (label : LevelLabel) (text : List ℕ) (totals : Totals) : Type 0 where
   pub level : Level
   pub there : IsLevelAt files g asked.judging.reading level
-  pub counts : List ℕ
-  pub are_counts : AreCounts (HoldsUnlessIgnored asked.judging.ignored level) counts
   pub told : Code → List ℕ
   pub are_told : AreTold (HoldsUnlessIgnored asked.judging.ignored level) told
-  pub counted : AreCounted counts told
   pub warned : List Warned
-  pub are_warned : AreAskedFor asked.judging (known_files asked.judging files) level (kept_count asked.most) warned
+  pub are_warned : AreAskedFor asked.judging (known_files asked.judging files) level asked.most warned
+  pub counts : List ℕ
+  pub are_counts : AreReportCounts asked.judging.ignored level warned counts
+  pub counted : AreCounted counts told
   pub unlooked : Unlooked
   pub are_unlooked : AreUnlooked asked.judging.ignored (known_files asked.judging files) unlooked
   pub sound_wide : Bool
   pub wide : IsTrue sound_wide ↔ IsSoundWideAlone files g asked.judging.reading level
   pub is : text ≡ judged_text (head_in asked label) asked.most level told warned sound_wide
-  pub adds : totals ≡ judged_totals counts (warned_total warned) unlooked
+  pub adds : totals ≡ judged_totals counts unlooked
 
 -- the text of a level, by its format
 abbrev pub IsToldBy : Format → CheckAsked → List Wad → ℕ → LevelLabel → List ℕ → Totals → Type 0

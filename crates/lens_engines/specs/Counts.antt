@@ -1,16 +1,13 @@
 -- How often each code holds of what findings are looked for at (ours).
-use Rattle.std.specs.Prelude.{◌≡◌, ◌↔◌, ℕ, ◌<◌, List, [], ◌∷◌, length, take, drop, sum, AllPairs, Contains, slice_index, if◌then◌else◌}
-use Rattle.level_codes.specs.declared.code.ReportCode.TheVariants as report
+use Rattle.std.specs.Prelude.{◌≡◌, ◌↔◌, ℕ, ◌-◌, ◌<◌, List, [], ◌∷◌, length, take, drop, sum, AllPairs, Contains, slice_index}
 use Rattle.map_level.specs.Findings.{rank}
 use Rattle.map_level.specs.declared.finding.Code.{Code}
 use Rattle.map_level.specs.declared.finding.Code.TheVariants.{F1, F2, F3, F4, F5, F6, F7, F8, F9, F10, F11, F12, F13, F14, F15, F16, F17, F18, N1, N2, N3, N4, N5, N6, N7, N8, N9, N10, N11, N12}
 use Rattle.map_level.specs.declared.search.TheConstants.{CODE_COUNT}
-use Rattle.lens_engines.specs.Ignored.{ignores}
-use Rattle.lens_engines.specs.declared.ignored.Ignored.{Ignored}
 
--- all codes in the order of a report
-abbrev pub report_order : List Code
-report_order =
+-- all codes of findings in the order of a report
+abbrev pub finding_order : List Code
+finding_order =
     F1 ∷ F2 ∷ F3 ∷ F4 ∷ F5 ∷ F6 ∷ F7 ∷ F8 ∷ F9 ∷ F10 ∷ F11 ∷ F12 ∷ F13 ∷ F14 ∷ F15 ∷ F16 ∷ F17 ∷ F18
     ∷ N1 ∷ N2 ∷ N3 ∷ N4 ∷ N5 ∷ N6 ∷ N7 ∷ N8 ∷ N9 ∷ N10 ∷ N11 ∷ N12 ∷ []
 
@@ -26,13 +23,9 @@ pub record AreCounts (holds : Code → ℕ → Type 0) (counts : List ℕ) : Typ
   pub all : length counts ≡ CODE_COUNT
   pub each : (code : Code) → IsCount (holds code) (slice_index counts (rank code))
 
--- how often a code counts that holds so often: never if it is ignored
-abbrev pub kept_count : Ignored → Code → ℕ → ℕ
-kept_count ignored code count = if ignores ignored (report.Finding code) then 0 else count
-
 -- how many findings are faults, and how many notes
 abbrev pub fault_total : List ℕ → ℕ
 fault_total counts = sum (take (rank N1) counts)
 
 abbrev pub note_total : List ℕ → ℕ
-note_total counts = sum (drop (rank N1) counts)
+note_total counts = sum (take (CODE_COUNT - rank N1) (drop (rank N1) counts))

@@ -1,5 +1,5 @@
 -- The laws of this crate's definitions (ours).
-use Rattle.std.specs.Prelude.{◌≡◌, ◌↔◌, ℕ, ◌<◌, ◌^◌, List, ◌++◌, ◌==◌, count_by, not, slice_index}
+use Rattle.std.specs.Prelude.{◌≡◌, ◌↔◌, ℕ, ◌<◌, ◌≤◌, ◌^◌, List, ◌++◌, ◌==◌, count_by, length, not, slice_index}
 use Rattle.std.specs.List.{flat_map}
 use Rattle.le_rec.specs.Sink.{SinkState}
 use Rattle.level_starts.specs.Format.{IsFormat}
@@ -44,11 +44,12 @@ CountsAreOfTheReport =
     (level : Level) (found : List Finding) (counts : List ℕ) → AreFindings (AuditHolds level) found → AreCounts (AuditHolds level) counts
     → CountFindings counts found
 
--- if all findings are shown, a check writes the line, or the object, of each finding of the level's report, in its order
+-- if as many findings of a code are shown as there are, a check writes the line, or the object, of each finding of the level's report, in its order
 abbrev pub LinesAreOfTheReport : Type 0
 LinesAreOfTheReport =
     (head : Head) (level : Level) (found : List Finding) (told : Code → List ℕ) → AreFindings (AuditHolds level) found
-    → AreTold (AuditHolds level) told → findings_part head 0 level told ≡ flat_map (finding_text head level) found
+    → AreTold (AuditHolds level) told → (most : ℕ) → ((code : Code) → length (told code) ≤ most)
+    → findings_part head most level told ≡ flat_map (finding_text head level) found
 
 -- the object of a refused file is read as its members
 abbrev pub RefusedIsRead : Type 0

@@ -5,12 +5,10 @@ use Rattle.map_cells.specs.Ends.{IsEnd}
 use Rattle.map_level.specs.Level.{Level}
 use Rattle.map_level.specs.Opening.{IsLevelAt}
 use Rattle.wad_dir.specs.Wad.{Wad}
-use Rattle.lens_engines.specs.Counts.{AreCounts}
-use Rattle.lens_engines.specs.Ignored.{HoldsUnlessIgnored}
+use Rattle.lens_engines.specs.ReportCounts.{AreReportCounts}
 use Rattle.lens_engines.specs.Tables.{tables_of}
 use Rattle.lens_engines.specs.Unlooked.{AreUnlooked}
-use Rattle.lens_engines.specs.Warned.{known_files}
-use Rattle.lens_engines.specs.WarningCounts.{CountsWarnings}
+use Rattle.lens_engines.specs.Warned.{AreAskedFor, Warned, known_files}
 use Rattle.lens_engines.specs.declared.judging.Judging.{Judging}
 use Rattle.lens_engines.specs.declared.level_counts.LevelCounts.{LevelCounts}
 
@@ -23,8 +21,9 @@ pub record IsCounted (files : List Wad) (judging : Judging) (g : ℕ) (counted :
   pub level : Level
   pub there : IsLevelAt files g judging.reading level
   pub tables : counted.tables ≡ tables_of level
-  pub counts : AreCounts (HoldsUnlessIgnored judging.ignored level) counted.counts
+  pub warned : List Warned
+  pub are_warned : AreAskedFor judging (known_files judging files) level 0 warned
+  pub counts : AreReportCounts judging.ignored level warned counted.counts
   pub asked : counted.warnings ≡ judging.warnings
-  pub warned : CountsWarnings judging (known_files judging files) level counted.warned
   pub unlooked : AreUnlooked judging.ignored (known_files judging files) counted.unlooked
   pub drawn : IsTrue counted.drawn ↔ HasLines level

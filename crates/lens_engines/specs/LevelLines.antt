@@ -1,15 +1,15 @@
 -- The lines of a level (ours).
-use Rattle.std.specs.Prelude.{◌≡◌, ◌↔◌, ℕ, ◌-◌, ◌<◌, Bool, List, [], ◌++◌, length, min, take, AllPairs, Contains, nat_eq, slice_index, if◌then◌else◌}
+use Rattle.std.specs.Prelude.{◌≡◌, ◌↔◌, ℕ, ◌-◌, ◌<◌, Bool, List, [], ◌++◌, length, take, AllPairs, Contains, if◌then◌else◌}
 use Rattle.std.specs.List.{flat_map}
 use Rattle.level_codes.specs.declared.code.ReportCode.TheVariants as report
-use Rattle.map_level.specs.Findings.{rank}
 use Rattle.map_level.specs.Level.{Level}
 use Rattle.map_level.specs.declared.finding.Code.{Code}
-use Rattle.lens_engines.specs.Counts.{report_order}
+use Rattle.lens_engines.specs.Counts.{finding_order}
+use Rattle.lens_engines.specs.ReportCounts.{count_of}
 use Rattle.lens_texts.specs.Head.{Head}
-use Rattle.lens_texts.specs.LevelText.{finding_text, left_text, wide_text}
+use Rattle.lens_texts.specs.LevelText.{finding_text, wide_text}
 use Rattle.lens_engines.specs.Warned.{Warned}
-use Rattle.lens_engines.specs.WarnedText.{warned_text}
+use Rattle.lens_engines.specs.WarnedText.{more_text, warned_text}
 
 -- the indexes at which something holds, ascending, and no others
 pub record AreIndexes (holds : ℕ → Type 0) (indexes : List ℕ) : Type 0 where
@@ -24,38 +24,27 @@ AreTold holds told = (code : Code) → AreIndexes (holds code) (told code)
 abbrev pub AreShown : (Code → ℕ → Type 0) → (Code → List ℕ) → Type 0
 AreShown holds told = (code : Code) → 0 < length (told code) → AreIndexes (holds code) (told code)
 
--- how many of so many findings of a code are shown: at most a number of them, and all where that is 0
-abbrev pub shown_count : ℕ → ℕ → ℕ
-shown_count most count = if nat_eq most 0 then count else min most count
-
 -- the lines of a code's findings
 abbrev pub code_lines : Head → Level → Code → List ℕ → List ℕ
 code_lines head level code indexes = flat_map (λ i. finding_text head level (record { code = code; index = i })) indexes
 
--- how many findings of a code are left out, where some are
-abbrev pub more_line : Head → Code → ℕ → List ℕ
-more_line head code left =
-    if nat_eq left 0
-    then []
-    else left_text head (report.Finding code) left
-
--- the report on a code
+-- the report on a code: so many of its findings at most, and how many more there are
 abbrev pub code_part : Head → ℕ → Level → Code → List ℕ → List ℕ
 code_part head most level code indexes =
-    code_lines head level code (take (shown_count most (length indexes)) indexes)
-    ++ more_line head code (length indexes - shown_count most (length indexes))
+    code_lines head level code (take most indexes)
+    ++ more_text head (report.Finding code) (length indexes - most)
 
 -- the report on all codes, in the order of a report
 unfoldable pub findings_part : Head → ℕ → Level → (Code → List ℕ) → List ℕ
-findings_part head most level told = flat_map (λ code. code_part head most level code (told code)) report_order
+findings_part head most level told = flat_map (λ code. code_part head most level code (told code)) finding_order
 
 -- that only the wide reading finds the level sound, if that is so
 abbrev pub wide_part : Head → Bool → List ℕ
 wide_part head is_sound = if is_sound then wide_text head else []
 
--- how many indexes each code has, by the codes' ranks
+-- how many indexes each code of findings has
 abbrev pub AreCounted : List ℕ → (Code → List ℕ) → Type 0
-AreCounted counts told = (code : Code) → length (told code) ≡ slice_index counts (rank code)
+AreCounted counts told = (code : Code) → length (told code) ≡ count_of counts (report.Finding code)
 
 -- the lines of a judged level: its findings, its warnings, and whether the wide reading alone finds it sound
 abbrev pub judged_text : Head → ℕ → Level → (Code → List ℕ) → List Warned → Bool → List ℕ

@@ -14,8 +14,9 @@ pub mod Totals
 pub mod TotalsObject
 pub mod Unlooked
 pub mod Cut
+pub mod Judged
 pub mod LevelCounts
 pub mod Surveyed
 pub mod Tables
 pub mod Unjudged
-pub mod WarningCounts
+pub mod ReportCounts

@@ -2,24 +2,21 @@
 use Rattle.std.specs.Prelude.{ℕ, Bool, true, false, ◌<◌, ◌^◌, ◌==◌, nat_lt, All, List, [], ◌∷◌, ◌++◌, codes, filter, map}
 use Rattle.json.specs.Json.{Json, array, boolean, item, no_items, string}
 use Rattle.le_rec.specs.Name.{shown_name}
-use Rattle.level_codes.specs.Codes.{code_name}
-use Rattle.level_codes.specs.declared.code.ReportCode.TheVariants as report
+use Rattle.level_codes.specs.Codes.{code_name, finding_codes, warning_codes}
+use Rattle.level_codes.specs.declared.code.ReportCode.{ReportCode}
 use Rattle.level_starts.specs.declared.format.Format.{Format}
 use Rattle.level_starts.specs.declared.format.Format.TheVariants.{Udmf, Incomplete, Hexen, Outside, Extended, Doom}
-use Rattle.level_codes.specs.declared.code.WarningCode.{WarningCode}
-use Rattle.lens_engines.specs.Counts.{fault_total, note_total, report_order}
-use Rattle.lens_engines.specs.Objects.{count_of, refusal_text}
+use Rattle.lens_engines.specs.Counts.{fault_total, note_total}
+use Rattle.lens_engines.specs.Objects.{refusal_text}
+use Rattle.lens_engines.specs.ReportCounts.{count_of}
 use Rattle.lens_texts.specs.LevelObject.{format_name, usual_name}
 use Rattle.lens_texts.specs.Members.{file_value, number_at, object_of, text_at}
-use Rattle.lens_engines.specs.Warned.{warning_order}
-use Rattle.lens_engines.specs.WarningCounts.{warning_count}
 use Rattle.lens_engines.specs.declared.judging.Warnings.{Warnings}
 use Rattle.lens_engines.specs.declared.judging.Warnings.TheVariants.{Unasked, Told, Strict}
 use Rattle.lens_engines.specs.declared.level_counts.LevelCounts.{LevelCounts}
 use Rattle.lens_engines.specs.declared.object.FileRefusal.{FileRefusal}
 use Rattle.lens_engines.specs.declared.tables.Tables.{Tables}
 use Rattle.lens_engines.specs.declared.unlooked.Unlooked.{Unlooked}
-use Rattle.lens_engines.specs.declared.warning_counts.WarningCounts.{WarningCounts}
 
 -- the members of a level: its label, the label's entry, its format
 abbrev pub label_values : List ℕ → ℕ → Format → List (List ℕ × Json)
@@ -53,9 +50,9 @@ sizes_of tables =
 abbrev pub size_values : Tables → List (List ℕ × Json)
 size_values tables = map (λ size. number_at size.0 size.1) (sizes_of tables)
 
--- the codes that hold, each with how often
-abbrev pub findings_values : List ℕ → List (List ℕ × Json)
-findings_values counts = map (λ code. number_at (code_name (report.Finding code)) (count_of counts code)) (filter (λ code. nat_lt 0 (count_of counts code)) report_order)
+-- those of some codes of which there are any, each with how many
+abbrev pub count_values : List ℕ → List ReportCode → List (List ℕ × Json)
+count_values counts codes = map (λ code. number_at (code_name code) (count_of counts code)) (filter (λ code. nat_lt 0 (count_of counts code)) codes)
 
 -- what was found at a level
 abbrev pub found_values : List ℕ → List (List ℕ × Json)
@@ -63,18 +60,14 @@ found_values counts =
     (codes "sound", boolean (fault_total counts == 0))
     ∷ number_at (codes "faults") (fault_total counts)
     ∷ number_at (codes "notes") (note_total counts)
-    ∷ (codes "findings", object_of (findings_values counts))
+    ∷ (codes "findings", object_of (count_values counts finding_codes))
     ∷ []
 
--- the codes of warnings of which there are some, each with how many
-abbrev pub warned_values : WarningCounts → List (List ℕ × Json)
-warned_values warned = map (λ code. number_at (code_name (report.Warning code)) (warning_count warned code)) (filter (λ code. nat_lt 0 (warning_count warned code)) warning_order)
-
 -- a level's warnings, where they are asked for
-abbrev pub warnings_values : Warnings → WarningCounts → List (List ℕ × Json)
-warnings_values Unasked warned = []
-warnings_values Told warned = (codes "warnings", object_of (warned_values warned)) ∷ []
-warnings_values Strict warned = (codes "warnings", object_of (warned_values warned)) ∷ []
+abbrev pub warnings_values : Warnings → List ℕ → List (List ℕ × Json)
+warnings_values Unasked counts = []
+warnings_values Told counts = (codes "warnings", object_of (count_values counts warning_codes)) ∷ []
+warnings_values Strict counts = (codes "warnings", object_of (count_values counts warning_codes)) ∷ []
 
 -- what wasn't looked for, where there is some
 abbrev pub unlooked_at : Bool → Bool → List (List ℕ × Json)
@@ -98,11 +91,11 @@ other_value path name g format = object_of (file_value path ∷ (label_values na
 abbrev pub doom_value : List ℕ → List ℕ → ℕ → LevelCounts → Json
 doom_value path name g counted =
     object_of (file_value path ∷ (label_values name g Doom ++ (size_values counted.tables
-    ++ (found_values counted.counts ++ (warnings_values counted.warnings counted.warned ++ unlooked_values counted.unlooked)))))
+    ++ (found_values counted.counts ++ (warnings_values counted.warnings counted.counts ++ unlooked_values counted.unlooked)))))
 
 -- the numbers of such an object have 64 bits at most, as all have that are written
 pub record HasSmallNumbers (counted : LevelCounts) : Type 0 where
   pub sizes : All (λ size. size.1 < 2 ^ 64) (sizes_of counted.tables)
   pub faults : fault_total counted.counts < 2 ^ 64
   pub notes : note_total counted.counts < 2 ^ 64
-  pub warnings : (code : WarningCode) → warning_count counted.warned code < 2 ^ 64
+  pub each : (code : ReportCode) → count_of counted.counts code < 2 ^ 64

@@ -1,25 +1,19 @@
 -- The objects of a survey, a line each (ours): what was found at a level of Doom's format, and a refused file.
-use Rattle.std.specs.Prelude.{ℕ, ◌==◌, nat_lt, filter, map, List, [], ◌∷◌, ◌++◌, codes, decimal, slice_index}
+use Rattle.std.specs.Prelude.{ℕ, ◌==◌, nat_lt, filter, map, List, [], ◌∷◌, ◌++◌, codes, decimal}
 use Rattle.std.specs.List.{flat_map, join_with_byte}
-use Rattle.level_codes.specs.Codes.{code_name}
+use Rattle.level_codes.specs.Codes.{code_name, finding_codes, warning_codes}
 use Rattle.level_codes.specs.declared.code.ReportCode.{ReportCode}
-use Rattle.level_codes.specs.declared.code.ReportCode.TheVariants as report
-use Rattle.map_level.specs.Findings.{rank}
-use Rattle.map_level.specs.declared.finding.Code.{Code}
-use Rattle.level_codes.specs.declared.code.WarningCode.{WarningCode}
 use Rattle.wad_dir.specs.declared.wad.WadFault.TheVariants as wad
-use Rattle.lens_engines.specs.Counts.{fault_total, note_total, report_order}
+use Rattle.lens_engines.specs.Counts.{fault_total, note_total}
 use Rattle.lens_texts.specs.JsonString.{bool_text, json_string}
 use Rattle.lens_texts.specs.LevelObject.{file_member, number_member}
 use Rattle.lens_engines.specs.Unlooked.{unlooked_member}
-use Rattle.lens_engines.specs.Warned.{warning_order}
-use Rattle.lens_engines.specs.WarningCounts.{warning_count}
+use Rattle.lens_engines.specs.ReportCounts.{count_of}
 use Rattle.lens_engines.specs.declared.judging.Warnings.{Warnings}
 use Rattle.lens_engines.specs.declared.judging.Warnings.TheVariants.{Unasked, Told, Strict}
 use Rattle.lens_engines.specs.declared.level_counts.LevelCounts.{LevelCounts}
 use Rattle.lens_engines.specs.declared.object.FileRefusal.{FileRefusal}
 use Rattle.lens_engines.specs.declared.tables.Tables.{Tables}
-use Rattle.lens_engines.specs.declared.warning_counts.WarningCounts.{WarningCounts}
 use Rattle.lens_engines.specs.declared.object.FileRefusal.TheVariants.{Unopened, Unread, TooLarge, NoWad}
 
 -- how many records the eight tables have, and how many bytes the last two lumps
@@ -42,54 +36,34 @@ abbrev pub sound_members : ℕ → ℕ → List ℕ
 sound_members faults notes =
     codes ",\"sound\":" ++ (bool_text (faults == 0) ++ (number_member (codes "faults") faults ++ number_member (codes "notes") notes))
 
--- a code with a number: `"F3":12`
-abbrev pub number_member_of : ReportCode → ℕ → List ℕ
-number_member_of code count = codes "\"" ++ (code_name code ++ (codes "\":" ++ decimal count))
+-- a code with how many there are of it: `"F3":12`
+abbrev pub count_member : ReportCode → ℕ → List ℕ
+count_member code count = codes "\"" ++ (code_name code ++ (codes "\":" ++ decimal count))
 
--- a code of findings with how often it holds
-abbrev pub count_member : Code → ℕ → List ℕ
-count_member code count = number_member_of (report.Finding code) count
-
--- how often a code holds, by the counts of all codes
-abbrev pub count_of : List ℕ → Code → ℕ
-count_of counts code = slice_index counts (rank code)
-
--- those of some codes that hold
-abbrev pub count_members : List ℕ → List Code → List (List ℕ)
+-- those of some codes of which there are any, by the counts of all codes
+abbrev pub count_members : List ℕ → List ReportCode → List (List ℕ)
 count_members counts codes = map (λ code. count_member code (count_of counts code)) (filter (λ code. nat_lt 0 (count_of counts code)) codes)
 
--- the codes that hold, in the order of a report, with commas between them
-abbrev pub findings_text : List ℕ → List ℕ
-findings_text counts = join_with_byte 44 (count_members counts report_order)
+-- the same with commas between them
+abbrev pub counts_text : List ℕ → List ReportCode → List ℕ
+counts_text counts codes = join_with_byte 44 (count_members counts codes)
 
 -- what was found at a level, by the counts of all codes
 abbrev pub found_members : List ℕ → List ℕ
 found_members counts =
-    sound_members (fault_total counts) (note_total counts) ++ (codes ",\"findings\":{" ++ (findings_text counts ++ codes "}"))
-
--- a code of warnings with how many there are
-abbrev pub warned_member : WarningCode → ℕ → List ℕ
-warned_member code count = number_member_of (report.Warning code) count
-
--- those of some codes of which there are warnings
-abbrev pub warned_members : WarningCounts → List WarningCode → List (List ℕ)
-warned_members warned codes = map (λ code. warned_member code (warning_count warned code)) (filter (λ code. nat_lt 0 (warning_count warned code)) codes)
-
--- the codes of which there are warnings, in their order, with commas between them
-abbrev pub warned_text : WarningCounts → List ℕ
-warned_text warned = join_with_byte 44 (warned_members warned warning_order)
+    sound_members (fault_total counts) (note_total counts) ++ (codes ",\"findings\":{" ++ (counts_text counts finding_codes ++ codes "}"))
 
 -- a level's warnings, where they are asked for: `,"warnings":{..}`
-abbrev pub warnings_member : Warnings → WarningCounts → List ℕ
-warnings_member Unasked warned = []
-warnings_member Told warned = codes ",\"warnings\":{" ++ (warned_text warned ++ codes "}")
-warnings_member Strict warned = codes ",\"warnings\":{" ++ (warned_text warned ++ codes "}")
+abbrev pub warnings_member : Warnings → List ℕ → List ℕ
+warnings_member Unasked counts = []
+warnings_member Told counts = codes ",\"warnings\":{" ++ (counts_text counts warning_codes ++ codes "}")
+warnings_member Strict counts = codes ",\"warnings\":{" ++ (counts_text counts warning_codes ++ codes "}")
 
 -- what the object of a level of Doom's format ends with
 abbrev pub doom_members : LevelCounts → List ℕ
 doom_members counted =
     flat_map (λ text. text) (lump_members counted.tables)
-    ++ (found_members counted.counts ++ (warnings_member counted.warnings counted.warned ++ (unlooked_member counted.unlooked ++ codes "}\n")))
+    ++ (found_members counted.counts ++ (warnings_member counted.warnings counted.counts ++ (unlooked_member counted.unlooked ++ codes "}\n")))
 
 -- why a file is refused, in words
 abbrev pub refusal_text : FileRefusal → List ℕ

@@ -13,6 +13,7 @@ use Rattle.wad_dir.specs.Entries.{names}
 use Rattle.wad_dir.specs.Wad.{IsRead, Wad}
 use Rattle.lens_engines.specs.Counts.{fault_total}
 use Rattle.lens_engines.specs.Left.{LeavesFile, LeavesLevel, WantsMemory}
+use Rattle.lens_engines.specs.ReportCounts.{warning_total}
 use Rattle.lens_engines.specs.Surveyed.{SurveyedAt, survey_line}
 use Rattle.lens_engines.specs.Warned.{warned_verdict}
 use Rattle.lens_engines.specs.declared.judging.Judging.{Judging}
@@ -52,7 +53,7 @@ verdict_of_counts counts = if fault_total counts == 0 then Clean else Faulty
 
 -- the verdict on a level of Doom's format: by what its audit finds and isn't ignored, and by its warnings if they are asked for
 abbrev pub verdict_of_level : LevelCounts → Verdict
-verdict_of_level counted = graver (verdict_of_counts counted.counts) (warned_verdict counted.warnings counted.warned.total)
+verdict_of_level counted = graver (verdict_of_counts counted.counts) (warned_verdict counted.warnings (warning_total counted.counts))
 
 -- the verdict on a level
 abbrev pub verdict_of : Surveyed → Verdict

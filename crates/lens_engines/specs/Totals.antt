@@ -4,6 +4,7 @@ use Rattle.std.specs.Fmt.{decimal}
 use Rattle.level_starts.specs.declared.format.Format.{Format}
 use Rattle.level_starts.specs.declared.format.Format.TheVariants.{Udmf, Incomplete, Hexen, Outside, Extended, Doom}
 use Rattle.lens_engines.specs.Counts.{fault_total, note_total}
+use Rattle.lens_engines.specs.ReportCounts.{warning_total}
 use Rattle.lens_engines.specs.Survey.{graver}
 use Rattle.lens_engines.specs.Unlooked.{none_unlooked, unlooked_with}
 use Rattle.lens_engines.specs.Warned.{warned_verdict}
@@ -20,13 +21,13 @@ use Rattle.lens_engines.specs.declared.verdict.Verdict.TheVariants.{Clean, Unjud
 abbrev pub no_totals : Totals
 no_totals = record { levels = 0; faults = 0; notes = 0; warnings = 0; broken = 0; unread = 0; unlooked = none_unlooked }
 
--- of a judged level: each code counts so often, and there are so many warnings
-abbrev pub judged_totals : List ℕ → ℕ → Unlooked → Totals
-judged_totals counts warnings unlooked = record {
+-- of a judged level, by how many there are of each code
+abbrev pub judged_totals : List ℕ → Unlooked → Totals
+judged_totals counts unlooked = record {
   levels = 1;
   faults = fault_total counts;
   notes = note_total counts;
-  warnings = warnings;
+  warnings = warning_total counts;
   broken = 0;
   unread = 0;
   unlooked = unlooked;
@@ -43,7 +44,7 @@ format_totals Doom = record { levels = 1; faults = 0; notes = 0; warnings = 0; b
 
 -- what a level adds
 abbrev pub totals_of : Surveyed → Totals
-totals_of (surveyed.Judged counted) = judged_totals counted.counts counted.warned.total counted.unlooked
+totals_of (surveyed.Judged counted) = judged_totals counted.counts counted.unlooked
 totals_of (surveyed.Unjudged unjudged) = format_totals unjudged.format
 
 -- a sum in 64 bits, which stops at the greatest number

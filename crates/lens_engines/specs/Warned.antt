@@ -1,9 +1,9 @@
 -- The report on a level's warnings (ours).
-use Rattle.std.specs.Prelude.{◌≡◌, ℕ, ◌-◌, ◌^◌, ◌==◌, Bool, true, false, List, [], ◌∷◌, ◌++◌, Option, Some, None, All, map, min, nat_eq, if◌then◌else◌}
-use Rattle.std.specs.List.{sum_by}
+use Rattle.std.specs.Prelude.{◌≡◌, ℕ, ◌==◌, Bool, true, false, List, [], ◌∷◌, ◌++◌, Option, Some, None, All, map, if◌then◌else◌}
 use Rattle.map_warnings.specs.Warnings.{Cut, Tells}
 use Rattle.level_codes.specs.declared.code.WarningCode.{WarningCode}
-use Rattle.level_codes.specs.declared.code.WarningCode.TheVariants.{W1, W2, W3, W4, W5, W6, W7, W8, W9, W10, W11}
+use Rattle.level_codes.specs.Codes.{warning_codes}
+use Rattle.level_codes.specs.declared.code.ReportCode.TheVariants as report
 use Rattle.map_level.specs.Level.{Level}
 use Rattle.wad_dir.specs.Wad.{Wad}
 use Rattle.lens_engines.specs.Ignored.{WarnsUnlessIgnored}
@@ -13,10 +13,6 @@ use Rattle.lens_engines.specs.declared.judging.Warnings.{Warnings}
 use Rattle.lens_engines.specs.declared.judging.Warnings.TheVariants.{Unasked, Told, Strict}
 use Rattle.lens_engines.specs.declared.verdict.Verdict.{Verdict}
 use Rattle.lens_engines.specs.declared.verdict.Verdict.TheVariants.{Clean, Faulty}
-
--- all codes of warnings in their order
-abbrev pub warning_order : List WarningCode
-warning_order = W1 ∷ W2 ∷ W3 ∷ W4 ∷ W5 ∷ W6 ∷ W7 ∷ W8 ∷ W9 ∷ W10 ∷ W11 ∷ []
 
 -- the report on a code: the first of its warnings, and how many there are
 pub record Warned : Type 0 where
@@ -30,7 +26,7 @@ pub record IsWarned (ignored : Ignored) (files : Option (List Wad)) (level : Lev
 
 -- the report on all codes
 pub record AreWarned (ignored : Ignored) (files : Option (List Wad)) (level : Level) (most : ℕ) (all : List Warned) : Type 0 where
-  pub codes : map (λ warned. warned.code) all ≡ warning_order
+  pub codes : map (λ warned. report.Warning warned.code) all ≡ warning_codes
   pub each : All (IsWarned ignored files level most) all
 
 -- the report on a code was added
@@ -64,14 +60,6 @@ where_asked Strict files = Some files
 -- the files in which a level's textures and flats are looked up, if warnings are looked for: the base files and then the level's own
 abbrev pub known_files : Judging → List Wad → Option (List Wad)
 known_files judging files = where_asked judging.warnings (judging.base.now ++ files)
-
--- how many of a code are shown at most, where 0 asks for all of them
-abbrev pub kept_count : ℕ → ℕ
-kept_count most = if nat_eq most 0 then 2 ^ 64 - 1 else most
-
--- how many warnings there are, up to the greatest number of 64 bits
-abbrev pub warned_total : List Warned → ℕ
-warned_total all = min (sum_by (λ warned. warned.cut.count) all) (2 ^ 64 - 1)
 
 -- the verdict on so many warnings: one is as grave as a fault if they are asked for strictly; else they are clean
 abbrev pub warned_verdict : Warnings → ℕ → Verdict

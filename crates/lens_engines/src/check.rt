@@ -1,31 +1,31 @@
 //! The check of a file: what is found at each of its levels, in lines for people, editors and programs.
 
-ghost use Rattle.std.specs.Prelude.{◌≡◌, ◌↔◌, ◌++◌, false, length, IfOk, IfSome, IsTrue};
+ghost use Rattle.std.specs.Prelude.{◌≡◌, ◌↔◌, ◌++◌, false, length, IfOk, IsTrue};
 ghost use Rattle.level_starts.specs.Format.{IsFormat};
 ghost use Rattle.level_starts.specs.Holders.{AreLabelHolders};
 ghost use Rattle.level_starts.specs.Starts.{LevelStartsAt};
 ghost use Rattle.level_starts.specs.declared.format.Format.TheVariants as format;
-ghost use Rattle.map_audit.specs.Findings.{AuditHolds};
+ghost use Rattle.map_tree.specs.Sound.{IsSound};
 ghost use Rattle.wad_dir.specs.Entries.{names};
 ghost use Rattle.lens_engines.specs.Check.{asked_of, head_in, text_end, Checks, ChecksDoom, ChecksLevel, ChecksOrWants, IsSoundWideAlone, RunsCheck};
-ghost use Rattle.lens_engines.specs.Counts.{AreCounts};
 ghost use Rattle.lens_texts.specs.Head.{head_of};
 ghost use Rattle.lens_texts.specs.LevelText.{unjudged_text};
 ghost use Rattle.lens_texts.specs.LevelObject.{NamesLump, level_members, other_members};
 ghost use Rattle.line_io.specs.Writes.{Writes};
-ghost use Rattle.lens_engines.specs.Warned.{AreAskedFor, kept_count, known_files};
+ghost use Rattle.lens_engines.specs.Warned.{known_files};
 
 use crate::base::over_base;
-use crate::counts::CodeCounts;
 use crate::judged::Judged;
 use crate::judging::{Judging, Warnings};
 use crate::level_lines::write_judged;
 use crate::totals::{Totals, format_totals, judged_totals};
 use crate::unlooked::Unlooked;
 use crate::verdict::LevelsFault;
-use crate::warned::{Warned, asked_resources, kept_count, known_warnings, warned_total};
+use crate::warned::asked_resources;
 use le_rec::Sink;
-use lens_texts::{Form, Heading, label_by, level_at, write_format, write_level, write_other};
+use lens_texts::{
+    Form, Heading, label_by, level_at, owners_of, write_format, write_level, write_other,
+};
 use level_starts::{Format, Holders, LevelStarts, format_of};
 use line_io::IoFault;
 use map_level::{Level, Reading};
@@ -40,7 +40,7 @@ pub struct Question<'p> {
     pub form: Form,
     /// The file's path, as each line has it. No file is looked up by it.
     pub path: &'p [u8],
-    /// How many findings, or warnings, of one code are shown of a level at most; 0: all.
+    /// How many findings, or warnings, of one code are shown of a level at most.
     pub most: u64,
     pub judging: Judging<'p>,
 }
@@ -194,129 +194,34 @@ fn check_doom<A: Allocator + Copy, W: Sink>(
 {
     let judging = question.judging;
     let level = level_at(set, g, judging.reading);
-    let Ok(found) = look_over(alloc, question, set, resources, g, &level) else {
+    let most = question.most as usize;
+    let Ok(judged) = Judged::of(alloc, &level, resources, most, judging) else {
         return Err(LevelsFault::Memory);
     };
-    let counts = found.told.counts.without(&judging.ignored);
-    let wrote = write_judged(
-        &found.told.judged,
-        heading,
-        question.most,
-        &counts,
-        &found.warned,
-        found.told.sound_wide,
-        out,
-    );
-    let unlooked = Unlooked::of(resources, &judging.ignored);
-    let totals = judged_totals(&counts, warned_total(&found.warned), unlooked);
+    let counts = judged.counts();
+    let sound = counts.faults() == 0;
+    let Ok(sound_wide) = is_sound_wide_alone(alloc, set, g, judging.reading, &level, sound) else {
+        return Err(LevelsFault::Memory);
+    };
+    let Ok(owners) = owners_of(alloc, &level) else {
+        return Err(LevelsFault::Memory);
+    };
+    let wrote = write_judged(&judged, &owners, heading, question.most, sound_wide, out);
+    let totals = judged_totals(counts, Unlooked::of(resources, &judging.ignored));
     text_end(judging.warnings, totals, wrote)
 }
 
-// What is found at a level: findings, and warnings.
-#[derive(Drop)]
-struct Found<'l, 'a, A: Allocator> {
-    told: Told<'l, 'a, A>,
-    warned: Vec<Warned<A>, A>,
-}
-
-// Looks the level at a label over for both.
-fn look_over<'l, 'a, A: Allocator + Copy>(
-    alloc: A,
-    question: &Question<'_>,
-    set: &Set<'_, A>,
-    resources: &Option<Resources<'_, '_, A>>,
-    g: usize,
-    level: &'l Level<'a>,
-) -> Result<Found<'l, 'a, A>, AllocError>
-    requires is { IsFormat set.now g format.Doom }
-    ensures judged { IfOk result (λ found. found.told.judged ≡ level.now) }
-    ensures counts { IfOk result (λ found. AreCounts (AuditHolds level.now) found.told.counts) }
-    ensures wide { IfOk result (λ found. IsTrue found.told.sound_wide
-        ↔ IsSoundWideAlone set.now g question.now.judging.reading level.now) }
-    ensures warned { IfOk result (λ found. AreAskedFor question.now.judging resources.now level.now
-        (kept_count question.now.most) found.warned.items) }
-{
-    let judging = question.judging;
-    let told = judge(alloc, set, g, judging.reading, level)?;
-    let most = kept_count(question.most);
-    let warned = known_warnings(alloc, level, resources, &told.counts, most, judging)?;
-    Ok(Found { told, warned })
-}
-
-// What a level's lines are made of.
-#[derive(Drop)]
-struct Told<'l, 'a, A: Allocator> {
-    judged: Judged<'l, 'a, A>,
-    counts: CodeCounts,
-    sound_wide: bool,
-}
-
-// What the lines of the level at a label are made of. A level is looked through once. If the wide reading is asked, too, that
-// memory is freed before, and the level is looked through again for its lines.
-fn judge<'l, 'a, A: Allocator + Copy>(
-    alloc: A,
-    set: &Set<'_, A>,
-    g: usize,
-    reading: Reading,
-    level: &'l Level<'a>,
-) -> Result<Told<'l, 'a, A>, AllocError>
-    requires { IsFormat set.now g format.Doom }
-    ensures judged { IfOk result (λ told. told.judged ≡ level.now) }
-    ensures counts { IfOk result (λ told. AreCounts (AuditHolds level.now) told.counts) }
-    ensures wide { IfOk result (λ told. IsTrue told.sound_wide ↔ IsSoundWideAlone set.now g reading level.now) }
-{
-    let judged = Judged::of(alloc, level)?;
-    let counts = judged.counts();
-    let kept = unless_asked_wide(judged, reading, &counts);
-    let sound_wide = is_sound_wide_alone(alloc, set, g, reading, level, &counts)?;
-    let judged = judged_again(alloc, level, kept)?;
-    Ok(Told {
-        judged,
-        counts,
-        sound_wide,
-    })
-}
-
-// The judged level, which is freed if the wide reading is asked, too.
-fn unless_asked_wide<'l, 'a, A: Allocator>(
-    judged: Judged<'l, 'a, A>,
-    reading: Reading,
-    counts: &CodeCounts,
-) -> Option<Judged<'l, 'a, A>>
-    ensures { IfSome result (λ again. again ≡ judged.entry) }
-{
-    if reading == Reading::Signed && counts.faults() > 0 {
-        return None;
-    }
-    Some(judged)
-}
-
-// The judged level that was kept, or the level judged again.
-fn judged_again<'l, 'a, A: Allocator + Copy>(
-    alloc: A,
-    level: &'l Level<'a>,
-    kept: Option<Judged<'l, 'a, A>>,
-) -> Result<Judged<'l, 'a, A>, AllocError>
-    requires { IfSome kept (λ before. before ≡ level.now) }
-    ensures { IfOk result (λ judged. judged ≡ level.now) }
-{
-    match kept {
-        Some(judged) => Ok(judged),
-        None => Judged::of(alloc, level),
-    }
-}
-
-// Whether the wide reading alone finds the level at a label sound.
+// Whether the wide reading alone finds the level at a label sound, which is sound or not.
 fn is_sound_wide_alone<A: Allocator + Copy>(
     alloc: A,
     set: &Set<'_, A>,
     g: usize,
     reading: Reading,
     level: &Level<'_>,
-    counts: &CodeCounts,
+    sound: bool,
 ) -> Result<bool, AllocError>
     requires is { IsFormat set.now g format.Doom }
-    requires counts { AreCounts (AuditHolds level.now) counts.now }
+    requires tells { IsTrue sound ↔ IsSound level.now }
     ensures { IfOk result (λ sound. IsTrue sound ↔ IsSoundWideAlone set.now g reading level.now) }
 {
     // Only the clauses speak of the level.
@@ -324,7 +229,7 @@ fn is_sound_wide_alone<A: Allocator + Copy>(
     match reading {
         Reading::Wide => Ok(false),
         Reading::Signed => {
-            if counts.faults() == 0 {
+            if sound {
                 return Ok(false);
             }
             let wide = level_at(set, g, Reading::Wide);

@@ -1,56 +1,63 @@
-//! A level with what its report needs.
+//! A level that was looked over.
 
-ghost use Rattle.std.specs.Prelude.{◌≡◌, ◌+◌, ◌<◌, ◌≤◌, ◌^◌, ℕ, false, IfNone, IfOk, IfSome};
-ghost use Rattle.line_io.specs.Writes.{Writes};
+ghost use Rattle.std.specs.Prelude.{◌≡◌, ◌+◌, ◌<◌, ◌≤◌, ◌^◌, ℕ, IfNone, IfOk, IfSome};
 ghost use Rattle.map_audit.specs.Findings.{AuditHolds};
 ghost use Rattle.map_level.specs.Findings.{IsFirst};
-ghost use Rattle.lens_engines.specs.Counts.{AreCounts};
-ghost use Rattle.lens_texts.specs.Head.{head_of};
-ghost use Rattle.lens_texts.specs.LevelText.{finding_text};
-ghost use Rattle.lens_texts.specs.Owners.{AreOwners};
+ghost use Rattle.lens_engines.specs.Judged.{Judges};
 
-use crate::counts::{CodeCounts, count_all};
-use le_rec::Sink;
-use lens_texts::{Heading, Remark, owners_of, write_remark};
-use line_io::IoFault;
+use crate::counts::count_all;
+use crate::judging::Judging;
+use crate::report_counts::ReportCounts;
+use crate::warned::{Warned, known_warnings};
 use map_audit::Parts;
 use map_level::search::Search;
-use map_level::{Code, Finding, Level};
+use map_level::{Code, Level};
+use map_warnings::Resources;
 use std::alloc::{AllocError, Allocator, Global};
 use std::marker::Model;
 
-/// A level with what looks for its findings and the linedefs of its sidedefs.
+/// A level that was looked over once: how often each code is told of it, the report on its warnings, and what looks for its
+/// findings. No finding is kept.
 #[derive(Drop)]
 pub struct Judged<'l, 'a, A: Allocator = Global> {
     level: &'l Level<'a>,
     parts: Parts<'l, 'a, A>,
-    owners: Vec<Option<u32>, A>,
+    warned: Vec<Warned<A>, A>,
+    counts: ReportCounts,
 }
 
 impl<'l, 'a, A: Allocator> Model for Judged<'l, 'a, A> {
     ghost use Rattle.std.specs.Prelude.{◌≡◌};
-    ghost use Rattle.map_level.specs.Level.{Level};
-    ghost use Rattle.lens_texts.specs.Owners.{AreOwners};
+    ghost use Rattle.lens_engines.specs.Judged.{JudgedLevel};
 
-    ghost Value = { Level };
+    ghost Value = { JudgedLevel };
 
-    ghost view = { λ judged. judged.level.now };
+    ghost view = { λ judged. record { level = judged.level.now; warned = judged.warned.items; counts = judged.counts } };
 
-    ghost invariant = { λ judged. (judged.parts ≡ judged.level.now)
-        × AreOwners judged.level.now judged.owners.items };
+    ghost invariant = { λ judged. judged.parts ≡ judged.level.now };
 }
 
 impl<'l, 'a, A: Allocator + Copy> Judged<'l, 'a, A> {
-    /// The level: two bytes for each node and ssector, and eight for each sidedef.
-    pub fn of(alloc: A, level: &'l Level<'a>) -> Result<Judged<'l, 'a, A>, AllocError>
-        ensures { IfOk result (λ judged. judged ≡ level.now) }
+    /// Looks a level over. It takes two bytes for each node and ssector, and keeps at most so many warnings of one code. The
+    /// set's textures and flats are known if warnings are looked for.
+    pub fn of(
+        alloc: A,
+        level: &'l Level<'a>,
+        resources: &Option<Resources<'_, '_, A>>,
+        most: usize,
+        judging: Judging<'_>,
+    ) -> Result<Judged<'l, 'a, A>, AllocError>
+        ensures { IfOk result (Judges judging.entry resources.now level.now most) }
     {
         let parts = Parts::of(alloc, level)?;
-        let owners = owners_of(alloc, level)?;
+        let found = count_all(&parts);
+        let warned = known_warnings(alloc, level, resources, &found, most, judging)?;
+        let counts = ReportCounts::of(&found, &warned, &judging.ignored);
         Ok(Judged {
             level,
             parts,
-            owners,
+            warned,
+            counts,
         })
     }
 }
@@ -58,51 +65,31 @@ impl<'l, 'a, A: Allocator + Copy> Judged<'l, 'a, A> {
 impl<'l, 'a, A: Allocator> Judged<'l, 'a, A> {
     /// The level.
     pub fn level(&self) -> &'l Level<'a>
-        ensures { result.now ≡ self.now }
+        ensures { result.now ≡ self.now.level }
     {
         self.level
     }
 
-    /// For each of its sidedefs the first linedef that names it.
-    pub fn owners(&self) -> &[Option<u32>]
-        ensures { AreOwners self.now result.now }
+    /// The report on its warnings: empty if they aren't looked for.
+    pub fn warned(&self) -> &[Warned<A>]
+        ensures { result.now ≡ self.now.warned }
     {
-        &self.owners
+        &self.warned
     }
 
-    /// How often each code holds.
-    pub fn counts(&self) -> CodeCounts
-        ensures { AreCounts (AuditHolds self.now) result }
+    /// How often each code is told of it.
+    pub fn counts(&self) -> &ReportCounts
+        ensures { result.now ≡ self.now.counts }
     {
-        count_all(&self.parts)
+        &self.counts
     }
 
     /// The first index at which a code holds, from a given one on.
     pub fn first(&self, code: Code, from: u32) -> Option<u32>
-        ensures some { IfSome result (IsFirst (AuditHolds self.now code) from) }
-        ensures none { IfNone result ((i : ℕ) → from ≤ i → ¬ AuditHolds self.now code i) }
+        ensures some { IfSome result (IsFirst (AuditHolds self.now.level code) from) }
+        ensures none { IfNone result ((i : ℕ) → from ≤ i → ¬ AuditHolds self.now.level code i) }
         ensures below { IfSome result (λ at. at + 1 < 2 ^ 32) }
     {
         self.parts.first(code, from)
-    }
-
-    /// Writes a finding.
-    pub fn write<W: Sink>(
-        &self,
-        heading: &Heading<'_>,
-        finding: &Finding,
-        out: &mut W,
-    ) -> Result<(), IoFault>
-        requires { (W.state out.old).failed ≡ false }
-        ensures { Writes (W.state out.old) (W.state out.new)
-            (finding_text (head_of heading.now) self.now finding.now) result }
-    {
-        write_remark(
-            heading,
-            self.level,
-            &self.owners,
-            Remark::Finding(*finding),
-            out,
-        )
     }
 }

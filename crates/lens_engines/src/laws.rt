@@ -12,7 +12,8 @@ pub fn counts_are_of_the_report()
     ensures { law.CountsAreOfTheReport }
 {}
 
-/// If all findings are shown, a check writes the line of each finding of the level's report, in the report's order.
+/// If as many findings of a code are shown as there are, a check writes the line of each finding of the level's report, in the
+/// report's order.
 pub fn lines_are_of_the_report()
     ensures { law.LinesAreOfTheReport }
 {}

@@ -7,12 +7,12 @@ ghost use Rattle.lens_engines.specs.LevelCounts.{HasLines, IsCounted};
 ghost use Rattle.lens_engines.specs.Survey.{verdict_of_counts};
 ghost use Rattle.lens_engines.specs.Warned.{known_files};
 
-use crate::counts::CodeCounts;
+use crate::judged::Judged;
 use crate::judging::{Judging, Warnings};
+use crate::report_counts::ReportCounts;
 use crate::tables::Tables;
 use crate::unlooked::Unlooked;
 use crate::verdict::Verdict;
-use crate::warning_counts::WarningCounts;
 use lens_texts::level_at;
 use map_cells::Frame;
 use map_level::Level;
@@ -24,12 +24,10 @@ use wad_dir::Set;
 #[derive(Drop)]
 pub struct LevelCounts {
     pub tables: Tables,
-    /// How often each code holds.
-    pub counts: CodeCounts,
+    /// How many findings and warnings of each code there are.
+    pub counts: ReportCounts,
     /// Whether warnings were looked for, and how grave they are.
     pub warnings: Warnings,
-    /// How many warnings of each code there are.
-    pub warned: WarningCounts,
     pub unlooked: Unlooked,
     /// Whether there is something to draw.
     pub drawn: bool,
@@ -52,13 +50,11 @@ impl LevelCounts {
         ensures { IfOk result (IsCounted set.now judging.entry g) }
     {
         let level = level_at(set, g, judging.reading);
-        let counts = CodeCounts::of(alloc, &level)?;
-        let warned = WarningCounts::of(alloc, &level, resources, &counts, judging)?;
+        let judged = Judged::of(alloc, &level, resources, 0, judging)?;
         Ok(LevelCounts {
             tables: Tables::of(&level),
-            counts: counts.without(&judging.ignored),
+            counts: judged.counts().copied(),
             warnings: judging.warnings,
-            warned,
             unlooked: Unlooked::of(resources, &judging.ignored),
             drawn: has_lines(&level),
         })
@@ -68,7 +64,7 @@ impl LevelCounts {
     pub fn verdict(&self) -> Verdict
         ensures { result ≡ verdict_of_level self.now }
     {
-        let warned = self.warnings.verdict(self.warned.total);
+        let warned = self.warnings.verdict(self.counts.warnings());
         verdict_of_counts(&self.counts).graver(warned)
     }
 }
@@ -81,7 +77,7 @@ fn has_lines(level: &Level<'_>) -> bool
 }
 
 // The verdict by how often each code holds.
-fn verdict_of_counts(counts: &CodeCounts) -> Verdict
+fn verdict_of_counts(counts: &ReportCounts) -> Verdict
     ensures { result ≡ verdict_of_counts counts.now }
 {
     if counts.faults() == 0 {

@@ -5,60 +5,59 @@ ghost use Rattle.line_io.specs.Writes.{EndsWriting, Writes};
 ghost use Rattle.map_audit.specs.Findings.{AuditHolds};
 ghost use Rattle.lens_texts.specs.Head.{head_of};
 ghost use Rattle.lens_engines.specs.LevelLines.{AreCounted, AreIndexes, AreShown, code_lines, code_part, findings_part, judged_text};
-ghost use Rattle.lens_engines.specs.LevelLines.{more_line, shown_count, wide_part};
+ghost use Rattle.lens_engines.specs.LevelLines.{wide_part};
+ghost use Rattle.lens_texts.specs.LevelText.{finding_text};
 ghost use Rattle.lens_texts.specs.Owners.{AreOwners};
 ghost use Rattle.lens_engines.specs.WarnedText.{warned_text};
 ghost use Rattle.map_level.specs.declared.finding.Code.{Code};
 
-use crate::counts::{CodeCounts, code_at};
+use crate::counts::code_at;
 use crate::judged::Judged;
-use crate::warned::{Warned, write_warned};
+use crate::warned::{write_more, write_warned};
 use le_rec::Sink;
-use lens_texts::{Form, Heading, write_left, write_line, write_wide_object};
+use lens_texts::{Form, Heading, Remark, write_line, write_remark, write_wide_object};
 use level_codes::ReportCode;
 use line_io::IoFault;
 use map_level::search::CODE_COUNT;
-use map_level::{Code, Finding, Level};
+use map_level::{Code, Finding};
 use std::alloc::Allocator;
 
-/// Writes the lines of a level, whose codes hold so many times: its findings, its warnings, and that the wide reading alone finds
-/// it sound, where it does.
+/// Writes the lines of a judged level: its findings, its warnings, and that the wide reading alone finds it sound, where it does.
+/// `owners` has the linedefs of its sidedefs.
 pub fn write_judged<A: Allocator, W: Sink>(
     judged: &Judged<'_, '_, A>,
+    owners: &[Option<u32>],
     heading: &Heading<'_>,
     most: u64,
-    counts: &CodeCounts,
-    warned: &[Warned<A>],
     sound_wide: bool,
     out: &mut W,
 ) -> Result<(), IoFault>
-    requires { (W.state out.old).failed ≡ false }
+    requires owners { AreOwners judged.now.level owners.now }
+    requires sound { (W.state out.old).failed ≡ false }
     ensures ends { EndsWriting (W.state out.new) result }
-    ensures text { (told : Code → List ℕ) → AreShown (AuditHolds judged.now) told → AreCounted counts.now told
+    ensures text { (told : Code → List ℕ) → AreShown (AuditHolds judged.now.level) told → AreCounted judged.now.counts told
         → Writes (W.state out.old) (W.state out.new)
-        (judged_text (head_of heading.now) most judged.now told warned.now sound_wide) result }
+        (judged_text (head_of heading.now) most judged.now.level told judged.now.warned sound_wide) result }
 {
-    write_codes(judged, heading, most, counts, out)?;
-    let owners = judged.owners();
-    write_rest(judged.level(), owners, heading, warned, sound_wide, out)
+    write_codes(judged, owners, heading, most, out)?;
+    write_rest(judged, owners, heading, sound_wide, out)
 }
 
 // Writes what comes after a level's findings.
 fn write_rest<A: Allocator, W: Sink>(
-    level: &Level<'_>,
+    judged: &Judged<'_, '_, A>,
     owners: &[Option<u32>],
     heading: &Heading<'_>,
-    warned: &[Warned<A>],
     sound_wide: bool,
     out: &mut W,
 ) -> Result<(), IoFault>
-    requires owners { AreOwners level.now owners.now }
+    requires owners { AreOwners judged.now.level owners.now }
     requires sound { (W.state out.old).failed ≡ false }
     ensures { Writes (W.state out.old) (W.state out.new)
-        (warned_text (head_of heading.now) level.now warned.now
+        (warned_text (head_of heading.now) judged.now.level judged.now.warned
         ++ wide_part (head_of heading.now) sound_wide) result }
 {
-    write_warned(heading, level, owners, warned, out)?;
+    write_warned(heading, judged.level(), owners, judged.warned(), out)?;
     write_wide(heading, sound_wide, out)
 }
 
@@ -80,19 +79,23 @@ fn write_wide<W: Sink>(heading: &Heading<'_>, sound_wide: bool, out: &mut W) -> 
 // Writes the report on all codes.
 fn write_codes<A: Allocator, W: Sink>(
     judged: &Judged<'_, '_, A>,
+    owners: &[Option<u32>],
     heading: &Heading<'_>,
     most: u64,
-    counts: &CodeCounts,
     out: &mut W,
 ) -> Result<(), IoFault>
-    requires { (W.state out.old).failed ≡ false }
+    requires owners { AreOwners judged.now.level owners.now }
+    requires sound { (W.state out.old).failed ≡ false }
     ensures ends { EndsWriting (W.state out.new) result }
-    ensures text { (told : Code → List ℕ) → AreShown (AuditHolds judged.now) told → AreCounted counts.now told
+    ensures text { (told : Code → List ℕ) → AreShown (AuditHolds judged.now.level) told → AreCounted judged.now.counts told
         → Writes (W.state out.old) (W.state out.new)
-        (findings_part (head_of heading.now) most judged.now told) result }
+        (findings_part (head_of heading.now) most judged.now.level told) result }
 {
+    let counts = judged.counts();
     'codes: for i in 0..CODE_COUNT {
-        write_code(judged, heading, most, code_at(i), counts.get(i), out)?;
+        let code = code_at(i);
+        let count = counts.get(ReportCode::Finding(code));
+        write_code(judged, owners, heading, most, code, count, out)?;
     }
     Ok(())
 }
@@ -100,50 +103,43 @@ fn write_codes<A: Allocator, W: Sink>(
 // Writes the report on a code that holds `count` times.
 fn write_code<A: Allocator, W: Sink>(
     judged: &Judged<'_, '_, A>,
+    owners: &[Option<u32>],
     heading: &Heading<'_>,
     most: u64,
     code: Code,
-    count: u32,
+    count: u64,
     out: &mut W,
 ) -> Result<(), IoFault>
-    requires { (W.state out.old).failed ≡ false }
+    requires owners { AreOwners judged.now.level owners.now }
+    requires sound { (W.state out.old).failed ≡ false }
     ensures ends { EndsWriting (W.state out.new) result }
-    ensures text { (indexes : List ℕ) → (0 < count → AreIndexes (AuditHolds judged.now code) indexes) → length indexes ≡ count
+    ensures text { (indexes : List ℕ) → (0 < count → AreIndexes (AuditHolds judged.now.level code) indexes) → length indexes ≡ count
         → Writes (W.state out.old) (W.state out.new)
-        (code_part (head_of heading.now) most judged.now code indexes) result }
+        (code_part (head_of heading.now) most judged.now.level code indexes) result }
 {
     if count == 0 {
         return Ok(());
     }
-    let shown = shown_count(most, count);
-    write_shown(judged, heading, code, shown, out)?;
-    write_more(heading, code, count - shown, out)
-}
-
-// How many of `count` findings are shown.
-fn shown_count(most: u64, count: u32) -> u32
-    ensures value { result ≡ shown_count most count }
-    ensures few { result ≤ count }
-{
-    if most == 0 || most >= u64::from(count) {
-        return count;
-    }
-    most as u32
+    let shown = most.min(count);
+    write_shown(judged, owners, heading, code, shown, out)?;
+    write_more(heading, ReportCode::Finding(code), count - shown, out)
 }
 
 // Writes the lines of a code's first `shown` findings.
 fn write_shown<A: Allocator, W: Sink>(
     judged: &Judged<'_, '_, A>,
+    owners: &[Option<u32>],
     heading: &Heading<'_>,
     code: Code,
-    shown: u32,
+    shown: u64,
     out: &mut W,
 ) -> Result<(), IoFault>
-    requires { (W.state out.old).failed ≡ false }
+    requires owners { AreOwners judged.now.level owners.now }
+    requires sound { (W.state out.old).failed ≡ false }
     ensures ends { EndsWriting (W.state out.new) result }
-    ensures text { (indexes : List ℕ) → AreIndexes (AuditHolds judged.now code) indexes
+    ensures text { (indexes : List ℕ) → AreIndexes (AuditHolds judged.now.level code) indexes
         → Writes (W.state out.old) (W.state out.new)
-        (code_lines (head_of heading.now) judged.now code (take shown indexes)) result }
+        (code_lines (head_of heading.now) judged.now.level code (take shown indexes)) result }
 {
     let mut from = 0;
     let mut left = shown;
@@ -151,26 +147,31 @@ fn write_shown<A: Allocator, W: Sink>(
         let Some(index) = judged.first(code, from) else {
             break;
         };
-        judged.write(heading, &Finding { code, index }, out)?;
+        write_finding(judged, owners, heading, Finding { code, index }, out)?;
         from = index + 1;
         left -= 1;
     }
     Ok(())
 }
 
-// Writes how many findings of a code are left out.
-fn write_more<W: Sink>(
+// Writes a finding.
+fn write_finding<A: Allocator, W: Sink>(
+    judged: &Judged<'_, '_, A>,
+    owners: &[Option<u32>],
     heading: &Heading<'_>,
-    code: Code,
-    left: u32,
+    finding: Finding,
     out: &mut W,
 ) -> Result<(), IoFault>
-    requires { (W.state out.old).failed ≡ false }
+    requires owners { AreOwners judged.now.level owners.now }
+    requires sound { (W.state out.old).failed ≡ false }
     ensures { Writes (W.state out.old) (W.state out.new)
-        (more_line (head_of heading.now) code left) result }
+        (finding_text (head_of heading.now) judged.now.level finding) result }
 {
-    if left == 0 {
-        return Ok(());
-    }
-    write_left(heading, ReportCode::Finding(code), u64::from(left), out)
+    write_remark(
+        heading,
+        judged.level(),
+        owners,
+        Remark::Finding(finding),
+        out,
+    )
 }

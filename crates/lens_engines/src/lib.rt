@@ -13,6 +13,7 @@ pub mod laws;
 mod level_counts;
 mod level_lines;
 mod object;
+mod report_counts;
 mod survey;
 mod surveyed;
 mod tables;
@@ -21,18 +22,16 @@ mod unjudged;
 mod unlooked;
 mod verdict;
 mod warned;
-mod warned_members;
-mod warning_counts;
 
 pub use base::{Base, over_base};
 pub use check::{Question, check_file};
-pub use counts::{CodeCounts, code_at};
 pub use cut::{CutFault, Uncut, cut_level, write_cut_fault};
 pub use ignored::Ignored;
+pub use judged::Judged;
 pub use judging::{Judging, Rules, Warnings};
 pub use level_counts::LevelCounts;
-pub use map_level::search::CODE_COUNT;
 pub use object::{FileRefusal, refused_line};
+pub use report_counts::ReportCounts;
 pub use survey::survey_file;
 pub use surveyed::{Surveyed, write_surveyed};
 pub use tables::Tables;
@@ -40,7 +39,4 @@ pub use totals::{Totals, format_totals, judged_totals, write_totals};
 pub use unjudged::Unjudged;
 pub use unlooked::Unlooked;
 pub use verdict::{LevelsFault, Verdict};
-pub use warned::{
-    Warned, asked_resources, asked_warnings, warned_total, warnings_of, write_warned,
-};
-pub use warning_counts::WarningCounts;
+pub use warned::{Warned, asked_resources};

@@ -1,24 +1,25 @@
 //! The objects of a survey, a line each.
 
-ghost use Rattle.std.specs.Prelude.{◌≡◌, ◌<◌, ◌≤◌, ◌++◌, [], codes, false, length, slice_index_or};
+ghost use Rattle.std.specs.Prelude.{◌≡◌, ◌<◌, ◌≤◌, ◌++◌, [], codes, drop, false, length, slice_index_or, take};
 ghost use Rattle.std.specs.List.{flat_map};
+ghost use Rattle.level_codes.specs.Codes.{finding_codes, report_order};
+ghost use Rattle.level_codes.specs.declared.table.TheConstants.{REPORT_COUNT};
 ghost use Rattle.line_io.specs.Writes.{Writes};
-ghost use Rattle.map_level.specs.declared.finding.Code.TheVariants.{F1};
 ghost use Rattle.lens_texts.specs.JsonString.{bool_text, json_string};
-ghost use Rattle.lens_engines.specs.Counts.{fault_total, note_total, report_order};
-ghost use Rattle.lens_engines.specs.Objects.{count_member, doom_members, findings_text, found_members, lump_members};
+ghost use Rattle.lens_engines.specs.Counts.{fault_total, note_total};
+ghost use Rattle.lens_engines.specs.Objects.{count_member, counts_text, doom_members, found_members, lump_members};
 ghost use Rattle.lens_engines.specs.Objects.{refusal_text, refused_object, sound_members, warnings_member};
 ghost use Rattle.lens_engines.specs.Unlooked.{unlooked_member};
+ghost use Rattle.lens_engines.specs.declared.judging.Warnings.TheVariants as warnings;
 
-use crate::counts::{CodeCounts, code_at};
+use crate::judging::Warnings;
 use crate::level_counts::LevelCounts;
+use crate::report_counts::ReportCounts;
 use crate::tables::Tables;
-use crate::warned_members::write_warnings;
 use le_rec::Sink;
 use lens_texts::{prepend_number, write_both, write_file, write_number, write_string};
-use level_codes::ReportCode;
+use level_codes::{REPORT_COUNT, ReportCode};
 use line_io::{IoFault, TextLine, emit};
-use map_level::Code;
 use map_level::search::CODE_COUNT;
 use wad_dir::WadFault;
 
@@ -91,10 +92,10 @@ fn write_end<W: Sink>(counted: &LevelCounts, out: &mut W) -> Result<(), IoFault>
     requires { (W.state out.old).failed ≡ false }
     ensures { Writes (W.state out.old) (W.state out.new)
         (found_members counted.now.counts
-        ++ (warnings_member counted.now.warnings counted.now.warned ++ (unlooked_member counted.now.unlooked ++ codes "}\n"))) result }
+        ++ (warnings_member counted.now.warnings counted.now.counts ++ (unlooked_member counted.now.unlooked ++ codes "}\n"))) result }
 {
     write_found(&counted.counts, out)?;
-    write_warnings(counted.warnings, &counted.warned, out)?;
+    write_warnings(counted.warnings, &counted.counts, out)?;
     write_both(counted.unlooked.member(), b"}\n", out)
 }
 
@@ -130,7 +131,7 @@ fn write_count_of<W: Sink>(tables: &Tables, i: usize, out: &mut W) -> Result<(),
 }
 
 // Writes what was found.
-fn write_found<W: Sink>(counts: &CodeCounts, out: &mut W) -> Result<(), IoFault>
+fn write_found<W: Sink>(counts: &ReportCounts, out: &mut W) -> Result<(), IoFault>
     requires { (W.state out.old).failed ≡ false }
     ensures { Writes (W.state out.old) (W.state out.new) (found_members counts.now) result }
 {
@@ -159,26 +160,58 @@ fn bool_text(value: bool) -> &'static [u8]
 }
 
 // `,"findings":{<codes>}`
-fn write_findings<W: Sink>(counts: &CodeCounts, out: &mut W) -> Result<(), IoFault>
+fn write_findings<W: Sink>(counts: &ReportCounts, out: &mut W) -> Result<(), IoFault>
     requires { (W.state out.old).failed ≡ false }
     ensures { Writes (W.state out.old) (W.state out.new)
-        (codes ",\"findings\":{" ++ (findings_text counts.now ++ codes "}")) result }
+        (codes ",\"findings\":{" ++ (counts_text counts.now finding_codes ++ codes "}")) result }
 {
     emit(out, b",\"findings\":{")?;
-    write_codes(counts, out)?;
+    write_codes(counts, 0, CODE_COUNT, out)?;
     emit(out, b"}")
 }
 
-// Writes the codes that hold with how often, commas between them.
-fn write_codes<W: Sink>(counts: &CodeCounts, out: &mut W) -> Result<(), IoFault>
+// `,"warnings":{<codes>}`, where they are asked for
+fn write_warnings<W: Sink>(
+    warnings: Warnings,
+    counts: &ReportCounts,
+    out: &mut W,
+) -> Result<(), IoFault>
     requires { (W.state out.old).failed ≡ false }
-    ensures { Writes (W.state out.old) (W.state out.new) (findings_text counts.now) result }
+    ensures { Writes (W.state out.old) (W.state out.new) (warnings_member warnings counts.now) result }
+{
+    match warnings {
+        Warnings::Unasked => emit(out, b""),
+        Warnings::Told | Warnings::Strict => write_asked(counts, out),
+    }
+}
+
+// `,"warnings":{<codes>}`
+fn write_asked<W: Sink>(counts: &ReportCounts, out: &mut W) -> Result<(), IoFault>
+    requires { (W.state out.old).failed ≡ false }
+    ensures { Writes (W.state out.old) (W.state out.new) (warnings_member warnings.Told counts.now) result }
+{
+    emit(out, b",\"warnings\":{")?;
+    write_codes(counts, CODE_COUNT, REPORT_COUNT, out)?;
+    emit(out, b"}")
+}
+
+// Writes the codes of some ranks of which there are any, each with how many, and commas between them.
+fn write_codes<W: Sink>(
+    counts: &ReportCounts,
+    from: usize,
+    to: usize,
+    out: &mut W,
+) -> Result<(), IoFault>
+    requires within { to ≤ REPORT_COUNT }
+    requires sound { (W.state out.old).failed ≡ false }
+    ensures { Writes (W.state out.old) (W.state out.new) (counts_text counts.now (drop from (take to report_order))) result }
 {
     let mut separator: &[u8] = b"";
-    'codes: for rank in 0..CODE_COUNT {
-        let count = counts.get(rank);
+    'codes: for rank in from..to {
+        let code = ReportCode::at(rank);
+        let count = counts.get(code);
         if count > 0 {
-            write_count(separator, code_at(rank), count, out)?;
+            write_count(separator, code, count, out)?;
             separator = b",";
         }
     }
@@ -188,8 +221,8 @@ fn write_codes<W: Sink>(counts: &CodeCounts, out: &mut W) -> Result<(), IoFault>
 // `<separator>"<code>":<count>`
 fn write_count<W: Sink>(
     separator: &[u8],
-    code: Code,
-    count: u32,
+    code: ReportCode,
+    count: u64,
     out: &mut W,
 ) -> Result<(), IoFault>
     requires short { length separator.now ≤ 1 }
@@ -197,9 +230,9 @@ fn write_count<W: Sink>(
     ensures { Writes (W.state out.old) (W.state out.new) (separator.now ++ count_member code count) result }
 {
     let mut line = TextLine::new();
-    line.prepend_natural(u64::from(count));
+    line.prepend_natural(count);
     line.prepend_bytes(b"\":");
-    line.prepend_bytes(ReportCode::Finding(code).name());
+    line.prepend_bytes(code.name());
     line.prepend_bytes(b"\"");
     line.prepend_bytes(separator);
     emit(out, line.as_bytes())

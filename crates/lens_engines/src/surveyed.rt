@@ -76,9 +76,7 @@ impl Surveyed {
         ensures { result ≡ totals_of self.now }
     {
         match self {
-            Surveyed::Judged(counted) => {
-                judged_totals(&counted.counts, counted.warned.total, counted.unlooked)
-            }
+            Surveyed::Judged(counted) => judged_totals(&counted.counts, counted.unlooked),
             Surveyed::Unjudged(unjudged) => format_totals(unjudged.format()),
         }
     }

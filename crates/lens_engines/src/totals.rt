@@ -6,8 +6,8 @@ ghost use Rattle.std.specs.Prelude.{◌+◌, ◌≤◌, ◌++◌, length};
 ghost use Rattle.lens_engines.specs.Totals.{format_totals, found_text, judged_totals, levels_text, totals_line, warnings_text};
 ghost use Rattle.lens_engines.specs.TotalsObject.{found_numbers, levels_members, totals_object, totals_text, warnings_number};
 
-use crate::counts::CodeCounts;
 use crate::judging::Warnings;
+use crate::report_counts::ReportCounts;
 use crate::unlooked::Unlooked;
 use crate::verdict::Verdict;
 use le_rec::Sink;
@@ -32,15 +32,15 @@ pub struct Totals {
     pub unlooked: Unlooked,
 }
 
-/// The totals of a judged level with so many warnings, and with those that weren't looked for.
-pub fn judged_totals(counts: &CodeCounts, warnings: u64, unlooked: Unlooked) -> Totals
-    ensures { result ≡ judged_totals counts.now warnings unlooked }
+/// The totals of a judged level, by how many there are of each code, with the warnings that weren't looked for.
+pub fn judged_totals(counts: &ReportCounts, unlooked: Unlooked) -> Totals
+    ensures { result ≡ judged_totals counts.now unlooked }
 {
     Totals {
         levels: 1,
         faults: counts.faults(),
         notes: counts.notes(),
-        warnings,
+        warnings: counts.warnings(),
         broken: 0,
         unread: 0,
         unlooked,

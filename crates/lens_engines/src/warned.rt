@@ -1,10 +1,9 @@
 //! The report on a level's warnings.
 
-ghost use Rattle.std.specs.Prelude.{◌≡◌, ◌↔◌, ◌-◌, ◌<◌, IfOk, IsTrue, OnOk, false, length, slice_index_or};
+ghost use Rattle.std.specs.Prelude.{◌≡◌, ◌↔◌, ◌-◌, IfOk, IsTrue, OnOk, false, length};
 ghost use Rattle.std.specs.List.{flat_map};
 ghost use Rattle.line_io.specs.Writes.{Writes};
 ghost use Rattle.map_audit.specs.Findings.{AuditHolds};
-ghost use Rattle.level_codes.specs.declared.code.WarningCode.TheVariants.{W1};
 ghost use Rattle.map_tree.specs.Sound.{IsSound};
 ghost use Rattle.map_warnings.specs.References.{HasReferences};
 ghost use Rattle.map_warnings.specs.Warnings.{Tells};
@@ -13,39 +12,22 @@ ghost use Rattle.lens_texts.specs.Head.{head_of};
 ghost use Rattle.lens_engines.specs.Ignored.{WarnsUnlessIgnored};
 ghost use Rattle.lens_texts.specs.LevelText.{warning_text};
 ghost use Rattle.lens_texts.specs.Owners.{AreOwners};
-ghost use Rattle.lens_engines.specs.Warned.{AddsWarned, AreAskedFor, AreWarned, kept_count, warned_total, warning_order, where_asked};
-ghost use Rattle.lens_engines.specs.WarnedText.{more_warnings, warned_part, warned_text};
+ghost use Rattle.lens_engines.specs.Warned.{AddsWarned, AreAskedFor, AreWarned, where_asked};
+ghost use Rattle.lens_engines.specs.WarnedText.{more_text, warned_part, warned_text};
 
 use crate::counts::CodeCounts;
 use crate::ignored::Ignored;
 use crate::judging::{Judging, Warnings};
 use le_rec::Sink;
 use lens_texts::{Heading, Remark, write_left, write_remark};
-use level_codes::{ReportCode, WarningCode};
+use level_codes::{REPORT_COUNT, ReportCode, WarningCode};
 use line_io::IoFault;
 use map_level::Level;
+use map_level::search::CODE_COUNT;
 use map_warnings::{Checks, Resources, Told, Warning};
 use std::alloc::{AllocError, Allocator, Global};
 use std::marker::Model;
 use wad_dir::Set;
-
-/// How many codes of warnings there are.
-pub(crate) const WARNING_COUNT: usize = 11;
-
-// The codes in their order.
-const WARNINGS: [WarningCode; WARNING_COUNT] = [
-    WarningCode::W1,
-    WarningCode::W2,
-    WarningCode::W3,
-    WarningCode::W4,
-    WarningCode::W5,
-    WarningCode::W6,
-    WarningCode::W7,
-    WarningCode::W8,
-    WarningCode::W9,
-    WarningCode::W10,
-    WarningCode::W11,
-];
 
 /// The report on one code of warnings: the first of them, and how many there are.
 #[derive(Debug, Drop)]
@@ -97,25 +79,8 @@ pub fn asked_resources<'s, 'a, A: Allocator + Copy>(
     }
 }
 
-/// The report on a level's warnings, with at most so many of one code; empty if they aren't looked for.
-pub fn asked_warnings<A: Allocator + Copy>(
-    alloc: A,
-    level: &Level<'_>,
-    resources: &Option<Resources<'_, '_, A>>,
-    most: usize,
-    judging: Judging<'_>,
-) -> Result<Vec<Warned<A>, A>, AllocError>
-    ensures { IfOk result (λ all. AreAskedFor judging.entry resources.now level.now most all.items) }
-{
-    match judging.warnings {
-        Warnings::Unasked => Ok(Vec::new(alloc)),
-        Warnings::Told | Warnings::Strict => {
-            warnings_of(alloc, level, resources, &judging.ignored, most)
-        }
-    }
-}
-
-/// The same, with known counts of each finding's code.
+/// The report on a level's warnings, with at most so many of one code, by how often each code of findings holds of the level. It
+/// is empty if warnings aren't looked for.
 pub(crate) fn known_warnings<A: Allocator + Copy>(
     alloc: A,
     level: &Level<'_>,
@@ -135,40 +100,7 @@ pub(crate) fn known_warnings<A: Allocator + Copy>(
     }
 }
 
-/// How many of a code are shown at most, where 0 asks for all.
-pub fn kept_count(most: u64) -> usize
-    ensures { result ≡ kept_count most }
-{
-    if most == 0 { usize::MAX } else { most as usize }
-}
-
-/// How many warnings there are, up to the greatest number of 64 bits.
-pub fn warned_total<A: Allocator>(all: &[Warned<A>]) -> u64
-    ensures { result ≡ warned_total all.now }
-{
-    let mut sum: u64 = 0;
-    'codes: for i in 0..all.len() {
-        sum = sum.saturating_add(all[i].count() as u64);
-    }
-    sum
-}
-
-/// The report on each code of a level's warnings, with at most so many of one code, and none of an ignored one.
-pub fn warnings_of<A: Allocator + Copy>(
-    alloc: A,
-    level: &Level<'_>,
-    resources: &Option<Resources<'_, '_, A>>,
-    ignored: &Ignored,
-    most: usize,
-) -> Result<Vec<Warned<A>, A>, AllocError>
-    ensures { IfOk result (λ all. AreWarned ignored.now resources.now level.now most all.items) }
-{
-    let checks = Checks::of(alloc, level)?;
-    let all = warned_by(alloc, &checks, resources, ignored, most)?;
-    Ok(all)
-}
-
-// The same, with known counts of each finding's code.
+// The report on each code of a level's warnings, with at most so many of one code, and none of an ignored one.
 fn counted_warnings<A: Allocator + Copy>(
     alloc: A,
     level: &Level<'_>,
@@ -233,26 +165,12 @@ fn warned_by<A: Allocator + Copy>(
     ensures { IfOk result (λ all. AreWarned ignored.now resources.now checks.now most all.items) }
 {
     let mut all = Vec::new(alloc);
-    'codes: for i in 0..WARNING_COUNT {
-        push_code(
-            alloc,
-            checks,
-            resources,
-            ignored,
-            code_at(i),
-            most,
-            &mut all,
-        )?;
+    'codes: for rank in CODE_COUNT..REPORT_COUNT {
+        if let ReportCode::Warning(code) = ReportCode::at(rank) {
+            push_code(alloc, checks, resources, ignored, code, most, &mut all)?;
+        }
     }
     Ok(all)
-}
-
-/// The code of a rank.
-pub(crate) fn code_at(rank: usize) -> WarningCode
-    requires { rank < 11 }
-    ensures { result ≡ slice_index_or warning_order rank W1 }
-{
-    WARNINGS[rank]
 }
 
 // Adds the report on a code.
@@ -325,7 +243,7 @@ fn write_part<A: Allocator, W: Sink>(
     let first = warned.told.first();
     write_first(heading, level, owners, first, out)?;
     let left = warned.told.count().saturating_sub(first.len());
-    write_more(heading, warned.code, left, out)
+    write_more(heading, ReportCode::Warning(warned.code), left as u64, out)
 }
 
 // Writes the lines of some warnings.
@@ -362,19 +280,18 @@ fn write_one<W: Sink>(
     write_remark(heading, level, owners, Remark::Warning(warning), out)
 }
 
-// Writes how many warnings of a code are left out.
-fn write_more<W: Sink>(
+/// Writes how many remarks of a code are left out, where some are.
+pub(crate) fn write_more<W: Sink>(
     heading: &Heading<'_>,
-    code: WarningCode,
-    left: usize,
+    code: ReportCode,
+    left: u64,
     out: &mut W,
 ) -> Result<(), IoFault>
     requires { (W.state out.old).failed ≡ false }
-    ensures { Writes (W.state out.old) (W.state out.new)
-        (more_warnings (head_of heading.now) code left) result }
+    ensures { Writes (W.state out.old) (W.state out.new) (more_text (head_of heading.now) code left) result }
 {
     if left == 0 {
         return Ok(());
     }
-    write_left(heading, ReportCode::Warning(code), left as u64, out)
+    write_left(heading, code, left, out)
 }

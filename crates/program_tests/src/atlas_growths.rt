@@ -1,17 +1,17 @@
 //! The rows and the page of an atlas, with each growth refused in turn.
 
 use crate::compare::{check_bytes, check_same, contains};
-use crate::opening::level_of;
-use crate::sample::{UDMF, base, lumps, pack_three};
+use crate::sample::{UDMF, lumps, pack_three};
 use atlas_page::{Origin, Page, Refused, Row, push_rows, write_page};
 use le_rec::{Name8, Sink};
 use lens_engines::{
-    Base, CodeCounts, FileRefusal, Ignored, Judging, LevelCounts, Rules, Surveyed, Tables,
-    WarningCounts, Warnings, asked_resources, over_base,
+    Base, FileRefusal, Ignored, Judging, LevelCounts, Rules, Surveyed, Tables, Warnings,
+    asked_resources, over_base,
 };
+use level_codes::{REPORT_COUNT, ReportCode};
 use level_starts::Format;
 use line_io::IoFault;
-use map_level::{Level, Reading};
+use map_level::Reading;
 use memory_streams::ToVec;
 use std::alloc::{AllocError, Allocator, Global};
 use std::process::Abort;
@@ -29,31 +29,7 @@ fn judging<'b>(base: &'b Base<'b>, warnings: Warnings) -> Judging<'b> {
 }
 
 // The sample level has one start, and its two sectors are open at both ends of its linedef.
-const WARNED: WarningCounts = WarningCounts {
-    w1: 4,
-    w2: 0,
-    w3: 0,
-    w4: 0,
-    w5: 0,
-    w6: 0,
-    w7: 1,
-    w8: 1,
-    w9: 0,
-    w10: 0,
-    w11: 0,
-    total: 6,
-};
-
-const NOT_WARNED: WarningCounts = WarningCounts {
-    w1: 0,
-    w7: 0,
-    w8: 0,
-    w9: 0,
-    w10: 0,
-    w11: 0,
-    total: 0,
-    ..WARNED
-};
+const WARNED: [u64; 11] = [4, 0, 0, 0, 0, 0, 1, 1, 0, 0, 0];
 
 const TABLES: Tables = Tables {
     things: 1,
@@ -102,7 +78,10 @@ fn add_rows<'h, 'b>(
 fn check_judged(rt: &impl Abort, judged: &LevelCounts) {
     check_same(rt, judged.tables, TABLES);
     check_same(rt, (judged.counts.faults(), judged.counts.notes()), (0, 0));
-    check_same(rt, judged.warned, WARNED);
+    for (rank, count) in (30..REPORT_COUNT).zip(WARNED) {
+        check_same(rt, judged.counts.get(ReportCode::at(rank)), count);
+    }
+    check_same(rt, judged.counts.warnings(), 6);
     assert!(rt; judged.drawn);
 }
 
@@ -160,45 +139,6 @@ fn rows_refused(rt: HostRuntime) {
         stopped_at[count] = stopped_at[count].wrapping_add(1);
     }
     assert!(&rt; granted && stopped_at[0] > 0 && stopped_at[2] > 0);
-}
-
-// How many warnings of the sample level are counted; None where a growth was refused.
-fn warned(
-    rt: &(impl Abort + AllocGlobal),
-    level: &Level<'_>,
-    warnings: Warnings,
-    n: u64,
-) -> Option<WarningCounts> {
-    let heap = Refusing::new(rt.alloc(), n);
-    let base = Base::none();
-    let counts = CodeCounts::of(rt.alloc(), level).expect(rt, "the counts of its findings");
-    let counted = WarningCounts::of(&heap, level, &None, &counts, judging(&base, warnings));
-    check_same(rt, counted.is_err(), heap.has_refused());
-    counted.ok()
-}
-
-fn check_warned(rt: &(impl Abort + AllocGlobal), level: &Level<'_>) {
-    let mut met = 0;
-    for n in 1..99 {
-        if let Some(counted) = warned(rt, level, Warnings::Told, n) {
-            check_same(rt, counted, WARNED);
-            break;
-        }
-        met = n;
-    }
-    assert!(rt; 0 < met && met < 98);
-    // Where they aren't asked for no growth is.
-    check_same(
-        rt,
-        warned(rt, level, Warnings::Unasked, 1),
-        Some(NOT_WARNED),
-    );
-}
-
-#[test]
-fn warnings_refused(rt: HostRuntime) {
-    let file = base(&rt);
-    check_warned(&rt, &level_of(&rt, &file));
 }
 
 // The page written into a vector whose growth `n` is refused, and whether it was.

@@ -7,28 +7,41 @@ use crate::opening::level_of;
 use crate::sample::{LINE_WITHOUT_SIDE_1, base, base_with, pack};
 use demo_engines::{AtOnce, DemoQuestion, DemosFault, Unwatched, demos_file};
 use le_rec::Sink;
-use lens_engines::{
-    Base, CodeCounts, CutFault, Ignored, Rules, Warned, Warnings, asked_warnings, cut_level,
-    warned_total, warnings_of,
-};
+use lens_engines::{Base, CutFault, Ignored, Judged, Rules, Warnings, cut_level};
 use lens_texts::Form;
 use level_codes::WarningCode;
 use map_level::{Level, Reading};
-use std::alloc::Allocator;
+use std::alloc::{AllocError, Allocator};
 use std::process::Abort;
 use test_refusals::{Refusing, SliceSink};
+
+// A level looked over with one warning of a code at most.
+fn looked_over<'l, 'a, A: Allocator + Copy>(
+    alloc: A,
+    level: &'l Level<'a>,
+    warnings: Warnings,
+) -> Result<Judged<'l, 'a, A>, AllocError> {
+    let rules = Rules {
+        reading: Reading::Signed,
+        warnings,
+        ignored: Ignored::none(),
+    };
+    let base = Base::none();
+    Judged::of(alloc, level, &None, 1, rules.over(&base))
+}
 
 // How many faults and notes a level has; None where a growth was refused.
 fn counted(rt: &(impl Abort + AllocGlobal), level: &Level<'_>, n: u64) -> Option<(u64, u64)> {
     let heap = Refusing::new(rt.alloc(), n);
-    let counts = CodeCounts::of(&heap, level);
-    check_same(rt, counts.is_err(), heap.has_refused());
-    let counts = counts.ok()?;
+    let judged = looked_over(&heap, level, Warnings::Unasked);
+    check_same(rt, judged.is_err(), heap.has_refused());
+    let counts = judged.ok()?.counts();
     Some((counts.faults(), counts.notes()))
 }
 
 // How many warnings of each code are told, in order, and the total.
-fn told<A: Allocator>(rt: &impl Abort, all: &[Warned<A>]) -> ([usize; 11], u64) {
+fn told<A: Allocator>(rt: &impl Abort, judged: &Judged<'_, '_, A>) -> ([usize; 11], u64) {
+    let all = judged.warned();
     let mut counts = [0; 11];
     for (count, warned) in counts.iter_mut().zip(all) {
         *count = warned.count();
@@ -36,22 +49,10 @@ fn told<A: Allocator>(rt: &impl Abort, all: &[Warned<A>]) -> ([usize; 11], u64) 
     if let Some(first) = all.first() {
         check_same(rt, (first.code(), all.len()), (WarningCode::W1, 11));
     }
-    (counts, warned_total(all))
+    (counts, judged.counts().warnings())
 }
 
-// What is told of a level's warnings, one of a code at most; None where a growth was refused.
-fn all_warned(
-    rt: &(impl Abort + AllocGlobal),
-    level: &Level<'_>,
-    n: u64,
-) -> Option<([usize; 11], u64)> {
-    let heap = Refusing::new(rt.alloc(), n);
-    let all = warnings_of(&heap, level, &None, &Ignored::none(), 1);
-    check_same(rt, all.is_err(), heap.has_refused());
-    Some(told(rt, &all.ok()?))
-}
-
-// The same where they are asked for so.
+// What is told of a level's warnings where they are asked for so; None where a growth was refused.
 fn asked_for(
     rt: &(impl Abort + AllocGlobal),
     level: &Level<'_>,
@@ -59,15 +60,9 @@ fn asked_for(
     n: u64,
 ) -> Option<([usize; 11], u64)> {
     let heap = Refusing::new(rt.alloc(), n);
-    let rules = Rules {
-        reading: Reading::Signed,
-        warnings,
-        ignored: Ignored::none(),
-    };
-    let base = Base::none();
-    let all = asked_warnings(&heap, level, &None, 1, rules.over(&base));
-    check_same(rt, all.is_err(), heap.has_refused());
-    Some(told(rt, &all.ok()?))
+    let judged = looked_over(&heap, level, warnings);
+    check_same(rt, judged.is_err(), heap.has_refused());
+    Some(told(rt, &judged.ok()?))
 }
 
 // The sample level has one start, and its two sectors are open at both ends of its linedef.
@@ -97,8 +92,7 @@ fn counts_refused(rt: HostRuntime) {
 fn check_warnings(rt: &(impl Abort + AllocGlobal), level: &Level<'_>) {
     let mut met = 0;
     for n in 1..99 {
-        let all = all_warned(rt, level, n);
-        check_same(rt, asked_for(rt, level, Warnings::Told, n), all);
+        let all = asked_for(rt, level, Warnings::Told, n);
         check_same(rt, asked_for(rt, level, Warnings::Strict, n), all);
         if all.is_some() {
             check_same(rt, all, Some(WARNED));
@@ -106,11 +100,12 @@ fn check_warnings(rt: &(impl Abort + AllocGlobal), level: &Level<'_>) {
         }
         met = n;
     }
-    assert!(rt; 0 < met && met < 98);
-    // Where they aren't asked for no growth is.
+    assert!(rt; 1 < met && met < 98);
+    // Where they aren't asked for, there is no growth but the level's own.
+    check_same(rt, asked_for(rt, level, Warnings::Unasked, 1), None);
     check_same(
         rt,
-        asked_for(rt, level, Warnings::Unasked, 1),
+        asked_for(rt, level, Warnings::Unasked, 3),
         Some(NOT_WARNED),
     );
 }

@@ -121,12 +121,21 @@ fn task_of<'a>(alloc: Global, matches: &ArgMatches<'a>) -> Result<Task<'a>, Mist
     Ok(Task::Tell(job_of(alloc, matches)?))
 }
 
+// How many findings or warnings of one code are shown of a level at most, where 0 asks for all.
+fn most_of(of_check: &ArgMatches<'_>) -> u64 {
+    match of_check.get_one::<u64>("max") {
+        Some(0) => u64::MAX,
+        Some(most) => most,
+        None => SHOWN,
+    }
+}
+
 // Which report the arguments ask for.
 fn job_of<'a>(alloc: Global, matches: &ArgMatches<'a>) -> Result<Telling<'a>, Mistake> {
     match matches.subcommand_matches("check") {
         Some(of_check) => {
-            let most = of_check.get_one::<u64>("max").unwrap_or(SHOWN);
-            job_over(alloc, Word::Check(most, form_of(of_check)), of_check)
+            let word = Word::Check(most_of(of_check), form_of(of_check));
+            job_over(alloc, word, of_check)
         }
         None => match matches.subcommand_matches("demos") {
             Some(of_demos) => job_over(alloc, Word::Demos(form_of(of_demos)), of_demos),

@@ -3,8 +3,8 @@ use Rattle.std.specs.Prelude.{nat_lt}
 use Rattle.line_io.specs.Writes.{Writes}
 use Rattle.atlas_page.proofs.ItemLemmas.{chosen}
 use Rattle.atlas_page.specs.Items.{code_item}
-use Rattle.lens_engines.specs.Counts.{report_order}
-use Rattle.lens_engines.specs.Objects.{count_of}
+use Rattle.level_codes.specs.Codes.{report_order}
+use Rattle.lens_engines.specs.ReportCounts.{count_of}
 use Rattle.atlas_page.proofs.items.write_codes.Goals as goal
 
 pub returns : goal.returns

@@ -1,27 +1,36 @@
-use Rattle.std.proofs.Common.{ℕ, List, subst}
+use Rattle.std.proofs.Common.{ℕ, List, subst, sym, ◌∙◌}
+use Rattle.std.proofs.lemmas.Bool.{eqb-true, eq-eqb}
 use Rattle.line_io.specs.Writes.{Writes}
 use Rattle.map_audit.specs.Findings.{AuditHolds}
 use Rattle.map_level.specs.declared.finding.Code.{Code}
 use Rattle.lens_engines.specs.Check.{asked_of}
 use Rattle.lens_texts.specs.Head.{Head}
 use Rattle.lens_engines.specs.LevelLines.{AreCounted, AreShown, judged_text}
-use Rattle.lens_engines.proofs.CheckLemmas.{judged_written}
-use Rattle.lens_engines.proofs.CountLemmas.{counts_kept}
+use Rattle.lens_engines.proofs.CheckLemmas.{judged_written, kept_faultless, report_kept, sound_kept_faultless}
 use Rattle.lens_engines.proofs.check.check_doom.Goals as goal
+
+pub is_sound_wide_alone-requires-clause-tells : goal.is_sound_wide_alone-requires-clause-tells
+is_sound_wide_alone-requires-clause-tells g c =
+    let level = c.level_at-level.result in
+    let ignored = c.args.question.now.judging.ignored in
+    let judged = c.in-Ok.judged in
+    let kept = report_kept ignored level judged.warned judged.counts c.in-Ok.ensures.counts in
+    let faults = rw c.counts-counts.ensures at c.faults-sound.ensures in (
+      (λ yes. kept_faultless ignored level judged.counts kept (sym faults ∙ eqb-true c.faults-sound.result 0 yes)),
+      (λ sound. eq-eqb c.faults-sound.result 0 (faults ∙ sound_kept_faultless ignored level judged.counts kept sound)),
+    )
 
 pub returns : goal.returns
 returns g c =
     let level = c.level_at-level.result in
-    let judging = c.args.question.now.judging in
-    let counts = c.without-counts.result in
-    let text = subst (λ (head : Head). (told : Code → List ℕ) → AreShown (AuditHolds level) told → AreCounted counts told
+    let judged = c.in-Ok.judged in
+    let text = subst (λ (head : Head). (told : Code → List ℕ) → AreShown (AuditHolds level) told → AreCounted judged.counts told
     → Writes (g.W.Sink.state c.args.out.now) (g.W.Sink.state c.write_judged-wrote.new.out)
-    (judged_text head c.args.question.now.most level told c.in-Ok.found.warned.items c.in-Ok.found.told.sound_wide) c.write_judged-wrote.result) c.requires.heading
-    (rw (c.in-Ok.ensures.judged, c.deref.ensures.value) at c.write_judged-wrote.ensures.text) in
-    let are = counts_kept judging.ignored level c.in-Ok.found.told.counts counts c.without-counts.ensures.all c.without-counts.ensures.each c.in-Ok.ensures.counts in
-    let warned = rw c.requires.known at c.in-Ok.ensures.warned in
-    let unlooked = rw c.requires.known at c.of-unlooked.ensures in
-    let ended = rw (c.judged_totals-totals.ensures, c.warned_total.ensures, c.deref-2.ensures.value) at c.text_end.ensures in
-    judged_written g.W.Sink.state (asked_of c.args.question.now) c.args.set.now c.args.g c.args.heading.now.label level counts
-    c.in-Ok.found.warned.items c.of-unlooked.result c.in-Ok.found.told.sound_wide c.args.out.now c.write_judged-wrote.new.out c.write_judged-wrote.result c.text_end.result
-    c.level_at-level.ensures are warned unlooked c.in-Ok.ensures.wide text ended
+    (judged_text head c.args.question.now.most level told judged.warned c.in-Ok-is_sound_wide_alone.sound_wide) c.write_judged-wrote.result) c.requires.heading
+    (rw c.in-Ok.ensures.of_level at c.write_judged-wrote.ensures.text) in
+    let are = rw c.requires.known at c.in-Ok.ensures in
+    let unlooked = rw c.requires.known at c.of-2.ensures in
+    let ended = rw (c.judged_totals-totals.ensures, c.counts-counts.ensures) at c.text_end.ensures in
+    judged_written g.W.Sink.state (asked_of c.args.question.now) c.args.set.now c.args.g c.args.heading.now.label level judged
+    c.of-2.result c.in-Ok-is_sound_wide_alone.sound_wide c.args.out.now c.write_judged-wrote.new.out c.write_judged-wrote.result c.text_end.result
+    c.level_at-level.ensures are unlooked c.in-Ok-is_sound_wide_alone.ensures text ended

@@ -10,10 +10,9 @@ pub returns-in_err-write_codes-clause-text : goal.returns-in_err-write_codes-cla
 returns-in_err-write_codes-clause-text g c =
     let p = err_from_is_err_and c.from_residual.result c.from_residual.ensures.1 in
     let head = head_of c.args.heading.now in
-    rw (p.1, p.2) (λ told are counted. Writes-stop (warned_text head c.args.judged.now c.args.warned.now ++ wide_part head c.args.sound_wide)
+    rw (p.1, p.2) (λ told are counted. Writes-stop (warned_text head c.args.judged.now.level c.args.judged.now.warned ++ wide_part head c.args.sound_wide)
     (c.in_err-write_codes.ensures.text told are counted))
 
 pub returns-clause-text : goal.returns-clause-text
 returns-clause-text g c =
-    let rest = rw c.level.ensures at c.write_rest.ensures in
-    λ told are counted. Writes-then _ _ _ _ _ (c.in_ok-write_codes.ensures.text told are counted).takes.whole rest
+    λ told are counted. Writes-then _ _ _ _ _ (c.in_ok-write_codes.ensures.text told are counted).takes.whole c.write_rest.ensures

@@ -3,17 +3,17 @@ use Rattle.lens_engines.proofs.ShownLemmas.{Shows-none, Shows-more, Shows-stop, 
 use Rattle.lens_engines.proofs.level_lines.write_shown.Goals as goal
 
 pub shown-init : goal.shown-init
-shown-init g c = record { sound = c.requires; shows = λ indexes are. Shows-none _ _ _ _ indexes are }
+shown-init g c = record { sound = c.requires.sound; shows = λ indexes are. Shows-none _ _ _ _ indexes are }
 
-pub returns-in_err-write-clause-text : goal.returns-in_err-write-clause-text
-returns-in_err-write-clause-text g c =
+pub returns-in_err-write_finding-clause-text : goal.returns-in_err-write_finding-clause-text
+returns-in_err-write_finding-clause-text g c =
     let p = err_from_is_err_and c.from_residual.result c.from_residual.ensures.1 in
-    rw (p.1, p.2) (λ indexes are. Shows-stop c.in-Some.index (c.shown.invariant.shows indexes are) c.shown-test.true c.in-Some.ensures.some c.in_err-write.ensures)
+    rw (p.1, p.2) (λ indexes are. Shows-stop c.in-Some.index (c.shown.invariant.shows indexes are) c.shown-test.true c.in-Some.ensures.some c.in_err-write_finding.ensures)
 
 pub shown-preserved : goal.shown-preserved
 shown-preserved g c = record {
-  sound = c.in_ok-write.ensures.ends.sound;
-  shows = λ indexes are. Shows-more _ c.in-Some.index (c.shown.invariant.shows indexes are) c.shown-test.true c.in-Some.ensures.some c.in_ok-write.ensures;
+  sound = c.in_ok-write_finding.ensures.ends.sound;
+  shows = λ indexes are. Shows-more _ c.in-Some.index (c.shown.invariant.shows indexes are) c.shown-test.true c.in-Some.ensures.some c.in_ok-write_finding.ensures;
 }
 
 pub returns-in_default-clause-text : goal.returns-in_default-clause-text

@@ -9,9 +9,9 @@ use Rattle.lens_engines.proofs.level_lines.write_shown.Given as goal
 abbrev pub invariant-shown : goal.invariant-shown
 invariant-shown g l = record {
   sound : (g.W.Sink.state l.out).failed ≡ false;
-  shows : (indexes : List ℕ) → AreIndexes (AuditHolds l.judged l.code) indexes
-      → Shows (AuditHolds l.judged l.code) (λ i. finding_text (head_of l.heading) l.judged (record { code = l.code; index = i }))
-      (code_lines (head_of l.heading) l.judged l.code (take l.shown indexes)) (g.W.Sink.state l.fn.out) (g.W.Sink.state l.out) l.from l.left;
+  shows : (indexes : List ℕ) → AreIndexes (AuditHolds l.judged.level l.code) indexes
+      → Shows (AuditHolds l.judged.level l.code) (λ i. finding_text (head_of l.heading) l.judged.level (record { code = l.code; index = i }))
+      (code_lines (head_of l.heading) l.judged.level l.code (take l.shown indexes)) (g.W.Sink.state l.fn.out) (g.W.Sink.state l.out) l.from l.left;
 }
 
 abbrev pub decreases-shown : goal.decreases-shown

@@ -10,7 +10,7 @@ use Rattle.lens_engines.proofs.object.write_doom.Goals as goal
 pub returns-in_err-write_lumps : goal.returns-in_err-write_lumps
 returns-in_err-write_lumps g c =
     let p = err_from_is_err_and c.from_residual.result c.from_residual.ensures.1 in
-    rw (p.1, p.2) (Writes-stop (found_members c.args.counted.now.counts ++ (warnings_member c.args.counted.now.warnings c.args.counted.now.warned ++ (unlooked_member c.args.counted.now.unlooked ++ codes "}\n"))) c.in_err-write_lumps.ensures)
+    rw (p.1, p.2) (Writes-stop (found_members c.args.counted.now.counts ++ (warnings_member c.args.counted.now.warnings c.args.counted.now.counts ++ (unlooked_member c.args.counted.now.unlooked ++ codes "}\n"))) c.in_err-write_lumps.ensures)
 
 pub returns : goal.returns
 returns g c = Writes-after c.in_ok-write_lumps.ensures c.write_end.ensures

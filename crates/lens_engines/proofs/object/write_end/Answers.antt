@@ -10,7 +10,7 @@ use Rattle.lens_engines.proofs.object.write_end.Goals as goal
 pub returns-in_err-write_found : goal.returns-in_err-write_found
 returns-in_err-write_found g c =
     let p = err_from_is_err_and c.from_residual.result c.from_residual.ensures.1 in
-    rw (p.1, p.2) (Writes-stop (warnings_member c.args.counted.now.warnings c.args.counted.now.warned ++ (unlooked_member c.args.counted.now.unlooked ++ codes "}\n")) c.in_err-write_found.ensures)
+    rw (p.1, p.2) (Writes-stop (warnings_member c.args.counted.now.warnings c.args.counted.now.counts ++ (unlooked_member c.args.counted.now.unlooked ++ codes "}\n")) c.in_err-write_found.ensures)
 
 pub returns-in_err-write_warnings : goal.returns-in_err-write_warnings
 returns-in_err-write_warnings g c =

@@ -1,6 +1,7 @@
 use Rattle.std.specs.Prelude.{codes}
 use Rattle.std.proofs.Common.{◌++◌}
-use Rattle.lens_engines.specs.Objects.{findings_text}
+use Rattle.level_codes.specs.Codes.{finding_codes}
+use Rattle.lens_engines.specs.Objects.{counts_text}
 use Rattle.std.proofs.lemmas.Result.{err_from_is_err_and}
 use Rattle.line_io.proofs.WriteLemmas.{Writes-stop}
 use Rattle.lens_texts.proofs.WritingLemmas.{Writes-after, Writes-later}
@@ -9,7 +10,7 @@ use Rattle.lens_engines.proofs.object.write_findings.Goals as goal
 pub returns-in_err-emit : goal.returns-in_err-emit
 returns-in_err-emit g c =
     let p = err_from_is_err_and c.from_residual.result c.from_residual.ensures.1 in
-    rw (p.1, p.2) (Writes-stop (findings_text c.args.counts.now ++ codes "}") c.in_err-emit.ensures)
+    rw (p.1, p.2) (Writes-stop (counts_text c.args.counts.now finding_codes ++ codes "}") c.in_err-emit.ensures)
 
 pub returns-in_err-write_codes : goal.returns-in_err-write_codes
 returns-in_err-write_codes g c =

@@ -1,18 +1,17 @@
 use Rattle.std.proofs.Common.{refl}
-use Rattle.lens_engines.proofs.CountLemmas.{counts_kept}
 use Rattle.lens_engines.proofs.level_counts.LevelCounts.at.Goals as goal
 
 pub returns : goal.returns
 returns g c =
-    let judging = c.args.judging in
-    let level = c.level_at-level.result in
+    let judged = rw c.requires.known at c.in_ok-judged.ensures in
     record {
-      level = level;
+      level = c.level_at-level.result;
       there = c.level_at-level.ensures;
-      tables = c.of-3.ensures;
-      counts = counts_kept judging.ignored level c.in_ok-counts.counts c.without.result c.without.ensures.all c.without.ensures.each c.in_ok-counts.ensures;
+      tables = c.of-2.ensures;
+      warned = c.in_ok-judged.judged.warned;
+      are_warned = judged.asked;
+      counts = rw (c.copied.ensures, c.counts.ensures) judged.counts;
       asked = refl;
-      warned = rw c.requires.known at c.in_ok-warned.ensures;
-      unlooked = rw c.requires.known at c.of-4.ensures;
+      unlooked = rw c.requires.known at c.of-3.ensures;
       drawn = c.has_lines.ensures;
     }

@@ -14,18 +14,19 @@ use Rattle.map_cells.specs.Cells.{AreCells, Cells, cell}
 use Rattle.map_cells.specs.SectorCounts.{AreCounts, cells_of, shows}
 use Rattle.map_cells.specs.Ends.{IsEnd}
 use Rattle.map_cells.specs.Frame.{Encloses, Frame}
-use Rattle.map_cells.specs.Grid.{Grid, columns_of}
+use Rattle.map_cells.specs.Grid.{Grid, IsSize, columns_of, grid_at}
 use Rattle.map_cells.specs.Groups.{AreGroups, AreBlocksOf}
 use Rattle.map_cells.specs.declared.block.Block.{Block}
 use Rattle.map_cells.proofs.CellLemmas.{cell-beside, cell-inside, seen_at}
-use Rattle.map_level.specs.Findings.{AreFindings, is_fault}
 use Rattle.map_level.specs.Level.{Level}
-use Rattle.map_level.specs.declared.finding.Finding.{Finding}
 use Rattle.map_tree.specs.Sound.{IsSound}
-use Rattle.map_picture.specs.Drawing.{AreSectorsOf, HasNothing, IsDrawn, IsFrameOf, IsSectorOf, StopsText, TakesWhole}
+use Rattle.map_picture.specs.Counts.{CountsFindings}
+use Rattle.map_picture.specs.Drawing.{AreSectorsOf, HasNothing, IsAuditedDrawn, IsAuditedText, IsDrawn, IsFrameOf, IsPicture, IsSectorOf, StopsText, TakesWhole}
 use Rattle.map_picture.specs.Listing.{AreListed, IsListed}
 use Rattle.map_picture.specs.Picture.{picture_text}
 use Rattle.map_picture.specs.declared.draw.TextFault.{TextFault}
+use Rattle.map_picture.specs.declared.draw.View.{View}
+use Rattle.map_picture.specs.declared.finding_counts.FindingCounts.{FindingCounts}
 use Rattle.map_picture.specs.declared.draw.TextFault.TheVariants as fault
 use Rattle.map_picture.specs.declared.sectors.SectorCells.{SectorCells}
 
@@ -41,15 +42,22 @@ pub frame_none : (level : Level) (asked result : Option Frame) → asked ≡ Non
 frame_none level asked result is told =
     ((λ none. record { unasked = is; none = told.0 none }), (λ nothing. told.1 nothing.none))
 
--- a level has a fault where its report counts one
-pub faulty_told : (level : Level) (found : List Finding) (n : ℕ) → AreFindings (AuditHolds level) found → n ≡ count_by (λ f. is_fault f.code) found
-    → IsTrue (nat_lt 0 n) ↔ (¬ IsSound level)
-faulty_told level found n are counts =
-    let decided = sound_by_report level found are in (
-      (λ some sound. omega (arith, counts, decided.0 sound, ltb-true 0 n some)),
-      (λ broken. elim (cases_lt 0 n) [
-        | inl some ↦ lt-ltb 0 n some
-        | inr none ↦ absurd (broken (decided.1 (omega (arith, counts, none))))
+-- a level is sound exactly where no fault is counted
+pub sound_by_counts : (level : Level) (counts : FindingCounts) → CountsFindings (AuditHolds level) counts → IsSound level ↔ (counts.faults ≡ 0)
+sound_by_counts level counts told =
+    let decided = sound_by_report level told.found told.are in
+    let faults = ap (λ (c : FindingCounts). c.faults) told.counted in
+    ((λ sound. faults ∙ decided.0 sound), (λ none. decided.1 (sym faults ∙ none)))
+
+-- a level has a fault where one is counted
+pub faulty_told : (level counted : Level) (counts : FindingCounts) → counted ≡ level → CountsFindings (AuditHolds counted) counts
+    → IsTrue (nat_lt 0 counts.faults) ↔ (¬ IsSound level)
+faulty_told level counted counts same told =
+    let decided = sound_by_counts level counts (subst (λ (l : Level). CountsFindings (AuditHolds l) counts) same told) in (
+      (λ some sound. omega (arith, decided.0 sound, ltb-true 0 counts.faults some)),
+      (λ broken. elim (cases_lt 0 counts.faults) [
+        | inl some ↦ lt-ltb 0 counts.faults some
+        | inr none ↦ absurd (broken (decided.1 (omega (arith, none))))
       ]),
     )
 
@@ -64,21 +72,43 @@ stops_as state P Q out out' fault.Write turns stops =
     record { text = stops.text; is = turns stops.text stops.is; front = stops.front; failed = stops.failed }
 
 -- the picture by the sectors that the cells show
-pub drawn_by : (level : Level) (found : List Finding) (cells : Cells) (grid : Grid) (shown seen : List SectorCells)
+pub drawn_by : (level : Level) (cells : Cells) (grid : Grid) (shown seen : List SectorCells)
     → IsSound level → AreCells level cells → grid ≡ cells.grid → seen ≡ shown → AreSectorsOf cells shown
-    → (text : List ℕ) → text ≡ picture_text level found grid.frame grid.size seen → IsDrawn level found cells.grid text
-drawn_by level found cells grid shown seen sound are over same sectors text is = record {
-  shown = shown;
-  shows = inl (sound, record { cells = cells; over = refl; are = are; sectors = sectors });
-  is =
-      subst (λ (xs : List SectorCells). text ≡ picture_text level found cells.grid.frame cells.grid.size xs) same
-      (subst (λ (g : Grid). text ≡ picture_text level found g.frame g.size seen) over is);
+    → (text : List ℕ) → IsAuditedText level grid seen text → IsAuditedDrawn level cells.grid text
+drawn_by level cells grid shown seen sound are over same sectors text by = record {
+  found = by.found;
+  audited = by.audited;
+  drawn = record {
+    shown = shown;
+    shows = inl (sound, record { cells = cells; over = refl; are = are; sectors = sectors });
+    is =
+        subst (λ (xs : List SectorCells). text ≡ picture_text level by.found cells.grid.frame cells.grid.size xs) same
+        (subst (λ (g : Grid). text ≡ picture_text level by.found g.frame g.size seen) over by.is);
+  };
 }
 
 -- the picture of a level that isn't sound
-pub drawn_bare : (level : Level) (found : List Finding) (grid : Grid) → ¬ IsSound level
-    → (text : List ℕ) → text ≡ picture_text level found grid.frame grid.size [] → IsDrawn level found grid text
-drawn_bare level found grid broken text is = record { shown = []; shows = inr (broken, refl); is = is }
+pub drawn_bare : (level : Level) (grid : Grid) → ¬ IsSound level → (text : List ℕ) → IsAuditedText level grid [] text → IsAuditedDrawn level grid text
+drawn_bare level grid broken text by = record {
+  found = by.found;
+  audited = by.audited;
+  drawn = record { shown = []; shows = inr (broken, refl); is = by.is };
+}
+
+-- the picture in the frame that is asked for, by cells of the size that is
+pub drawn_as_asked : (level counted : Level) (asked : View) (frame : Frame) (grid : Grid) → counted ≡ level → IsFrameOf level asked.frame frame
+    → grid.frame ≡ frame → IsSize frame asked.cells grid.size → (text : List ℕ) → IsAuditedDrawn counted grid text → IsPicture level asked text
+drawn_as_asked level counted asked frame grid same framed over sized text drawn =
+    let here = subst (λ (l : Level). IsAuditedDrawn l grid text) same drawn in
+    record {
+      found = here.found;
+      audited = here.audited;
+      frame = frame;
+      framed = framed;
+      size = grid.size;
+      sized = sized;
+      drawn = subst (λ f. IsDrawn level here.found (grid_at f grid.size) text) over here.drawn;
+    }
 
 -- what one thing that is seen adds to a count
 abbrev weigh : Bool → ℕ

@@ -1,5 +1,5 @@
 -- Texts in parts: the part of a number, and the parts from one on.
-use Rattle.std.proofs.Common.{◌≡◌, ℕ, zero, suc, ◌+◌, ◌<◌, ◌≤◌, List, [], ◌∷◌, ◌++◌, length, drop, map, Some, refl, ap, ◌∙◌, arith}
+use Rattle.std.proofs.Common.{◌≡◌, ℕ, zero, suc, ◌+◌, ◌<◌, ◌≤◌, List, [], ◌∷◌, ◌++◌, length, drop, Some, refl, ap, ◌∙◌, arith}
 use Rattle.std.specs.Prelude.{slice_index_or}
 use Rattle.std.specs.List.{slice_get}
 use Rattle.std.proofs.lemmas.List.{drop_all}
@@ -14,12 +14,6 @@ parts-drop (part ∷ parts) (suc i) below = let next : suc i + 1 ≡ suc (i + 1)
 -- none is left behind the last
 pub parts_past : (parts : List (List ℕ)) (i : ℕ) → length parts ≤ i → joined (drop i parts) ≡ []
 parts_past parts i past = ap joined (drop_all i parts past)
-
--- the part of an item
-pub part_of : {X : Type 0} (text : X → List ℕ) (xs : List X) (i : ℕ) (x : X) → slice_get xs i ≡ Some x → slice_index_or (map text xs) i [] ≡ text x
-part_of text [] i x at = cc
-part_of text (y ∷ xs) zero x at = let same : y ≡ x = cc in ap text same
-part_of text (y ∷ xs) (suc i) x at = part_of text xs i x at
 
 -- the part of a numbered item
 pub numbered_part : {X : Type 0} (text : ℕ → X → List ℕ) (from : ℕ) (xs : List X) (i n : ℕ) (x : X) → n ≡ from + i → slice_get xs i ≡ Some x

@@ -62,6 +62,18 @@ pub record IsDrawn (level : Level) (found : List Finding) (grid : Grid) (text : 
   pub shows : ShowsSectors level grid shown
   pub is : text ≡ picture_text level found grid.frame grid.size shown
 
+-- the same with the level's findings
+pub record IsAuditedDrawn (level : Level) (grid : Grid) (text : List ℕ) : Type 0 where
+  pub found : List Finding
+  pub audited : AreFindings (AuditHolds level) found
+  pub drawn : IsDrawn level found grid text
+
+-- the picture's text, with the level's findings and by these sectors over this grid
+pub record IsAuditedText (level : Level) (grid : Grid) (shown : List SectorCells) (text : List ℕ) : Type 0 where
+  pub found : List Finding
+  pub audited : AreFindings (AuditHolds level) found
+  pub is : text ≡ picture_text level found grid.frame grid.size shown
+
 -- the picture's text: of the level's findings, its frame or the one that is asked for, and cells of the least size at which the longer
 -- side has at most as many as are asked for
 pub record IsPicture (level : Level) (asked : View) (text : List ℕ) : Type 0 where

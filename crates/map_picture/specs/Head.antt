@@ -4,9 +4,11 @@ use Rattle.std.specs.Fmt.{signed_decimal}
 use Rattle.le_rec.specs.Name.{shown_name}
 use Rattle.map_level.specs.Level.{Level}
 use Rattle.map_level.specs.declared.finding.Finding.{Finding}
-use Rattle.wad_look.specs.Engines.Audit.{fault_count, note_count, totals_line}
+use Rattle.wad_look.specs.Engines.Audit.{totals_line}
+use Rattle.map_picture.specs.Counts.{counts_of}
 use Rattle.map_picture.specs.Escape.{escaped}
 use Rattle.map_picture.specs.Parts.{joined}
+use Rattle.map_picture.specs.declared.finding_counts.FindingCounts.{FindingCounts}
 use Rattle.map_picture.specs.declared.window.Window.{Window}
 
 -- `<svg .. viewBox="{left} {top} {width} {height}">`
@@ -23,11 +25,15 @@ without_end line = take (length line - 1) line
 abbrev pub label_name : Level → List ℕ
 label_name level = shown_name (slice_index_or level.names 0 [])
 
--- `<title>{label}: {totals of the audit}</title>`
-abbrev pub title_line : Level → List Finding → List ℕ
-title_line level found =
+-- `<title>{label}: {totals of the audit}</title>`, by how many findings there are
+abbrev pub title_of : Level → FindingCounts → List ℕ
+title_of level counts =
     joined (codes "<title>" ∷ escaped (label_name level) ∷ codes ": "
-    ∷ escaped (without_end (totals_line (fault_count found) (note_count found))) ∷ codes "</title>\n" ∷ [])
+    ∷ escaped (without_end (totals_line counts.faults counts.notes)) ∷ codes "</title>\n" ∷ [])
+
+-- the title of a level with these findings
+abbrev pub title_line : Level → List Finding → List ℕ
+title_line level found = title_of level (counts_of found)
 
 -- the style sheet: sectors, walls, lines between sectors, findings and things
 abbrev pub style_line : List ℕ

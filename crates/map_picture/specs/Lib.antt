@@ -2,6 +2,7 @@ pub mod Parts
 pub mod Escape
 pub mod Grey
 pub mod Window
+pub mod Counts
 pub mod Paths
 pub mod Head
 pub mod Sectors

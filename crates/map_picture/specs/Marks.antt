@@ -1,6 +1,7 @@
 -- The findings of a picture (ours): where a linedef or a seg is at fault, with what the audit says of it.
-use Rattle.std.specs.Prelude.{ℕ, List, [], ◌∷◌, ◌++◌, Option, None, codes, map}
+use Rattle.std.specs.Prelude.{ℕ, List, [], ◌∷◌, ◌++◌, Option, None, codes, map, ◌==◌, if◌then◌else◌}
 use Rattle.std.specs.Option.{option_map_or}
+use Rattle.map_level.specs.Findings.{rank}
 use Rattle.map_level.specs.Level.{Level}
 use Rattle.map_level.specs.declared.finding.Code.{Code}
 use Rattle.map_level.specs.declared.finding.Code.TheVariants.{F4, F7, F8, F9, N3, N4, N5}
@@ -45,3 +46,11 @@ mark_part level f = option_map_or (mark_line f) (ends_of level (marked_by f.code
 -- the lines of the findings
 abbrev pub marks : Level → List Finding → List ℕ
 marks level found = joined (map (mark_part level) found)
+
+-- a finding's line, if it is one of a code
+abbrev pub code_part : Level → Code → Finding → List ℕ
+code_part level code f = if rank f.code == rank code then mark_part level f else []
+
+-- the lines of a code's findings
+abbrev pub code_marks : Level → Code → List Finding → List ℕ
+code_marks level code found = joined (map (code_part level code) found)

@@ -1,21 +1,19 @@
-//! Draws a level: finds its frame, its findings and what its cells show.
+//! Draws a level: finds its frame, counts its findings and finds what its cells show.
 
 ghost use Rattle.std.specs.Prelude.{◌≡◌, ◌↔◌, ◌≤◌, ◌<◌, [], false, Some, None, Err, IsTrue, IfOk, IfErr, IfSome, OnOk, length};
-ghost use Rattle.map_audit.specs.Findings.{AuditHolds};
 ghost use Rattle.map_cells.specs.Cells.{AreCells, cell};
 ghost use Rattle.map_cells.specs.SectorCounts.{AreCounts};
 ghost use Rattle.map_cells.specs.Groups.{AreGroups};
-ghost use Rattle.map_level.specs.Findings.{AreFindings};
 ghost use Rattle.map_tree.specs.Sound.{IsSound};
-ghost use Rattle.map_picture.specs.Drawing.{AreSectorsOf, HasNothing, IsDrawn, IsFrameOf, IsPicture, StopsDrawing, StopsText, TakesWhole};
-ghost use Rattle.map_picture.specs.Picture.{picture_text};
+ghost use Rattle.map_picture.specs.Drawing.{HasNothing, IsAuditedDrawn, IsAuditedText, IsFrameOf, IsPicture};
+ghost use Rattle.map_picture.specs.Drawing.{StopsDrawing, StopsText, TakesWhole};
 ghost use Rattle.map_picture.specs.declared.draw.DrawFault.TheVariants.{NothingToDraw};
 
+use crate::counted_level::CountedLevel;
 use crate::listing::listed;
 use crate::picture::{Drawn, write_picture};
 use crate::sectors::SectorCells;
 use le_rec::Sink;
-use map_audit::{Report, audit};
 use map_cells::{CellCount, Cells, Frame, Grid, Groups, SectorCounts, Shown};
 use map_level::Level;
 use std::alloc::{AllocError, Allocator};
@@ -72,8 +70,8 @@ impl From<AllocError> for DrawFault {
 }
 
 /// Writes the picture of a level, and returns whether the level has a fault. With a fault it is drawn without cells.
-/// `NothingToDraw` and `Memory` come before anything is written. It takes memory for the level's findings. Without a fault it
-/// takes besides at most twelve bytes a cell, ten a seg and some hundred a sector.
+/// `NothingToDraw` and `Memory` come before anything is written. It takes two bytes for each node and ssector. Without a fault
+/// it takes besides at most twelve bytes a cell, ten a seg and some hundred a sector.
 pub fn draw_level<A: Allocator + Copy, W: Sink>(
     alloc: A,
     level: &Level<'_>,
@@ -89,9 +87,9 @@ pub fn draw_level<A: Allocator + Copy, W: Sink>(
     let Some(frame) = frame_of(level, asked.frame) else {
         return Err(DrawFault::NothingToDraw);
     };
-    let report = audit(alloc, level)?;
-    let faulty = report.faults() > 0;
-    match draw_report(alloc, level, &report, Grid::new(frame, asked.cells), out) {
+    let counted = CountedLevel::of(alloc, level)?;
+    let faulty = counted.counts().faults > 0;
+    match draw_counted(alloc, &counted, Grid::new(frame, asked.cells), out) {
         Ok(()) => Ok(faulty),
         Err(TextFault::Memory) => Err(DrawFault::Memory),
         Err(TextFault::Write) => Err(DrawFault::Write(faulty)),
@@ -109,41 +107,39 @@ fn frame_of(level: &Level<'_>, asked: Option<Frame>) -> Option<Frame>
     }
 }
 
-// Writes the picture of a level with its report.
-fn draw_report<A: Allocator + Copy, W: Sink>(
+// Writes the picture of a level whose findings are counted.
+fn draw_counted<A: Allocator + Copy, W: Sink>(
     alloc: A,
-    level: &Level<'_>,
-    report: &Report<A>,
+    counted: &CountedLevel<'_, '_, A>,
     grid: Grid,
     out: &mut W,
 ) -> Result<(), TextFault>
-    requires audited { AreFindings (AuditHolds level.now) report.now }
-    requires sound { (W.state out.old).failed ≡ false }
-    ensures drawn { OnOk result (TakesWhole (IsDrawn level.now report.now grid) (W.state out.old) (W.state out.new)) }
-    ensures stopped { IfErr result (StopsText W.state (IsDrawn level.now report.now grid) out.old out.new) }
+    requires { (W.state out.old).failed ≡ false }
+    ensures drawn { OnOk result (TakesWhole (IsAuditedDrawn counted.now grid) (W.state out.old) (W.state out.new)) }
+    ensures stopped { IfErr result (StopsText W.state (IsAuditedDrawn counted.now grid) out.old out.new) }
 {
-    if report.faults() > 0 {
-        draw_shown(level, report, grid, &[], out)
+    let counts = counted.counts();
+    if counts.faults > 0 {
+        draw_shown(counted, grid, &[], out)
     } else {
-        draw_sound(alloc, level, report, grid, out)
+        draw_sound(alloc, counted, grid, out)
     }
 }
 
 // Writes the picture of a sound level.
 fn draw_sound<A: Allocator + Copy, W: Sink>(
     alloc: A,
-    level: &Level<'_>,
-    report: &Report<A>,
+    counted: &CountedLevel<'_, '_, A>,
     grid: Grid,
     out: &mut W,
 ) -> Result<(), TextFault>
-    requires level_sound { IsSound level.now }
+    requires level_sound { IsSound counted.now }
     requires sound { (W.state out.old).failed ≡ false }
-    ensures drawn { OnOk result (TakesWhole (IsDrawn level.now report.now grid) (W.state out.old) (W.state out.new)) }
-    ensures stopped { IfErr result (StopsText W.state (IsDrawn level.now report.now grid) out.old out.new) }
+    ensures drawn { OnOk result (TakesWhole (IsAuditedDrawn counted.now grid) (W.state out.old) (W.state out.new)) }
+    ensures stopped { IfErr result (StopsText W.state (IsAuditedDrawn counted.now grid) out.old out.new) }
 {
-    let cells = cells_of(alloc, level, grid)?;
-    draw_cells(alloc, level, report, &cells, out)
+    let cells = cells_of(alloc, counted.level(), grid)?;
+    draw_cells(alloc, counted, &cells, out)
 }
 
 // What is shown at the points of a grid's cells.
@@ -162,43 +158,39 @@ fn cells_of<A: Allocator + Copy>(
 // Writes the picture of a sound level by its cells.
 fn draw_cells<A: Allocator + Copy, W: Sink>(
     alloc: A,
-    level: &Level<'_>,
-    report: &Report<A>,
+    counted: &CountedLevel<'_, '_, A>,
     cells: &Cells<A>,
     out: &mut W,
 ) -> Result<(), TextFault>
-    requires level_sound { IsSound level.now }
-    requires are { AreCells level.now cells.now }
+    requires level_sound { IsSound counted.now }
+    requires are { AreCells counted.now cells.now }
     requires sound { (W.state out.old).failed ≡ false }
-    ensures drawn { OnOk result (TakesWhole (IsDrawn level.now report.now cells.now.grid) (W.state out.old) (W.state out.new)) }
-    ensures stopped { IfErr result (StopsText W.state (IsDrawn level.now report.now cells.now.grid) out.old out.new) }
+    ensures drawn { OnOk result (TakesWhole (IsAuditedDrawn counted.now cells.now.grid) (W.state out.old) (W.state out.new)) }
+    ensures stopped { IfErr result (StopsText W.state (IsAuditedDrawn counted.now cells.now.grid) out.old out.new) }
 {
     let groups = Groups::of(alloc, cells)?;
     let counts = SectorCounts::of(alloc, cells)?;
     let shown = listed(alloc, &groups, &counts)?;
-    draw_shown(level, report, cells.grid(), &shown, out)
+    draw_shown(counted, cells.grid(), &shown, out)
 }
 
 // Writes the picture of a level by the sectors that cells show.
 fn draw_shown<A: Allocator, W: Sink>(
-    level: &Level<'_>,
-    report: &Report<A>,
+    counted: &CountedLevel<'_, '_, A>,
     grid: Grid,
     shown: &[SectorCells<'_>],
     out: &mut W,
 ) -> Result<(), TextFault>
     requires { (W.state out.old).failed ≡ false }
-    ensures drawn { OnOk result (TakesWhole (λ text. text ≡ picture_text level.now report.now grid.frame grid.size shown.now)
-        (W.state out.old) (W.state out.new)) }
-    ensures stopped { IfErr result (StopsText W.state (λ text. text ≡ picture_text level.now report.now grid.frame grid.size shown.now)
-        out.old out.new) }
+    ensures drawn { OnOk result (TakesWhole (IsAuditedText counted.now grid shown.now) (W.state out.old) (W.state out.new)) }
+    ensures stopped { IfErr result (StopsText W.state (IsAuditedText counted.now grid shown.now) out.old out.new) }
 {
     let drawn = Drawn {
         frame: grid.frame(),
         size: grid.size(),
         shown,
     };
-    match write_picture(level, report, &drawn, out) {
+    match write_picture(counted, &drawn, out) {
         Ok(()) => Ok(()),
         Err(_) => Err(TextFault::Write),
     }

@@ -3,19 +3,18 @@
 ghost use Rattle.std.specs.Prelude.{◌≡◌, ◌<◌, [], false, length, slice_index_or};
 ghost use Rattle.line_io.specs.Writes.{Writes};
 ghost use Rattle.map_picture.specs.Escape.{escaped};
-ghost use Rattle.map_picture.specs.Head.{ground_line, label_name, style_line, svg_line, title_line, without_end};
-ghost use Rattle.wad_look.specs.Engines.Audit.{fault_count, note_count, totals_line};
+ghost use Rattle.map_picture.specs.Head.{ground_line, label_name, style_line, svg_line, title_of, without_end};
+ghost use Rattle.wad_look.specs.Engines.Audit.{totals_line};
 
 use crate::escape::write_escaped;
+use crate::finding_counts::FindingCounts;
 use crate::marks::without_end;
 use crate::parts::{Parts, write_parts};
 use crate::window::Window;
 use crate::word::prepend_number;
 use le_rec::Sink;
 use line_io::{IoFault, TextLine, emit};
-use map_audit::Report;
 use map_level::Level;
-use std::alloc::Allocator;
 use wad_look::prepend_totals;
 
 const STYLE: &[u8] =
@@ -48,19 +47,19 @@ fn prepend_svg(line: &mut TextLine, window: &Window)
 }
 
 #[derive(Drop)]
-struct TitleLine<'l, 'a, A: Allocator> {
+struct TitleLine<'l, 'a> {
     level: &'l Level<'a>,
-    report: &'l Report<A>,
+    counts: FindingCounts,
 }
 
-impl<A: Allocator> Parts for TitleLine<'_, '_, A> {
+impl Parts for TitleLine<'_, '_> {
     ghost use Rattle.std.specs.Prelude.{[], ◌∷◌, codes};
     ghost use Rattle.map_picture.specs.Escape.{escaped};
     ghost use Rattle.map_picture.specs.Head.{label_name, without_end};
-    ghost use Rattle.wad_look.specs.Engines.Audit.{fault_count, note_count, totals_line};
+    ghost use Rattle.wad_look.specs.Engines.Audit.{totals_line};
 
     ghost parts = { λ line. codes "<title>" ∷ escaped (label_name line.level.now) ∷ codes ": "
-        ∷ escaped (without_end (totals_line (fault_count line.report.now) (note_count line.report.now))) ∷ codes "</title>\n" ∷ [] };
+        ∷ escaped (without_end (totals_line line.counts.faults line.counts.notes)) ∷ codes "</title>\n" ∷ [] };
 
     fn count(&self) -> usize {
         5
@@ -71,22 +70,22 @@ impl<A: Allocator> Parts for TitleLine<'_, '_, A> {
             0 => emit(out, b"<title>"),
             1 => write_label(self.level, out),
             2 => emit(out, b": "),
-            3 => write_totals(self.report, out),
+            3 => write_totals(self.counts, out),
             _ => emit(out, b"</title>\n"),
         }
     }
 }
 
-/// Writes the title: the level's name, and what the audit adds up to.
-pub fn write_title<A: Allocator, W: Sink>(
+/// Writes the title: the level's name, and how many findings it has.
+pub fn write_title<W: Sink>(
     level: &Level<'_>,
-    report: &Report<A>,
+    counts: FindingCounts,
     out: &mut W,
 ) -> Result<(), IoFault>
     requires { (W.state out.old).failed ≡ false }
-    ensures { Writes (W.state out.old) (W.state out.new) (title_line level.now report.now) result }
+    ensures { Writes (W.state out.old) (W.state out.new) (title_of level.now counts) result }
 {
-    write_parts(&TitleLine { level, report }, out)
+    write_parts(&TitleLine { level, counts }, out)
 }
 
 // Writes the label's name as it is shown.
@@ -100,13 +99,13 @@ fn write_label<W: Sink>(level: &Level<'_>, out: &mut W) -> Result<(), IoFault>
 }
 
 // Writes the last line of the audit, without its end.
-fn write_totals<A: Allocator, W: Sink>(report: &Report<A>, out: &mut W) -> Result<(), IoFault>
+fn write_totals<W: Sink>(counts: FindingCounts, out: &mut W) -> Result<(), IoFault>
     requires { (W.state out.old).failed ≡ false }
     ensures { Writes (W.state out.old) (W.state out.new)
-        (escaped (without_end (totals_line (fault_count report.now) (note_count report.now)))) result }
+        (escaped (without_end (totals_line counts.faults counts.notes))) result }
 {
     let mut line = TextLine::new();
-    prepend_totals(&mut line, report.faults(), report.notes());
+    prepend_totals(&mut line, counts.faults, counts.notes);
     write_escaped(without_end(line.as_bytes()), out)
 }
 

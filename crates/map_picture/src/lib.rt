@@ -1,8 +1,10 @@
 //! A picture of a level as the text of an SVG: which sector is shown where, the linedefs, the findings and the things.
 #![tactic(auto)]
 
+mod counted_level;
 mod draw;
 pub mod escape;
+mod finding_counts;
 mod grey;
 mod head;
 pub mod laws;
@@ -17,6 +19,8 @@ mod things;
 mod window;
 mod word;
 
+pub use counted_level::CountedLevel;
 pub use draw::{DrawFault, View, draw_level};
+pub use finding_counts::FindingCounts;
 pub use picture::{Drawn, write_picture};
 pub use sectors::SectorCells;

@@ -1,20 +1,24 @@
 //! The findings of a picture.
 
-ghost use Rattle.std.specs.Prelude.{◌≡◌, ◌++◌, codes, false};
-ghost use Rattle.line_io.specs.Writes.{Writes};
+ghost use Rattle.std.specs.Prelude.{◌≡◌, ◌++◌, List, codes, false};
+ghost use Rattle.line_io.specs.Writes.{EndsWriting, Writes};
+ghost use Rattle.map_audit.specs.Findings.{AuditHolds};
+ghost use Rattle.map_level.specs.Findings.{AreFindings};
+ghost use Rattle.map_level.specs.declared.finding.Finding.{Finding};
 ghost use Rattle.map_picture.specs.Escape.{escaped};
 ghost use Rattle.map_picture.specs.Head.{without_end};
-ghost use Rattle.map_picture.specs.Marks.{mark_line, mark_part, ends_of, marked_by, marks};
+ghost use Rattle.map_picture.specs.Marks.{code_marks, mark_line, mark_part, ends_of, marked_by, marks};
 ghost use Rattle.map_picture.specs.Paths.{path_text};
 ghost use Rattle.wad_look.specs.Engines.Audit.{finding_line};
 
+use crate::counted_level::CountedLevel;
 use crate::escape::write_escaped;
 use crate::parts::{Parts, write_parts};
 use crate::paths::prepend_path;
 use le_rec::Sink;
 use line_io::{IoFault, TextLine, emit};
-use map_audit::Report;
 use map_cells::{Ends, linedef_ends, seg_ends};
+use map_level::search::CODES;
 use map_level::{Code, Finding, Level};
 use std::alloc::Allocator;
 use wad_look::prepend_finding;
@@ -27,40 +31,57 @@ enum Marked {
     Nothing,
 }
 
-#[derive(Drop)]
-struct Marks<'l, 'a, A: Allocator> {
-    level: &'l Level<'a>,
-    report: &'l Report<A>,
-}
-
-impl<A: Allocator> Parts for Marks<'_, '_, A> {
-    ghost use Rattle.std.specs.Prelude.{map};
-    ghost use Rattle.map_picture.specs.Marks.{mark_part};
-
-    ghost parts = { λ marks. map (mark_part marks.level.now) marks.report.now };
-
-    fn count(&self) -> usize {
-        self.report.len()
-    }
-
-    fn write<W: Sink>(&self, number: usize, out: &mut W) -> Result<(), IoFault> {
-        match self.report.get(number) {
-            Some(finding) => write_part(self.level, &finding, out),
-            None => Ok(()),
-        }
-    }
-}
-
-/// Writes the lines of the findings of linedefs and segs whose two vertexes are there.
+/// Writes the lines of the findings of linedefs and segs whose two vertexes are there. It searches for no other codes.
 pub fn write_marks<A: Allocator, W: Sink>(
-    level: &Level<'_>,
-    report: &Report<A>,
+    counted: &CountedLevel<'_, '_, A>,
     out: &mut W,
 ) -> Result<(), IoFault>
     requires { (W.state out.old).failed ≡ false }
-    ensures { Writes (W.state out.old) (W.state out.new) (marks level.now report.now) result }
+    ensures ends { EndsWriting (W.state out.new) result }
+    ensures text { (found : List Finding) → AreFindings (AuditHolds counted.now) found
+        → Writes (W.state out.old) (W.state out.new) (marks counted.now found) result }
 {
-    write_parts(&Marks { level, report }, out)
+    'codes: for code in CODES {
+        write_code(counted, code, out)?;
+    }
+    Ok(())
+}
+
+// Writes the lines of a code's findings, if they are drawn.
+fn write_code<A: Allocator, W: Sink>(
+    counted: &CountedLevel<'_, '_, A>,
+    code: Code,
+    out: &mut W,
+) -> Result<(), IoFault>
+    requires { (W.state out.old).failed ≡ false }
+    ensures ends { EndsWriting (W.state out.new) result }
+    ensures text { (found : List Finding) → AreFindings (AuditHolds counted.now) found
+        → Writes (W.state out.old) (W.state out.new) (code_marks counted.now code found) result }
+{
+    match marked_by(code) {
+        Marked::Linedef | Marked::Seg => write_each(counted, code, out),
+        Marked::Nothing => emit(out, b""),
+    }
+}
+
+// Writes the lines of a code's findings.
+fn write_each<A: Allocator, W: Sink>(
+    counted: &CountedLevel<'_, '_, A>,
+    code: Code,
+    out: &mut W,
+) -> Result<(), IoFault>
+    requires { (W.state out.old).failed ≡ false }
+    ensures ends { EndsWriting (W.state out.new) result }
+    ensures text { (found : List Finding) → AreFindings (AuditHolds counted.now) found
+        → Writes (W.state out.old) (W.state out.new) (code_marks counted.now code found) result }
+{
+    let level = counted.level();
+    let mut from = 0;
+    'finds: while let Some(index) = counted.first(code, from) {
+        write_part(level, &Finding { code, index }, out)?;
+        from = index + 1;
+    }
+    Ok(())
 }
 
 // Writes the line of a finding, if the ends of what it was found at are there.

@@ -1,12 +1,18 @@
 //! The lines of a picture, one after another.
 
-ghost use Rattle.std.specs.Prelude.{◌≡◌, ◌+◌, ◌≤◌, ◌++◌, [], codes, false, length, neg_ℤ};
+ghost use Rattle.std.specs.Prelude.{◌≡◌, ◌+◌, ◌≤◌, ◌++◌, List, [], codes, false, length, neg_ℤ};
 ghost use Rattle.std.specs.Fmt.{signed_decimal};
 ghost use Rattle.line_io.specs.Writes.{Writes};
 ghost use Rattle.map_picture.specs.Head.{ground_line, svg_line};
-ghost use Rattle.map_picture.specs.Picture.{cells_line, picture_text, sector_lines, sector_part, units_line};
+ghost use Rattle.map_audit.specs.Findings.{AuditHolds};
+ghost use Rattle.map_level.specs.Findings.{AreFindings};
+ghost use Rattle.map_level.specs.declared.finding.Finding.{Finding};
+ghost use Rattle.map_picture.specs.Parts.{joined};
+ghost use Rattle.map_picture.specs.Picture.{WritesPicture, cells_line, found_parts, map_text, sector_lines, sector_part, units_line};
 ghost use Rattle.map_picture.specs.Window.{window_of};
 
+use crate::counted_level::CountedLevel;
+use crate::finding_counts::FindingCounts;
 use crate::head::{write_ground, write_style, write_svg, write_title};
 use crate::lines::write_lines;
 use crate::marks::write_marks;
@@ -17,7 +23,6 @@ use crate::window::window_of;
 use crate::word::prepend_word;
 use le_rec::Sink;
 use line_io::{IoFault, TextLine, emit};
-use map_audit::Report;
 use map_cells::Frame;
 use map_level::Level;
 use std::alloc::Allocator;
@@ -33,59 +38,108 @@ pub struct Drawn<'p, 'b> {
     pub shown: &'p [SectorCells<'b>],
 }
 
+// The lines up to the linedefs.
 #[derive(Drop)]
-struct Picture<'p, 'a, 'b, A: Allocator> {
+struct MapLines<'p, 'a, 'b> {
     level: &'p Level<'a>,
-    report: &'p Report<A>,
+    counts: FindingCounts,
     drawn: &'p Drawn<'p, 'b>,
 }
 
-impl<A: Allocator> Parts for Picture<'_, '_, '_, A> {
-    ghost use Rattle.map_picture.specs.Picture.{picture_parts};
+impl Parts for MapLines<'_, '_, '_> {
+    ghost use Rattle.map_picture.specs.Head.{title_of};
+    ghost use Rattle.map_picture.specs.Picture.{map_parts};
 
-    ghost parts = { λ picture. picture_parts picture.level.now picture.report.now picture.drawn.now.frame picture.drawn.now.size
-        picture.drawn.now.shown.now };
+    ghost parts = { λ lines. map_parts lines.level.now (title_of lines.level.now lines.counts) lines.drawn.now.frame
+        lines.drawn.now.size lines.drawn.now.shown.now };
 
     fn count(&self) -> usize {
-        12
+        9
     }
 
     fn write<W: Sink>(&self, number: usize, out: &mut W) -> Result<(), IoFault> {
         match number {
             0 => write_view(self.drawn.frame, out),
-            1 => write_title(self.level, self.report, out),
+            1 => write_title(self.level, self.counts, out),
             2 => write_style(out),
             3 => write_backdrop(self.drawn.frame, out),
             4 => write_cells(self.drawn.frame, self.drawn.size, out),
             5 => write_sectors(self.level, self.drawn.shown, out),
             6 => write_units(out),
             7 => write_lines(self.level, true, out),
-            8 => write_lines(self.level, false, out),
-            9 => write_marks(self.level, self.report, out),
-            10 => write_things(self.level, out),
+            _ => write_lines(self.level, false, out),
+        }
+    }
+}
+
+// The lines behind the findings.
+#[derive(Drop)]
+struct LastLines<'p, 'a> {
+    level: &'p Level<'a>,
+}
+
+impl Parts for LastLines<'_, '_> {
+    ghost use Rattle.map_picture.specs.Picture.{last_parts};
+
+    ghost parts = { λ lines. last_parts lines.level.now };
+
+    fn count(&self) -> usize {
+        2
+    }
+
+    fn write<W: Sink>(&self, number: usize, out: &mut W) -> Result<(), IoFault> {
+        match number {
+            0 => write_things(self.level, out),
             _ => write_end(out),
         }
     }
 }
 
-/// Writes the picture of a level with its report: the sectors that cells show, by their blocks, the linedefs, the findings of
+/// Writes the picture of a level with its findings: the sectors that cells show, by their blocks, the linedefs, the findings of
 /// linedefs and segs, and the things. `Write` where the sink fails: a front of the text was taken.
 pub fn write_picture<A: Allocator, W: Sink>(
+    counted: &CountedLevel<'_, '_, A>,
+    drawn: &Drawn<'_, '_>,
+    out: &mut W,
+) -> Result<(), IoFault>
+    requires { (W.state out.old).failed ≡ false }
+    ensures { WritesPicture counted.now drawn.now.frame drawn.now.size drawn.now.shown.now (W.state out.old) (W.state out.new) result }
+{
+    write_map(counted.level(), counted.counts(), drawn, out)?;
+    write_found(counted, out)
+}
+
+// Writes the lines up to the linedefs.
+fn write_map<W: Sink>(
     level: &Level<'_>,
-    report: &Report<A>,
+    counts: FindingCounts,
     drawn: &Drawn<'_, '_>,
     out: &mut W,
 ) -> Result<(), IoFault>
     requires { (W.state out.old).failed ≡ false }
     ensures { Writes (W.state out.old) (W.state out.new)
-        (picture_text level.now report.now drawn.now.frame drawn.now.size drawn.now.shown.now) result }
+        (map_text level.now counts drawn.now.frame drawn.now.size drawn.now.shown.now) result }
 {
-    let picture = Picture {
+    let lines = MapLines {
         level,
-        report,
+        counts,
         drawn,
     };
-    write_parts(&picture, out)
+    write_parts(&lines, out)
+}
+
+// Writes the lines from the findings on.
+fn write_found<A: Allocator, W: Sink>(
+    counted: &CountedLevel<'_, '_, A>,
+    out: &mut W,
+) -> Result<(), IoFault>
+    requires { (W.state out.old).failed ≡ false }
+    ensures { (found : List Finding) → AreFindings (AuditHolds counted.now) found
+        → Writes (W.state out.old) (W.state out.new) (joined (found_parts counted.now found)) result }
+{
+    write_marks(counted, out)?;
+    let level = counted.level();
+    write_parts(&LastLines { level }, out)
 }
 
 // Writes the lines of the sectors that are shown.

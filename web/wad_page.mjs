@@ -10,6 +10,8 @@ const TOLD = 4096;
 const MOST_ROOM = 1 << 30;
 /** How warnings are asked for: not at all, or one of these. */
 const WARNINGS = ['', 'told', 'strict'];
+/** How many findings of one code are shown at most, where all are. */
+const ALL = 0xffffffffffffffffn;
 
 /**
  * @typedef {{ status: number, answer: Uint8Array, refused: string }} Ended  how a run ended, as the program would have
@@ -220,7 +222,7 @@ export async function drawPicture(question, file, room = ANSWER) {
 /** A command's number, and what number goes with it. @param {LensQuestion} question @returns {[number, number | bigint]} */
 function commandOf(question) {
   switch (question.command) {
-    case 'check': return [0, question.max];
+    case 'check': return [0, question.max || ALL];
     case 'survey': return [1, 0];
     case 'demos': return [question.json ? 3 : 2, 0];
     case 'cut': return [4, question.entry];

@@ -25,7 +25,7 @@ use std::alloc::{AllocError, Allocator};
 #[repr(C)]
 #[derive(Clone, Copy)]
 pub struct LensQuestion {
-    /// Of `check` how many findings of one code in one level are shown, 0: all. Of `cut` the entry of the level's label.
+    /// Of `check` how many findings or warnings of one code in one level are shown at most. Of `cut` the entry of the level's label.
     pub number: u64,
     /// 0 `check`, 1 `survey`, 2 `demos`, 3 `demos --json`, 4 `cut`.
     pub command: u8,

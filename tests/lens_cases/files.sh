@@ -26,7 +26,7 @@ cases_of_words() {
     mistaken 'a negative --max, apart' '-1' check --max -1 base.wad
     mistaken 'a --max that is no number' 'three' check --max three base.wad
     mistaken 'a path that begins with -' "unexpected argument '-x'" survey -x
-    mistaken '--files-from without a list' '--files-from' survey --files-from
+    cases_of_missing_lists
     tells '--help' 'Usage: wadlens' --help
     tells '-h' 'Usage: wadlens' -h
     tells '--version' 'wadlens 0.1.0' --version
@@ -43,6 +43,19 @@ cases_of_words() {
     printf '%s' $? >status
     judge 'a path that is not UTF-8, on standard input' 0 "$(sound /dev/stdin E1M1 0)" ''
     says 'a word that is not UTF-8, behind others' 2 '' "$no_text" check base.wad --max 3 $'a\xc0\xaf'
+}
+
+# The words end behind --files-from, or go on with another option. The usage is that of the command.
+cases_of_missing_lists() {
+    local command said="a value is required for '--files-from <LIST>' but none was supplied"
+    said+=$'\n\n'"For more information, try '--help'."$'\n\n'
+    for command in check survey demos 'atlas --out new'; do
+        # shellcheck disable=SC2086  # words
+        mistaken "$command: --files-from without a list" "${said}Usage: wadlens ${command%% *} [OPTIONS]" $command --files-from
+    done
+    mistaken '--files-from and --null' "${said}Usage: wadlens survey [OPTIONS]" survey --files-from --null
+    mistaken 'demos: --files-from and --json' "${said}Usage: wadlens demos [OPTIONS]" demos --files-from --json
+    mistaken 'demos: --files-from and a file behind --' "${said}Usage: wadlens demos [OPTIONS]" demos --files-from -- two.lmp
 }
 
 cases_of_paths() {
@@ -95,6 +108,7 @@ cases_of_lists() {
     printf 'base.wad\n' >list
     says 'a list in a file' 0 "$one" '' survey --files-from list
     says 'a list that is not there' 2 '' "$(told no.list "$missing")" survey --files-from no.list base.wad
+    says 'an empty path of a list' 2 '' "$(told '' "$missing")" survey --files-from= base.wad
     says 'a list that is a folder' 2 '' "$(told folder "$unread")" survey --files-from folder base.wad
     timeout 60 "$program" survey --files-from - <folder >output 2>error
     printf '%s' $? >status

@@ -76,6 +76,7 @@ fn shown(command: &str) -> Option<&'static str> {
     match command {
         "check" => Some("wadlens check"),
         "survey" => Some("wadlens survey"),
+        "demos" => Some("wadlens demos"),
         "picture" => Some("wadlens picture"),
         "cut" => Some("wadlens cut"),
         "atlas" => Some("wadlens atlas"),

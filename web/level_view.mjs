@@ -2,7 +2,8 @@
 import { meaningOf } from './codes.mjs';
 import { ListBox } from './list.mjs';
 import { Lines } from './lines.mjs';
-import { MapView, NOWHERE } from './map_view.mjs';
+import { MapView } from './map_view.mjs';
+import { NOWHERE } from './picture.mjs';
 import { Stopped } from './questions.mjs';
 import { make } from './rows.mjs';
 import { findingOf, get, field, inShort, isNarrow, notJudged, pane, say, unlookedWords, verdict, wordsOf } from './words.mjs';

@@ -1,5 +1,6 @@
 // The picture on two canvases: the ground of cells, and over it lines, things and marks; with zoom, pan, keys and a pin.
 import { cellColour, css, pixel, themeNow } from './inks.mjs';
+import { NOWHERE } from './picture.mjs';
 
 /** @typedef {import('./picture.mjs').Picture} Picture */
 /** @typedef {import('./inks.mjs').Colour} Colour @typedef {import('./inks.mjs').Sight} Sight */
@@ -12,7 +13,6 @@ import { cellColour, css, pixel, themeNow } from './inks.mjs';
  *   unpin: () => void, moved: (view: View) => void }} Tell
  */
 
-export const NOWHERE = 0x7fffffff; // in ends: a linedef without both vertexes
 const CLOSEST = 16; // pixels to a unit
 const FARTHEST = 32767; // a number of a place is no larger; cells may reach beyond
 const SLOW = 30; // ms: a picture that takes longer is moved as it is, and drawn anew when it rests

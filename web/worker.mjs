@@ -2,7 +2,7 @@
 // answers; it only cuts them into lines and picks the places out of them.
 import { contents, isName } from './entries.mjs';
 import { linesOf } from './lines.mjs';
-import { read } from './picture.mjs';
+import { NOWHERE, read } from './picture.mjs';
 import { drawPicture, runWadlens, runWadlook } from './wad_page.mjs';
 
 /** @typedef {import('./wad_page.mjs').Ended} Ended */
@@ -17,7 +17,6 @@ import { drawPicture, runWadlens, runWadlook } from './wad_page.mjs';
 
 const MOST_BYTES = 268435456; // of a file, and of all that are held
 const MOST_ALONE = 8; // levels of a file that are kept cut out
-const NOWHERE = 0x7fffffff; // the ends of a linedef without both vertexes
 const PATH = 'f'; // of a file whose name isn't shown
 const UNFOUND = 'level'; // a label in small letters, which no look-up finds
 const NO_MEMORY = 'there is not enough memory for it';

@@ -22,7 +22,7 @@ use wad_look::{MAX_INPUT, MAX_READ, census_text, lmp, points};
 
 /// What is done in each round.
 #[derive(Clone, Copy, PartialEq, Eq)]
-pub enum Job {
+pub enum BenchJob {
     /// Each level of the file is drawn, with other margins and other cells.
     Atlas,
     /// The file is checked with its warnings, after things, tags and textures were changed.
@@ -36,13 +36,13 @@ pub enum Job {
 }
 
 /// The job of a word.
-pub fn job_named(word: &str) -> Option<Job> {
+pub fn job_named(word: &str) -> Option<BenchJob> {
     match word.as_bytes() {
-        b"atlas" => Some(Job::Atlas),
-        b"check" => Some(Job::Check),
-        b"points" => Some(Job::Points),
-        b"census" => Some(Job::Census),
-        b"lmp" => Some(Job::Lmp),
+        b"atlas" => Some(BenchJob::Atlas),
+        b"check" => Some(BenchJob::Check),
+        b"points" => Some(BenchJob::Points),
+        b"census" => Some(BenchJob::Census),
+        b"lmp" => Some(BenchJob::Lmp),
         _ => None,
     }
 }
@@ -50,14 +50,14 @@ pub fn job_named(word: &str) -> Option<Job> {
 /// Does a round of a job over the file; `lmp` needs none.
 pub fn do_round(
     alloc: Global,
-    job: Job,
+    job: BenchJob,
     files: &[Vec<u8>],
     random: &mut Random,
     digest: &mut Digest,
 ) -> Result<(), Fault>
     requires { length files.now ≤ 1 }
 {
-    if job == Job::Lmp {
+    if job == BenchJob::Lmp {
         return list_demo(alloc, random, digest);
     }
     let [bytes] = files else {
@@ -65,13 +65,13 @@ pub fn do_round(
     };
     let set = Set::one(alloc, bytes)?;
     match job {
-        Job::Atlas => draw_levels(alloc, &set, random, digest),
-        Job::Check => check_varied(alloc, bytes, &set, random, digest),
-        Job::Points => {
+        BenchJob::Atlas => draw_levels(alloc, &set, random, digest),
+        BenchJob::Check => check_varied(alloc, bytes, &set, random, digest),
+        BenchJob::Points => {
             let lines = point_lines(alloc, random, 40_000)?;
             ask_levels(alloc, job, files, &set, &lines, digest)
         }
-        Job::Census | Job::Lmp => {
+        BenchJob::Census | BenchJob::Lmp => {
             let lines = square_lines(alloc, random, 40)?;
             ask_levels(alloc, job, files, &set, &lines, digest)
         }
@@ -178,7 +178,7 @@ fn check_varied(
 // Asks each level of Doom's format for the answers to the same lines.
 fn ask_levels(
     alloc: Global,
-    job: Job,
+    job: BenchJob,
     files: &[Vec<u8>],
     set: &Set<'_>,
     lines: &[u8],
@@ -197,7 +197,7 @@ fn ask_levels(
 // Asks the level of a name.
 fn ask_level(
     alloc: Global,
-    job: Job,
+    job: BenchJob,
     files: &[Vec<u8>],
     name: &[u8],
     lines: &[u8],
@@ -207,7 +207,7 @@ fn ask_level(
 {
     let mut input = FromSlice::new(lines);
     let mut out = ToVec::new(alloc);
-    if job == Job::Points {
+    if job == BenchJob::Points {
         points(
             alloc,
             files,

@@ -63,14 +63,14 @@ fn first_thing(rt: &(impl Abort + AllocGlobal), level: &Level<'_>) -> Option<u16
 // The first fault of a level, the sector of its first thing, and how many points from (-2, 0) to
 // (1, 0) are in its sector 1.
 #[derive(Clone, Copy)]
-struct Told {
+struct CallerAnswers {
     fault: Option<Finding>,
     thing: Option<u16>,
     points: Option<u32>,
 }
 
 // Compares what is told of the level E1M1 of a file.
-fn check_told(rt: &(impl Abort + AllocGlobal), file: &[u8], expected: Told) {
+fn check_told(rt: &(impl Abort + AllocGlobal), file: &[u8], expected: CallerAnswers) {
     let level = level_of(rt, file);
     let fault = first_fault(rt.alloc(), &level).expect(rt, NO_MEMORY);
     check_same(rt, fault, expected.fault);
@@ -80,14 +80,14 @@ fn check_told(rt: &(impl Abort + AllocGlobal), file: &[u8], expected: Told) {
 
 #[test]
 fn levels(rt: HostRuntime) {
-    let sound = Told {
+    let sound = CallerAnswers {
         fault: None,
         thing: Some(0),
         points: Some(3),
     };
     check_told(&rt, &base(&rt), sound);
     let (code, index) = NOT_REACHED[0];
-    let other = Told {
+    let other = CallerAnswers {
         fault: Some(finding(code, index)),
         thing: None,
         points: None,

@@ -15,9 +15,9 @@ use test_refusals::Refusing;
 use wad_dir::Set;
 
 /// How many warnings of a code there are, and the first of them.
-type Told = (usize, Option<Warning>);
+type CountAndFirst = (usize, Option<Warning>);
 
-const NOTHING: Told = (0, None);
+const NOTHING: CountAndFirst = (0, None);
 
 // No textures and flats are known.
 fn unknown<'s, 'a>() -> Option<Resources<'s, 'a>> {
@@ -25,7 +25,11 @@ fn unknown<'s, 'a>() -> Option<Resources<'s, 'a>> {
 }
 
 // The report on a code; None if a growth was refused.
-fn told<A: Allocator + Copy>(alloc: A, checks: &Checks<'_, '_>, code: WarningCode) -> Option<Told> {
+fn told<A: Allocator + Copy>(
+    alloc: A,
+    checks: &Checks<'_, '_>,
+    code: WarningCode,
+) -> Option<CountAndFirst> {
     let told = checks.told(alloc, code, &None, 1).ok()?;
     Some((told.count(), told.first().first().copied()))
 }
@@ -46,7 +50,7 @@ fn end_of(
     rt: &(impl Abort + AllocGlobal),
     checks: &Checks<'_, '_>,
     code: WarningCode,
-    expected: Told,
+    expected: CountAndFirst,
     n: u64,
 ) -> End {
     let heap = Refusing::new(rt.alloc(), n);
@@ -65,7 +69,7 @@ fn check_code(
     rt: &(impl Abort + AllocGlobal),
     checks: &Checks<'_, '_>,
     code: WarningCode,
-    expected: Told,
+    expected: CountAndFirst,
     spared: u32,
 ) {
     check_same(rt, told(rt.alloc(), checks, code), Some(expected));
@@ -91,7 +95,7 @@ fn check_file(
     rt: &(impl Abort + AllocGlobal),
     file: &[u8],
     code: WarningCode,
-    expected: Told,
+    expected: CountAndFirst,
     spared: u32,
 ) {
     let set = Set::one(rt.alloc(), file).expect(rt, "a set of the file");
@@ -108,7 +112,7 @@ fn check_lines(
     lines: &[Ends],
     count: u16,
     code: WarningCode,
-    expected: Told,
+    expected: CountAndFirst,
     spared: u32,
 ) {
     let file = base_with_lines(rt, lines, count);
@@ -140,7 +144,7 @@ fn apart(rt: HostRuntime) {
 }
 
 // A first vertex at which sector 0 isn't closed, and how many there are.
-fn unclosed(count: usize, vertex: u32) -> Told {
+fn unclosed(count: usize, vertex: u32) -> CountAndFirst {
     (count, Some(Warning::Unclosed { sector: 0, vertex }))
 }
 
@@ -206,7 +210,11 @@ const WOOD: [u8; 60] = [
 ];
 
 // The report on a code for a file's level with the file's resources; None if a growth was refused.
-fn told_in_file<A: Allocator + Copy>(alloc: A, file: &[u8], code: WarningCode) -> Option<Told> {
+fn told_in_file<A: Allocator + Copy>(
+    alloc: A,
+    file: &[u8],
+    code: WarningCode,
+) -> Option<CountAndFirst> {
     let set = Set::one(alloc, file).ok()?;
     let level = Level::open(&set, Name8::query(b"E1M1"), Reading::Signed).ok()?;
     let resources = Some(Resources::of(alloc, &set).ok()?);
@@ -216,7 +224,12 @@ fn told_in_file<A: Allocator + Copy>(alloc: A, file: &[u8], code: WarningCode) -
 }
 
 // The same with memory, and with each growth refused in turn.
-fn check_in_file(rt: &(impl Abort + AllocGlobal), file: &[u8], code: WarningCode, expected: Told) {
+fn check_in_file(
+    rt: &(impl Abort + AllocGlobal),
+    file: &[u8],
+    code: WarningCode,
+    expected: CountAndFirst,
+) {
     check_same(rt, told_in_file(rt.alloc(), file, code), Some(expected));
     let mut met = 0;
     for n in 1..60 {

@@ -1,6 +1,7 @@
 //! Pictures of levels as texts, with each growth refused in turn.
 
 use crate::compare::{check_bytes, check_same, contains};
+use crate::growth_end::GrowthEnd;
 use crate::opening::level_of;
 use crate::sample::{LINE_WITHOUT_SIDE_1, base, base_with};
 use le_rec::Sink;
@@ -25,17 +26,6 @@ fn draw<A: Allocator + Copy>(
     draw_level(alloc, level, *view, out)
 }
 
-// How a drawing ended where growth `n` was to be refused.
-#[derive(Clone, Copy, PartialEq, Eq)]
-enum End {
-    /// There is no memory left.
-    Refused,
-    /// It is drawn without that growth.
-    Spared,
-    /// No growth was refused.
-    Granted,
-}
-
 // How a drawing ends if growth `n` is refused. Nothing is written before `Memory` is returned, and what is drawn is the picture.
 fn end_of(
     rt: &(impl Abort + AllocGlobal),
@@ -44,21 +34,21 @@ fn end_of(
     text: &[u8],
     faulty: bool,
     n: u64,
-) -> End {
+) -> GrowthEnd {
     let heap = Refusing::new(rt.alloc(), n);
     let mut out = ToVec::new(rt.alloc());
     let drawn = draw(rt, &heap, level, view, &mut out);
     if drawn.is_err() {
         check_same(rt, drawn, Err(DrawFault::Memory));
         assert!(rt; heap.has_refused() && out.taken().is_empty());
-        return End::Refused;
+        return GrowthEnd::Refused;
     }
     check_same(rt, drawn, Ok(faulty));
     check_bytes(rt, out.taken(), text);
     if heap.has_refused() {
-        End::Spared
+        GrowthEnd::Spared
     } else {
-        End::Granted
+        GrowthEnd::Granted
     }
 }
 
@@ -75,9 +65,9 @@ fn check_ends(
     let mut found = 0u32;
     for n in 1..99 {
         match end_of(rt, level, view, text, faulty, n) {
-            End::Granted => break,
-            End::Refused => {}
-            End::Spared => found = found.wrapping_add(1),
+            GrowthEnd::Granted => break,
+            GrowthEnd::Refused => {}
+            GrowthEnd::Spared => found = found.wrapping_add(1),
         }
         met = n;
     }

@@ -28,6 +28,8 @@ mod ends;
 #[cfg(test)]
 mod findings;
 #[cfg(test)]
+mod growth_end;
+#[cfg(test)]
 mod lens_check;
 #[cfg(test)]
 mod lens_growths;

@@ -2,6 +2,7 @@
 //! sooner if there is no warning.
 
 use crate::compare::check_same;
+use crate::growth_end::GrowthEnd;
 use crate::line_levels::{Ends, base_with_lines, round, round_and};
 use crate::opening::level_of;
 use crate::sample::{base, base_with, lumps, pack_both};
@@ -34,17 +35,6 @@ fn told<A: Allocator + Copy>(
     Some((told.count(), told.first().first().copied()))
 }
 
-/// How a call ends that is refused a growth.
-#[derive(Clone, Copy, PartialEq, Eq)]
-enum End {
-    /// No growth was refused.
-    Granted,
-    /// It has no memory left.
-    Refused,
-    /// It succeeds without that growth.
-    Spared,
-}
-
 // How the call of a code ends if growth `n` is refused. What it returns is the true report.
 fn end_of(
     rt: &(impl Abort + AllocGlobal),
@@ -52,16 +42,20 @@ fn end_of(
     code: WarningCode,
     expected: CountAndFirst,
     n: u64,
-) -> End {
+) -> GrowthEnd {
     let heap = Refusing::new(rt.alloc(), n);
     let answer = told(&heap, checks, code);
     let refused = heap.has_refused();
     if answer.is_none() {
         assert!(rt; refused);
-        return End::Refused;
+        return GrowthEnd::Refused;
     }
     check_same(rt, answer, Some(expected));
-    if refused { End::Spared } else { End::Granted }
+    if refused {
+        GrowthEnd::Spared
+    } else {
+        GrowthEnd::Granted
+    }
 }
 
 // The report on a code, with memory and with each growth refused in turn, and how many of these growths the call does without.
@@ -77,12 +71,12 @@ fn check_code(
     let mut granted = false;
     for n in 1..60 {
         match end_of(rt, checks, code, expected, n) {
-            End::Granted => {
+            GrowthEnd::Granted => {
                 granted = true;
                 break;
             }
-            End::Refused => {}
-            End::Spared => found = found.wrapping_add(1),
+            GrowthEnd::Refused => {}
+            GrowthEnd::Spared => found = found.wrapping_add(1),
         }
     }
     assert!(rt; granted);

@@ -1,0 +1,12 @@
+//! How a call ends that is refused a growth.
+
+/// How a call ends that is refused a growth.
+#[derive(Clone, Copy, PartialEq, Eq)]
+pub(crate) enum GrowthEnd {
+    /// No growth was refused.
+    Granted,
+    /// It has no memory left.
+    Refused,
+    /// It succeeds without that growth.
+    Spared,
+}

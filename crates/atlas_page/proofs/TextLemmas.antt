@@ -3,8 +3,8 @@ use Rattle.std.proofs.Common.{◌≡◌, ℕ, List, [], ◌∷◌, ◌++◌, len
 use Rattle.std.specs.List.{flat_map, range_with_len}
 use Rattle.lens_texts.proofs.PathLemmas.{shown-bytes}
 use Rattle.lens_texts.specs.ShownPath.{shown_at}
-use Rattle.map_picture.specs.Escape.{escaped, escaped_byte}
-use Rattle.map_picture.specs.Parts.{joined}
+use Rattle.lens_texts.specs.Escape.{escaped, escaped_byte}
+use Rattle.lens_texts.specs.Parts.{joined}
 use Rattle.atlas_page.specs.Text.{path_byte, path_bytes, path_text}
 
 escaped-both : (a b : List ℕ) → escaped (a ++ b) ≡ escaped a ++ escaped b

@@ -1,7 +1,7 @@
 -- The page of an atlas (HTML's living standard; its words and looks are ours).
 use Rattle.std.specs.Prelude.{ℕ, List, [], ◌∷◌, ◌++◌, codes, if◌then◌else◌}
 use Rattle.std.specs.Fmt.{decimal}
-use Rattle.map_picture.specs.Parts.{joined}
+use Rattle.lens_texts.specs.Parts.{joined}
 use Rattle.atlas_page.specs.Items.{number_item}
 use Rattle.atlas_page.specs.Refused.{refused_part}
 use Rattle.atlas_page.specs.Rows.{faulty_rows, other_rows, totals_of_rows}

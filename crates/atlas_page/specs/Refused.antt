@@ -1,6 +1,6 @@
 -- The refused files of a page (ours).
 use Rattle.std.specs.Prelude.{ℕ, List, [], ◌∷◌, codes, length, map, nat_eq, if◌then◌else◌}
-use Rattle.map_picture.specs.Parts.{joined}
+use Rattle.lens_texts.specs.Parts.{joined}
 use Rattle.atlas_page.specs.Text.{path_text}
 use Rattle.atlas_page.specs.declared.refused.Refused.{Refused}
 use Rattle.lens_engines.specs.Objects.{refusal_text}

@@ -3,8 +3,8 @@ use Rattle.std.specs.Prelude.{ℕ, Bool, true, false, not, List, [], ◌∷◌, 
 use Rattle.std.specs.Fmt.{decimal}
 use Rattle.le_rec.specs.Name.{shown_name}
 use Rattle.level_starts.specs.declared.format.Format.{Format}
-use Rattle.map_picture.specs.Escape.{escaped}
-use Rattle.map_picture.specs.Parts.{joined}
+use Rattle.lens_texts.specs.Escape.{escaped}
+use Rattle.lens_texts.specs.Parts.{joined}
 use Rattle.atlas_page.specs.Items.{code_items, table_items}
 use Rattle.atlas_page.specs.Text.{path_text}
 use Rattle.atlas_page.specs.declared.row.Row.{Row}

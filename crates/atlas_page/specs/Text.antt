@@ -2,7 +2,7 @@
 use Rattle.std.specs.Prelude.{ℕ, List, length, map}
 use Rattle.std.specs.List.{range_with_len}
 use Rattle.lens_texts.specs.ShownPath.{shown_at, shown_path}
-use Rattle.map_picture.specs.Escape.{escaped}
+use Rattle.lens_texts.specs.Escape.{escaped}
 
 unfoldable pub path_text : List ℕ → List ℕ
 path_text path = escaped (shown_path path)

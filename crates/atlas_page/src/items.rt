@@ -4,14 +4,14 @@ ghost use Rattle.std.specs.Prelude.{◌≡◌, ◌<◌, ◌≤◌, [], false, le
 ghost use Rattle.level_codes.specs.Codes.{code_at};
 ghost use Rattle.level_codes.specs.declared.table.TheConstants.{REPORT_COUNT};
 ghost use Rattle.line_io.specs.Writes.{Writes};
-ghost use Rattle.map_picture.specs.Parts.{joined};
+ghost use Rattle.lens_texts.specs.Parts.{joined};
 ghost use Rattle.atlas_page.specs.Items.{code_item, code_items, code_part, number_item, table_items};
 
 use le_rec::Sink;
 use lens_engines::{ReportCounts, Tables};
+use lens_texts::parts::{Parts, write_parts};
 use level_codes::{REPORT_COUNT, ReportCode};
 use line_io::{IoFault, TextLine, emit};
-use map_picture::parts::{Parts, write_parts};
 
 /// Writes a number with what it counts.
 pub fn write_number_item<W: Sink>(what: &[u8], number: u64, out: &mut W) -> Result<(), IoFault>

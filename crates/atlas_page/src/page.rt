@@ -2,7 +2,7 @@
 
 ghost use Rattle.std.specs.Prelude.{◌≡◌, [], false};
 ghost use Rattle.line_io.specs.Writes.{Writes};
-ghost use Rattle.map_picture.specs.Parts.{joined};
+ghost use Rattle.lens_texts.specs.Parts.{joined};
 ghost use Rattle.atlas_page.specs.Page.{head_parts, page_text, title_line, total_items, unlooked_part, warned_item};
 ghost use Rattle.atlas_page.specs.Rows.{totals_of_rows};
 
@@ -13,8 +13,8 @@ use crate::rows::{write_faulty, write_others};
 use crate::style::write_style;
 use le_rec::Sink;
 use lens_engines::{Totals, Unlooked, Warnings};
+use lens_texts::parts::{Parts, write_parts};
 use line_io::{IoFault, TextLine, emit};
-use map_picture::parts::{Parts, write_parts};
 
 /// What a page shows.
 #[derive(Clone, Copy)]

@@ -2,14 +2,14 @@
 
 ghost use Rattle.std.specs.Prelude.{◌≡◌, [], false, length};
 ghost use Rattle.line_io.specs.Writes.{Writes};
-ghost use Rattle.map_picture.specs.Parts.{joined};
+ghost use Rattle.lens_texts.specs.Parts.{joined};
 ghost use Rattle.atlas_page.specs.Refused.{refused_item, refused_part};
 
 use crate::text::write_page_path;
 use le_rec::Sink;
 use lens_engines::FileRefusal;
+use lens_texts::parts::{Parts, write_parts};
 use line_io::{IoFault, emit};
-use map_picture::parts::{Parts, write_parts};
 
 /// A refused file.
 #[derive(Clone, Copy, Debug, PartialEq, Eq)]

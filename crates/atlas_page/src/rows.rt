@@ -9,9 +9,9 @@ use crate::row::Row;
 use crate::text::{write_name, write_number, write_page_path};
 use le_rec::Sink;
 use lens_engines::{LevelCounts, ReportCounts, Surveyed, Unjudged, Verdict};
+use lens_texts::parts::{Parts, write_parts};
 use lens_texts::{format_name, write_format_alone};
 use line_io::{IoFault, TextLine, emit};
-use map_picture::parts::{Parts, write_parts};
 
 /// Puts the name of a level's picture before the line: the number of its file, from 1, and that of its entry.
 pub fn prepend_picture_name(line: &mut TextLine, file: u64, entry: u64)

@@ -4,14 +4,14 @@ ghost use Rattle.std.specs.Prelude.{◌≡◌, ◌<◌, false, length};
 ghost use Rattle.std.specs.Fmt.{decimal};
 ghost use Rattle.line_io.specs.Writes.{Writes};
 ghost use Rattle.le_rec.specs.Name.{shown_name};
-ghost use Rattle.map_picture.specs.Escape.{escaped};
+ghost use Rattle.lens_texts.specs.Escape.{escaped};
 ghost use Rattle.atlas_page.specs.Text.{path_byte, path_text};
 
 use le_rec::{Name8, Sink};
+use lens_texts::escape::write_escaped;
+use lens_texts::parts::{Parts, write_parts};
 use lens_texts::{control_text, is_control_at};
 use line_io::{IoFault, TextLine, emit};
-use map_picture::escape::write_escaped;
-use map_picture::parts::{Parts, write_parts};
 
 /// Writes a number.
 pub fn write_number<W: Sink>(number: u64, out: &mut W) -> Result<(), IoFault>

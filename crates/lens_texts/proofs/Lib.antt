@@ -1,8 +1,10 @@
 pub mod CaseLevels
+pub mod EscapeLemmas
 pub mod JsonLemmas
 mod LabelLemmas
 pub mod MemberLemmas
 pub mod OwnersLemmas
+pub mod PartsLemmas
 pub mod PathLemmas
 pub mod ReadBackLemmas
 pub mod ValueLemmas

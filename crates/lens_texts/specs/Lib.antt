@@ -1,3 +1,4 @@
+pub mod Escape
 pub mod FormatLine
 pub mod Head
 pub mod JsonString
@@ -8,6 +9,7 @@ pub mod LevelText
 pub mod Members
 pub mod Message
 pub mod Owners
+pub mod Parts
 pub mod Place
 pub mod Remark
 pub mod RemarkLine

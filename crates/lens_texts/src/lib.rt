@@ -1,8 +1,10 @@
 //! What is told of a level's findings and warnings: each as a line for people and as an object of JSON, with its label, its
-//! place and its file's path.
+//! place and its file's path. A line is put together in a `TextLine` of `line_io`; a document is a list of `Parts`, each written
+//! by itself.
 #![tactic(auto)]
 
 mod digits;
+pub mod escape;
 mod form;
 mod json_string;
 mod label;
@@ -12,6 +14,7 @@ mod lines;
 mod message;
 mod opened;
 mod owners;
+pub mod parts;
 mod path;
 mod place;
 mod records;

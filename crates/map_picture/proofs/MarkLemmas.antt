@@ -15,7 +15,7 @@ use Rattle.map_level.specs.declared.finding.Code.{Code}
 use Rattle.map_level.specs.declared.finding.Finding.{Finding}
 use Rattle.map_level.specs.declared.search.TheConstants.{CODE_COUNT}
 use Rattle.map_picture.specs.Marks.{code_marks, code_part, ends_of, mark_line, mark_part, marked_by, marks}
-use Rattle.map_picture.specs.Parts.{joined}
+use Rattle.lens_texts.specs.Parts.{joined}
 use Rattle.map_picture.specs.declared.marks.Marked.{Marked}
 use Rattle.map_picture.specs.declared.marks.Marked.TheVariants.{Nothing}
 

@@ -12,7 +12,7 @@ use Rattle.map_level.specs.Level.{Level}
 use Rattle.map_level.specs.declared.finding.Finding.{Finding}
 use Rattle.map_picture.specs.Counts.{CountsFindings, counts_of}
 use Rattle.map_picture.specs.Head.{title_of}
-use Rattle.map_picture.specs.Parts.{joined}
+use Rattle.lens_texts.specs.Parts.{joined}
 use Rattle.map_picture.specs.Picture.{WritesPicture, found_parts, map_parts, map_text, picture_text}
 use Rattle.map_picture.specs.declared.finding_counts.FindingCounts.{FindingCounts}
 use Rattle.map_picture.specs.declared.sectors.SectorCells.{SectorCells}

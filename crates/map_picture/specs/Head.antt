@@ -6,8 +6,8 @@ use Rattle.map_level.specs.Level.{Level}
 use Rattle.map_level.specs.declared.finding.Finding.{Finding}
 use Rattle.wad_look.specs.Engines.Audit.{totals_line}
 use Rattle.map_picture.specs.Counts.{counts_of}
-use Rattle.map_picture.specs.Escape.{escaped}
-use Rattle.map_picture.specs.Parts.{joined}
+use Rattle.lens_texts.specs.Escape.{escaped}
+use Rattle.lens_texts.specs.Parts.{joined}
 use Rattle.map_picture.specs.declared.finding_counts.FindingCounts.{FindingCounts}
 use Rattle.map_picture.specs.declared.window.Window.{Window}
 

@@ -1,5 +1,3 @@
-pub mod Parts
-pub mod Escape
 pub mod Grey
 pub mod Window
 pub mod Counts
@@ -12,4 +10,3 @@ pub mod Things
 pub mod Picture
 pub mod Listing
 pub mod Drawing
-pub mod Laws

@@ -5,7 +5,7 @@ use Rattle.std.specs.Ordering.{int_eq}
 use Rattle.le_rec.specs.declared.records.LineDef.{LineDef}
 use Rattle.map_level.specs.Level.{Level}
 use Rattle.map_cells.specs.Ends.{linedef_ends}
-use Rattle.map_picture.specs.Parts.{joined, numbered}
+use Rattle.lens_texts.specs.Parts.{joined, numbered}
 use Rattle.map_picture.specs.Paths.{path_text}
 
 -- its word for the back sidedef isn't -1, which the wide reading has as 65535

@@ -9,9 +9,9 @@ use Rattle.map_level.specs.declared.finding.Finding.{Finding}
 use Rattle.wad_look.specs.Engines.Audit.{finding_line}
 use Rattle.map_cells.specs.Ends.{linedef_ends, seg_ends}
 use Rattle.map_cells.specs.declared.ends.Ends.{Ends}
-use Rattle.map_picture.specs.Escape.{escaped}
+use Rattle.lens_texts.specs.Escape.{escaped}
 use Rattle.map_picture.specs.Head.{without_end}
-use Rattle.map_picture.specs.Parts.{joined}
+use Rattle.lens_texts.specs.Parts.{joined}
 use Rattle.map_picture.specs.Paths.{path_text}
 use Rattle.map_picture.specs.declared.marks.Marked.{Marked}
 use Rattle.map_picture.specs.declared.marks.Marked.TheVariants.{Linedef, Seg, Nothing}

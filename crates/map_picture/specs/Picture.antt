@@ -15,7 +15,7 @@ use Rattle.map_level.specs.declared.finding.Finding.{Finding}
 use Rattle.map_picture.specs.Head.{ground_line, style_line, svg_line, title_line, title_of}
 use Rattle.map_picture.specs.Lines.{lines_line}
 use Rattle.map_picture.specs.Marks.{marks}
-use Rattle.map_picture.specs.Parts.{joined}
+use Rattle.lens_texts.specs.Parts.{joined}
 use Rattle.map_picture.specs.Sectors.{sector_line}
 use Rattle.map_picture.specs.Things.{things_lines}
 use Rattle.map_picture.specs.Window.{window_of}

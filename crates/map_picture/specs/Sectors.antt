@@ -4,9 +4,9 @@ use Rattle.std.specs.Fmt.{decimal, signed_decimal}
 use Rattle.le_rec.specs.Name.{name_of, shown_name}
 use Rattle.le_rec.specs.declared.records.Sector.{Sector}
 use Rattle.map_cells.specs.declared.block.Block.{Block}
-use Rattle.map_picture.specs.Escape.{escaped}
+use Rattle.lens_texts.specs.Escape.{escaped}
 use Rattle.map_picture.specs.Grey.{grey}
-use Rattle.map_picture.specs.Parts.{joined}
+use Rattle.lens_texts.specs.Parts.{joined}
 
 -- `M{column} {row}h{width}v{height}h-{width}z`
 abbrev pub block_text : Block → List ℕ

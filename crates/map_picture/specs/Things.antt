@@ -4,7 +4,7 @@ use Rattle.std.specs.Fmt.{decimal, signed_decimal}
 use Rattle.le_rec.specs.declared.records.Thing.{Thing}
 use Rattle.map_level.specs.Level.{Level}
 use Rattle.map_level.specs.Links.{things_of}
-use Rattle.map_picture.specs.Parts.{joined, numbered}
+use Rattle.lens_texts.specs.Parts.{joined, numbered}
 
 -- where it stands
 abbrev pub circle_text : Thing → List ℕ

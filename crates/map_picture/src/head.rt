@@ -2,17 +2,17 @@
 
 ghost use Rattle.std.specs.Prelude.{◌≡◌, ◌<◌, [], false, length, slice_index_or};
 ghost use Rattle.line_io.specs.Writes.{Writes};
-ghost use Rattle.map_picture.specs.Escape.{escaped};
+ghost use Rattle.lens_texts.specs.Escape.{escaped};
 ghost use Rattle.map_picture.specs.Head.{ground_line, label_name, style_line, svg_line, title_of, without_end};
 ghost use Rattle.wad_look.specs.Engines.Audit.{totals_line};
 
-use crate::escape::write_escaped;
 use crate::finding_counts::FindingCounts;
 use crate::marks::without_end;
-use crate::parts::{Parts, write_parts};
 use crate::window::Window;
 use crate::word::prepend_number;
 use le_rec::Sink;
+use lens_texts::escape::write_escaped;
+use lens_texts::parts::{Parts, write_parts};
 use line_io::{IoFault, TextLine, emit};
 use map_level::Level;
 use wad_look::prepend_totals;
@@ -54,7 +54,7 @@ struct TitleLine<'l, 'a> {
 
 impl Parts for TitleLine<'_, '_> {
     ghost use Rattle.std.specs.Prelude.{[], ◌∷◌, codes};
-    ghost use Rattle.map_picture.specs.Escape.{escaped};
+    ghost use Rattle.lens_texts.specs.Escape.{escaped};
     ghost use Rattle.map_picture.specs.Head.{label_name, without_end};
     ghost use Rattle.wad_look.specs.Engines.Audit.{totals_line};
 

@@ -3,15 +3,12 @@
 
 mod counted_level;
 mod draw;
-pub mod escape;
 mod finding_counts;
 mod grey;
 mod head;
-pub mod laws;
 mod lines;
 mod listing;
 mod marks;
-pub mod parts;
 mod paths;
 mod picture;
 mod sectors;

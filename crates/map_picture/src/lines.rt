@@ -4,9 +4,9 @@ ghost use Rattle.std.specs.Prelude.{◌≡◌, ◌<◌, false, length, slice_ind
 ghost use Rattle.line_io.specs.Writes.{Writes};
 ghost use Rattle.map_picture.specs.Lines.{has_back, line_class, line_part, linedef_path, lines_line};
 
-use crate::parts::{Parts, write_parts};
 use crate::paths::prepend_path;
 use le_rec::{LineDef, Sink};
+use lens_texts::parts::{Parts, write_parts};
 use line_io::{IoFault, TextLine, emit};
 use map_cells::linedef_ends;
 use map_level::Level;
@@ -20,7 +20,7 @@ struct LinePaths<'l, 'a> {
 
 impl Parts for LinePaths<'_, '_> {
     ghost use Rattle.map_picture.specs.Lines.{line_part};
-    ghost use Rattle.map_picture.specs.Parts.{numbered};
+    ghost use Rattle.lens_texts.specs.Parts.{numbered};
 
     ghost parts = { λ lines. numbered (line_part lines.level.now lines.two_sided) 0 lines.level.now.linedefs.records };
 
@@ -80,7 +80,7 @@ struct LinesLine<'l, 'a> {
 impl Parts for LinesLine<'_, '_> {
     ghost use Rattle.std.specs.Prelude.{[], ◌∷◌, codes};
     ghost use Rattle.map_picture.specs.Lines.{line_class, line_part};
-    ghost use Rattle.map_picture.specs.Parts.{joined, numbered};
+    ghost use Rattle.lens_texts.specs.Parts.{joined, numbered};
 
     ghost parts = { λ line. line_class line.paths.two_sided
         ∷ joined (numbered (line_part line.paths.level.now line.paths.two_sided) 0 line.paths.level.now.linedefs.records) ∷ codes "\"/>\n" ∷ [] };

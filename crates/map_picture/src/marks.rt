@@ -5,17 +5,17 @@ ghost use Rattle.line_io.specs.Writes.{EndsWriting, Writes};
 ghost use Rattle.map_audit.specs.Findings.{AuditHolds};
 ghost use Rattle.map_level.specs.Findings.{AreFindings};
 ghost use Rattle.map_level.specs.declared.finding.Finding.{Finding};
-ghost use Rattle.map_picture.specs.Escape.{escaped};
+ghost use Rattle.lens_texts.specs.Escape.{escaped};
 ghost use Rattle.map_picture.specs.Head.{without_end};
 ghost use Rattle.map_picture.specs.Marks.{code_marks, mark_line, mark_part, ends_of, marked_by, marks};
 ghost use Rattle.map_picture.specs.Paths.{path_text};
 ghost use Rattle.wad_look.specs.Engines.Audit.{finding_line};
 
 use crate::counted_level::CountedLevel;
-use crate::escape::write_escaped;
-use crate::parts::{Parts, write_parts};
 use crate::paths::prepend_path;
 use le_rec::Sink;
+use lens_texts::escape::write_escaped;
+use lens_texts::parts::{Parts, write_parts};
 use line_io::{IoFault, TextLine, emit};
 use map_cells::{Ends, linedef_ends, seg_ends};
 use map_level::search::CODES;
@@ -126,7 +126,7 @@ struct MarkLine<'f> {
 
 impl Parts for MarkLine<'_> {
     ghost use Rattle.std.specs.Prelude.{[], ◌∷◌, ◌++◌, codes};
-    ghost use Rattle.map_picture.specs.Escape.{escaped};
+    ghost use Rattle.lens_texts.specs.Escape.{escaped};
     ghost use Rattle.map_picture.specs.Head.{without_end};
     ghost use Rattle.map_picture.specs.Paths.{path_text};
     ghost use Rattle.wad_look.specs.Engines.Audit.{finding_line};

@@ -4,11 +4,11 @@ ghost use Rattle.std.specs.Prelude.{◌≡◌, ◌+◌, ◌<◌, ◌≤◌, ◌^
 ghost use Rattle.line_io.specs.Writes.{Writes};
 ghost use Rattle.map_picture.specs.Sectors.{block_text, ceiling_text, fill_text, flat_text, floor_text, rest_text, sector_line};
 
-use crate::escape::write_escaped;
 use crate::grey::prepend_grey;
-use crate::parts::{Parts, write_parts};
 use crate::word::prepend_word;
 use le_rec::{Name8, Sector, Sink};
+use lens_texts::escape::write_escaped;
+use lens_texts::parts::{Parts, write_parts};
 use line_io::{IoFault, TextLine, emit};
 use map_cells::Block;
 
@@ -81,7 +81,7 @@ struct SectorLine<'b> {
 
 impl Parts for SectorLine<'_> {
     ghost use Rattle.std.specs.Prelude.{[], ◌∷◌, map};
-    ghost use Rattle.map_picture.specs.Parts.{joined};
+    ghost use Rattle.lens_texts.specs.Parts.{joined};
     ghost use Rattle.map_picture.specs.Sectors.{block_text, ceiling_text, fill_text, flat_text, floor_text, rest_text};
 
     ghost parts = { λ line. fill_text line.sector.now ∷ joined (map block_text line.blocks.blocks.now) ∷ floor_text line.number line.sector.now

@@ -4,9 +4,9 @@ ghost use Rattle.std.specs.Prelude.{◌≡◌, ◌<◌, ◌^◌, [], false};
 ghost use Rattle.line_io.specs.Writes.{Writes};
 ghost use Rattle.map_picture.specs.Things.{circle_text, thing_line, thing_text, things_lines};
 
-use crate::parts::{Parts, write_parts};
 use crate::word::prepend_word;
 use le_rec::{Sink, Thing};
+use lens_texts::parts::{Parts, write_parts};
 use line_io::{IoFault, TextLine, emit};
 use map_level::Level;
 
@@ -17,7 +17,7 @@ struct ThingLines<'l, 'a> {
 
 impl Parts for ThingLines<'_, '_> {
     ghost use Rattle.map_level.specs.Links.{things_of};
-    ghost use Rattle.map_picture.specs.Parts.{numbered};
+    ghost use Rattle.lens_texts.specs.Parts.{numbered};
     ghost use Rattle.map_picture.specs.Things.{thing_line};
 
     ghost parts = { λ lines. numbered thing_line 0 (things_of lines.level.now) };

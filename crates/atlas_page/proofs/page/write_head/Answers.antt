@@ -1,6 +1,6 @@
 use Rattle.std.proofs.Common.{subst}
 use Rattle.line_io.specs.Writes.{Writes}
-use Rattle.map_picture.specs.Parts.{joined}
+use Rattle.lens_texts.specs.Parts.{joined}
 use Rattle.atlas_page.specs.Page.{head_parts}
 use Rattle.lens_engines.specs.declared.totals.Totals.{Totals}
 use Rattle.atlas_page.proofs.page.write_head.Goals as goal

@@ -1,7 +1,7 @@
 use Rattle.std.proofs.lemmas.Result.{err_from_is_err_and}
 use Rattle.line_io.proofs.WriteLemmas.{Writes-stop, Writes-then}
 use Rattle.map_picture.specs.Marks.{marks}
-use Rattle.map_picture.specs.Parts.{joined}
+use Rattle.lens_texts.specs.Parts.{joined}
 use Rattle.map_picture.specs.Picture.{last_parts}
 use Rattle.map_picture.proofs.picture.write_found.Goals as goal
 

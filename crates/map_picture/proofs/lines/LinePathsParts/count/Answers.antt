@@ -1,6 +1,6 @@
 use Rattle.std.proofs.Common.{length, ap, sym, ◌∙◌}
 use Rattle.map_picture.specs.Lines.{line_part}
-use Rattle.map_picture.proofs.PartsLemmas.{length-numbered}
+use Rattle.lens_texts.proofs.PartsLemmas.{length-numbered}
 use Rattle.map_picture.proofs.lines.LinePathsParts.count.Goals as goal
 
 pub returns : goal.returns

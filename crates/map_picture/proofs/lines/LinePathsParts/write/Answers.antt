@@ -1,6 +1,6 @@
 use Rattle.std.proofs.Common.{arith}
 use Rattle.map_picture.specs.Lines.{line_part}
-use Rattle.map_picture.proofs.PartsLemmas.{length-numbered, numbered_part}
+use Rattle.lens_texts.proofs.PartsLemmas.{length-numbered, numbered_part}
 use Rattle.map_picture.proofs.lines.LinePathsParts.write.Goals as goal
 
 pub at-linedef-requires : goal.at-linedef-requires

@@ -1,7 +1,7 @@
 use Rattle.std.proofs.Common.{length, ap, sym, ◌∙◌}
 use Rattle.map_level.specs.Links.{things_of}
 use Rattle.map_picture.specs.Things.{thing_line}
-use Rattle.map_picture.proofs.PartsLemmas.{length-numbered}
+use Rattle.lens_texts.proofs.PartsLemmas.{length-numbered}
 use Rattle.map_picture.proofs.things.ThingLinesParts.count.Goals as goal
 
 pub returns : goal.returns

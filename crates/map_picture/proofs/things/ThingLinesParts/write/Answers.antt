@@ -1,7 +1,7 @@
 use Rattle.std.proofs.Common.{arith}
 use Rattle.map_level.specs.Links.{things_of}
 use Rattle.map_picture.specs.Things.{thing_line}
-use Rattle.map_picture.proofs.PartsLemmas.{length-numbered, numbered_part}
+use Rattle.lens_texts.proofs.PartsLemmas.{length-numbered, numbered_part}
 use Rattle.map_picture.proofs.things.ThingLinesParts.write.Goals as goal
 
 pub at-thing-requires : goal.at-thing-requires

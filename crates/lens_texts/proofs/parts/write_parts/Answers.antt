@@ -2,9 +2,9 @@ use Rattle.std.proofs.Common.{◌+◌, [], arith, drop}
 use Rattle.std.proofs.lemmas.Result.{err_from_is_err_and}
 use Rattle.std.specs.Prelude.{slice_index_or}
 use Rattle.line_io.proofs.WriteProgressLemmas.{SoFar-end, SoFar-more, SoFar-stop}
-use Rattle.map_picture.specs.Parts.{joined}
-use Rattle.map_picture.proofs.PartsLemmas.{parts-drop, parts_past}
-use Rattle.map_picture.proofs.parts.write_parts.Goals as goal
+use Rattle.lens_texts.specs.Parts.{joined}
+use Rattle.lens_texts.proofs.PartsLemmas.{parts-drop, parts_past}
+use Rattle.lens_texts.proofs.parts.write_parts.Goals as goal
 
 pub returns-in_err-write : goal.returns-in_err-write
 returns-in_err-write g c =

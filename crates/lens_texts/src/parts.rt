@@ -2,7 +2,7 @@
 
 ghost use Rattle.std.specs.Prelude.{◌≡◌, false};
 ghost use Rattle.line_io.specs.Writes.{Writes};
-ghost use Rattle.map_picture.specs.Parts.{joined};
+ghost use Rattle.lens_texts.specs.Parts.{joined};
 
 use le_rec::Sink;
 use line_io::IoFault;

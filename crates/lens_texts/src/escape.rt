@@ -2,7 +2,7 @@
 
 ghost use Rattle.std.specs.Prelude.{◌≡◌, ◌<◌, false, length, slice_index};
 ghost use Rattle.line_io.specs.Writes.{Writes};
-ghost use Rattle.map_picture.specs.Escape.{escaped, escaped_byte};
+ghost use Rattle.lens_texts.specs.Escape.{escaped, escaped_byte};
 
 use crate::parts::{Parts, write_parts};
 use le_rec::Sink;
@@ -16,7 +16,7 @@ struct Escaped<'a> {
 
 impl Parts for Escaped<'_> {
     ghost use Rattle.std.specs.Prelude.{map};
-    ghost use Rattle.map_picture.specs.Escape.{escaped_byte};
+    ghost use Rattle.lens_texts.specs.Escape.{escaped_byte};
 
     ghost parts = { λ text. map escaped_byte text.bytes.now };
 

@@ -2,7 +2,7 @@
 use Rattle.std.proofs.Common.{ℕ, List, [], ◌∷◌, ◌++◌, sym, subst}
 use Rattle.std.specs.Prelude.{◌==◌, codes, if◌then◌else◌}
 use Rattle.std.proofs.lemmas.Bool.{cond_both, eqb-false, eqb-true}
-use Rattle.map_picture.specs.Escape.{StandsFor, escaped, escaped_byte, nothing, byte, ampersand, less_than, greater_than, quotation_mark}
+use Rattle.lens_texts.specs.Escape.{StandsFor, escaped, escaped_byte, nothing, byte, ampersand, less_than, greater_than, quotation_mark}
 
 -- one more byte
 byte_stands : (b : ℕ) (text bytes : List ℕ) → StandsFor text bytes → StandsFor (escaped_byte b ++ text) (b ∷ bytes)

@@ -1,7 +1,7 @@
 use Rattle.std.proofs.Common.{◌≡◌, false, drop}
 use Rattle.line_io.proofs.WriteProgressLemmas.{SoFar}
-use Rattle.map_picture.specs.Parts.{joined}
-use Rattle.map_picture.proofs.parts.write_parts.Given as goal
+use Rattle.lens_texts.specs.Parts.{joined}
+use Rattle.lens_texts.proofs.parts.write_parts.Given as goal
 
 abbrev pub invariant-parts : goal.invariant-parts
 invariant-parts g l = record {

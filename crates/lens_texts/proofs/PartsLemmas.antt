@@ -3,7 +3,7 @@ use Rattle.std.proofs.Common.{◌≡◌, ℕ, zero, suc, ◌+◌, ◌<◌, ◌�
 use Rattle.std.specs.Prelude.{slice_index_or}
 use Rattle.std.specs.List.{slice_get}
 use Rattle.std.proofs.lemmas.List.{drop_all}
-use Rattle.map_picture.specs.Parts.{joined, numbered}
+use Rattle.lens_texts.specs.Parts.{joined, numbered}
 
 -- the parts from a number on
 pub parts-drop : (parts : List (List ℕ)) (i : ℕ) → i < length parts → joined (drop i parts) ≡ slice_index_or parts i [] ++ joined (drop (i + 1) parts)

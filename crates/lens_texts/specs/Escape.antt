@@ -1,6 +1,6 @@
 -- Text within XML (XML 1.0, sections 2.4 and 4.6): bytes that would be read as markup stand as entities.
 use Rattle.std.specs.Prelude.{◌≢◌, ℕ, List, [], ◌∷◌, ◌++◌, ◌==◌, codes, map, if◌then◌else◌}
-use Rattle.map_picture.specs.Parts.{joined}
+use Rattle.lens_texts.specs.Parts.{joined}
 
 -- a byte as it is written: `&`, `<`, `>` and `"` by their entities
 abbrev pub escaped_byte : ℕ → List ℕ

@@ -1,9 +1,0 @@
-//! Laws of the definitions alone, each the contract of a function that does nothing: a caller gets the law from a call.
-
-ghost use Rattle.map_picture.specs.Laws as law;
-
-/// Escaped bytes are text without markup, and a reader takes it for those bytes. So a name in a foreign file makes no
-/// markup.
-pub fn escaped_stands_for()
-    ensures { law.EscapedStandsFor }
-{}

@@ -1,4 +1,5 @@
 mod DrawQuestionLemmas
 mod LensLemmas
+mod LinedefsLemmas
 pub mod PartsLemmas
 pub mod LookLemmas

@@ -48,7 +48,8 @@ use Rattle.wad_page.specs.declared.parts.Parts.{Parts}
 
 -- a command's number, and what number goes with it
 abbrev pub AsksWord : ℕ → ℕ → LensWord → Type 0
-AsksWord command number (Tell (Check most told)) = (command ≡ 0) × (most ≡ number) × (told ≡ Lines)
+AsksWord command number (Tell (Check most Lines)) = (command ≡ 0) × (most ≡ number)
+AsksWord command number (Tell (Check most Objects)) = (command ≡ 5) × (most ≡ number)
 AsksWord command number (Tell Survey) = command ≡ 1
 AsksWord command number (Tell (Demos Lines)) = command ≡ 2
 AsksWord command number (Tell (Demos Objects)) = command ≡ 3

@@ -5,3 +5,5 @@ pub mod Look
 pub mod Lens
 pub mod Draw
 pub mod DrawEnded
+pub mod Linedefs
+pub mod LinedefsEnded

@@ -31,8 +31,8 @@ pub struct DrawQuestion {
     pub y1: i16,
 }
 
-// The end of a run whose question is out of bounds.
-const REFUSED: Ended = Ended {
+/// The end of a run that is refused.
+pub const REFUSED: Ended = Ended {
     status: 2,
     answered: 0,
     told: 0,

@@ -27,7 +27,7 @@ use std::alloc::{AllocError, Allocator};
 pub struct LensQuestion {
     /// Of `check` how many findings or warnings of one code in one level are shown at most. Of `cut` the entry of the level's label.
     pub number: u64,
-    /// 0 `check`, 1 `survey`, 2 `demos`, 3 `demos --json`, 4 `cut`.
+    /// 0 `check`, 1 `survey`, 2 `demos`, 3 `demos --json`, 4 `cut`, 5 `check --json`.
     pub command: u8,
     /// 0 to read indexes as signed numbers, else they are read as numbers from 0 to 65535. Demos and `cut` ignore it.
     pub wide: u8,
@@ -163,6 +163,7 @@ fn word_of(command: u8, number: u64) -> Option<LensWord>
         2 => Some(LensWord::Tell(Word::Demos(Form::Lines))),
         3 => Some(LensWord::Tell(Word::Demos(Form::Objects))),
         4 => Some(LensWord::Cut(number)),
+        5 => Some(LensWord::Tell(Word::Check(number, Form::Objects))),
         _ => None,
     }
 }

@@ -5,10 +5,12 @@
 ghost use Rattle.std.specs.Prelude.{IfSome};
 ghost use Rattle.wad_page.specs.DrawEnded.{DrawEnds};
 ghost use Rattle.wad_page.specs.Lens.{LensEnds, Lensed};
+ghost use Rattle.wad_page.specs.LinedefsEnded.{LinedefsEnd};
 ghost use Rattle.wad_page.specs.Look.{LookEnds, Looked};
 
 mod draw;
 mod lens;
+mod linedefs;
 mod look;
 mod parts;
 mod refusal;
@@ -17,6 +19,7 @@ use block_alloc::{Block, arena};
 use draw::{DrawQuestion, draw};
 use le_rec::Sink;
 use lens::{LensFault, LensQuestion, lens_into, lens_message, lens_status};
+use linedefs::{LinedefsQuestion, list_out};
 use look::do_words;
 use memory_streams::{ToVec, hand_out};
 use parts::Parts;
@@ -118,6 +121,25 @@ pub extern "C" fn draw_picture(
     ensures { DrawEnds file.now question.now out.old out.new ended.new }
 {
     *ended = draw(heap, file, question, out).unwrap_or(NO_ROOM);
+}
+
+/// Lists the linedefs of the level whose label is the first entry of a file, as `wadlens cut` packs one, into `out`: of each six
+/// numbers of four bytes, the lowest first. They are x y x y of its vertexes in map units, and the sectors in front and at the
+/// back. -2147483648 stands for a sector that isn't there, and for all four of x y x y where a vertex isn't. Status 0, or 2 where
+/// there is no such level.
+///
+/// What the host keeps is as for `run_wadlook`.
+#[unsafe(no_mangle)]
+pub extern "C" fn list_linedefs(
+    heap: Block,
+    file: &[u8],
+    question: &LinedefsQuestion,
+    out: &mut [u8],
+    ended: &mut Ended,
+)
+    ensures { LinedefsEnd file.now question.now.wide out.old out.new ended.new }
+{
+    *ended = list_out(heap, file, question, out).unwrap_or(NO_ROOM);
 }
 
 // What `run_wadlook` answers, where there is room.

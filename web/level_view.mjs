@@ -1,16 +1,18 @@
 // One level: its picture, the pinned point, its findings.
 import { meaningOf } from './codes.mjs';
+import { findingOf } from './findings.mjs';
+import { lineOf } from './linedefs.mjs';
 import { ListBox } from './list.mjs';
 import { Lines } from './lines.mjs';
 import { MapView } from './map_view.mjs';
-import { NOWHERE } from './picture.mjs';
 import { Stopped } from './questions.mjs';
 import { make } from './rows.mjs';
-import { findingOf, get, field, inShort, isNarrow, notJudged, pane, say, unlookedWords, verdict, wordsOf } from './words.mjs';
+import { get, field, inShort, isNarrow, notJudged, pane, say, unlookedWords, verdict, wordsOf } from './words.mjs';
 
-/** @typedef {import('./words.mjs').Level} Level @typedef {import('./words.mjs').Finding} Finding */
+/** @typedef {import('./words.mjs').Level} Level */
+/** @typedef {import('./findings.mjs').Finding} Finding @typedef {import('./findings.mjs').Spots} Spots */
 /** @typedef {import('./questions.mjs').Questions} Questions @typedef {import('./map_view.mjs').View} View */
-/** @typedef {{ ends: Int32Array, first: Int32Array, bounds: Int32Array }} Linedefs  where they lie, and which are about each sector: see worker.mjs */
+/** @typedef {{ linedefs: Int32Array, first: Int32Array, bounds: Int32Array }} Linedefs  their numbers, and which are about each sector: see linedefs.mjs */
 /** @typedef {import('./worker.mjs').AskedLevel & { wantsGame: boolean }} Asked  what a question about a level has */
 
 const CELLS = 512; // of the picture of a level
@@ -27,6 +29,9 @@ const SIGHTS = [['point-clear', 'clear'], ['point-blocked', 'blocked'], ['point-
 const isSame = (a, b) => a.file.name === b.file.name && a.name === b.name && (a.key !== b.key || a.entry === b.entry);
 
 const whyNot = (/** @type {unknown} */ error) => error instanceof Stopped ? 'Stopped. Choose the level again to draw it.' : wordsOf(error);
+
+/** The items of an empty list. @returns {never} */
+const none = () => { throw new RangeError('an empty list'); };
 
 /** Numbers in a part that scrolls; it fades below while there are more. @param {string} list */
 function numbers(list) {
@@ -73,7 +78,7 @@ export class LevelView {
       const code = make('span', `code${finding.code.startsWith('F') ? ' fault' : ''}`, finding.code || '–');
       code.title = meaningOf(finding.code);
       return [code, make('span', 'row-name', finding.where), message];
-    }, (finding, k) => this.#choose(finding, k), (finding) => !!finding.all || !!finding.wide, ({ code }) => meaningOf(code));
+    }, (finding, k) => this.#choose(finding, k), ({ more, wide }) => !!more || wide, ({ code }) => meaningOf(code));
     get('unpin').addEventListener('click', () => this.unpin());
     get('point-form').addEventListener('submit', (event) => {
       event.preventDefault();
@@ -132,7 +137,7 @@ export class LevelView {
     get('told').textContent = '';
     get('told').className = '';
     get('codes').textContent = '';
-    this.findings.show(0, () => findingOf(''));
+    this.findings.show(0, none);
     get('findings-none').hidden = false;
     get('findings-none').textContent = why;
     get('unlooked').hidden = true;
@@ -149,7 +154,7 @@ export class LevelView {
   /** @param {Asked} asked */
   async #look(asked) {
     const began = performance.now();
-    const { level, findings, before, unlooked } = await this.desk.ask('look', { ...asked, max: 20 }, `Judging ${asked.name}`);
+    const { level, findings, spots } = await this.desk.ask('look', { ...asked, max: 20 }, `Judging ${asked.name}`);
     if (this.asked !== asked) return;
     this.level = level;
     get('save-pwad').removeAttribute('disabled');
@@ -158,10 +163,10 @@ export class LevelView {
       get('findings-none').textContent = notJudged(level);
       return;
     }
-    const lines = new Lines(findings), warnings = Number(/, (\d+) warnings,/.exec(lines.at(lines.count - 1))?.[1]);
+    const objects = new Lines(findings), { warnings } = JSON.parse(objects.at(objects.count - 1)); // the last has the sums
     this.#tell(level, verdict(level, warnings));
-    this.#list(lines, before);
-    const left = unlookedWords(level, unlooked, asked.wantsGame);
+    this.#list(objects, spots);
+    const left = unlookedWords(level, asked.wantsGame);
     get('unlooked').textContent = left;
     get('unlooked').hidden = !left;
     get('pin').removeAttribute('disabled');
@@ -197,10 +202,10 @@ export class LevelView {
     }));
   }
 
-  /** @param {Lines} lines of which the last adds up @param {number} before how much of each stands before the finding @param {number} [chosen] a row */
-  #list(lines, before, chosen) {
-    const count = Math.max(0, lines.count - 1);
-    this.findings.show(count, (k) => findingOf(lines.at(k).slice(before)), chosen);
+  /** @param {Lines} objects of `check`, of which the last has the sums @param {Spots} spots @param {number} [chosen] a row */
+  #list(objects, spots, chosen) {
+    const count = Math.max(0, objects.count - 1);
+    this.findings.show(count, (k) => findingOf(objects.at(k), spots), chosen);
     get('findings-none').hidden = count > 0;
     get('findings-none').textContent = 'Nothing was found: all links and nodes hold together, and there is nothing to warn of.';
   }
@@ -212,9 +217,9 @@ export class LevelView {
   async #listAll(asked, k) {
     const first = this.#placeInAll(k), mine = this.choices;
     try {
-      const { findings, before } = await this.desk.ask('look', { ...asked, max: 0 }, 'Listing all findings');
+      const { findings, spots } = await this.desk.ask('look', { ...asked, max: 0 }, 'Listing all findings');
       if (this.asked !== asked) return;
-      this.#list(new Lines(findings), before, mine === this.choices ? first : -1);
+      this.#list(new Lines(findings), spots, mine === this.choices ? first : -1);
       this.#mark();
       if (mine === this.choices && !isNarrow()) this.#choose(this.findings.item(first), first);
     } catch (error) { say(`${asked.name}: ${wordsOf(error)}`, !(error instanceof Stopped)); }
@@ -224,8 +229,8 @@ export class LevelView {
   #placeInAll(k) {
     let place = k;
     for (let row = 0; row < k; row++) {
-      const { all, where } = this.findings.item(row);
-      if (all) place += parseInt(where, 10) - 1;
+      const { more } = this.findings.item(row);
+      if (more) place += more - 1;
     }
     return place;
   }
@@ -234,7 +239,7 @@ export class LevelView {
   async #choose(finding, k) {
     const { asked } = this, mine = ++this.choices;
     if (finding.wide) return this.readWide();
-    if (finding.all && asked) return this.#listAll(asked, k);
+    if (finding.more && asked) return this.#listAll(asked, k);
     const place = await this.#placeOf(finding);
     if (this.asked !== asked || mine !== this.choices) return;
     if (place && this.map.picture && isNarrow()) pane('map');
@@ -249,9 +254,9 @@ export class LevelView {
     let k = 0, isWhole = findings.count > 0;
     for (let lines = 0; k < Math.min(MARKED, findings.count) && lines < MARKED_LINES; k++) {
       const finding = findings.item(k), at = await this.#placeOf(finding);
-      if (finding.all) isWhole = false;
+      if (finding.more) isWhole = false;
       if (!at) continue;
-      places.push({ at, title: `${finding.code} ${finding.where}: ${finding.message.replace(/, (?:from|at) \(.*$/, '')}` });
+      places.push({ at, title: `${finding.code} ${finding.where}: ${finding.title}` });
       lines += at.length / 4;
     }
     if (this.asked !== asked) return;
@@ -269,10 +274,10 @@ export class LevelView {
   /** Where a finding is, if it is anywhere: its own place, a linedef, or the outline of a sector. @param {Finding} finding */
   async #placeOf({ place, linedef, sector }) {
     if (place || (linedef < 0 && sector < 0)) return place;
-    const { ends, first, bounds } = await this.#linedefs();
+    const { linedefs, first, bounds } = await this.#linedefs();
     const end = Math.min(first[sector + 1] ?? 0, first[sector] + MARKED_LINES); // 0 where no linedef faces it, nor a later one
     const lines = linedef >= 0 ? [linedef] : [...bounds.subarray(end ? first[sector] : 0, end)];
-    const at = lines.flatMap((k) => ends[4 * k] === undefined || ends[4 * k] === NOWHERE ? [] : [...ends.subarray(4 * k, 4 * k + 4)]);
+    const at = lines.flatMap((k) => lineOf(linedefs, k));
     return at.length ? at : null;
   }
 
@@ -281,7 +286,7 @@ export class LevelView {
     if (this.ends) return this.ends;
     const ends = this.desk.ask('ends', this.asked ?? {}).catch((error) => {
       if (error instanceof Stopped && this.ends === ends) this.ends = undefined;
-      return { ends: new Int32Array(), first: new Int32Array(), bounds: new Int32Array() };
+      return { linedefs: new Int32Array(), first: new Int32Array(), bounds: new Int32Array() };
     });
     return this.ends = ends;
   }
@@ -304,8 +309,8 @@ export class LevelView {
     this.sector = Number(sector ?? -1);
     this.#tellSector();
     if (sector === undefined) this.#tellSight(-1, []); else this.#sight(Number(sector), mine);
-    const told = await block, { ends } = await this.#linedefs();
-    if (mine === this.pins) this.map.showBlock(this.#tellBlock(told), ends);
+    const told = await block, { linedefs } = await this.#linedefs();
+    if (mine === this.pins) this.map.showBlock(this.#tellBlock(told).flatMap((k) => lineOf(linedefs, k)));
   }
 
   /** Tells what only the picture knows of the pinned point's sector. */

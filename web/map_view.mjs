@@ -204,9 +204,9 @@ export class MapView {
     this.#redraw();
   }
 
-  /** Draws a block's linedefs. @param {number[]} list @param {Int32Array} ends four numbers to a linedef */
-  showBlock(list, ends) {
-    this.block = pathOf(list.filter((k) => 4 * k < ends.length && ends[4 * k] !== NOWHERE).flatMap((k) => [...ends.subarray(4 * k, 4 * k + 4)]));
+  /** Draws a block's linedefs. @param {number[]} lines x y x y of each */
+  showBlock(lines) {
+    this.block = pathOf(lines);
     this.#redraw();
   }
 

@@ -17,7 +17,7 @@ const ALL = 0xffffffffffffffffn;
  * @typedef {{ status: number, answer: Uint8Array, refused: string }} Ended  how a run ended, as the program would have
  * @typedef {{ wide?: boolean, warnings?: 'told' | 'strict', bases?: number }} Judging  `--wide`; `--map`, or `--map --strict`; how many of
  *   the files, from the first on, are those of `--base`, 63 at most: of `check` and `survey`
- * @typedef {{ command: 'check', max: number | bigint } | { command: 'survey' } | { command: 'demos', json?: boolean } |
+ * @typedef {{ command: 'check', max: number | bigint, json?: boolean } | { command: 'survey' } | { command: 'demos', json?: boolean } |
  *   { command: 'cut', entry: number | bigint }} Command  `max` is 0 for all findings
  * @typedef {Command & Judging} LensQuestion  what is asked of files
  * @typedef {{ cells: number, wide?: boolean, frame?: number[] }} DrawQuestion  `frame` is x0 y0 x1 y1
@@ -219,10 +219,24 @@ export async function drawPicture(question, file, room = ANSWER) {
   });
 }
 
+/**
+ * Where the linedefs lie of the level whose label is a file's first entry, and which sectors they face: six numbers of 32 bits of each, as
+ * `linedefs.mjs` has them. With status 2 the first entry is no level's label.
+ * @param {{ wide?: boolean }} question @param {Uint8Array} file @param {number} [room] a first guess of the answer's
+ */
+export async function listLinedefs({ wide = false }, file, room = ANSWER) {
+  const asked = Uint8Array.of(Number(wide));
+  return withRoom(file.length, room, (call, size) => {
+    call.slice(file);
+    call.reference(asked);
+    return call.run('list_linedefs', call.room(size));
+  });
+}
+
 /** A command's number, and what number goes with it. @param {LensQuestion} question @returns {[number, number | bigint]} */
 function commandOf(question) {
   switch (question.command) {
-    case 'check': return [0, question.max || ALL];
+    case 'check': return [question.json ? 5 : 0, question.max || ALL];
     case 'survey': return [1, 0];
     case 'demos': return [question.json ? 3 : 2, 0];
     case 'cut': return [4, question.entry];

@@ -5,8 +5,6 @@
  *   findings?: Record<string, number>, warnings?: Record<string, number>, unlooked?: string[], things?: number, linedefs?: number, sidedefs?: number,
  *   vertexes?: number, segs?: number, ssectors?: number, nodes?: number, sectors?: number, reject?: number, blockmap?: number }} Level
  *   an object of `survey`; before the level was judged it has its name and entry alone
- * @typedef {{ code: string, where: string, message: string, place: number[] | null, linedef: number, sector: number, all?: boolean,
- *   wide?: boolean }} Finding  a line of `check`; its place is x y or x y x y, or that of a linedef or a sector (else -1)
  */
 
 export const get = (/** @type {string} */ id) => /** @type {HTMLElement} */ (document.getElementById(id));
@@ -46,37 +44,19 @@ export function verdict({ sound, faults = 0, notes = 0 }, warnings = 0) {
 
 const SILENCING = /^F[3-9]$/; // with one of these no warning is looked for
 
-/**
- * What wasn't looked for in a level, and what helps: here that is a game's file, dropped too, and for the program `--base`.
- * @param {Level} level @param {string} told what the program says of it @param {boolean} wantsGame
- */
-export function unlookedWords({ sound, findings = {} }, told, wantsGame) {
-  if (Object.keys(findings).some((code) => SILENCING.test(code))) return "Warnings aren't looked for until F3 to F9 are mended.";
-  const names = told.replace("; name the game's with --base", wantsGame ? "; drop the game's file, too." : '.');
-  return [sound ? '' : "W3 and W5 aren't looked for until all faults are mended.", names].filter(Boolean).join(' ');
-}
+/** Of what is looked for only with it, the lump that lists the names. */
+const LISTED_IN = /** @type {Record<string, string>} */ ({ W9: 'TEXTURE1', W10: 'F_START' });
 
 /**
- * A line of `check`, without its path and level.
- * @param {string} line @returns {Finding}
+ * What wasn't looked for in a level, as the program tells it, and what helps: here that is a game's file, dropped too, and for the program
+ * `--base`.
+ * @param {Level} level @param {boolean} wantsGame
  */
-export function findingOf(line) {
-  const told = /^([FNW]\d+) (.+?): (.*)$/.exec(line);
-  if (!told) {
-    const more = /^([FNW]\d+): (\d+ more)$/.exec(line), wide = line === 'sound with --wide';
-    return {
-      code: more?.[1] ?? '', where: more?.[2] ?? line, place: null, linedef: -1, sector: -1, all: !!more, wide,
-      message: more ? 'Choose this to list them all.' : wide ? 'Choose this to read its indexes as unsigned.' : '',
-    };
-  }
-  const [, code, where, message] = told;
-  const at = / from \((-?\d+), (-?\d+)\) to \((-?\d+), (-?\d+)\)$/.exec(message) ?? / at \((-?\d+), (-?\d+)\)$/.exec(message) ??
-    /^(?:origin )?\((-?\d+), (-?\d+)\) is outside/.exec(message);
-  return {
-    code, where, message: `${message[0]?.toUpperCase() ?? ''}${message.slice(1)}`,
-    place: at ? at.slice(1).map(Number) : null, linedef: Number(/ of linedef (\d+)$/.exec(message)?.[1] ?? -1),
-    sector: Number(/^sector (\d+)$/.exec(where)?.[1] ?? -1),
-  };
+export function unlookedWords({ sound, findings = {}, unlooked = [] }, wantsGame) {
+  if (Object.keys(findings).some((code) => SILENCING.test(code))) return "Warnings aren't looked for until F3 to F9 are mended.";
+  const lumps = unlooked.map((code) => LISTED_IN[code]), help = wantsGame ? "; drop the game's file, too." : '.';
+  const names = unlooked.length ? `${unlooked.join(', ')} weren't looked for: no file has ${lumps.join(', ')}${help}` : '';
+  return [sound ? '' : "W3 and W5 aren't looked for until all faults are mended.", names].filter(Boolean).join(' ');
 }
 
 /** What the picture tells of a sector or a thing, without what only the picture is about. @param {string} title */

@@ -1,9 +1,10 @@
 // The worker: holds the files that it was handed, asks the engine, and answers one message for each. What it tells are the engine's
 // answers; it only cuts them into lines and picks the places out of them.
 import { contents, isName } from './entries.mjs';
+import { boundsOf } from './linedefs.mjs';
 import { linesOf } from './lines.mjs';
-import { NOWHERE, read } from './picture.mjs';
-import { drawPicture, runWadlens, runWadlook } from './wad_page.mjs';
+import { read } from './picture.mjs';
+import { drawPicture, listLinedefs, runWadlens, runWadlook } from './wad_page.mjs';
 
 /** @typedef {import('./wad_page.mjs').Ended} Ended */
 /** @typedef {import('./wad_page.mjs').LensQuestion} LensQuestion */
@@ -17,6 +18,7 @@ import { drawPicture, runWadlens, runWadlook } from './wad_page.mjs';
 
 const MOST_BYTES = 268435456; // of a file, and of all that are held
 const MOST_ALONE = 8; // levels of a file that are kept cut out
+const OBJECT = 192; // room for an object of `check`
 const PATH = 'f'; // of a file whose name isn't shown
 const UNFOUND = 'level'; // a label in small letters, which no look-up finds
 const NO_MEMORY = 'there is not enough memory for it';
@@ -133,64 +135,17 @@ function labelled(file, label) {
 }
 
 /**
- * Some numbers of each record of a table of `show`, by their places in its line. There may be a million of them, so they are read from the bytes.
- * @param {Uint8Array} shown @param {string} table @param {number[]} places in their order
+ * x y of each record of a lump, which begins with them.
+ * @param {Uint8Array} file a level's own @param {number} lump its number behind the label @param {number} size of a record
  */
-function fieldsOf(shown, table, places) {
-  const next = (/** @type {number} */ from) => shown.indexOf(10, from) + 1 || shown.length, first = table.charCodeAt(0);
-  let at = 0;
-  while (at < shown.length && !(shown[at] === first && isName(shown, at, at + table.length + 1, `${table} `))) at = next(at);
-  const number = () => {
-    const sign = shown[at] === 45 ? -1 : 1;
-    if (sign < 0) at++;
-    let value = 0;
-    for (; shown[at] >= 48; at++) value = 10 * value + shown[at] - 48;
-    return sign * value;
-  };
-  const fields = new Int32Array(places.length * Number(text(shown.subarray(at, next(at))).split(' ')[1] ?? 0));
-  for (let k = 0; k < fields.length; k += places.length) {
-    at = next(at);
-    for (let place = 0, wanted = 0; wanted < places.length; place++) {
-      if (place === places[wanted]) fields[k + wanted++] = number();
-      else while (at < shown.length && shown[at] > 32) at++;
-      if (shown[at] === 32) at++;
-    }
+function spotsOf(file, lump, size) {
+  const view = new DataView(file.buffer, file.byteOffset), entry = view.getInt32(8, true) + 16 * lump;
+  const spots = new Int16Array(2 * Math.floor(view.getInt32(entry + 4, true) / size));
+  for (let k = 0, at = view.getInt32(entry, true); k < spots.length; k += 2, at += size) {
+    spots[k] = view.getInt16(at, true);
+    spots[k + 1] = view.getInt16(at + 2, true);
   }
-  return fields;
-}
-
-/**
- * The ends of the linedefs: x y x y of each, where both vertexes are there.
- * @param {Int32Array} lines four fields of each, of which the first two are its vertexes @param {Int32Array} places of the vertexes
- */
-function endsOf(lines, places) {
-  const ends = new Int32Array(lines.length).fill(NOWHERE);
-  for (let k = 0; k < lines.length; k += 4) {
-    const [a, b] = [2 * lines[k], 2 * lines[k + 1]];
-    if (a in places && b in places) ends.set([places[a], places[a + 1], places[b], places[b + 1]], k);
-  }
-  return ends;
-}
-
-/**
- * The linedefs about each sector: those of sector `s` stand in `bounds` from place `first[s]` to `first[s + 1]`.
- * @param {Int32Array} lines four fields of each, of which the last two are its sidedefs @param {Int32Array} sectors of the sidedefs
- */
-function boundsOf(lines, sectors) {
-  /** @param {(sector: number, line: number) => void} act what is done for each linedef and each sector that it faces */
-  const each = (act) => {
-    for (let k = 0; k < lines.length; k += 4) {
-      const front = sectors[lines[k + 2]] ?? -1, back = sectors[lines[k + 3]] ?? -1;
-      if (front >= 0) act(front, k / 4);
-      if (back >= 0 && back !== front) act(back, k / 4);
-    }
-  };
-  const first = new Int32Array(2 + sectors.reduce((most, sector) => Math.max(most, sector), 0));
-  each((sector) => { first[sector + 1]++; });
-  for (let sector = 1; sector < first.length; sector++) first[sector] += first[sector - 1];
-  const bounds = new Int32Array(first[first.length - 1]), next = first.slice();
-  each((sector, line) => { bounds[next[sector]++] = line; });
-  return { first, bounds };
+  return spots;
 }
 
 const IS_JUDGED = ',"format":"doom",'; // no name and no path has such letters: their quotes are escaped
@@ -236,17 +191,19 @@ const jobs = {
   },
 
   /**
-   * The level's object, and `check`'s lines with how much stands before each, and what wasn't looked for. Alone the level stands on its own
-   * file, whose textures and flats it may use, under a label that takes the place of none of their names.
+   * The level's object, and `check`'s; and where the vertexes and the nodes are, if N12 or F12 is found, whose objects have no place. Alone the
+   * level stands on its own file, whose textures and flats it may use, under a label that takes the place of none of their names.
    * @param {AskedLevel & { max: number }} asked
    */
   async look(asked) {
     const file = labelled((await alone(asked)).bytes, UNFOUND), bases = [...await basesOf(asked), (await hold(asked)).bytes];
     const level = JSON.parse(firstLine(await judge(asked, { command: 'survey' }, bases, file)));
-    const found = asked.max ? 0 : Object.values({ ...level.findings, ...level.warnings }).reduce((sum, n) => sum + n, 0); // so many lines need room
-    const check = await judge(asked, { command: 'check', max: asked.max }, bases, file, Math.max(1 << 20, 80 * found));
-    const unlooked = check.refused.replace(/^wadlens: /, '').trim();
-    return { level, before: `${PATH}: ${UNFOUND} (entry 0): `.length, findings: linesOf(check.answer), unlooked };
+    /** @type {Record<string, number>} */
+    const counts = { ...level.findings, ...level.warnings };
+    const found = asked.max ? 0 : Object.values(counts).reduce((sum, n) => sum + n, 0); // so many objects need room
+    const check = await judge(asked, { command: 'check', json: true, max: asked.max }, bases, file, Math.max(1 << 20, OBJECT * found));
+    const spots = { vertex: counts.N12 && spotsOf(file, 4, 4), node: counts.F12 && spotsOf(file, 7, 28) };
+    return { level, findings: linesOf(check.answer), spots };
   },
 
   /** The picture as numbers and as text, or why there is none. @param {AskedLevel & { cells: number, frame?: number[] }} asked */
@@ -259,12 +216,11 @@ const jobs = {
     return picture ? { picture, svg: ended.answer } : { why: 'the picture is too large to be shown here; it can be saved', svg: ended.answer };
   },
 
-  /** The ends of all linedefs, and which are about each sector. @param {AskedLevel} asked */
+  /** The numbers of all linedefs, and which are about each sector. @param {AskedLevel} asked */
   async ends(asked) {
-    const { named, name } = await alone(asked);
-    const shown = (await askLook(['show', ...reading(asked), name], named, undefined, 65536 + 3 * named.length)).answer;
-    const lines = fieldsOf(shown, 'LINEDEFS', [1, 2, 6, 7]);
-    return { ends: endsOf(lines, fieldsOf(shown, 'VERTEXES', [1, 2])), ...boundsOf(lines, fieldsOf(shown, 'SIDEDEFS', [6])) };
+    const { bytes } = await alone(asked), listed = await answered(listLinedefs(asked, bytes, 65536 + 2 * bytes.length));
+    const linedefs = new Int32Array(listed.answer.buffer);
+    return { linedefs, ...boundsOf(linedefs) };
   },
 
   /** The line of `points` or of `blocks` at a place, or why there is none. @param {AskedLevel & { word: string, x: number, y: number }} asked */

@@ -39,7 +39,7 @@ function judgingOf(words) {
 /** The question of words without paths. @param {string[]} words @returns {LensQuestion} */
 function lensQuestion(words) {
   switch (words[0]) {
-    case 'check': return { command: 'check', max: BigInt(valueOf(words, '--max', SHOWN)), ...judgingOf(words) };
+    case 'check': return { command: 'check', json: words.includes('--json'), max: BigInt(valueOf(words, '--max', SHOWN)), ...judgingOf(words) };
     case 'survey': return { command: 'survey', ...judgingOf(words) };
     case 'demos': return { command: 'demos', json: words.includes('--json') };
     case 'cut': return { command: 'cut', entry: BigInt(valueOf(words, '--entry')) };

@@ -9,7 +9,8 @@ import { addUp, check as same, count, fail } from '../../tests/harness.mjs';
 import { byWords } from './asked.mjs';
 import { seeded } from './engine_fuzz.mjs';
 import { refusals } from './engine_refusals.mjs';
-import { flats, rooms, textures, twoUnknown, wad, wallsOfRooms } from './wads.mjs';
+import { numbersOf } from './shown_linedefs.mjs';
+import { farLinedef, flats, lostLinedef, oneLost, rooms, textures, twoUnknown, wad, wallsOfRooms } from './wads.mjs';
 import { LINES, OTHERWISE, workedDemos, workedFiles } from './worked_cases.mjs';
 
 const [folder, wadlook, wadlens, sample] = process.argv.slice(2);
@@ -18,6 +19,7 @@ globalThis.fetch = async (url) => new Response(readFileSync(new URL(url)), { hea
 /** @param {string} name of a file of the page */
 const part = (name) => import(pathToFileURL(join(folder, name)).href);
 const host = await part('wad_page.mjs'), { contents } = await part('entries.mjs'), { Lines } = await part('lines.mjs');
+const { findingOf } = await part('findings.mjs');
 const run = byWords(host);
 
 const room = mkdtempSync(join(tmpdir(), 'engine-'));
@@ -74,13 +76,54 @@ async function lists(path) {
   same(`the levels of ${path}`, listed, told);
 }
 
-/** The pictures of a file's first level alone, where the page asks for them: of a level that is told as Doom's. */
+/** The rows that the page shows of the objects of a check are the lines that the program prints. */
+async function tellsRows(path, reading) {
+  const words = ['check', ...reading, '--map', '--max', '2'], page = await run([...words, '--json', path], [names.get(path)]);
+  const objects = Buffer.from(page.answer).toString().split('\n').filter((line) => /"(?:code|sound_with_wide)":/.test(line));
+  const rows = objects.map((line) => findingOf(line, {})).map(({ code, where, message, more, wide: isWide }) => {
+    if (isWide) return where;
+    return more ? `${code}: ${where}` : `${code} ${where}: ${message}`;
+  });
+  const lines = native(wadlens, [...words, path], '').stdout.toString().split('\n').map((line) => line.replace(/^[^:]*: .*?: (?=[FNW]\d|sound)/, ''));
+  const sentences = lines.map((line) => line.replace(/^([FNW]\d+ .+?: )(.)/, (_, lead, first) => `${lead}${first.toUpperCase()}`));
+  same(`the rows of ${words.join(' ')} ${path}`, rows, sentences.filter((line) => /^(?:[FNW]\d+[ :]|sound with)/.test(line)));
+}
+
+/** The numbers of the linedefs of the level alone are those that `show` tells. There is no room for them at first. */
+async function listsAs(isWide) {
+  const words = ['show', ...isWide ? ['--wide'] : [], 'E1M1', 'alone.wad'], shown = native(wadlook, words, '').stdout.toString();
+  const { status, answer } = await host.listLinedefs({ wide: isWide }, names.get('alone.wad'), 16);
+  same(`the linedefs of ${words.join(' ')}`, [status, Buffer.from(answer).toString('hex')], [0, Buffer.from(numbersOf(shown, isWide)).toString('hex')]);
+}
+
+/** The numbers of the linedefs of the two rooms, worked by hand. */
+async function listsRooms() {
+  const none = -2147483648, nowhere = [none, none, none, none];
+  const inRooms = [[0, 0, 0, 256, 0, none], [0, 256, 256, 256, 0, none], [256, 256, 256, 0, 0, 1], [256, 0, 0, 0, 0, none],
+    [256, 256, 512, 256, 1, none], [512, 256, 512, 0, 1, none], [512, 0, 256, 0, 1, none]];
+  const other = (k, numbers) => inRooms.map((row, at) => at === k ? numbers : row);
+  const without = ({ SIDEDEFS }) => { SIDEDEFS.writeInt16LE(2, 28); };
+  for (const [what, more, isWide, wanted] of [
+    ['two rooms', {}, false, inRooms], ['two rooms, wide', {}, true, inRooms],
+    ['a linedef without vertexes', { linedefs: lostLinedef }, false, [...inRooms, [...nowhere, 0, none]]],
+    ['a vertex above 32767', { linedefs: farLinedef, vertexes: 40001 }, false, [...inRooms, [...nowhere, 0, none]]],
+    ['a vertex above 32767, wide', { linedefs: farLinedef, vertexes: 40001 }, true, [...inRooms, [0, 0, 0, 256, 0, none]]],
+    ["a sidedef that isn't there", { damage: oneLost }, true, other(5, [512, 256, 512, 0, none, none])],
+    ["a sector that isn't there", { damage: without }, false, other(0, [0, 0, 0, 256, none, none])],
+  ]) {
+    const { status, answer } = await host.listLinedefs({ wide: isWide }, wad(rooms('MAP01', more)));
+    same(`the linedefs of ${what}`, [status, [...new Int32Array(answer.buffer)]], [0, wanted.flat()]);
+  }
+}
+
+/** The pictures and the linedefs of a file's first level alone, where the page asks for them: of a level that is told as Doom's. */
 async function draws(path) {
   const { answer } = await run(['cut', '--entry', '0', path], [names.get(path)]);
   keep('alone.wad', Buffer.from(answer));
   for (const [words, options] of [[['survey'], plain], [['survey', '--wide'], wide]]) {
     const { level, format } = JSON.parse(native(wadlens, [...words, 'alone.wad'], '').stdout.toString().split('\n')[0] || '{}');
     if (level !== 'E1M1' || format !== 'doom') continue;
+    await listsAs(words.includes('--wide'));
     for (const option of options) await drawsAs(['picture', ...option, 'E1M1', 'alone.wad']);
   }
 }
@@ -133,12 +176,15 @@ keep('notes.txt', Buffer.from('notes about the rooms'));
 keep('behind.wad', Buffer.concat([wad([label('MAP01')]).subarray(0, 12), Buffer.from([1])]));
 const files = [['base.wad'], ['base.wad', 'demo.wad'], ['other.wad', 'base.wad'], ['short.wad', 'damaged3.wad', 'notes.txt'], ['empty.wad'], ['behind.wad']];
 const told = [['check'], ['check', '--wide'], ['check', '--max', '0'], ['check', '--wide', '--max', '1'], ['survey'], ['survey', '--wide'],
-  ['check', '--map'], ['check', '--wide', '--map', '--strict', '--max', '2'], ['survey', '--map'], ['survey', '--wide', '--map', '--strict']];
+  ['check', '--map'], ['check', '--wide', '--map', '--strict', '--max', '2'], ['survey', '--map'], ['survey', '--wide', '--map', '--strict'],
+  ['check', '--json'], ['check', '--wide', '--json', '--max', '1'], ['check', '--json', '--map', '--max', '0'], ['check', '--json', '--map', '--strict']];
 for (const words of told) for (const paths of files) await checkLens(words, paths);
 for (const words of [['demos'], ['demos', '--json']]) {
   for (const paths of [...files, ['demo.lmp'], ['cut.lmp', 'demo.lmp'], ['demo.wad', 'cut.lmp', 'demo.wad']]) await checkLens(words, paths);
 }
-for (let i = 0; i < 40; i++) for (const words of [['check'], ['survey', '--wide', '--map'], ['cut', '--entry', '0']]) await checkLens(words, [`damaged${i}.wad`]);
+for (let i = 0; i < 40; i++) {
+  for (const words of [['check'], ['check', '--json'], ['survey', '--wide', '--map'], ['cut', '--entry', '0']]) await checkLens(words, [`damaged${i}.wad`]);
+}
 for (const entry of ['0', '1', '5', '11', '12', '18446744073709551615']) {
   for (const path of ['base.wad', 'other.wad', 'demo.wad', 'short.wad', 'empty.wad']) await checkLens(['cut', '--entry', entry], [path]);
 }
@@ -154,7 +200,9 @@ const standing = [[['game.wad'], ['room.wad']], [['doors.wad'], ['room.wad']], [
   [['flats.wad', 'second.wad'], ['room.wad']], [['flats.wad'], ['room.wad']], [['game.wad', 'doors.wad'], ['room.wad']],
   [['doors.wad', 'game.wad'], ['room.wad']], [['game.wad'], ['room.wad', 'short.wad', 'walled.wad']], [['game.wad'], ['game.wad']],
   [[...Array(62).fill('flats.wad'), 'game.wad'], ['room.wad']], [['short.wad'], ['room.wad']], [['game.wad', 'notes.txt'], ['room.wad']]];
-for (const [bases, paths] of standing) for (const words of [['check', '--map', '--max', '0'], ['survey', '--map']]) await checkLens(words, paths, bases);
+for (const [bases, paths] of standing) {
+  for (const words of [['check', '--map', '--max', '0'], ['check', '--json', '--map', '--max', '0'], ['survey', '--map']]) await checkLens(words, paths, bases);
+}
 await checkLens(['check', '--wide', '--map', '--strict', '--max', '1'], ['room.wad'], ['doors.wad']);
 for (const path of ['room.wad', 'walled.wad', 'game.wad']) await checkLens(['check', '--map'], [path]);
 
@@ -172,9 +220,11 @@ for (const [name, bytes] of workedFiles(base)) {
   for (const command of ['show', 'audit', 'points', 'census', 'sight', 'blocks', 'extract', 'demo']) {
     for (const words of readings(command)) await check(words, [path], LINES[command] ?? '');
   }
-  for (const words of [['check', '--map', '--max', '0'], ['survey', '--map'], ['check', '--wide', '--map', '--max', '0'], ['survey', '--wide', '--map'], ['cut', '--entry', '0']]) {
+  for (const words of [['check', '--map', '--max', '0'], ['survey', '--map'], ['check', '--wide', '--map', '--max', '0'], ['survey', '--wide', '--map'],
+    ['check', '--json', '--map', '--max', '0'], ['cut', '--entry', '0']]) {
     await checkLens(words, [path]);
   }
+  for (const reading of [[], ['--wide']]) await tellsRows(path, reading);
   await draws(path);
 }
 for (const [, words, given, input] of OTHERWISE) await check(words, given.map((name) => `${name}.wad`), input);
@@ -188,7 +238,9 @@ for (const [name, bytes] of workedDemos()) {
 }
 
 for (const path of ['base.wad', ...Array.from({ length: 40 }, (_, i) => `damaged${i}.wad`)]) await draws(path);
+for (let i = 0; i < 40; i++) for (const reading of [[], ['--wide']]) await tellsRows(`damaged${i}.wad`, reading);
 await drawsOddLabel();
+await listsRooms();
 for (const path of [...names.keys()].filter((name) => name.endsWith('.wad'))) await lists(path);
 await seeded(process.stdin, run);
 process.exitCode = addUp();

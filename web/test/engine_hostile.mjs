@@ -20,7 +20,7 @@ WebAssembly.Instance = class extends Plain {
     instances++;
   }
 };
-const run = byWords(await import(pathToFileURL(join(folder, 'wad_page.mjs')).href));
+const host = await import(pathToFileURL(join(folder, 'wad_page.mjs')).href), run = byWords(host);
 
 // Files -------------------------------------------------------------------------------------------------------------------------
 
@@ -68,6 +68,10 @@ const list = (size) => level({ BLOCKMAP: Buffer.concat([words(0, 0, 1, 1, 5), Bu
 
 // Rows --------------------------------------------------------------------------------------------------------------------------
 
+const LINEDEFS = 'linedefs'; // which no program lists in numbers
+/** @param {string[]} asked @param {Buffer[]} files @param {Buffer} input @param {number} room */
+const ask = ([word, ...more], files, input, room) => word === LINEDEFS ? host.listLinedefs({}, files[0], room) : run([word, ...more, 'f'], files, input, room);
+
 /**
  * A name, words, the whole size, the file, room as the page asks for it, input.
  * @type {[string, string[], number, (size: number) => Buffer, (file: Buffer) => number, string?][]}
@@ -77,10 +81,10 @@ const rows = [
   ['`survey --map`: 363,636 levels of one label', ['survey', '--map'], FILE, directory('MAP01', ...USUAL), (file) => 65536 + 400 * file.length / 176],
   ['`survey --map`: all lumps over the same 64 MB of bytes 255', ['survey', '--map'], FILE, (size) => over(['MAP01', ...USUAL], Buffer.alloc(size, 255)), () => 65536],
   ['`check --map`: the same', ['check', '--map'], FILE, (size) => over(['MAP01', ...USUAL], Buffer.alloc(size, 255)), () => 1 << 20],
-  ['`check --map --max 0`: 1,142,857 linedefs whose vertexes aren\'t there', ['check', '--map', '--max', '0'], SMALL, filled('LINEDEFS', words(4000, 4001, 1, 0, 0, 0, -1)), (file) => 80 * file.length / 14],
+  ['`check --json --map --max 0`: 1,142,857 linedefs whose vertexes aren\'t there', ['check', '--json', '--map', '--max', '0'], SMALL, filled('LINEDEFS', words(4000, 4001, 1, 0, 0, 0, -1)), (file) => 192 * file.length / 14],
   ['`check --map --base`: 266,666 sidedefs, whose textures are none of the 666,666 of each file', ['check', '--base', 'g', '--map'], SMALL, unknown, () => 1 << 20],
   ['`cut`: a level of 64 MB', ['cut', '--entry', '0'], FILE, filled('BLOCKMAP', words(0)), () => 1 << 22],
-  ['`show`: 1,142,857 linedefs', ['show', 'MAP01'], SMALL, filled('LINEDEFS', words(0, 1, 1, 0, 0, 0, -1)), (file) => 65536 + 3 * file.length],
+  ['where 1,142,857 linedefs lie', [LINEDEFS], SMALL, filled('LINEDEFS', words(0, 1, 1, 0, 0, 0, -1)), (file) => 65536 + 2 * file.length],
   ['`points`: 1024 points down a chain of 32,767 nodes', ['points', 'MAP01'], 32767, chain, () => 1 << 20, '1 5\n'.repeat(1024)],
   ['`blocks`: one list of 32 million words', ['blocks', 'MAP01'], FILE, list, () => 1 << 20, '0 5\n'],
   ['`picture`: 1024 cells down a chain of 32,767 nodes', ['picture', '--cells', '1024', '--frame', '0,5,1023,5', 'MAP01'], 32767, chain, () => 1 << 22],
@@ -95,7 +99,7 @@ const rows = [
 async function once(asked, file, room, input) {
   instances = 0;
   const files = Array.from({ length: 1 + basesOf(asked) }, () => file); // each of the base files is the same
-  const began = process.cpuUsage(), { status } = await run([...asked, 'f'], files, Buffer.from(input), Math.ceil(room)), { user, system } = process.cpuUsage(began);
+  const began = process.cpuUsage(), { status } = await ask(asked, files, Buffer.from(input), Math.ceil(room)), { user, system } = process.cpuUsage(began);
   if (status === 3) throw new Error(`no memory for ${asked.join(' ')}`);
   return { seconds: (user + system) / 1e6, bytes: memory.buffer.byteLength, runs: instances };
 }

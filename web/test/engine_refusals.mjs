@@ -1,5 +1,6 @@
 // What asks for nothing, as a host may lay it out by mistake: each call ends with status 2, and nothing is answered. Each is one step
 // from a call that has an answer, which is made, too.
+import { wad } from './wads.mjs';
 
 /** @typedef {import('../wad_page.mjs').Ended} Ended */
 /** @typedef {typeof import('../wad_page.mjs').Call} Calls */
@@ -8,9 +9,13 @@
 /** @typedef {{ parts: Buffer[], sizes?: (number | bigint)[] }} Parts  with sizes where these aren't those of the parts */
 
 const HEAP = 1 << 24, ROOM = 1 << 18, LAST = 2n ** 64n - 1n;
-const [CHECK, SURVEY, DEMOS, OBJECTS, CUT] = [0, 1, 2, 3, 4], TOLD = 1, STRICT = 2;
+const [CHECK, SURVEY, DEMOS, DEMO_OBJECTS, CUT, CHECK_OBJECTS] = [0, 1, 2, 3, 4, 5], TOLD = 1, STRICT = 2;
+const JUDGING = [CHECK, SURVEY, CHECK_OBJECTS], ALL = [...JUDGING, DEMOS, DEMO_OBJECTS, CUT];
 /** What a check with warnings tells besides of the file, which has neither textures nor flats. */
 const UNLOOKED = "wadlens: W9, W10 weren't looked for: no file has TEXTURE1, F_START; name the game's with --base\n";
+
+/** Files whose first entry is no level's label. @type {Record<string, Buffer>} */
+const NO_LEVELS = { 'no WAD file': Buffer.from('PWAD'), 'no entry': wad([]), 'one entry': wad([['MAP01', Buffer.alloc(0)]]) };
 
 /** @param {LensNumbers} question */
 function lensBytes({ number = 0n, command = CHECK, wide = 0, warnings = 0, bases = 0 }) {
@@ -67,6 +72,13 @@ export function refusals(module, Call, file, check) {
     call.reference(drawBytes(question));
     return call.run('draw_picture', call.room(ROOM));
   };
+  /** @param {number} wide @param {Buffer} [level] */
+  const list = (wide, level = file) => {
+    const call = new Call(module, HEAP);
+    call.slice(level);
+    call.reference(Buffer.from([wide]));
+    return call.run('list_linedefs', call.room(ROOM));
+  };
 
   const toldOf = (/** @type {Ended} */ { status, answer, refused }) => [status, answer.length > 0, refused];
   const answers = (/** @type {string} */ what, /** @type {Ended} */ ended, status = 0, told = '') => check(what, toldOf(ended), [status, true, told]);
@@ -83,26 +95,26 @@ export function refusals(module, Call, file, check) {
   refuses('levels, a path that is no UTF-8', look({ parts: [Buffer.from('levels'), Buffer.from([0xff])] }, file1));
 
   const many = (/** @type {number} */ count) => [path, file].map((part) => ({ parts: Array.from({ length: count }, () => part) }));
-  for (const command of [CHECK, SURVEY]) {
-    const told = command === CHECK ? UNLOOKED : '';
+  for (const command of JUDGING) {
+    const told = command === SURVEY ? '' : UNLOOKED;
     answers(`command ${command}`, lens({ command }));
     answers(`command ${command}, warnings`, lens({ command, warnings: TOLD }), 0, told);
     answers(`command ${command}, strict`, lens({ command, warnings: STRICT }), 1, told);
     answers(`command ${command} of two files`, lens({ command }, two, file2));
     for (const bases of [1, 63]) answers(`command ${command} over ${bases}`, lens({ command, warnings: TOLD, bases }, ...many(bases + 1)), 0, told);
   }
-  for (const command of [CHECK, SURVEY, DEMOS, OBJECTS]) {
+  for (const command of [...JUDGING, DEMOS, DEMO_OBJECTS]) {
     for (const bases of [1, 2, 255]) refuses(`command ${command} over ${bases}, of which one is there`, lens({ command, warnings: TOLD, bases }));
     for (const bases of [64, 255]) refuses(`command ${command} over ${bases}`, lens({ command, warnings: TOLD, bases }, ...many(bases + 1)));
   }
   for (const [bases, count] of [[1, 1], [1, 2], [255, 1]]) refuses(`a cut of ${count} over ${bases}`, lens({ command: CUT, bases }, ...many(count)));
   answers('a cut', lens({ command: CUT }));
   answers('a path that is no UTF-8', lens({}, { parts: [Buffer.from([0xff])] }));
-  for (const command of [5, 9, 255]) refuses(`command ${command}`, lens({ command }));
+  for (const command of [6, 9, 255]) refuses(`command ${command}`, lens({ command }));
   for (const warnings of [3, 7, 255]) {
-    for (const command of [CHECK, SURVEY, DEMOS, OBJECTS, CUT]) refuses(`command ${command}, warnings ${warnings}`, lens({ command, warnings }));
+    for (const command of ALL) refuses(`command ${command}, warnings ${warnings}`, lens({ command, warnings }));
   }
-  for (const command of [CHECK, SURVEY, DEMOS, OBJECTS, CUT]) refuses(`command ${command} of no file`, lens({ command }, none, none));
+  for (const command of ALL) refuses(`command ${command} of no file`, lens({ command }, none, none));
   refuses('a cut of two files', lens({ command: CUT }, two, file2));
   for (const command of [CHECK, CUT]) {
     refuses(`command ${command}, more paths than files`, lens({ command }, two, file1));
@@ -123,4 +135,7 @@ export function refusals(module, Call, file, check) {
     answers(`the numbers ${frame}, which are no frame`, draw({ frame }));
   }
   refuses('a picture of no WAD file', draw({}, Buffer.from('PWAD')), '');
+
+  for (const wide of [0, 1, 255]) answers(`linedefs, read by ${wide}`, list(wide));
+  for (const [what, level] of Object.entries(NO_LEVELS)) refuses(`the linedefs of ${what}`, list(0, level), '');
 }

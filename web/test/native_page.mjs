@@ -1,4 +1,5 @@
 // For tests without the module: stands in the place of wad_page.mjs and asks the server, which runs the programs on words.
+import { numbersOf } from './shown_linedefs.mjs';
 
 /** @typedef {import('../wad_page.mjs').Ended} Ended */
 /** @typedef {import('../wad_page.mjs').LensQuestion} LensQuestion */
@@ -30,12 +31,19 @@ export function drawPicture({ cells, wide, frame }, file) {
   return runWadlook(['picture', ...(wide ? ['--wide'] : []), '--cells', String(cells), ...framed, name, 'f'], [bytes]);
 }
 
+/** @param {{ wide?: boolean }} question @param {Uint8Array} file @returns {Promise<Ended>} */
+export async function listLinedefs({ wide = false }, file) {
+  const { name, bytes } = named(file);
+  const shown = await runWadlook(['show', ...(wide ? ['--wide'] : []), name, 'f'], [bytes]);
+  return { ...shown, answer: numbersOf(new TextDecoder().decode(shown.answer), wide) };
+}
+
 /** @param {LensQuestion} question */
 function wordsOf(question) {
   const wide = question.wide ? ['--wide'] : [], warnings = { told: ['--map'], strict: ['--map', '--strict'] };
   const judging = [...wide, ...(question.warnings ? warnings[question.warnings] : [])];
   switch (question.command) {
-    case 'check': return ['check', ...judging, '--max', String(question.max)];
+    case 'check': return ['check', ...judging, ...(question.json ? ['--json'] : []), '--max', String(question.max)];
     case 'survey': return ['survey', ...judging];
     case 'demos': return ['demos', ...(question.json ? ['--json'] : [])];
     case 'cut': return ['cut', '--entry', String(question.entry)];

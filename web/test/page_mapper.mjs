@@ -216,6 +216,27 @@ async function sectors() {
   check('and says so', await textOf('#under'), 'N11 level has no place on the map.');
 }
 
+/** A node and a vertex that are out of range lead to where they are, and a block is told by its column and its row. */
+async function outside() {
+  const file = written('outside.wad', wad(rooms('MAP01', { damage: (lumps) => {
+    lumps.NODES.writeInt16LE(20000, 0);
+    lumps.BLOCKMAP.writeInt16LE(9000, 8 + 2 * 7); // behind the four numbers, the offset of block 7 of rows of five
+    lumps.VERTEXES = Buffer.concat([lumps.VERTEXES, words(17000, 300)]);
+  } })));
+  await fresh();
+  await browser.drop(file);
+  await drawn('MAP01');
+  check('what is out of range', await textsOf('#findings .row > span'), ['F12', 'node 0', 'Origin (20000, 0) is outside -16384 to 16383',
+    'N10', 'block (2, 1)', "Its list isn't inside BLOCKMAP", 'N12', 'vertex 6', '(17000, 300) is outside -16384 to 16383']);
+  await browser.press('#findings .row');
+  await browser.until("document.querySelector('#map').dataset.view.startsWith('20000.000 0.000')", 'the view at the node');
+  await browser.run("document.querySelector('#findings').focus()");
+  await browser.key('ArrowDown');
+  await browser.until("document.querySelector('#under').textContent === 'N10 block (2, 1) has no place on the map.'", 'a block');
+  await browser.key('ArrowDown');
+  await browser.until("document.querySelector('#map').dataset.view.startsWith('17000.000 300.000')", 'the view at the vertex');
+}
+
 /** Only levels that were judged are told as such. */
 async function unjudged() {
   const udmf = /** @type {[string, Buffer][]} */ ([['MAP08', Buffer.alloc(0)], ['TEXTMAP', Buffer.alloc(0)]]), name = ',"format":"doom",.wad';
@@ -334,7 +355,7 @@ async function without() {
 }
 
 export async function mapper() {
-  for (const one of [silenced, more, others, again, sectors, unjudged, widths, marked, meanings, without]) {
+  for (const one of [silenced, more, others, again, sectors, outside, unjudged, widths, marked, meanings, without]) {
     await browser.screen(1440, 900, 'dark');
     await one();
   }

@@ -9,6 +9,9 @@ const TYPES = /** @type {Record<string, string>} */ ({
   '.html': 'text/html', '.css': 'text/css', '.mjs': 'text/javascript', '.svg': 'image/svg+xml',
 });
 
+/** What stands beside the page's files in the engine's place. */
+const NATIVE = /** @type {Record<string, string>} */ ({ 'wad_page.mjs': 'native_page.mjs', 'shown_linedefs.mjs': 'shown_linedefs.mjs' });
+
 /** @typedef {{ wadlook: string, wadlens: string }} Programs */
 /** @typedef {{ status: number, answer: Buffer, refused: string }} Ended */
 
@@ -58,7 +61,7 @@ export async function serve(folder, room, programs, wasm = 'application/wasm') {
       return;
     }
     const name = path.replace(/^\/sub\//, '') || 'index.html';
-    const file = programs && name === 'wad_page.mjs' ? join(import.meta.dirname ?? '', 'native_page.mjs') : join(folder, name);
+    const file = programs && NATIVE[name] ? join(import.meta.dirname ?? '', NATIVE[name]) : join(folder, name);
     if (!path.startsWith('/sub/') || !existsSync(file) || !statSync(file).isFile()) return reply.writeHead(404).end();
     reply.writeHead(200, { 'content-type': TYPES[extname(file)] ?? wasm, 'cache-control': 'no-store' });
     reply.end(readFileSync(file));

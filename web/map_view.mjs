@@ -1,6 +1,5 @@
 // The picture on two canvases: the ground of cells, and over it lines, things and marks; with zoom, pan, keys and a pin.
 import { cellColour, css, pixel, themeNow } from './inks.mjs';
-import { NOWHERE } from './picture.mjs';
 
 /** @typedef {import('./picture.mjs').Picture} Picture */
 /** @typedef {import('./inks.mjs').Colour} Colour @typedef {import('./inks.mjs').Sight} Sight */

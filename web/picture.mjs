@@ -10,8 +10,6 @@
  * }} Picture  places are the map's, y upwards; `cells` has for each cell, from the lowest row on, 0 or 1 + its place in `shown`
  */
 
-/** The ends of a linedef without both vertexes: no place of a map is so large. */
-export const NOWHERE = 0x7fffffff;
 /** The most cells that are read: `--cells` is at most 1024. */
 const MOST_CELLS = 1 << 21;
 const NAMES = /** @type {Record<string, string>} */ ({ amp: '&', lt: '<', gt: '>', quot: '"' });

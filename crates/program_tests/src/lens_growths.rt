@@ -35,8 +35,8 @@ fn counted(rt: &(impl Abort + AllocGlobal), level: &Level<'_>, n: u64) -> Option
     let heap = Refusing::new(rt.alloc(), n);
     let judged = looked_over(&heap, level, Warnings::Unasked);
     check_same(rt, judged.is_err(), heap.has_refused());
-    let counts = judged.ok()?.counts();
-    Some((counts.faults(), counts.notes()))
+    let judged = judged.ok()?;
+    Some((judged.counts().faults(), judged.counts().notes()))
 }
 
 // How many warnings of each code are told, in order, and the total.

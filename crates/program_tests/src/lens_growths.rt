@@ -89,25 +89,30 @@ fn counts_refused(rt: HostRuntime) {
     check_counts(&rt, &level_of(&rt, &file));
 }
 
-fn check_warnings(rt: &(impl Abort + AllocGlobal), level: &Level<'_>) {
-    let mut met = 0;
+// What is told of a level's warnings where the growth of this number is the first that isn't there to refuse.
+fn all_told(
+    rt: &(impl Abort + AllocGlobal),
+    level: &Level<'_>,
+    warnings: Warnings,
+) -> (u64, ([usize; 11], u64)) {
+    let mut growth = 1;
     for n in 1..99 {
-        let all = asked_for(rt, level, Warnings::Told, n);
-        check_same(rt, asked_for(rt, level, Warnings::Strict, n), all);
-        if all.is_some() {
-            check_same(rt, all, Some(WARNED));
-            break;
+        growth = n;
+        if let Some(told) = asked_for(rt, level, warnings, n) {
+            return (n, told);
         }
-        met = n;
     }
-    assert!(rt; 1 < met && met < 98);
-    // Where they aren't asked for, there is no growth but the level's own.
-    check_same(rt, asked_for(rt, level, Warnings::Unasked, 1), None);
-    check_same(
-        rt,
-        asked_for(rt, level, Warnings::Unasked, 3),
-        Some(NOT_WARNED),
-    );
+    (growth, NOT_WARNED)
+}
+
+fn check_warnings(rt: &(impl Abort + AllocGlobal), level: &Level<'_>) {
+    let (growths, told) = all_told(rt, level, Warnings::Told);
+    check_same(rt, told, WARNED);
+    check_same(rt, all_told(rt, level, Warnings::Strict), (growths, WARNED));
+    // Where they aren't asked for, there are no growths but those for the level's findings.
+    let (fewer, none) = all_told(rt, level, Warnings::Unasked);
+    check_same(rt, none, NOT_WARNED);
+    assert!(rt; 1 < fewer && fewer < growths && growths < 98);
 }
 
 #[test]

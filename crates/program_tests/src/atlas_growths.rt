@@ -8,10 +8,11 @@ use lens_engines::{
     Base, FileRefusal, Ignored, Judging, LevelCounts, Rules, Surveyed, Tables, Warnings,
     asked_resources, over_base,
 };
-use level_codes::{REPORT_COUNT, ReportCode};
+use level_codes::ReportCode;
 use level_starts::Format;
 use line_io::IoFault;
 use map_level::Reading;
+use map_level::search::CODE_COUNT;
 use memory_streams::ToVec;
 use std::alloc::{AllocError, Allocator, Global};
 use std::process::Abort;
@@ -78,8 +79,9 @@ fn add_rows<'h, 'b>(
 fn check_judged(rt: &impl Abort, judged: &LevelCounts) {
     check_same(rt, judged.tables, TABLES);
     check_same(rt, (judged.counts.faults(), judged.counts.notes()), (0, 0));
-    for (rank, count) in (30..REPORT_COUNT).zip(WARNED) {
-        check_same(rt, judged.counts.get(ReportCode::at(rank)), count);
+    for k in 0..11 {
+        let code = ReportCode::at(CODE_COUNT + k);
+        check_same(rt, judged.counts.get(code), WARNED[k]);
     }
     check_same(rt, judged.counts.warnings(), 6);
     assert!(rt; judged.drawn);

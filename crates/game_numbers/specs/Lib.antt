@@ -1,0 +1,5 @@
+pub mod Number
+pub mod Specials
+pub mod SectorSpecials
+pub mod Kinds
+pub mod Laws

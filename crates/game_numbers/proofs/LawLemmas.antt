@@ -5,7 +5,7 @@ use Rattle.std.specs.List.{range_with_len}
 use Rattle.std.proofs.lemmas.Bool.{cases_lt}
 use Rattle.game_numbers.specs.Laws.{ActInOneWay, AreAmong, AreApart, AreOfTheirKind, TheOthersAreTagged}
 use Rattle.game_numbers.specs.Number.{has, is_one_of}
-use Rattle.game_numbers.specs.Specials.{blue_lock, ceiling, change, crossed, door, exit, game, locks, nearest, platform, red_lock, scrolling, shot, tagged, teleport, used, yellow_lock}
+use Rattle.game_numbers.specs.Specials.{blue_lock, ceiling, change, crossed, door, exit, game, locks, missile, monster, nearest, perpetual, platform, red_lock, scrolling, shot, tagged, teleport, used, yellow_lock}
 use Rattle.game_numbers.specs.declared.key.Key.{Key}
 use Rattle.game_numbers.specs.declared.key.Key.TheVariants.{Blue, Yellow, Red}
 use Rattle.game_numbers.proofs.MarkLemmas.{all_below, agree_at, has-past}
@@ -135,6 +135,18 @@ others_tagged (pos n) = elim (cases_lt n 142) [
 ]
 others_tagged (negsuc n) = refl
 
+missile_is_crossed : AreAmong missile crossed
+unfolding missile crossed
+missile_is_crossed = among missile crossed refl refl
+
+monster_is_teleport : AreAmong monster teleport
+unfolding monster teleport
+monster_is_teleport = among monster teleport refl refl
+
+perpetual_is_platform : AreAmong perpetual platform
+unfolding perpetual platform
+perpetual_is_platform = among perpetual platform refl refl
+
 locked_used : (key : Key) → AreAmong (locks key) used
 locked_used Blue = blue_lock_is_used
 locked_used Yellow = yellow_lock_is_used
@@ -146,7 +158,10 @@ of_their_kind = record {
   locked = locked_used;
   teleporters = teleport_is_crossed;
   changes = change_is_crossed;
+  missiles = missile_is_crossed;
+  monsters = monster_is_teleport;
   platforms = platform_is_tagged;
+  perpetual_platforms = perpetual_is_platform;
   ceilings = ceiling_is_tagged;
   nearest = nearest_is_tagged;
   tagged_changes = change_is_tagged;

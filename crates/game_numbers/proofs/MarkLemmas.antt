@@ -7,10 +7,10 @@ use Rattle.std.proofs.lemmas.Bool.Decides.{nat_tests}
 use Rattle.std.proofs.lemmas.List.{get_or_past}
 use Rattle.std.proofs.lemmas.List.FromFn.{get_or-map-range_with_len}
 use Rattle.game_numbers.specs.Number.{has, is_marked, is_one_of}
-use Rattle.game_numbers.specs.Specials.{blue_lock, ceiling, change, crossed, door, exit, game, nearest, platform, red_lock, scrolling, shot, tagged, teleport, used, yellow_lock}
+use Rattle.game_numbers.specs.Specials.{blue_lock, ceiling, change, crossed, door, exit, game, missile, monster, nearest, perpetual, platform, red_lock, scrolling, shot, tagged, teleport, used, yellow_lock}
 use Rattle.game_numbers.specs.SectorSpecials.{exit_floor, flashing, glowing, survived, timed_door}
 use Rattle.game_numbers.specs.Kinds.{blue_key, red_key, second_game, yellow_key}
-use Rattle.game_numbers.specs.declared.special.TheConstants.{CEILING, CHANGE, CROSSED, DOOR, EXIT, GAME, NEAREST, PLATFORM, SCROLLING, SHOT, TAGGED, TELEPORT, USED}
+use Rattle.game_numbers.specs.declared.special.TheConstants.{CEILING, CHANGE, CROSSED, DOOR, EXIT, GAME, MISSILE, MONSTER, NEAREST, PERPETUAL, PLATFORM, SCROLLING, SHOT, TAGGED, TELEPORT, USED}
 use Rattle.game_numbers.specs.declared.sector_special.TheConstants.{EXIT_FLOOR, FLASHING, GLOWING, SURVIVED, TIMED_DOOR}
 use Rattle.game_numbers.specs.declared.key.TheConstants.{BLUE_KEY, BLUE_LOCK, RED_KEY, RED_LOCK, YELLOW_KEY, YELLOW_LOCK}
 use Rattle.game_numbers.specs.declared.kind.TheConstants.{SECOND_GAME}
@@ -148,3 +148,15 @@ red_key_marks = marks_are RED_KEY.now red_key 39 refl refl refl
 pub second_game_marks : (number : ℤ) → is_marked SECOND_GAME.now number ≡ is_one_of second_game number
 unfolding second_game
 second_game_marks = marks_are SECOND_GAME.now second_game 90 refl refl refl
+
+pub missile_marks : (number : ℤ) → is_marked MISSILE.now number ≡ is_one_of missile number
+unfolding missile
+missile_marks = marks_are MISSILE.now missile 89 refl refl refl
+
+pub monster_marks : (number : ℤ) → is_marked MONSTER.now number ≡ is_one_of monster number
+unfolding monster
+monster_marks = marks_are MONSTER.now monster 127 refl refl refl
+
+pub perpetual_marks : (number : ℤ) → is_marked PERPETUAL.now number ≡ is_one_of perpetual number
+unfolding perpetual
+perpetual_marks = marks_are PERPETUAL.now perpetual 88 refl refl refl

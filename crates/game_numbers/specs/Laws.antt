@@ -1,7 +1,7 @@
 -- Laws of the numbers (ours).
 use Rattle.std.specs.Prelude.{◌≡◌, ◌||◌, ◌&&◌, ℤ, not, IsTrue, List, ℕ}
 use Rattle.game_numbers.specs.Number.{is_one_of}
-use Rattle.game_numbers.specs.Specials.{ceiling, change, crossed, door, exit, game, locks, nearest, platform, scrolling, shot, tagged, teleport, used}
+use Rattle.game_numbers.specs.Specials.{ceiling, change, crossed, door, exit, game, locks, missile, monster, nearest, perpetual, platform, scrolling, shot, tagged, teleport, used}
 use Rattle.game_numbers.specs.declared.key.Key.{Key}
 
 -- each number of a list is one of another
@@ -34,7 +34,10 @@ pub record AreOfTheirKind : Type 0 where
   pub locked : (key : Key) → AreAmong (locks key) used
   pub teleporters : AreAmong teleport crossed
   pub changes : AreAmong change crossed
+  pub missiles : AreAmong missile crossed
+  pub monsters : AreAmong monster teleport
   pub platforms : AreAmong platform tagged
+  pub perpetual_platforms : AreAmong perpetual platform
   pub ceilings : AreAmong ceiling tagged
   pub nearest : AreAmong nearest tagged
   pub tagged_changes : AreAmong change tagged

@@ -14,6 +14,14 @@ crossed =
     upto 2 6 ++ (8 ∷ 10 ∷ 12 ∷ 13 ∷ 16 ∷ 17 ∷ 19 ∷ 22 ∷ 25 ∷ 30 ∷ []) ++ upto 35 40 ++ (44 ∷ []) ++ upto 52 54 ++ upto 56 59 ++ upto 72 77
     ++ upto 79 84 ++ upto 86 98 ++ (100 ∷ []) ++ upto 104 110 ++ upto 119 121 ++ upto 124 126 ++ upto 128 130 ++ (141 ∷ [])
 
+-- those of them that some monsters' missiles trigger, too (P_CrossSpecialLine of p_spec.c)
+unfoldable pub missile : List ℕ
+missile = 4 ∷ 10 ∷ 88 ∷ []
+
+-- those of them that monsters alone trigger (P_CrossSpecialLine of p_spec.c)
+unfoldable pub monster : List ℕ
+monster = 125 ∷ 126 ∷ []
+
 -- those that act when a player uses their linedef (P_UseSpecialLine of p_switch.c)
 unfoldable pub used : List ℕ
 used =
@@ -49,6 +57,10 @@ tagged =
 -- those that start a platform in each of these sectors (EV_DoPlat of p_plats.c)
 unfoldable pub platform : List ℕ
 platform = (10 ∷ 14 ∷ 15 ∷ []) ++ upto 20 22 ++ (47 ∷ 53 ∷ 62 ∷ []) ++ upto 66 68 ++ (87 ∷ 88 ∷ 95 ∷ []) ++ upto 120 123
+
+-- those whose platforms go up and down for ever (perpetualRaise in EV_DoPlat of p_plats.c)
+unfoldable pub perpetual : List ℕ
+perpetual = 53 ∷ 87 ∷ []
 
 -- those that move the ceiling of each (EV_DoCeiling of p_ceilng.c)
 unfoldable pub ceiling : List ℕ

@@ -2,7 +2,7 @@
 
 ghost use Rattle.std.specs.Prelude.{◌≡◌};
 ghost use Rattle.game_numbers.specs.Number.{is_one_of};
-ghost use Rattle.game_numbers.specs.Specials.{game, crossed, used, shot, scrolling, door, exit, teleport, tagged, platform, ceiling, nearest, change};
+ghost use Rattle.game_numbers.specs.Specials.{game, crossed, missile, monster, used, shot, scrolling, door, exit, teleport, tagged, platform, perpetual, ceiling, nearest, change};
 
 use crate::marks::is_marked;
 
@@ -40,6 +40,32 @@ const CROSSED: &[u8] = b"\
     xx..xxx.xx\
     x.........\
     .x";
+
+const MISSILE: &[u8] = b"\
+    ....x.....\
+    x.........\
+    ..........\
+    ..........\
+    ..........\
+    ..........\
+    ..........\
+    ..........\
+    ........x";
+
+const MONSTER: &[u8] = b"\
+    ..........\
+    ..........\
+    ..........\
+    ..........\
+    ..........\
+    ..........\
+    ..........\
+    ..........\
+    ..........\
+    ..........\
+    ..........\
+    ..........\
+    .....xx";
 
 const USED: &[u8] = b"\
     .x.....x.x\
@@ -148,6 +174,17 @@ const PLATFORM: &[u8] = b"\
     ..........\
     xxxx";
 
+const PERPETUAL: &[u8] = b"\
+    ..........\
+    ..........\
+    ..........\
+    ..........\
+    ..........\
+    ...x......\
+    ..........\
+    ..........\
+    .......x";
+
 const CEILING: &[u8] = b"\
     ......x...\
     ..........\
@@ -208,6 +245,24 @@ pub fn is_crossed(special: i16) -> bool
     ensures { result ≡ is_one_of crossed special }
 {
     is_marked(CROSSED, special)
+}
+
+/// Whether it is one of those that some monsters' missiles trigger, too.
+#[inline]
+#[tactic(auto, using(crate::proofs::MarkLemmas::missile_marks))]
+pub fn is_missile(special: i16) -> bool
+    ensures { result ≡ is_one_of missile special }
+{
+    is_marked(MISSILE, special)
+}
+
+/// Whether it is one of those that monsters alone trigger.
+#[inline]
+#[tactic(auto, using(crate::proofs::MarkLemmas::monster_marks))]
+pub fn is_monster(special: i16) -> bool
+    ensures { result ≡ is_one_of monster special }
+{
+    is_marked(MONSTER, special)
 }
 
 /// Whether it acts when a player uses its linedef.
@@ -280,6 +335,15 @@ pub fn is_platform(special: i16) -> bool
     ensures { result ≡ is_one_of platform special }
 {
     is_marked(PLATFORM, special)
+}
+
+/// Whether its platforms go up and down for ever.
+#[inline]
+#[tactic(auto, using(crate::proofs::MarkLemmas::perpetual_marks))]
+pub fn is_perpetual(special: i16) -> bool
+    ensures { result ≡ is_one_of perpetual special }
+{
+    is_marked(PERPETUAL, special)
 }
 
 /// Whether it moves the ceiling of each.

@@ -1,2 +1,6 @@
 pub mod ToldLemmas
 pub mod RankLemmas
+pub mod TagLemmas
+pub mod CountLemmas
+pub mod PerpetualLemmas
+pub mod SaveLemmas

@@ -1,5 +1,14 @@
 pub mod Warnings
+pub mod Skill
+pub mod Tags
 pub mod UnknownSpecial
 pub mod ZeroTag
+pub mod Crossing
 pub mod DeadlyFloor
+pub mod Exit
+pub mod Lock
+pub mod Ending
+pub mod Shooter
+pub mod Limit
+pub mod Save
 pub mod Holds

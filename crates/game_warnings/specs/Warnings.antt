@@ -1,28 +1,76 @@
 -- Warnings of what the game does, and their order in a report (ours).
-use Rattle.std.specs.Prelude.{◌≡◌, ℕ, ◌+◌, ◌-◌, ◌^◌, ◌<◌, List, [], ◌∷◌, ◌++◌, length, take, min, nat_lt, if◌then◌else◌}
+use Rattle.std.specs.Prelude.{◌≡◌, ℕ, ◌+◌, ◌-◌, ◌*◌, ◌^◌, ◌<◌, List, [], ◌∷◌, ◌++◌, length, take, min, nat_lt, if◌then◌else◌}
+use Rattle.game_numbers.specs.declared.key.Key.{Key}
+use Rattle.game_numbers.specs.declared.key.Key.TheVariants.{Blue, Yellow, Red}
 use Rattle.map_level.specs.Findings.{AreAllInOrder}
+use Rattle.game_warnings.specs.declared.warning.Barrier.{Barrier}
+use Rattle.game_warnings.specs.declared.warning.Barrier.TheVariants.{NoBack, LetsNone}
 use Rattle.game_warnings.specs.declared.warning.GameWarning.{GameWarning}
-use Rattle.game_warnings.specs.declared.warning.GameWarning.TheVariants.{UnknownSpecial, ZeroTag, DeadlyFloor}
+use Rattle.game_warnings.specs.declared.warning.GameWarning.TheVariants.{UnknownSpecial, ZeroTag, NeverCrossed, DeadlyFloor, NoExit, Locked, EndsThings, InNoSkill, NoTarget, ManyTargets, ManyScrolling, ManyPerpetual, ManyStarts, LongSave}
 use Rattle.game_warnings.specs.declared.code.GameCode.{GameCode}
-use Rattle.game_warnings.specs.declared.code.GameCode.TheVariants.{W14, W15, W18}
+use Rattle.game_warnings.specs.declared.code.GameCode.TheVariants.{W14, W15, W16, W18, W19, W21, W22}
 
 -- the code of a warning
 abbrev pub code_of : GameWarning → GameCode
 code_of (UnknownSpecial linedef) = W14
 code_of (ZeroTag linedef sectors) = W15
+code_of (NeverCrossed linedef barrier) = W16
 code_of (DeadlyFloor sector) = W18
+code_of NoExit = W19
+code_of (Locked key linedefs skills) = W19
+code_of (EndsThings thing follow) = W21
+code_of (InNoSkill thing) = W21
+code_of (NoTarget thing skills) = W21
+code_of (ManyTargets thing skills) = W21
+code_of (ManyScrolling linedefs) = W22
+code_of (ManyPerpetual sectors) = W22
+code_of (ManyStarts starts) = W22
+code_of (LongSave bytes) = W22
 
 -- the number of the record that a warning is of; 0 for what is of the level
 abbrev pub number_of : GameWarning → ℕ
 number_of (UnknownSpecial linedef) = linedef
 number_of (ZeroTag linedef sectors) = linedef
+number_of (NeverCrossed linedef barrier) = linedef
 number_of (DeadlyFloor sector) = sector
+number_of NoExit = 0
+number_of (Locked key linedefs skills) = 0
+number_of (EndsThings thing follow) = thing
+number_of (InNoSkill thing) = thing
+number_of (NoTarget thing skills) = thing
+number_of (ManyTargets thing skills) = thing
+number_of (ManyScrolling linedefs) = 0
+number_of (ManyPerpetual sectors) = 0
+number_of (ManyStarts starts) = 0
+number_of (LongSave bytes) = 0
 
--- where a warning is among those of its code
+-- a missing back before flags
+abbrev pub barrier_number : Barrier → ℕ
+barrier_number NoBack = 0
+barrier_number LetsNone = 1
+
+-- blue before yellow before red
+abbrev pub key_number : Key → ℕ
+key_number Blue = 0
+key_number Yellow = 1
+key_number Red = 2
+
+-- where a warning is among those of its code: by the record, and then in this order
 abbrev pub rank : GameWarning → ℕ
 rank (UnknownSpecial linedef) = linedef
 rank (ZeroTag linedef sectors) = linedef
+rank (NeverCrossed linedef barrier) = linedef * 2 + barrier_number barrier
 rank (DeadlyFloor sector) = sector
+rank NoExit = 0
+rank (Locked key linedefs skills) = 1 + key_number key
+rank (EndsThings thing follow) = thing * 4
+rank (InNoSkill thing) = thing * 4 + 1
+rank (NoTarget thing skills) = thing * 4 + 2
+rank (ManyTargets thing skills) = thing * 4 + 3
+rank (ManyScrolling linedefs) = 0
+rank (ManyPerpetual sectors) = 1
+rank (ManyStarts starts) = 2
+rank (LongSave bytes) = 3
 
 -- the warnings that hold
 abbrev pub AreWarnings : (GameWarning → Type 0) → List GameWarning → Type 0

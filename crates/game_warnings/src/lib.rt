@@ -2,12 +2,23 @@
 #![tactic(auto)]
 
 mod code;
+mod count;
+mod crossing;
 mod deadly_floor;
+mod ending;
+mod exit;
+mod limit;
+mod lock;
+mod save;
+mod skill;
+mod tags;
+mod thing;
 mod told;
 mod unknown_special;
 mod warning;
 mod zero_tag;
 
 pub use code::GameCode;
+pub use skill::{Skill, Skills};
 pub use told::Told;
-pub use warning::GameWarning;
+pub use warning::{Barrier, GameWarning};

@@ -4,6 +4,17 @@ ghost use Rattle.std.specs.Prelude.{◌≡◌};
 ghost use Rattle.game_warnings.specs.Warnings.{code_of, number_of};
 
 use crate::code::GameCode;
+use crate::skill::Skills;
+use game_numbers::Key;
+
+/// What keeps all from crossing a linedef.
+#[derive(Clone, Copy, Debug, PartialEq, Eq)]
+pub enum Barrier {
+    /// It has no back sidedef.
+    NoBack,
+    /// Its flags stop all that could trigger its special.
+    LetsNone,
+}
 
 /// A warning, with the numbers of its records.
 #[derive(Clone, Copy, Debug, PartialEq, Eq)]
@@ -17,9 +28,57 @@ pub enum GameWarning {
         linedef: u32,
         sectors: u32,
     },
+    /// W16: a linedef's special acts when something crosses the linedef, and nothing can.
+    NeverCrossed {
+        linedef: u32,
+        barrier: Barrier,
+    },
     /// W18: the game ends when a player stands on the floor of a sector.
     DeadlyFloor {
         sector: u32,
+    },
+    /// W19: nothing ends the level.
+    NoExit,
+    /// W19: so many linedefs want a key, which isn't there for one player in these skills.
+    Locked {
+        key: Key,
+        linedefs: u32,
+        skills: Skills,
+    },
+    /// W21: the first game ends the reading of things at a thing. So many follow it.
+    EndsThings {
+        thing: u32,
+        follow: u32,
+    },
+    /// W21: no skill places a thing of the game's.
+    InNoSkill {
+        thing: u32,
+    },
+    /// W21: a shooter of cubes has no target in these skills. Its shot ends the game.
+    NoTarget {
+        thing: u32,
+        skills: Skills,
+    },
+    /// W21: a shooter of cubes has more than 32 targets in these skills. Its shot ends the game.
+    ManyTargets {
+        thing: u32,
+        skills: Skills,
+    },
+    /// W22: so many linedefs scroll, more than 64.
+    ManyScrolling {
+        linedefs: u32,
+    },
+    /// W22: the platforms of so many sectors go up and down for ever, more than 30.
+    ManyPerpetual {
+        sectors: u32,
+    },
+    /// W22: so many things are deathmatch starts, more than 10.
+    ManyStarts {
+        starts: u32,
+    },
+    /// W22: a savegame takes so many bytes at the level's start, more than 180,224.
+    LongSave {
+        bytes: u64,
     },
 }
 
@@ -31,7 +90,17 @@ impl GameWarning {
         match self {
             GameWarning::UnknownSpecial { .. } => GameCode::W14,
             GameWarning::ZeroTag { .. } => GameCode::W15,
+            GameWarning::NeverCrossed { .. } => GameCode::W16,
             GameWarning::DeadlyFloor { .. } => GameCode::W18,
+            GameWarning::NoExit | GameWarning::Locked { .. } => GameCode::W19,
+            GameWarning::EndsThings { .. }
+            | GameWarning::InNoSkill { .. }
+            | GameWarning::NoTarget { .. }
+            | GameWarning::ManyTargets { .. } => GameCode::W21,
+            GameWarning::ManyScrolling { .. }
+            | GameWarning::ManyPerpetual { .. }
+            | GameWarning::ManyStarts { .. }
+            | GameWarning::LongSave { .. } => GameCode::W22,
         }
     }
 
@@ -40,8 +109,20 @@ impl GameWarning {
         ensures { result ≡ number_of self }
     {
         match self {
-            GameWarning::UnknownSpecial { linedef } | GameWarning::ZeroTag { linedef, .. } => linedef,
+            GameWarning::UnknownSpecial { linedef }
+            | GameWarning::ZeroTag { linedef, .. }
+            | GameWarning::NeverCrossed { linedef, .. } => linedef,
             GameWarning::DeadlyFloor { sector } => sector,
+            GameWarning::EndsThings { thing, .. }
+            | GameWarning::InNoSkill { thing }
+            | GameWarning::NoTarget { thing, .. }
+            | GameWarning::ManyTargets { thing, .. } => thing,
+            GameWarning::NoExit
+            | GameWarning::Locked { .. }
+            | GameWarning::ManyScrolling { .. }
+            | GameWarning::ManyPerpetual { .. }
+            | GameWarning::ManyStarts { .. }
+            | GameWarning::LongSave { .. } => 0,
         }
     }
 }

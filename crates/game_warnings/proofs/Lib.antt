@@ -4,3 +4,5 @@ pub mod TagLemmas
 pub mod CountLemmas
 pub mod PerpetualLemmas
 pub mod SaveLemmas
+pub mod DestinationLemmas
+mod WorkedCases

@@ -10,7 +10,7 @@ use Rattle.map_level.specs.Links.{linedefs_of, sectors_of, things_of}
 use Rattle.map_level.proofs.BoundLemmas.{some_within}
 use Rattle.game_warnings.specs.declared.code.GameCode.TheVariants.{W14, W15, W16, W18, W19, W21, W22}
 use Rattle.game_warnings.specs.declared.warning.GameWarning.{GameWarning}
-use Rattle.game_warnings.specs.declared.warning.GameWarning.TheVariants.{UnknownSpecial, ZeroTag, NeverCrossed, DeadlyFloor, NoExit, Locked, EndsThings, InNoSkill, NoTarget, ManyTargets, ManyScrolling, ManyPerpetual, ManyStarts, LongSave}
+use Rattle.game_warnings.specs.declared.warning.GameWarning.TheVariants.{UnknownSpecial, ZeroTag, NeverCrossed, NoDestination, DeadlyFloor, NoExit, Locked, EndsThings, InNoSkill, NoTarget, ManyTargets, ManyScrolling, ManyPerpetual, ManyStarts, LongSave}
 use Rattle.game_warnings.specs.Holds.{HoldsOf}
 use Rattle.game_warnings.specs.Limit.{deathmatch_count, perpetual_count, scrolling_count}
 use Rattle.game_warnings.specs.Lock.{lacking, locked}
@@ -70,21 +70,27 @@ key-below Blue = omega arith
 key-below Yellow = omega arith
 key-below Red = omega arith
 
--- a record's number and a number below how many it has
-same_pair : (k l a b n : ℕ) → n ≡ 2 → a < n → b < n → k * n + a ≡ l * n + b → (k ≡ l) × (a ≡ b)
-same_pair k l a b n is h1 h2 e =
-    let two : k * 2 + a ≡ l * 2 + b = rw (← is) e in (omega arith, omega arith)
+-- a record's number and a number below how many can hold of it
+same_pair : (k l a b : ℕ) → a < 2 → b < 2 → k * 3 + a ≡ l * 3 + b → (k ≡ l) × (a ≡ b)
+same_pair k l a b h1 h2 e = (omega arith, omega arith)
 
-pub barred_alone : (level : Level) (i : ℕ) (b : Barrier) (w : GameWarning) → HoldsOf level W16 w → rank w ≡ i * 2 + barrier_number b → w ≡ NeverCrossed i b
+pub barred_alone : (level : Level) (i : ℕ) (b : Barrier) (w : GameWarning) → HoldsOf level W16 w → rank w ≡ i * 3 + barrier_number b → w ≡ NeverCrossed i b
 barred_alone level i b (NeverCrossed j c) h e =
-    let same = same_pair j i (barrier_number c) (barrier_number b) 2 refl (barrier-below c) (barrier-below b) e in
+    let same = same_pair j i (barrier_number c) (barrier_number b) (barrier-below c) (barrier-below b) e in
     let barrier : c ≡ b = barrier_by c ∙ ap (λ n. get_or (NoBack ∷ LetsNone ∷ []) n NoBack) same.1 ∙ sym (barrier_by b) in
     rw (same.0, barrier) refl
+barred_alone level i b (NoDestination j) h e = absurd (omega (arith, e, barrier-below b))
 barred_alone level i b v h e = absurd (let other = h.0 in cc)
 
-pub barred_within : (level : Level) (w : GameWarning) → HoldsOf level W16 w → rank w < length level.linedefs.records * 2
-barred_within level (NeverCrossed i b) h = let within = linedef-within level i _ h.1 in omega (arith, within, barrier-below b)
-barred_within level v h = absurd (let other = h.0 in cc)
+pub lost_alone : (level : Level) (i : ℕ) (w : GameWarning) → HoldsOf level W16 w → rank w ≡ i * 3 + 2 → w ≡ NoDestination i
+lost_alone level i (NoDestination j) h e = let same : j ≡ i = omega (arith, e) in ap NoDestination same
+lost_alone level i (NeverCrossed j c) h e = absurd (omega (arith, e, barrier-below c))
+lost_alone level i v h e = absurd (let other = h.0 in cc)
+
+pub crossing_within : (level : Level) (w : GameWarning) → HoldsOf level W16 w → rank w < length level.linedefs.records * 3
+crossing_within level (NeverCrossed i b) h = let within = linedef-within level i _ h.1 in omega (arith, within, barrier-below b)
+crossing_within level (NoDestination i) h = let within = linedef-within level i _ h.1.1 in omega (arith, within)
+crossing_within level v h = absurd (let other = h.0 in cc)
 
 pub exit_alone : (level : Level) (w : GameWarning) → HoldsOf level W19 w → rank w ≡ 0 → w ≡ NoExit
 exit_alone level NoExit h e = refl

@@ -5,6 +5,7 @@ pub mod UnknownSpecial
 pub mod ZeroTag
 pub mod Crossing
 pub mod DeadlyFloor
+pub mod Destination
 pub mod Exit
 pub mod Lock
 pub mod Ending

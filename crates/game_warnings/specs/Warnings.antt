@@ -6,7 +6,7 @@ use Rattle.map_level.specs.Findings.{AreAllInOrder}
 use Rattle.game_warnings.specs.declared.warning.Barrier.{Barrier}
 use Rattle.game_warnings.specs.declared.warning.Barrier.TheVariants.{NoBack, LetsNone}
 use Rattle.game_warnings.specs.declared.warning.GameWarning.{GameWarning}
-use Rattle.game_warnings.specs.declared.warning.GameWarning.TheVariants.{UnknownSpecial, ZeroTag, NeverCrossed, DeadlyFloor, NoExit, Locked, EndsThings, InNoSkill, NoTarget, ManyTargets, ManyScrolling, ManyPerpetual, ManyStarts, LongSave}
+use Rattle.game_warnings.specs.declared.warning.GameWarning.TheVariants.{UnknownSpecial, ZeroTag, NeverCrossed, NoDestination, DeadlyFloor, NoExit, Locked, EndsThings, InNoSkill, NoTarget, ManyTargets, ManyScrolling, ManyPerpetual, ManyStarts, LongSave}
 use Rattle.game_warnings.specs.declared.code.GameCode.{GameCode}
 use Rattle.game_warnings.specs.declared.code.GameCode.TheVariants.{W14, W15, W16, W18, W19, W21, W22}
 
@@ -15,6 +15,7 @@ abbrev pub code_of : GameWarning → GameCode
 code_of (UnknownSpecial linedef) = W14
 code_of (ZeroTag linedef sectors) = W15
 code_of (NeverCrossed linedef barrier) = W16
+code_of (NoDestination linedef) = W16
 code_of (DeadlyFloor sector) = W18
 code_of NoExit = W19
 code_of (Locked key linedefs skills) = W19
@@ -32,6 +33,7 @@ abbrev pub number_of : GameWarning → ℕ
 number_of (UnknownSpecial linedef) = linedef
 number_of (ZeroTag linedef sectors) = linedef
 number_of (NeverCrossed linedef barrier) = linedef
+number_of (NoDestination linedef) = linedef
 number_of (DeadlyFloor sector) = sector
 number_of NoExit = 0
 number_of (Locked key linedefs skills) = 0
@@ -59,7 +61,8 @@ key_number Red = 2
 abbrev pub rank : GameWarning → ℕ
 rank (UnknownSpecial linedef) = linedef
 rank (ZeroTag linedef sectors) = linedef
-rank (NeverCrossed linedef barrier) = linedef * 2 + barrier_number barrier
+rank (NeverCrossed linedef barrier) = linedef * 3 + barrier_number barrier
+rank (NoDestination linedef) = linedef * 3 + 2
 rank (DeadlyFloor sector) = sector
 rank NoExit = 0
 rank (Locked key linedefs skills) = 1 + key_number key

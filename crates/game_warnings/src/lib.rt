@@ -5,6 +5,7 @@ mod code;
 mod count;
 mod crossing;
 mod deadly_floor;
+mod destination;
 mod ending;
 mod exit;
 mod limit;

@@ -33,6 +33,10 @@ pub enum GameWarning {
         linedef: u32,
         barrier: Barrier,
     },
+    /// W16: a linedef takes to a sector of its tag, and none of these has a destination.
+    NoDestination {
+        linedef: u32,
+    },
     /// W18: the game ends when a player stands on the floor of a sector.
     DeadlyFloor {
         sector: u32,
@@ -90,7 +94,7 @@ impl GameWarning {
         match self {
             GameWarning::UnknownSpecial { .. } => GameCode::W14,
             GameWarning::ZeroTag { .. } => GameCode::W15,
-            GameWarning::NeverCrossed { .. } => GameCode::W16,
+            GameWarning::NeverCrossed { .. } | GameWarning::NoDestination { .. } => GameCode::W16,
             GameWarning::DeadlyFloor { .. } => GameCode::W18,
             GameWarning::NoExit | GameWarning::Locked { .. } => GameCode::W19,
             GameWarning::EndsThings { .. }
@@ -111,7 +115,8 @@ impl GameWarning {
         match self {
             GameWarning::UnknownSpecial { linedef }
             | GameWarning::ZeroTag { linedef, .. }
-            | GameWarning::NeverCrossed { linedef, .. } => linedef,
+            | GameWarning::NeverCrossed { linedef, .. }
+            | GameWarning::NoDestination { linedef } => linedef,
             GameWarning::DeadlyFloor { sector } => sector,
             GameWarning::EndsThings { thing, .. }
             | GameWarning::InNoSkill { thing }

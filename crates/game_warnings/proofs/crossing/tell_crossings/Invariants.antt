@@ -2,10 +2,10 @@ use Rattle.std.proofs.Common.{◌*◌, ◌≡◌}
 use Rattle.game_warnings.specs.Warnings.{TellsBelow}
 use Rattle.game_warnings.specs.Holds.{HoldsOf}
 use Rattle.game_warnings.specs.declared.code.GameCode.TheVariants.{W16}
-use Rattle.game_warnings.proofs.crossing.never_crossed.Given as goal
+use Rattle.game_warnings.proofs.crossing.tell_crossings.Given as goal
 
 abbrev pub invariant-loop-i : goal.invariant-loop-i
 invariant-loop-i g l = record {
-  below : TellsBelow (HoldsOf l.level W16) (l.i * 2) l.told;
+  below : TellsBelow (HoldsOf l.level W16) (l.i * 3) l.told;
   most : l.told.most ≡ l.most;
 }

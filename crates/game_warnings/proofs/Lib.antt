@@ -5,4 +5,6 @@ pub mod CountLemmas
 pub mod PerpetualLemmas
 pub mod SaveLemmas
 pub mod DestinationLemmas
+pub mod AnswerLemmas
+pub mod LawLemmas
 mod WorkedCases

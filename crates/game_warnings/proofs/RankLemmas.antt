@@ -8,10 +8,12 @@ use Rattle.map_level.specs.Level.{Level}
 use Rattle.map_level.specs.Reading.{linedef_under}
 use Rattle.map_level.specs.Links.{linedefs_of, sectors_of, things_of}
 use Rattle.map_level.proofs.BoundLemmas.{some_within}
-use Rattle.game_warnings.specs.declared.code.GameCode.TheVariants.{W14, W15, W16, W18, W19, W21, W22}
+use Rattle.game_warnings.specs.declared.code.GameCode.TheVariants.{W14, W15, W16, W17, W18, W19, W21, W22}
 use Rattle.game_warnings.specs.declared.warning.GameWarning.{GameWarning}
-use Rattle.game_warnings.specs.declared.warning.GameWarning.TheVariants.{UnknownSpecial, ZeroTag, NeverCrossed, NoDestination, DeadlyFloor, NoExit, Locked, EndsThings, InNoSkill, NoTarget, ManyTargets, ManyScrolling, ManyPerpetual, ManyStarts, LongSave}
+use Rattle.game_warnings.specs.declared.warning.GameWarning.TheVariants.{UnknownSpecial, ZeroTag, NeverCrossed, NoDestination, OneSidedDoor, ManyPlatforms, ManyCeilings, DeadlyFloor, NoExit, Locked, EndsThings, InNoSkill, NoTarget, ManyTargets, ManyScrolling, ManyPerpetual, ManyStarts, LongSave}
 use Rattle.game_warnings.specs.Holds.{HoldsOf}
+use Rattle.game_numbers.specs.Specials.{ceiling, platform}
+use Rattle.game_warnings.specs.Effect.{answer_count, StartsTooMany}
 use Rattle.game_warnings.specs.Limit.{deathmatch_count, perpetual_count, scrolling_count}
 use Rattle.game_warnings.specs.Lock.{lacking, locked}
 use Rattle.game_warnings.specs.Save.{saved}
@@ -91,6 +93,42 @@ pub crossing_within : (level : Level) (w : GameWarning) → HoldsOf level W16 w 
 crossing_within level (NeverCrossed i b) h = let within = linedef-within level i _ h.1 in omega (arith, within, barrier-below b)
 crossing_within level (NoDestination i) h = let within = linedef-within level i _ h.1.1 in omega (arith, within)
 crossing_within level v h = absurd (let other = h.0 in cc)
+
+pub door_alone : (level : Level) (i : ℕ) (w : GameWarning) → HoldsOf level W17 w → rank w ≡ i * 3 → w ≡ OneSidedDoor i
+door_alone level i (OneSidedDoor j) h e = let same : j ≡ i = omega (arith, e) in ap OneSidedDoor same
+door_alone level i (ManyPlatforms j count) h e = absurd (omega (arith, e))
+door_alone level i (ManyCeilings j count) h e = absurd (omega (arith, e))
+door_alone level i v h e = absurd (let other = h.0 in cc)
+
+-- what holds of a linedef at a number
+at_linedef : (P : LineDef → Type 0) (found : Option LineDef) (linedef : LineDef) → found ≡ Some linedef → IsSomeAnd found P → P linedef
+at_linedef P found linedef at h = subst (λ o. IsSomeAnd o P) at h
+
+pub platforms_alone : (level : Level) (i : ℕ) (linedef : LineDef) → slice_get (linedefs_of level) i ≡ Some linedef → (w : GameWarning) → HoldsOf level W17 w
+    → rank w ≡ i * 3 + 1 → w ≡ ManyPlatforms i (answer_count level linedef.tag)
+platforms_alone level i linedef at (ManyPlatforms j count) h e =
+    let same : j ≡ i = omega (arith, e) in
+    let here = at_linedef (StartsTooMany level platform count) (slice_get (linedefs_of level) j) linedef (ap (slice_get (linedefs_of level)) same ∙ at) h.1 in
+    rw (same, here.are) refl
+platforms_alone level i linedef at (OneSidedDoor j) h e = absurd (omega (arith, e))
+platforms_alone level i linedef at (ManyCeilings j count) h e = absurd (omega (arith, e))
+platforms_alone level i linedef at v h e = absurd (let other = h.0 in cc)
+
+pub ceilings_alone : (level : Level) (i : ℕ) (linedef : LineDef) → slice_get (linedefs_of level) i ≡ Some linedef → (w : GameWarning) → HoldsOf level W17 w
+    → rank w ≡ i * 3 + 2 → w ≡ ManyCeilings i (answer_count level linedef.tag)
+ceilings_alone level i linedef at (ManyCeilings j count) h e =
+    let same : j ≡ i = omega (arith, e) in
+    let here = at_linedef (StartsTooMany level ceiling count) (slice_get (linedefs_of level) j) linedef (ap (slice_get (linedefs_of level)) same ∙ at) h.1 in
+    rw (same, here.are) refl
+ceilings_alone level i linedef at (OneSidedDoor j) h e = absurd (omega (arith, e))
+ceilings_alone level i linedef at (ManyPlatforms j count) h e = absurd (omega (arith, e))
+ceilings_alone level i linedef at v h e = absurd (let other = h.0 in cc)
+
+pub effect_within : (level : Level) (w : GameWarning) → HoldsOf level W17 w → rank w < length level.linedefs.records * 3
+effect_within level (OneSidedDoor i) h = let within = linedef-within level i _ h.1 in omega (arith, within)
+effect_within level (ManyPlatforms i count) h = let within = linedef-within level i _ h.1 in omega (arith, within)
+effect_within level (ManyCeilings i count) h = let within = linedef-within level i _ h.1 in omega (arith, within)
+effect_within level v h = absurd (let other = h.0 in cc)
 
 pub exit_alone : (level : Level) (w : GameWarning) → HoldsOf level W19 w → rank w ≡ 0 → w ≡ NoExit
 exit_alone level NoExit h e = refl

@@ -12,7 +12,7 @@ pub word-below : (z : ℤ) → FitsSigned w16 z → cast_unsigned w16 z < 65536
 word-below z f = omega (arith, ints)
 
 -- two tags are one where their words without the sign are
-same_word : (a b : ℤ) → FitsSigned w16 a → FitsSigned w16 b → cast_unsigned w16 a ≡ cast_unsigned w16 b → a ≡ b
+pub same_word : (a b : ℤ) → FitsSigned w16 a → FitsSigned w16 b → cast_unsigned w16 a ≡ cast_unsigned w16 b → a ≡ b
 same_word a b f g e = sym (to_z-of_z w16 a f) ∙ ap (cast_signed w16) e ∙ to_z-of_z w16 b g
 
 -- a mark more

@@ -12,7 +12,7 @@ use Rattle.map_level.specs.Level.{Level}
 use Rattle.map_level.specs.declared.reading.Reading.TheVariants.{Signed}
 use Rattle.game_numbers.specs.Kinds.{blue_key, game_kinds, second_game}
 use Rattle.game_numbers.specs.SectorSpecials.{exit_floor, flashing, glowing, survived, timed_door}
-use Rattle.game_numbers.specs.Specials.{blue_lock, crossed, exit, game, missile, monster, perpetual, scrolling, tagged}
+use Rattle.game_numbers.specs.Specials.{blue_lock, ceiling, crossed, door, exit, game, missile, monster, perpetual, platform, scrolling, tagged}
 use Rattle.game_numbers.specs.declared.key.Key.TheVariants.{Blue}
 use Rattle.game_warnings.specs.Exit.{HasExitFloor, HasExitLine}
 use Rattle.game_warnings.specs.Holds.{Holds}
@@ -21,7 +21,7 @@ use Rattle.game_warnings.specs.Save.{saved}
 use Rattle.game_warnings.specs.declared.skill.Skills.{Skills}
 use Rattle.game_warnings.specs.declared.warning.Barrier.{Barrier}
 use Rattle.game_warnings.specs.declared.warning.Barrier.TheVariants.{NoBack, LetsNone}
-use Rattle.game_warnings.specs.declared.warning.GameWarning.TheVariants.{UnknownSpecial, ZeroTag, NeverCrossed, DeadlyFloor, NoExit, Locked, EndsThings, InNoSkill, NoTarget, ManyTargets, ManyScrolling, ManyPerpetual, ManyStarts, LongSave}
+use Rattle.game_warnings.specs.declared.warning.GameWarning.TheVariants.{UnknownSpecial, ZeroTag, NeverCrossed, OneSidedDoor, ManyPlatforms, ManyCeilings, DeadlyFloor, NoExit, Locked, EndsThings, InNoSkill, NoTarget, ManyTargets, ManyScrolling, ManyPerpetual, ManyStarts, LongSave}
 
 abbrev rows : {R : Type 0} → List R → Rows R
 rows records = record { records = records; rest = 0 }
@@ -127,6 +127,29 @@ some_missiles LetsNone h = elim h.1.1 [
   | inr stops ↦ let other : false ≡ true = stops.1 in cc
 ]
 
+-- W17: a door in a wall; a platform that 31 sectors answer, and one more that has a door from the start; and 30
+door_27 : Holds (with_line (one_sided (pos 27) (pos 0))) (OneSidedDoor 4)
+unfolding door
+door_27 = (refl, refl)
+
+door_with_back : ¬ Holds (with_line (two_sided (pos 27) (pos 0))) (OneSidedDoor 4)
+door_with_back h = let other : pos 1 ≡ negsuc 0 = h.1 in cc
+
+abbrev lifts : ℕ → Level
+lifts count = square [] (two_sided (pos 21) (pos 5) ∷ []) (sector (pos 10) (pos 5) ∷ replicate count (sector (pos 0) (pos 5)))
+
+platforms_31 : Holds (lifts 31) (ManyPlatforms 4 31)
+unfolding platform timed_door
+platforms_31 = record { special = refl; are = refl; many = omega arith }
+
+platforms_30 : (platforms : ℕ) → ¬ Holds (lifts 30) (ManyPlatforms 4 platforms)
+unfolding timed_door
+platforms_30 platforms h = let count : platforms ≡ 30 = h.are in let above = h.many in omega arith
+
+ceilings_31 : Holds (square [] (two_sided (pos 41) (pos 5) ∷ []) (replicate 31 (sector (pos 0) (pos 5)))) (ManyCeilings 4 31)
+unfolding ceiling timed_door
+ceilings_31 = record { special = refl; are = refl; many = omega arith }
+
 -- W18: special 15 and -1 end the game, 16 and 17 don't
 abbrev floors : Level
 floors = square [] [] (sector (pos 15) (pos 0) ∷ sector (pos 16) (pos 0) ∷ sector (negsuc 0) (pos 0) ∷ sector (pos 17) (pos 0) ∷ [])
@@ -170,7 +193,7 @@ unfolding second_game
 ends = (refl, refl)
 
 ends_not : (follow : ℕ) → ¬ Holds (named_square (codes "MAP01") shooters [] []) (EndsThings 1 follow)
-ends_not follow h = let other : 1 ≡ 4 = h.0 in omega arith
+ends_not follow h = let other : ◌≡◌ {A = ℕ} 1 4 = h.0 in omega arith
 
 no_skill : Holds (square (thing (pos 2013) (pos 8) ∷ []) [] []) (InNoSkill 1)
 unfolding game_kinds

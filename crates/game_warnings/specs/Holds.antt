@@ -5,6 +5,7 @@ use Rattle.game_warnings.specs.Warnings.{code_of}
 use Rattle.game_warnings.specs.Crossing.{IsNeverCrossed}
 use Rattle.game_warnings.specs.DeadlyFloor.{IsDeadly}
 use Rattle.game_warnings.specs.Destination.{HasNoDestination}
+use Rattle.game_warnings.specs.Effect.{HasManyCeilings, HasManyPlatforms, IsOneSidedDoor}
 use Rattle.game_warnings.specs.Ending as ending
 use Rattle.game_warnings.specs.Exit.{HasExit}
 use Rattle.game_warnings.specs.Limit.{deathmatch_count, perpetual_count, scrolling_count, IsAbove}
@@ -15,7 +16,7 @@ use Rattle.game_warnings.specs.UnknownSpecial.{IsUnknownSpecial}
 use Rattle.game_warnings.specs.ZeroTag.{HasZeroTag}
 use Rattle.game_warnings.specs.declared.code.GameCode.{GameCode}
 use Rattle.game_warnings.specs.declared.warning.GameWarning.{GameWarning}
-use Rattle.game_warnings.specs.declared.warning.GameWarning.TheVariants.{UnknownSpecial, ZeroTag, NeverCrossed, NoDestination, DeadlyFloor, NoExit, Locked, EndsThings, InNoSkill, NoTarget, ManyTargets, ManyScrolling, ManyPerpetual, ManyStarts, LongSave}
+use Rattle.game_warnings.specs.declared.warning.GameWarning.TheVariants.{UnknownSpecial, ZeroTag, NeverCrossed, NoDestination, OneSidedDoor, ManyPlatforms, ManyCeilings, DeadlyFloor, NoExit, Locked, EndsThings, InNoSkill, NoTarget, ManyTargets, ManyScrolling, ManyPerpetual, ManyStarts, LongSave}
 
 -- a warning holds of a level
 abbrev pub Holds : Level → GameWarning → Type 0
@@ -23,6 +24,9 @@ Holds level (UnknownSpecial linedef) = IsUnknownSpecial level linedef
 Holds level (ZeroTag linedef sectors) = HasZeroTag level linedef sectors
 Holds level (NeverCrossed linedef barrier) = IsNeverCrossed level linedef barrier
 Holds level (NoDestination linedef) = HasNoDestination level linedef
+Holds level (OneSidedDoor linedef) = IsOneSidedDoor level linedef
+Holds level (ManyPlatforms linedef platforms) = HasManyPlatforms level linedef platforms
+Holds level (ManyCeilings linedef ceilings) = HasManyCeilings level linedef ceilings
 Holds level (DeadlyFloor sector) = IsDeadly level sector
 Holds level NoExit = ¬ HasExit level
 Holds level (Locked key linedefs skills) = IsLocked level key linedefs skills

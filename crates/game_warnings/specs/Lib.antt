@@ -6,6 +6,7 @@ pub mod ZeroTag
 pub mod Crossing
 pub mod DeadlyFloor
 pub mod Destination
+pub mod Effect
 pub mod Exit
 pub mod Lock
 pub mod Ending
@@ -13,3 +14,4 @@ pub mod Shooter
 pub mod Limit
 pub mod Save
 pub mod Holds
+pub mod Laws

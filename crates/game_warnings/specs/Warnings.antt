@@ -6,9 +6,9 @@ use Rattle.map_level.specs.Findings.{AreAllInOrder}
 use Rattle.game_warnings.specs.declared.warning.Barrier.{Barrier}
 use Rattle.game_warnings.specs.declared.warning.Barrier.TheVariants.{NoBack, LetsNone}
 use Rattle.game_warnings.specs.declared.warning.GameWarning.{GameWarning}
-use Rattle.game_warnings.specs.declared.warning.GameWarning.TheVariants.{UnknownSpecial, ZeroTag, NeverCrossed, NoDestination, DeadlyFloor, NoExit, Locked, EndsThings, InNoSkill, NoTarget, ManyTargets, ManyScrolling, ManyPerpetual, ManyStarts, LongSave}
+use Rattle.game_warnings.specs.declared.warning.GameWarning.TheVariants.{UnknownSpecial, ZeroTag, NeverCrossed, NoDestination, OneSidedDoor, ManyPlatforms, ManyCeilings, DeadlyFloor, NoExit, Locked, EndsThings, InNoSkill, NoTarget, ManyTargets, ManyScrolling, ManyPerpetual, ManyStarts, LongSave}
 use Rattle.game_warnings.specs.declared.code.GameCode.{GameCode}
-use Rattle.game_warnings.specs.declared.code.GameCode.TheVariants.{W14, W15, W16, W18, W19, W21, W22}
+use Rattle.game_warnings.specs.declared.code.GameCode.TheVariants.{W14, W15, W16, W17, W18, W19, W21, W22}
 
 -- the code of a warning
 abbrev pub code_of : GameWarning → GameCode
@@ -16,6 +16,9 @@ code_of (UnknownSpecial linedef) = W14
 code_of (ZeroTag linedef sectors) = W15
 code_of (NeverCrossed linedef barrier) = W16
 code_of (NoDestination linedef) = W16
+code_of (OneSidedDoor linedef) = W17
+code_of (ManyPlatforms linedef platforms) = W17
+code_of (ManyCeilings linedef ceilings) = W17
 code_of (DeadlyFloor sector) = W18
 code_of NoExit = W19
 code_of (Locked key linedefs skills) = W19
@@ -34,6 +37,9 @@ number_of (UnknownSpecial linedef) = linedef
 number_of (ZeroTag linedef sectors) = linedef
 number_of (NeverCrossed linedef barrier) = linedef
 number_of (NoDestination linedef) = linedef
+number_of (OneSidedDoor linedef) = linedef
+number_of (ManyPlatforms linedef platforms) = linedef
+number_of (ManyCeilings linedef ceilings) = linedef
 number_of (DeadlyFloor sector) = sector
 number_of NoExit = 0
 number_of (Locked key linedefs skills) = 0
@@ -63,6 +69,9 @@ rank (UnknownSpecial linedef) = linedef
 rank (ZeroTag linedef sectors) = linedef
 rank (NeverCrossed linedef barrier) = linedef * 3 + barrier_number barrier
 rank (NoDestination linedef) = linedef * 3 + 2
+rank (OneSidedDoor linedef) = linedef * 3
+rank (ManyPlatforms linedef platforms) = linedef * 3 + 1
+rank (ManyCeilings linedef ceilings) = linedef * 3 + 2
 rank (DeadlyFloor sector) = sector
 rank NoExit = 0
 rank (Locked key linedefs skills) = 1 + key_number key

@@ -9,6 +9,8 @@ pub enum GameCode {
     W15,
     /// A linedef's special can't be triggered, or takes nowhere.
     W16,
+    /// A linedef's use ends or spoils the game.
+    W17,
     /// A player on the floor of a sector ends the game.
     W18,
     /// The level has no exit, or a key isn't there.

@@ -37,6 +37,20 @@ pub enum GameWarning {
     NoDestination {
         linedef: u32,
     },
+    /// W17: a door that is opened by hand is on a linedef without a back sidedef. Its use ends the game.
+    OneSidedDoor {
+        linedef: u32,
+    },
+    /// W17: a linedef starts so many platforms, more than 30. Its use ends the game.
+    ManyPlatforms {
+        linedef: u32,
+        platforms: u32,
+    },
+    /// W17: a linedef moves so many ceilings, more than 30. Some of them can't be stopped, and their sectors are never free again.
+    ManyCeilings {
+        linedef: u32,
+        ceilings: u32,
+    },
     /// W18: the game ends when a player stands on the floor of a sector.
     DeadlyFloor {
         sector: u32,
@@ -95,6 +109,9 @@ impl GameWarning {
             GameWarning::UnknownSpecial { .. } => GameCode::W14,
             GameWarning::ZeroTag { .. } => GameCode::W15,
             GameWarning::NeverCrossed { .. } | GameWarning::NoDestination { .. } => GameCode::W16,
+            GameWarning::OneSidedDoor { .. }
+            | GameWarning::ManyPlatforms { .. }
+            | GameWarning::ManyCeilings { .. } => GameCode::W17,
             GameWarning::DeadlyFloor { .. } => GameCode::W18,
             GameWarning::NoExit | GameWarning::Locked { .. } => GameCode::W19,
             GameWarning::EndsThings { .. }
@@ -116,7 +133,10 @@ impl GameWarning {
             GameWarning::UnknownSpecial { linedef }
             | GameWarning::ZeroTag { linedef, .. }
             | GameWarning::NeverCrossed { linedef, .. }
-            | GameWarning::NoDestination { linedef } => linedef,
+            | GameWarning::NoDestination { linedef }
+            | GameWarning::OneSidedDoor { linedef }
+            | GameWarning::ManyPlatforms { linedef, .. }
+            | GameWarning::ManyCeilings { linedef, .. } => linedef,
             GameWarning::DeadlyFloor { sector } => sector,
             GameWarning::EndsThings { thing, .. }
             | GameWarning::InNoSkill { thing }

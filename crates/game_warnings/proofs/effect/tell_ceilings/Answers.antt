@@ -1,0 +1,8 @@
+use Rattle.std.proofs.Common.{rules}
+use Rattle.map_level.specs.Reading.{linedef_under}
+use Rattle.game_warnings.proofs.RankLemmas.{ceilings_alone}
+use Rattle.game_warnings.proofs.effect.tell_ceilings.Goals as goal
+
+pub tell_where-requires-clause-alone : goal.tell_where-requires-clause-alone
+tell_where-requires-clause-alone g c =
+    rw c.answering-ceilings.ensures (ceilings_alone c.args.level.now c.args.i (linedef_under c.args.level.now.reading c.args.linedef.now) c.requires.there)

@@ -1,6 +1,6 @@
 -- How the counts of sectors that answer a tag come to be.
 use Rattle.std.proofs.Common.{◌≡◌, ℕ, ◌+◌, ◌<◌, ◌≤◌, ℤ, Bool, true, false, inl, inr, List, length, get_or, set, take, Some, refl, sym, ap, ◌∙◌, arith}
-use Rattle.std.specs.Prelude.{◌&&◌, count_by, not, FitsSigned, if◌then◌else◌}
+use Rattle.std.specs.Prelude.{◌&&◌, count_by, FitsSigned}
 use Rattle.std.specs.Int.{cast_unsigned, w16}
 use Rattle.std.specs.Ordering.{int_eq}
 use Rattle.std.specs.List.{slice_get}

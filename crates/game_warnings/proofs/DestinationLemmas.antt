@@ -1,7 +1,6 @@
 -- How the tags of sectors with a destination come to be marked.
-use Rattle.std.proofs.Common.{◌≡◌, ◌↔◌, ℕ, ◌+◌, ◌<◌, ◌≤◌, ℤ, pos, Bool, List, length, Some, None, refl, sym, ap, subst, ◌∙◌, arith}
-use Rattle.std.specs.Prelude.{IsSomeAnd, IsTrue, Option}
-use Rattle.std.specs.List.{slice_get}
+use Rattle.std.proofs.Common.{◌≡◌, ℕ, ◌≤◌, ℤ, pos, Bool, List, length, Some, sym, ap, subst, ◌∙◌, arith}
+use Rattle.std.specs.Prelude.{IsTrue}
 use Rattle.le_rec.specs.declared.records.Thing.{Thing}
 use Rattle.map_geo.specs.Point.{IsInRange, Point, point_at}
 use Rattle.map_level.specs.Level.{Level}

@@ -1,5 +1,5 @@
 -- A level without W22 is within the game's limits.
-use Rattle.std.proofs.Common.{◌≡◌, ℕ, ◌<◌, ◌≤◌, inl, inr, refl, arith}
+use Rattle.std.proofs.Common.{ℕ, ◌<◌, ◌≤◌, inl, inr, refl}
 use Rattle.std.proofs.lemmas.Bool.{cases_lt}
 use Rattle.game_warnings.specs.Laws.{NoneIsWithinLimits}
 use Rattle.game_warnings.specs.Limit.{deathmatch_count, perpetual_count, scrolling_count}

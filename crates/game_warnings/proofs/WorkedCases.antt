@@ -1,24 +1,20 @@
 -- Each warning on a square room, where it holds and where it doesn't.
-use Rattle.std.proofs.Common.{◌≡◌, ◌≢◌, inl, inr, ◌++◌, ℕ, zero, suc, ◌+◌, ◌<◌, ℤ, pos, negsuc, Bool, true, false, List, [], ◌∷◌, Some, None, refl, sym, ap, arith}
-use Rattle.std.specs.Prelude.{codes, IsTrue, replicate}
+use Rattle.std.proofs.Common.{◌≡◌, inl, inr, ◌++◌, ℕ, ℤ, pos, negsuc, true, false, List, [], ◌∷◌, refl, sym, arith}
+use Rattle.std.specs.Prelude.{codes, replicate}
 use Rattle.le_rec.specs.Name.{padded}
 use Rattle.le_rec.specs.Table.{Rows}
 use Rattle.le_rec.specs.declared.records.LineDef.{LineDef}
 use Rattle.le_rec.specs.declared.records.Sector.{Sector}
 use Rattle.le_rec.specs.declared.records.SideDef.{SideDef}
 use Rattle.le_rec.specs.declared.records.Thing.{Thing}
-use Rattle.le_rec.specs.declared.records.Vertex.{Vertex}
 use Rattle.map_level.specs.Level.{Level}
 use Rattle.map_level.specs.declared.reading.Reading.TheVariants.{Signed}
 use Rattle.game_numbers.specs.Kinds.{blue_key, game_kinds, second_game}
 use Rattle.game_numbers.specs.SectorSpecials.{exit_floor, flashing, glowing, survived, timed_door}
 use Rattle.game_numbers.specs.Specials.{blue_lock, ceiling, crossed, door, exit, game, missile, monster, perpetual, platform, scrolling, tagged}
 use Rattle.game_numbers.specs.declared.key.Key.TheVariants.{Blue}
-use Rattle.game_warnings.specs.Exit.{HasExitFloor, HasExitLine}
 use Rattle.game_warnings.specs.Holds.{Holds}
-use Rattle.game_warnings.specs.Limit.{perpetual_count, scrolling_count}
 use Rattle.game_warnings.specs.Save.{saved}
-use Rattle.game_warnings.specs.declared.skill.Skills.{Skills}
 use Rattle.game_warnings.specs.declared.warning.Barrier.{Barrier}
 use Rattle.game_warnings.specs.declared.warning.Barrier.TheVariants.{NoBack, LetsNone}
 use Rattle.game_warnings.specs.declared.warning.GameWarning.TheVariants.{UnknownSpecial, ZeroTag, NeverCrossed, OneSidedDoor, ManyPlatforms, ManyCeilings, DeadlyFloor, NoExit, Locked, EndsThings, InNoSkill, NoTarget, ManyTargets, ManyScrolling, ManyPerpetual, ManyStarts, LongSave}

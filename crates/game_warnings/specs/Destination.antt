@@ -1,5 +1,5 @@
 -- W16: teleporters without a destination (EV_Teleport of p_telept.c).
-use Rattle.std.specs.Prelude.{◌≡◌, ◌⊎◌, ℕ, ℤ, pos, IsSomeAnd, IsTrue}
+use Rattle.std.specs.Prelude.{◌≡◌, ℕ, ℤ, pos, IsSomeAnd, IsTrue}
 use Rattle.std.specs.List.{slice_get}
 use Rattle.le_rec.specs.declared.records.LineDef.{LineDef}
 use Rattle.le_rec.specs.declared.records.Thing.{Thing}

@@ -1,5 +1,5 @@
 -- Laws of the warnings (ours).
-use Rattle.std.specs.Prelude.{◌≤◌, ℕ}
+use Rattle.std.specs.Prelude.{◌≤◌}
 use Rattle.map_level.specs.Level.{Level}
 use Rattle.game_warnings.specs.Holds.{HoldsOf}
 use Rattle.game_warnings.specs.Limit.{deathmatch_count, perpetual_count, scrolling_count}

@@ -1,4 +1,3 @@
-use Rattle.std.proofs.Common.{rules}
 use Rattle.map_level.specs.Reading.{linedef_under}
 use Rattle.game_warnings.proofs.RankLemmas.{ceilings_alone}
 use Rattle.game_warnings.proofs.effect.tell_ceilings.Goals as goal

@@ -1,6 +1,7 @@
 -- Each warning on a square room, where it holds and where it doesn't.
-use Rattle.std.proofs.Common.{◌≡◌, inl, inr, ◌++◌, ℕ, ℤ, pos, negsuc, true, false, List, [], ◌∷◌, refl, sym, arith}
+use Rattle.std.proofs.Common.{◌≡◌, inl, inr, ◌++◌, ℕ, ℤ, pos, negsuc, true, false, List, [], ◌∷◌, refl, None, Some, suc, zero, subst, sym, arith}
 use Rattle.std.specs.Prelude.{codes, replicate}
+use Rattle.std.proofs.lemmas.Int.{ints}
 use Rattle.le_rec.specs.Name.{padded}
 use Rattle.le_rec.specs.Table.{Rows}
 use Rattle.le_rec.specs.declared.records.LineDef.{LineDef}
@@ -11,9 +12,15 @@ use Rattle.map_level.specs.Level.{Level}
 use Rattle.map_level.specs.declared.reading.Reading.TheVariants.{Signed}
 use Rattle.game_numbers.specs.Kinds.{blue_key, game_kinds, second_game}
 use Rattle.game_numbers.specs.SectorSpecials.{exit_floor, flashing, glowing, survived, timed_door}
-use Rattle.game_numbers.specs.Specials.{blue_lock, ceiling, crossed, door, exit, game, missile, monster, perpetual, platform, scrolling, tagged}
+use Rattle.game_numbers.specs.Specials.{blue_lock, ceiling, crossed, door, exit, game, missile, monster, perpetual, platform, scrolling, tagged, teleport}
 use Rattle.game_numbers.specs.declared.key.Key.TheVariants.{Blue}
 use Rattle.game_warnings.specs.Holds.{Holds}
+use Rattle.map_level.specs.SectorOf.{sector_of}
+use Rattle.map_tree.specs.Child.{IsReached}
+use Rattle.map_tree.specs.Paths.{ssector}
+use Rattle.game_warnings.specs.Crossing.{Bars}
+use Rattle.game_warnings.specs.Destination.{HasDestination, LeadsNowhere}
+use Rattle.game_warnings.specs.Tags.{HasTag}
 use Rattle.game_warnings.specs.Save.{saved}
 use Rattle.game_warnings.specs.declared.warning.Barrier.{Barrier}
 use Rattle.game_warnings.specs.declared.warning.Barrier.TheVariants.{NoBack, LetsNone}
@@ -122,6 +129,64 @@ some_missiles LetsNone h = elim h.1.1 [
   | inl stops ↦ let other : true ≡ false = stops.1 in cc
   | inr stops ↦ let other : false ≡ true = stops.1 in cc
 ]
+
+-- the square with segs, all in one ssector, a teleporter to tag 3 and a destination
+abbrev hall : ℤ → List Sector → Level
+hall tag sectors = record (square (thing (pos 14) (pos 7) ∷ []) (two_sided (pos 97) (pos 3) ∷ []) sectors) {
+  segs = rows (record { v1 = pos 0; v2 = pos 1; angle = pos 0; linedef = pos 0; side = pos 0; offset = pos 0 } ∷ []);
+  ssectors = rows (record { count = pos 1; first = pos 0 } ∷ []);
+  sectors = rows (sector (pos 0) tag ∷ sectors);
+}
+
+-- the destination stands in sector 0, which has tag 3
+destination : HasDestination (hall (pos 3) []) (pos 3)
+destination = (
+  1,
+  record {
+    kind = refl;
+    placed = refl;
+    sector = 0;
+    stands = record {
+      column = record { least = omega (arith, ints); greatest = omega (arith, ints) };
+      row = record { least = omega (arith, ints); greatest = omega (arith, ints) };
+      ssector = 0;
+      lies = (record { reached = (0, refl); agrees = λ n s leads. absurd (let none : None ≡ Some leads.0 = leads.1 in cc) }, refl);
+    };
+    tagged = refl;
+  },
+)
+
+-- sector 1 has tag 3, and the destination doesn't stand there
+one_ssector : (t : ℕ) → IsReached (hall (pos 0) (sector (pos 0) (pos 3) ∷ [])) (ssector t) → 0 ≡ t
+one_ssector t (zero, same) = cc
+one_ssector t (suc steps, leads) = absurd leads
+
+same_sector : (a b : ℕ) → Some a ≡ Some b → a ≡ b
+same_sector a b e = cc
+
+no_destination : ¬ HasDestination (hall (pos 0) (sector (pos 0) (pos 3) ∷ [])) (pos 3)
+no_destination (zero, leads) = let kind : pos 1 ≡ pos 14 = leads.kind in cc
+no_destination (suc zero, leads) =
+    let level = hall (pos 0) (sector (pos 0) (pos 3) ∷ []) in
+    let first = one_ssector leads.stands.ssector leads.stands.lies.0.reached in
+    let found = subst (λ t. sector_of level t ≡ Some leads.sector) (sym first) leads.stands.lies.1 in
+    let zeroth = same_sector 0 leads.sector found in
+    let tag : pos 0 ≡ pos 3 = subst (λ s. HasTag level s (pos 3)) (sym zeroth) leads.tagged in
+    cc
+no_destination (suc (suc k), leads) = leads
+
+passable : (barrier : Barrier) → ¬ Bars (hall (pos 0) (sector (pos 0) (pos 3) ∷ [])) (two_sided (pos 97) (pos 3)) barrier
+passable NoBack h = let other : pos 1 ≡ negsuc 0 = h in cc
+passable LetsNone h = elim h.1 [ inl stops ↦ stops.0 refl | inr stops ↦ stops.0 refl ]
+
+lost : LeadsNowhere (hall (pos 0) (sector (pos 0) (pos 3) ∷ [])) (two_sided (pos 97) (pos 3))
+unfolding teleport
+lost = record {
+  teleports = refl;
+  passed = passable;
+  there = (1, refl);
+  none = no_destination;
+}
 
 -- W17: a door in a wall; a platform that 31 sectors answer, and one more that has a door from the start; and 30
 door_27 : Holds (with_line (one_sided (pos 27) (pos 0))) (OneSidedDoor 4)

@@ -1,5 +1,6 @@
 pub mod ToldLemmas
 pub mod RankLemmas
+pub mod SpecialLemmas
 pub mod TagLemmas
 pub mod CountLemmas
 pub mod PerpetualLemmas

@@ -58,7 +58,7 @@ barrier_by : (b : Barrier) → b ≡ get_or (NoBack ∷ LetsNone ∷ []) (barrie
 barrier_by NoBack = refl
 barrier_by LetsNone = refl
 
-barrier-below : (b : Barrier) → barrier_number b < 2
+pub barrier-below : (b : Barrier) → barrier_number b < 2
 barrier-below NoBack = omega arith
 barrier-below LetsNone = omega arith
 

@@ -1,6 +1,7 @@
 pub mod Warnings
 pub mod Skill
 pub mod Tags
+pub mod Special
 pub mod UnknownSpecial
 pub mod ZeroTag
 pub mod Crossing

@@ -14,6 +14,7 @@ ghost use Rattle.game_warnings.specs.Holds.{HoldsOf};
 
 use crate::code::GameCode;
 use crate::destination::{destination_tags, has_no_destination};
+use crate::special::has_special;
 use crate::tags::sector_tags;
 use crate::told::{Told, tell_where};
 use crate::warning::{Barrier, GameWarning};
@@ -63,11 +64,33 @@ fn tell_crossings<A: Allocator>(
     let mut told = Told::new(alloc, most);
     for i in 0..level.linedefs().len() {
         let linedef = i as u32;
-        tell_barriers(&mut told, level, linedef)?;
-        let holds = has_no_destination(level, is_sound, sectors, stands, linedef);
-        tell_lost(&mut told, level, linedef, holds)?;
+        tell_linedef(&mut told, level, is_sound, sectors, stands, linedef)?;
     }
     Ok(told)
+}
+
+// Adds what is amiss with a linedef.
+fn tell_linedef<A: Allocator>(
+    told: &mut Told<A>,
+    level: &Level<'_>,
+    is_sound: bool,
+    sectors: &[bool],
+    stands: &[bool],
+    i: u32,
+) -> Result<(), AllocError>
+    requires sound { IsTrue is_sound ↔ IsSound level.now }
+    requires sectors { AreTags (IsSectorTag level.now) sectors.now }
+    requires stands { IsSound level.now → AreTags (HasDestination level.now) stands.now }
+    requires below { TellsBelow (HoldsOf level.now GameCode.W16) (i * 3) told.old }
+    ensures told { OnOk result (TellsBelow (HoldsOf level.now GameCode.W16) (i * 3 + 3) told.new) }
+    ensures most { OnOk result (told.new.most ≡ told.old.most) }
+{
+    if !has_special(level, i) {
+        return Ok(());
+    }
+    tell_barriers(told, level, i)?;
+    let is_lost = has_no_destination(level, is_sound, sectors, stands, i);
+    tell_lost(told, level, i, is_lost)
 }
 
 // Adds what keeps all from crossing a linedef.

@@ -13,6 +13,7 @@ ghost use Rattle.game_warnings.specs.Holds.{HoldsOf};
 
 use crate::answer::{answers_at, answers_of};
 use crate::code::GameCode;
+use crate::special::has_special;
 use crate::told::{Told, tell_where};
 use crate::warning::GameWarning;
 use game_numbers::{is_ceiling, is_door, is_platform};
@@ -68,6 +69,9 @@ fn tell_linedef<A: Allocator>(
     ensures told { OnOk result (TellsBelow (HoldsOf level.now GameCode.W17) (i * 3 + 2 + 1) told.new) }
     ensures most { OnOk result (told.new.most ≡ told.old.most) }
 {
+    if !has_special(level, i) {
+        return Ok(());
+    }
     tell_door(told, level, i)?;
     let linedef = level.linedefs().at(i as usize);
     tell_platforms(told, level, counts, i, &linedef)?;

@@ -16,6 +16,7 @@ mod limit;
 mod lock;
 mod save;
 mod skill;
+mod special;
 mod tags;
 mod thing;
 mod told;

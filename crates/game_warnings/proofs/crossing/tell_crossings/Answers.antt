@@ -12,8 +12,8 @@ pub loop-i-preserved : goal.loop-i-preserved
 loop-i-preserved g c =
     let next : (c.loop-i.i + 1) * 3 ≡ c.loop-i.i * 3 + 3 = omega arith in
     record {
-      below = rw next c.in_ok-tell_lost.ensures.told;
-      most = c.in_ok-tell_lost.ensures.most ∙ c.in_ok-tell_barriers.ensures.most ∙ c.loop-i.invariant.most;
+      below = rw next c.in_ok-tell_linedef.ensures.told;
+      most = c.in_ok-tell_linedef.ensures.most ∙ c.loop-i.invariant.most;
     }
 
 pub returns-clause-told : goal.returns-clause-told

@@ -1,0 +1,10 @@
+pub mod Layout
+pub mod Numbers
+pub mod Wrapper
+pub mod Header
+pub mod Field
+pub mod Command
+pub mod Refusal
+pub mod Front
+pub mod Demo
+pub mod Laws

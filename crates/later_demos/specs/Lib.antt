@@ -3,6 +3,7 @@ pub mod Numbers
 pub mod Wrapper
 pub mod Header
 pub mod Field
+pub mod Part
 pub mod Command
 pub mod Refusal
 pub mod Front

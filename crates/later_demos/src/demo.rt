@@ -5,6 +5,7 @@ ghost use Rattle.std.specs.Option.{option_copied};
 ghost use Rattle.demo_lump.specs.Header.{players_in};
 ghost use Rattle.later_demos.specs.Field.{comp_of, number_in};
 ghost use Rattle.later_demos.specs.Header.{players_of};
+ghost use Rattle.later_demos.specs.Part.{part_of};
 ghost use Rattle.later_demos.specs.Refusal.{RefusesDemo, form_of};
 
 use crate::command::{Commands, Form, MARKER, scan};
@@ -14,6 +15,7 @@ use crate::front::read_front;
 use crate::header::{count_players, players_of};
 use crate::layout::Layout;
 use crate::numbers::byte_at;
+use crate::part::{Part, part_of};
 use crate::wrapper::{Wrapper, has_actions};
 use std::marker::Model;
 
@@ -113,6 +115,13 @@ impl<'a> LaterDemo<'a> {
         ensures { result ≡ number_in field self.now.layout self.now.header }
     {
         field.number(self.layout, self.header)
+    }
+
+    /// What the byte at a place of the header belongs to.
+    pub fn part_at(&self, place: usize) -> Part
+        ensures { result ≡ part_of self.now.layout self.now.header place }
+    {
+        part_of(self.layout, self.header, place)
     }
 
     /// The compatibility options, a byte each: none before MBF.

@@ -175,6 +175,13 @@ impl Field {
         self.row().name
     }
 
+    /// The number of bytes.
+    pub fn size(self) -> usize
+        ensures { result ≡ (field_row self).size }
+    {
+        usize::from(self.row().size)
+    }
+
     /// The place in headers of a version, or None where the version hasn't the field.
     pub fn place(self, version: u8, layout: Layout) -> Option<u8>
         ensures { result ≡ place_of self version layout.engine }

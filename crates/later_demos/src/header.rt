@@ -75,11 +75,16 @@ pub(crate) fn players_of<'a>(layout: &Layout, bytes: &'a [u8]) -> &'a [u8]
     requires { layout.now.players ≤ 269 }
     ensures { result.now ≡ players_of layout.now bytes.now }
 {
-    part_of(
-        bytes,
-        layout.players + usize::from(options_in(layout.engine, bytes)),
-        4,
-    )
+    part_of(bytes, players_at(layout, bytes), 4)
+}
+
+/// The place of the players' bytes.
+pub(crate) fn players_at(layout: &Layout, bytes: &[u8]) -> usize
+    requires { layout.now.players ≤ 269 }
+    ensures at { result ≡ players_at layout.now bytes.now }
+    ensures small { result ≤ 524 }
+{
+    layout.players + usize::from(options_in(layout.engine, bytes))
 }
 
 /// The number of bytes of a header.

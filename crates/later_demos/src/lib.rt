@@ -11,6 +11,7 @@ mod header;
 pub mod laws;
 mod layout;
 mod numbers;
+mod part;
 mod wrapper;
 
 pub use command::{Actions, Commands, Form, LaterCommand};
@@ -18,4 +19,5 @@ pub use demo::LaterDemo;
 pub use fault::LaterFault;
 pub use field::{FIELDS, Field};
 pub use layout::{Engine, Layout, layout_of};
+pub use part::Part;
 pub use wrapper::{DsdaWrapper, Wrapper};

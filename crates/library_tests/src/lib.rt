@@ -18,6 +18,8 @@ mod growths;
 #[cfg(test)]
 mod in_memory;
 #[cfg(test)]
+mod later_engines;
+#[cfg(test)]
 mod lines;
 #[cfg(test)]
 mod numbers;

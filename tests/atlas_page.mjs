@@ -74,7 +74,7 @@ const ROWS = `[...document.querySelectorAll('main > ol > li')].map((row) => ({
   text: row.innerText.replace(/\\s+/g, ' '),
   items: [...row.querySelectorAll('.found li')].map((item) => item.className + ': ' + item.innerText),
   href: row.querySelector('a')?.getAttribute('href') ?? '',
-  width: row.querySelector('img')?.naturalWidth ?? 0,
+  size: Math.max(row.querySelector('img')?.naturalWidth ?? 0, row.querySelector('img')?.naturalHeight ?? 0),
 }))`;
 
 /** @param {Browser} browser @param {any[]} objects @param {string} folder */
@@ -93,11 +93,14 @@ async function look(browser, objects, folder) {
   });
   const shown = rows.map((/** @type {any} */ row) => row.href).filter(Boolean).sort();
   is('a link to each picture', shown, readdirSync(folder).filter((name) => name.endsWith('.svg')).sort());
-  is('each picture is drawn', rows.filter((/** @type {any} */ row) => row.href && !row.width), []);
+  is('each picture is drawn, in its own size', rows.filter((/** @type {any} */ row) => row.href && row.size !== 1024), []);
   const warnings = levels.flatMap((one) => Object.values(one.warnings ?? {})).reduce((sum, count) => sum + count, 0);
   const totals = await browser.run(`document.querySelector('.totals').innerText.replace(/\\s+/g, ' ')`);
   is('there are warnings, and how many', warnings > 0 && totals.includes(`${warnings} warnings`));
   if (atlasName === 'games') is('the totals', totals, GAMES);
+  const codes = new Set(levels.flatMap((one) => Object.keys({ ...one.findings, ...one.warnings })));
+  const legend = await browser.run(`[...document.querySelectorAll('.legend b')].map((item) => item.innerText)`);
+  is('a legend of the codes that are found', legend.sort(), [...codes].sort());
   const refused = objects.filter((one) => 'refused' in one);
   const told = await browser.run(`[...document.querySelectorAll('.refused li')].map((item) => item.innerText)`);
   is('a line for each refused file', told, refused.map((one) => `${one.file} ${one.refused}`));

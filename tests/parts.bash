@@ -87,7 +87,7 @@ declare -A packages=(
     [freedoom]='freedoom freedm' [freedoom1.wad]='freedoom freedm' [freedoom2.wad]=freedoom [git]=git [groff]=groff
     [lintian]=lintian [man-db]=man-db [nm]=binutils [node]=nodejs [node.js]=nodejs [numpy]=python3-numpy [objdump]=binutils
     [pkg-config]=pkg-config [python]='python3 python3-venv' [python3]=python3 [readelf]=binutils [rsvg-convert]=librsvg2-bin
-    [script]=bsdutils [setpriv]=util-linux [shellcheck]=shellcheck [zsh]=zsh
+    [script]=bsdutils [setpriv]=util-linux [shellcheck]=shellcheck [yaml]=python3-yaml [zsh]=zsh
 )
 declare -A bringers=([cargo]='rustup' [clippy]='rustup' [rustfmt]='rustup' [rt]='the Rattle kit')
 
@@ -98,6 +98,7 @@ brings() {
         word=${word##*[/(]}
         word=${word%%[,\)]*}
         word=${word%"'s"}
+        [[ -n $word ]] || continue
         [[ -z ${packages[$word]-} ]] || { printf ' (Debian: %s)' "${packages[$word]}" && return; }
         [[ -z ${bringers[$word]-} ]] || { printf ' (%s brings it)' "${bringers[$word]}" && return; }
     done

@@ -3,13 +3,15 @@
 import re
 from typing import Callable, Dict, Iterable, List, NamedTuple, Optional
 
+from tables_explained import Explanation, entry_of, explanations, names_in_blocks, with_blocks
 from tables_marks import Amiss, text_of
 
 TABLE = "crates/level_codes/src/table.rt"
 
 SPACE = r"\s*(?://[^\n]*\s*)*"
 STRING = r'b"((?:[^"\\]|\\.)*)"'
-ROW = re.compile(rf"(fault|note|warning)!\s*\{{\s*(\w+),\s*{STRING},\s*(\w+),\s*(?:(\w+),\s*)?{STRING},\s*{STRING},?\s*\}},{SPACE}")
+CODE = rf"(fault|note|warning)!\s*\{{\s*(\w+),\s*{STRING},\s*(\w+),\s*(?:(\w+),\s*)?{STRING},\s*{STRING},?\s*\}}"
+ROW = re.compile(rf"(?:(ends_game)!\s*\{{\s*)?{CODE}(?(1)\s*\}}),{SPACE}")
 
 # The classes in their order, each with the letter of its codes.
 CLASSES = {"fault": "F", "note": "N", "warning": "W"}
@@ -19,13 +21,14 @@ FORMATS = ("F1", "F2", "N1")
 
 
 class Row(NamedTuple):
-    """A code: its name, its class and what it is found at, what it says in few words, and the same as a sentence."""
+    """A code: its name, its class and what it is found at, what it says in few words, the same as a sentence, and whether the game ends at it."""
 
     name: str
     group: str
     kind: str
     text: str
     meaning: str
+    ends_game: bool
 
     @property
     def is_finding(self) -> bool:
@@ -43,9 +46,9 @@ def row_of(found: Optional["re.Match[str]"]) -> Optional[Row]:
     """A row, where it has the form of its class."""
     if not found:
         return None
-    group, code, name, kind, wants, text, meaning = found.groups()
+    ends_game, group, code, name, kind, wants, text, meaning = found.groups()
     is_right = name == code and (group == "warning") == bool(wants)
-    return Row(name, group, kind, unescaped(text), unescaped(meaning)) if is_right else None
+    return Row(name, group, kind, unescaped(text), unescaped(meaning), bool(ends_game)) if is_right else None
 
 
 def rows_in(text: str) -> List[Row]:
@@ -94,6 +97,7 @@ def script_string(text: str) -> str:
 
 
 def script_block(rows: List[Row]) -> List[str]:
+    told = explanations([row.name for row in rows])
     kinds = ", ".join(f"{letter}: {script_string(group.capitalize())}" for group, letter in CLASSES.items())
     return [
         "/** @type {Record<string, string>} */",
@@ -101,7 +105,16 @@ def script_block(rows: List[Row]) -> List[str]:
         *[f"  {row.name}: {script_string(row.meaning)}," for row in rows],
         "};",
         f"const KINDS = /** @type {{Record<string, string>}} */ ({{ {kinds} }});",
+        "/** @type {Record<string, { text: string, parts: string[] }>} */",
+        "const EXPLANATIONS = {",
+        *[line for row in rows for line in script_entry(row, told[row.name])],
+        "};",
     ]
+
+
+def script_entry(row: Row, told: Explanation) -> List[str]:
+    parts = [f"      {script_string(' '.join(lines))}," for lines in told]
+    return [f"  {row.name}: {{", f"    text: {script_string(row.text)},", "    parts: [", *parts, "    ],", "  },"]
 
 
 def rust_block(rows: List[Row]) -> List[str]:
@@ -137,29 +150,56 @@ def page_block(rows: List[Row]) -> List[str]:
     return [line(row) for row in rows if row.is_finding]
 
 
+def explained_page_block(rows: List[Row]) -> List[str]:
+    """What each code means, in the man page of wadlens."""
+    told = explanations([row.name for row in rows])
+    return [line for row in rows for line in entry_of(head_of(row), told[row.name])]
+
+
+def head_of(row: Row) -> str:
+    return f"{row.name}: {row.text}"
+
+
 # ---- Shells ---------------------------------------------------------------------------------------------------------------
 
 
-def ignorable(rows: Iterable[Row]) -> List[Row]:
-    """What --ignore takes."""
-    return [row for row in rows if row.group != "fault"]
+GROUPS = {"game": "what ends the game", "notes": "all notes", "warnings": "all warnings"}
+
+
+def words_of(rows: Iterable[Row]) -> Dict[str, str]:
+    """What --ignore and --fail take beside ranges, with what it says."""
+    return {**GROUPS, **{row.name: row.text for row in rows if row.group != "fault"}}
+
+
+def explained(rows: Iterable[Row]) -> Dict[str, str]:
+    """What `explain` takes, with what it says."""
+    return {row.name: row.text for row in rows}
 
 
 def bash_block(rows: List[Row]) -> List[str]:
-    return [f"_wadlens_codes='{' '.join(row.name for row in ignorable(rows))}'"]
+    def words(name: str, some: Dict[str, str]) -> str:
+        return f"{name}='{' '.join(some)}'"
+
+    return [words("_wadlens_codes", words_of(rows)), words("_wadlens_explained", explained(rows))]
 
 
 def zsh_block(rows: List[Row]) -> List[str]:
-    def item(row: Row) -> str:
-        text = re.sub(r"([\\\[\]:])", r"\\\1", row.text).replace("'", "'\\''")
-        return f"        '{row.name}[{text}]'"
+    def item(word: str, text: str) -> str:
+        text = re.sub(r"([\\\[\]:])", r"\\\1", text).replace("'", "'\\''")
+        return f"        '{word}[{text}]'"
 
-    return ["    codes=(", *map(item, ignorable(rows)), "    )"]
+    def items(some: Dict[str, str]) -> List[str]:
+        return [item(*pair) for pair in some.items()]
+
+    return ["    codes=(", *items(words_of(rows)), "    )", "    explained=(", *items(explained(rows)), "    )"]
 
 
 def fish_block(rows: List[Row]) -> List[str]:
-    items = [f"    {row.name} {quoted(row.text, chr(39))}" for row in ignorable(rows)]
-    return ["set -g __wadlens_codes \\", *[item + " \\" for item in items[:-1]], *items[-1:]]
+    def texts(name: str, some: Dict[str, str]) -> List[str]:
+        items = [f"    {word} {quoted(text, chr(39))}" for word, text in some.items()]
+        return [f"set -g {name} \\", *[item + " \\" for item in items[:-1]], *items[-1:]]
+
+    return [*texts("__wadlens_codes", words_of(rows)), *texts("__wadlens_explained", explained(rows))]
 
 
 BLOCKS: Dict[str, Callable[[List[Row]], List[str]]] = {
@@ -168,6 +208,7 @@ BLOCKS: Dict[str, Callable[[List[Row]], List[str]]] = {
     "python/wadlook.py": python_block,
     "include/wadlook.h": header_block,
     "docs/wadlook.1": page_block,
+    "docs/wadlens.1": explained_page_block,
     "docs/completions/wadlens.bash": bash_block,
     "docs/completions/_wadlens": zsh_block,
     "docs/completions/wadlens.fish": fish_block,
@@ -180,10 +221,18 @@ def blocks() -> Dict[str, List[str]]:
     return {path: block(rows) for path, block in BLOCKS.items()}
 
 
+EXPLAINED = "docs/CODES.md"
+
+
+def explained_page() -> str:
+    """The page that explains each code in a block of its own, between words by hand."""
+    rows = table()
+    return with_blocks(text_of(EXPLAINED), {row.name: head_of(row) for row in rows}, explanations([row.name for row in rows]))
+
+
 # ---- What stays by hand -----------------------------------------------------------------------------------------------------
 
 SECOND_PAGE = "docs/wadlens.1"
-EXPLAINED = "docs/CODES.md"
 
 
 def section(text: str, name: str) -> str:
@@ -203,16 +252,18 @@ def page_faults(rows: List[Row]) -> List[str]:
     last = {row.name[0]: row.name for row in rows}
     if f"N1 to {last.get('N')} and W1 to {last.get('W')}" not in text:
         out.append(f"{SECOND_PAGE}: --ignore takes N1 to {last.get('N')} and W1 to {last.get('W')}")
+    ending = [row.name for row in rows if row.ends_game]
+    if f"game\t{', '.join(ending)}:" not in text:
+        out.append(f"{SECOND_PAGE}: game is {', '.join(ending)}")
     return out
 
 
 def explained_faults(rows: List[Row]) -> List[str]:
-    """Where the heads of the page that explains each code differ from the table."""
+    """Which blocks the page that explains each code lacks, and how many codes it tells."""
     text = text_of(EXPLAINED)
-    there = re.findall(r"^```\n([FNW]\d+: .*)$", text, re.M)
-    wanted = [f"{row.name}: {row.text}" for row in rows]
-    out = [f"{EXPLAINED}: no code has the head {head}" for head in there if head not in wanted]
-    out += [f"{EXPLAINED}: there is no head {head}" for head in wanted if head not in there]
+    there, wanted = names_in_blocks(text), [row.name for row in rows]
+    out = [f"{EXPLAINED}: there is no code {name}" for name in there if name not in wanted]
+    out += [f"{EXPLAINED}: there is no block of {name}" for name in wanted if name not in there]
     if not out and there != wanted:
         out.append(f"{EXPLAINED}: the codes stand in another order")
     if f" {len(rows)} codes" not in text:

@@ -2,8 +2,9 @@
 
 /**
  * @typedef {{ at?: number[], from?: number[], to?: number[], linedef?: number }} Place
- * @typedef {{ code?: string, kind?: string, index?: number | number[], message?: string, place?: Place, more?: number }} Told
- *   an object: a finding or a warning, how many more there are of a code, or that the wide reading alone finds the level sound
+ * @typedef {{ code?: string, kind?: string, index?: number | number[], message?: string, place?: Place, more?: number, empty?: string[] }} Told
+ *   an object: a finding or a warning, how many more there are of a code, which lumps of a node builder are empty, or that the wide reading alone
+ *   finds the level sound
  * @typedef {{ vertex?: Int16Array, node?: Int16Array }} Spots  x y of each vertex and of each node, where an object may want them
  * @typedef {{ code: string, where: string, message: string, title: string, place: number[] | null, linedef: number, sector: number, more: number,
  *   wide: boolean }} Finding  a row: its place is x y or x y x y, or that of a linedef or a sector (else -1); its title tells no place in numbers;
@@ -42,13 +43,19 @@ function rowOn({ code = '', more = 0 }) {
   };
 }
 
+/** A row that says why there are many findings: the nodes weren't built. @param {string} message @returns {Finding} */
+function rowOfEmpty(message) {
+  return { code: '', where: 'level', message: sentence(message), title: sentence(message), place: null, linedef: -1, sector: -1, more: 0, wide: false };
+}
+
 /**
  * A row of what was found, of a line of `check`.
  * @param {string} line an object @param {Spots} spots @returns {Finding}
  */
 export function findingOf(line, spots) {
   /** @type {Told} */
-  const told = JSON.parse(line), { code = '', kind, index, message = '', place = {} } = told;
+  const told = JSON.parse(line), { code = '', kind, index, message = '', place = {}, empty } = told;
+  if (empty) return rowOfEmpty(message);
   if (!kind) return rowOn(told);
   const { linedef = -1 } = place, title = `${message}${linedef < 0 ? '' : `, of linedef ${linedef}`}`;
   return {

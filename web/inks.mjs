@@ -5,7 +5,7 @@
 /** @typedef {'here' | 'clear' | 'blocked' | 'unknown'} Sight  what is known of a sector from the pinned one, which is `here`; all are unknown without one */
 
 /** Of ink, by their names in page.css. */
-const INKS = ['void', 'cell-dark', 'cell-light', 'wall', 'step', 'thing', 'tint', 'accent', 'fault', 'ink'];
+const INKS = ['void', 'cell-dark', 'cell-light', 'wall', 'step', 'start', 'monster', 'weapon', 'key', 'other', 'tint', 'accent', 'fault', 'ink'];
 const UNDER = 0.14; // of the accent, in the sector under the pointer
 
 /** @param {Colour} a @param {Colour} b @param {number} part of b @returns {Colour} */

@@ -1,5 +1,6 @@
 // One level: its picture, the pinned point, its findings.
 import { meaningOf } from './codes.mjs';
+import { Explained } from './explained.mjs';
 import { findingOf } from './findings.mjs';
 import { lineOf } from './linedefs.mjs';
 import { ListBox } from './list.mjs';
@@ -72,13 +73,18 @@ export class LevelView {
       unpin: () => this.unpin(),
       moved: (view) => this.#moved(view),
     });
+    this.explained = new Explained(() => get('findings').focus());
     this.findings = new ListBox(get('findings'), (/** @type {Finding} */ finding) => {
       const message = make('span', 'row-message', finding.message);
       message.title = finding.message; // where it is cut off
       const code = make('span', `code${finding.code.startsWith('F') ? ' fault' : ''}`, finding.code || '–');
       code.title = meaningOf(finding.code);
-      return [code, make('span', 'row-name', finding.where), message];
+      return [code, make('span', 'row-name', finding.where), message, ...this.explained.mark(finding.code)];
     }, (finding, k) => this.#choose(finding, k), ({ more, wide }) => !!more || wide, ({ code }) => meaningOf(code));
+    get('findings').addEventListener('click', (event) => this.#ask(event), { capture: true });
+    get('findings').addEventListener('keydown', ({ key }) => {
+      if (key === '?' && this.findings.at >= 0) this.explained.toggle(this.findings.item(this.findings.at).code);
+    });
     get('unpin').addEventListener('click', () => this.unpin());
     get('point-form').addEventListener('submit', (event) => {
       event.preventDefault();
@@ -112,6 +118,14 @@ export class LevelView {
     }
   }
 
+  /** Folds out what a row's code means, where its question mark was clicked: the row itself isn't chosen then. @param {MouseEvent} event */
+  #ask(event) {
+    const mark = /** @type {HTMLElement | null} */ (/** @type {Element} */ (event.target).closest('.ask'));
+    if (!mark) return;
+    event.stopPropagation();
+    this.explained.toggle(mark.dataset.code ?? '');
+  }
+
   /** The pinned point, and the part that is in view; none where it is the whole picture. */
   #inView() {
     const { picture, fitted, view, pinned } = this.map;
@@ -137,6 +151,7 @@ export class LevelView {
     get('told').textContent = '';
     get('told').className = '';
     get('codes').textContent = '';
+    this.explained.hide();
     this.findings.show(0, none);
     get('findings-none').hidden = false;
     get('findings-none').textContent = why;
@@ -196,8 +211,7 @@ export class LevelView {
     get('counts').replaceChildren(...COUNTS.map((name) => make('div', '', make('dt', '', name), make('dd', '', String(level[name])))));
     const codes = Object.entries({ ...level.findings, ...level.warnings });
     get('codes').replaceChildren(...codes.flatMap(([code, n], k) => {
-      const count = make('span', 'code-count', `${code} ${n}`);
-      count.title = meaningOf(code);
+      const count = this.explained.button(code, `${code} ${n}`, meaningOf(code));
       return k ? [' · ', count] : [count];
     }));
   }
@@ -245,7 +259,7 @@ export class LevelView {
     if (place && this.map.picture && isNarrow()) pane('map');
     this.map.mark(place);
     this.#rest();
-    if (!place) get('under').textContent = `${finding.code} ${finding.where} has no place on the map.`;
+    if (!place) get('under').textContent = `${finding.code} ${finding.where} has no place on the map.`.trim();
   }
 
   /** Marks the places of the first findings that are listed, and says how many those are where there are more. */

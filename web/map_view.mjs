@@ -1,10 +1,11 @@
 // The picture on two canvases: the ground of cells, and over it lines, things and marks; with zoom, pan, keys and a pin.
 import { cellColour, css, pixel, themeNow } from './inks.mjs';
+import { CLASSES, THING } from './picture.mjs';
 
 /** @typedef {import('./picture.mjs').Picture} Picture */
 /** @typedef {import('./inks.mjs').Colour} Colour @typedef {import('./inks.mjs').Sight} Sight */
 /** @typedef {{ x: number, y: number, zoom: number }} View  the map's place in the middle, and pixels to a unit */
-/** @typedef {{ at: number[], title: string }} Place  of a finding: x y, or x y x y of each of its lines */
+/** @typedef {{ at: number[], title: string }} FindingPlace  of a finding: x y, or x y x y of each of its lines */
 /** @typedef {{ sector: string, thing: string, found: string }} Under  titles of what lies under the pointer */
 /** @typedef {(colour: Colour, ...lines: [Path2D, number][]) => void} Cased  strokes paths of some widths over their cases */
 /**
@@ -15,6 +16,7 @@ import { cellColour, css, pixel, themeNow } from './inks.mjs';
 const CLOSEST = 16; // pixels to a unit
 const FARTHEST = 32767; // a number of a place is no larger; cells may reach beyond
 const SLOW = 30; // ms: a picture that takes longer is moved as it is, and drawn anew when it rests
+const RING = 24; // units about the only end of a linedef
 const CASE = 1.2; // pixels of the ground's colour about a mark, so that it stands out on each sector, whatever its light and tint
 
 /** Lines of x y x y as a path. @param {ArrayLike<number>} at */
@@ -23,6 +25,29 @@ function pathOf(at) {
   for (let k = 0; k + 3 < at.length; k += 4) {
     path.moveTo(at[k], at[k + 1]);
     path.lineTo(at[k + 2], at[k + 3]);
+  }
+  return path;
+}
+
+/** The corners of a dart, before it is turned and moved; a thing is drawn so. */
+const DART = [[20, 0], [-12, 14], [-12, -14]], DART_SIZE = 12;
+
+/** Adds a dart to a path. @param {Path2D} path @param {number} x @param {number} y @param {number} turn @param {number} scale */
+function addDart(path, x, y, turn, scale) {
+  const cos = Math.cos(turn * Math.PI / 180) * scale, sin = Math.sin(turn * Math.PI / 180) * scale;
+  DART.forEach(([ahead, aside], k) => {
+    const to = /** @type {const} */ ([x + ahead * cos - aside * sin, y + ahead * sin + aside * cos]);
+    if (k) path.lineTo(...to); else path.moveTo(...to);
+  });
+  path.closePath();
+}
+
+/** Lines of x y x y, and rings about places of x y. @param {number[][]} all */
+function marksOf(all) {
+  const path = pathOf(all.flatMap((at) => at.length > 2 ? at : []));
+  for (const [x, y] of all.filter((at) => at.length === 2)) {
+    path.moveTo(x + RING, y);
+    path.arc(x, y, RING, 0, 2 * Math.PI);
   }
   return path;
 }
@@ -126,7 +151,7 @@ export class MapView {
   forget() {
     /** @type {number[] | null} */
     this.found = null;
-    /** @type {Place[]} */
+    /** @type {FindingPlace[]} */
     this.places = [];
     this.placeLines = new Path2D();
     /** @type {{ x: number, y: number } | null} */
@@ -145,7 +170,7 @@ export class MapView {
     if (picture) {
       this.oneSided = pathOf(picture.oneSided);
       this.twoSided = pathOf(picture.twoSided);
-      this.mistaken = pathOf(picture.mistaken.flatMap(({ at }) => at));
+      this.mistaken = marksOf(picture.mistaken.map(({ at }) => at));
     }
     this.#ink();
     if (picture && view) this.#set(view); else this.fit();
@@ -174,7 +199,7 @@ export class MapView {
     return (fine?.has(left, low) && fine.has(right, high) ? fine : ground).picture.size;
   }
 
-  /** Marks the places of findings. @param {Place[]} places */
+  /** Marks the places of findings. @param {FindingPlace[]} places */
   markAll(places) {
     this.places = places;
     this.placeLines = pathOf(places.flatMap(({ at }) => at.length > 2 ? at : []));
@@ -389,17 +414,19 @@ export class MapView {
 
   /** @param {CanvasRenderingContext2D} pen @param {Int32Array} things */
   #drawThings(pen, things) {
-    const { inks } = this.theme, { zoom } = this.view;
-    for (const [colour, radius] of /** @type {[Colour, number][]} */ ([[inks.void, this.#thing() + CASE / zoom], [inks.thing, this.#thing()]])) {
-      pen.fillStyle = css(colour);
-      pen.beginPath();
-      for (let k = 0; k < things.length; k += 2) {
-        if (this.#outOfView(things[k], things[k + 1])) continue;
-        pen.moveTo(things[k] + radius, things[k + 1]);
-        pen.arc(things[k], things[k + 1], radius, 0, 2 * Math.PI);
-      }
-      pen.fill();
+    const { inks } = this.theme, { zoom } = this.view, scale = this.#thing() / DART_SIZE, darts = CLASSES.map(() => new Path2D());
+    for (let k = 0; k < things.length; k += THING) {
+      const [x, y, turn, kind] = things.subarray(k, k + THING);
+      if (!this.#outOfView(x, y)) addDart(darts[kind], x, y, turn, scale);
     }
+    pen.lineJoin = 'round';
+    pen.lineWidth = 2 * CASE / zoom;
+    pen.strokeStyle = css(inks.void);
+    for (const dart of darts) pen.stroke(dart);
+    CLASSES.forEach((name, kind) => {
+      pen.fillStyle = css(inks[name]);
+      pen.fill(darts[kind]);
+    });
   }
 
   /** A line stands out, and a point has a ring. @param {Cased} cased */
@@ -466,11 +493,11 @@ export class MapView {
     const { picture } = this, radius = Math.max(this.#thing(), 5 / this.view.zoom);
     if (!picture) return { sector: '', thing: '', found: '' };
     let nearest = radius, thing = '';
-    for (let k = 0; k < picture.things.length; k += 2) {
+    for (let k = 0; k < picture.things.length; k += THING) {
       const far = Math.hypot(picture.things[k] - x, picture.things[k + 1] - y);
       if (far > nearest) continue;
       nearest = far;
-      thing = picture.thingTitles[k / 2];
+      thing = picture.thingTitles[k / THING];
     }
     const shown = (this.fine?.has(x, y) ? this.fine : this.ground)?.shownAt(x, y);
     if ((shown?.sector ?? -1) !== this.hovered) {

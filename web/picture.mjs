@@ -2,13 +2,19 @@
 
 /**
  * @typedef {{ sector: number, light: number, title: string }} Shown  a sector that has cells; its light from 0 to 1
- * @typedef {{ title: string, at: number[] }} Mistaken  a line with a finding: x y x y
+ * @typedef {{ title: string, at: number[] }} Mistaken  a line with a finding, x y x y, or the only end that is there, x y
  * @typedef {{
  *   paths: number, box: { x: number, y: number, width: number, height: number }, size: number, x0: number, y0: number,
  *   columns: number, rows: number, cells: Uint32Array, shown: Shown[], twoSided: Int32Array, oneSided: Int32Array,
  *   mistaken: Mistaken[], things: Int32Array, thingTitles: string[],
- * }} Picture  places are the map's, y upwards; `cells` has for each cell, from the lowest row on, 0 or 1 + its place in `shown`
+ * }} Picture  places are the map's, y upwards; `cells` has for each cell, from the lowest row on, 0 or 1 + its place in `shown`; `things`
+ *   has of each x, y, the degrees from east towards north, and its place in `CLASSES`
  */
+
+/** What a thing is to a player. */
+export const CLASSES = /** @type {const} */ (['start', 'monster', 'weapon', 'key', 'other']);
+/** How many numbers `things` has of each. */
+export const THING = 4;
 
 /** The most cells that are read: `--cells` is at most 1024. */
 const MOST_CELLS = 1 << 21;
@@ -43,12 +49,13 @@ export function read(bytes) {
   /** @type {number[]} */
   const things = [];
   for (const line of lines) {
-    if (line.startsWith('<path')) {
+    if (line.startsWith('<path class="p ')) {
+      const [right, up, turn] = numbersOf(textOf(line, 'transform'));
+      things.push(right, up, turn, CLASSES.findIndex((name) => textOf(line, 'class') === `p ${name}`));
+      picture.thingTitles.push(titleOf(line));
+    } else if (line.startsWith('<path')) {
       picture.paths++;
       addPath(picture, line);
-    } else if (line.startsWith('<circle')) {
-      things.push(Number(textOf(line, 'cx')), Number(textOf(line, 'cy')));
-      picture.thingTitles.push(titleOf(line));
     }
   }
   picture.things = Int32Array.from(things);
@@ -60,8 +67,8 @@ function addPath(picture, line) {
   const kind = textOf(line, 'class'), path = textOf(line, 'd');
   if (kind === 't') picture.twoSided = Int32Array.from(numbersOf(path));
   else if (kind === 'w') picture.oneSided = Int32Array.from(numbersOf(path));
-  else if (kind === 'f') picture.mistaken.push({ title: titleOf(line), at: numbersOf(path) });
-  else addCells(picture, path, titleOf(line), parseInt(textOf(line, 'fill').slice(1, 3), 16));
+  else if (kind === 'f') picture.mistaken.push({ title: titleOf(line), at: numbersOf(path.split('m')[0]) }); // a ring goes on by `m`
+  else if (!kind) addCells(picture, path, titleOf(line), parseInt(textOf(line, 'fill').slice(1, 3), 16)); // a warning's mark has a class
 }
 
 /**

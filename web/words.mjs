@@ -54,8 +54,9 @@ const LISTED_IN = /** @type {Record<string, string>} */ ({ W9: 'TEXTURE1', W10: 
  */
 export function unlookedWords({ sound, findings = {}, unlooked = [] }, wantsGame) {
   if (Object.keys(findings).some((code) => SILENCING.test(code))) return "Warnings aren't looked for until F3 to F9 are mended.";
-  const lumps = unlooked.map((code) => LISTED_IN[code]), help = wantsGame ? "; drop the game's file, too." : '.';
-  const names = unlooked.length ? `${unlooked.join(', ')} weren't looked for: no file has ${lumps.join(', ')}${help}` : '';
+  const unlisted = unlooked.filter((code) => LISTED_IN[code]), lumps = unlisted.map((code) => LISTED_IN[code]);
+  const help = wantsGame ? "; drop the game's file, too." : '.';
+  const names = unlisted.length ? `${unlisted.join(', ')} weren't looked for: no file has ${lumps.join(', ')}${help}` : '';
   return [sound ? '' : "W3 and W5 aren't looked for until all faults are mended.", names].filter(Boolean).join(' ');
 }
 

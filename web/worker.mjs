@@ -2,7 +2,7 @@
 // answers; it only cuts them into lines and picks the places out of them.
 import { contents, isName } from './entries.mjs';
 import { boundsOf } from './linedefs.mjs';
-import { linesOf } from './lines.mjs';
+import { Lines, linesOf } from './lines.mjs';
 import { read } from './picture.mjs';
 import { drawPicture, listLinedefs, runWadlens, runWadlook } from './wad_page.mjs';
 
@@ -22,6 +22,22 @@ const OBJECT = 192; // room for an object of `check`
 const PATH = 'f'; // of a file whose name isn't shown
 const UNFOUND = 'level'; // a label in small letters, which no look-up finds
 const NO_MEMORY = 'there is not enough memory for it';
+
+const TELLS_UNLOOKED = /^\{"file":.*,"entry":\d+,"unlooked":\[/;
+
+/**
+ * The objects of what was found in a level. Near the end one may tell which warnings weren't looked for, and the level's own object tells that, too.
+ * @param {Uint8Array} told
+ */
+function findingsIn(told) {
+  const lines = new Lines(linesOf(told)), { ends } = lines;
+  for (let k = lines.count - 1; k >= Math.max(0, lines.count - 3); k--) {
+    if (!TELLS_UNLOOKED.test(lines.at(k))) continue;
+    const from = k ? ends[k - 1] + 1 : 0, behind = ends[k] + 1;
+    return linesOf(told.copyWithin(from, behind).subarray(0, told.length - (behind - from)));
+  }
+  return linesOf(told);
+}
 
 const utf8 = (/** @type {string} */ words) => new TextEncoder().encode(words);
 const text = (/** @type {Uint8Array} */ bytes) => new TextDecoder().decode(bytes);
@@ -203,7 +219,7 @@ const jobs = {
     const found = asked.max ? 0 : Object.values(counts).reduce((sum, n) => sum + n, 0); // so many objects need room
     const check = await judge(asked, { command: 'check', json: true, max: asked.max }, bases, file, Math.max(1 << 20, OBJECT * found));
     const spots = { vertex: counts.N12 && spotsOf(file, 4, 4), node: counts.F12 && spotsOf(file, 7, 28) };
-    return { level, findings: linesOf(check.answer), spots };
+    return { level, findings: findingsIn(check.answer), spots };
   },
 
   /** The picture as numbers and as text, or why there is none. @param {AskedLevel & { cells: number, frame?: number[] }} asked */

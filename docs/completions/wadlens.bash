@@ -3,19 +3,21 @@
 
 # The options of each command.
 declare -gA _wadlens_options=(
-    [check]='--wide --map --strict --base --max --ignore --json --quiet --files-from --null --progress --help'
-    [survey]='--wide --map --strict --base --ignore --files-from --null --progress --help'
-    [picture]='--wide --cells --frame --help'
-    [atlas]='--out --wide --map --strict --base --cells --files-from --null --progress --help'
-    [cut]='--entry --help'
+    [check]='--wide --map --strict --base --max --ignore --fail --json --quiet --files-from --null --progress --help'
+    [survey]='--wide --map --strict --base --ignore --fail --files-from --null --progress --help'
+    [picture]='--wide --map --cells --frame --ignore --help'
+    [atlas]='--out --wide --map --strict --base --ignore --fail --cells --title --day --files-from --null --progress --help'
+    [cut]='--entry --level --help'
+    [explain]='--help'
     [demos]='--json --files-from --null --progress --help'
     [compare]='--help'
     [assemble]='--help'
 )
 
-# The codes that --ignore takes.
+# What --ignore and --fail take, beside ranges, and the codes that explain takes.
 # tools/tables writes from here
-_wadlens_codes='N1 N2 N3 N4 N5 N6 N7 N8 N9 N10 N11 N12 W1 W2 W3 W4 W5 W6 W7 W8 W9 W10 W11'
+_wadlens_codes='game notes warnings N1 N2 N3 N4 N5 N6 N7 N8 N9 N10 N11 N12 W1 W2 W3 W4 W5 W6 W7 W8 W9 W10 W11'
+_wadlens_explained='F1 F2 F3 F4 F5 F6 F7 F8 F9 F10 F11 F12 F13 F14 F15 F16 F17 F18 N1 N2 N3 N4 N5 N6 N7 N8 N9 N10 N11 N12 W1 W2 W3 W4 W5 W6 W7 W8 W9 W10 W11'
 # tools/tables writes up to here
 
 _wadlens() {
@@ -27,9 +29,9 @@ _wadlens() {
     fi
     [[ -n ${_wadlens_options[${COMP_WORDS[1]}]-} ]] || return
     case $before in
-        --max | --entry | --cells | --frame) return ;;
-        --ignore)
-            # A list with commas between: the last code is being written.
+        --max | --entry | --level | --cells | --frame | --title | --day) return ;;
+        --ignore | --fail)
+            # A list with commas between: the last word is being written.
             [[ $current != *,* ]] || given=${current%,*},
             mapfile -t COMPREPLY < <(compgen -P "$given" -W "$_wadlens_codes" -- "${current##*,}")
             return
@@ -54,6 +56,11 @@ _wadlens() {
     case ${COMP_WORDS[1]} in
         demos) endings+=(lmp LMP) ;;
         compare) endings=(lmp LMP) ;;
+        explain)
+            # Small letters are taken, too.
+            mapfile -t COMPREPLY < <(compgen -W "$_wadlens_explained" -- "${current^^}")
+            return
+            ;;
         assemble) return ;;
     esac
     mapfile -t COMPREPLY < <(

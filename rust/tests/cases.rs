@@ -180,7 +180,7 @@ fn text(path: &str) -> String {
 
 #[test]
 fn texts_are_the_reports() {
-    let report = text("crates/wad_look/specs/Engines/Audit.antt");
+    let report = text("crates/look_engines/specs/Engines/Audit.antt");
     let told: Vec<&str> = report.lines().filter_map(|line| line.strip_prefix("meaning ")).collect();
     let faults = (1..=18).map(Code::Fault);
     let own: Vec<String> = faults

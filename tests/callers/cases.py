@@ -162,7 +162,7 @@ def cases(path):
         len(wadlook.read_demo(bytes([109, 3, 1, 1, 0, 0, 0, 0, 0, 1, 0, 0, 0]) + bytes(40000) + b"\x80").commands) == 10000,
     )
 
-    with open("crates/wad_look/specs/Engines/Audit.antt", encoding="utf-8") as file:
+    with open("crates/look_engines/specs/Engines/Audit.antt", encoding="utf-8") as file:
         texts = dict(re.findall(r'^meaning ([FN]\d+) = codes "(.*)"$', file.read(), re.M))
     check("the findings' texts", wadlook._TEXTS == texts and list(wadlook._TEXTS) == list(texts))
     check("the statuses", {it.name: str(it.value) for it in Status} == numbers_of("wadlook_status"))

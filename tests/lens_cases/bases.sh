@@ -1,12 +1,15 @@
-# Cases of codes that are ignored, of base files, and of warnings that aren't looked for, which tests/wadlens runs.
+# Cases of codes that are ignored or fail, of base files, and of warnings that aren't looked for, which tests/wadlens runs.
 # shellcheck shell=bash disable=SC2034,SC2154  # what tests/wadlens sets and reads
 
 # found FAULTS NOTES: the totals of one level in one file.
 found() { printf '1 levels in 1 files: %s faults, %s notes, 0 not judged\\n' "$@"; }
 
-# warned WARNINGS: the totals with --map of one level without findings; warned_of_two: of two such levels in two files.
-warned() { printf '1 levels in 1 files: 0 faults, 0 notes, %s warnings, 0 not judged\\n' "$1"; }
-warned_of_two() { printf '2 levels in 2 files: 0 faults, 0 notes, %s warnings, 0 not judged\\n' "$1"; }
+# warned WARNINGS [LEVELS]: the totals with --map of one level without findings, in so many levels of which some warnings weren't looked
+# for; warned_of_two: of two such levels in two files. in_part WARNINGS: of one level that wasn't looked at for all.
+partly() { [[ -z ${1-} ]] || printf ', %s with warnings not looked for' "$1"; }
+warned() { printf '1 levels in 1 files: 0 faults, 0 notes, %s warnings, 0 not judged%s\\n' "$1" "$(partly "${2-}")"; }
+warned_of_two() { printf '2 levels in 2 files: 0 faults, 0 notes, %s warnings, 0 not judged%s\\n' "$1" "$(partly "${2-}")"; }
+in_part() { warned "$1" 1; }
 
 # told_in PATH LINE...: the lines of the level E1M1.
 told_in() {
@@ -64,42 +67,133 @@ cases_of_ignore() {
 
 # The sample has W1 four times, W7 and W8.
 cases_of_ignored_warnings() {
-    local seven='W7 level: no player 2 start' eight='W8 level: 0 deathmatch starts' all
+    local seven='W7 level: no player 2 start' eight='W8 level: 0 deathmatch starts' all outside='N12 vertex 2: (16384, 0) is outside -16384 to 16383'
     says 'a warning that is ignored, without --map' 1 "$faults_of_faulty$(found 1 1)" '' check --ignore W7 faulty.wad
-    says 'a warning that is ignored' 0 "$(told_in base.wad "$seven" "$eight")$(warned 2)" "$neither" check --map --ignore W1 base.wad
-    says 'of a warning, what --max leaves out' 0 "$(told_in base.wad "$seven" "$eight")$(warned 2)" "$neither" \
+    says 'a warning that is ignored' 0 "$(told_in base.wad "$seven" "$eight")$(in_part 2)" "$neither" check --map --ignore W1 base.wad
+    says 'of a warning, what --max leaves out' 0 "$(told_in base.wad "$seven" "$eight")$(in_part 2)" "$neither" \
         check --map --max 2 --ignore W1 base.wad
-    says 'one is left, strictly' 1 "$(told_in base.wad "$eight")$(warned 1)" "$neither" check --map --strict --ignore W7,W1 base.wad
-    says 'none is left, strictly' 0 "$(warned 0)" "$neither" check --ignore W1 --map --ignore W7,W1 --strict --ignore=W8 base.wad
+    says 'one is left, strictly' 1 "$(told_in base.wad "$eight")$(in_part 1)" "$neither" check --map --strict --ignore W7,W1 base.wad
+    says 'none is left, strictly' 0 "$(in_part 0)" "$neither" check --ignore W1 --map --ignore W7,W1 --strict --ignore=W8 base.wad
     says 'none is left, surveyed strictly' 0 \
         '{"file":"base.wad","level":"E1M1","entry":0,"format":"doom",'"$counts"',"sound":true,"faults":0,"notes":0,"findings":{},"warnings":{},"unlooked":["W9","W10"]}\n' \
         '' survey --map --strict --ignore W1,W7,W8 base.wad
     says 'none is left, quietly' 0 '' "$neither" check --quiet --map --strict --ignore W1,W7,W8 base.wad
-    says 'W1 is neither W10 nor W11' 0 "$(told_in stranger.wad "$no_flat2" "$strange")$(warned 2)" "$no_textures" \
+    says 'W1 is neither W10 nor W11' 0 "$(told_in stranger.wad "$no_flat2" "$strange")$(in_part 2)" "$no_textures" \
         check --map --ignore W1 stranger.wad
     all=$(printf ',N%s' {1..12})$(printf ',W%s' {1..11})
     says 'all codes' 0 "$(warned 0)" '' check --map --strict --ignore "${all#,}" noted.wad
     says 'all codes, as objects' 0 '{"levels":1,"files":1,"faults":0,"notes":0,"warnings":0,"not_judged":0}\n' '' \
         check --json --map --strict --ignore "${all#,}" noted.wad
+    says 'a range that is ignored' 0 "$(told_in noted.wad 'N11 level: no player 1 start')$(found 0 1)" '' check --ignore N2-N5,N12-N12 noted.wad
+    says 'codes in small letters' 0 "$(told_in noted.wad "$outside")$(found 0 1)" '' check --ignore n5,n11-N11 noted.wad
+    says 'all notes, by their name' 0 "$(found 0 0)" '' check --ignore notes noted.wad
+    says 'all warnings, by their name' 0 "$(warned 0)" '' check --map --ignore Warnings base.wad
+    says 'what ends the game' 0 "$(told_in noted.wad 'N5 linedef 1: without length, from (0, 64) to (0, 64)' 'N5: 1 more' "$outside")$(found 0 3)" '' \
+        check --max 1 --ignore game noted.wad
     says 'all codes, of a fault' 1 "$(told_in faulty.wad "F9 seg 1: linedef 0 has no sidedef on side 1, from (0, 64) to (0, 0)")$(found 1 0)" \
         '' check --ignore "${all#,}" faulty.wad
 }
 
 cases_of_ignored_words() {
     local codes command
-    for codes in F3 F18 N0 N13 W0 W12 N02 n2 N 2 X1 '' ',' 'N2,' ',W7' 'N2,,W7' 'N2, W7' 'N2,F3,W7'; do
-        mistaken "--ignore '$codes'" 'Usage: wadlens check' check --ignore "$codes" base.wad
+    for codes in F3 F18 N0 N13 W0 W12 N02 N 2 X1 '' ',' 'N2,' ',W7' 'N2,,W7' 'N2, W7' 'N2,F3,W7' \
+        N9-N2 N12-W1 N2- -N2 N2-N3-N4 F3-F9 F18-N2 'N2 -N3' faults gam; do
+        mistaken "--ignore '$codes'" 'Usage: wadlens check' check "--ignore=$codes" base.wad
     done
     mistaken '--ignore of an empty list, with =' 'Usage: wadlens check' check --ignore= base.wad
     mistaken '--ignore: the second list is wrong' 'Usage: wadlens check' check --ignore N2 --ignore W12 base.wad
     mistaken '--ignore of a survey: an unknown code' 'Usage: wadlens survey' survey --ignore W12 base.wad
     mistaken '--ignore without codes' '--ignore' check base.wad --ignore
-    for command in demos 'picture E1M1' 'cut --entry 0' 'atlas --out atlas'; do
+    for command in demos 'cut --entry 0'; do
         # shellcheck disable=SC2086  # words
         mistaken "--ignore of $command" "unexpected argument '--ignore'" $command --ignore N2 base.wad
     done
-    tells '--help of check has --ignore' '--ignore <CODES>' check --help
-    tells '--help of survey has --ignore' '--ignore <CODES>' survey --help
+}
+
+# ---- Codes that fail ------------------------------------------------------------------------------------------------
+
+# ends_quietly NAME STATUS ERROR WORD...: a check that writes nothing to standard output ends so.
+ends_quietly() { says "fail: $1" "$2" '' "$3" check --quiet "${@:4}"; }
+
+# noted.wad has N5 twice, N11 and N12; frontless.wad has N4.
+cases_of_fail() {
+    level THINGS '' VERTEXES "$(words 0 0 0 64 16384 0)" LINEDEFS "${own[LINEDEFS]}$(words 1 1 1 0 0 0 -1 1 1 1 0 0 0 -1)" >noted.wad
+    level LINEDEFS "${own[LINEDEFS]}$(words 0 1 1 0 0 -1 -1)" >frontless.wad
+    local four='N4 linedef 1: without a front sidedef, from (0, 0) to (0, 64)'
+    says 'fail: the same lines' 1 "$(told_in frontless.wad "$four")$(found 0 1)" '' check --fail N4 frontless.wad
+    says 'fail: the same lines, of another code' 0 "$(told_in frontless.wad "$four")$(found 0 1)" '' check --fail N5 frontless.wad
+    ends_quietly 'a note' 1 '' --fail N12 noted.wad
+    ends_quietly 'other notes' 0 '' --fail N1-N4,N6-N10 noted.wad
+    ends_quietly 'in small letters' 1 '' --fail=n12 noted.wad
+    ends_quietly 'a range has its first code' 1 '' --fail N5-N6 noted.wad
+    ends_quietly 'a range has its last code' 1 '' --fail N10-n11 noted.wad
+    ends_quietly 'a range of one code' 1 '' --fail N12-N12 noted.wad
+    ends_quietly 'several lists' 1 '' --fail N1 --fail N2,N12 noted.wad
+    ends_quietly 'what --max leaves out' 1 '' --max 1 --fail N5 noted.wad
+    ends_quietly 'all notes' 1 '' --fail notes noted.wad
+    ends_quietly 'all notes, of a level without' 0 '' --fail NOTES room.wad
+    ends_quietly 'a level that is not judged' 2 '' --fail notes udmf.wad
+    ends_quietly '1 goes before 2' 1 '' --fail N12 udmf.wad noted.wad
+    ends_quietly '1 goes before 2, the other way round' 1 '' --fail N12 noted.wad udmf.wad
+    ends_quietly 'beside a fault' 1 '' --fail N1 faulty.wad
+    cases_of_failing_warnings
+    cases_of_failing_and_ignored
+    cases_of_failing_words
+    says 'fail: surveyed' 1 '{"file":"frontless.wad","level":"E1M1","entry":0,"format":"doom",'"${counts/\"linedefs\":1/\"linedefs\":2}"',"sound":true,"faults":0,"notes":1,"findings":{"N4":1}}\n' \
+        '' survey --fail N4 frontless.wad
+    into_new 'atlas: a note that fails' 1 '' '1-0.svg index.html survey.jsonl' --fail N4 frontless.wad
+    shows 'atlas: .. on its page' index.html '<li class="faulty">'
+    rm -rf atlas
+    into_new 'atlas: a note that is ignored' 0 '' '1-0.svg index.html survey.jsonl' --fail N5 --ignore N4 frontless.wad
+    has 'atlas: .. in its survey' survey.jsonl '{"file":"frontless.wad","level":"E1M1","entry":0,"format":"doom",'"${counts/\"linedefs\":1/\"linedefs\":2}"',"sound":true,"faults":0,"notes":0,"findings":{}}\n'
+    rm -rf atlas
+}
+
+# The sample has W1 four times, W7 and W8; stranger.wad has W10 and W11, and with doors.wad W9 besides.
+cases_of_failing_warnings() {
+    ends_quietly 'a warning' 1 "$neither" --map --fail W7 base.wad
+    ends_quietly 'other warnings' 0 "$neither" --map --fail W2-W6 base.wad
+    ends_quietly 'all warnings' 1 "$neither" --map --fail warnings base.wad
+    ends_quietly 'all warnings, of a level without' 0 '' --map --fail warnings --base game.wad room.wad
+    ends_quietly 'with --strict' 1 "$neither" --map --strict --fail N1 base.wad
+    ends_quietly 'game: no player 1 start' 1 "$neither" --map --fail game noted.wad
+    ends_quietly 'game: no front sidedef' 1 "$neither" --map --fail game frontless.wad
+    ends_quietly 'game: a texture' 1 '' --map --fail Game --base game.wad --base doors.wad room.wad
+    ends_quietly 'game: a flat' 1 '' --map --fail game --base second.wad --base game.wad --ignore W9,W11 stranger.wad
+    ends_quietly 'game: a thing' 1 '' --map --fail game --base second.wad --base game.wad --ignore W9-W10 stranger.wad
+    ends_quietly 'game: nothing of it' 0 "$neither" --map --fail game base.wad
+    ends_quietly 'game: nothing of it, with notes' 0 "$neither" --map --fail game --ignore N11 noted.wad
+}
+
+cases_of_failing_and_ignored() {
+    ends_quietly 'all that fails is ignored' 0 '' --fail notes --ignore N5,N11-N12 noted.wad
+    ends_quietly 'one is left' 1 '' --fail notes --ignore N5,N11 noted.wad
+    ends_quietly 'a code whose class is ignored' 0 '' --fail N11 --ignore notes noted.wad
+    ends_quietly 'a code that ends the game, and is ignored so' 0 '' --map --fail N11 --ignore game noted.wad
+    ends_quietly 'a fault stays' 1 '' --fail N1 --ignore notes faulty.wad
+}
+
+cases_of_failing_words() {
+    local codes command
+    for codes in F3 N0 W12 N 2 '' ',' 'N2,' N9-N2 N12-W1 F18-N2 faults; do
+        mistaken "--fail '$codes'" '--fail wants notes and warnings' check --map "--fail=$codes" base.wad
+    done
+    for codes in W7 game warnings N2,w9-w11 Game; do
+        mistaken "--fail $codes without --map" '--fail wants --map for a warning' check --fail "$codes" base.wad
+    done
+    mistaken '--fail of a code that is ignored' '--fail and --ignore name the same code' check --fail N2 --ignore N2 base.wad
+    mistaken '--fail of a range that is ignored in part' '--fail and --ignore name the same code' survey --ignore n3 --fail N2-N4 base.wad
+    mistaken '--fail of a warning that is ignored' '--fail and --ignore name the same code' \
+        atlas --out atlas --map --fail notes,W7 --ignore game,W6-W8 base.wad
+    mistaken '--fail without codes' '--fail' check base.wad --fail
+    for command in demos 'picture E1M1' 'cut --entry 0'; do
+        # shellcheck disable=SC2086  # words
+        mistaken "--fail of $command" "unexpected argument '--fail'" $command --fail N2 base.wad
+    done
+    for command in check survey atlas; do
+        tells "--help of $command has --fail" '--fail <CODES>' "$command" --help
+        tells "--help of $command has --ignore" '--ignore <CODES>' "$command" --help
+    done
 }
 
 # ---- Base files -----------------------------------------------------------------------------------------------------
@@ -126,11 +220,11 @@ cases_of_bases() {
     says 'a base: others, surveyed' 0 "$(room_of room.wad '"warnings":{"W9":4,"W10":2}')" '' survey --map --base doors.wad room.wad
     says 'a base: the TEXTURE1 of the file wins' 0 "$(walls_of walled.wad)$(warned 4)" '' check --map --base game.wad walled.wad
     says 'a base: its TEXTURE2' 0 "$(warned 0)" '' check --map --base flats.wad --base second.wad room.wad
-    says 'a base: its TEXTURE2, beside the TEXTURE1 of the file' 0 "$(warned 0)" "$no_flats" check --map --base second.wad walled.wad
+    says 'a base: its TEXTURE2, beside the TEXTURE1 of the file' 0 "$(in_part 0)" "$no_flats" check --map --base second.wad walled.wad
     says 'a base: a flat of it, and one of the file' 0 "$(told_in stranger.wad "$strange")$(warned 1)" '' \
         check --map --ignore W9 --base doors.wad stranger.wad
-    says 'a base: flats alone' 0 "$(warned 0)" "$no_textures" check --map --base flats.wad room.wad
-    says 'a base: a file without entries' 0 "$(warned 0)" "$neither" check --map --base empty.wad room.wad
+    says 'a base: flats alone' 0 "$(in_part 0)" "$no_textures" check --map --base flats.wad room.wad
+    says 'a base: a file without entries' 0 "$(in_part 0)" "$neither" check --map --base empty.wad room.wad
     says 'two bases: the later one wins' 0 "$(walls_of room.wad)$(warned 4)" '' check --map --base game.wad --base doors.wad room.wad
     says 'two bases: the other way round' 0 "$(warned 0)" '' check --map --base doors.wad --base game.wad room.wad
     says 'two files: each stands on the base alone' 0 \
@@ -148,7 +242,7 @@ cases_of_bases() {
 cases_of_many_bases() {
     local bases=() i command
     for ((i = 0; i < 63; i++)); do bases+=(--base flats.wad); done
-    says '63 bases' 0 "$(warned 0)" "$no_textures" check --map "${bases[@]}" room.wad
+    says '63 bases' 0 "$(in_part 0)" "$no_textures" check --map "${bases[@]}" room.wad
     says '63 bases: the last counts' 0 "$(warned 0)" '' check --map "${bases[@]:2}" --base game.wad room.wad
     mistaken '64 bases' 'Usage: wadlens check' check --map "${bases[@]}" --base game.wad room.wad
     mistaken '64 bases of a survey' 'Usage: wadlens survey' survey --map "${bases[@]}" --base game.wad room.wad
@@ -182,7 +276,7 @@ cases_of_refused_bases() {
     says 'a refused base with controls in its path' 2 '' "$(told 'no\\x0a' "$missing")" check --map --base $'no\n' room.wad
     cp empty.wad most.wad
     truncate -s 268435456 most.wad
-    says 'a base of as many bytes as there may be' 0 "$(warned 0)" "$neither" check --map --base most.wad room.wad
+    says 'a base of as many bytes as there may be' 0 "$(in_part 0)" "$neither" check --map --base most.wad room.wad
     memory=200000
     says 'no memory for a base' 3 '' 'wadlens: no memory left\n' check --map --base most.wad faulty.wad
     rm most.wad
@@ -229,20 +323,20 @@ note_of() {
 
 cases_of_unlooked() {
     local behind
-    says 'neither textures nor flats' 0 "$(warned 0)" "$neither" check --map room.wad
-    says 'neither, strictly' 0 "$(warned 0)" "$neither" check --map --strict room.wad
+    says 'neither textures nor flats' 0 "$(in_part 0)" "$neither" check --map room.wad
+    says 'neither, strictly' 0 "$(in_part 0)" "$neither" check --map --strict room.wad
     says 'neither, quietly' 0 '' "$neither" check --map --quiet room.wad
-    says 'neither, as objects' 0 "$(ended 0 ',"unlooked":["W9","W10"]')" "$neither" check --map --json room.wad
+    says 'neither, as objects' 0 "$(ended 0 ',"unlooked_levels":1,"unlooked":["W9","W10"]')" "$neither" check --map --json room.wad
     says 'neither, surveyed' 0 "$(room_of room.wad '"warnings":{},"unlooked":["W9","W10"]')" '' survey --map room.wad
-    says 'no textures' 0 "$(told_in stranger.wad "$no_flat2" "$strange")$(warned 2)" "$no_textures" check --map stranger.wad
+    says 'no textures' 0 "$(told_in stranger.wad "$no_flat2" "$strange")$(in_part 2)" "$no_textures" check --map stranger.wad
     says 'no textures, surveyed' 0 "$(room_of stranger.wad '"warnings":{"W10":1,"W11":1},"unlooked":["W9"]' | sed 's/"things":8/"things":9/')" '' \
         survey --map stranger.wad
-    says 'no flats' 0 "$(walls_of walled.wad)$(warned 4)" "$no_flats" check --map walled.wad
+    says 'no flats' 0 "$(walls_of walled.wad)$(in_part 4)" "$no_flats" check --map walled.wad
     says 'no flats, quietly' 0 '' "$no_flats" check --quiet --map walled.wad
     says 'no flats, as objects' 0 "$(
         told_of walled.wad E1M1 '"code":"W9","kind":"sidedef","index":0,"message":"middle texture WALL isn'\''t there","place":{"linedef":0}'
         told_of walled.wad E1M1 '"code":"W9","more":3'
-        ended 4 ',"unlooked":["W10"]'
+        ended 4 ',"unlooked_levels":1,"unlooked":["W10"]'
     )" "$no_flats" check --json --max 1 --map walled.wad
     says 'both are there' 0 "$(warned 0)" '' check --map whole.wad
     says 'both are there, as objects' 0 "$(ended 0 '')" '' check --map --json whole.wad
@@ -251,6 +345,7 @@ cases_of_unlooked() {
     says 'warnings are not asked for, as objects' 0 "$(totals_of 1 1 0 0 0)" '' check --json room.wad
     cases_of_refused_textures
     cases_of_unlooked_levels
+    cases_of_silencing_faults
     cases_of_unlooked_and_ignored
     into_new 'atlas: neither textures nor flats' 0 '' '1-0.svg index.html survey.jsonl' --map room.wad
     has 'atlas: .. in its survey' survey.jsonl "$(room_of room.wad '"warnings":{},"unlooked":["W9","W10"]')"
@@ -266,10 +361,10 @@ cases_of_unlooked() {
 
 # A lump of TEXTURE1 that isn't in its file, the winner of the set.
 cases_of_refused_textures() {
-    behind=(TEXTURE1 "$(textures WALL)" F_START '' FLAT1 '')
+    local behind=(TEXTURE1 "$(textures WALL)" F_START '' FLAT1 '')
     level "${closed[@]}" >format.wad
     entry_outside 11
-    says 'TEXTURE1 is refused' 0 "$(warned 0)" "$no_textures" check --map format.wad
+    says 'TEXTURE1 is refused' 0 "$(in_part 0)" "$no_textures" check --map format.wad
     says 'TEXTURE1 is refused, and hides that of a base' 0 "$(room_of format.wad '"warnings":{},"unlooked":["W9"]')" '' \
         survey --map --base game.wad format.wad
     behind=(TEXTURE1 "$(textures WALL)" TEXTURE2 "$(textures DOOR)" F_START '' FLAT1 '')
@@ -279,34 +374,83 @@ cases_of_refused_textures() {
     behind=(F_START '\x01' FLAT1 '')
     level "${closed[@]}" >format.wad
     entry_outside 11
-    says 'F_START is an entry, whatever its lump' 0 "$(warned 0)" "$no_textures" check --map format.wad
+    says 'F_START is an entry, whatever its lump' 0 "$(in_part 0)" "$no_textures" check --map format.wad
 }
 
 cases_of_unlooked_levels() {
-    says 'two levels: once' 0 "$(warned_of_two 0)" "$neither" check --map room.wad ./room.wad
-    says 'two levels: one of them' 0 "$(warned_of_two 0)" "$neither" check --map room.wad whole.wad
-    says 'two levels: each something else' 0 "$(walls_of walled.wad)$(told_in stranger.wad "$no_flat2" "$strange")$(warned_of_two 6)" \
+    says 'two levels: once' 0 "$(warned_of_two 0 2)" "$neither" check --map room.wad ./room.wad
+    says 'two levels: one of them' 0 "$(warned_of_two 0 1)" "$neither" check --map room.wad whole.wad
+    says 'two levels: each something else' 0 "$(walls_of walled.wad)$(told_in stranger.wad "$no_flat2" "$strange")$(warned_of_two 6 2)" \
         "$neither" check --map walled.wad stranger.wad
     says 'a level with a fault that warnings are not looked for in' 1 \
-        "${faults_of_faulty}1 levels in 1 files: 1 faults, 1 notes, 0 warnings, 0 not judged\\n" "$no_textures" check --map --base flats.wad faulty.wad
+        "$faults_of_faulty$unlooked_in_faulty" "$no_textures" check --map --base flats.wad faulty.wad
     says 'a level with such a fault, surveyed' 1 \
-        '{"file":"faulty.wad","level":"E1M1","entry":0,"format":"doom",'"$counts"',"sound":false,"faults":1,"notes":1,"findings":{"F9":1,"N3":1},"warnings":{},"unlooked":["W9"]}\n' \
+        '{"file":"faulty.wad","level":"E1M1","entry":0,"format":"doom",'"$counts"',"sound":false,"faults":1,"notes":1,"findings":{"F9":1,"N3":1},"warnings":{},"unlooked":['"$(names_of W 1 11)"']}\n' \
         '' survey --map --base flats.wad faulty.wad
     says 'a level that is not judged' 2 'udmf.wad: MAP03: udmf: not read\n1 levels in 1 files: 0 faults, 0 notes, 0 warnings, 1 not judged\n' '' \
         check --map udmf.wad
     says 'a level that is not judged, surveyed' 2 '{"file":"udmf.wad","level":"MAP03","entry":0,"format":"udmf"}\n' '' survey --map udmf.wad
     says 'no level' 0 '{"levels":0,"files":1,"faults":0,"notes":0,"warnings":0,"not_judged":0}\n' '' check --json --map empty.wad
-    says 'a refused file is told first' 2 '1 levels in 2 files: 0 faults, 0 notes, 0 warnings, 0 not judged\n' \
+    says 'a refused file is told first' 2 '1 levels in 2 files: 0 faults, 0 notes, 0 warnings, 0 not judged, 1 with warnings not looked for\n' \
         "$(told no.wad "$missing")$neither" check --map room.wad no.wad
 }
 
+# has_line NAME LINE WORD...: the line is one of the output, and the status is 1.
+has_line() {
+    run_on '' "${@:3}"
+    if grep -qxF -- "${2%'\n'}" output; then
+        : >output
+    fi
+    : >error
+    judge "$1" 1 '' ''
+}
+
+# names_of LETTER FROM TO: names of codes, as an object has them.
+names_of() {
+    local i
+    for ((i = $2; i <= $3; i++)); do
+        ((i == $2)) || printf ,
+        printf '"%s%s"' "$1" "$i"
+    done
+}
+
+# Levels whose faults keep warnings from being looked for: lost.wad has F4, F5 and F10, and apart.wad F10 alone.
+cases_of_silencing_faults() {
+    level LINEDEFS "$(words 0 1 4 0 0 0 9)" SIDEDEFS "$(sidedef 7)" SEGS "$(words 0 1 16384 0 0 0 0 1 16384 0 0 0)" SSECTORS "$(words 1 0 1 7)" >lost.wad
+    level SSECTORS "$(words 1 0 1 7)" >apart.wad
+    local few="W1 sector 0: isn't closed, at (0, 0)" more='W1: 3 more' seven='W7 level: no player 2 start' eight='W8 level: 0 deathmatch starts'
+    local fault="F10 ssector 1: segs from 7, 1 of them, aren't all there (2 segs)" both
+    both=$(told_in apart.wad "$fault" "$few" "$more" "$seven" "$eight")
+    says 'a fault of the nodes' 1 "$both$(told_in apart.wad 'warnings W3, W5 not looked for: F10')$(faulty_with 1 6 1)" "$neither" \
+        check --map --max 1 apart.wad
+    says 'a fault of the nodes, W3 is ignored' 1 "$both$(told_in apart.wad 'warnings W5 not looked for: F10')$(faulty_with 1 6 1)" "$neither" \
+        check --map --max 1 --ignore W3 apart.wad
+    says 'a fault of the nodes, both are ignored' 1 "$both$(faulty_with 1 6 1)" "$neither" check --map --max 1 --ignore W3,W5 apart.wad
+    says 'a fault of the nodes, all that lacks is ignored' 1 "$both$(faulty_with 1 6 '')" '' \
+        check --map --max 1 --ignore W3,W5,W9,W10 apart.wad
+    says 'a fault of the nodes, as objects' 1 "$(
+        told_of apart.wad E1M1 '"code":"F10","kind":"ssector","index":1,"message":"segs from 7, 1 of them, aren'\''t all there (2 segs)"'
+        told_of apart.wad E1M1 '"unlooked":["W3","W5","W9","W10"]'
+        printf '{"levels":1,"files":1,"faults":1,"notes":0,"warnings":0,"not_judged":0,"unlooked_levels":1,"unlooked":["W3","W5","W9","W10"]}\\n'
+    )" "$neither" check --json --map --ignore W1,W7,W8 apart.wad
+    says 'a fault of the nodes, surveyed' 1 \
+        '{"file":"apart.wad","level":"E1M1","entry":0,"format":"doom",'"$counts"',"sound":false,"faults":1,"notes":0,"findings":{"F10":1},"warnings":{"W1":4,"W7":1,"W8":1},"unlooked":["W3","W5","W9","W10"]}\n' \
+        '' survey --map apart.wad
+    has_line 'no references' 'lost.wad: E1M1: warnings not looked for: F4, F5' check --map --ignore W1-W8 lost.wad
+    has_line 'no references, as objects' "$(told_of lost.wad E1M1 "\"unlooked\":[$(names_of W 9 11)]")" check --json --map --ignore W1-W8 lost.wad
+    says 'a fault of the nodes, warnings are not asked for' 1 "$(told_in apart.wad "$fault")$(found 1 0)" '' check apart.wad
+}
+
+# faulty_with FAULTS WARNINGS LEVELS: the totals of a level with faults, in so many levels of which some warnings weren't looked for.
+faulty_with() { printf '1 levels in 1 files: %s faults, 0 notes, %s warnings, 0 not judged%s\\n' "$1" "$2" "$(partly "$3")"; }
+
 cases_of_unlooked_and_ignored() {
-    says 'W9 is ignored' 0 "$(warned 0)" "$no_flats" check --map --ignore W9 room.wad
-    says 'W10 is ignored' 0 "$(warned 0)" "$no_textures" check --map --ignore W10 room.wad
+    says 'W9 is ignored' 0 "$(in_part 0)" "$no_flats" check --map --ignore W9 room.wad
+    says 'W10 is ignored' 0 "$(in_part 0)" "$no_textures" check --map --ignore W10 room.wad
     says 'both are ignored' 0 "$(warned 0)" '' check --map --ignore W10,W9 room.wad
-    says 'W9 is ignored, as objects' 0 "$(ended 0 ',"unlooked":["W10"]')" "$no_flats" check --json --map --ignore W9 room.wad
+    says 'W9 is ignored, as objects' 0 "$(ended 0 ',"unlooked_levels":1,"unlooked":["W10"]')" "$no_flats" check --json --map --ignore W9 room.wad
     says 'both are ignored, as objects' 0 "$(ended 0 '')" '' check --json --map --ignore W9 --ignore W10 room.wad
     says 'W10 is ignored, surveyed' 0 "$(room_of room.wad '"warnings":{},"unlooked":["W9"]')" '' survey --map --ignore W10 room.wad
     says 'both are ignored, surveyed' 0 "$(room_of room.wad '"warnings":{}')" '' survey --map --ignore W10,W9 room.wad
-    says 'what is looked for is ignored' 0 "$(warned 0)" "$no_flats" check --map --ignore W9 walled.wad
+    says 'what is looked for is ignored' 0 "$(in_part 0)" "$no_flats" check --map --ignore W9 walled.wad
 }

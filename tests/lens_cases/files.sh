@@ -456,6 +456,18 @@ cases_of_cut() {
     says 'cut: no file' 2 '' "$(told no.wad "$missing")" cut --entry 0 no.wad
     says 'cut: a folder' 2 '' "$(told folder "$unread")" cut --entry 0 folder
     says 'cut: no WAD file' 2 '' "$(told magic.wad 'not a WAD file: it begins with neither IWAD nor PWAD')" cut --entry 0 magic.wad
+    cuts 'by its name' first.wad --level E1M1 between.wad
+    cuts 'by its name in small letters' one.wad hidden.wad --level=map02
+    pack E1M1 '' "${parts[@]}" E1M1 '' THINGS '\x01' >later.wad
+    says 'cut: a name whose last label starts no whole level' 1 '' \
+        'wadlens: later.wad: E1M1: incomplete: no LINEDEFS where it belongs\n' cut --level E1M1 later.wad
+    says 'cut: no level of a name' 2 '' 'wadlens: hidden.wad: MAP09: no level of this name\n' cut --level MAP09 hidden.wad
+    says 'cut: controls in a name' 2 '' 'wadlens: hidden.wad: a\\x1bb: no level of this name\n' cut --level $'a\eb' hidden.wad
+    says 'cut: a name of another lump' 2 '' 'wadlens: hidden.wad: no level starts at entry 12\n' cut --level THINGS hidden.wad
+    says 'cut: a name, and no file' 2 '' "$(told no.wad "$missing")" cut --level MAP01 no.wad
+    says 'cut: a name, and no WAD file' 2 '' "$(told magic.wad 'not a WAD file: it begins with neither IWAD nor PWAD')" \
+        cut --level MAP01 magic.wad
+    mistaken 'cut by an entry and a name' '--entry' cut --entry 0 --level MAP02 hidden.wad
     cases_of_cut_ends
     mistaken 'cut without an entry' '--entry <G>' cut base.wad
     mistaken 'cut without a file' 'FILE' cut --entry 0

@@ -149,7 +149,7 @@ cases_of_json() {
         told_of base.wad E1M1 '"code":"W1","more":3'
         told_of base.wad E1M1 '"code":"W7","kind":"level","message":"no player 2 start"'
         told_of base.wad E1M1 '"code":"W8","kind":"level","message":"0 deathmatch starts"'
-        printf '%s' '{"levels":1,"files":1,"faults":0,"notes":0,"warnings":6,"not_judged":0,"unlooked":["W9","W10"]}\n'
+        printf '%s' '{"levels":1,"files":1,"faults":0,"notes":0,"warnings":6,"not_judged":0,"unlooked_levels":1,"unlooked":["W9","W10"]}\n'
     )" "$neither" check --json --map --max 1 base.wad
     cp base.wad $'a"b\\c\x1f.wad'
     says 'json: a path with what JSON escapes' 2 "$(refused 'no\\"b' "$missing")$(totals_of 0 1 0 0 0)" "$(told 'no"b' "$missing")" check --json 'no"b'
@@ -208,15 +208,17 @@ cases_of_codes() {
         NODES "$(node 0 0 0 64 5 6)"
     finds F12 'F12 node 0: origin (16384, 0) is outside -16384 to 16383' 1 0 NODES "$(node 16384 0 0 64 32768 32769)"
     finds 'F12, of y' 'F12 node 0: origin (0, -16385) is outside -16384 to 16383' 1 0 NODES "$(node 0 -16385 0 64 32768 32769)"
-    finds F13 "$(two 'F13 node 0: named more than once, or the root and named, at (0, 0)' \
+    finds F13 'F13 node 0: named more than once, at (1, 2)' 1 0 NODES "$(node 1 2 0 64 32768 32769)$(node 3 4 0 64 0 0)"
+    finds 'F13, the root' "$(two 'F13 node 0: the root, and named, at (0, 0)' \
         'F16 ssector 0: not reached from the root, at (0, 0)')" 2 0 NODES "$(node 0 0 0 64 0 32769)"
     finds F14 "$(two 'F14 node 0: not reached from the root, at (1, 2)' 'F14 node 1: not reached from the root, at (3, 4)' \
         'F16 ssector 2: not reached from the root, at (0, 0)' 'F16 ssector 3: not reached from the root, at (0, 0)')" 4 0 \
         NODES "$(node 1 2 0 64 1 32770)$(node 3 4 0 64 0 32771)$(node 0 0 0 64 32768 32769)" SSECTORS "$(words 1 0 1 0 1 0 1 0)"
     finds F15 "$(two 'F15 ssector 0: named more than once, at (0, 0)' 'F16 ssector 1: not reached from the root, at (0, 64)')" 2 0 \
         NODES "$(node 0 0 0 64 32768 32768)"
-    finds F16 'F16 ssector 1: not reached from the root, at (0, 64)' 1 0 NODES ''
-    finds F17 'F17 level: no ssector' 1 0 NODES '' SSECTORS ''
+    finds F16 "$(two "NODES is empty: 1 ssectors can't be reached; build the nodes" \
+        'F16 ssector 1: not reached from the root, at (0, 64)')" 1 0 NODES ''
+    finds F17 "$(two 'SSECTORS and NODES are empty; build the nodes' 'F17 level: no ssector')" 1 0 NODES '' SSECTORS ''
     cases_of_many_nodes
     cases_of_notes
 }
@@ -264,7 +266,7 @@ cases_of_many_nodes() {
     local none='\x00'
     while ((${#none} < 4 * 917504)); do none+=$none; done
     flags=(--max 1)
-    finds F18 "$(two 'F13 node 0: named more than once, or the root and named, at (0, 0)' \
+    finds F18 "$(two 'F13 node 0: named more than once, at (0, 0)' \
         'F14 node 1: not reached from the root, at (0, 0)' 'F14: 32765 more' 'F16 ssector 0: not reached from the root, at (0, 0)' \
         'F16: 1 more' 'F18 level: 32768 nodes, 32767 are the most' 'N7 node 0: without direction, at (0, 0)' 'N7: 32767 more')" \
         32770 32768 NODES "${none:0:4*917504}"
@@ -272,8 +274,8 @@ cases_of_many_nodes() {
 }
 
 cases_of_notes() {
-    finds N2 'N2 lump 8: 1 bytes left over' 0 1 SECTORS "${own[SECTORS]}$(bytes 0)"
-    finds 'N2, of THINGS' 'N2 lump 1: 9 bytes left over' 0 1 THINGS "${own[THINGS]}$(bytes 1 2 3 4 5 6 7 8 9)"
+    finds N2 'N2 lump 8: SECTORS has 1 bytes left over' 0 1 SECTORS "${own[SECTORS]}$(bytes 0)"
+    finds 'N2, of THINGS' 'N2 lump 1: THINGS has 9 bytes left over' 0 1 THINGS "${own[THINGS]}$(bytes 1 2 3 4 5 6 7 8 9)"
     finds N3 "N3 linedef 1: two-sided, without a back sidedef, $line" 0 1 LINEDEFS "$lines$(words 0 1 4 0 0 0 -1)"
     finds N4 "N4 linedef 1: without a front sidedef, $line" 0 1 LINEDEFS "$lines$(words 0 1 1 0 0 -1 -1)"
     finds N5 'N5 linedef 1: without length, from (0, 64) to (0, 64)' 0 1 LINEDEFS "$lines$(words 1 1 1 0 0 0 -1)"
@@ -330,7 +332,7 @@ warns() {
     esac
     for line in "${notes[@]}"; do text+="warned.wad: E1M1: $line\\n"; done
     while read -r line; do [[ -z $line ]] || text+="warned.wad: E1M1: $line\\n"; done <<<"$2"
-    text+="1 levels in 1 files: 0 faults, ${#notes[@]} notes, $3 warnings, 0 not judged\\n"
+    text+="1 levels in 1 files: 0 faults, ${#notes[@]} notes, $3 warnings, 0 not judged, 1 with warnings not looked for\\n"
     level "${@:4}" >warned.wad
     says "$1" 0 "$text" "$lacking" check --map --max 0 warned.wad
     (($3 == 0)) || status=1
@@ -514,20 +516,20 @@ cases_of_warned_levels() {
         printf '%s' 'base.wad: E1M1: W1: 2 more\n' 'base.wad: E1M1: W7 level: no player 2 start\n' \
             'base.wad: E1M1: W8 level: 0 deathmatch starts\n'
     )
-    says '--max of warnings' 0 "${few}1 levels in 1 files: 0 faults, 0 notes, 6 warnings, 0 not judged\\n" "$neither" check --map --max 2 base.wad
-    says 'not looked for' 1 "${faults_of_faulty}1 levels in 1 files: 1 faults, 1 notes, 0 warnings, 0 not judged\\n" "$neither" check --map faulty.wad
+    says '--max of warnings' 0 "${few}1 levels in 1 files: 0 faults, 0 notes, 6 warnings, 0 not judged, 1 with warnings not looked for\\n" "$neither" check --map --max 2 base.wad
+    says 'not looked for' 1 "$faults_of_faulty$unlooked_in_faulty" "$neither" check --map faulty.wad
     two_levels="${few//base.wad/.\/base.wad}udmf.wad: MAP03: udmf: not read\\n"
-    two_levels+='2 levels in 2 files: 0 faults, 0 notes, 6 warnings, 1 not judged\n'
+    two_levels+='2 levels in 2 files: 0 faults, 0 notes, 6 warnings, 1 not judged, 1 with warnings not looked for\n'
     says 'a level that is not judged, too' 2 "$two_levels" "$neither" check --map --max 2 ./base.wad udmf.wad
     says '1 goes before 2, of a warning' 1 "$two_levels" "$neither" check --map --strict --max 2 ./base.wad udmf.wad
     many_segs
     says 'before what the wide reading finds' 1 "$(
         printf '%s' "wide.wad: E1M1: F10 ssector 1: segs from -32768, 1 of them, aren't all there (32769 segs)\\n" \
-            "${few//base.wad/wide.wad}" 'wide.wad: E1M1: sound with --wide\n' \
-            '1 levels in 1 files: 1 faults, 0 notes, 6 warnings, 0 not judged\n'
+            "${few//base.wad/wide.wad}" 'wide.wad: E1M1: warnings W3, W5 not looked for: F10\n' 'wide.wad: E1M1: sound with --wide\n' \
+            '1 levels in 1 files: 1 faults, 0 notes, 6 warnings, 0 not judged, 1 with warnings not looked for\n'
     )" "$neither" check --map --max 2 wide.wad
     says 'surveyed, where they are not looked for' 1 \
-        '{"file":"faulty.wad","level":"E1M1","entry":0,"format":"doom",'"$counts"',"sound":false,"faults":1,"notes":1,"findings":{"F9":1,"N3":1},"warnings":{},"unlooked":["W9","W10"]}\n' \
+        '{"file":"faulty.wad","level":"E1M1","entry":0,"format":"doom",'"$counts"',"sound":false,"faults":1,"notes":1,"findings":{"F9":1,"N3":1},"warnings":{},"unlooked":["W1","W2","W3","W4","W5","W6","W7","W8","W9","W10","W11"]}\n' \
         '' survey --map faulty.wad
     says 'surveyed, of another format' 2 '{"file":"udmf.wad","level":"MAP03","entry":0,"format":"udmf"}\n' '' survey --map udmf.wad
     cases_of_warned_sample
@@ -539,11 +541,11 @@ cases_of_warned_sample() {
     text=$(
         printf 'base.wad: E1M1: %s\\n' "W1 sector 0: isn't closed, at (0, 0)" "W1 sector 0: isn't closed, at (0, 64)" \
             "W1 sector 1: isn't closed, at (0, 0)" 'W1: 1 more' 'W7 level: no player 2 start' 'W8 level: 0 deathmatch starts'
-        printf '%s' '1 levels in 1 files: 0 faults, 0 notes, 6 warnings, 0 not judged\n'
+        printf '%s' '1 levels in 1 files: 0 faults, 0 notes, 6 warnings, 0 not judged, 1 with warnings not looked for\n'
     )
     says warnings 0 "$text" "$neither" check --map --max 3 base.wad
     says 'warnings, strict' 1 "$text" "$neither" check --map --strict --max 3 base.wad
-    says no_warnings 1 "${faults_of_faulty}1 levels in 1 files: 1 faults, 1 notes, 0 warnings, 0 not judged\\n" "$neither" \
+    says no_warnings 1 "$faults_of_faulty$unlooked_in_faulty" "$neither" \
         check --map --strict --max 20 faulty.wad
     object='{"file":"base.wad","level":"E1M1","entry":0,"format":"doom",'$counts',"sound":true,"faults":0,"notes":0,"findings":{}'
     object+=',"warnings":{"W1":4,"W7":1,"W8":1},"unlooked":["W9","W10"]}\n'

@@ -3,17 +3,24 @@
 
 # drawn TITLE VIEW MATRIX SECTORS TWO-SIDED OTHERS MARKS: a picture of the sample level, in whose map the thing stands as it does there.
 drawn() {
-    local left top width height
+    local left top width height longer across down
     read -r left top width height <<<"$2"
-    printf '%s' "<svg xmlns=\"http://www.w3.org/2000/svg\" viewBox=\"$2\">\\n<title>$1</title>\\n" \
+    longer=$((width > height ? width : height))
+    across=$(((width * 1024 + longer - 1) / longer)) down=$(((height * 1024 + longer - 1) / longer))
+    printf '%s' "<svg xmlns=\"http://www.w3.org/2000/svg\" viewBox=\"$2\" width=\"$across\" height=\"$down\">\\n" \
+        "<title>$1</title>\\n" \
         '<style>path{vector-effect:non-scaling-stroke}.s{shape-rendering:crispEdges}.s path:hover{fill:#fb5}' \
         '.w{fill:none;stroke:#eee;stroke-width:1.5}.t{fill:none;stroke:#778;stroke-width:.7}' \
-        '.f{fill:none;stroke:#f33;stroke-width:4}.p{fill:#5cf}.p:hover{fill:#fff}</style>\n' \
+        '.f{fill:none;stroke:#f33;stroke-width:4}.a{fill:none;stroke:#fb3;stroke-width:3}.p{vector-effect:none;stroke:#14161a;stroke-width:5;paint-order:stroke}' \
+        '.start{fill:#6f6}.monster{fill:#f7b}.weapon{fill:#5cf}.key{fill:#ff5}.other{fill:#cba}.p:hover{fill:#fff}</style>\n' \
         "<rect x=\"$left\" y=\"$top\" width=\"$width\" height=\"$height\" fill=\"#14161a\"/>\\n" \
         "<g class=\"s\" transform=\"matrix($3)\">\\n$4</g><g transform=\"matrix(1 0 0 -1 0 0)\">\\n" \
         "<path class=\"t\" d=\"$5\"/>\\n<path class=\"w\" d=\"$6\"/>\\n$7" \
-        '<circle class="p" cx="8" cy="8" r="12"><title>thing 0: type 1, angle 0, flags 7</title></circle>\n</g></svg>\n'
+        "${things:-$(thing start '8 8' 0 '0: type 1, angle 0, flags 7')}</g></svg>\\n"
 }
+
+# thing CLASS PLACE TURN TITLE: the line of a thing.
+thing() { printf '<path class="p %s" transform="translate(%s)rotate(%s)" d="M20 0L-12 14v-28z"><title>thing %s</title></path>\\n' "$@"; }
 
 # shaded SECTOR BLOCKS CELLS: the path of a sector of the sample level.
 shaded() {
@@ -21,7 +28,7 @@ shaded() {
     printf ', light 160, special 0, tag 0, %s cells</title></path>\\n' "$3"
 }
 
-# marked LINE TEXT: the line of a finding.
+# marked SHAPE TEXT: the line of a finding.
 marked() { printf '<path class="f" d="%s"><title>%s</title></path>\\n' "$1" "$2"; }
 
 # The sample level: of its one linedef, from (0, 0) to (0, 64), all 65 points lie on its left, in sector 1.
@@ -31,13 +38,14 @@ pictures() {
     # Without its left side: seg 1 has no sidedef, and the linedef says that it has two sides.
     half=$(drawn 'E1M1: faults 1 notes 1' "$usual_view" "$usual_matrix" '' '' "$line" \
         "$(marked 'M0 64L0 0' "F9 1 seg's linedef has no side there")$(marked "$line" 'N3 0 two-sided flag without side 1')")
-    # A second linedef has an end that isn't there: it isn't drawn.
+    # ring: what is drawn about (0, 0). A second linedef has an end that isn't there: a ring is drawn at the other.
+    ring='M0 0m-24 0a24 24 0 1 0 48 0a24 24 0 1 0-48 0'
     level LINEDEFS "$(words 0 1 4 0 0 0 1 0 9 4 0 0 0 1)" >torn.wad
     level LINEDEFS "$(words 0 9 4 0 0 0 1)" >nothing.wad
 }
 
 cases_of_picture() {
-    local parts usual_view usual_matrix line whole half many=()
+    local i parts usual_view usual_matrix line ring whole half many=()
     pictures
     says 'picture' 0 "$whole" '' picture E1M1 base.wad
     says 'picture: small letters' 0 "$whole" '' picture e1m1 base.wad
@@ -54,8 +62,10 @@ cases_of_picture() {
     says 'picture: a level with a fault' 1 "$half" '' picture E1M1 faulty.wad
     says 'picture: a later file hides an earlier one' 1 "$half" '' picture E1M1 base.wad faulty.wad
     says 'picture: and the other way round' 0 "$whole" '' picture E1M1 faulty.wad base.wad
-    says 'picture: a linedef with one end' 1 "$(drawn 'E1M1: faults 1 notes 0' "$usual_view" "$usual_matrix" '' "$line" '' '')" '' \
-        picture E1M1 torn.wad
+    says 'picture: a linedef with one end' 1 "$(drawn 'E1M1: faults 1 notes 0' "$usual_view" "$usual_matrix" '' "$line" '' \
+        "$(marked "$ring" 'F3 1 linedef vertex names none')")" '' picture E1M1 torn.wad
+    cases_of_things
+    cases_of_marked_warnings
     level SECTORS "$(sector)$(words 0 128)$(name8 '<&>"')$(name8 FLAT1)$(words 300 -1 7)" >marked.wad
     says 'picture: no name makes markup' 0 "$(drawn 'E1M1: faults 0 notes 0' "$usual_view" "$usual_matrix" '<path fill="#b4b4c8" d="M0 0h1v65h-1z"><title>sector 1: floor 0 &lt;&amp;&gt;&quot;, ceiling 128 FLAT1, light 300, special -1, tag 7, 65 cells</title></path>\n' \
         "$line" '' '')" '' picture E1M1 marked.wad
@@ -70,6 +80,45 @@ cases_of_picture() {
     cases_of_picture_words
 }
 
+# Things of each class, the last kind of all and one that no game has; and angles, of which the game takes whole eighths.
+cases_of_things() {
+    local things
+    level THINGS "$(words 0 64 135 3004 7 -8 0 90 82 7 0 8 100 38 7 1 2 -50 2035 7 0 0 -32768 32767 7 0 0 359 11 0)" >kinds.wad
+    things=$(thing monster '0 64' 135 '0: type 3004, angle 135, flags 7')$(thing weapon '-8 0' 90 '1: type 82, angle 90, flags 7')
+    things+=$(thing key '0 8' 90 '2: type 38, angle 100, flags 7')$(thing other '1 2' -45 '3: type 2035, angle -50, flags 7')
+    things+=$(thing other '0 0' -32760 '4: type 32767, angle -32768, flags 7')$(thing start '0 0' 315 '5: type 11, angle 359, flags 0')
+    says 'picture: things by class' 0 "$(drawn 'E1M1: faults 0 notes 1' "$usual_view" "$usual_matrix" \
+        "$(shaded 1 'M0 0h1v65h-1z' 65)" "$line" '' '')" '' picture E1M1 kinds.wad
+}
+
+# warning_mark SHAPE TEXT: the mark of a warning.
+warning_mark() { printf '<path class="a" d="%s"><title>%s</title></path>\\n' "$@"; }
+
+# Each sector of the sample has one side, from (0, 0) to (0, 64) or back: neither end is closed.
+cases_of_marked_warnings() {
+    local corners twins unknown things top='M0 64m-24 0a24 24 0 1 0 48 0a24 24 0 1 0-48 0'
+    corners=$(for i in 0 1; do warning_mark "$ring" "W1 $i sector not closed" && warning_mark "$top" "W1 $i sector not closed"; done)
+    says 'picture --map' 0 "$(drawn 'E1M1: faults 0 notes 0' "$usual_view" "$usual_matrix" "$(shaded 1 'M0 0h1v65h-1z' 65)" \
+        "$line" '' "$corners")" '' picture --map E1M1 base.wad
+    says 'picture --map: a code is ignored' 0 "$whole" '' picture --map --ignore W1 E1M1 base.wad
+    says 'picture --map: other codes are' 0 "$(drawn 'E1M1: faults 0 notes 0' "$usual_view" "$usual_matrix" \
+        "$(shaded 1 'M0 0h1v65h-1z' 65)" "$line" '' "$corners")" '' picture --map --ignore W2,W3 --ignore N3 E1M1 base.wad
+    says 'picture: --ignore without --map' 0 "$whole" '' picture --ignore W1 E1M1 base.wad
+    # A second linedef runs back: its sides close both sectors.
+    level LINEDEFS "$(words 0 1 4 0 0 0 1 1 0 4 0 0 0 1)" >twins.wad
+    twins=$(warning_mark 'M0 64L0 0' 'W6 1 linedef on another')
+    says 'picture --map: a twin' 0 "$(drawn 'E1M1: faults 0 notes 0' "$usual_view" "$usual_matrix" \
+        "$(shaded 1 'M0 0h1v65h-1z' 65)" "${line}M0 64L0 0" '' "$twins")" '' picture --map E1M1 twins.wad
+    level THINGS "$(words 8 8 0 1 7 0 0 90 3000 7)" >unknown.wad
+    unknown=$(warning_mark "$ring" 'W11 1 thing of no known type')
+    things=$(thing start '8 8' 0 '0: type 1, angle 0, flags 7')$(thing other '0 0' 90 '1: type 3000, angle 90, flags 7')
+    says 'picture --map: a thing of no known type' 0 "$(drawn 'E1M1: faults 0 notes 0' "$usual_view" "$usual_matrix" \
+        "$(shaded 1 'M0 0h1v65h-1z' 65)" "$line" '' "$unknown")" '' picture --map --ignore W1 E1M1 unknown.wad
+    things=''
+    says 'picture --map: none where a reference lacks' 1 "$half" '' picture --map E1M1 faulty.wad
+    mistaken 'picture: --ignore of a fault' '--ignore' picture --ignore F3 E1M1 base.wad
+}
+
 cases_of_frames() {
     local framed
     framed=$(drawn 'E1M1: faults 0 notes 0' '-52 -122 184 184' '1 0 0 -1 -20 30' \
@@ -82,14 +131,19 @@ cases_of_frames() {
     says 'picture: the greatest frame' 0 "$(drawn 'E1M1: faults 0 notes 0' '-32800 -32799 65599 65599' '64 0 0 -64 -32768 32768' \
         "$(shaded 0 'M512 256h256v512h-256z' 131072)$(shaded 1 'M256 256h256v512h-256z' 131072)" "$line" '' '')" '' \
         picture --frame -32768,-32768,32767,32767 --cells 1024 E1M1 base.wad
-    says 'picture: nothing to draw, in a frame' 1 "$(drawn 'E1M1: faults 1 notes 0' "$usual_view" "$usual_matrix" '' '' '' '')" '' \
-        picture --frame 0,0,0,64 E1M1 nothing.wad
+    says 'picture: nothing to draw, in a frame' 1 "$(drawn 'E1M1: faults 1 notes 0' "$usual_view" "$usual_matrix" '' '' '' \
+        "$(marked "$ring" 'F3 0 linedef vertex names none')")" '' picture --frame 0,0,0,64 E1M1 nothing.wad
 }
 
 # What is told in place of a picture.
 cases_of_undrawn() {
-    local tag
+    local tag name_first="wadlens: the level's name comes before its files: wadlens picture NAME FILE...\\n"
     says 'picture: nothing to draw' 2 '' 'wadlens: E1M1: nothing to draw\n' picture E1M1 nothing.wad
+    says 'picture: the words are exchanged' 2 '' "$(told E1M1 "$missing")$name_first" picture base.wad E1M1
+    says 'picture: .. in large letters' 2 '' "$(told BASE.WAD 'no level of this name')$name_first" picture BASE.WAD base.wad
+    lumps 10
+    pack A.WAD '' "${parts[@]}" >named.wad
+    says 'picture: a level of such a name' 0 "${whole/E1M1/A.WAD}" '' picture a.wad named.wad
     says 'picture: no such level' 2 '' 'wadlens: e1m9: no level of this name\n' picture e1m9 base.wad
     says 'picture: an empty name' 2 '' 'wadlens: : no level of this name\n' picture '' base.wad
     says 'picture: no level in no entries' 2 '' 'wadlens: E1M1: no level of this name\n' picture E1M1 empty.wad
@@ -206,11 +260,21 @@ cases_of_drawn_games() {
         mv sum output
         judge "picture: $name" 0 "$sum" ''
     done <<'END'
-freedoom1.wad E3M7 418e5a0335d958ebf733b29c1eba17700a0928f9d325e1e7bff2e840e58b6c09
-freedoom2.wad MAP01 80d3f2f215c6223512327b3d30ac884a1ac6500f69d633057854d0aa9a35a2e7
-freedoom2.wad MAP12 1cc8fff01f415f775a81b36ffcb130b6f9b25ca77434fccdc9c6997ceadcd874
-freedoom2.wad MAP28 d35035801b7513df40f4087ccd998b67453f3545c3156d8c8d088cab14ea1970
+freedoom1.wad E3M7 3a9693954a23d537f2fe9ff669cda2db68631db29d703dcf9d7bf6f7ceae8cc3
+freedoom2.wad MAP01 dd1df401ebb4f1660bb32a1c9f55a6d065fb4c7509e816244d5bba45ca322994
+freedoom2.wad MAP12 1ae14bae389616b65499434c107e601cd6cafd292236c54c9daa994c7f04e3fb
+freedoom2.wad MAP28 688fa23145e2446baf42f5dd5a07558fb2eb9b796e353130eee01caf5bfb9a90
 END
+    # E3M6 has bare sides and a twin: a picture marks those that `check` tells, at the places that it tells.
+    timeout 60 "$program" check --map --max 0 "$games/freedoom1.wad" 2>error |
+        sed -nE 's/^.*: E3M6: (W2|W6) linedef ([0-9]+): [^,]*, from \((-?[0-9]+), (-?[0-9]+)\) to \((-?[0-9]+), (-?[0-9]+)\)$/\1 \2 M\3 \4L\5 \6/p' |
+        sed -E 's/^W2 ([0-9]+) (.*)$/<path class="a" d="\2"><title>W2 \1 wall without texture<\/title><\/path>/
+                s/^W6 ([0-9]+) (.*)$/<path class="a" d="\2"><title>W6 \1 linedef on another<\/title><\/path>/' >wanted
+    timeout 60 "$program" picture --map E3M6 "$games/freedoom1.wad" 2>error | grep 'class="a"' >marked
+    cmp wanted marked >output 2>&1
+    [[ -s wanted ]] || printf 'none\n' >>output
+    printf 0 >status
+    judge 'picture --map: what check tells of E3M6' 0 '' ''
 }
 
 # atlas_of NAME STATUS ERROR FILES WORD...: `atlas` into the folder `atlas`. Standard output stays empty, and then the folder
@@ -263,16 +327,16 @@ lacks() {
 # map SIZE SHOWN CELLS [LEVEL]: the picture of the sample level, whose cells of this size show so many in one block.
 map() {
     cat <<END
-<svg xmlns="http://www.w3.org/2000/svg" viewBox="-32 -96 64 128">
+<svg xmlns="http://www.w3.org/2000/svg" viewBox="-32 -96 64 128" width="512" height="1024">
 <title>${4-E1M1}: faults 0 notes 0</title>
-<style>path{vector-effect:non-scaling-stroke}.s{shape-rendering:crispEdges}.s path:hover{fill:#fb5}.w{fill:none;stroke:#eee;stroke-width:1.5}.t{fill:none;stroke:#778;stroke-width:.7}.f{fill:none;stroke:#f33;stroke-width:4}.p{fill:#5cf}.p:hover{fill:#fff}</style>
+<style>path{vector-effect:non-scaling-stroke}.s{shape-rendering:crispEdges}.s path:hover{fill:#fb5}.w{fill:none;stroke:#eee;stroke-width:1.5}.t{fill:none;stroke:#778;stroke-width:.7}.f{fill:none;stroke:#f33;stroke-width:4}.a{fill:none;stroke:#fb3;stroke-width:3}.p{vector-effect:none;stroke:#14161a;stroke-width:5;paint-order:stroke}.start{fill:#6f6}.monster{fill:#f7b}.weapon{fill:#5cf}.key{fill:#ff5}.other{fill:#cba}.p:hover{fill:#fff}</style>
 <rect x="-32" y="-96" width="64" height="128" fill="#14161a"/>
 <g class="s" transform="matrix($1 0 0 -$1 0 0)">
 <path fill="#7f7f93" d="$2 floor 0 FLAT1, ceiling 128 FLAT1, light 160, special 0, tag 0, $3 cells</title></path>
 </g><g transform="matrix(1 0 0 -1 0 0)">
 <path class="t" d="M0 0L0 64"/>
 <path class="w" d=""/>
-<circle class="p" cx="8" cy="8" r="12"><title>thing 0: type 1, angle 0, flags 7</title></circle>
+<path class="p start" transform="translate(8 8)rotate(0)" d="M20 0L-12 14v-28z"><title>thing 0: type 1, angle 0, flags 7</title></path>
 </g></svg>
 END
 }
@@ -407,9 +471,9 @@ repeated() {
 cases_of_full_disks() {
     local text kib parts small i names=()
     text=$(told atlas "a file in it can't be written")
-    for kib in 0 1; do
+    for kib in 0 2; do
         full_at "$kib" faulty.wad base.wad
-        # In 1024 bytes there is room for a picture and the survey of two levels, and none for the page.
+        # In 2048 bytes there is room for a picture and the survey of two levels, and none for the page.
         judge "atlas: a disk with room for $kib KiB" 2 "$( ((kib == 0)) || printf '%s' '1-0.svg\n2-0.svg\nsurvey.jsonl\n')" "$text"
     done
     lumps 10
@@ -524,6 +588,7 @@ cases_of_atlas() {
     shows 'atlas: its page' index.html '<title>Atlas: 1 levels in 1 files</title>' '<li class="sound">' \
         '<a class="map" href="1-0.svg"><img loading="lazy" src="1-0.svg" alt="map of E1M1"></a>' '<h2>E1M1</h2>' base.wad \
         'entry 0, doom' '<b>1</b> linedefs' '<b>2</b> sidedefs' '</html>'
+    cases_of_headed_atlases
     into_new 'atlas: --cells' 0 '' '1-0.svg index.html survey.jsonl' --cells 1 base.wad
     has 'atlas: a picture of one cell' 1-0.svg "$(map 65 'M0 0h1v1h-1z"><title>sector 0:' 1)\n"
     into_new 'atlas: several files and levels' 1 "$(told none.wad "$none")$(told no.wad "$missing")" \
@@ -552,6 +617,37 @@ cases_of_atlas() {
     cases_of_no_page
     cases_of_words_of_atlas
     cases_of_terminals_of_atlas
+}
+
+# The title and the day are told where they are asked for, and the same files give the same bytes.
+cases_of_headed_atlases() {
+    lacks 'atlas: no day unasked' index.html 'class="day"'
+    cp -r atlas before
+    into_new 'atlas: again' 0 '' '1-0.svg index.html survey.jsonl' base.wad
+    diff -r before atlas >output 2>&1
+    printf '%s' $? >status
+    : >error
+    judge 'atlas: .. in the same bytes' 0 '' ''
+    rm -r before
+    into_new 'atlas: --title and --day' 0 '' '1-0.svg index.html survey.jsonl' --title 'Two <games>' --day=2026-11-30 base.wad
+    shows 'atlas: .. on the page, headed' index.html '<title>Two &lt;games&gt;: 1 levels in 1 files</title>' '<h1>Two &lt;games&gt;</h1>' \
+        '<p class="day">2026-11-30</p>' '<ul class="totals">'
+    into_new 'atlas: a fault' 1 '' '1-0.svg index.html survey.jsonl' faulty.wad
+    shows 'atlas: its legend' index.html '<ul class="legend">' \
+        '<li class="fault"><b>F9</b> a seg'"'"'s linedef has no sidedef on the seg'"'"'s side</li>' \
+        '<li class="note"><b>N3</b> a linedef is two-sided, without a back sidedef</li>' '</ul>' '<main>'
+    lacks 'atlas: .. without codes that are not found' index.html '<b>F3</b>'
+    rm -r atlas
+    says 'atlas: all files are refused' 2 '' "$(told no.wad "$missing")$(told none.wad "$none")" atlas --out atlas no.wad none.wad
+    no_folder 'atlas: .. and there is no folder'
+    mkdir atlas
+    atlas_of 'atlas: all files are refused, into a folder' 2 "$(told no.wad "$missing")" '' no.wad
+    rm -r atlas
+    : | timeout 60 "$program" atlas --out atlas --files-from - >output 2>error
+    printf '%s' $? >status
+    ls -A atlas >>output
+    judge 'atlas: no files' 0 'index.html\nsurvey.jsonl\n' ''
+    mistaken 'atlas: --title twice' '--title' atlas --out atlas --title a --title b base.wad
 }
 
 cases_of_words_of_atlas() {
@@ -622,7 +718,7 @@ cases_of_warned_atlases() {
         '<li class="sound">' "$warned" '<ul class="counts">'
     into_new 'atlas: --map --strict' 1 '' '1-0.svg index.html survey.jsonl' --strict --map base.wad
     has 'atlas: its survey, strictly' survey.jsonl "$(<survey.told)\n"
-    shows 'atlas: its warnings, strictly' index.html '<b>0</b> faults' '<b>6</b> warnings' '<li class="sound">' "$warned"
+    shows 'atlas: its warnings, strictly' index.html '<b>0</b> faults' '<b>6</b> warnings' '<li class="faulty">' "$warned"
     into_new 'atlas: warnings of some levels' 2 '' '1-0.svg 3-0.svg index.html survey.jsonl' --map base.wad udmf.wad base.wad
     timeout 60 "$program" survey --map base.wad udmf.wad base.wad >survey.told
     has 'atlas: their survey' survey.jsonl "$(<survey.told)\n"

@@ -15,6 +15,7 @@ from plain.runs import (
     given,
     lens_run,
     look_runs,
+    named_cut_run,
     no_text,
     picture_run,
     point_lines,
@@ -62,7 +63,6 @@ MISTAKEN = (
     "picture --frame 0,0,32768,0 E1M1 a.wad",
     "picture --frame=-32769,0,0,0 E1M1 a.wad",
     "picture --frame 0,0,9 E1M1 a.wad",
-    "picture --map E1M1 a.wad",
     "picture E1M1" + 65 * " a.wad",
     "cut a.wad",
     "cut --entry 0 a.wad a.wad",
@@ -80,7 +80,6 @@ MISTAKEN = (
     "check --ignore F3 a.wad",
     "check --ignore N0 a.wad",
     "check --ignore N13 a.wad",
-    "check --ignore n2 a.wad",
     "check --ignore N02 a.wad",
     "check --ignore ,W7 a.wad",
     "check --ignore N2,,W7 a.wad",
@@ -91,8 +90,31 @@ MISTAKEN = (
     "survey --ignore N2, a.wad",
     "survey --ignore N2,F18,W7 a.wad",
     "demos --ignore N2 a.wad",
-    "picture --ignore N2 E1M1 a.wad",
-    "atlas --out atlas --ignore N2 a.wad",
+    "check --ignore N9-N2 a.wad",
+    "check --ignore N12-W1 a.wad",
+    "check --ignore N2- a.wad",
+    "check --ignore -N2 a.wad",
+    "check --ignore N2-N3-N4 a.wad",
+    "check --ignore F3-F9 a.wad",
+    "check --ignore F18-N2 a.wad",
+    "check --ignore faults a.wad",
+    "check --fail F3 a.wad",
+    "check --fail= a.wad",
+    "check --fail N13 a.wad",
+    "check --fail W9 a.wad",
+    "check --fail game a.wad",
+    "check --fail warnings a.wad",
+    "check --fail N2,w9-w11 a.wad",
+    "check --map --fail W9 --ignore w9 a.wad",
+    "check --fail N2 --ignore N1-N3 a.wad",
+    "check --fail n1-n4 --ignore notes,N4 a.wad",
+    "survey --fail W7 a.wad",
+    "survey --map --fail W12 a.wad",
+    "demos --fail N2 a.wad",
+    "picture --fail N2 E1M1 a.wad",
+    "cut --entry 0 --fail N2 a.wad",
+    "atlas --out atlas --fail game a.wad",
+    "atlas --out atlas --ignore F3 a.wad",
     "check --base a.wad a.wad",
     "check --map --base a.wad",
     "survey --base a.wad a.wad",
@@ -196,7 +218,7 @@ def of_many(random: Random) -> Case:
     path, name = random.choice(PATHS), name_in(random, lumps)
     files: Files = {path: make.file(random, lumps)}
     runs = [lens_run(random, command, [path]) for command in ("check", "survey")]
-    runs += [lens_run(random, "check", [path]), cut_run(random, path, len(lumps))]
+    runs += [lens_run(random, "check", [path]), cut_run(random, path, len(lumps)), named_cut_run(random, path, name)]
     runs += [Run("wadlook", [command, path]) for command in ("lumps", "levels")]
     runs.append(Run("wadlook", ["audit", name, path]))
     runs.append(picture_run(random, draft, name, [path], files))
@@ -229,7 +251,7 @@ def of_set(random: Random) -> Case:
     runs += random.sample(look_runs(random, draft, name, paths), 4)
     commands = ("check", "survey", "demos")
     runs += [lens_run(random, command, paths) for command in commands]
-    runs.append(cut_run(random, random.choice(paths), 12))
+    runs += [cut_run(random, random.choice(paths), 12), named_cut_run(random, random.choice(paths), name)]
     runs += [picture_run(random, draft, name, paths, files) for _ in "ab"]
     return Case(files, [*runs, atlas_run(random, paths, files)])
 

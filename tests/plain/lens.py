@@ -8,7 +8,7 @@ from plain import demos
 from plain.levels import Level, LineDef, Seg
 from plain.look import Answer
 from plain.picture import CELLS, Frame
-from plain.warnings import Warned, unlooked, warnings
+from plain.warnings import REFERENCES, WANT_SOUND, Warned, lacks_references, unlisted, unlooked, warnings
 from plain.wads import (
     USUAL,
     Entry,
@@ -20,6 +20,7 @@ from plain.wads import (
     packed,
     refusal,
     shown,
+    winner,
 )
 
 FILE_REFUSALS = {
@@ -75,16 +76,19 @@ class Asked(NamedTuple):
     wide: bool = False
     most: int = 20
     json: bool = False
-    entry: int = 0
+    entry: int | None = 0
     map: bool = False
     strict: bool = False
     ignored: frozenset[str] = frozenset()
+    failing: frozenset[str] = frozenset()
     bases: tuple[str, ...] = ()
     lost: str = ""
     name: str = ""
     cells: int = CELLS
     frame: Frame | None = None
     folder: str = ""
+    title: str = "Atlas"
+    day: str = ""
 
 
 class Run:
@@ -97,13 +101,17 @@ class Run:
         self.data = b""
         self.verdict = CLEAN
         self.levels = self.faults = self.notes = self.warnings = self.unjudged = 0
+        self.partly = 0
         self.unlooked: set[str] = set()
+        self.is_refused = False
+        self.unlisted: set[str] = set()
 
     def finds(self, verdict: int) -> None:
         self.verdict = graver(self.verdict, verdict)
 
     def refuses(self, path: str, why: str, verdict: int = UNJUDGED) -> None:
         self.errors.append(f"wadlens: {shown_path(path)}: {why}")
+        self.is_refused = True
         self.finds(verdict)
 
     def answer(self) -> Answer:
@@ -232,7 +240,6 @@ def wanted(what: str, count: int, noun: str, want: int) -> str:
 
 
 PLAIN_WORDS = {
-    "F13": "named more than once, or the root and named",
     "F14": "not reached from the root",
     "F15": "named more than once",
     "F16": "not reached from the root",
@@ -266,10 +273,13 @@ def message(level: Level, code: str, i: int) -> str:
             return child_words(level, i)
         case "F12":
             return outside("origin " + spot(level.nodes[i].x, level.nodes[i].y))
+        case "F13":
+            is_root = i == len(level.nodes) - 1
+            return "the root, and named" if is_root else "named more than once"
         case "F18":
             return f"{len(level.nodes)} nodes, 32767 are the most"
         case "N2":
-            return f"{level.rests[i - 1]} bytes left over"
+            return f"{shown(USUAL[i - 1])} has {level.rests[i - 1]} bytes left over"
         case "N8":
             return wanted("REJECT", len(level.reject), "bytes", level.wanted_reject)
         case "N9":
@@ -333,6 +343,8 @@ def index_words(level: Level, code: str, i: int) -> str:
 # ---- check ---------------------------------------------------------------------------
 
 TOLD = re.compile(r"([FNW]\d+) (\w+)(?: (\d+)| \((\d+), (\d+)\))?: (.*)")
+ORDER = re.compile(r"lumps in another order: (\w+) before (\w+)")
+UNBUILT = re.compile(r"; build the nodes$")
 LEFT_OUT = re.compile(r"([FNW]\d+): (\d+) more")
 BETWEEN = re.compile(r", from \((-?\d+), (-?\d+)\) to \((-?\d+), (-?\d+)\)$")
 AT = re.compile(r", at \((-?\d+), (-?\d+)\)$")
@@ -353,6 +365,10 @@ def placed(text: str) -> tuple[str, dict[str, object]]:
 
 def as_members(line: str) -> dict[str, object]:
     """What a line says behind the level's label, as members of an object."""
+    if found := ORDER.fullmatch(line):
+        return {"order": [found[1], found[2]]}
+    if UNBUILT.search(line):
+        return {"empty": re.findall(r"SEGS|SSECTORS|NODES", line), "message": line}
     if found := LEFT_OUT.fullmatch(line):
         return {"code": found[1], "more": int(found[2])}
     if found := TOLD.fullmatch(line):
@@ -394,6 +410,45 @@ def check_warned(run: Run, front: Front, warned: dict[str, list[Warned]], most: 
             front.tell(run, f"{code}: {len(all_told) - shown_count} more")
 
 
+def check_unlooked(run: Run, front: Front, level: Level, codes: list[str]) -> None:
+    """Which warnings weren't looked for, and for which faults. What no file lists is told apart."""
+    without_references = lacks_references(level)
+    told = codes if without_references else [code for code in codes if code in WANT_SOUND and level.faults]
+    if not told:
+        return
+    if front.json:
+        members: dict[str, object] = {"file": front.path, "level": front.name, "entry": front.entry}
+        run.out.append(written(members | {"unlooked": codes}))
+        return
+    causes = [code for code in level.findings if code[0] == "F" and (code in REFERENCES or not without_references)]
+    named = "" if without_references else " " + ", ".join(told)
+    front.tell(run, f"warnings{named} not looked for: {', '.join(causes)}")
+
+
+def order_words(listed: list[Entry], g: int, form: Format) -> str:
+    """That a level without a lump in its place has all ten; nothing where it hasn't."""
+    behind = [entry.name for entry in listed[g + 1 : g + 11]]
+    if form.name != "incomplete" or sorted(behind) != sorted(USUAL):
+        return ""
+    first, second = next((there, usual) for there, usual in zip(behind, USUAL) if there != usual)
+    return f"lumps in another order: {shown(first)} before {shown(second)}"
+
+
+def unbuilt_words(level: Level) -> str:
+    """That a level with linedefs lacks what a node builder makes; nothing where it doesn't."""
+    wanted = {"SEGS": level.segs, "SSECTORS": level.ssectors, "NODES": level.nodes}
+    empty = [name for name, table in wanted.items() if not table]
+    # A single ssector needs no nodes.
+    if len(level.ssectors) == 1 and "NODES" in empty:
+        empty.remove("NODES")
+    if not level.linedefs or not empty:
+        return ""
+    told = f"{', '.join(empty[:-1])} and {empty[-1]} are empty" if empty[1:] else f"{empty[0]} is empty"
+    if not level.nodes and level.ssectors[1:]:
+        told += f": {len(level.ssectors) - 1} ssectors can't be reached"
+    return f"{told}; build the nodes"
+
+
 def check_level(run: Run, front: Front, level: Level, found: dict[str, list[int]], most: int) -> None:
     """What is told of a judged level's findings."""
     for code, where in found.items():
@@ -406,12 +461,13 @@ def check_level(run: Run, front: Front, level: Level, found: dict[str, list[int]
 
 
 class Judged(NamedTuple):
-    """What of a level isn't ignored: where each code holds, its warnings, and the codes of those
-    that weren't looked for."""
+    """What of a level isn't ignored: where each code holds, its warnings, the codes of those
+    that weren't looked for, and which of them as no file lists the names."""
 
     findings: dict[str, list[int]]
     warned: dict[str, list[Warned]]
     unlooked: list[str]
+    unlisted: list[str]
 
     @property
     def notes(self) -> int:
@@ -423,9 +479,16 @@ def judged(asked: Asked, level: Level, listed: list[Entry]) -> Judged:
     textures and flats."""
     findings = {code: where for code, where in level.findings.items() if code not in asked.ignored}
     if not asked.map:
-        return Judged(findings, {}, [])
+        return Judged(findings, {}, [], [])
     warned = {code: told for code, told in warnings(level, listed).items() if code not in asked.ignored}
-    return Judged(findings, warned, [code for code in unlooked(listed) if code not in asked.ignored])
+    kept = [[code for code in codes if code not in asked.ignored] for codes in (unlooked(level, listed), unlisted(listed))]
+    return Judged(findings, warned, *kept)
+
+
+def fails(asked: Asked, found: Judged) -> bool:
+    """Whether something that is told is as grave as a fault."""
+    told = [code for part in (found.findings, found.warned) for code, where in part.items() if where]
+    return any(code in asked.failing or asked.strict and code[0] == "W" for code in told)
 
 
 def judge(run: Run, asked: Asked, level: Level, listed: list[Entry]) -> Judged:
@@ -435,8 +498,10 @@ def judge(run: Run, asked: Asked, level: Level, listed: list[Entry]) -> Judged:
     run.faults += level.faults
     run.notes += found.notes
     run.warnings += warned
+    run.partly += bool(found.unlooked)
     run.unlooked |= {*found.unlooked}
-    run.finds(FAULTY if level.faults or asked.strict and warned else CLEAN)
+    run.unlisted |= {*found.unlisted}
+    run.finds(FAULTY if level.faults or fails(asked, found) else CLEAN)
     return found
 
 
@@ -453,20 +518,25 @@ def check_file(run: Run, asked: Asked, path: str, listed: list[Entry]) -> None:
                 run.out.append(written(level_front(path, name, g, form)))
             else:
                 front.tell(run, form.words)
+            if told := order_words(listed, g, form):
+                front.tell(run, told)
             run.unjudged += 1
             run.finds(form.verdict)
             continue
         level = Level(listed, g, asked.wide)
         found = judge(run, asked, level, listed)
+        if told := unbuilt_words(level):
+            front.tell(run, told)
         check_level(run, front, level, found.findings, asked.most)
         check_warned(run, front, found.warned, asked.most)
+        check_unlooked(run, front, level, found.unlooked)
         if level.faults and not Level(listed, g, True).faults:
             front.tell(run, "sound with --wide")
 
 
-def unlooked_codes(run: Run) -> list[str]:
-    """The codes for which one level at least wasn't looked at, in their order."""
-    return [code for code in WANTS if code in run.unlooked]
+def unlisted_codes(run: Run) -> list[str]:
+    """The codes for which one level at least wasn't looked at, as no file lists the names."""
+    return [code for code in WANTS if code in run.unlisted]
 
 
 def unlooked_note(codes: list[str]) -> str:
@@ -484,11 +554,12 @@ def totals(run: Run, asked: Asked, files: int) -> str:
         members |= {"faults": run.faults, "notes": run.notes}
         members |= {"warnings": run.warnings} if asked.map else {}
         members |= {"not_judged": run.unjudged}
-        codes = unlooked_codes(run)
-        return written(members | ({"unlooked": codes} if codes else {}))
+        codes = sorted(run.unlooked, key=lambda code: int(code[1:]))
+        return written(members | ({"unlooked_levels": run.partly, "unlooked": codes} if codes else {}))
     found = f"{run.faults} faults, {run.notes} notes, "
     found += f"{run.warnings} warnings, " if asked.map else ""
     found += f"{run.unjudged} not judged"
+    found += f", {run.partly} with warnings not looked for" if run.partly else ""
     return f"{run.levels} levels in {files} files: {found}"
 
 
@@ -574,7 +645,10 @@ def belonging(listed: list[Entry], g: int, form: Format) -> int | None:
 
 
 def cut(run: Run, asked: Asked, path: str, listed: list[Entry]) -> None:
-    g = asked.entry
+    g = asked.entry if asked.entry is not None else winner(listed, asked.name.encode())
+    if g is None:
+        run.refuses(f"{path}: {asked.name}", "no level of this name")
+        return
     if not is_start(listed, g):
         run.refuses(path, f"no level starts at entry {g}")
         return
@@ -733,5 +807,5 @@ def run(asked: Asked, held: Files) -> Answer:
             TELLS[asked.command](told, asked, path, entries(file))
     if asked.command == "check":
         told.out.append(totals(told, asked, len(asked.paths)))
-        told.errors += [unlooked_line(codes)] if (codes := unlooked_codes(told)) else []
+        told.errors += [unlooked_line(codes)] if (codes := unlisted_codes(told)) else []
     return told.answer()

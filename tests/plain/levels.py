@@ -283,10 +283,6 @@ class Level:
     def faults(self) -> int:
         return sum(len(where) for code, where in self.findings.items() if code[0] == "F")
 
-    @property
-    def notes_found(self) -> int:
-        return sum(len(where) for code, where in self.findings.items() if code[0] == "N")
-
     def link_faults(self) -> dict[str, list[int]]:
         linedefs = list(enumerate(self.linedefs))
         segs = list(enumerate(self.segs))

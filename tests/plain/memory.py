@@ -70,12 +70,13 @@ def lens_words(asked: lens.Asked) -> list[str]:
 
 def of_lens(asked: lens.Asked, held: Files) -> Iterator[Asked]:
     """What is asked of those of its files that have bytes, the listed ones among them, over
-    those of its base files. The page asks for no check in objects and ignores no code."""
+    those of its base files. The page asks for no check in objects, ignores no code, and has no
+    code but warnings fail."""
     if asked.command == "check" and asked.json:
         return
     there, bases = ([path for path in paths if bytes_under(path, held) is not None] for paths in (asked.paths, asked.bases))
     if there and not asked.lost:
-        asked = asked._replace(paths=there, ignored=frozenset(), bases=tuple(bases))
+        asked = asked._replace(paths=there, ignored=frozenset(), failing=frozenset(), bases=tuple(bases))
         files = [held[path] or b"" for path in (*bases, *there)]
         yield Asked(lens_words(asked), files, b"", wadlens.run(asked, held, b""))
 
@@ -149,7 +150,7 @@ def asked_of(run: Run, held: Files) -> Iterator[Asked]:
         yield from of_look(run, held)
     elif run.asked is None:
         yield from of_mistaken(run, held)
-    elif run.asked.command in LENS_COMMANDS:
+    elif run.asked.command in LENS_COMMANDS and run.asked.entry is not None:
         yield from of_lens(run.asked, held)
     elif run.asked.command == "picture":
         yield from of_picture(run.asked, held)

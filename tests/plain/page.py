@@ -4,19 +4,65 @@ with what they show and lead to. How it is laid out isn't compared."""
 from html.parser import HTMLParser
 from typing import NamedTuple
 
-from plain.lens import CLEAN, FAULTY, UNJUDGED, WANTS, Format, shown_path, unlooked_note
+from plain.lens import CLEAN, FAULTY, UNJUDGED, WANTS, Asked, Format, shown_path, unlooked_note
 from plain.levels import Level
 from plain.wads import USUAL
 
 LAYOUT = "html head meta body header main ul ol div p span h1 b style".split()
 HARMLESS = ("class", "lang", "charset", "name", "content")
 FETCHING = ("url(", "@import", "image-set(")
+MEANINGS = {
+    "F1": "a lump isn't there behind the label",
+    "F2": "a lump isn't inside its file",
+    "F3": "a linedef's vertex isn't there",
+    "F4": "a linedef's sidedef isn't there",
+    "F5": "a sidedef's sector isn't there",
+    "F6": "a seg's vertex isn't there",
+    "F7": "a seg's linedef isn't there",
+    "F8": "a seg's side is neither 0 nor 1",
+    "F9": "a seg's linedef has no sidedef on the seg's side",
+    "F10": "an ssector's segs aren't all there",
+    "F11": "a node's child isn't there",
+    "F12": "a node's origin is outside -16384 to 16383",
+    "F13": "a node is named more than once, or is the root and named",
+    "F14": "a node isn't reached from the root",
+    "F15": "an ssector is named more than once",
+    "F16": "an ssector isn't reached from the root",
+    "F17": "the level has no ssector",
+    "F18": "the level has more than 32767 nodes",
+    "N1": "a lump's name isn't the usual one",
+    "N2": "a lump has bytes left over",
+    "N3": "a linedef is two-sided, without a back sidedef",
+    "N4": "a linedef is without a front sidedef",
+    "N5": "a linedef is without length",
+    "N6": "an ssector is without segs",
+    "N7": "a node is without direction",
+    "N8": "REJECT hasn't as many bytes as are wanted",
+    "N9": "BLOCKMAP hasn't as many words as are wanted",
+    "N10": "a block's list isn't inside BLOCKMAP, or has no end",
+    "N11": "the level has no player 1 start",
+    "N12": "a vertex is outside -16384 to 16383",
+    "W1": "a sector isn't closed: its outline has a gap or an extra line",
+    "W2": "a texture that is seen is missing",
+    "W3": "a thing stands in the void",
+    "W4": "a linedef's special goes by a tag that no sector has",
+    "W5": "the segs of an ssector face several sectors",
+    "W6": "a linedef lies on another",
+    "W7": "a start of players 2 to 4 is missing",
+    "W8": "the level has fewer than 4 deathmatch starts",
+    "W9": "a texture isn't there: neither TEXTURE1 nor TEXTURE2 lists it",
+    "W10": "a flat isn't there: no entry has its name",
+    "W11": "a thing's type is none of the game's",
+}
+"""What the legend says of each code."""
 MARKS = {CLEAN: "sound", UNJUDGED: "unread", FAULTY: "faulty"}
 
 
 class Row(NamedTuple):
-    """A level, its picture's name where it has one, and where it is judged what it holds,
-    and if warnings are asked for how many of each code it has, and which weren't looked for."""
+    """A level, its picture's name where it has one, and where it is judged what it holds and
+    what isn't ignored of it, and if warnings are asked for how many of each code it has, and
+    which weren't
+    looked for, as no file lists the names."""
 
     path: str
     entry: int
@@ -24,14 +70,16 @@ class Row(NamedTuple):
     form: Format
     picture: str = ""
     level: Level | None = None
+    findings: dict[str, list[int]] | None = None
+    fails: bool = False
     warned: dict[str, int] | None = None
-    unlooked: tuple[str, ...] = ()
+    unlisted: tuple[str, ...] = ()
 
     @property
     def verdict(self) -> int:
         if self.level is None:
             return self.form.verdict
-        return FAULTY if self.level.faults else CLEAN
+        return FAULTY if self.level.faults or self.fails else CLEAN
 
 
 # ---- A page as its events ------------------------------------------------------------
@@ -97,6 +145,10 @@ def number(count: int, what: str) -> list[str]:
     return [tag("li"), text(str(count)), text(what)]
 
 
+def notes_in(findings: dict[str, list[int]]) -> int:
+    return sum(len(where) for code, where in findings.items() if code[0] == "N")
+
+
 def total_events(rows: list[Row], files: int, mapped: bool) -> list[str]:
     judged = [row.level for row in rows if row.level is not None]
     warned = sum(sum(row.warned.values()) for row in rows if row.warned)
@@ -104,17 +156,17 @@ def total_events(rows: list[Row], files: int, mapped: bool) -> list[str]:
         *number(len(rows), "levels"),
         *number(files, "files"),
         *number(sum(level.faults for level in judged), "faults"),
-        *number(sum(level.notes_found for level in judged), "notes"),
+        *number(sum(notes_in(row.findings or {}) for row in rows), "notes"),
         *(number(warned, "warnings") if mapped else []),
         *number(len(rows) - len(judged), "not judged"),
     ]
 
 
-def level_events(level: Level, warned: dict[str, int]) -> list[str]:
+def level_events(level: Level, findings: dict[str, list[int]], warned: dict[str, int]) -> list[str]:
     """The codes that hold, with how often, those of warnings behind them, and how many
     records there are."""
     events = [] if level.faults else [tag("li", **{"class": "sound"}), text("sound")]
-    for code, where in level.findings.items():
+    for code, where in findings.items():
         kind = "fault" if code[0] == "F" else "note"
         events += [tag("li", **{"class": kind}), text(f"{code} × {len(where)}")]
     for code, count in warned.items():
@@ -136,17 +188,33 @@ def row_events(row: Row) -> list[str]:
     events += [text(shown_path(row.path)), text(f"entry {row.entry}, {row.form.name}")]
     if row.level is None:
         return [*events, text(row.form.words)]
-    return [*events, *level_events(row.level, row.warned or {})]
+    return [*events, *level_events(row.level, row.findings or {}, row.warned or {})]
 
 
-def wanted(rows: list[Row], refused: list[tuple[str, str]], files: int, mapped: bool) -> bytes:
-    """The events of the page of so many files, with warnings if these are asked for: those
-    with a fault first."""
-    title = f"Atlas: {len(rows)} levels in {files} files"
-    events = [tag("title"), text(title), text("Atlas")]
-    events += total_events(rows, files, mapped)
-    if codes := [code for code in WANTS if any(code in row.unlooked for row in rows)]:
+def is_found(code: str, row: Row) -> bool:
+    return code in (row.findings or {}) or code in (row.warned or {})
+
+
+def legend_events(rows: list[Row]) -> list[str]:
+    """What each code means that is found at some level."""
+    events = []
+    for code, meaning in MEANINGS.items():
+        if any(is_found(code, row) for row in rows):
+            kind = {"F": "fault", "N": "note", "W": "warning"}[code[0]]
+            events += [tag("li", **{"class": kind}), text(code), text(meaning)]
+    return events
+
+
+def wanted(asked: Asked, rows: list[Row], refused: list[tuple[str, str]]) -> bytes:
+    """The events of the page that is asked for, with these rows and refused files: those with a
+    fault first."""
+    title = shown_path(asked.title)
+    events = [tag("title"), text(f"{title}: {len(rows)} levels in {len(asked.paths)} files")]
+    events += [text(shown) for shown in (title, shown_path(asked.day)) if shown]
+    events += total_events(rows, len(asked.paths), asked.map)
+    if codes := [code for code in WANTS if any(code in row.unlisted for row in rows)]:
         events.append(text(unlooked_note(codes)))
+    events += legend_events(rows)
     for path, why in refused:
         events += [tag("li"), text(shown_path(path)), text(why)]
     for faulty in (True, False):

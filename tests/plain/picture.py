@@ -1,15 +1,19 @@
 """Pictures of levels, read plainly: Frame, Grid, Blocks and Groups of `map_cells`, and
 Picture, Window, Grey, Lines and Escape of `map_picture` in docs/DEFINITIONS.md."""
 
+import re
 from itertools import count, groupby, takewhile
 from typing import NamedTuple
 
 from plain.levels import Level, LineDef, Sector, Seg, Thing
 from plain.look import TEXTS, audit_text
 from plain.wads import shown
+from plain.warnings import Warned
 
 MARGIN = 32
 CELLS = 512
+LONGEST = 1024
+"""How many pixels the longer side of a picture has by itself."""
 STYLE = (
     "path{vector-effect:non-scaling-stroke}"
     ".s{shape-rendering:crispEdges}"
@@ -17,11 +21,34 @@ STYLE = (
     ".w{fill:none;stroke:#eee;stroke-width:1.5}"
     ".t{fill:none;stroke:#778;stroke-width:.7}"
     ".f{fill:none;stroke:#f33;stroke-width:4}"
-    ".p{fill:#5cf}"
+    ".a{fill:none;stroke:#fb3;stroke-width:3}"
+    ".p{vector-effect:none;stroke:#14161a;stroke-width:5;paint-order:stroke}"
+    ".start{fill:#6f6}"
+    ".monster{fill:#f7b}"
+    ".weapon{fill:#5cf}"
+    ".key{fill:#ff5}"
+    ".other{fill:#cba}"
     ".p:hover{fill:#fff}"
 )
 MARKED_LINEDEFS = ("F4", "N3", "N4", "N5")
 MARKED_SEGS = ("F7", "F8", "F9")
+MARKED_WARNINGS = {
+    "W1": "sector not closed",
+    "W2": "wall without texture",
+    "W3": "thing in the void",
+    "W6": "linedef on another",
+    "W11": "thing of no known type",
+}
+MOST_MARKS = 1000
+RING = "m-24 0a24 24 0 1 0 48 0a24 24 0 1 0-48 0"
+DART = "M20 0L-12 14v-28z"
+CLASSES = {
+    "start": {1, 2, 3, 4, 11},
+    "monster": {7, 9, 16, 58, 64, 65, 66, 67, 68, 69, 71, 72, 84, 3001, 3002, 3003, 3004, 3005, 3006},
+    "weapon": {82, 2001, 2002, 2003, 2004, 2005, 2006},
+    "key": {5, 6, 13, 38, 39, 40},
+}
+"""Kinds of things by what they are; each other kind is of the class `other`."""
 
 
 class Frame(NamedTuple):
@@ -168,12 +195,23 @@ def line_lines(level: Level) -> list[str]:
     ]
 
 
+def ring(level: Level, linedef: LineDef) -> str:
+    """A ring at the only end that is there; nothing where both are there, or none."""
+    start, end = level.vertex(linedef.v1), level.vertex(linedef.v2)
+    if (start is None) == (end is None):
+        return ""
+    lone = start or end
+    return f"M{lone.x} {lone.y}{RING}" if lone else ""
+
+
 def mark_lines(level: Level) -> list[str]:
     """The linedefs and segs with findings, in the order of the report."""
     lines = []
     for code, where in level.findings.items():
         for i in where:
             way = ""
+            if code == "F3":
+                way = ring(level, level.linedefs[i])
             if code in MARKED_LINEDEFS:
                 way = path(level, level.linedefs[i])
             if code in MARKED_SEGS:
@@ -184,26 +222,42 @@ def mark_lines(level: Level) -> list[str]:
     return lines
 
 
+def warning_line(code: str, told: Warned) -> str:
+    """A line from place to place, or a ring at the only place."""
+    x, y, *end = re.findall(r"-?\d+", told.place)
+    way = f"M{x} {y}L{end[0]} {end[1]}" if end else f"M{x} {y}{RING}"
+    title = f"{code} {told.index.split(' ')[1]} {MARKED_WARNINGS[code]}"
+    return f'<path class="a" d="{way}"><title>{title}</title></path>'
+
+
+def warning_lines(warned: dict[str, list[Warned]]) -> list[str]:
+    """The first warnings of each code that is marked."""
+    return [warning_line(code, told) for code in MARKED_WARNINGS for told in warned.get(code, [])[:MOST_MARKS]]
+
+
 def thing_line(index: int, thing: Thing) -> str:
     title = f"thing {index}: type {thing.kind}, angle {thing.angle}"
     title += f", flags {thing.options}"
-    place = f'cx="{thing.x}" cy="{thing.y}" r="12"'
-    return f'<circle class="p" {place}><title>{title}</title></circle>'
+    name = next((name for name, kinds in CLASSES.items() if thing.kind in kinds), "other")
+    turn = 45 * int(thing.angle / 45)
+    place = f'transform="translate({thing.x} {thing.y})rotate({turn})" d="{DART}"'
+    return f'<path class="p {name}" {place}><title>{title}</title></path>'
 
 
-def picture(level: Level, cells: int, frame: Frame | None) -> list[str] | None:
-    """The lines of a picture, in the frame that is asked for or the level's own; nothing
-    where it has none."""
+def picture(level: Level, cells: int, frame: Frame | None, warned: dict[str, list[Warned]] | None = None) -> list[str] | None:
+    """The lines of a picture with these warnings, in the frame that is asked for or the level's
+    own; nothing where it has none."""
     frame = frame or frame_of(level)
     if frame is None:
         return None
     size = cell_size(frame, cells)
     left, top, width, height = view(frame)
+    across, down = (-(-side * LONGEST // max(width, height)) for side in (width, height))
     label, found = escaped(shown(level.names[0])), audit_text(level.findings)[-1]
     ground = f'x="{left}" y="{top}" width="{width}" height="{height}"'
     matrix = f"matrix({size} 0 0 {-size} {frame.x0} {-frame.y0})"
     return [
-        '<svg xmlns="http://www.w3.org/2000/svg"' f' viewBox="{left} {top} {width} {height}">',
+        f'<svg xmlns="http://www.w3.org/2000/svg" viewBox="{left} {top} {width} {height}" width="{across}" height="{down}">',
         f"<title>{label}: {found}</title>",
         f"<style>{STYLE}</style>",
         f'<rect {ground} fill="#14161a"/>',
@@ -212,6 +266,7 @@ def picture(level: Level, cells: int, frame: Frame | None) -> list[str] | None:
         '</g><g transform="matrix(1 0 0 -1 0 0)">',
         *line_lines(level),
         *mark_lines(level),
+        *warning_lines(warned or {}),
         *(thing_line(i, thing) for i, thing in enumerate(level.things)),
         "</g></svg>",
     ]

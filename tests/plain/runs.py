@@ -12,7 +12,13 @@ CELLS = 40
 CELL_COUNTS = (1, 2, 7, 16, 32, CELLS)
 MISSING = "missing.wad"
 CODES = [*(f"N{n}" for n in range(1, 13)), *(f"W{n}" for n in range(1, 12))]
-"""The codes that can be ignored."""
+"""The codes that can be ignored, or be as grave as a fault."""
+GROUPS = {
+    "game": ["N4", "N11", "W9", "W10", "W11"],
+    "notes": [code for code in CODES if code[0] == "N"],
+    "warnings": [code for code in CODES if code[0] == "W"],
+}
+"""The names for many codes."""
 MOST_BASES = 63
 FOLDERS = {
     "atlas": [],
@@ -131,11 +137,50 @@ def value_words(random: Random, option: str, value: int | str) -> list[str]:
     return random.choice(([option, str(value)], [f"{option}={value}"]))
 
 
-def ignored_codes(random: Random) -> tuple[list[str], frozenset[str]]:
-    """Options that ignore codes, one code in several of them at times, and these codes."""
-    told = [random.choices(CODES, k=random.choice((1, 2, 4, 12))) for _ in range(random.choice((1, 1, 2, 3)))]
-    words = [word for codes in told for word in value_words(random, "--ignore", ",".join(codes))]
-    return words, frozenset(code for codes in told for code in codes)
+class CodeWords(NamedTuple):
+    """Options that name codes, the codes, and those of them that the words write out."""
+
+    words: list[str]
+    codes: frozenset[str] = frozenset()
+    written: frozenset[str] = frozenset()
+
+
+def code_word(random: Random, allowed: list[str]) -> tuple[str, list[str], bool]:
+    """A word for some of these codes, the codes, and whether it writes them out."""
+    groups = [name for name, codes in GROUPS.items() if {*codes} <= {*allowed}]
+    first = random.choice(allowed)
+    following = [code for code in CODES[CODES.index(first) :] if code[0] == first[0]]
+    span = following[: random.randrange(len(following)) + 1]
+    chance = random.random()
+    if groups and chance < 0.2:
+        word = random.choice(groups)
+        codes = GROUPS[word]
+    elif chance < 0.4:
+        word, codes = f"{first}-{span[-1]}", span
+    else:
+        word, codes = first, [first]
+    return random.choice((word, word, word.lower(), word.upper())), codes, word not in GROUPS
+
+
+def code_words(random: Random, option: str, allowed: list[str]) -> CodeWords:
+    """Options that name some of these codes, one code in several of them at times."""
+    lists = [[code_word(random, allowed) for _ in range(random.choice((1, 2, 4, 12)))] for _ in range(random.choice((1, 1, 2, 3)))]
+    told = [one for words in lists for one in words]
+    return CodeWords(
+        [word for words in lists for word in value_words(random, option, ",".join(name for name, _, _ in words))],
+        frozenset(code for _, codes, _ in told for code in codes),
+        frozenset(code for _, codes, is_written in told for code in codes if is_written),
+    )
+
+
+def code_options(random: Random, with_map: bool) -> tuple[CodeWords, CodeWords]:
+    """Options that ignore codes, and such as have codes fail: no code is written out in both."""
+    none = CodeWords([])
+    ignored = code_words(random, "--ignore", CODES) if random.random() < 0.3 else none
+    if random.random() < 0.6:
+        return ignored, none
+    failing = code_words(random, "--fail", CODES if with_map else GROUPS["notes"])
+    return ignored, none if failing.written & ignored.written else failing
 
 
 def base_files(random: Random, paths: list[str]) -> tuple[list[str], tuple[str, ...]]:
@@ -161,9 +206,10 @@ def flags(random: Random, command: str, mapped: bool, bases: list[str]) -> tuple
     random.shuffle(options)
     if command == "check" and (most != 20 or random.random() < 0.3):
         options += value_words(random, "--max", most)
-    if command in ("check", "survey") and random.random() < 0.3:
-        words, ignored = ignored_codes(random)
-        options, asked = options + words, asked._replace(ignored=ignored)
+    if judges:
+        ignored, failing = code_options(random, with_map)
+        options += random.choice((ignored.words + failing.words, failing.words + ignored.words))
+        asked = asked._replace(ignored=ignored.codes, failing=failing.codes)
     if with_map and bases and random.random() < 0.5:
         words, named = base_files(random, bases)
         options, asked = words + options, asked._replace(bases=named)
@@ -219,6 +265,11 @@ def cut_run(random: Random, path: str, count: int) -> Run:
     return Run("wadlens", words, b"", lens.Asked("cut", [path], entry=g))
 
 
+def named_cut_run(random: Random, path: str, name: str) -> Run:
+    words = ["cut", *mixed(random, [path], value_words(random, "--level", name))]
+    return Run("wadlens", words, b"", lens.Asked("cut", [path], entry=None, name=name))
+
+
 # ---- Pictures ------------------------------------------------------------------------
 
 
@@ -267,8 +318,12 @@ def picture_run(random: Random, draft: make.Draft, name: str, paths: list[str], 
     if frame is not None:
         told = ",".join(str(bound) for bound in frame)
         options += random.choice((["--frame", told], [f"--frame={told}"]))
+    mapped = random.random() < 0.5
+    options += ["--map"] if mapped else []
+    ignored = code_words(random, "--ignore", CODES) if random.random() < 0.3 else CodeWords([])
+    options += ignored.words
     words = ["picture", *mixed(random, [name, *paths], options)]
-    asked = lens.Asked("picture", paths, wide, name=name, frame=frame)
+    asked = lens.Asked("picture", paths, wide, name=name, frame=frame, map=mapped, ignored=ignored.codes)
     return Run("wadlens", words, b"", asked._replace(cells=cells or picture.CELLS))
 
 
@@ -282,10 +337,14 @@ def atlas_run(random: Random, paths: list[str], files: Files) -> Run:
     more = random.choice((["--out", folder], [f"--out={folder}"]))
     if cells is not None:
         more += value_words(random, "--cells", cells)
+    title = random.choice(("Atlas", "Atlas", "Two <games> & more", "a\x1bb"))
+    day = random.choice(("", "", "2026-11-30", "<today>"))
+    more += value_words(random, "--title", title) if title != "Atlas" else []
+    more += value_words(random, "--day", day) if day else []
     run = lens_run(random, "atlas", paths, tuple(more))
     assert run.asked is not None
     cells = cells or picture.CELLS
-    return run._replace(asked=run.asked._replace(folder=folder, cells=cells))
+    return run._replace(asked=run.asked._replace(folder=folder, cells=cells, title=title, day=day))
 
 
 # ---- Demos ---------------------------------------------------------------------------

@@ -20,6 +20,9 @@ NO_TEXT = Answer(
 """What words give of which one isn't UTF-8."""
 
 
+NAME_FIRST = "wadlens: the level's name comes before its files: wadlens picture NAME FILE..."
+
+
 # ---- picture -------------------------------------------------------------------------
 
 
@@ -45,6 +48,7 @@ def format_at(listed: list[Entry], g: int) -> Format:
 
 
 def draw(run: Run, asked: Asked, listed: list[Entry]) -> None:
+    """The level that wins the name, or why not."""
     g = winner(listed, asked.name.encode())
     if g is None:
         run.refuses(asked.name, "no level of this name")
@@ -52,9 +56,10 @@ def draw(run: Run, asked: Asked, listed: list[Entry]) -> None:
     form = format_at(listed, g)
     if form.name != "doom":
         run.refuses(asked.name, form.words, form.verdict)
+        run.is_refused = False
         return
     level = Level(listed, g, asked.wide)
-    drawn = picture(level, asked.cells, asked.frame)
+    drawn = picture(level, asked.cells, asked.frame, lens.judged(asked, level, listed).warned)
     if drawn is None:
         run.refuses(asked.name, "nothing to draw")
         return
@@ -121,8 +126,9 @@ def file_rows(asked: Asked, n: int, base: list[Entry], listed: list[Entry], made
             level = Level(listed, g, asked.wide)
             found = lens.judged(asked, level, base + listed)
             counts = {code: len(all_told) for code, all_told in found.warned.items()}
-            row = row._replace(level=level, warned=counts, unlooked=tuple(found.unlooked))
-            if drawn := picture(level, asked.cells, None):
+            row = row._replace(level=level, findings=found.findings, fails=lens.fails(asked, found))
+            row = row._replace(warned=counts, unlisted=tuple(found.unlisted))
+            if drawn := picture(level, asked.cells, None, found.warned):
                 row = row._replace(picture=f"{n}-{g}.svg")
                 made[row.picture] = lens.lines(drawn)
         rows.append(row)
@@ -140,7 +146,9 @@ def atlas(asked: Asked, held: Files) -> Answer:
             refused.append((path, why))
         else:
             rows += file_rows(asked, n, lens.base_of(asked, held), entries(held[path] or b""), made)
-    made["index.html"] = page.wanted(rows, refused, len(asked.paths), asked.map)
+    if asked.paths and len(refused) == len(asked.paths):
+        return Answer(survey.status, b"", survey.error, contents(asked.folder, held))
+    made["index.html"] = page.wanted(asked, rows, refused)
     return Answer(survey.status, b"", survey.error, made)
 
 
@@ -173,6 +181,8 @@ def run(asked: Asked, held: Files, given: bytes) -> Answer:
             listed = read_set(told, asked, held)
             if listed is not None:
                 draw(told, asked, listed)
+            if asked.name[-4:].lower() == ".wad" and told.is_refused:
+                told.errors.append(NAME_FIRST)
         case "compare":
             compare(told, asked, held)
         case "assemble":

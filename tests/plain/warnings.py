@@ -204,19 +204,32 @@ LOOKED_FOR_IN = {
 }
 
 
-def unlooked(listed: list[Entry]) -> list[str]:
+def unlisted(listed: list[Entry]) -> list[str]:
     """The codes that aren't looked for, as no file has the lump of TEXTURE1, or the entry F_START."""
     there = {"W9": named_lump(listed, b"TEXTURE1") is not None, "W10": winner(listed, b"F_START") is not None}
     return [code for code, is_there in there.items() if not is_there]
 
 
+def lacks_references(level: Level) -> bool:
+    return any(code in level.findings for code in REFERENCES)
+
+
+def unlooked(level: Level, listed: list[Entry]) -> list[str]:
+    """The codes of warnings that aren't looked for at a level, in their order."""
+    codes = [*LOOKED_FOR, *LOOKED_FOR_IN, "W11"]
+    if lacks_references(level):
+        return codes
+    skipped = [*unlisted(listed), *(WANT_SOUND if level.faults else ())]
+    return [code for code in codes if code in skipped]
+
+
 def warnings(level: Level, listed: list[Entry]) -> dict[str, list[Warned]]:
     """The warnings of each code of which there are some, in their order. The entries are those of
     the files in which the game finds textures and flats."""
-    if any(code in level.findings for code in REFERENCES):
+    if lacks_references(level):
         return {}
     found = {code: list(look(level)) for code, look in LOOKED_FOR.items() if not level.faults or code not in WANT_SOUND}
-    skipped = unlooked(listed)
+    skipped = unlisted(listed)
     found |= {code: list(look(level, listed)) for code, look in LOOKED_FOR_IN.items() if code not in skipped}
     found["W11"] = list(unknown_things(level))
     return {code: told for code, told in found.items() if told}

@@ -201,7 +201,7 @@ async function findings() {
   await pick('levels', 'MAP02');
   await drawn('MAP02');
   check('a finding\'s codes', await textOf('#codes'), 'N3 1');
-  check('a finding', await textsOf('#findings .row > span'), ['N3', 'linedef 4', 'Two-sided, without a back sidedef, from (256, 256) to (512, 256)']);
+  check('a finding', await textsOf('#findings .row > span:not(.ask)'), ['N3', 'linedef 4', 'Two-sided, without a back sidedef, from (256, 256) to (512, 256)']);
   const before = await viewOf();
   await browser.press('#findings .row');
   await browser.until("document.querySelector('#map').dataset.view.startsWith('384.000 256.000')", 'the view at the finding');
@@ -319,7 +319,7 @@ async function warnings() {
   check('warnings beside the verdict', await textsOf('#levels .row-state'), ['sound · W2 W3', 'sound']);
   check('how many of them', await textOf('#told'), 'sound, 2 warnings');
   check('their codes', await textOf('#codes'), 'W2 1 · W3 1');
-  check('each in words', await textsOf('#findings .row > span'), ['W2', 'linedef 5', 'No middle texture in front, from (512, 256) to (512, 0)',
+  check('each in words', await textsOf('#findings .row > span:not(.ask)'), ['W2', 'linedef 5', 'No middle texture in front, from (512, 256) to (512, 0)',
     'W3', 'thing 1', 'Stands in the void, at (536, 128)']);
   await drawnAnew();
   check('the legend tells of them', await legend(), ['findings']);

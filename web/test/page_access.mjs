@@ -14,7 +14,7 @@ export async function contrast() {
     const ratio = (a, b) => { const [x, y] = [light(a), light(b)].sort((p, q) => q - p); return (x + 0.05) / (y + 0.05); };
     const texts = ['ink', 'soft'].flatMap((a) => ['ground', 'panel', 'raised'].map((b) => [a, b, 4.5]));
     const more = [['ink', 'wash', 4.5], ['fault', 'panel', 4.5], ['fault', 'wash', 4.5], ['fault', 'fault-wash', 4.5], ['on-accent', 'accent', 4.5], ['soft', 'void', 4.5],
-      ['edge', 'panel', 3], ['edge', 'ground', 3], ['accent', 'panel', 3], ['wall', 'void', 3], ...['accent', 'fault', 'thing', 'ink'].map((mark) => [mark, 'void', 3])];
+      ['edge', 'panel', 3], ['edge', 'ground', 3], ['accent', 'panel', 3], ['wall', 'void', 3], ...['accent', 'fault', 'start', 'monster', 'weapon', 'key', 'other', 'ink'].map((mark) => [mark, 'void', 3])];
     const low = [...texts, ...more].filter(([a, b, least]) => ratio(named(a), named(b)) < least).map(([a, b]) => a + ' on ' + b + ' ' + ratio(named(a), named(b)).toFixed(2));
     for (const sight of ['here', 'clear', 'blocked', 'unknown']) for (const isUnder of [false, true]) for (let k = 0; k <= 20; k++) {
       const found = ratio(inks.wall, cellColour(theme, k / 20, sight, isUnder));
@@ -31,7 +31,8 @@ export async function contrast() {
     await drawnAnew();
     const zoom = (await viewOf())[2];
     check(`a finding's line and its case, ${scheme}`, [await hasInk('fault', 512, 100), await hasInk('void', 512, 100, 1, 4), await hasInk('void', 512, 100, -4, -1)], [true, true, true]);
-    check(`a thing and its case, ${scheme}`, [await hasInk('thing', 64, 64), await hasInk('void', 64, 64, 10 * zoom, 10 * zoom + 3)], [true, true]);
+    check(`a start and its case, ${scheme}`, [await hasInk('start', 64, 64), await hasInk('void', 64, 64, 7 * zoom, 8 * zoom + 3)], [true, true]);
+    check(`a monster that looks east, ${scheme}`, [await hasInk('monster', 548, 128), await hasInk('monster', 524, 128)], [true, false]);
   }
 }
 

@@ -226,7 +226,7 @@ async function outside() {
   await fresh();
   await browser.drop(file);
   await drawn('MAP01');
-  check('what is out of range', await textsOf('#findings .row > span'), ['F12', 'node 0', 'Origin (20000, 0) is outside -16384 to 16383',
+  check('what is out of range', await textsOf('#findings .row > span:not(.ask)'), ['F12', 'node 0', 'Origin (20000, 0) is outside -16384 to 16383',
     'N10', 'block (2, 1)', "Its list isn't inside BLOCKMAP", 'N12', 'vertex 6', '(17000, 300) is outside -16384 to 16383']);
   await browser.press('#findings .row');
   await browser.until("document.querySelector('#map').dataset.view.startsWith('20000.000 0.000')", 'the view at the node');
@@ -313,18 +313,61 @@ async function meanings() {
   await drawn('MAP01');
   await judged();
   const meaning = 'Note N3: a linedef is two-sided, without a back sidedef.';
-  check('a code in words', await browser.run("[...document.querySelectorAll('#findings .code, #codes span')].filter((e) => e.textContent.startsWith('N3')).map((e) => e.title)"), [meaning, meaning]);
+  check('a code in words', await browser.run("[...document.querySelectorAll('#findings .code, #codes button')].filter((e) => e.textContent.startsWith('N3')).map((e) => e.title)"), [meaning, meaning]);
   check('beside a level, too', await browser.run("document.querySelector('#levels .row-state').title.split('\\n')[1]"), meaning);
   const { nodes } = await browser.send('Accessibility.getFullAXTree');
   const described = nodes.find((/** @type {any} */ node) => node.role?.value === 'option' && node.name?.value.includes('N3') && node.description?.value);
   check('and heard', described?.description.value, meaning);
+  await explanations();
+  const unbuilt = (/** @type {Record<string, Buffer>} */ lumps) => { lumps.NODES = Buffer.alloc(0); };
+  await browser.drop(written('unbuilt.wad', wad(rooms('MAP01', { damage: unbuilt }))));
+  await browser.until("document.querySelector('#crumbs').textContent === 'unbuilt.wadMAP01' && document.querySelector('#map').dataset.drawn", 'a level without nodes');
+  check('nodes that were not built are told in front of what is found', (await textsOf('#findings .row > span:not(.ask)')).slice(0, 4),
+    ['–', 'level', "NODES is empty: 1 ssectors can't be reached; build the nodes", 'F16']);
   await browser.drop(written('lost.wad', wad(rooms('MAP01', { damage: oneLost }))));
   await browser.until("document.querySelector('#crumbs').textContent === 'lost.wadMAP01' && document.querySelector('#map').dataset.drawn", 'a level with a fault');
+  check('and what it means is folded in with its level', await isHidden('#explained'), true);
   await pinBy('100 100');
   await pointTold('100 100');
   check('a level with faults answers no point', await textOf('#point-line'), "100 100 can't be answered while the level has faults");
   check('nor what it sees', [await textOf('#point-clear'), await textOf('#point-blocked')], ['unknown', 'unknown']);
   check('and is unpinned by a word', await textOf('#unpin'), 'Unpin');
+}
+
+/** What N3 means, as `wadlens explain` prints it: the line of its name, and the others in one. */
+function wordsOfN3() {
+  const page = readFileSync(join(root, 'docs/CODES.md'), 'utf8'), begins = page.indexOf('N3: ');
+  const [head, ...lines] = page.slice(begins, page.indexOf('\n```', begins)).split('\n');
+  return [head, lines.join(' ')];
+}
+
+/** A question mark in the list, a code above it and a key fold out what a code means. The level has N3. */
+async function explanations() {
+  const folded = async () => [await isHidden('#explained'), await textOf('#explained-title'), (await textsOf('#explained-text p')).join(' ')];
+  const row = "[...document.querySelectorAll('#findings .row')].find((e) => e.querySelector('.code').textContent === 'N3')";
+  const chosen = () => browser.run("document.querySelector('#findings [aria-selected=true] .code')?.textContent ?? ''");
+  const expanded = () => browser.run("[...document.querySelectorAll('#codes [aria-expanded=true]')].map((e) => e.dataset.code)");
+  check('no code is explained unasked', await isHidden('#explained'), true);
+  await browser.run(`${row}.querySelector('.ask').id = 'asked'`);
+  await browser.press('#asked');
+  check('a question mark folds out what its code means', await folded(), [false, ...wordsOfN3()]);
+  check('in three parts', (await textsOf('#explained-text p')).length, 3);
+  check('and chooses no row', await chosen(), '');
+  check('the code above is told as expanded', await expanded(), ['N3']);
+  await browser.press('#asked');
+  check('it folds it in again', [await isHidden('#explained'), await expanded()], [true, []]);
+  await browser.press("#codes button[data-code='N3']");
+  check('so does the code above the list', await folded(), [false, ...wordsOfN3()]);
+  await browser.press('#unexplain');
+  check('and a button folds it in', await isHidden('#explained'), true);
+  check('which gives the keys to the list', await browser.run('document.activeElement.id'), 'findings');
+  await browser.run(`${row}.id`).then((id) => browser.press(`#${id} .row-name`));
+  await browser.run("document.querySelector('#findings').focus()");
+  await browser.key('?');
+  check('and so does a key, of the chosen row', await folded(), [false, ...wordsOfN3()]);
+  const each = await browser.run(`(async () => { const { explanationOf } = await import(new URL('codes.mjs', document.baseURI));
+    return ['F1', 'F18', 'N12', 'W11', 'X1', 'toString'].map((code) => explanationOf(code)?.parts.length ?? 0); })()`);
+  check('each code is explained, and no other word', each, [3, 3, 3, 3, 0, 0]);
 }
 
 /** Whether an element is shown. @param {string} selector */

@@ -6,13 +6,15 @@ use Rattle.level_starts.specs.declared.format.Format.TheVariants.{Incomplete}
 use Rattle.atlas_page.specs.Items.{code_item, number_item}
 use Rattle.lens_texts.specs.ShownPath.{shown_after}
 use Rattle.atlas_page.specs.Text.{path_text}
-use Rattle.atlas_page.specs.Page.{title_line}
+use Rattle.atlas_page.specs.Legend.{legend_part}
+use Rattle.atlas_page.specs.Page.{day_part, title_counts}
 use Rattle.atlas_page.specs.Refused.{refused_part}
 use Rattle.atlas_page.specs.Rows.{faulty_rows, is_faulty, other_rows, picture_name, row_text, totals_of_rows}
-use Rattle.atlas_page.specs.declared.refused.Refused.{Refused}
+use Rattle.atlas_page.specs.declared.refused.RefusedFile.{RefusedFile}
 use Rattle.atlas_page.specs.declared.row.Row.{Row}
 use Rattle.level_codes.specs.Codes.{code_table}
-use Rattle.lens_engines.specs.Unlooked.{none_unlooked}
+use Rattle.level_codes.specs.Sets.{no_codes}
+use Rattle.lens_engines.specs.Unlisted.{none_unlisted}
 use Rattle.lens_engines.specs.declared.judging.Warnings.TheVariants.{Told}
 use Rattle.lens_engines.specs.declared.object.FileRefusal.TheVariants.{TooLarge}
 use Rattle.lens_engines.specs.declared.surveyed.Surveyed.TheVariants as surveyed
@@ -49,7 +51,7 @@ path_with_markup = refl
 
 -- markup in a path and in a name; two faults of one code and seven notes of another
 faulty_row : (row : Row) → row.file ≡ 2 → row.path.now ≡ codes "<a&b>.wad" → row.entry ≡ 15 → row.name ≡ codes "E\"M1"
-    → row.found ≡ surveyed.Judged (record { tables = tables; counts = counts 2 7 0 0; warnings = Told; unlooked = none_unlooked; drawn = true })
+    → row.found ≡ surveyed.Judged (record { tables = tables; counts = counts 2 7 0 0; warnings = Told; fails = false; unlooked = no_codes; unlisted = none_unlisted; drawn = true })
     → row_text row
     ≡ codes "<li class=\"faulty\">\n<a class=\"map\" href=\"2-15.svg\"><img loading=\"lazy\" src=\"2-15.svg\" alt=\"map of E&quot;M1\"></a>\n"
     ++ (codes "<div>\n<h2>E&quot;M1</h2>\n<p class=\"where\">&lt;a&amp;b&gt;.wad <span>entry 15, doom</span></p>\n"
@@ -59,7 +61,7 @@ faulty_row row file path entry name found = rw (file, ap path_text path ∙ path
 
 -- no fault, with a note and warnings of two codes, and nothing to draw
 sound_row : (row : Row) → row.file ≡ 1 → row.path.now ≡ codes "a.wad" → row.entry ≡ 0 → row.name ≡ codes "MAP01"
-    → row.found ≡ surveyed.Judged (record { tables = tables; counts = counts 0 1 4 1; warnings = Told; unlooked = none_unlooked; drawn = false })
+    → row.found ≡ surveyed.Judged (record { tables = tables; counts = counts 0 1 4 1; warnings = Told; fails = false; unlooked = no_codes; unlisted = none_unlisted; drawn = false })
     → row_text row
     ≡ codes "<li class=\"sound\">\n<p class=\"map\">no picture</p>\n"
     ++ (codes "<div>\n<h2>MAP01</h2>\n<p class=\"where\">a.wad <span>entry 0, doom</span></p>\n"
@@ -81,13 +83,30 @@ broken_row row unjudged file path entry name format found = rw (file, ap path_te
 faulty_first : (a b : Row) → is_faulty a ≡ false → is_faulty b ≡ true → faulty_rows (a ∷ b ∷ []) ++ other_rows (a ∷ b ∷ []) ≡ (row_text b ++ []) ++ (row_text a ++ [])
 faulty_first a b sound faulty = rw (sound, faulty) refl
 
-sample_title : title_line 2 (totals_of_rows []) ≡ codes "<title>Atlas: 0 levels in 2 files</title>\n"
-unfolding digits title_line
-sample_title = refl
+sample_counts : title_counts 2 (totals_of_rows []) ≡ codes ": 0 levels in 2 files</title>\n"
+unfolding digits title_counts
+sample_counts = refl
+
+no_day : day_part [] ≡ []
+no_day = refl
+
+some_day : day_part (codes "<a&b>.wad") ≡ codes "<p class=\"day\">&lt;a&amp;b&gt;.wad</p>\n"
+some_day = rw path_with_markup refl
+
+-- of a level with F3, N3 and W1 and of one that isn't judged, the three codes
+three_codes : (a b : Row) (unjudged : Unjudged)
+    → a.found ≡ surveyed.Judged (record { tables = tables; counts = counts 2 7 1 0; warnings = Told; fails = false; unlooked = no_codes; unlisted = none_unlisted; drawn = true })
+    → b.found ≡ surveyed.Unjudged unjudged
+    → legend_part (b ∷ a ∷ [])
+    ≡ codes "<ul class=\"legend\">\n<li class=\"fault\"><b>F3</b> a linedef's vertex isn't there</li>\n"
+    ++ (codes "<li class=\"note\"><b>N3</b> a linedef is two-sided, without a back sidedef</li>\n"
+    ++ codes "<li class=\"warning\"><b>W1</b> a sector isn't closed: its outline has a gap or an extra line</li>\n</ul>\n")
+unfolding code_table
+three_codes a b unjudged found other = rw (found, other) refl
 
 none_refused : refused_part [] ≡ []
 none_refused = refl
 
-one_refused : (refused : Refused) → refused.path.now ≡ codes "<a&b>.wad" → refused.why ≡ TooLarge
+one_refused : (refused : RefusedFile) → refused.path.now ≡ codes "<a&b>.wad" → refused.why ≡ TooLarge
     → refused_part (refused ∷ []) ≡ codes "<ul class=\"refused\">\n<li><b>&lt;a&amp;b&gt;.wad</b> larger than 268435456 bytes</li>\n</ul>\n"
 one_refused refused path why = rw (ap path_text path ∙ path_with_markup, why) refl

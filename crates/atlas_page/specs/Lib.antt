@@ -1,5 +1,6 @@
 pub mod Text
 pub mod Items
+pub mod Legend
 pub mod Rows
 pub mod Refused
 pub mod Style

@@ -9,7 +9,7 @@ ghost use Rattle.atlas_page.specs.Items.{code_item, code_items, code_part, numbe
 
 use le_rec::Sink;
 use lens_engines::{ReportCounts, Tables};
-use lens_texts::parts::{Parts, write_parts};
+use lens_texts::parts::{TextParts, write_parts};
 use level_codes::{REPORT_COUNT, ReportCode};
 use line_io::{IoFault, TextLine, emit};
 
@@ -43,7 +43,7 @@ struct TableItems<'t> {
     tables: &'t Tables,
 }
 
-impl Parts for TableItems<'_> {
+impl TextParts for TableItems<'_> {
     ghost use Rattle.atlas_page.specs.Items.{table_items};
 
     ghost parts = { λ items. table_items items.tables.now };
@@ -81,7 +81,7 @@ struct CodeParts<'c> {
     counts: &'c ReportCounts,
 }
 
-impl Parts for CodeParts<'_> {
+impl TextParts for CodeParts<'_> {
     ghost use Rattle.std.specs.Prelude.{map};
     ghost use Rattle.atlas_page.specs.Items.{code_part};
     ghost use Rattle.level_codes.specs.Codes.{report_order};

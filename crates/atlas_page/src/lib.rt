@@ -3,6 +3,7 @@
 #![tactic(auto)]
 
 mod items;
+mod legend;
 mod levels;
 mod page;
 mod refused;
@@ -12,7 +13,7 @@ mod style;
 mod text;
 
 pub use levels::{Origin, push_rows};
-pub use page::{Page, write_page};
-pub use refused::Refused;
+pub use page::{Page, PageHead, write_page};
+pub use refused::RefusedFile;
 pub use row::Row;
 pub use rows::prepend_picture_name;

@@ -3,22 +3,34 @@
 ghost use Rattle.std.specs.Prelude.{◌≡◌, [], false};
 ghost use Rattle.line_io.specs.Writes.{Writes};
 ghost use Rattle.lens_texts.specs.Parts.{joined};
-ghost use Rattle.atlas_page.specs.Page.{head_parts, page_text, title_line, total_items, unlooked_part, warned_item};
+ghost use Rattle.atlas_page.specs.Page.{day_part, day_parts, head_parts, page_text, title_counts, total_items, unlooked_part, warned_item};
 ghost use Rattle.atlas_page.specs.Rows.{totals_of_rows};
 
 use crate::items::write_number_item;
-use crate::refused::{Refused, write_refused};
+use crate::legend::write_legend;
+use crate::refused::{RefusedFile, write_refused};
 use crate::row::Row;
 use crate::rows::{write_faulty, write_others};
 use crate::style::write_style;
+use crate::text::write_page_path;
 use le_rec::Sink;
-use lens_engines::{Totals, Unlooked, Warnings};
-use lens_texts::parts::{Parts, write_parts};
+use lens_engines::{Totals, Unlisted, Warnings};
+use lens_texts::parts::{TextParts, write_parts};
 use line_io::{IoFault, TextLine, emit};
+
+/// What a page is headed with.
+#[derive(Clone, Copy)]
+pub struct PageHead<'h> {
+    /// The title. It needn't be text.
+    pub title: &'h [u8],
+    /// The day as the caller writes it; empty if none is shown.
+    pub day: &'h [u8],
+}
 
 /// What a page shows.
 #[derive(Clone, Copy)]
 pub struct Page<'r, 'p> {
+    pub head: &'r PageHead<'p>,
     /// How many files there are, the refused ones too.
     pub files: u64,
     /// Whether warnings were asked for, and how grave they are.
@@ -26,7 +38,7 @@ pub struct Page<'r, 'p> {
     /// Their levels, in order.
     pub rows: &'r [Row<'p>],
     /// The files that are refused, in order.
-    pub refused: &'r [Refused<'p>],
+    pub refused: &'r [RefusedFile<'p>],
 }
 
 // The totals of all levels.
@@ -40,26 +52,61 @@ fn totals_of(rows: &[Row<'_>]) -> Totals
     sum
 }
 
-// Writes the line of the title.
-fn write_title<W: Sink>(files: u64, totals: &Totals, out: &mut W) -> Result<(), IoFault>
+// Writes how many levels there are in how many files, and the title's end.
+fn write_counts<W: Sink>(files: u64, totals: &Totals, out: &mut W) -> Result<(), IoFault>
     requires { (W.state out.old).failed ≡ false }
-    ensures { Writes (W.state out.old) (W.state out.new) (title_line files totals.now) result }
+    ensures { Writes (W.state out.old) (W.state out.new) (title_counts files totals.now) result }
 {
     let mut line = TextLine::new();
-    prepend_title(&mut line, files, totals);
+    prepend_counts(&mut line, files, totals);
     emit(out, line.as_bytes())
 }
 
-// `<title>Atlas: {levels} levels in {files} files</title>`
-fn prepend_title(line: &mut TextLine, files: u64, totals: &Totals)
+// `: {levels} levels in {files} files</title>`
+fn prepend_counts(line: &mut TextLine, files: u64, totals: &Totals)
     requires { line.old ≡ [] }
-    ensures { line.new ≡ title_line files totals.now }
+    ensures { line.new ≡ title_counts files totals.now }
 {
     line.prepend_bytes(b" files</title>\n");
     line.prepend_natural(files);
     line.prepend_bytes(b" levels in ");
     line.prepend_natural(totals.levels);
-    line.prepend_bytes(b"<title>Atlas: ");
+    line.prepend_bytes(b": ");
+}
+
+// Writes the day, if it is shown.
+fn write_day<W: Sink>(day: &[u8], out: &mut W) -> Result<(), IoFault>
+    requires { (W.state out.old).failed ≡ false }
+    ensures { Writes (W.state out.old) (W.state out.new) (day_part day.now) result }
+{
+    if day.len() == 0 {
+        return emit(out, b"");
+    }
+    write_parts(&DayParts { day }, out)
+}
+
+// The day.
+#[derive(Drop)]
+struct DayParts<'d> {
+    day: &'d [u8],
+}
+
+impl TextParts for DayParts<'_> {
+    ghost use Rattle.atlas_page.specs.Page.{day_parts};
+
+    ghost parts = { λ parts. day_parts parts.day.now };
+
+    fn count(&self) -> usize {
+        3
+    }
+
+    fn write<W: Sink>(&self, number: usize, out: &mut W) -> Result<(), IoFault> {
+        match number {
+            0 => emit(out, b"<p class=\"day\">"),
+            1 => write_page_path(self.day, out),
+            _ => emit(out, b"</p>\n"),
+        }
+    }
 }
 
 // The totals of the page.
@@ -70,7 +117,7 @@ struct TotalItems {
     totals: Totals,
 }
 
-impl Parts for TotalItems {
+impl TextParts for TotalItems {
     ghost use Rattle.atlas_page.specs.Page.{total_items};
 
     ghost parts = { λ items. total_items items.files items.warnings items.totals };
@@ -102,53 +149,59 @@ fn write_warned<W: Sink>(warnings: Warnings, count: u64, out: &mut W) -> Result<
 {
     match warnings {
         Warnings::Unasked => emit(out, b""),
-        Warnings::Told | Warnings::Strict => write_number_item(b"warnings", count, out),
+        Warnings::Told => write_number_item(b"warnings", count, out),
     }
 }
 
 // Writes which warnings weren't looked for at some level, and how to have them looked for.
-fn write_unlooked<W: Sink>(unlooked: Unlooked, out: &mut W) -> Result<(), IoFault>
+fn write_unlooked<W: Sink>(unlisted: Unlisted, out: &mut W) -> Result<(), IoFault>
     requires { (W.state out.old).failed ≡ false }
-    ensures { Writes (W.state out.old) (W.state out.new) (unlooked_part unlooked) result }
+    ensures { Writes (W.state out.old) (W.state out.new) (unlooked_part unlisted) result }
 {
-    if unlooked.is_none() {
+    if unlisted.is_none() {
         return emit(out, b"");
     }
     emit(out, b"<p class=\"unlooked\">")?;
-    emit(out, unlooked.note())?;
+    emit(out, unlisted.note())?;
     emit(out, b"</p>\n")
 }
 
 // What stands above the levels.
 #[derive(Drop)]
-struct HeadParts {
+struct HeadParts<'r, 'p> {
+    page: &'r Page<'r, 'p>,
     items: TotalItems,
 }
 
-impl Parts for HeadParts {
+impl TextParts for HeadParts<'_, '_> {
     ghost use Rattle.atlas_page.specs.Page.{head_parts};
 
-    ghost parts = { λ parts. head_parts parts.items.files parts.items.warnings parts.items.totals };
+    ghost parts = { λ parts. head_parts parts.page.now.head.now parts.items.files parts.items.warnings parts.page.now.rows.now parts.items.totals };
 
     fn count(&self) -> usize {
-        7
+        14
     }
 
     fn write<W: Sink>(&self, number: usize, out: &mut W) -> Result<(), IoFault> {
+        let page = self.page;
         match number {
             0 => emit(
                 out,
                 b"<!DOCTYPE html>\n<html lang=\"en\">\n<head>\n<meta charset=\"utf-8\">\n<meta name=\"viewport\" content=\"width=device-width, initial-scale=1\">\n",
             ),
-            1 => write_title(self.items.files, &self.items.totals, out),
-            2 => write_style(out),
-            3 => emit(
-                out,
-                b"</head>\n<body>\n<header>\n<h1>Atlas</h1>\n<ul class=\"totals\">\n",
-            ),
-            4 => write_parts(&self.items, out),
-            5 => emit(out, b"</ul>\n"),
-            _ => write_unlooked(self.items.totals.unlooked, out),
+            1 => emit(out, b"<title>"),
+            2 => write_page_path(page.head.title, out),
+            3 => write_counts(self.items.files, &self.items.totals, out),
+            4 => write_style(out),
+            5 => emit(out, b"</head>\n<body>\n<header>\n<h1>"),
+            6 => write_page_path(page.head.title, out),
+            7 => emit(out, b"</h1>\n"),
+            8 => write_day(page.head.day, out),
+            9 => emit(out, b"<ul class=\"totals\">\n"),
+            10 => write_parts(&self.items, out),
+            11 => emit(out, b"</ul>\n"),
+            12 => write_unlooked(self.items.totals.unlisted, out),
+            _ => write_legend(page.rows, out),
         }
     }
 }
@@ -159,7 +212,7 @@ struct BodyParts<'r, 'p> {
     page: &'r Page<'r, 'p>,
 }
 
-impl Parts for BodyParts<'_, '_> {
+impl TextParts for BodyParts<'_, '_> {
     ghost use Rattle.atlas_page.specs.Page.{body_parts};
 
     ghost parts = { λ parts. body_parts parts.page.now.rows.now parts.page.now.refused.now };
@@ -184,10 +237,10 @@ struct PageParts<'r, 'p> {
     page: &'r Page<'r, 'p>,
 }
 
-impl Parts for PageParts<'_, '_> {
+impl TextParts for PageParts<'_, '_> {
     ghost use Rattle.atlas_page.specs.Page.{page_parts};
 
-    ghost parts = { λ parts. page_parts parts.page.now.files parts.page.now.warnings parts.page.now.rows.now parts.page.now.refused.now };
+    ghost parts = { λ parts. page_parts parts.page.now.head.now parts.page.now.files parts.page.now.warnings parts.page.now.rows.now parts.page.now.refused.now };
 
     fn count(&self) -> usize {
         2
@@ -204,7 +257,7 @@ impl Parts for PageParts<'_, '_> {
 // Writes what stands above the levels.
 fn write_head<W: Sink>(page: &Page<'_, '_>, out: &mut W) -> Result<(), IoFault>
     requires { (W.state out.old).failed ≡ false }
-    ensures { Writes (W.state out.old) (W.state out.new) (joined (head_parts page.now.files page.now.warnings (totals_of_rows page.now.rows.now))) result }
+    ensures { Writes (W.state out.old) (W.state out.new) (joined (head_parts page.now.head.now page.now.files page.now.warnings page.now.rows.now (totals_of_rows page.now.rows.now))) result }
 {
     let totals = totals_of(page.rows);
     let items = TotalItems {
@@ -212,14 +265,14 @@ fn write_head<W: Sink>(page: &Page<'_, '_>, out: &mut W) -> Result<(), IoFault>
         warnings: page.warnings,
         totals,
     };
-    write_parts(&HeadParts { items }, out)
+    write_parts(&HeadParts { page, items }, out)
 }
 
 /// Writes the page of an atlas. It takes no memory. `Write` comes if the sink fails; a front of the text was
 /// taken.
 pub fn write_page<W: Sink>(page: &Page<'_, '_>, out: &mut W) -> Result<(), IoFault>
     requires { (W.state out.old).failed ≡ false }
-    ensures { Writes (W.state out.old) (W.state out.new) (page_text page.now.files page.now.warnings page.now.rows.now page.now.refused.now) result }
+    ensures { Writes (W.state out.old) (W.state out.new) (page_text page.now.head.now page.now.files page.now.warnings page.now.rows.now page.now.refused.now) result }
 {
     write_parts(&PageParts { page }, out)
 }

@@ -8,22 +8,22 @@ ghost use Rattle.atlas_page.specs.Refused.{refused_item, refused_part};
 use crate::text::write_page_path;
 use le_rec::Sink;
 use lens_engines::FileRefusal;
-use lens_texts::parts::{Parts, write_parts};
+use lens_texts::parts::{TextParts, write_parts};
 use line_io::{IoFault, emit};
 
 /// A refused file.
 #[derive(Clone, Copy, Debug, PartialEq, Eq)]
-pub struct Refused<'p> {
+pub struct RefusedFile<'p> {
     pub path: &'p [u8],
     pub why: FileRefusal,
 }
 
 #[derive(Drop)]
 struct ItemParts<'r, 'p> {
-    refused: &'r Refused<'p>,
+    refused: &'r RefusedFile<'p>,
 }
 
-impl Parts for ItemParts<'_, '_> {
+impl TextParts for ItemParts<'_, '_> {
     ghost use Rattle.atlas_page.specs.Refused.{item_parts};
 
     ghost parts = { λ parts. item_parts parts.refused.now };
@@ -44,7 +44,7 @@ impl Parts for ItemParts<'_, '_> {
 }
 
 // Writes the item of a refused file.
-fn write_item<W: Sink>(refused: &Refused<'_>, out: &mut W) -> Result<(), IoFault>
+fn write_item<W: Sink>(refused: &RefusedFile<'_>, out: &mut W) -> Result<(), IoFault>
     requires { (W.state out.old).failed ≡ false }
     ensures { Writes (W.state out.old) (W.state out.new) (refused_item refused.now) result }
 {
@@ -53,10 +53,10 @@ fn write_item<W: Sink>(refused: &Refused<'_>, out: &mut W) -> Result<(), IoFault
 
 #[derive(Drop)]
 struct Items<'r, 'p> {
-    refused: &'r [Refused<'p>],
+    refused: &'r [RefusedFile<'p>],
 }
 
-impl Parts for Items<'_, '_> {
+impl TextParts for Items<'_, '_> {
     ghost use Rattle.std.specs.Prelude.{map};
     ghost use Rattle.atlas_page.specs.Refused.{refused_item};
 
@@ -76,7 +76,7 @@ struct RefusedParts<'r, 'p> {
     items: Items<'r, 'p>,
 }
 
-impl Parts for RefusedParts<'_, '_> {
+impl TextParts for RefusedParts<'_, '_> {
     ghost use Rattle.atlas_page.specs.Refused.{list_parts};
 
     ghost parts = { λ parts. list_parts parts.items.refused.now };
@@ -95,7 +95,7 @@ impl Parts for RefusedParts<'_, '_> {
 }
 
 /// Writes the list of the refused files, where there are any.
-pub fn write_refused<W: Sink>(refused: &[Refused<'_>], out: &mut W) -> Result<(), IoFault>
+pub fn write_refused<W: Sink>(refused: &[RefusedFile<'_>], out: &mut W) -> Result<(), IoFault>
     requires { (W.state out.old).failed ≡ false }
     ensures { Writes (W.state out.old) (W.state out.new) (refused_part refused.now) result }
 {

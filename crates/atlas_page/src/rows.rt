@@ -9,7 +9,7 @@ use crate::row::Row;
 use crate::text::{write_name, write_number, write_page_path};
 use le_rec::Sink;
 use lens_engines::{LevelCounts, ReportCounts, Surveyed, Unjudged, Verdict};
-use lens_texts::parts::{Parts, write_parts};
+use lens_texts::parts::{TextParts, write_parts};
 use lens_texts::{format_name, write_format_alone};
 use line_io::{IoFault, TextLine, emit};
 
@@ -40,7 +40,7 @@ struct PictureLink<'r, 'p> {
     row: &'r Row<'p>,
 }
 
-impl Parts for PictureLink<'_, '_> {
+impl TextParts for PictureLink<'_, '_> {
     ghost use Rattle.atlas_page.specs.Rows.{link_parts};
 
     ghost parts = { λ link. link_parts link.row.now };
@@ -80,7 +80,7 @@ struct WhereLine<'r, 'p> {
     row: &'r Row<'p>,
 }
 
-impl Parts for WhereLine<'_, '_> {
+impl TextParts for WhereLine<'_, '_> {
     ghost use Rattle.atlas_page.specs.Rows.{where_parts};
 
     ghost parts = { λ line. where_parts line.row.now };
@@ -120,7 +120,7 @@ struct JudgedParts<'r> {
     judged: &'r LevelCounts,
 }
 
-impl Parts for JudgedParts<'_> {
+impl TextParts for JudgedParts<'_> {
     ghost use Rattle.atlas_page.specs.Rows.{judged_parts};
 
     ghost parts = { λ parts. judged_parts parts.judged.now };
@@ -147,7 +147,7 @@ struct UnjudgedParts<'r> {
     unjudged: &'r Unjudged,
 }
 
-impl Parts for UnjudgedParts<'_> {
+impl TextParts for UnjudgedParts<'_> {
     ghost use Rattle.atlas_page.specs.Rows.{unjudged_parts};
 
     ghost parts = { λ parts. unjudged_parts parts.unjudged.now.format };
@@ -192,7 +192,7 @@ struct RowParts<'r, 'p> {
     row: &'r Row<'p>,
 }
 
-impl Parts for RowParts<'_, '_> {
+impl TextParts for RowParts<'_, '_> {
     ghost use Rattle.atlas_page.specs.Rows.{row_parts};
 
     ghost parts = { λ parts. row_parts parts.row.now };
@@ -224,7 +224,7 @@ struct RowsOf<'r, 'p> {
     faulty: bool,
 }
 
-impl Parts for RowsOf<'_, '_> {
+impl TextParts for RowsOf<'_, '_> {
     ghost use Rattle.std.specs.Prelude.{map};
     ghost use Rattle.atlas_page.specs.Rows.{row_part};
 

@@ -19,7 +19,13 @@ pub const STYLE: &[u8] = b"<style>\n\
     header{display:flex;flex-wrap:wrap;align-items:end;gap:18px 40px;margin-bottom:32px}\n\
     .totals{display:flex;flex-wrap:wrap;gap:10px clamp(16px,2.5vw,32px);color:var(--soft);font-size:13px;line-height:1.3}\n\
     .totals b{display:block;color:var(--ink);font-size:20px}\n\
+    .day{color:var(--soft);font-size:13px}\n\
     .unlooked{flex-basis:100%;color:var(--soft);font-size:13px}\n\
+    .legend{flex-basis:100%;columns:360px;column-gap:36px;color:var(--soft);font-size:13px}\n\
+    .legend:empty{display:none}\n\
+    .legend b{display:inline-block;min-width:34px;color:var(--note)}\n\
+    .legend .fault b{color:var(--fault)}\n\
+    .legend .warning b{color:var(--warning)}\n\
     .refused{flex-basis:100%;padding:12px 18px;background:var(--fault-wash);border-radius:10px;columns:400px;column-gap:36px}\n\
     .refused li{break-inside:avoid}\n\
     .refused b{color:var(--fault)}\n\

@@ -9,7 +9,7 @@ ghost use Rattle.atlas_page.specs.Text.{path_byte, path_text};
 
 use le_rec::{Name8, Sink};
 use lens_texts::escape::write_escaped;
-use lens_texts::parts::{Parts, write_parts};
+use lens_texts::parts::{TextParts, write_parts};
 use lens_texts::{control_text, is_control_at};
 use line_io::{IoFault, TextLine, emit};
 
@@ -39,7 +39,7 @@ struct PathBytes<'p> {
     path: &'p [u8],
 }
 
-impl Parts for PathBytes<'_> {
+impl TextParts for PathBytes<'_> {
     ghost use Rattle.atlas_page.specs.Text.{path_bytes};
 
     ghost parts = { λ bytes. path_bytes bytes.path.now };

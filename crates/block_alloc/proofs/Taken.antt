@@ -28,8 +28,8 @@ Taken = option.the_row room.the_row
 abbrev pub Serves : ℕ → ℕ → ℕ → Type 0
 Serves n a m = (n ≤ m / 16 * 16) × (m < 2 ^ 63) × (a ≤ 16)
 
-abbrev pub Told : ℕ → ℕ → Taken.Denot → Type 0
-Told n a x = IfSome x (λ r. Serves n a r.size)
+abbrev pub ServesIfTaken : ℕ → ℕ → Taken.Denot → Type 0
+ServesIfTaken n a x = IfSome x (λ r. Serves n a r.size)
 
 divides_16 : (w : Width) → Dv (bytes w) 16
 divides_16 w8 = tt
@@ -55,7 +55,7 @@ module _ {M : Type 1} {𝓤 : Ura M} {𝓛 : Logic 𝓤} {K : Type 0} {Γ : List
   given t n a (block_ptr b o) m v serves is some = some b o is
   given t n a null_ptr m v serves is some = keep t (0 ∷ []) $ by t (never_e 𝓤 _)
 
-  pub taken : K → (n a : ℕ) (x : Taken.Denot) (v : Val) → Told n a x
+  pub taken : K → (n a : ℕ) (x : Taken.Denot) (v : Val) → ServesIfTaken n a x
       → ((m : ℕ) → Serves n a m → (b o : ℕ) → v ≡ live 1 (vcons (list_val (block_ptr b o)) vnil) → Seq K 𝓛 (‵ (bytes_at (block_ptr b o) m) ∷ Γ) G)
       → (v ≡ live 0 vnil → Seq K 𝓛 Γ G) → Seq K 𝓛 (‵ (Taken.own_val x (v ∷ [])) ∷ Γ) G
   taken t n a None v told some none =

@@ -29,7 +29,7 @@ impl Model for Room {
 /// has returned. Nothing else reads or writes them, and no second call gets them meanwhile.
 #[repr(C)]
 #[derive(Drop)]
-pub struct Block {
+pub struct HostBlock {
     room: Room,
     size: usize,
     ghost sized: { room.size ≡ size },
@@ -41,12 +41,12 @@ pub const MARGIN: usize = 4160;
 /// The allocator. It gives its block to the first request, if the block is fit for it, and loses it otherwise.
 #[derive(Drop)]
 pub struct OneBlock {
-    slot: Cell<Option<Block>>,
+    slot: Cell<Option<HostBlock>>,
 }
 
 /// An arena whose only chunk is the block. None if the block has fewer than `MARGIN` bytes, or if the arena doesn't get it.
 /// Memory allocated in the arena is never given back, except that the last value can grow in place.
-pub fn arena(block: Block) -> Option<Bump<OneBlock>>
+pub fn arena(block: HostBlock) -> Option<Bump<OneBlock>>
     ensures { IfSome result (λ _. MARGIN ≤ block.size) }
 {
     let room = block.size.checked_sub(MARGIN)?;
@@ -57,7 +57,7 @@ pub fn arena(block: Block) -> Option<Bump<OneBlock>>
 }
 
 impl OneBlock {
-    fn new(block: Block) -> OneBlock {
+    fn new(block: HostBlock) -> OneBlock {
         OneBlock {
             slot: Cell::new(Some(block)),
         }
@@ -68,7 +68,7 @@ impl OneBlock {
     fn take(&self, size: usize, align: usize) -> Option<Room>
         ensures { IfSome result (λ r. (size ≤ r.size / 16 * 16) × (r.size < 2 ^ 63) × (align ≤ 16)) }
     {
-        let Block { room, size: held } = self.slot.replace(None)?;
+        let HostBlock { room, size: held } = self.slot.replace(None)?;
         if align > 16 || size > held / 16 * 16 || held > isize::MAX as usize {
             return None;
         }

@@ -15,9 +15,9 @@ use Rattle.demo_engines.specs.declared.assembly.Wanted.TheVariants as wanted
 use Rattle.demo_engines.specs.Assembly.AreLines.{more, none}
 use Rattle.demo_engines.specs.Parts.{FitsCommand, FitsHeader, Stops}
 use Rattle.demo_engines.specs.Parts.Stops.{other}
-use Rattle.wad_look.specs.Listing.{header_line, listing, ticcmd_line, ticcmds_text, totals_line, totals_text}
-use Rattle.wad_look.proofs.ListingLemmas.{ticcmds_text-last}
-use Rattle.wad_look.specs.Turn.{Turn, player_of, tic_of}
+use Rattle.look_engines.specs.Listing.{header_line, listing, ticcmd_line, ticcmds_text, totals_line, totals_text}
+use Rattle.look_engines.proofs.ListingLemmas.{ticcmds_text-last}
+use Rattle.look_engines.specs.Turn.{PlayerTurn, player_of, tic_of}
 use Rattle.demo_engines.proofs.FitLemmas.{FitsDemo, fit_listed, listed_fits}
 use Rattle.demo_engines.proofs.HeaderLineLemmas.{same_header}
 use Rattle.demo_engines.proofs.LineLemmas.{header_is_line, lines_of, ticcmd_is_line, totals_is_line}
@@ -293,7 +293,7 @@ module _ (text : List ℕ) (header : Header) (commands : List Command) (rest : L
           at (inr found) = found.3
 
   -- what is wanted where neither a command nor the totals follow
-  abbrev pub own_turn : Turn
+  abbrev pub own_turn : PlayerTurn
   own_turn = record { players = header.players; index = length commands }
 
   -- a command of that turn follows, as another listing goes on

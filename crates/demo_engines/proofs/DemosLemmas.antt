@@ -7,6 +7,7 @@ use Rattle.std.specs.List.{slice_get}
 use Rattle.std.proofs.KnownBytes.{Appends-nil, Appends-trans}
 use Rattle.demo_lump.specs.Demo.{Demo, IsRead as IsReadDemo}
 use Rattle.le_rec.specs.Sink.{SinkState}
+use Rattle.lens_texts.proofs.HandingLemmas.{appends_kept, front_kept}
 use Rattle.line_io.specs.Writes.{TakesFront}
 use Rattle.wad_dir.specs.Entries.{joined, names}
 use Rattle.wad_dir.specs.Slice.{IsLump}
@@ -17,7 +18,6 @@ use Rattle.demo_engines.specs.Demos.{Answers, DemosAsked, IsDemoTold, IsEntryTol
 use Rattle.demo_engines.specs.Demos.{at_start, fault_after, inside, is_demo_name, is_wad_file, no_texts, read, read_text, read_texts, texts_with, with_entry}
 use Rattle.demo_engines.specs.declared.demos.DemosFault.{DemosFault}
 use Rattle.demo_engines.specs.declared.demos.DemosFault.TheVariants as fault
-use Rattle.demo_engines.proofs.HandingLemmas.{appends_kept, front_kept}
 
 -- no text was taken, and nothing has failed
 pub takes_none : (out errors : SinkState) → out.failed ≡ false → errors.failed ≡ false → TakeAll no_texts out out errors errors

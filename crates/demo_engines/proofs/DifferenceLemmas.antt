@@ -8,7 +8,7 @@ use Rattle.demo_lump.specs.Demo.{Demo}
 use Rattle.demo_lump.specs.declared.command.Command.{Command}
 use Rattle.demo_lump.specs.declared.header.Header.{Header}
 use Rattle.line_io.proofs.RestLemmas.{drop_past}
-use Rattle.wad_look.specs.Turn.{Turn, player_of, tic_of}
+use Rattle.look_engines.specs.Turn.{PlayerTurn, player_of, tic_of}
 use Rattle.demo_engines.specs.Differences.{AreSame, Differs, HeadersDiffer, IsCompared, a_ends, b_ends, command_line, end_line, header_numbers, in_command, in_header, in_number, in_players, number_line, other, players_line, same}
 
 -- demos that are the same don't differ
@@ -58,7 +58,7 @@ same_more xs ys i d of_a of_b before at =
     let equal : get_or xs i d ≡ get_or ys i d = cc in
     take_more_same xs ys i d of_a of_b before equal
 
-module _ (a b : Demo) (i : ℕ) (turn : Turn) (text : List ℕ) (header : a.header ≡ b.header) (at : turn ≡ record { players = a.header.players; index = i }) (before : take i a.commands ≡ take i b.commands) where
+module _ (a b : Demo) (i : ℕ) (turn : PlayerTurn) (text : List ℕ) (header : a.header ≡ b.header) (at : turn ≡ record { players = a.header.players; index = i }) (before : take i a.commands ≡ take i b.commands) where
   -- a command differs
   pub command_told : (x y : Command) → slice_get a.commands i ≡ Some x → slice_get b.commands i ≡ Some y → x ≢ y
       → text ≡ command_line (tic_of turn.players turn.index) (player_of turn.players turn.index) x y → IsCompared a b text false

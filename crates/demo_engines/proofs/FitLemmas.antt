@@ -19,7 +19,7 @@ use Rattle.le_rec.specs.Bytes.{AreBytes}
 use Rattle.le_rec.specs.Number.{unsigned16, unsigned16_at}
 use Rattle.demo_engines.specs.Assembly.{IsListingOf}
 use Rattle.demo_engines.specs.Parts.{FitsCommand, FitsHeader, numbers_of}
-use Rattle.wad_look.specs.Listing.{listing}
+use Rattle.look_engines.specs.Listing.{listing}
 
 front_bytes : (a b : List ℕ) → AreBytes (a ++ b) → AreBytes a
 front_bytes [] b are = AreBytes-nil

@@ -14,7 +14,7 @@ use Rattle.le_rec.proofs.BytesLemmas.{AreBytes-cons, AreBytes-nil, AreBytes-tail
 use Rattle.line_io.specs.Numbers.{IsDigit}
 use Rattle.demo_engines.specs.Parts.{FitsHeader, Stops, fields, numbers_of}
 use Rattle.demo_engines.specs.Parts.Stops.{other}
-use Rattle.wad_look.specs.Listing.{header_line}
+use Rattle.look_engines.specs.Listing.{header_line}
 use Rattle.demo_engines.proofs.ListingLemmas.{end_stops}
 use Rattle.demo_engines.proofs.RunLemmas.{same_number}
 

@@ -11,8 +11,8 @@ use Rattle.demo_lump.specs.declared.header.Header.{Header}
 use Rattle.demo_engines.specs.Assembly.{IsAssembled, IsListingOf}
 use Rattle.demo_engines.specs.Laws.{ListsAgain}
 use Rattle.demo_engines.specs.Parts.{FitsCommand, totals_front}
-use Rattle.wad_look.specs.Listing.{header_line, ticcmd_line, ticcmds_text, totals_line, totals_text}
-use Rattle.wad_look.specs.Turn.{player_of, tic_of}
+use Rattle.look_engines.specs.Listing.{header_line, ticcmd_line, ticcmds_text, totals_line, totals_text}
+use Rattle.look_engines.specs.Turn.{player_of, tic_of}
 use Rattle.demo_engines.proofs.AssemblyLemmas.{GoesOn, goes_on, no_totals, totals_begin}
 use Rattle.demo_engines.proofs.FitLemmas.{fit_listed, listed_fits}
 use Rattle.demo_engines.proofs.HeaderLineLemmas.{same_header}

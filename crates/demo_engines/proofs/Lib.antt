@@ -2,7 +2,6 @@ mod AssemblyLemmas
 pub mod DemosLemmas
 mod DifferenceLemmas
 mod FitLemmas
-pub mod HandingLemmas
 mod HeaderLineLemmas
 mod LawLemmas
 mod LineLemmas

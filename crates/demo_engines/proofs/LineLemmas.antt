@@ -16,8 +16,8 @@ use Rattle.line_io.specs.Numbers.{IsDigit}
 use Rattle.demo_engines.specs.Assembly.{AreLines, IsLine}
 use Rattle.demo_engines.specs.Parts.{FitsCommand, FitsHeader, command_fields, fields, numbers_of}
 use Rattle.demo_engines.specs.Assembly.AreLines.{more}
-use Rattle.wad_look.specs.Listing.{header_line, hex_byte, ticcmd_line, ticcmds_text, totals_line}
-use Rattle.wad_look.specs.Turn.{player_of, tic_of}
+use Rattle.look_engines.specs.Listing.{header_line, hex_byte, ticcmd_line, ticcmds_text, totals_line}
+use Rattle.look_engines.specs.Turn.{player_of, tic_of}
 use Rattle.demo_engines.proofs.HeaderLineLemmas.{header_fields, labels}
 use Rattle.demo_engines.proofs.ListingLemmas.{line_fields}
 use Rattle.demo_engines.proofs.RunLemmas.{decimal_is}

@@ -10,7 +10,7 @@ use Rattle.line_io.specs.Numbers.{IsDigit}
 use Rattle.demo_engines.specs.Differences.{command_text}
 use Rattle.demo_engines.specs.Parts.{FitsCommand, Stops, command_fields, front_of, totals_front}
 use Rattle.demo_engines.specs.Parts.Stops.{other}
-use Rattle.wad_look.specs.Listing.{hex_byte, ticcmd_line, totals_line}
+use Rattle.look_engines.specs.Listing.{hex_byte, ticcmd_line, totals_line}
 use Rattle.demo_engines.proofs.RunLemmas.{same_number, same_signed}
 
 -- the texts that follow numbers

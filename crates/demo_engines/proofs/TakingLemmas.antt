@@ -6,12 +6,12 @@ use Rattle.demo_engines.proofs.ListingLemmas.{line_long}
 use Rattle.demo_engines.specs.Assembly.{IsTakenFrom}
 use Rattle.demo_engines.specs.Parts.{FitsCommand}
 use Rattle.demo_lump.specs.declared.command.Command.{Command}
-use Rattle.wad_look.proofs.ListingLemmas.{ticcmds_text-last}
-use Rattle.wad_look.specs.Listing.{ticcmd_line, ticcmds_text}
-use Rattle.wad_look.specs.Turn.{Turn, player_of, tic_of}
+use Rattle.look_engines.proofs.ListingLemmas.{ticcmds_text-last}
+use Rattle.look_engines.specs.Listing.{ticcmd_line, ticcmds_text}
+use Rattle.look_engines.specs.Turn.{PlayerTurn, player_of, tic_of}
 
 -- so many were taken
-pub record Taking (version : ℕ) (players text : List ℕ) (commands : List Command) (turn : Turn) (rest : List ℕ) : Type 0 where
+pub record Taking (version : ℕ) (players text : List ℕ) (commands : List Command) (turn : PlayerTurn) (rest : List ℕ) : Type 0 where
   pub splits : text ≡ ticcmds_text players 0 commands ++ rest
   pub turns : turn ≡ record { players = players; index = length commands }
   pub fit : AllByRecursion (FitsCommand version) commands
@@ -25,12 +25,12 @@ pub fit_push : (version : ℕ) (commands : List Command) (c : Command) → AllBy
 fit_push version [] c fits fit = (fit, tt)
 fit_push version (d ∷ commands) c fits fit = (fits.0, fit_push version commands c fits.1 fit)
 
-pub takes_more : (version : ℕ) (players text : List ℕ) (commands : List Command) (turn : Turn) (rest behind : List ℕ) (c : Command) → Taking version players text commands turn rest
+pub takes_more : (version : ℕ) (players text : List ℕ) (commands : List Command) (turn : PlayerTurn) (rest behind : List ℕ) (c : Command) → Taking version players text commands turn rest
     → rest ≡ ticcmd_line (tic_of turn.players turn.index) (player_of turn.players turn.index) c ++ behind → FitsCommand version c
     → Taking version players text (commands ++ c ∷ []) (record turn { index = turn.index + 1 }) behind
 takes_more version players text commands turn rest behind c taking goes fit =
     let own = ticcmd_line (tic_of players (length commands)) (player_of players (length commands)) c in
-    let here : rest ≡ own ++ behind = goes ∙ ap (λ (t : Turn). ticcmd_line (tic_of t.players t.index) (player_of t.players t.index) c ++ behind) taking.turns in
+    let here : rest ≡ own ++ behind = goes ∙ ap (λ (t : PlayerTurn). ticcmd_line (tic_of t.players t.index) (player_of t.players t.index) c ++ behind) taking.turns in
     let zero_more : 0 + length commands ≡ length commands = omega arith in
     let one_more : length (commands ++ c ∷ []) ≡ length commands + 1 = length-append commands (c ∷ []) in
     let long = ap length here ∙ length-append own behind in
@@ -39,7 +39,7 @@ takes_more version players text commands turn rest behind c taking goes fit =
     record {
       splits = taking.splits ∙ ap (λ t. ticcmds_text players 0 commands ++ t) here ∙ sym (append_assoc (ticcmds_text players 0 commands) own behind)
           ∙ ap (λ t. t ++ behind) (sym (ticcmds_text-last players 0 commands c ∙ ap (λ k. ticcmds_text players 0 commands ++ ticcmd_line (tic_of players k) (player_of players k) c) zero_more));
-      turns = ap (λ (t : Turn). record t { index = t.index + 1 }) taking.turns ∙ ap (λ k. record { players = players; index = k }) (sym one_more);
+      turns = ap (λ (t : PlayerTurn). record t { index = t.index + 1 }) taking.turns ∙ ap (λ k. record { players = players; index = k }) (sym one_more);
       fit = fit_push version commands c taking.fit fit;
       few = omega (arith, before, one_more, long, least);
     }
@@ -49,7 +49,7 @@ pub rest_shorter : (tic player : ℕ) (c : Command) (rest behind : List ℕ) →
 rest_shorter tic player c rest behind goes = omega (arith, ap length goes, length-append (ticcmd_line tic player c) behind, line_long tic player c)
 
 -- no more of them stand there
-pub takes_all : (version : ℕ) (players text : List ℕ) (commands : List Command) (turn : Turn) (rest : List ℕ) → Taking version players text commands turn rest → length commands < 2 ^ 62
+pub takes_all : (version : ℕ) (players text : List ℕ) (commands : List Command) (turn : PlayerTurn) (rest : List ℕ) → Taking version players text commands turn rest → length commands < 2 ^ 62
     → ((c : Command) (more : List ℕ) → FitsCommand version c → rest ≢ ticcmd_line (tic_of turn.players turn.index) (player_of turn.players turn.index) c ++ more)
     → IsTakenFrom version players text commands turn rest
 takes_all version players text commands turn rest taking few none = record {
@@ -57,5 +57,5 @@ takes_all version players text commands turn rest taking few none = record {
   turns = taking.turns;
   fit = taking.fit;
   few = few;
-  none = subst (λ (t : Turn). (c : Command) (more : List ℕ) → FitsCommand version c → rest ≢ ticcmd_line (tic_of t.players t.index) (player_of t.players t.index) c ++ more) taking.turns none;
+  none = subst (λ (t : PlayerTurn). (c : Command) (more : List ℕ) → FitsCommand version c → rest ≢ ticcmd_line (tic_of t.players t.index) (player_of t.players t.index) c ++ more) taking.turns none;
 }

@@ -1,7 +1,7 @@
 -- The numbers of tics and players are small.
 use Rattle.std.proofs.Common.{◌≡◌, ℕ, ◌+◌, ◌/◌, ◌%◌, ◌^◌, ◌<◌, ◌≤◌, zero, suc, true, false, ◌==◌, if◌then◌else◌, List, [], ◌∷◌, length, arith, slice_index}
 use Rattle.demo_lump.specs.Header.{players_in}
-use Rattle.wad_look.specs.Turn.{player_of, seats_from, tic_of}
+use Rattle.look_engines.specs.Turn.{player_of, seats_from, tic_of}
 
 at_place : (n m k : ℕ) (seats : List ℕ) → n ≤ m → ((j : ℕ) → slice_index seats j ≤ m) → slice_index (n ∷ seats) k ≤ m
 at_place n m zero seats here rest = here

@@ -11,8 +11,8 @@ use Rattle.le_rec.specs.Bytes.{AreBytes}
 use Rattle.demo_engines.specs.Parts.{FitsCommand, FitsHeader}
 use Rattle.demo_lump.specs.Header.{players_in}
 use Rattle.demo_lump.specs.declared.header.Header.{Header}
-use Rattle.wad_look.specs.Listing.{header_line, listing, ticcmd_line, ticcmds_text, totals_line}
-use Rattle.wad_look.specs.Turn.{Turn, player_of, tic_of}
+use Rattle.look_engines.specs.Listing.{header_line, listing, ticcmd_line, ticcmds_text, totals_line}
+use Rattle.look_engines.specs.Turn.{PlayerTurn, player_of, tic_of}
 
 -- The text is the listing of a demo. How many bytes come after the marker is a number of 64 bits.
 pub record IsListingOf (text : List ℕ) (demo : Demo) : Type 0 where
@@ -87,7 +87,7 @@ pub record RefusesListing (text : List ℕ) (number : ℕ) (found : Wanted) : Ty
   pub first : LacksEnd line.rest → found ≡ wanted.LineEnd
 
 -- what must follow a header and commands at this turn
-abbrev pub wanted_behind : List ℕ → Turn → Wanted
+abbrev pub wanted_behind : List ℕ → PlayerTurn → Wanted
 wanted_behind text turn =
     if starts_with nat_eq text (codes "tics")
     then wanted.Totals (tic_of turn.players turn.index) (turn.index % players_in turn.players)
@@ -103,7 +103,7 @@ WhyNone text (Line number found) = RefusesListing text number found
 WhyNone text Memory = HasHeaderLine text
 
 -- all lines of commands at the front of a text: these commands, then it is this turn, and this text is left
-pub record IsTakenFrom (version : ℕ) (players text : List ℕ) (commands : List Command) (turn : Turn) (rest : List ℕ) : Type 0 where
+pub record IsTakenFrom (version : ℕ) (players text : List ℕ) (commands : List Command) (turn : PlayerTurn) (rest : List ℕ) : Type 0 where
   pub splits : text ≡ ticcmds_text players 0 commands ++ rest
   pub turns : turn ≡ record { players = players; index = length commands }
   pub fit : AllByRecursion (FitsCommand version) commands

@@ -8,8 +8,8 @@ use Rattle.demo_lump.specs.declared.header.Header.{Header}
 use Rattle.le_rec.specs.Sink.{SinkState}
 use Rattle.line_io.specs.Writes.{Writes}
 use Rattle.line_io.specs.declared.fault.IoFault.{IoFault}
-use Rattle.wad_look.specs.Listing.{hex_byte}
-use Rattle.wad_look.specs.Turn.{player_of, tic_of}
+use Rattle.look_engines.specs.Listing.{hex_byte}
+use Rattle.look_engines.specs.Turn.{player_of, tic_of}
 
 -- the numbers of a header before its players, in order, and what they are called
 abbrev pub header_numbers : Header → List ℕ

@@ -6,7 +6,7 @@ use Rattle.demo_engines.specs.ObjectValues.{demo_value, numbers_of, refused_valu
 use Rattle.demo_engines.specs.Objects.{demo_object, refused_object}
 use Rattle.demo_lump.specs.Demo.{Demo, IsDemo, IsRead}
 use Rattle.lens_texts.specs.Members.{IsLineOf}
-use Rattle.wad_look.specs.Listing.{totals_line}
+use Rattle.look_engines.specs.Listing.{totals_line}
 
 -- demos that are the same don't differ
 abbrev pub SameOrDiffer : Type 0

@@ -7,7 +7,7 @@ use Rattle.demo_lump.specs.Header.{IsVersion, players_in}
 use Rattle.demo_lump.specs.declared.command.Command.{Command}
 use Rattle.demo_lump.specs.declared.header.Header.{Header}
 use Rattle.le_rec.specs.Bytes.{AreBytes}
-use Rattle.wad_look.specs.Listing.{hex_byte}
+use Rattle.look_engines.specs.Listing.{hex_byte}
 
 -- a text that goes on with no byte of a kind
 pub data Stops (P : ℕ → Type 0) : List ℕ → Type 0 where

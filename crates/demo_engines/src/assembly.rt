@@ -6,17 +6,17 @@ ghost use Rattle.demo_engines.specs.Assembly.{IsAssembled, IsTakenFrom, LacksEnd
 ghost use Rattle.demo_engines.specs.declared.assembly.AssembleFault.TheVariants as fault;
 ghost use Rattle.demo_engines.specs.Parts.{FitsCommand, totals_front};
 ghost use Rattle.demo_lump.specs.Header.{players_in};
-ghost use Rattle.wad_look.specs.Listing.{ticcmds_text, totals_line};
-ghost use Rattle.wad_look.specs.Turn.{tic_of};
+ghost use Rattle.look_engines.specs.Listing.{ticcmds_text, totals_line};
+ghost use Rattle.look_engines.specs.Turn.{tic_of};
 
 use crate::command_line::take_command;
 use crate::header_line::take_header;
 use crate::numbers::{behind_last_number, take_label};
 use demo_lump::{Command, write_demo};
 use line_io::TextLine;
+use look_engines::PlayerTurn;
 use std::alloc::{AllocError, Global};
 use thiserror::Error;
-use wad_look::Turn;
 
 /// What must follow where a text stops being a listing: the first of these that holds.
 #[derive(Clone, Copy, Debug, PartialEq, Eq)]
@@ -87,7 +87,7 @@ fn lacks_end(text: &[u8]) -> bool
 }
 
 // What must follow the lines of commands, if neither one more nor the totals do.
-fn wanted_behind(text: &[u8], turn: &Turn) -> Wanted
+fn wanted_behind(text: &[u8], turn: &PlayerTurn) -> Wanted
     ensures { result ≡ wanted_behind text.now turn.now }
 {
     if text.starts_with(b"tics") {
@@ -102,7 +102,7 @@ fn wanted_behind(text: &[u8], turn: &Turn) -> Wanted
 struct Taken<'t> {
     commands: Vec<Command>,
     // Whose turn is next.
-    turn: Turn,
+    turn: PlayerTurn,
     // What follows the lines.
     rest: &'t [u8],
 }
@@ -118,7 +118,7 @@ fn take_commands<'t>(
     ensures { IfOk result (λ taken. IsTakenFrom version players text.now taken.commands.items taken.turn taken.rest.now) }
 {
     let mut commands = Vec::new(alloc);
-    let mut turn = Turn::new(players);
+    let mut turn = PlayerTurn::new(players);
     let mut rest = text;
     while let Some((command, behind)) = take_command(version, rest, &turn) {
         commands.push(command)?;
@@ -133,7 +133,7 @@ fn take_commands<'t>(
 }
 
 // What follows the line of totals, if that line stands at the front and fits this turn.
-fn take_totals<'t>(text: &'t [u8], turn: &Turn) -> Option<&'t [u8]>
+fn take_totals<'t>(text: &'t [u8], turn: &PlayerTurn) -> Option<&'t [u8]>
     ensures some { IfSome result (λ rest. (after : ℕ) × (after < 2 ^ 64) × (text.now
         ≡ totals_line (tic_of turn.now.players turn.now.index) (turn.now.index % players_in turn.now.players) after ++ rest.now)) }
     ensures none { IfNone result ((after : ℕ) (rest : List ℕ) → after < 2 ^ 64 → text.now
@@ -150,7 +150,7 @@ fn take_totals<'t>(text: &'t [u8], turn: &Turn) -> Option<&'t [u8]>
 }
 
 // The totals' line at this turn up to the number of bytes after the demo.
-fn totals_before_after(turn: &Turn) -> TextLine
+fn totals_before_after(turn: &PlayerTurn) -> TextLine
     ensures { result ≡ totals_front (tic_of turn.now.players turn.now.index) (turn.now.index % players_in turn.now.players) }
 {
     let mut front = TextLine::new();

@@ -3,20 +3,24 @@
 ghost use Rattle.std.specs.Prelude.{◌≡◌, ◌≢◌, ◌↔◌, ◌≤◌, ◌<◌, ◌++◌, ◌∷◌, ℕ, List, [], length, IfSome, IfNone, IsTrue};
 ghost use Rattle.demo_engines.specs.Parts.{FitsCommand, command_fields, front_of};
 ghost use Rattle.demo_lump.specs.declared.command.Command.{Command};
-ghost use Rattle.wad_look.specs.Listing.{ticcmd_line};
-ghost use Rattle.wad_look.specs.Turn.{player_of, tic_of};
+ghost use Rattle.look_engines.specs.Listing.{ticcmd_line};
+ghost use Rattle.look_engines.specs.Turn.{player_of, tic_of};
 
 use crate::compare::prepend_command;
 use crate::numbers::{behind_first, guess_hex, guess_signed, guess_word, take_label};
 use demo_lump::Command;
 use line_io::TextLine;
-use wad_look::Turn;
+use look_engines::PlayerTurn;
 
 /// The version of the long form, whose commands have a turn of two bytes.
 const LONG: u8 = 111;
 
 /// The command of this version whose line stands at the front and fits this turn, and what follows the line.
-pub fn take_command<'t>(version: u8, text: &'t [u8], turn: &Turn) -> Option<(Command, &'t [u8])>
+pub fn take_command<'t>(
+    version: u8,
+    text: &'t [u8],
+    turn: &PlayerTurn,
+) -> Option<(Command, &'t [u8])>
     ensures some { IfSome result (λ found. text.now
         ≡ ticcmd_line (tic_of turn.now.players turn.now.index) (player_of turn.now.players turn.now.index) found.0 ++ found.1.now) }
     ensures fits { IfSome result (λ found. FitsCommand version found.0) }
@@ -34,7 +38,7 @@ pub fn take_command<'t>(version: u8, text: &'t [u8], turn: &Turn) -> Option<(Com
 }
 
 // The line of a command at this turn, up to its fields.
-fn tic_and_player(turn: &Turn) -> TextLine
+fn tic_and_player(turn: &PlayerTurn) -> TextLine
     ensures { result ≡ front_of (tic_of turn.now.players turn.now.index) (player_of turn.now.players turn.now.index) }
 {
     let mut front = TextLine::new();

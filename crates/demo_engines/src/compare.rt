@@ -4,12 +4,12 @@ ghost use Rattle.std.specs.Prelude.{◌≡◌, ◌≢◌, ◌+◌, ◌<◌, ◌�
 ghost use Rattle.std.specs.List.{slice_get};
 ghost use Rattle.demo_engines.specs.Differences.{Compares, HeadersDiffer, IsCompared, command_line, command_text, end_line};
 ghost use Rattle.demo_engines.specs.Differences.{header_numbers, number_line, number_name, players_line, players_text};
-ghost use Rattle.wad_look.specs.Turn.{player_of, tic_of};
+ghost use Rattle.look_engines.specs.Turn.{player_of, tic_of};
 
 use demo_lump::{Command, Demo, Header};
 use le_rec::{Sink, hex_digit};
 use line_io::{IoFault, TextLine, emit};
-use wad_look::Turn;
+use look_engines::PlayerTurn;
 
 /// Writes where two demos first differ, in one line, or nothing if header and commands are the same. Returns whether they are.
 /// `header: skill 3, 4` is a number of the header, and `tic 118 player 1: 50 0 0 00, 25 0 0 00` a command as a listing has it.
@@ -175,7 +175,7 @@ fn prepend_in_commands(line: &mut TextLine, a: &Demo<'_>, b: &Demo<'_>) -> bool
 }
 
 // With how many of the same commands both begin, and whose turn is next.
-fn same_turns(a: &Demo<'_>, b: &Demo<'_>) -> (usize, Turn)
+fn same_turns(a: &Demo<'_>, b: &Demo<'_>) -> (usize, PlayerTurn)
     ensures turn { result.1 ≡ record { players = a.now.header.players; index = result.0 } }
     ensures same { take result.0 a.now.commands ≡ take result.0 b.now.commands }
     ensures of_a { result.0 ≤ length a.now.commands }
@@ -183,7 +183,7 @@ fn same_turns(a: &Demo<'_>, b: &Demo<'_>) -> (usize, Turn)
     ensures most { (x y : _) → slice_get a.now.commands result.0 ≡ Some x → slice_get b.now.commands result.0 ≡ Some y → x ≢ y }
 {
     let both = a.commands().min(b.commands());
-    let mut turn = Turn::new(a.header().players);
+    let mut turn = PlayerTurn::new(a.header().players);
     for i in 0..both {
         if a.command(i) != b.command(i) {
             return (i, turn);
@@ -193,7 +193,7 @@ fn same_turns(a: &Demo<'_>, b: &Demo<'_>) -> (usize, Turn)
     (both, turn)
 }
 
-fn prepend_command_line(line: &mut TextLine, turn: &Turn, a: &Command, b: &Command)
+fn prepend_command_line(line: &mut TextLine, turn: &PlayerTurn, a: &Command, b: &Command)
     requires { line.old ≡ [] }
     ensures { line.new ≡ command_line (tic_of turn.now.players turn.now.index) (player_of turn.now.players turn.now.index) a.now b.now }
 {

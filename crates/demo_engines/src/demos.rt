@@ -8,14 +8,12 @@ ghost use Rattle.demo_engines.specs.Demos.{Answers, IsDemoTold, IsEntryTold, OnE
 ghost use Rattle.demo_engines.specs.Demos.{is_demo_name, is_wad_file, read_text, unread_text, unread_texts};
 ghost use Rattle.demo_engines.specs.RefusalText.{reason_text};
 
-use crate::hand_on::HandOn;
 use crate::object::{write_object, write_refused_object};
 use crate::refusal::{DemoRefusal, write_refused};
 use crate::summary::{Heading, write_summary};
-use crate::watch::Watch;
 use demo_lump::Demo;
 use le_rec::{Name8, Sink};
-use lens_texts::Form;
+use lens_texts::{Form, HandOn, Watch};
 use line_io::{IoFault, emit};
 use std::alloc::Allocator;
 use thiserror::Error;

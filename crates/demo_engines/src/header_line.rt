@@ -5,12 +5,12 @@ ghost use Rattle.demo_engines.specs.Parts.{FitsHeader, numbers_of};
 ghost use Rattle.demo_lump.specs.Header.{IsVersion, players_in};
 ghost use Rattle.demo_lump.specs.declared.header.Header.{Header};
 ghost use Rattle.le_rec.specs.Bytes.{AreBytes};
-ghost use Rattle.wad_look.specs.Listing.{header_line};
+ghost use Rattle.look_engines.specs.Listing.{header_line};
 
 use crate::numbers::{guess_number, take_label};
 use demo_lump::Header;
 use line_io::TextLine;
-use wad_look::prepend_header;
+use look_engines::prepend_header;
 
 /// The numbers of a header.
 const NUMBERS: usize = 13;

@@ -6,18 +6,14 @@ mod assembly;
 mod command_line;
 mod compare;
 mod demos;
-mod hand_on;
 mod header_line;
 pub mod laws;
 mod numbers;
 mod object;
 mod refusal;
 mod summary;
-mod watch;
 
 pub use assembly::{AssembleFault, Wanted, assemble};
 pub use compare::compare_demos;
 pub use demos::{DemoQuestion, DemosFault, demos_file};
-pub use hand_on::{AtOnce, HandOn};
 pub use refusal::write_demo_refusal;
-pub use watch::{Unwatched, Watch};

@@ -7,7 +7,7 @@ ghost use Rattle.std.specs.Int.RustNames.{FitsSigned};
 ghost use Rattle.demo_engines.specs.Parts.{Stops};
 ghost use Rattle.le_rec.specs.Name.{hex_digit};
 ghost use Rattle.line_io.specs.Numbers.{IsDigit, value_of};
-ghost use Rattle.wad_look.specs.Listing.{hex_byte};
+ghost use Rattle.look_engines.specs.Listing.{hex_byte};
 
 /// What follows a label.
 pub fn take_label<'t>(text: &'t [u8], label: &[u8]) -> Option<&'t [u8]>

@@ -8,7 +8,7 @@ use Rattle.lens_engines.specs.declared.object.FileRefusal.{FileRefusal}
 use Rattle.lens_engines.specs.declared.object.FileRefusal.TheVariants as refusal
 use Rattle.atlas_page.specs.Levels.{AddsRows}
 use Rattle.atlas_page.specs.declared.levels.Origin.{Origin}
-use Rattle.atlas_page.specs.declared.refused.Refused.{Refused}
+use Rattle.atlas_page.specs.declared.refused.RefusedFile.{RefusedFile}
 use Rattle.atlas_page.specs.declared.row.Row.{Row}
 use Rattle.wad_dir.specs.Entries.{names}
 use Rattle.wad_dir.specs.Wad.{IsRead, Wad}
@@ -16,8 +16,8 @@ use Rattle.lens_reports.specs.Files.{RefusesRead, at_path}
 use Rattle.lens_reports.specs.Run.{RefusesFile, TellsPath, TellsWord, WritesRefusal, no_tally, tally_with}
 use Rattle.lens_reports.specs.declared.files.ReadFault.TheVariants as read
 use Rattle.lens_reports.specs.declared.tell.Request.{Request}
-use Rattle.lens_reports.specs.declared.tell.Tally.{Tally}
-use Rattle.lens_reports.specs.declared.tell.Word.TheVariants.{Survey}
+use Rattle.lens_reports.specs.declared.tell.ReportSum.{ReportSum}
+use Rattle.lens_reports.specs.declared.tell.ReportKind.TheVariants.{Survey}
 use Rattle.line_io.specs.declared.input.TheConstants.{MAX_READ}
 use Rattle.lens_commands.specs.Folder.{Kept, with_files}
 use Rattle.lens_commands.specs.Gathered.{AddsFront, AddsLevels, AddsPath, AddsSome, Gathers, GathersAll, GathersSome, IsOrigin, of_none, with_path}
@@ -25,6 +25,7 @@ use Rattle.lens_commands.specs.AtlasPictures.{DrawsRows, DrawsSome, ShowsRows}
 use Rattle.lens_commands.specs.declared.atlas.gather.Gathered.{Gathered}
 use Rattle.lens_commands.specs.declared.atlas.job.AtlasRequest.{AtlasRequest}
 use Rattle.lens_commands.proofs.FolderLemmas.{with_files-more, with_files-none}
+use Rattle.map_picture.specs.declared.draw.View.{View}
 
 pub on_ok : {T E P Q : Type 0} (result : Result T E) → (P → Q) → OnOk result P → OnOk result Q
 on_ok (Ok x) f p = f p
@@ -56,14 +57,14 @@ part_added origin files end n rows old new adds same count =
     ∙ take_all (length rows - n) adds.added (omega (arith, ap length same, ap length adds.is, length-append old adds.added, count))
 
 -- a refused file was told
-pub path_told : {E : Type 0} (held : Option (List ℕ)) (asked : Request) (path : List ℕ) (refusal : FileRefusal) (out out' errors errors' : SinkState) (result : Result Tally E)
+pub path_told : {E : Type 0} (held : Option (List ℕ)) (asked : Request) (path : List ℕ) (refusal : FileRefusal) (out out' errors errors' : SinkState) (result : Result ReportSum E)
     → RefusesFile (at_path held) asked.word refusal → IfOk result (WritesRefusal asked.word path refusal out out' errors errors') → IfOk result (TellsPath (at_path held) asked path out out' errors errors')
 path_told held asked path refusal out out' errors errors' (Ok tally) why writes = inr (record { refusal = refusal; why = why; writes = writes })
 path_told held asked path refusal out out' errors errors' (Err fault) why writes = tt
 
 -- it was, by ends that nothing was told of it before
 pub written_from : {W E F : Type 0} (state : W → SinkState) (state' : E → SinkState) (out between : W) (errors told : E) (path : List ℕ) (refusal : FileRefusal)
-    (after after_errors : SinkState) (result : Result Tally F) → between ≡ out → told ≡ errors
+    (after after_errors : SinkState) (result : Result ReportSum F) → between ≡ out → told ≡ errors
     → IfOk result (WritesRefusal Survey path refusal (state between) after (state' told) after_errors)
     → IfOk result (WritesRefusal Survey path refusal (state out) after (state' errors) after_errors)
 written_from state state' out between errors told path refusal after after_errors result same same_errors writes =
@@ -77,18 +78,18 @@ file_refused held refusal.Unread why = why
 file_refused held refusal.TooLarge why = why
 file_refused held (refusal.NoWad fault) why = absurd why
 
-module _ (cells : ℕ) (origin : Origin) (bytes : List ℕ) (old new : List Row) (k0 k1 : Option (List Kept)) where
+module _ (drawn : View) (origin : Origin) (bytes : List ℕ) (old new : List Row) (k0 k1 : Option (List Kept)) where
   -- the levels of a file with their pictures
   pub levels_added : (files : List Wad) (part : List Row) → map (λ file. file.bytes) files ≡ bytes ∷ [] → All IsRead files
       → (adds : AddsRows origin files (length (names files)) old new) → part ≡ adds.added
-      → DrawsRows cells origin.judging.reading files part k0 k1 → AddsLevels cells origin bytes old new k0 k1
+      → DrawsRows drawn origin.judging.reading files part k0 k1 → AddsLevels drawn origin bytes old new k0 k1
   levels_added [] part of_bytes read adds same draws = absurd (cc)
   levels_added (file ∷ []) part of_bytes read adds same draws = record {
     file = file;
     more = adds.added;
     are = record { of_bytes = cc; read = read 0 file (omega arith); are = adds.are };
     pictures = draws.shown;
-    shows = subst (λ rows. ShowsRows cells origin.judging.reading (file ∷ []) rows draws.shown) same draws.exact;
+    shows = subst (λ rows. ShowsRows drawn origin.judging.reading (file ∷ []) rows draws.shown) same draws.exact;
     rows = adds.is;
     adds = draws.adds;
   }
@@ -97,7 +98,7 @@ module _ (cells : ℕ) (origin : Origin) (bytes : List ℕ) (old new : List Row)
   -- and with some of them
   pub levels_stopped : (files : List Wad) (part : List Row) → map (λ file. file.bytes) files ≡ bytes ∷ [] → All IsRead files
       → (adds : AddsRows origin files (length (names files)) old new) → part ≡ adds.added
-      → DrawsSome cells origin.judging.reading files part k0 k1 → AddsSome cells origin bytes k0 k1
+      → DrawsSome drawn origin.judging.reading files part k0 k1 → AddsSome drawn origin bytes k0 k1
   levels_stopped [] part of_bytes read adds same some = absurd (cc)
   levels_stopped (file ∷ []) part of_bytes read adds same some = inr (record {
     file = file;
@@ -105,18 +106,18 @@ module _ (cells : ℕ) (origin : Origin) (bytes : List ℕ) (old new : List Row)
     are = record { of_bytes = cc; read = read 0 file (omega arith); are = adds.are };
     count = some.count;
     shown = some.draws.shown;
-    pictures = subst (λ rows. ShowsRows cells origin.judging.reading (file ∷ []) (take some.count rows) some.draws.shown) same some.draws.exact;
+    pictures = subst (λ rows. ShowsRows drawn origin.judging.reading (file ∷ []) (take some.count rows) some.draws.shown) same some.draws.exact;
     adds = some.draws.adds;
   })
   levels_stopped (file ∷ other ∷ files) part of_bytes read adds same some = absurd (cc)
 
-module _ (held : Option (List ℕ)) (cells : ℕ) (origin : Origin) (k0 k1 : Option (List Kept)) where
+module _ (held : Option (List ℕ)) (drawn : View) (origin : Origin) (k0 k1 : Option (List Kept)) where
   module _ (out out' errors errors' : SinkState) where
     -- a file with its levels was added
-    pub path_levels : (bytes : List ℕ) (old new : Gathered) (tally : Tally) → Keeps held (Some bytes) → length bytes ≤ MAX_READ
+    pub path_levels : (bytes : List ℕ) (old new : Gathered) (tally : ReportSum) → Keeps held (Some bytes) → length bytes ≤ MAX_READ
         → TellsWord Survey origin.path.now bytes origin.judging out out' errors errors' tally
-        → AddsLevels cells origin bytes old.rows.items new.rows.items k0 k1
-        → new.refused.items ≡ old.refused.items → new.tally ≡ old.tally → AddsPath held cells origin old new k0 k1 out out' errors errors' tally
+        → AddsLevels drawn origin bytes old.rows.items new.rows.items k0 k1
+        → new.refused.items ≡ old.refused.items → new.tally ≡ old.tally → AddsPath held drawn origin old new k0 k1 out out' errors errors' tally
     path_levels bytes old new tally holds few told levels same kept = record {
       more = levels.more;
       others = [];
@@ -138,10 +139,10 @@ module _ (held : Option (List ℕ)) (cells : ℕ) (origin : Origin) (k0 k1 : Opt
     }
 
     -- a refused one was
-    pub path_refused : {E : Type 0} (old new : Gathered) (one : Refused) (result : Result Tally E) → one.path.now ≡ origin.path.now → RefusesFile (at_path held) Survey one.why
+    pub path_refused : {E : Type 0} (old new : Gathered) (one : RefusedFile) (result : Result ReportSum E) → one.path.now ≡ origin.path.now → RefusesFile (at_path held) Survey one.why
         → new.rows.items ≡ old.rows.items → OnOk result (new.refused.items ≡ old.refused.items ++ one ∷ []) → new.tally ≡ old.tally → k1 ≡ k0
         → IfOk result (WritesRefusal Survey origin.path.now one.why out out' errors errors')
-        → IfOk result (AddsPath held cells origin old new k0 k1 out out' errors errors')
+        → IfOk result (AddsPath held drawn origin old new k0 k1 out out' errors errors')
     path_refused old new one (Ok tally) of_path why same refused kept untouched told = record {
       more = [];
       others = one ∷ [];
@@ -155,11 +156,11 @@ module _ (held : Option (List ℕ)) (cells : ℕ) (origin : Origin) (k0 k1 : Opt
     path_refused old new one (Err fault) of_path why same refused kept untouched told = tt
 
   -- none was
-  pub front_none : k1 ≡ k0 → AddsFront held cells origin k0 k1
+  pub front_none : k1 ≡ k0 → AddsFront held drawn origin k0 k1
   front_none untouched = record { shown = []; front = inl refl; adds = untouched ∙ sym (with_files-none k0) }
 
   -- some of a file's pictures were
-  pub front_some : (bytes : List ℕ) → Keeps held (Some bytes) → AddsSome cells origin bytes k0 k1 → AddsFront held cells origin k0 k1
+  pub front_some : (bytes : List ℕ) → Keeps held (Some bytes) → AddsSome drawn origin bytes k0 k1 → AddsFront held drawn origin k0 k1
   front_some bytes holds (inl untouched) = front_none untouched
   front_some bytes holds (inr part) = record {
     shown = part.shown;
@@ -173,11 +174,11 @@ module _ (held : List ℕ → Option (List ℕ)) (asked : AtlasRequest) where
   all_none k0 out errors = record { shown = []; gathered = of_none; adds = sym (with_files-none k0) }
 
   module _ (paths : List (Bor (List ℕ))) (i : ℕ) (d : Bor (List ℕ)) (within : i < length paths) (origin : Origin) (k0 k1 k2 : Option (List Kept))
-      (out between after errors between_errors after_errors : SinkState) (sum : Tally) where
+      (out between after errors between_errors after_errors : SinkState) (sum : ReportSum) where
     -- one path more
-    pub all_more : (old new : Gathered) (tally : Tally) → IsOrigin asked (i + 1) (get_or paths i d).now origin
+    pub all_more : (old new : Gathered) (tally : ReportSum) → IsOrigin asked (i + 1) (get_or paths i d).now origin
         → GathersAll held asked (map (λ path. path.now) (take i paths)) old.rows.items old.refused.items k0 k1 out between errors between_errors sum
-        → AddsPath (held (get_or paths i d).now) asked.cells origin old new k1 k2 between after between_errors after_errors tally
+        → AddsPath (held (get_or paths i d).now) asked.drawn origin old new k1 k2 between after between_errors after_errors tally
         → GathersAll held asked (map (λ path. path.now) (take (i + 1) paths)) new.rows.items new.refused.items k0 k2 out after errors after_errors (tally_with sum tally)
     all_more old new tally is so_far adds =
         let first : map (λ (p : Bor (List ℕ)). p.now) (take i paths) ++ (get_or paths i d).now ∷ [] ≡ map (λ p. p.now) (take (i + 1) paths) =
@@ -195,8 +196,8 @@ module _ (held : List ℕ → Option (List ℕ)) (asked : AtlasRequest) where
         }
 
     -- the run stopped at a path
-    pub some_stopped : (rows : List Row) (refused : List Refused) → IsOrigin asked (i + 1) (get_or paths i d).now origin
-        → GathersAll held asked (map (λ path. path.now) (take i paths)) rows refused k0 k1 out between errors between_errors sum → AddsFront (held (get_or paths i d).now) asked.cells origin k1 k2
+    pub some_stopped : (rows : List Row) (refused : List RefusedFile) → IsOrigin asked (i + 1) (get_or paths i d).now origin
+        → GathersAll held asked (map (λ path. path.now) (take i paths)) rows refused k0 k1 out between errors between_errors sum → AddsFront (held (get_or paths i d).now) asked.drawn origin k1 k2
         → GathersSome held asked (map (λ path. path.now) paths) k0 k2 out errors
     some_stopped rows refused is so_far front =
         let count : i + 1 ≡ suc (length (map (λ (p : Bor (List ℕ)). p.now) (take i paths))) =
@@ -223,3 +224,33 @@ module _ (held : List ℕ → Option (List ℕ)) (asked : AtlasRequest) where
           });
           adds = front.adds;
         }
+
+module _ (held : List ℕ → Option (List ℕ)) (asked : AtlasRequest) (out errors : SinkState) where
+  -- no more files are refused than there are
+  few_refused : (paths : List (List ℕ)) (rows : List Row) (refused : List RefusedFile) (shown : List Kept) (out' errors' : SinkState) (tally : ReportSum)
+      → Gathers held asked out errors paths rows refused shown out' errors' tally → length refused ≤ length paths
+  few_refused paths rows refused shown out' errors' tally of_none = omega arith
+  few_refused paths rows refused shown out' errors' tally (with_path before more_rows others_before shown_before o e sum path origin more others pictures o' e' one so_far is gathers) =
+      let few = few_refused before more_rows others_before shown_before o e sum so_far in
+      let longer = length-append before (path ∷ []) in
+      let added = length-append others_before others in
+      elim gathers [
+        | inl file ↦ omega (arith, few, longer, added, ap (λ (xs : List RefusedFile). length xs) file.none)
+        | inr lone ↦ omega (arith, few, longer, added, ap (λ (xs : List RefusedFile). length xs) lone.is)
+      ]
+
+  -- where all are there are no rows and no pictures
+  pub all_refused : (paths : List (List ℕ)) (rows : List Row) (refused : List RefusedFile) (shown : List Kept) (out' errors' : SinkState) (tally : ReportSum)
+      → Gathers held asked out errors paths rows refused shown out' errors' tally → length refused ≡ length paths → (rows ≡ []) × (shown ≡ [])
+  all_refused paths rows refused shown out' errors' tally of_none every = (refl, refl)
+  all_refused paths rows refused shown out' errors' tally (with_path before more_rows others_before shown_before o e sum path origin more others pictures o' e' one so_far is gathers) every =
+      let few = few_refused before more_rows others_before shown_before o e sum so_far in
+      let longer = length-append before (path ∷ []) in
+      let added = length-append others_before others in
+      elim gathers [
+        | inl file ↦ absurd (omega (arith, few, longer, added, every, ap (λ (xs : List RefusedFile). length xs) file.none))
+        | inr lone ↦
+            let none = all_refused before more_rows others_before shown_before o e sum so_far
+            (omega (arith, longer, added, every, ap (λ (xs : List RefusedFile). length xs) lone.is)) in
+            (rw (none.0, lone.rowless) refl, rw (none.1, lone.none) refl)
+      ]

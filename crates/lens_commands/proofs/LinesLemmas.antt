@@ -15,7 +15,7 @@ use Rattle.wad_dir.specs.Wad.{IsRead, Wad}
 use Rattle.atlas_page.specs.Levels.{AreRowsBelow, IsRow}
 use Rattle.atlas_page.specs.declared.levels.Origin.{Origin}
 use Rattle.atlas_page.specs.declared.row.Row.{Row}
-use Rattle.lens_engines.specs.Survey.{AreStartsBelow, AreTold, IsTold, SurveysAll, SurveysFile, SurveysSome, Told, gravest, graver, lines_of, verdict_of}
+use Rattle.lens_engines.specs.Survey.{AreStartsBelow, AreTold, IsTold, SurveysAll, SurveysFile, SurveysSome, ToldLevel, gravest, graver, lines_of, verdict_of}
 use Rattle.lens_engines.specs.Surveyed.{survey_line}
 use Rattle.lens_engines.specs.declared.verdict.LevelsFault.TheVariants.{Write}
 use Rattle.lens_engines.specs.declared.verdict.Verdict.{Verdict}
@@ -33,11 +33,11 @@ lines_none before sound = record { took = Appends-nil before.taken; sound = soun
 lines-push : (rows : List Row) (row : Row) → lines_of (map told_of (rows ++ row ∷ [])) ≡ lines_of (map told_of rows) ++ (told_of row).line
 lines-push rows row =
     ap lines_of (map_push told_of rows row)
-    ∙ flat_map-append (λ (t : Told). t.line) (map told_of rows) (told_of row ∷ [])
+    ∙ flat_map-append (λ (t : ToldLevel). t.line) (map told_of rows) (told_of row ∷ [])
     ∙ ap (λ line. lines_of (map told_of rows) ++ line) (append-nil (told_of row).line)
 
 gravest-push : (rows : List Row) (row : Row) → gravest (map told_of (rows ++ row ∷ [])) ≡ graver (gravest (map told_of rows)) (verdict_of row.found)
-gravest-push rows row = ap gravest (map_push told_of rows row) ∙ fold_push (λ v (t : Told). graver v t.verdict) Clean (map told_of rows) (told_of row)
+gravest-push rows row = ap gravest (map_push told_of rows row) ∙ fold_push (λ v (t : ToldLevel). graver v t.verdict) Clean (map told_of rows) (told_of row)
 
 -- one line more
 pub lines_more : (rows : List Row) (i : ℕ) (row : Row) (before between after : SinkState) (worst : Verdict) {x : Unit {0}} → i < length rows → row ≡ get_or rows i row

@@ -1,5 +1,5 @@
 -- How the pictures of rows come into a folder.
-use Rattle.std.proofs.Common.{◌≡◌, ℕ, ◌+◌, ◌<◌, List, [], ◌∷◌, ◌++◌, length, take, get_or, Option, None, Result, Ok, Err, true, false, refl, sym, ap, ◌∙◌, subst}
+use Rattle.std.proofs.Common.{◌≡◌, ℕ, ◌+◌, ◌<◌, List, [], ◌∷◌, ◌++◌, length, take, get_or, Option, Result, Ok, Err, true, false, refl, sym, ap, ◌∙◌, subst}
 use Rattle.std.specs.Prelude.{OnErr, OnOk}
 use Rattle.std.proofs.lemmas.List.{take_more}
 use Rattle.le_rec.specs.Sink.{SinkState}
@@ -22,6 +22,8 @@ use Rattle.lens_commands.specs.Folder.{IsBegun, Kept, KeepsFile, with_files}
 use Rattle.lens_commands.specs.AtlasPictures.{DrawsFile, DrawsRow, DrawsRows, DrawsSome, ShowsRows, of_none, with_row}
 use Rattle.lens_commands.specs.declared.atlas.fault.KeepFault.{KeepFault}
 use Rattle.lens_commands.proofs.FolderLemmas.{kept_whole, with_files-more, with_files-none}
+use Rattle.map_cells.specs.Frame.{Frame}
+use Rattle.map_picture.specs.declared.draw.View.{View}
 
 -- a row with a picture is that of a level of Doom's format, in which there is something to draw
 pub drawn_level : (files : List Wad) (judging : Judging) (g : ℕ) (told : Surveyed) → SurveyedAt files judging g told → is_drawn told ≡ true
@@ -33,14 +35,14 @@ drawn_level files judging g (surveyed.Judged counted) is drawn = (
 drawn_level files judging g (surveyed.Unjudged unjudged) is drawn = absurd (cc)
 
 -- where something is to be drawn a frame isn't wanting
-pub drawn_lines : (level : Level) → HasLines level → ¬ HasNothing level None
-drawn_lines level lines nothing = nothing.none lines.0 lines.1
+pub drawn_lines : (level : Level) (asked : Option Frame) → HasLines level → ¬ HasNothing level asked
+drawn_lines level asked lines nothing = nothing.none lines.0 lines.1
 
 -- a level's picture was put into a folder, or not
-pub picture_kept : (cells : ℕ) (level : Level) (name : List ℕ) (old new : Option (List Kept)) (before after : SinkState) (result : Result (Unit {0}) KeepFault)
-    → IsBegun old before → TakesWhole (IsPicture level (record { frame = None; cells = cells })) before after → KeepsFile old new after name result
-    → OnOk result (DrawsFile cells level name old new) × OnErr result (new ≡ old)
-picture_kept cells level name old new before after (Ok x) begun took kept = (
+pub picture_kept : (drawn : View) (level : Level) (name : List ℕ) (old new : Option (List Kept)) (before after : SinkState) (result : Result (Unit {0}) KeepFault)
+    → IsBegun old before → TakesWhole (IsPicture level drawn) before after → KeepsFile old new after name result
+    → OnOk result (DrawsFile drawn level name old new) × OnErr result (new ≡ old)
+picture_kept drawn level name old new before after (Ok x) begun took kept = (
   record {
     file = record { name = name; text = took.text };
     is = record { named = refl; exact = took.is };
@@ -48,12 +50,12 @@ picture_kept cells level name old new before after (Ok x) begun took kept = (
   },
   tt,
 )
-picture_kept cells level name old new before after (Err why) begun took kept = (tt, kept)
+picture_kept drawn level name old new before after (Err why) begun took kept = (tt, kept)
 
-module _ (cells : ℕ) (reading : Reading) (files : List Wad) where
+module _ (drawn : View) (reading : Reading) (files : List Wad) where
   -- the picture of a row with one
   pub row_drawn : (row : Row) (level : Level) (old new : Option (List Kept)) → is_drawn row.found ≡ true → IsLevelAt files row.entry reading level
-      → DrawsFile cells level (picture_name row.file row.entry) old new → DrawsRow cells reading files row old new
+      → DrawsFile drawn level (picture_name row.file row.entry) old new → DrawsRow drawn reading files row old new
   row_drawn row level old new drawn there draws = record {
     shown = draws.file ∷ [];
     exact = rw drawn (record { file = draws.file; of_row = record { level = level; there = there; is = draws.is }; is = refl });
@@ -61,25 +63,25 @@ module _ (cells : ℕ) (reading : Reading) (files : List Wad) where
   }
 
   -- a row without one
-  pub row_undrawn : (row : Row) (old : Option (List Kept)) → is_drawn row.found ≡ false → DrawsRow cells reading files row old old
+  pub row_undrawn : (row : Row) (old : Option (List Kept)) → is_drawn row.found ≡ false → DrawsRow drawn reading files row old old
   row_undrawn row old none = record { shown = []; exact = rw none refl; adds = sym (with_files-none old) }
 
   -- no row yet
-  pub rows_none : (old : Option (List Kept)) → DrawsRows cells reading files [] old old
+  pub rows_none : (old : Option (List Kept)) → DrawsRows drawn reading files [] old old
   rows_none old = record { shown = []; exact = of_none; adds = sym (with_files-none old) }
 
   -- one row more
   pub rows_more : (rows : List Row) (i : ℕ) (d : Row) (old between new : Option (List Kept)) → i < length rows
-      → DrawsRows cells reading files (take i rows) old between → DrawsRow cells reading files (get_or rows i d) between new
-      → DrawsRows cells reading files (take (i + 1) rows) old new
+      → DrawsRows drawn reading files (take i rows) old between → DrawsRow drawn reading files (get_or rows i d) between new
+      → DrawsRows drawn reading files (take (i + 1) rows) old new
   rows_more rows i d old between new within so_far one = record {
     shown = so_far.shown ++ one.shown;
-    exact = subst (λ rs. ShowsRows cells reading files rs (so_far.shown ++ one.shown)) (sym (take_more rows i d within))
+    exact = subst (λ rs. ShowsRows drawn reading files rs (so_far.shown ++ one.shown)) (sym (take_more rows i d within))
         (with_row (take i rows) so_far.shown (get_or rows i d) one.shown so_far.exact one.exact);
     adds = one.adds ∙ ap (λ f. with_files f one.shown) so_far.adds ∙ with_files-more old so_far.shown one.shown;
   }
 
   -- and no more
-  pub rows_some : (rows : List Row) (i : ℕ) (old between new : Option (List Kept)) → DrawsRows cells reading files (take i rows) old between → new ≡ between
-      → DrawsSome cells reading files rows old new
-  rows_some rows i old between new so_far same = record { count = i; draws = subst (DrawsRows cells reading files (take i rows) old) (sym same) so_far }
+  pub rows_some : (rows : List Row) (i : ℕ) (old between new : Option (List Kept)) → DrawsRows drawn reading files (take i rows) old between → new ≡ between
+      → DrawsSome drawn reading files rows old new
+  rows_some rows i old between new so_far same = record { count = i; draws = subst (DrawsRows drawn reading files (take i rows) old) (sym same) so_far }

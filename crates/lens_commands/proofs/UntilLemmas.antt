@@ -11,8 +11,8 @@ use Rattle.lens_reports.specs.Run.{RefusesFile, StopsRefusal, TellsPath, TellsSo
 use Rattle.lens_reports.specs.declared.tell.Request.{Request}
 use Rattle.lens_reports.specs.declared.tell.Stop.{Stop}
 use Rattle.lens_reports.specs.declared.tell.Stop.TheVariants as stop
-use Rattle.lens_reports.specs.declared.tell.Tally.{Tally}
-use Rattle.lens_reports.specs.declared.tell.Word.TheVariants.{Survey}
+use Rattle.lens_reports.specs.declared.tell.ReportSum.{ReportSum}
+use Rattle.lens_reports.specs.declared.tell.ReportKind.TheVariants.{Survey}
 use Rattle.lens_reports.proofs.TellLemmas.{survey_taken, told_before}
 use Rattle.line_io.specs.declared.input.TheConstants.{MAX_READ}
 use Rattle.lens_commands.specs.Atlas.{survey_of}
@@ -25,7 +25,7 @@ use Rattle.lens_commands.specs.declared.atlas.fault.AtlasFault.TheVariants as fa
 
 module _ (held : Option (List ℕ)) (judging : Judging) (path : List ℕ) (out out' errors errors' : SinkState) where
   -- all of it was told
-  pub left_behind : (tally : Tally) (why : AtlasFault) → TellsPath (at_path held) (survey_of judging) path out out' errors errors' tally → IsNotErrors why
+  pub left_behind : (tally : ReportSum) (why : AtlasFault) → TellsPath (at_path held) (survey_of judging) path out out' errors errors' tally → IsNotErrors why
       → LeavesPath held (survey_of judging) path out out' errors errors' why
   left_behind tally why told fault = inl (record { tally = tally; told = told; fault = fault })
 
@@ -57,7 +57,7 @@ module _ (held : Option (List ℕ)) (judging : Judging) (path : List ℕ) (out o
       (record { fault = why; is = refl })
 
   -- it was refused, and this wasn't told to its end
-  pub refused_left : (refusal : FileRefusal) (result : Result Tally AtlasFault) → RefusesFile (at_path held) Survey refusal
+  pub refused_left : (refusal : FileRefusal) (result : Result ReportSum AtlasFault) → RefusesFile (at_path held) Survey refusal
       → IfErr result (LeavesRefused path refusal out out' errors errors') → IfErr result (LeavesPath held (survey_of judging) path out out' errors errors')
   refused_left refusal (Ok tally) why left = tt
   refused_left refusal (Err e) why (inl wants) = inl (record {
@@ -74,7 +74,7 @@ module _ (held : Option (List ℕ)) (judging : Judging) (path : List ℕ) (out o
 
 -- the run stopped at a file
 pub stopped_at : {P : Type 0} (path_of : P → List ℕ) (paths : List P) (i : ℕ) (d : P) → i < length paths
-    → (held : List ℕ → Option (List ℕ)) (asked : Request) (out errors between between_errors after after_errors : SinkState) (tally : Tally) (why : AtlasFault)
+    → (held : List ℕ → Option (List ℕ)) (asked : Request) (out errors between between_errors after after_errors : SinkState) (tally : ReportSum) (why : AtlasFault)
     → ToldTo (stored held) asked out errors (map path_of (take i paths)) between between_errors tally
     → LeavesPath (held (path_of (get_or paths i d))) asked (path_of (get_or paths i d)) between after between_errors after_errors why
     → StopsAtFile held asked (map path_of paths) out errors after after_errors why

@@ -1,9 +1,10 @@
 -- The folder of an atlas (ours): a picture for each level that has one, then the survey, and at last the page; and how its run ends.
-use Rattle.std.specs.Prelude.{◌≡◌, ◌⊎◌, ℕ, List, [], ◌∷◌, ◌++◌, codes, length, Option, Some, IfSome, Result, Ok, Err}
+use Rattle.std.specs.Prelude.{◌≡◌, ◌⊎◌, ◌&&◌, ℕ, Bool, true, nat_eq, nat_lt, List, [], ◌∷◌, ◌++◌, codes, length, Option, Some, IfSome, Result, Ok, Err}
 use Rattle.std.specs.Io.KnownBytes.{Keeps}
 use Rattle.le_rec.specs.Sink.{SinkState}
 use Rattle.atlas_page.specs.Page.{page_text}
-use Rattle.atlas_page.specs.declared.refused.Refused.{Refused}
+use Rattle.atlas_page.specs.declared.page.PageHead.{PageHead}
+use Rattle.atlas_page.specs.declared.refused.RefusedFile.{RefusedFile}
 use Rattle.atlas_page.specs.declared.row.Row.{Row}
 use Rattle.lens_engines.specs.declared.object.FileRefusal.{FileRefusal}
 use Rattle.lens_engines.specs.declared.verdict.Verdict.{Verdict}
@@ -13,8 +14,8 @@ use Rattle.lens_reports.specs.declared.end.End.{End}
 use Rattle.lens_reports.specs.declared.end.End.TheVariants as end
 use Rattle.lens_reports.specs.declared.files.ReadFault.TheVariants as read
 use Rattle.lens_reports.specs.declared.tell.Request.{Request}
-use Rattle.lens_reports.specs.declared.tell.Tally.{Tally}
-use Rattle.lens_reports.specs.declared.tell.Word.TheVariants.{Survey}
+use Rattle.lens_reports.specs.declared.tell.ReportSum.{ReportSum}
+use Rattle.lens_reports.specs.declared.tell.ReportKind.TheVariants.{Survey}
 use Rattle.wad_dir.specs.Wad.{Wad}
 use Rattle.lens_engines.specs.Rules.{IsOver}
 use Rattle.lens_reports.specs.Bases.{AreBases, EndsAtBase, IsRefusedAt, path_at}
@@ -41,13 +42,18 @@ abbrev pub survey_file : List ℕ → Kept
 survey_file text = record { name = codes "survey.jsonl"; text = text }
 
 -- and the page of these files
-abbrev pub index_file : ℕ → Warnings → List Row → List Refused → Kept
-index_file files warnings rows refused = record { name = codes "index.html"; text = page_text files warnings rows refused }
+abbrev pub page_file : PageHead → Warnings → ℕ → List Row → List RefusedFile → Kept
+page_file head warnings files rows refused =
+    record { name = codes "index.html"; text = page_text head files warnings rows refused }
+
+-- the page of an atlas, as a file of its folder
+abbrev pub index_file : AtlasRequest → ℕ → List Row → List RefusedFile → Kept
+index_file asked files rows refused = page_file asked.head asked.judging.warnings files rows refused
 
 -- this text is the survey of these paths, and standard error took its messages; the rows and the pictures of each file come from the bytes that the survey
 -- saw, and a file is refused where the survey refuses it, for the same reason
-pub record IsSurvey (held : List ℕ → Option (List ℕ)) (asked : AtlasRequest) (paths : List (List ℕ)) (rows : List Row) (refused : List Refused) (shown : List Kept)
-    (files : Option (List Kept)) (errors errors' : SinkState) (tally : Tally) (text : List ℕ) : Type 0 where
+pub record IsSurvey (held : List ℕ → Option (List ℕ)) (asked : AtlasRequest) (paths : List (List ℕ)) (rows : List Row) (refused : List RefusedFile) (shown : List Kept)
+    (files : Option (List Kept)) (errors errors' : SinkState) (tally : ReportSum) (text : List ℕ) : Type 0 where
   pub before : SinkState
   pub begun : IsBegun files before
   pub after : SinkState
@@ -58,20 +64,42 @@ pub record IsSurvey (held : List ℕ → Option (List ℕ)) (asked : AtlasReques
 -- all files of an atlas were added to a folder, the page last
 pub record WritesAtlas (held : List ℕ → Option (List ℕ)) (asked : AtlasRequest) (paths : List (List ℕ)) (old new : Option (List Kept)) (errors errors' : SinkState) (verdict : Verdict) : Type 0 where
   pub rows : List Row
-  pub refused : List Refused
+  pub refused : List RefusedFile
   pub shown : List Kept
-  pub tally : Tally
+  pub tally : ReportSum
   pub text : List ℕ
   pub survey : IsSurvey held asked paths rows refused shown old errors errors' tally text
-  pub adds : new ≡ with_files old (shown ++ survey_file text ∷ index_file (length paths) asked.judging.warnings rows refused ∷ [])
+  pub adds : new ≡ with_files old (shown ++ survey_file text ∷ index_file asked (length paths) rows refused ∷ [])
   pub says : verdict ≡ tally.verdict
+
+-- there are files, and so many of them are refused: all
+abbrev pub is_all_refused : ℕ → ℕ → Bool
+is_all_refused files refused = nat_lt 0 files && nat_eq refused files
+
+-- all paths are refused, so that there is nothing to show, and nothing was kept
+pub record LeavesAtlas (held : List ℕ → Option (List ℕ)) (asked : AtlasRequest) (paths : List (List ℕ)) (old new : Option (List Kept)) (errors errors' : SinkState) (verdict : Verdict) : Type 0 where
+  pub refused : List RefusedFile
+  pub every : is_all_refused (length paths) (length refused) ≡ true
+  pub tally : ReportSum
+  pub before : SinkState
+  pub begun : IsBegun old before
+  pub after : SinkState
+  pub told : ToldTo (stored held) (survey_of asked.judging) before errors paths after errors' tally
+  pub gathered : Gathers held asked before errors paths [] refused [] after errors' tally
+  pub untouched : new ≡ old
+  pub says : verdict ≡ tally.verdict
+
+-- the files of an atlas were written, or all paths are refused
+abbrev pub EndsAtlas : (List ℕ → Option (List ℕ)) → AtlasRequest → List (List ℕ) → Option (List Kept) → Option (List Kept) → SinkState → SinkState → Verdict → Type 0
+EndsAtlas held asked paths old new errors errors' verdict =
+    LeavesAtlas held asked paths old new errors errors' verdict ⊎ WritesAtlas held asked paths old new errors errors' verdict
 
 -- all files but the page were added
 pub record LacksPage (held : List ℕ → Option (List ℕ)) (asked : AtlasRequest) (paths : List (List ℕ)) (old new : Option (List Kept)) (errors errors' : SinkState) : Type 0 where
   pub rows : List Row
-  pub refused : List Refused
+  pub refused : List RefusedFile
   pub shown : List Kept
-  pub tally : Tally
+  pub tally : ReportSum
   pub text : List ℕ
   pub survey : IsSurvey held asked paths rows refused shown old errors errors' tally text
   pub adds : new ≡ with_files old (shown ++ survey_file text ∷ [])
@@ -90,7 +118,8 @@ StopsAtlas held asked paths old new errors errors' =
 -- how an atlas is asked for, over the base files
 pub record IsAskedOf (job : AtlasJob) (base : List Wad) (asked : AtlasRequest) : Type 0 where
   pub over : IsOver job.job.rules base asked.judging
-  pub cells : asked.cells ≡ job.cells
+  pub drawn : asked.drawn ≡ job.drawn
+  pub head : asked.head ≡ job.head
 
 -- if a file of the folder can't be written, this was reported
 abbrev pub TellsFault : List ℕ → AtlasFault → SinkState → SinkState → Type 0
@@ -116,11 +145,11 @@ pub record RefusesFolder (refuses : FolderRefusal → Type 0) (job : AtlasJob) (
   pub untouched : new ≡ old
   pub ended : result ≡ Err end.Refused
 
--- the run wrote its files, and these alone stand in the folder
+-- the run wrote its files, and these alone stand in the folder; or it left the folder, as all paths are refused
 pub record EndsRun (held : List ℕ → Option (List ℕ)) (asked : AtlasRequest) (paths : List (List ℕ)) (old new : Option (List Kept)) (errors errors' : SinkState) (result : Result Verdict End) : Type 0 where
   pub empty : IfSome old (λ files. files ≡ [])
   pub verdict : Verdict
-  pub writes : WritesAtlas held asked paths old new errors errors' verdict
+  pub writes : EndsAtlas held asked paths old new errors errors' verdict
   pub ended : result ≡ Ok verdict
 
 -- the base files were read, and the paths became an atlas, or it isn't whole

@@ -4,12 +4,12 @@ use Rattle.std.specs.Io.KnownBytes.{Appends}
 use Rattle.le_rec.specs.Sink.{SinkState}
 use Rattle.line_io.specs.Writes.{TakesFront}
 use Rattle.atlas_page.specs.declared.row.Row.{Row}
-use Rattle.lens_engines.specs.Survey.{Told, gravest, lines_of, verdict_of}
+use Rattle.lens_engines.specs.Survey.{ToldLevel, gravest, lines_of, verdict_of}
 use Rattle.lens_engines.specs.Surveyed.{survey_line}
 use Rattle.lens_engines.specs.declared.verdict.Verdict.{Verdict}
 
 -- the report of a survey on a row's level
-abbrev pub told_of : Row → Told
+abbrev pub told_of : Row → ToldLevel
 told_of row = record { line = survey_line row.path.now row.name row.entry row.found; verdict = verdict_of row.found }
 
 -- the lines of these rows were taken

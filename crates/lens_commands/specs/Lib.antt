@@ -9,5 +9,6 @@ pub mod Gathered
 pub mod Picture
 pub mod PictureFiles
 pub mod PictureFormat
+pub mod PictureMarks
 pub mod PictureTold
 pub mod Until

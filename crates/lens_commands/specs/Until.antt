@@ -14,8 +14,8 @@ use Rattle.lens_reports.specs.Run.{StopsPath, StopsRefusal, TellsPath, ToldBefor
 use Rattle.lens_reports.specs.declared.tell.Request.{Request}
 use Rattle.lens_reports.specs.declared.tell.Stop.{Stop}
 use Rattle.lens_reports.specs.declared.tell.Stop.TheVariants as stop
-use Rattle.lens_reports.specs.declared.tell.Tally.{Tally}
-use Rattle.lens_reports.specs.declared.tell.Word.TheVariants.{Survey}
+use Rattle.lens_reports.specs.declared.tell.ReportSum.{ReportSum}
+use Rattle.lens_reports.specs.declared.tell.ReportKind.TheVariants.{Survey}
 use Rattle.lens_reports.specs.Files.{at_path, stored}
 use Rattle.lens_commands.specs.Folder.{IsBegun, IsNotErrors, Kept}
 use Rattle.lens_commands.specs.Gathered.{AddsSome}
@@ -25,6 +25,7 @@ use Rattle.lens_commands.specs.declared.atlas.fault.FileFault.{FileFault}
 use Rattle.lens_commands.specs.declared.atlas.fault.FileFault.TheVariants as levels
 use Rattle.lens_commands.specs.declared.atlas.fault.KeepFault.{KeepFault}
 use Rattle.lens_commands.specs.declared.atlas.fault.KeepFault.TheVariants as file
+use Rattle.map_picture.specs.declared.draw.View.{View}
 
 -- why an atlas isn't whole, if the report on its files stopped
 abbrev pub stop_fault : Stop → AtlasFault
@@ -40,7 +41,7 @@ pub record StopsWithin (held : Option (List ℕ)) (asked : Request) (path : List
 
 -- that report was whole, and then a file of the folder failed, or there was no memory for what the page keeps
 pub record StopsBehind (held : Option (List ℕ)) (asked : Request) (path : List ℕ) (out out' errors errors' : SinkState) (why : AtlasFault) : Type 0 where
-  pub tally : Tally
+  pub tally : ReportSum
   pub told : TellsPath (at_path held) asked path out out' errors errors' tally
   pub fault : IsNotErrors why
 
@@ -79,15 +80,15 @@ pub record RefusesLevels {W : Type 0} (bytes : List ℕ) (survey survey' : W) (o
   pub kept : files' ≡ files
 
 -- a file of the folder isn't whole: a front of the pictures was added, and the survey came so far
-pub record StopsLevels (cells : ℕ) (origin : Origin) (bytes : List ℕ) (before after : SinkState) (files files' : Option (List Kept)) (why : KeepFault) : Type 0 where
-  pub front : AddsSome cells origin bytes files files'
+pub record StopsLevels (drawn : View) (origin : Origin) (bytes : List ℕ) (before after : SinkState) (files files' : Option (List Kept)) (why : KeepFault) : Type 0 where
+  pub front : AddsSome drawn origin bytes files files'
   pub left : LeavesSurvey origin.path.now bytes origin.judging before after why
 
 -- why the levels of a file aren't all in an atlas
-abbrev pub LeavesLevels : {W : Type 0} → (W → SinkState) → ℕ → Origin → List ℕ → W → W → List Row → List Row → Option (List Kept) → Option (List Kept) → FileFault → Type 0
-LeavesLevels state cells origin bytes survey survey' old new files files' (levels.NoWad why) = RefusesLevels bytes survey survey' old new files files' why
-LeavesLevels state cells origin bytes survey survey' old new files files' (levels.Keep why) =
-    StopsLevels cells origin bytes (state survey) (state survey') files files' why
+abbrev pub LeavesLevels : {W : Type 0} → (W → SinkState) → View → Origin → List ℕ → W → W → List Row → List Row → Option (List Kept) → Option (List Kept) → FileFault → Type 0
+LeavesLevels state drawn origin bytes survey survey' old new files files' (levels.NoWad why) = RefusesLevels bytes survey survey' old new files files' why
+LeavesLevels state drawn origin bytes survey survey' old new files files' (levels.Keep why) =
+    StopsLevels drawn origin bytes (state survey) (state survey') files files' why
 
 -- the report that a file is refused stopped
 pub record StopsRefused (path : List ℕ) (refusal : FileRefusal) (out out' errors errors' : SinkState) (why : AtlasFault) : Type 0 where
@@ -97,7 +98,7 @@ pub record StopsRefused (path : List ℕ) (refusal : FileRefusal) (out out' erro
 
 -- that report was whole, and there was no memory to keep it for the page
 pub record WantsRefused (path : List ℕ) (refusal : FileRefusal) (out out' errors errors' : SinkState) (why : AtlasFault) : Type 0 where
-  pub tally : Tally
+  pub tally : ReportSum
   pub told : WritesRefusal Survey path refusal out out' errors errors' tally
   pub is : why ≡ fault.Memory
 
@@ -111,7 +112,7 @@ pub record StopsAtFile (held : List ℕ → Option (List ℕ)) (asked : Request)
   pub path : List ℕ
   pub out_before : SinkState
   pub errors_before : SinkState
-  pub tally : Tally
+  pub tally : ReportSum
   pub told : ToldBefore (stored held) asked paths out errors path out_before errors_before tally
   pub left : LeavesPath (held path) asked path out_before out' errors_before errors' why
 
@@ -127,7 +128,7 @@ pub record SurveysAll (held : List ℕ → Option (List ℕ)) (asked : Request) 
   pub before : SinkState
   pub begun : IsBegun files before
   pub after : SinkState
-  pub tally : Tally
+  pub tally : ReportSum
   pub told : ToldTo (stored held) asked before errors paths after errors' tally
   pub fault : IsNotErrors why
 

@@ -12,4 +12,4 @@ pub use atlas::{
     write_atlas,
 };
 pub use compare::run_compare;
-pub use picture::{PictureQuestion, run_picture};
+pub use picture::{PictureQuestion, marks_by, run_picture};

@@ -2,8 +2,10 @@
 
 mod draw;
 mod format;
+mod marks;
 mod run;
 mod told;
 
 pub use draw::PictureQuestion;
+pub use marks::marks_by;
 pub use run::run_picture;

@@ -1,6 +1,6 @@
 -- How a check goes on from level to level.
-use Rattle.std.proofs.Common.{◌≡◌, ◌↔◌, ℕ, zero, suc, ◌+◌, ◌<◌, ◌≤◌, inl, inr, Bool, false, List, [], ◌∷◌, ◌++◌, length, get_or, take, Result, Ok, Err, refl, sym, ap, ◌∙◌, subst, arith}
-use Rattle.std.specs.Prelude.{IfOk, IsTrue, map, sum, All}
+use Rattle.std.proofs.Common.{◌≡◌, ◌↔◌, ℕ, zero, suc, ◌+◌, ◌<◌, ◌≤◌, inl, inr, Bool, false, List, [], ◌∷◌, ◌++◌, length, get_or, take, Option, Some, None, Result, Ok, Err, refl, sym, ap, ◌∙◌, subst, arith}
+use Rattle.std.specs.Prelude.{IfOk, IfSome, IsTrue, map, sum, All}
 use Rattle.std.specs.Io.KnownBytes.{Appends}
 use Rattle.std.proofs.KnownBytes.{Appends-nil, Appends-trans}
 use Rattle.std.proofs.lemmas.Bool.{cases_lt, ltb-true, lt-ltb}
@@ -29,23 +29,24 @@ use Rattle.map_tree.proofs.CountLemmas.{sum_zeros}
 use Rattle.map_tree.specs.Sound.{IsSound}
 use Rattle.wad_dir.specs.Entries.{names}
 use Rattle.wad_dir.specs.Wad.{IsRead, Wad}
-use Rattle.lens_engines.specs.Check.{CheckAsked, Checks, ChecksAll, ChecksDoom, ChecksFile, ChecksLevel, ChecksOrWants, ChecksSome, IsLevelText, IsSoundWideAlone, IsToldBy, RunsCheck, ToldTo, WritesText, at_start, head_in, with_level, text_end}
+use Rattle.lens_engines.specs.Check.{CheckAsked, Checks, ChecksAll, ChecksDoom, ChecksFile, ChecksLevel, ChecksOrWants, ChecksSome, IsLevelText, IsOrder, IsSoundWideAlone, IsToldBy, RunsCheck, ToldTo, WritesText, at_start, head_in, ordered_text, with_level, text_end}
 use Rattle.lens_engines.specs.Counts.{AreCounts, IsCount, fault_total, finding_order}
 use Rattle.level_codes.specs.declared.code.ReportCode.TheVariants as report
-use Rattle.lens_engines.specs.Ignored.{HoldsUnlessIgnored, ignores, no_codes}
-use Rattle.lens_engines.specs.declared.ignored.Ignored.{Ignored}
+use Rattle.lens_engines.specs.Failing.{HasFailing}
+use Rattle.lens_engines.specs.Ignored.{HoldsUnlessIgnored, ignores}
+use Rattle.level_codes.specs.Sets.{no_codes}
+use Rattle.level_codes.specs.declared.set.CodeSet.{CodeSet}
 use Rattle.lens_texts.specs.Label.{IsLabelOf}
 use Rattle.lens_engines.specs.LevelLines.{AreCounted, AreShown, AreTold, judged_text}
-use Rattle.lens_texts.specs.LevelText.{unjudged_text}
 use Rattle.lens_engines.specs.Judged.{JudgedLevel, Judges}
 use Rattle.lens_engines.specs.ReportCounts.{AreReportCounts}
 use Rattle.lens_engines.specs.Survey.{fault_after}
-use Rattle.lens_engines.specs.Totals.{format_totals, judged_totals, no_totals, totals_with, verdict_with}
-use Rattle.lens_engines.specs.Unlooked.{AreUnlooked}
+use Rattle.lens_engines.specs.Totals.{format_totals, judged_totals, no_totals, totals_with, verdict_of_totals}
+use Rattle.lens_engines.specs.Unlisted.{AreUnlisted}
 use Rattle.lens_engines.specs.Warned.{Warned, known_files}
 use Rattle.lens_texts.specs.declared.label.LevelLabel.{LevelLabel}
 use Rattle.lens_engines.specs.declared.totals.Totals.{Totals}
-use Rattle.lens_engines.specs.declared.unlooked.Unlooked.{Unlooked}
+use Rattle.lens_engines.specs.declared.unlisted.Unlisted.{Unlisted}
 use Rattle.lens_engines.specs.declared.verdict.LevelsFault.{LevelsFault}
 use Rattle.lens_engines.specs.declared.verdict.LevelsFault.TheVariants as fault
 use Rattle.lens_engines.proofs.CountLemmas.{none_ignored_code, shown_kept}
@@ -57,16 +58,16 @@ some_counted : (holds : ℕ → Type 0) (count i : ℕ) → IsCount holds count 
 some_counted holds count i is here = omega (arith, is.counted, ((is.exact i).1 here).1)
 
 -- a fault is never ignored
-fault_kept : (ignored : Ignored) (code : Code) → IsTrue (is_fault code) → ignores ignored (report.Finding code) ≡ false
+fault_kept : (ignored : CodeSet) (code : Code) → IsTrue (is_fault code) → ignores ignored (report.Finding code) ≡ false
 fault_kept ignored code fault = rw fault refl
 
 -- the numbers at the ranks of the codes of findings say how often these hold and aren't ignored
-pub record CountKept (ignored : Ignored) (level : Level) (counts : List ℕ) : Type 0 where
+pub record CountKept (ignored : CodeSet) (level : Level) (counts : List ℕ) : Type 0 where
   pub long : CODE_COUNT ≤ length counts
   pub each : (code : Code) → IsCount (HoldsUnlessIgnored ignored level code) (get_or counts (rank code) 0)
 
 -- a level is sound exactly where no fault is counted
-pub kept_faultless : (ignored : Ignored) (level : Level) (counts : List ℕ) → CountKept ignored level counts → fault_total counts ≡ 0 → IsSound level
+pub kept_faultless : (ignored : CodeSet) (level : Level) (counts : List ℕ) → CountKept ignored level counts → fault_total counts ≡ 0 → IsSound level
 kept_faultless ignored level counts kept none = (law_sound_is_no_fault level).1 (λ code i fault holds.
     let below : rank code < 18 = ltb-true (rank code) 18 fault in
     let some = some_counted (HoldsUnlessIgnored ignored level code) (get_or counts (rank code) 0) i (kept.each code) (fault_kept ignored code fault, holds) in
@@ -75,7 +76,7 @@ kept_faultless ignored level counts kept none = (law_sound_is_no_fault level).1 
     let same = get_or-take 18 counts (rank code) 0 below in
     omega (arith, some, within, same, none))
 
-pub sound_kept_faultless : (ignored : Ignored) (level : Level) (counts : List ℕ) → CountKept ignored level counts → IsSound level → fault_total counts ≡ 0
+pub sound_kept_faultless : (ignored : CodeSet) (level : Level) (counts : List ℕ) → CountKept ignored level counts → IsSound level → fault_total counts ≡ 0
 sound_kept_faultless ignored level counts kept sound = sum_zeros (take 18 counts) (λ k. elim (cases_lt k 18) [
   | inl below ↦
       let code = get_or finding_order k F1 in
@@ -107,7 +108,7 @@ unignored level counts are = record {
 }
 
 -- those of a report
-pub report_kept : (ignored : Ignored) (level : Level) (warned : List Warned) (counts : List ℕ) → AreReportCounts ignored level warned counts → CountKept ignored level counts
+pub report_kept : (ignored : CodeSet) (level : Level) (warned : List Warned) (counts : List ℕ) → AreReportCounts ignored level warned counts → CountKept ignored level counts
 report_kept ignored level warned counts are = record { long = omega (arith, are.all); each = are.findings }
 
 pub faultless : (level : Level) (counts : List ℕ) → AreCounts (AuditHolds level) counts → fault_total counts ≡ 0 → IsSound level
@@ -126,22 +127,22 @@ wide_alone files g reading level wide (Ok sound) signed unsound there is = (
 wide_alone files g reading level wide (Err e) signed unsound there is = tt
 
 -- the text of a judged level was written
-pub judged_written : {W : Type 0} (state : W → SinkState) (asked : CheckAsked) (files : List Wad) (g : ℕ) (label : LevelLabel) (level : Level) (judged : JudgedLevel) (unlooked : Unlooked) (sound_wide : Bool) (out out' : W)
+pub judged_written : {W : Type 0} (state : W → SinkState) (asked : CheckAsked) (files : List Wad) (g : ℕ) (label : LevelLabel) (level : Level) (judged : JudgedLevel) (fails : Bool) (unlisted : Unlisted) (sound_wide : Bool) (out out' : W)
     (wrote : Result (Unit {0}) IoFault) (result : Result Totals LevelsFault)
     → IsLevelAt files g asked.judging.reading level → Judges asked.judging (known_files asked.judging files) level asked.most judged
-    → AreUnlooked asked.judging.ignored (known_files asked.judging files) unlooked
+    → (IsTrue fails ↔ HasFailing asked.judging.failing judged.counts) → AreUnlisted asked.judging.ignored (known_files asked.judging files) unlisted
     → (IsTrue sound_wide ↔ IsSoundWideAlone files g asked.judging.reading level)
-    → ((told : Code → List ℕ) → AreShown (AuditHolds level) told → AreCounted judged.counts told
-    → Writes (state out) (state out') (judged_text (head_in asked label) asked.most level told judged.warned sound_wide) wrote)
-    → result ≡ text_end asked.judging.warnings (judged_totals judged.counts unlooked) wrote → ChecksDoom state asked files g label out out' result
-judged_written state asked files g label level judged unlooked sound_wide out out' wrote result there are are_unlooked wide writes ended =
+    → ((told : Code → List ℕ) → AreShown (AuditHolds judged.level) told → AreCounted judged.counts told
+    → Writes (state out) (state out') (judged_text (head_in asked label) asked.most judged told sound_wide) wrote)
+    → result ≡ text_end (judged_totals judged.counts fails judged.unlooked unlisted) wrote → ChecksDoom state asked files g label out out' result
+judged_written state asked files g label level judged fails unlisted sound_wide out out' wrote result there are failing are_unlisted wide writes ended =
     let findings = are.counts.findings in
     let told = λ (code : Code). (findings code).indexes in
     let are_told : AreTold (HoldsUnlessIgnored asked.judging.ignored level) told = λ code. record { ascending = (findings code).ascending; exact = (findings code).exact } in
     let counted : AreCounted judged.counts told = λ code. sym (findings code).counted in
     inr (record {
-      text = judged_text (head_in asked label) asked.most level told judged.warned sound_wide;
-      totals = judged_totals judged.counts unlooked;
+      text = judged_text (head_in asked label) asked.most judged told sound_wide;
+      totals = judged_totals judged.counts fails judged.unlooked unlisted;
       is = record {
         level = level;
         there = there;
@@ -152,15 +153,19 @@ judged_written state asked files g label level judged unlooked sound_wide out ou
         counts = judged.counts;
         are_counts = are.counts;
         counted = counted;
-        unlooked = unlooked;
-        are_unlooked = are_unlooked;
+        fails = fails;
+        failing = failing;
+        unlooked = judged.unlooked;
+        are_unlooked = are.unlooked;
+        unlisted = unlisted;
+        are_unlisted = are_unlisted;
         sound_wide = sound_wide;
         wide = wide;
-        is = refl;
+        is = rw (← are.of_level) refl;
         adds = refl;
       };
       outcome = wrote;
-      writes = writes told (λ code some. shown_kept asked.judging.ignored level code (told code) some (are_told code)) counted;
+      writes = writes told (rw are.of_level (λ code some. shown_kept asked.judging.ignored level code (told code) some (are_told code))) counted;
       ended = ended;
     })
 
@@ -178,28 +183,39 @@ doom_text state asked files label g out out' result labelled is (inr wrote) = in
   ended = wrote.ended;
 })
 
--- the line of a level of another
-pub format_line : {W : Type 0} (state : W → SinkState) (asked : CheckAsked) (files : List Wad) (label : LevelLabel) (g : ℕ) (format : Format) (out out' : W) (wrote : Result (Unit {0}) IoFault)
-    (result : Result Totals LevelsFault)
-    → IsLabelOf files g label → IsFormat files g format → (format ≡ Doom → ⊥)
-    → Writes (state out) (state out') (unjudged_text (head_in asked label) format) wrote → result ≡ text_end asked.judging.warnings (format_totals format) wrote
+-- the lump of an order is one of the ten
+pub order_within : (names : List (List ℕ)) (g : ℕ) (format : Format) (order : Option ℕ) → IsOrder names g format order → IfSome order (λ j. (1 ≤ j) × (j ≤ 10))
+order_within names g format None is = tt
+order_within names g (Incomplete k) (Some j) is = (is.from, is.to)
+order_within names g Udmf (Some j) is = absurd (let f : ⊥ = cc in f)
+order_within names g Hexen (Some j) is = absurd (let f : ⊥ = cc in f)
+order_within names g (Outside k) (Some j) is = absurd (let f : ⊥ = cc in f)
+order_within names g (Extended tag) (Some j) is = absurd (let f : ⊥ = cc in f)
+order_within names g Doom (Some j) is = absurd (let f : ⊥ = cc in f)
+
+-- the lines of a level of another
+pub format_line : {W : Type 0} (state : W → SinkState) (asked : CheckAsked) (files : List Wad) (label : LevelLabel) (g : ℕ) (format : Format) (order : Option ℕ) (out out' : W)
+    (wrote : Result (Unit {0}) IoFault) (result : Result Totals LevelsFault)
+    → IsLabelOf files g label → IsFormat files g format → (format ≡ Doom → ⊥) → IsOrder (names files) g format order
+    → Writes (state out) (state out') (ordered_text (head_in asked label) format order) wrote → result ≡ text_end (format_totals format) wrote
     → ChecksLevel state asked files g out out' result
-format_line state asked files label g format out out' wrote result labelled is other writes ended = inr (record {
-  text = unjudged_text (head_in asked label) format;
+format_line state asked files label g format order out out' wrote result labelled is other ordered writes ended = inr (record {
+  text = ordered_text (head_in asked label) format order;
   totals = format_totals format;
-  is = record { format = format; is = is; label = label; labelled = labelled; told = by format other };
+  is = record { format = format; is = is; label = label; labelled = labelled; told = by format other ordered };
   outcome = wrote;
   writes = writes;
   ended = ended;
 })
   where
-    by : (format : Format) → (format ≡ Doom → ⊥) → IsToldBy format asked files g label (unjudged_text (head_in asked label) format) (format_totals format)
-    by Udmf other = (refl, refl)
-    by (Incomplete k) other = (refl, refl)
-    by Hexen other = (refl, refl)
-    by (Outside k) other = (refl, refl)
-    by (Extended tag) other = (refl, refl)
-    by Doom other = absurd (other refl)
+    by : (format : Format) → (format ≡ Doom → ⊥) → IsOrder (names files) g format order
+        → IsToldBy format asked files g label (ordered_text (head_in asked label) format order) (format_totals format)
+    by Udmf other ordered = record { order = order; ordered = ordered; is = refl; adds = refl }
+    by (Incomplete k) other ordered = record { order = order; ordered = ordered; is = refl; adds = refl }
+    by Hexen other ordered = record { order = order; ordered = ordered; is = refl; adds = refl }
+    by (Outside k) other ordered = record { order = order; ordered = ordered; is = refl; adds = refl }
+    by (Extended tag) other ordered = record { order = order; ordered = ordered; is = refl; adds = refl }
+    by Doom other ordered = absurd (other refl)
 
 -- the text of a level was written
 pub record ToldLevel (asked : CheckAsked) (files : List Wad) (g : ℕ) (before after : SinkState) (totals : Totals) : Type 0 where
@@ -217,7 +233,7 @@ level_told state asked files g out out' totals (inl left) = absurd (ok_is_no_err
     ok_is_no_err t same = cc
 level_told state asked files g out out' totals (inr wrote) = go wrote.outcome wrote.writes wrote.ended
   where
-    go : (outcome : Result (Unit {0}) IoFault) → Writes (state out) (state out') wrote.text outcome → ◌≡◌ {A = Result Totals LevelsFault} (Ok totals) (text_end asked.judging.warnings wrote.totals outcome)
+    go : (outcome : Result (Unit {0}) IoFault) → Writes (state out) (state out') wrote.text outcome → ◌≡◌ {A = Result Totals LevelsFault} (Ok totals) (text_end wrote.totals outcome)
         → ToldLevel asked files g (state out) (state out') totals
     go (Ok x) writes ended =
         let same : wrote.totals ≡ totals = cc in
@@ -249,16 +265,16 @@ SoFar-level asked files before between after from g sum totals so_far next level
 
 -- it stopped within the text of a level
 stopped_in_text : (asked : CheckAsked) (files : List Wad) (before between after : SinkState) (from g : ℕ) (sum : Totals) (why : LevelsFault)
-    → SoFar asked files before between from sum → IsNextStart (names files) from g → WritesText asked.judging.warnings (IsLevelText asked files g) between after (Err why)
-    → ChecksSome asked files before after (fault_after (verdict_with asked.judging.warnings sum) why)
+    → SoFar asked files before between from sum → IsNextStart (names files) from g → WritesText (IsLevelText asked files g) between after (Err why)
+    → ChecksSome asked files before after (fault_after (verdict_of_totals sum) why)
 stopped_in_text asked files before between after from g sum why so_far next wrote = go wrote.outcome wrote.writes wrote.ended
   where
-    go : (outcome : Result (Unit {0}) IoFault) → Writes between after wrote.text outcome → ◌≡◌ {A = Result Totals LevelsFault} (Err why) (text_end asked.judging.warnings wrote.totals outcome)
-        → ChecksSome asked files before after (fault_after (verdict_with asked.judging.warnings sum) why)
+    go : (outcome : Result (Unit {0}) IoFault) → Writes between after wrote.text outcome → ◌≡◌ {A = Result Totals LevelsFault} (Err why) (text_end wrote.totals outcome)
+        → ChecksSome asked files before after (fault_after (verdict_of_totals sum) why)
     go (Ok x) writes ended = absurd (cc)
     go (Err e) writes ended =
-        let same : fault.Write (verdict_with asked.judging.warnings wrote.totals) ≡ why = cc in
-        subst (λ w. ChecksSome asked files before after (fault_after (verdict_with asked.judging.warnings sum) w)) same (record {
+        let same : fault.Write (verdict_of_totals wrote.totals) ≡ why = cc in
+        subst (λ w. ChecksSome asked files before after (fault_after (verdict_of_totals sum) w)) same (record {
           from = from;
           text = so_far.text;
           sum = sum;
@@ -278,10 +294,10 @@ stopped_in_text asked files before between after from g sum why so_far next wrot
 -- it stopped at a level
 pub level_stopped : {W : Type 0} (state : W → SinkState) (asked : CheckAsked) (files : List Wad) (before : SinkState) (from g : ℕ) (sum : Totals) (out out' : W) (why : LevelsFault)
     → SoFar asked files before (state out) from sum → (state out).failed ≡ false → IsNextStart (names files) from g
-    → ChecksLevel state asked files g out out' (Err why) → ChecksSome asked files before (state out') (fault_after (verdict_with asked.judging.warnings sum) why)
+    → ChecksLevel state asked files g out out' (Err why) → ChecksSome asked files before (state out') (fault_after (verdict_of_totals sum) why)
 level_stopped state asked files before from g sum out out' why so_far sound next (inl left) =
     let same : fault.Memory ≡ why = err_same why left.wants.ended in
-    subst (λ w. ChecksSome asked files before (state out') (fault_after (verdict_with asked.judging.warnings sum) w)) same
+    subst (λ w. ChecksSome asked files before (state out') (fault_after (verdict_of_totals sum) w)) same
     (subst (λ o. ChecksSome asked files before (state o) fault.Memory) (sym left.wants.untouched)
     (record { from = from; text = so_far.text; sum = sum; told = so_far.told; took = so_far.took; sound = sound; g = g; next = next; doom = left.doom }))
   where

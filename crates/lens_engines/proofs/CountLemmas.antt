@@ -1,6 +1,6 @@
 -- How a count goes on as its code is looked for.
 use Rattle.std.proofs.Common.{◌≡◌, ◌↔◌, ℕ, ◌+◌, ◌<◌, ◌≤◌, inl, inr, Bool, true, false, List, [], ◌∷◌, ◌++◌, length, get_or, refl, sym, ◌∙◌, subst, arith}
-use Rattle.std.specs.Prelude.{AllPairs, Contains, slice_index, if◌then◌else◌}
+use Rattle.std.specs.Prelude.{AllPairs, Contains, if◌then◌else◌}
 use Rattle.std.proofs.lemmas.Bool.{cases_eq, cases_lt, true≢false}
 use Rattle.std.proofs.lemmas.List.{length-append}
 use Rattle.std.proofs.lemmas.List.Elements.{Contains-push, Contains-push_cases, Contains-append_left, Contains-get_or}
@@ -11,12 +11,12 @@ use Rattle.map_level.specs.declared.finding.Code.{Code}
 use Rattle.map_level.specs.declared.finding.Code.TheVariants.{F1}
 use Rattle.map_audit.specs.Findings.{AuditHolds}
 use Rattle.map_level.specs.Level.{Level}
-use Rattle.map_level.specs.declared.search.TheConstants.{CODE_COUNT}
 use Rattle.lens_engines.specs.Counts.{IsCount, finding_order}
 use Rattle.level_codes.specs.declared.code.ReportCode.TheVariants as report
-use Rattle.lens_engines.specs.Ignored.{HoldsUnlessIgnored, ignores, no_codes}
+use Rattle.lens_engines.specs.Ignored.{HoldsUnlessIgnored, ignores}
+use Rattle.level_codes.specs.Sets.{no_codes}
 use Rattle.lens_engines.specs.LevelLines.{AreIndexes}
-use Rattle.lens_engines.specs.declared.ignored.Ignored.{Ignored}
+use Rattle.level_codes.specs.declared.set.CodeSet.{CodeSet}
 
 -- how many indexes below a number something holds at
 pub record IsCountBelow (holds : ℕ → Type 0) (end count : ℕ) : Type 0 where
@@ -81,7 +81,7 @@ none_ignored_code F1 = refl
 none_ignored_code _ = refl
 
 -- what is told of a code that isn't ignored is what holds of it
-pub kept_is : (ignored : Ignored) (level : Level) (code : Code) (n : ℕ) (b : Bool) → ignores ignored (report.Finding code) ≡ b → IsCount (AuditHolds level code) n
+pub kept_is : (ignored : CodeSet) (level : Level) (code : Code) (n : ℕ) (b : Bool) → ignores ignored (report.Finding code) ≡ b → IsCount (AuditHolds level code) n
     → IsCount (HoldsUnlessIgnored ignored level code) (if b then 0 else n)
 kept_is ignored level code n true is count = record {
   indexes = [];
@@ -97,7 +97,7 @@ kept_is ignored level code n false is count = record {
 }
 
 -- a code that is told of at all isn't ignored
-pub shown_kept : (ignored : Ignored) (level : Level) (code : Code) (indexes : List ℕ) → 0 < length indexes
+pub shown_kept : (ignored : CodeSet) (level : Level) (code : Code) (indexes : List ℕ) → 0 < length indexes
     → AreIndexes (HoldsUnlessIgnored ignored level code) indexes → AreIndexes (AuditHolds level code) indexes
 shown_kept ignored level code indexes some are =
     let kept = ((are.exact (get_or indexes 0 0)).0 (Contains-get_or indexes 0 0 some)).0 in

@@ -14,5 +14,6 @@ pub mod ReportLemmas
 pub mod ShownLemmas
 pub mod SurveyLemmas
 mod WorkedCases
+pub mod UnlookedLemmas
 pub mod WarnedLemmas
 pub mod ReferenceLemmas

@@ -1,13 +1,13 @@
 -- The objects of a survey are read back as their members.
 use Rattle.std.proofs.Common.{◌≡◌, ℕ, ◌^◌, ◌<◌, Bool, true, false, List, [], ◌∷◌, ◌++◌, refl, sym, ap, subst, ◌∙◌, append_assoc}
-use Rattle.std.specs.Prelude.{codes, ◌==◌}
+use Rattle.std.specs.Prelude.{codes, map, ◌==◌, if◌then◌else◌}
 use Rattle.std.specs.List.{flat_map}
 use Rattle.std.specs.Str.Lossy.{utf8_lossy}
 use Rattle.std.proofs.lemmas.Str.{utf8_lossy-IsUtf8}
 use Rattle.json.proofs.Printed.Utf8.{IsUtf8-are_ascii, are_ascii}
-use Rattle.json.specs.Json.{string}
+use Rattle.json.specs.Json.{array, string}
 use Rattle.le_rec.specs.Name.{shown_name}
-use Rattle.level_codes.specs.Codes.{code_name, code_table, finding_codes, warning_codes}
+use Rattle.level_codes.specs.Codes.{code_name, code_table, finding_codes}
 use Rattle.level_codes.specs.declared.code.ReportCode.{ReportCode}
 use Rattle.level_codes.specs.declared.code.ReportCode.TheVariants as report
 use Rattle.level_codes.specs.declared.code.WarningCode.TheVariants.{W1}
@@ -15,17 +15,18 @@ use Rattle.level_starts.specs.declared.format.Format.{Format}
 use Rattle.level_starts.specs.declared.format.Format.TheVariants.{Udmf, Incomplete, Hexen, Outside, Extended, Doom}
 use Rattle.map_level.specs.declared.finding.Code.TheVariants.{F1}
 use Rattle.wad_dir.specs.declared.wad.WadFault.TheVariants as wad
-use Rattle.lens_texts.proofs.MemberLemmas.{ArePlain, IsPlain, Tells, Tells-bool, Tells-both, Tells-each, Tells-none, Tells-number, Tells-numbers, Tells-one, Tells-plain, Tells-string, Tells-two, read_line}
+use Rattle.lens_texts.proofs.MemberLemmas.{ArePlain, IsPlain, Tells, Tells-bool, Tells-both, Tells-each, Tells-none, Tells-number, Tells-names, Tells-numbers, Tells-plain, Tells-string, read_line}
 use Rattle.lens_engines.specs.Counts.{fault_total, note_total}
 use Rattle.lens_engines.specs.Laws.{DoomIsRead, ObjectsAreRead, OtherIsRead, RefusedIsRead}
-use Rattle.lens_engines.specs.ObjectValues.{count_values, doom_value, found_values, label_values, other_value, size_values, sizes_of, telling_values, unlooked_at, warnings_values}
-use Rattle.lens_texts.specs.Members.{IsLineOf, file_value, number_at, object_of, text_at}
+use Rattle.lens_engines.specs.ObjectValues.{count_values, doom_value, found_values, label_values, other_value, size_values, sizes_of, telling_values, unlooked_values, warnings_values}
+use Rattle.lens_texts.specs.Members.{IsLineOf, file_value, names_of, number_at, object_of, text_at}
 use Rattle.lens_engines.specs.Objects.{counts_text, found_members, lump_members, refusal_text, refused_object, warnings_member}
 use Rattle.lens_engines.specs.ReportCounts.{count_of}
 use Rattle.lens_texts.specs.LevelObject.{file_member, format_member, format_name, label_members, number_member, telling_members, usual_name}
-use Rattle.lens_engines.specs.Unlooked.{member_at, unlooked_member}
+use Rattle.lens_engines.specs.Unlooked.{codes_in, has_any, unlooked_member, unlooked_names}
+use Rattle.level_codes.specs.declared.set.CodeSet.{CodeSet}
 use Rattle.lens_engines.specs.declared.judging.Warnings.{Warnings}
-use Rattle.lens_engines.specs.declared.judging.Warnings.TheVariants.{Unasked, Told, Strict}
+use Rattle.lens_engines.specs.declared.judging.Warnings.TheVariants.{Unasked, Told}
 use Rattle.lens_engines.specs.declared.object.FileRefusal.{FileRefusal}
 use Rattle.lens_engines.specs.declared.tables.Tables.{Tables}
 use Rattle.lens_engines.specs.declared.object.FileRefusal.TheVariants.{Unopened, Unread, TooLarge, NoWad}
@@ -110,13 +111,13 @@ warnings_tell : (warnings : Warnings) (counts : List ℕ) → ((code : ReportCod
     → Tells (warnings_member warnings counts) (warnings_values warnings counts)
 warnings_tell Unasked counts small = Tells-none
 warnings_tell Told counts small = Tells-numbers code_name (count_of counts) name_plain (codes "warnings") _ refl (λ k d within. small _)
-warnings_tell Strict counts small = Tells-numbers code_name (count_of counts) name_plain (codes "warnings") _ refl (λ k d within. small _)
 
-unlooked_tell : (textures flats : Bool) → Tells (member_at textures flats) (unlooked_at textures flats)
-unlooked_tell true true = Tells-two (codes "unlooked") (codes "W9") (codes "W10") refl refl refl
-unlooked_tell true false = Tells-one (codes "unlooked") (codes "W9") refl refl
-unlooked_tell false true = Tells-one (codes "unlooked") (codes "W10") refl refl
-unlooked_tell false false = Tells-none
+unlooked_tell : (unlooked : CodeSet) → Tells (unlooked_member unlooked) (unlooked_values unlooked)
+unlooked_tell unlooked = by (has_any unlooked)
+  where
+    by : (some : Bool) → Tells (if some then unlooked_names unlooked else []) (if some then (codes "unlooked", array (names_of (map code_name (codes_in unlooked)))) ∷ [] else [])
+    by true = Tells-names code_name name_plain (codes "unlooked") (codes_in unlooked) refl
+    by false = Tells-none
 
 -- four parts of members before an end
 parts : (sizes found warnings unlooked end : List ℕ) → sizes ++ (found ++ (warnings ++ (unlooked ++ end))) ≡ (sizes ++ (found ++ (warnings ++ unlooked))) ++ end
@@ -137,7 +138,7 @@ law_doom_is_read path name g counted small numbers =
     (Tells-both _ _ _ _ (label_tells name g Doom small)
     (Tells-both sizes _ (size_values counted.tables) _ (Tells-each (sizes_of counted.tables) (sizes_plain counted.tables) numbers.sizes)
     (Tells-both _ _ _ _ (found_tells counted.counts numbers.faults numbers.notes numbers.each)
-    (Tells-both _ _ _ _ (warnings_tell counted.warnings counted.counts numbers.each) (unlooked_tell counted.unlooked.textures counted.unlooked.flats))))))
+    (Tells-both _ _ _ _ (warnings_tell counted.warnings counted.counts numbers.each) (unlooked_tell counted.unlooked))))))
 
 pub law_objects_are_read : ObjectsAreRead
 law_objects_are_read = record { refused = law_refused_is_read; other = law_other_is_read; doom = law_doom_is_read }

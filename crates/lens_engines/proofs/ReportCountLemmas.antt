@@ -1,5 +1,5 @@
 -- How many of each code are told, by the ranks of the codes.
-use Rattle.std.proofs.Common.{◌≡◌, ℕ, ◌+◌, ◌-◌, ◌*◌, ◌^◌, ◌<◌, ◌≤◌, inl, inr, List, drop, take, length, get_or, get_or-take, get_or-drop, length-take, length-drop, refl, sym, ap, ◌∙◌, subst, arith}
+use Rattle.std.proofs.Common.{◌≡◌, ℕ, ◌+◌, ◌-◌, ◌^◌, ◌<◌, ◌≤◌, inl, inr, List, drop, take, length, get_or, get_or-take, get_or-drop, length-take, length-drop, refl, sym, ap, ◌∙◌, subst, arith}
 use Rattle.std.specs.Prelude.{min, sum, slice_index}
 use Rattle.std.proofs.Math.Nat.{min-eq_left, min-eq_right}
 use Rattle.std.proofs.lemmas.Bool.{cases_lt}
@@ -19,7 +19,7 @@ use Rattle.lens_engines.specs.Counts.{AreCounts, IsCount, fault_total, note_tota
 use Rattle.lens_engines.specs.Ignored.{HoldsUnlessIgnored, ignores}
 use Rattle.lens_engines.specs.ReportCounts.{AreReportCounts, FitReport, count_of, told_count}
 use Rattle.lens_engines.specs.Warned.{Warned}
-use Rattle.lens_engines.specs.declared.ignored.Ignored.{Ignored}
+use Rattle.level_codes.specs.declared.set.CodeSet.{CodeSet}
 use Rattle.lens_engines.proofs.CountLemmas.{kept_is}
 
 -- the first codes are those of findings
@@ -31,7 +31,7 @@ pub finding_at : (k : ℕ) → k < CODE_COUNT → (c : Code) × (code_at k ≡ r
 finding_at k below = finding_of k (code_at k) (code_rank-at k (omega (arith, below))) below
 
 -- the numbers at all ranks are those of all codes
-pub are_report_counts : (ignored : Ignored) (level : Level) (found : List ℕ) (warned : List Warned) (counts : List ℕ) → length counts ≡ REPORT_COUNT
+pub are_report_counts : (ignored : CodeSet) (level : Level) (found : List ℕ) (warned : List Warned) (counts : List ℕ) → length counts ≡ REPORT_COUNT
     → ((k : ℕ) → k < REPORT_COUNT → get_or counts k 0 ≡ told_count found warned ignored (code_at k))
     → AreCounts (AuditHolds level) found → AreReportCounts ignored level warned counts
 are_report_counts ignored level found warned counts long each are =

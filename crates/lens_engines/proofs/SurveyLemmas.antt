@@ -22,7 +22,7 @@ use Rattle.lens_engines.specs.declared.judging.Judging.{Judging}
 use Rattle.wad_dir.specs.Entries.{names}
 use Rattle.wad_dir.specs.Wad.{IsRead, Wad}
 use Rattle.lens_texts.specs.LevelObject.{NamesLump}
-use Rattle.lens_engines.specs.Survey.{AreStartsBelow, AreTold, AreToldBelow, IsTold, RunsSurvey, Surveys, SurveysAll, SurveysFile, SurveysLevel, SurveysOrWants, SurveysSome, Told, WritesLevel}
+use Rattle.lens_engines.specs.Survey.{AreStartsBelow, AreTold, AreToldBelow, IsTold, RunsSurvey, Surveys, SurveysAll, SurveysFile, SurveysLevel, SurveysOrWants, SurveysSome, ToldLevel, WritesLevel}
 use Rattle.lens_engines.specs.Survey.{fault_after, gravest, graver, line_end, lines_of}
 use Rattle.lens_engines.specs.declared.verdict.LevelsFault.{LevelsFault}
 use Rattle.lens_engines.specs.declared.verdict.LevelsFault.TheVariants as fault
@@ -71,7 +71,7 @@ all_starts all from starts before none = record {
   );
 }
 
-told_more : (path : List ℕ) (files : List Wad) (judging : Judging) (starts : List ℕ) (told : List Told) (g : ℕ) (one : Told)
+told_more : (path : List ℕ) (files : List Wad) (judging : Judging) (starts : List ℕ) (told : List ToldLevel) (g : ℕ) (one : ToldLevel)
     → AreTold path files judging starts told → IsTold path files judging g one
     → AreTold path files judging (starts ++ g ∷ []) (told ++ one ∷ [])
 told_more path files judging [] [] g one before is = (is, tt)
@@ -79,12 +79,12 @@ told_more path files judging [] (t ∷ told) g one before is = absurd before
 told_more path files judging (s ∷ starts) [] g one before is = absurd before
 told_more path files judging (s ∷ starts) (t ∷ told) g one before is = (before.0, told_more path files judging starts told g one before.1 is)
 
-lines-push : (told : List Told) (one : Told) → lines_of (told ++ one ∷ []) ≡ lines_of told ++ one.line
-lines-push told one = flat_map-append (λ (t : Told). t.line) told (one ∷ []) ∙ ap (λ line. lines_of told ++ line) (append-nil one.line)
+lines-push : (told : List ToldLevel) (one : ToldLevel) → lines_of (told ++ one ∷ []) ≡ lines_of told ++ one.line
+lines-push told one = flat_map-append (λ (t : ToldLevel). t.line) told (one ∷ []) ∙ ap (λ line. lines_of told ++ line) (append-nil one.line)
 
 -- the levels before an entry were told
 pub record ToldSoFar (path : List ℕ) (files : List Wad) (judging : Judging) (before after : SinkState) (from : ℕ) (worst : Verdict) : Type 0 where
-  pub told : List Told
+  pub told : List ToldLevel
   pub are : AreToldBelow path files judging from told
   pub took : Appends before.taken after.taken (lines_of told)
   pub says : worst ≡ gravest told
@@ -98,7 +98,7 @@ ToldSoFar-none path files judging before = record {
 }
 
 -- what is told with one level more
-told_next : (path : List ℕ) (files : List Wad) (judging : Judging) (from g : ℕ) (told : List Told) (one : Told)
+told_next : (path : List ℕ) (files : List Wad) (judging : Judging) (from g : ℕ) (told : List ToldLevel) (one : ToldLevel)
     → AreToldBelow path files judging from told → IsNextStart (names files) from g → IsTold path files judging g one
     → AreToldBelow path files judging (g + 1) (told ++ one ∷ [])
 told_next path files judging from g told one before next is = record {
@@ -126,7 +126,7 @@ ToldSoFar-more path files judging before between after from g worst verdict so_f
             took = subst (Appends before.taken after.taken) (sym (lines-push told one))
                 (Appends-trans before.taken between.taken after.taken (lines_of told) one.line so_far.took writes.takes.whole);
             says = ap (λ v. graver v verdict) so_far.says ∙ ap (graver (gravest told)) same
-                ∙ sym (fold_push (λ v (t : Told). graver v t.verdict) Clean told one);
+                ∙ sym (fold_push (λ v (t : ToldLevel). graver v t.verdict) Clean told one);
           },
           writes.ends.sound,
         )
@@ -157,7 +157,7 @@ stopped_in_line path files judging before between after from g worst why so_far 
             took = so_far.took;
             front = writes.takes.front;
             failed = line_stopped between after one.line e writes;
-            says = ap (λ v. graver v one.verdict) so_far.says ∙ sym (fold_push (λ v (t : Told). graver v t.verdict) Clean told one);
+            says = ap (λ v. graver v one.verdict) so_far.says ∙ sym (fold_push (λ v (t : ToldLevel). graver v t.verdict) Clean told one);
           };
         })
 

@@ -20,7 +20,7 @@ use Rattle.wad_dir.specs.Wad.{Wad}
 use Rattle.level_codes.specs.declared.code.ReportCode.TheVariants as report
 use Rattle.lens_engines.specs.Ignored.{WarnsUnlessIgnored, ignores}
 use Rattle.lens_engines.specs.Warned.{AddsWarned, IsWarned, Warned}
-use Rattle.lens_engines.specs.declared.ignored.Ignored.{Ignored}
+use Rattle.level_codes.specs.declared.set.CodeSet.{CodeSet}
 use Rattle.lens_engines.proofs.OrderLemmas.{order-length, warnings-more}
 
 -- the parts from a place on begin with the one there
@@ -38,18 +38,18 @@ parts-end part (x ∷ xs) zero past = absurd (omega (arith, past))
 parts-end part (x ∷ xs) (suc i) past = parts-end part xs i (omega (arith, past))
 
 -- what is told of the first codes
-pub record AreWarnedTo (ignored : Ignored) (files : Option (List Wad)) (level : Level) (most rank : ℕ) (all : List Warned) : Type 0 where
+pub record AreWarnedTo (ignored : CodeSet) (files : Option (List Wad)) (level : Level) (most rank : ℕ) (all : List Warned) : Type 0 where
   pub codes : map (λ (w : Warned). report.Warning w.code) all ≡ drop CODE_COUNT (take rank report_order)
   pub each : All (IsWarned ignored files level most) all
 
-pub warned_none : (ignored : Ignored) (files : Option (List Wad)) (level : Level) (most : ℕ) → AreWarnedTo ignored files level most CODE_COUNT []
+pub warned_none : (ignored : CodeSet) (files : Option (List Wad)) (level : Level) (most : ℕ) → AreWarnedTo ignored files level most CODE_COUNT []
 warned_none ignored files level most = record {
   codes = sym (drop_all CODE_COUNT (take CODE_COUNT report_order) (omega (arith, order-length CODE_COUNT (omega arith))));
   each = λ k d below. absurd (omega (arith, below));
 }
 
 -- of an ignored code nothing is told
-pub none_ignored : (ignored : Ignored) (files : Option (List Wad)) (level : Level) (most : ℕ) (code : WarningCode) → ignores ignored (report.Warning code) ≡ true
+pub none_ignored : (ignored : CodeSet) (files : Option (List Wad)) (level : Level) (most : ℕ) (code : WarningCode) → ignores ignored (report.Warning code) ≡ true
     → Tells (WarnsUnlessIgnored ignored files level code) (record { most = most; first = []; count = 0 })
 none_ignored ignored files level most code is = record {
   all = [];
@@ -61,7 +61,7 @@ none_ignored ignored files level most code is = record {
 }
 
 -- of another what holds
-pub all_kept : (ignored : Ignored) (files : Option (List Wad)) (level : Level) (code : WarningCode) (cut : Cut) → ignores ignored (report.Warning code) ≡ false
+pub all_kept : (ignored : CodeSet) (files : Option (List Wad)) (level : Level) (code : WarningCode) (cut : Cut) → ignores ignored (report.Warning code) ≡ false
     → Tells (IsWarning files level code) cut → Tells (WarnsUnlessIgnored ignored files level code) cut
 all_kept ignored files level code cut is tells = record {
   all = tells.all;
@@ -73,7 +73,7 @@ all_kept ignored files level code cut is tells = record {
 }
 
 -- one more
-pub warned_more : (ignored : Ignored) (files : Option (List Wad)) (level : Level) (most rank : ℕ) (code : WarningCode) (old new : List Warned)
+pub warned_more : (ignored : CodeSet) (files : Option (List Wad)) (level : Level) (most rank : ℕ) (code : WarningCode) (old new : List Warned)
     → CODE_COUNT ≤ rank → rank < REPORT_COUNT → code_at rank ≡ report.Warning code
     → AreWarnedTo ignored files level most rank old → AddsWarned ignored files level most code old new → AreWarnedTo ignored files level most (rank + 1) new
 warned_more ignored files level most rank code old new behind below is before adds =

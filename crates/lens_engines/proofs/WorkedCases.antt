@@ -1,5 +1,5 @@
 -- The parts of a level's report, the totals, and the objects of a survey, computed on small levels: each is what stands here.
-use Rattle.std.proofs.Common.{◌≡◌, ℕ, pos, negsuc, true, false, [], ◌∷◌, ◌++◌, replicate, refl}
+use Rattle.std.proofs.Common.{◌≡◌, ℕ, List, pos, negsuc, true, false, [], ◌∷◌, ◌++◌, replicate, refl}
 use lib.Utf8.{encode}
 use Rattle.std.specs.Fmt.{digits}
 use Rattle.std.specs.Prelude.{codes}
@@ -8,7 +8,7 @@ use Rattle.std.specs.Str.Lossy.{utf8_error_len, utf8_lossy, utf8_valid_len}
 use Rattle.level_starts.specs.declared.format.Format.TheVariants.{Doom}
 use Rattle.level_codes.specs.Codes.{code_table}
 use Rattle.level_codes.specs.declared.code.ReportCode.TheVariants.{Warning}
-use Rattle.level_codes.specs.declared.code.WarningCode.TheVariants.{W2}
+use Rattle.level_codes.specs.declared.code.WarningCode.TheVariants.{W2, W9, W10}
 use Rattle.map_level.specs.Level.{Level}
 use Rattle.map_level.specs.declared.finding.Code.TheVariants.{N4, N6}
 use Rattle.map_level.specs.declared.reading.Reading.TheVariants.{Signed}
@@ -20,9 +20,12 @@ use Rattle.lens_texts.specs.ShownPath.{shown_after}
 use Rattle.lens_engines.specs.Tables.{tables_of}
 use Rattle.lens_engines.specs.Totals.{totals_line}
 use Rattle.lens_engines.specs.TotalsObject.{totals_object}
-use Rattle.lens_engines.specs.Unlooked.{none_unlooked}
+use Rattle.level_codes.specs.Sets.{group_codes, is_between, is_unmet, no_codes, set_of}
+use Rattle.level_codes.specs.declared.set.Group.TheVariants.{Warnings}
+use Rattle.lens_engines.specs.UnlookedText.{all_but_soundness, unlooked_part}
+use Rattle.lens_engines.specs.Unlisted.{none_unlisted}
 use Rattle.lens_engines.specs.WarnedText.{more_text}
-use Rattle.lens_engines.specs.declared.judging.Warnings.TheVariants.{Unasked, Told, Strict}
+use Rattle.lens_engines.specs.declared.judging.Warnings.TheVariants.{Unasked, Told}
 use Rattle.lens_engines.specs.declared.object.FileRefusal.TheVariants.{TooLarge, NoWad}
 use Rattle.lens_engines.specs.declared.totals.Totals.{Totals}
 use Rattle.lens_texts.proofs.CaseLevels.{rows, line, name, sector, level, lines_of}
@@ -51,7 +54,7 @@ not_sound_wide_told = refl
 
 -- the line at the end of a run, whose words stand as they are also behind 1
 abbrev totals : Totals
-totals = record { levels = 12; faults = 3; notes = 45; warnings = 1; broken = 1; unread = 2; unlooked = none_unlooked }
+totals = record { levels = 12; faults = 3; notes = 45; warnings = 1; failing = 0; broken = 1; unread = 2; partly = 0; unlooked = no_codes; unlisted = none_unlisted }
 
 totals_told : totals_line 2 Unasked totals ≡ codes "12 levels in 2 files: 3 faults, 45 notes, 3 not judged\n"
 unfolding digits code_table
@@ -61,14 +64,37 @@ totals_with_warnings_told : totals_line 1 Told totals ≡ codes "12 levels in 1 
 unfolding digits code_table
 totals_with_warnings_told = refl
 
-totals_of_none_told : totals_line 0 Strict (record { levels = 0; faults = 0; notes = 0; warnings = 0; broken = 0; unread = 0; unlooked = none_unlooked })
+totals_of_none_told : totals_line 0 Told (record { levels = 0; faults = 0; notes = 0; warnings = 0; failing = 0; broken = 0; unread = 0; partly = 0; unlooked = no_codes; unlisted = none_unlisted })
     ≡ codes "0 levels in 0 files: 0 faults, 0 notes, 0 warnings, 0 not judged\n"
 unfolding digits code_table
 totals_of_none_told = refl
 
+totals_partly_told : totals_line 1 Told (record totals { partly = 2 })
+    ≡ codes "12 levels in 1 files: 3 faults, 45 notes, 1 warnings, 3 not judged, 2 with warnings not looked for\n"
+unfolding digits code_table
+totals_partly_told = refl
+
+-- F4 and F9 hold, so no warning is looked for; F11 alone, so those that want a sound level aren't
+abbrev counts_with : ℕ → ℕ → List ℕ
+counts_with f4 f11 = replicate 3 0 ++ (f4 ∷ replicate 4 0 ++ (f4 ∷ 0 ∷ f11 ∷ replicate 30 0))
+
+no_references_told : unlooked_part (lines_of (codes "a.wad") (codes "E1M1")) (counts_with 2 1) (group_codes Warnings)
+    ≡ codes "a.wad: E1M1: warnings not looked for: F4, F9\n"
+unfolding digits code_table shown_after
+no_references_told = refl
+
+unsound_told : unlooked_part (lines_of (codes "a.wad") (codes "E1M1")) (counts_with 0 1) (set_of (is_unmet all_but_soundness))
+    ≡ codes "a.wad: E1M1: warnings W3, W5 not looked for: F11\n"
+unfolding digits code_table shown_after
+unsound_told = refl
+
+all_ignored_told : unlooked_part (lines_of (codes "a.wad") (codes "E1M1")) (counts_with 2 1) no_codes ≡ []
+unfolding digits code_table shown_after
+all_ignored_told = refl
+
 -- and its object, where neither W9 nor W10 was looked for
-totals_object_told : totals_object 1 Strict (record totals { unlooked = record { textures = true; flats = true } })
-    ≡ codes "{\"levels\":12,\"files\":1,\"faults\":3,\"notes\":45,\"warnings\":1,\"not_judged\":3,\"unlooked\":[\"W9\",\"W10\"]}\n"
+totals_object_told : totals_object 1 Told (record totals { partly = 2; unlooked = set_of (is_between (Warning W9) (Warning W10)) })
+    ≡ codes "{\"levels\":12,\"files\":1,\"faults\":3,\"notes\":45,\"warnings\":1,\"not_judged\":3,\"unlooked_levels\":2,\"unlooked\":[\"W9\",\"W10\"]}\n"
 unfolding digits code_table
 totals_object_told = refl
 
@@ -107,7 +133,7 @@ sample = record {
 }
 
 sample_object : level_members (codes "a.wad") (codes "E1M1") 0 Doom
-    ++ doom_members (record { tables = tables_of sample; counts = replicate 41 0; warnings = Unasked; unlooked = none_unlooked; drawn = true })
+    ++ doom_members (record { tables = tables_of sample; counts = replicate 41 0; warnings = Unasked; fails = false; unlooked = no_codes; unlisted = none_unlisted; drawn = true })
     ≡ codes "{\"file\":\"a.wad\",\"level\":\"E1M1\",\"entry\":0,\"format\":\"doom\",\"things\":1,\"linedefs\":1,\"sidedefs\":2,\"vertexes\":2,\"segs\":2,\"ssectors\":2,\"nodes\":1,\"sectors\":2,"
     ++ codes "\"reject\":1,\"blockmap\":16,\"sound\":true,\"faults\":0,\"notes\":0,\"findings\":{}}\n"
 unfolding strings
@@ -118,7 +144,9 @@ found_object : doom_members (record {
   tables = tables_of sample;
   counts = replicate 8 0 ++ (2 ∷ replicate 11 0 ++ (1 ∷ replicate 8 0 ++ (11 ∷ replicate 3 0 ++ (7 ∷ replicate 7 0))));
   warnings = Told;
-  unlooked = record { textures = false; flats = true };
+  fails = false;
+  unlooked = set_of (is_between (Warning W10) (Warning W10));
+  unlisted = none_unlisted;
   drawn = true;
 })
     ≡ codes ",\"things\":1,\"linedefs\":1,\"sidedefs\":2,\"vertexes\":2,\"segs\":2,\"ssectors\":2,\"nodes\":1,\"sectors\":2,"

@@ -1,11 +1,12 @@
 -- What `check` writes for a file (ours): the lines of its levels in the order of their labels, and their totals.
-use Rattle.std.specs.Prelude.{◌≡◌, ◌⊎◌, ◌↔◌, ℕ, ◌+◌, Bool, true, false, IsTrue, List, [], ◌∷◌, ◌++◌, Result, Ok, Err, IfErr, IfOk}
+use Rattle.std.specs.Prelude.{◌≡◌, ◌⊎◌, ◌↔◌, ℕ, ◌+◌, Bool, true, false, IsTrue, List, [], ◌∷◌, ◌++◌, Option, Some, None, Result, Ok, Err, IfErr, IfOk}
 use Rattle.std.specs.Io.KnownBytes.{Appends}
 use Rattle.le_rec.specs.Sink.{SinkState}
 use Rattle.level_starts.specs.Format.{IsFormat}
+use Rattle.level_starts.specs.Order.{IsInPlace}
 use Rattle.level_starts.specs.Starts.{IsNextStart, NoneStartsFrom}
 use Rattle.level_starts.specs.declared.format.Format.{Format}
-use Rattle.level_starts.specs.declared.format.Format.TheVariants.{Doom}
+use Rattle.level_starts.specs.declared.format.Format.TheVariants.{Doom, Incomplete}
 use Rattle.line_io.specs.Writes.{TakesFront, Writes}
 use Rattle.line_io.specs.declared.fault.IoFault.{IoFault}
 use Rattle.map_level.specs.Level.{Level}
@@ -17,21 +18,24 @@ use Rattle.map_tree.specs.Sound.{IsSound}
 use Rattle.wad_dir.specs.Entries.{names}
 use Rattle.wad_dir.specs.Wad.{IsRead, Wad}
 use Rattle.lens_texts.specs.Head.{Head}
+use Rattle.lens_engines.specs.Failing.{HasFailing}
 use Rattle.lens_engines.specs.Ignored.{HoldsUnlessIgnored}
 use Rattle.lens_texts.specs.Label.{IsLabelOf}
 use Rattle.lens_engines.specs.Left.{LeavesFile, LeavesLevel, WantsMemory}
 use Rattle.lens_engines.specs.LevelLines.{AreCounted, AreTold, judged_text}
 use Rattle.lens_texts.specs.LevelText.{unjudged_text}
+use Rattle.lens_texts.specs.Order.{order_part}
 use Rattle.lens_engines.specs.ReportCounts.{AreReportCounts}
 use Rattle.lens_engines.specs.Survey.{graver}
-use Rattle.lens_engines.specs.Totals.{format_totals, judged_totals, no_totals, totals_with, verdict_with}
-use Rattle.lens_engines.specs.Unlooked.{AreUnlooked}
-use Rattle.lens_engines.specs.declared.unlooked.Unlooked.{Unlooked}
+use Rattle.lens_engines.specs.Totals.{format_totals, judged_totals, no_totals, totals_with, verdict_of_totals}
+use Rattle.lens_engines.specs.Unlisted.{AreUnlisted}
+use Rattle.lens_engines.specs.Unlooked.{AreUnlookedFor}
+use Rattle.lens_engines.specs.declared.unlisted.Unlisted.{Unlisted}
+use Rattle.level_codes.specs.declared.set.CodeSet.{CodeSet}
 use Rattle.lens_engines.specs.Warned.{AreAskedFor, Warned, known_files}
 use Rattle.lens_engines.specs.declared.check.Question.{Question}
 use Rattle.lens_texts.specs.declared.form.Form.{Form}
 use Rattle.lens_engines.specs.declared.judging.Judging.{Judging}
-use Rattle.lens_engines.specs.declared.judging.Warnings.{Warnings}
 use Rattle.lens_texts.specs.declared.label.LevelLabel.{LevelLabel}
 use Rattle.lens_engines.specs.declared.totals.Totals.{Totals}
 use Rattle.lens_engines.specs.declared.verdict.LevelsFault.{LevelsFault}
@@ -61,8 +65,8 @@ pub record IsSoundWideAlone (files : List Wad) (g : ℕ) (reading : Reading) (le
   pub there : IsLevelAt files g Wide wide
   pub sound : IsSound wide
 
--- the text of a level of Doom's format: what the audit finds and isn't ignored, its warnings if they are asked for, and whether only the wide reading finds
--- it sound
+-- the text of a level of Doom's format: what the audit finds and isn't ignored, if they are asked for its warnings and which weren't looked for, and whether only
+-- the wide reading finds it sound
 pub record IsJudged (asked : CheckAsked) (files : List Wad) (g : ℕ) (label : LevelLabel) (text : List ℕ) (totals : Totals) : Type 0 where
   pub level : Level
   pub there : IsLevelAt files g asked.judging.reading level
@@ -73,17 +77,38 @@ pub record IsJudged (asked : CheckAsked) (files : List Wad) (g : ℕ) (label : L
   pub counts : List ℕ
   pub are_counts : AreReportCounts asked.judging.ignored level warned counts
   pub counted : AreCounted counts told
-  pub unlooked : Unlooked
-  pub are_unlooked : AreUnlooked asked.judging.ignored (known_files asked.judging files) unlooked
+  pub fails : Bool
+  pub failing : IsTrue fails ↔ HasFailing asked.judging.failing counts
+  pub unlooked : CodeSet
+  pub are_unlooked : AreUnlookedFor asked.judging (known_files asked.judging files) level unlooked
+  pub unlisted : Unlisted
+  pub are_unlisted : AreUnlisted asked.judging.ignored (known_files asked.judging files) unlisted
   pub sound_wide : Bool
   pub wide : IsTrue sound_wide ↔ IsSoundWideAlone files g asked.judging.reading level
-  pub is : text ≡ judged_text (head_in asked label) asked.most level told warned sound_wide
-  pub adds : totals ≡ judged_totals counts unlooked
+  pub is : text ≡ judged_text (head_in asked label) asked.most (record { level = level; warned = warned; counts = counts; unlooked = unlooked }) told sound_wide
+  pub adds : totals ≡ judged_totals counts fails unlooked unlisted
+
+-- the lump that has the place of the first that a level lacks in its place, if all ten are there; none of another format
+abbrev pub IsOrder : List (List ℕ) → ℕ → Format → Option ℕ → Type 0
+IsOrder names g (Incomplete k) (Some j) = IsInPlace names g k j
+IsOrder names g (Incomplete k) None = (j : ℕ) → ¬ IsInPlace names g k j
+IsOrder names g format order = order ≡ None
+
+-- the text of a level that isn't judged: its format, and that its lumps have another order, where they have
+abbrev pub ordered_text : Head → Format → Option ℕ → List ℕ
+ordered_text head format order = unjudged_text head format ++ order_part head format order
+
+-- that is told of the level that starts at an entry
+pub record IsUnjudged (asked : CheckAsked) (files : List Wad) (g : ℕ) (label : LevelLabel) (format : Format) (text : List ℕ) (totals : Totals) : Type 0 where
+  pub order : Option ℕ
+  pub ordered : IsOrder (names files) g format order
+  pub is : text ≡ ordered_text (head_in asked label) format order
+  pub adds : totals ≡ format_totals format
 
 -- the text of a level, by its format
 abbrev pub IsToldBy : Format → CheckAsked → List Wad → ℕ → LevelLabel → List ℕ → Totals → Type 0
 IsToldBy Doom asked files g label text totals = IsJudged asked files g label text totals
-IsToldBy format asked files g label text totals = (text ≡ unjudged_text (head_in asked label) format) × (totals ≡ format_totals format)
+IsToldBy format asked files g label text totals = IsUnjudged asked files g label format text totals
 
 -- the text of the level that starts at an entry
 pub record IsLevelText (asked : CheckAsked) (files : List Wad) (g : ℕ) (text : List ℕ) (totals : Totals) : Type 0 where
@@ -124,7 +149,7 @@ pub record StopsWriting (asked : CheckAsked) (files : List Wad) (before after : 
   pub is : IsLevelText asked files g line totals
   pub front : TakesFront between after line
   pub failed : after.failed ≡ true
-  pub says : found ≡ graver (verdict_with asked.judging.warnings sum) (verdict_with asked.judging.warnings totals)
+  pub says : found ≡ graver (verdict_of_totals sum) (verdict_of_totals totals)
 
 -- the text of all levels before one of Doom's format was written, and there was no memory to judge that one
 pub record StopsJudging (asked : CheckAsked) (files : List Wad) (before after : SinkState) : Type 0 where
@@ -150,28 +175,28 @@ pub record Checks (asked : CheckAsked) (files : List Wad) (before after : SinkSt
   pub some : IfErr result (ChecksSome asked files before after)
 
 -- the end of a level's text: its totals, where the text was written
-abbrev pub text_end : Warnings → Totals → Result (Unit {0}) IoFault → Result Totals LevelsFault
-text_end warnings totals (Ok x) = Ok totals
-text_end warnings totals (Err fault) = Err (Write (verdict_with warnings totals))
+abbrev pub text_end : Totals → Result (Unit {0}) IoFault → Result Totals LevelsFault
+text_end totals (Ok x) = Ok totals
+text_end totals (Err fault) = Err (Write (verdict_of_totals totals))
 
 -- a text was written whose level has these totals
-pub record WritesText (warnings : Warnings) (Is : List ℕ → Totals → Type 0) (before after : SinkState) (result : Result Totals LevelsFault) : Type 0 where
+pub record WritesText (Is : List ℕ → Totals → Type 0) (before after : SinkState) (result : Result Totals LevelsFault) : Type 0 where
   pub text : List ℕ
   pub totals : Totals
   pub is : Is text totals
   pub outcome : Result (Unit {0}) IoFault
   pub writes : Writes before after text outcome
-  pub ended : result ≡ text_end warnings totals outcome
+  pub ended : result ≡ text_end totals outcome
 
 -- the text of a level of Doom's format was written, or nothing was
 abbrev pub ChecksDoom : {W : Type 0} → (W → SinkState) → CheckAsked → List Wad → ℕ → LevelLabel → W → W → Result Totals LevelsFault → Type 0
 ChecksDoom state asked files g label out out' result =
-    WantsMemory out out' result ⊎ WritesText asked.judging.warnings (IsJudged asked files g label) (state out) (state out') result
+    WantsMemory out out' result ⊎ WritesText (IsJudged asked files g label) (state out) (state out') result
 
 -- the text of any level was written, or nothing was
 abbrev pub ChecksLevel : {W : Type 0} → (W → SinkState) → CheckAsked → List Wad → ℕ → W → W → Result Totals LevelsFault → Type 0
 ChecksLevel state asked files g out out' result =
-    LeavesLevel files g out out' result ⊎ WritesText asked.judging.warnings (IsLevelText asked files g) (state out) (state out') result
+    LeavesLevel files g out out' result ⊎ WritesText (IsLevelText asked files g) (state out) (state out') result
 
 -- all levels were checked, or nothing was written for want of memory
 abbrev pub ChecksOrWants : {W : Type 0} → (W → SinkState) → CheckAsked → List Wad → W → W → Result Totals LevelsFault → Type 0

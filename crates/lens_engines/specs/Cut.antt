@@ -4,6 +4,7 @@ use Rattle.std.specs.Fmt.{decimal}
 use Rattle.le_rec.specs.Name.{shown_name}
 use Rattle.le_rec.specs.Sink.{SinkState}
 use Rattle.level_starts.specs.Format.{IsFormat}
+use Rattle.level_starts.specs.LevelFile.{HoldsLumps}
 use Rattle.level_starts.specs.Starts.{IsNamed, LevelStartsAt}
 use Rattle.level_starts.specs.declared.format.Format.{Format}
 use Rattle.level_starts.specs.declared.format.Format.TheVariants as format
@@ -24,7 +25,6 @@ use Rattle.lens_engines.specs.declared.cut.Uncut.{Uncut}
 use Rattle.lens_engines.specs.declared.cut.Uncut.TheVariants.{Incomplete, Outside, NoEndMap, TooLarge}
 use Rattle.lens_texts.specs.declared.label.LevelLabel.{LevelLabel}
 use Rattle.lens_engines.specs.declared.object.FileRefusal.TheVariants as refusal
-use Rattle.wad_look.specs.Engines.Extract.{HoldsLumps}
 
 -- the first entry named ENDMAP behind TEXTMAP is so many behind the label (UDMF specification)
 pub record IsEndMap (files : List Wad) (g many : ℕ) : Type 0 where

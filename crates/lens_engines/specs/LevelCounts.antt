@@ -5,9 +5,11 @@ use Rattle.map_cells.specs.Ends.{IsEnd}
 use Rattle.map_level.specs.Level.{Level}
 use Rattle.map_level.specs.Opening.{IsLevelAt}
 use Rattle.wad_dir.specs.Wad.{Wad}
+use Rattle.lens_engines.specs.Failing.{HasFailing}
 use Rattle.lens_engines.specs.ReportCounts.{AreReportCounts}
 use Rattle.lens_engines.specs.Tables.{tables_of}
-use Rattle.lens_engines.specs.Unlooked.{AreUnlooked}
+use Rattle.lens_engines.specs.Unlisted.{AreUnlisted}
+use Rattle.lens_engines.specs.Unlooked.{AreUnlookedFor}
 use Rattle.lens_engines.specs.Warned.{AreAskedFor, Warned, known_files}
 use Rattle.lens_engines.specs.declared.judging.Judging.{Judging}
 use Rattle.lens_engines.specs.declared.level_counts.LevelCounts.{LevelCounts}
@@ -25,5 +27,7 @@ pub record IsCounted (files : List Wad) (judging : Judging) (g : ℕ) (counted :
   pub are_warned : AreAskedFor judging (known_files judging files) level 0 warned
   pub counts : AreReportCounts judging.ignored level warned counted.counts
   pub asked : counted.warnings ≡ judging.warnings
-  pub unlooked : AreUnlooked judging.ignored (known_files judging files) counted.unlooked
+  pub failing : IsTrue counted.fails ↔ HasFailing judging.failing counted.counts
+  pub unlooked : AreUnlookedFor judging (known_files judging files) level counted.unlooked
+  pub unlisted : AreUnlisted judging.ignored (known_files judging files) counted.unlisted
   pub drawn : IsTrue counted.drawn ↔ HasLines level

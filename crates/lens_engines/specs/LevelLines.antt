@@ -8,7 +8,9 @@ use Rattle.lens_engines.specs.Counts.{finding_order}
 use Rattle.lens_engines.specs.ReportCounts.{count_of}
 use Rattle.lens_texts.specs.Head.{Head}
 use Rattle.lens_texts.specs.LevelText.{finding_text, wide_text}
-use Rattle.lens_engines.specs.Warned.{Warned}
+use Rattle.lens_texts.specs.Unbuilt.{unbuilt_text}
+use Rattle.lens_engines.specs.Judged.{JudgedLevel}
+use Rattle.lens_engines.specs.UnlookedText.{unlooked_part}
 use Rattle.lens_engines.specs.WarnedText.{more_text, warned_text}
 
 -- the indexes at which something holds, ascending, and no others
@@ -46,7 +48,12 @@ wide_part head is_sound = if is_sound then wide_text head else []
 abbrev pub AreCounted : List ℕ → (Code → List ℕ) → Type 0
 AreCounted counts told = (code : Code) → length (told code) ≡ count_of counts (report.Finding code)
 
--- the lines of a judged level: its findings, its warnings, and whether the wide reading alone finds it sound
-abbrev pub judged_text : Head → ℕ → Level → (Code → List ℕ) → List Warned → Bool → List ℕ
-judged_text head most level told warned sound_wide =
-    findings_part head most level told ++ (warned_text head level warned ++ wide_part head sound_wide)
+-- what is told of a judged level: its findings, its warnings, those that weren't looked for, and whether the wide reading alone finds it sound
+abbrev pub remarks_text : Head → ℕ → JudgedLevel → (Code → List ℕ) → Bool → List ℕ
+remarks_text head most judged told sound_wide =
+    findings_part head most judged.level told
+    ++ (warned_text head judged.level judged.warned ++ (unlooked_part head judged.counts judged.unlooked ++ wide_part head sound_wide))
+
+-- the lines of a judged level: in front of these that its nodes weren't built, where a lump of a node builder is empty
+abbrev pub judged_text : Head → ℕ → JudgedLevel → (Code → List ℕ) → Bool → List ℕ
+judged_text head most judged told sound_wide = unbuilt_text head judged.level ++ remarks_text head most judged told sound_wide

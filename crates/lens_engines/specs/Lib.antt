@@ -1,5 +1,6 @@
 pub mod Check
 pub mod Counts
+pub mod Failing
 pub mod Ignored
 pub mod Laws
 pub mod Warned
@@ -12,7 +13,9 @@ pub mod Rules
 pub mod Survey
 pub mod Totals
 pub mod TotalsObject
+pub mod Unlisted
 pub mod Unlooked
+pub mod UnlookedText
 pub mod Cut
 pub mod Judged
 pub mod LevelCounts

@@ -1,6 +1,6 @@
 -- The members of a survey's objects and their values (ours), as a reader of JSON gives them.
-use Rattle.std.specs.Prelude.{ℕ, Bool, true, false, ◌<◌, ◌^◌, ◌==◌, nat_lt, All, List, [], ◌∷◌, ◌++◌, codes, filter, map}
-use Rattle.json.specs.Json.{Json, array, boolean, item, no_items, string}
+use Rattle.std.specs.Prelude.{ℕ, true, false, ◌<◌, ◌^◌, ◌==◌, nat_lt, All, List, [], ◌∷◌, ◌++◌, codes, filter, map, if◌then◌else◌}
+use Rattle.json.specs.Json.{Json, array, boolean, string}
 use Rattle.le_rec.specs.Name.{shown_name}
 use Rattle.level_codes.specs.Codes.{code_name, finding_codes, warning_codes}
 use Rattle.level_codes.specs.declared.code.ReportCode.{ReportCode}
@@ -10,13 +10,14 @@ use Rattle.lens_engines.specs.Counts.{fault_total, note_total}
 use Rattle.lens_engines.specs.Objects.{refusal_text}
 use Rattle.lens_engines.specs.ReportCounts.{count_of}
 use Rattle.lens_texts.specs.LevelObject.{format_name, usual_name}
-use Rattle.lens_texts.specs.Members.{file_value, number_at, object_of, text_at}
+use Rattle.lens_texts.specs.Members.{file_value, names_of, number_at, object_of, text_at}
 use Rattle.lens_engines.specs.declared.judging.Warnings.{Warnings}
-use Rattle.lens_engines.specs.declared.judging.Warnings.TheVariants.{Unasked, Told, Strict}
+use Rattle.lens_engines.specs.declared.judging.Warnings.TheVariants.{Unasked, Told}
 use Rattle.lens_engines.specs.declared.level_counts.LevelCounts.{LevelCounts}
 use Rattle.lens_engines.specs.declared.object.FileRefusal.{FileRefusal}
 use Rattle.lens_engines.specs.declared.tables.Tables.{Tables}
-use Rattle.lens_engines.specs.declared.unlooked.Unlooked.{Unlooked}
+use Rattle.lens_engines.specs.Unlooked.{codes_in, has_any}
+use Rattle.level_codes.specs.declared.set.CodeSet.{CodeSet}
 
 -- the members of a level: its label, the label's entry, its format
 abbrev pub label_values : List ℕ → ℕ → Format → List (List ℕ × Json)
@@ -67,17 +68,10 @@ found_values counts =
 abbrev pub warnings_values : Warnings → List ℕ → List (List ℕ × Json)
 warnings_values Unasked counts = []
 warnings_values Told counts = (codes "warnings", object_of (count_values counts warning_codes)) ∷ []
-warnings_values Strict counts = (codes "warnings", object_of (count_values counts warning_codes)) ∷ []
 
 -- what wasn't looked for, where there is some
-abbrev pub unlooked_at : Bool → Bool → List (List ℕ × Json)
-unlooked_at true true = (codes "unlooked", array (item (string (codes "W9")) (item (string (codes "W10")) no_items))) ∷ []
-unlooked_at true false = (codes "unlooked", array (item (string (codes "W9")) no_items)) ∷ []
-unlooked_at false true = (codes "unlooked", array (item (string (codes "W10")) no_items)) ∷ []
-unlooked_at false false = []
-
-abbrev pub unlooked_values : Unlooked → List (List ℕ × Json)
-unlooked_values unlooked = unlooked_at unlooked.textures unlooked.flats
+abbrev pub unlooked_values : CodeSet → List (List ℕ × Json)
+unlooked_values unlooked = if has_any unlooked then (codes "unlooked", array (names_of (map code_name (codes_in unlooked)))) ∷ [] else []
 
 -- the object of a refused file
 abbrev pub refused_value : List ℕ → FileRefusal → Json

@@ -10,7 +10,7 @@ use Rattle.lens_texts.specs.LevelObject.{file_member, number_member}
 use Rattle.lens_engines.specs.Unlooked.{unlooked_member}
 use Rattle.lens_engines.specs.ReportCounts.{count_of}
 use Rattle.lens_engines.specs.declared.judging.Warnings.{Warnings}
-use Rattle.lens_engines.specs.declared.judging.Warnings.TheVariants.{Unasked, Told, Strict}
+use Rattle.lens_engines.specs.declared.judging.Warnings.TheVariants.{Unasked, Told}
 use Rattle.lens_engines.specs.declared.level_counts.LevelCounts.{LevelCounts}
 use Rattle.lens_engines.specs.declared.object.FileRefusal.{FileRefusal}
 use Rattle.lens_engines.specs.declared.tables.Tables.{Tables}
@@ -57,7 +57,6 @@ found_members counts =
 abbrev pub warnings_member : Warnings → List ℕ → List ℕ
 warnings_member Unasked counts = []
 warnings_member Told counts = codes ",\"warnings\":{" ++ (counts_text counts warning_codes ++ codes "}")
-warnings_member Strict counts = codes ",\"warnings\":{" ++ (counts_text counts warning_codes ++ codes "}")
 
 -- what the object of a level of Doom's format ends with
 abbrev pub doom_members : LevelCounts → List ℕ

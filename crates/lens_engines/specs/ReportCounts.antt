@@ -14,7 +14,7 @@ use Rattle.map_level.specs.declared.search.TheConstants.{CODE_COUNT}
 use Rattle.lens_engines.specs.Counts.{IsCount}
 use Rattle.lens_engines.specs.Ignored.{HoldsUnlessIgnored, ignores}
 use Rattle.lens_engines.specs.Warned.{Warned}
-use Rattle.lens_engines.specs.declared.ignored.Ignored.{Ignored}
+use Rattle.level_codes.specs.declared.set.CodeSet.{CodeSet}
 
 -- a number for each code; those of findings have 32 bits
 pub record FitReport (counts : List ℕ) : Type 0 where
@@ -30,12 +30,12 @@ abbrev pub count_at : List Warned → ℕ → ℕ
 count_at warned rank = option_map_or (λ one. one.cut.count) (slice_get warned rank) 0
 
 -- how many of a code are told, where its findings are so many: none of an ignored code
-abbrev pub told_count : List ℕ → List Warned → Ignored → ReportCode → ℕ
+abbrev pub told_count : List ℕ → List Warned → CodeSet → ReportCode → ℕ
 told_count found warned ignored (report.Finding code) = if ignores ignored (report.Finding code) then 0 else slice_index found (rank code)
 told_count found warned ignored (report.Warning code) = count_at warned (warning_rank code)
 
 -- how many of each code are told of a level: its findings whose code isn't ignored, and its warnings by the report on them
-pub record AreReportCounts (ignored : Ignored) (level : Level) (warned : List Warned) (counts : List ℕ) : Type 0 where
+pub record AreReportCounts (ignored : CodeSet) (level : Level) (warned : List Warned) (counts : List ℕ) : Type 0 where
   pub all : length counts ≡ REPORT_COUNT
   pub findings : (code : Code) → IsCount (HoldsUnlessIgnored ignored level code) (count_of counts (report.Finding code))
   pub warnings : (code : WarningCode) → count_of counts (report.Warning code) ≡ count_at warned (warning_rank code)

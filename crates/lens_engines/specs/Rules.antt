@@ -9,4 +9,5 @@ pub record IsOver (rules : Rules) (base : List Wad) (judging : Judging) : Type 0
   pub reading : judging.reading ≡ rules.reading
   pub warnings : judging.warnings ≡ rules.warnings
   pub ignored : judging.ignored ≡ rules.ignored
+  pub failing : judging.failing ≡ rules.failing
   pub over : judging.base.now ≡ base

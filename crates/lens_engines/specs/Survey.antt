@@ -13,9 +13,7 @@ use Rattle.wad_dir.specs.Entries.{names}
 use Rattle.wad_dir.specs.Wad.{IsRead, Wad}
 use Rattle.lens_engines.specs.Counts.{fault_total}
 use Rattle.lens_engines.specs.Left.{LeavesFile, LeavesLevel, WantsMemory}
-use Rattle.lens_engines.specs.ReportCounts.{warning_total}
 use Rattle.lens_engines.specs.Surveyed.{SurveyedAt, survey_line}
-use Rattle.lens_engines.specs.Warned.{warned_verdict}
 use Rattle.lens_engines.specs.declared.judging.Judging.{Judging}
 use Rattle.lens_engines.specs.declared.level_counts.LevelCounts.{LevelCounts}
 use Rattle.lens_engines.specs.declared.surveyed.Surveyed.{Surveyed}
@@ -51,9 +49,9 @@ verdict_of_format Doom = Clean
 abbrev pub verdict_of_counts : List ℕ → Verdict
 verdict_of_counts counts = if fault_total counts == 0 then Clean else Faulty
 
--- the verdict on a level of Doom's format: by what its audit finds and isn't ignored, and by its warnings if they are asked for
+-- the verdict on a level of Doom's format: by its faults, and by what is as grave
 abbrev pub verdict_of_level : LevelCounts → Verdict
-verdict_of_level counted = graver (verdict_of_counts counted.counts) (warned_verdict counted.warnings (warning_total counted.counts))
+verdict_of_level counted = if counted.fails then Faulty else verdict_of_counts counted.counts
 
 -- the verdict on a level
 abbrev pub verdict_of : Surveyed → Verdict
@@ -61,12 +59,12 @@ verdict_of (surveyed.Judged counted) = verdict_of_level counted
 verdict_of (surveyed.Unjudged unjudged) = verdict_of_format unjudged.format
 
 -- the report on a level
-pub record Told : Type 0 where
+pub record ToldLevel : Type 0 where
   pub line : List ℕ
   pub verdict : Verdict
 
 -- the report on the level that starts at an entry
-pub record IsTold (path : List ℕ) (files : List Wad) (judging : Judging) (g : ℕ) (told : Told) : Type 0 where
+pub record IsTold (path : List ℕ) (files : List Wad) (judging : Judging) (g : ℕ) (told : ToldLevel) : Type 0 where
   pub surveyed : Surveyed
   pub is : SurveyedAt files judging g surveyed
   pub name : List ℕ
@@ -75,7 +73,7 @@ pub record IsTold (path : List ℕ) (files : List Wad) (judging : Judging) (g : 
   pub says : told.verdict ≡ verdict_of surveyed
 
 -- the reports on the levels that start at some entries, in their order
-abbrev pub AreTold : List ℕ → List Wad → Judging → List ℕ → List Told → Type 0
+abbrev pub AreTold : List ℕ → List Wad → Judging → List ℕ → List ToldLevel → Type 0
 AreTold path files judging [] [] = Unit {0}
 AreTold path files judging (g ∷ starts) (told ∷ others) = IsTold path files judging g told × AreTold path files judging starts others
 AreTold path files judging _ _ = ⊥
@@ -86,31 +84,31 @@ pub record AreStartsBelow (names : List (List ℕ)) (end : ℕ) (starts : List �
   pub exact : (g : ℕ) → Contains starts g ↔ (LevelStartsAt names g × (g < end))
 
 -- the reports on the levels that start below an entry
-pub record AreToldBelow (path : List ℕ) (files : List Wad) (judging : Judging) (end : ℕ) (told : List Told) : Type 0 where
+pub record AreToldBelow (path : List ℕ) (files : List Wad) (judging : Judging) (end : ℕ) (told : List ToldLevel) : Type 0 where
   pub starts : List ℕ
   pub are : AreStartsBelow (names files) end starts
   pub each : AreTold path files judging starts told
 
 -- their lines
-abbrev pub lines_of : List Told → List ℕ
+abbrev pub lines_of : List ToldLevel → List ℕ
 lines_of told = flat_map (λ one. one.line) told
 
 -- the gravest of their verdicts
-abbrev pub gravest : List Told → Verdict
+abbrev pub gravest : List ToldLevel → Verdict
 gravest told = fold (λ verdict one. graver verdict one.verdict) Clean told
 
 -- all levels were reported on, and their lines were taken
 pub record SurveysAll (path : List ℕ) (files : List Wad) (judging : Judging) (before after : SinkState) (verdict : Verdict) : Type 0 where
-  pub told : List Told
+  pub told : List ToldLevel
   pub are : AreToldBelow path files judging (length (names files)) told
   pub took : Appends before.taken after.taken (lines_of told)
   pub sound : after.failed ≡ false
   pub says : verdict ≡ gravest told
 
 -- the lines of all but the last of these levels were taken, and a write failed within that of the last
-pub record StopsWriting (before after : SinkState) (told : List Told) (found : Verdict) : Type 0 where
-  pub whole : List Told
-  pub last : Told
+pub record StopsWriting (before after : SinkState) (told : List ToldLevel) (found : Verdict) : Type 0 where
+  pub whole : List ToldLevel
+  pub last : ToldLevel
   pub are : told ≡ whole ++ last ∷ []
   pub between : SinkState
   pub took : Appends before.taken between.taken (lines_of whole)
@@ -119,7 +117,7 @@ pub record StopsWriting (before after : SinkState) (told : List Told) (found : V
   pub says : found ≡ gravest told
 
 -- their lines were taken, and there was no memory to judge the next level, which is of Doom's format
-pub record StopsJudging (files : List Wad) (end : ℕ) (before after : SinkState) (told : List Told) : Type 0 where
+pub record StopsJudging (files : List Wad) (end : ℕ) (before after : SinkState) (told : List ToldLevel) : Type 0 where
   pub took : Appends before.taken after.taken (lines_of told)
   pub sound : after.failed ≡ false
   pub g : ℕ
@@ -127,7 +125,7 @@ pub record StopsJudging (files : List Wad) (end : ℕ) (before after : SinkState
   pub doom : IsFormat files g Doom
 
 -- how a survey stops behind the levels below an entry: within the line of the last of them, or before the next one
-abbrev pub StopsLines : List Wad → ℕ → SinkState → SinkState → List Told → LevelsFault → Type 0
+abbrev pub StopsLines : List Wad → ℕ → SinkState → SinkState → List ToldLevel → LevelsFault → Type 0
 StopsLines files end before after told (Write found) = StopsWriting before after told found
 StopsLines files end before after told Memory = StopsJudging files end before after told
 StopsLines files end before after told (NoWad why) = ⊥
@@ -135,7 +133,7 @@ StopsLines files end before after told (NoWad why) = ⊥
 -- the levels up to some entry were reported on, and no others
 pub record SurveysSome (path : List ℕ) (files : List Wad) (judging : Judging) (before after : SinkState) (fault : LevelsFault) : Type 0 where
   pub end : ℕ
-  pub told : List Told
+  pub told : List ToldLevel
   pub are : AreToldBelow path files judging end told
   pub stops : StopsLines files end before after told fault
 
@@ -174,7 +172,7 @@ pub record WritesLine (before after : SinkState) (line : List ℕ) (verdict : Ve
 
 -- the line of a level was written
 pub record WritesLevel (path : List ℕ) (files : List Wad) (judging : Judging) (g : ℕ) (before after : SinkState) (result : Result Verdict LevelsFault) : Type 0 where
-  pub told : Told
+  pub told : ToldLevel
   pub is : IsTold path files judging g told
   pub writes : WritesLine before after told.line told.verdict result
 

@@ -1,5 +1,5 @@
 -- The report on a level's warnings (ours).
-use Rattle.std.specs.Prelude.{◌≡◌, ℕ, ◌==◌, Bool, true, false, List, [], ◌∷◌, ◌++◌, Option, Some, None, All, map, if◌then◌else◌}
+use Rattle.std.specs.Prelude.{◌≡◌, ℕ, Bool, true, false, List, [], ◌∷◌, ◌++◌, Option, Some, None, All, map}
 use Rattle.map_warnings.specs.Warnings.{Cut, Tells}
 use Rattle.level_codes.specs.declared.code.WarningCode.{WarningCode}
 use Rattle.level_codes.specs.Codes.{warning_codes}
@@ -7,12 +7,10 @@ use Rattle.level_codes.specs.declared.code.ReportCode.TheVariants as report
 use Rattle.map_level.specs.Level.{Level}
 use Rattle.wad_dir.specs.Wad.{Wad}
 use Rattle.lens_engines.specs.Ignored.{WarnsUnlessIgnored}
-use Rattle.lens_engines.specs.declared.ignored.Ignored.{Ignored}
+use Rattle.level_codes.specs.declared.set.CodeSet.{CodeSet}
 use Rattle.lens_engines.specs.declared.judging.Judging.{Judging}
 use Rattle.lens_engines.specs.declared.judging.Warnings.{Warnings}
-use Rattle.lens_engines.specs.declared.judging.Warnings.TheVariants.{Unasked, Told, Strict}
-use Rattle.lens_engines.specs.declared.verdict.Verdict.{Verdict}
-use Rattle.lens_engines.specs.declared.verdict.Verdict.TheVariants.{Clean, Faulty}
+use Rattle.lens_engines.specs.declared.judging.Warnings.TheVariants.{Unasked, Told}
 
 -- the report on a code: the first of its warnings, and how many there are
 pub record Warned : Type 0 where
@@ -20,17 +18,17 @@ pub record Warned : Type 0 where
   pub cut : Cut
 
 -- that of a level, with at most so many warnings, and none of an ignored code; the level's textures and flats are those of some files, if these are known
-pub record IsWarned (ignored : Ignored) (files : Option (List Wad)) (level : Level) (most : ℕ) (warned : Warned) : Type 0 where
+pub record IsWarned (ignored : CodeSet) (files : Option (List Wad)) (level : Level) (most : ℕ) (warned : Warned) : Type 0 where
   pub tells : Tells (WarnsUnlessIgnored ignored files level warned.code) warned.cut
   pub cut_at : warned.cut.most ≡ most
 
 -- the report on all codes
-pub record AreWarned (ignored : Ignored) (files : Option (List Wad)) (level : Level) (most : ℕ) (all : List Warned) : Type 0 where
+pub record AreWarned (ignored : CodeSet) (files : Option (List Wad)) (level : Level) (most : ℕ) (all : List Warned) : Type 0 where
   pub codes : map (λ warned. report.Warning warned.code) all ≡ warning_codes
   pub each : All (IsWarned ignored files level most) all
 
 -- the report on a code was added
-pub record AddsWarned (ignored : Ignored) (files : Option (List Wad)) (level : Level) (most : ℕ) (code : WarningCode) (old new : List Warned) : Type 0 where
+pub record AddsWarned (ignored : CodeSet) (files : Option (List Wad)) (level : Level) (most : ℕ) (code : WarningCode) (old new : List Warned) : Type 0 where
   pub warned : Warned
   pub is : new ≡ old ++ warned ∷ []
   pub of_code : warned.code ≡ code
@@ -40,13 +38,11 @@ pub record AddsWarned (ignored : Ignored) (files : Option (List Wad)) (level : L
 abbrev pub are_asked : Warnings → Bool
 are_asked Unasked = false
 are_asked Told = true
-are_asked Strict = true
 
 -- the report on a level's warnings, as they are asked for: empty if they aren't looked for
-abbrev pub AreAskedBy : Warnings → Ignored → Option (List Wad) → Level → ℕ → List Warned → Type 0
+abbrev pub AreAskedBy : Warnings → CodeSet → Option (List Wad) → Level → ℕ → List Warned → Type 0
 AreAskedBy Unasked ignored files level most all = all ≡ []
 AreAskedBy Told ignored files level most all = AreWarned ignored files level most all
-AreAskedBy Strict ignored files level most all = AreWarned ignored files level most all
 
 abbrev pub AreAskedFor : Judging → Option (List Wad) → Level → ℕ → List Warned → Type 0
 AreAskedFor judging files level most all = AreAskedBy judging.warnings judging.ignored files level most all
@@ -55,14 +51,7 @@ AreAskedFor judging files level most all = AreAskedBy judging.warnings judging.i
 abbrev pub where_asked : Warnings → List Wad → Option (List Wad)
 where_asked Unasked files = None
 where_asked Told files = Some files
-where_asked Strict files = Some files
 
 -- the files in which a level's textures and flats are looked up, if warnings are looked for: the base files and then the level's own
 abbrev pub known_files : Judging → List Wad → Option (List Wad)
 known_files judging files = where_asked judging.warnings (judging.base.now ++ files)
-
--- the verdict on so many warnings: one is as grave as a fault if they are asked for strictly; else they are clean
-abbrev pub warned_verdict : Warnings → ℕ → Verdict
-warned_verdict Unasked count = Clean
-warned_verdict Told count = Clean
-warned_verdict Strict count = if count == 0 then Clean else Faulty

@@ -1,13 +1,13 @@
 //! The check of a file: what is found at each of its levels, in lines for people, editors and programs.
 
-ghost use Rattle.std.specs.Prelude.{◌≡◌, ◌↔◌, ◌++◌, false, length, IfOk, IsTrue};
+ghost use Rattle.std.specs.Prelude.{◌≡◌, ◌≤◌, ◌↔◌, ◌++◌, false, length, IfOk, IfSome, IsTrue};
 ghost use Rattle.level_starts.specs.Format.{IsFormat};
 ghost use Rattle.level_starts.specs.Holders.{AreLabelHolders};
 ghost use Rattle.level_starts.specs.Starts.{LevelStartsAt};
 ghost use Rattle.level_starts.specs.declared.format.Format.TheVariants as format;
 ghost use Rattle.map_tree.specs.Sound.{IsSound};
 ghost use Rattle.wad_dir.specs.Entries.{names};
-ghost use Rattle.lens_engines.specs.Check.{asked_of, head_in, text_end, Checks, ChecksDoom, ChecksLevel, ChecksOrWants, IsSoundWideAlone, RunsCheck};
+ghost use Rattle.lens_engines.specs.Check.{asked_of, head_in, text_end, Checks, ChecksDoom, ChecksLevel, ChecksOrWants, IsOrder, IsSoundWideAlone, RunsCheck, ordered_text};
 ghost use Rattle.lens_texts.specs.Head.{head_of};
 ghost use Rattle.lens_texts.specs.LevelText.{unjudged_text};
 ghost use Rattle.lens_texts.specs.LevelObject.{NamesLump, level_members, other_members};
@@ -15,18 +15,20 @@ ghost use Rattle.line_io.specs.Writes.{Writes};
 ghost use Rattle.lens_engines.specs.Warned.{known_files};
 
 use crate::base::over_base;
+use crate::failing::has_failing;
 use crate::judged::Judged;
-use crate::judging::{Judging, Warnings};
+use crate::judging::Judging;
 use crate::level_lines::write_judged;
 use crate::totals::{Totals, format_totals, judged_totals};
-use crate::unlooked::Unlooked;
+use crate::unlisted::Unlisted;
 use crate::verdict::LevelsFault;
 use crate::warned::asked_resources;
 use le_rec::Sink;
 use lens_texts::{
-    Form, Heading, label_by, level_at, owners_of, write_format, write_level, write_other,
+    Form, Heading, label_by, level_at, owners_of, write_format, write_level, write_order,
+    write_other,
 };
-use level_starts::{Format, Holders, LevelStarts, format_of};
+use level_starts::{Format, Holders, LevelStarts, format_of, lump_in_place};
 use line_io::IoFault;
 use map_level::{Level, Reading};
 use map_tree::is_sound;
@@ -106,7 +108,7 @@ fn check_set<A: Allocator + Copy, W: Sink>(
     'levels: for g in LevelStarts::of(set) {
         let totals = match check_level(alloc, question, set, holders, resources, g, out) {
             Ok(totals) => totals,
-            Err(fault) => return Err(fault.after(sum.verdict_with(question.judging.warnings))),
+            Err(fault) => return Err(fault.after(sum.verdict())),
         };
         sum = sum.with(totals);
     }
@@ -136,16 +138,44 @@ fn check_level<A: Allocator + Copy, W: Sink>(
     };
     match format_of(set, g) {
         Format::Doom => check_doom(alloc, question, &heading, set, resources, g, out),
-        format => text_end(
-            question.judging.warnings,
-            format_totals(format),
-            write_unjudged(&heading, format, out),
-        ),
+        format => {
+            let order = order_of(set, g, format);
+            let wrote = write_unjudged(&heading, format, order, out);
+            text_end(format_totals(format), wrote)
+        }
     }
 }
 
-// Writes that a level isn't judged.
+// The lump that has the place of the first that a level lacks in its place, if all ten are there.
+fn order_of<A: Allocator>(set: &Set<'_, A>, g: usize, format: Format) -> Option<u32>
+    requires { LevelStartsAt (names set.now) g }
+    ensures { IsOrder (names set.now) g format result }
+{
+    match format {
+        Format::Incomplete(k) => lump_in_place(set, g, k),
+        Format::Udmf | Format::Hexen | Format::Outside(_) | Format::Extended(_) | Format::Doom =>
+            None,
+    }
+}
+
+// Writes that a level isn't judged, and that its lumps have another order, where they have.
 fn write_unjudged<W: Sink>(
+    heading: &Heading<'_>,
+    format: Format,
+    order: Option<u32>,
+    out: &mut W,
+) -> Result<(), IoFault>
+    requires lump { NamesLump format }
+    requires order { IfSome order (λ j. (1 ≤ j) × (j ≤ 10)) }
+    requires sound { (W.state out.old).failed ≡ false }
+    ensures { Writes (W.state out.old) (W.state out.new) (ordered_text (head_of heading.now) format order) result }
+{
+    write_format_told(heading, format, out)?;
+    write_order(heading, format, order, out)
+}
+
+// Writes that a level isn't judged.
+fn write_format_told<W: Sink>(
     heading: &Heading<'_>,
     format: Format,
     out: &mut W,
@@ -207,8 +237,10 @@ fn check_doom<A: Allocator + Copy, W: Sink>(
         return Err(LevelsFault::Memory);
     };
     let wrote = write_judged(&judged, &owners, heading, question.most, sound_wide, out);
-    let totals = judged_totals(counts, Unlooked::of(resources, &judging.ignored));
-    text_end(judging.warnings, totals, wrote)
+    let fails = has_failing(&judging.failing, counts);
+    let unlisted = Unlisted::of(resources, &judging.ignored);
+    let totals = judged_totals(counts, fails, judged.unlooked(), unlisted);
+    text_end(totals, wrote)
 }
 
 // Whether the wide reading alone finds the level at a label sound, which is sound or not.
@@ -239,15 +271,11 @@ fn is_sound_wide_alone<A: Allocator + Copy>(
 }
 
 // The end of a level's text: its totals, where the text was written.
-fn text_end(
-    warnings: Warnings,
-    totals: Totals,
-    wrote: Result<(), IoFault>,
-) -> Result<Totals, LevelsFault>
-    ensures { result ≡ text_end warnings totals wrote }
+fn text_end(totals: Totals, wrote: Result<(), IoFault>) -> Result<Totals, LevelsFault>
+    ensures { result ≡ text_end totals wrote }
 {
     match wrote {
         Ok(()) => Ok(totals),
-        Err(_) => Err(LevelsFault::Write(totals.verdict_with(warnings))),
+        Err(_) => Err(LevelsFault::Write(totals.verdict())),
     }
 }

@@ -8,7 +8,9 @@ ghost use Rattle.lens_engines.specs.Judged.{Judges};
 use crate::counts::count_all;
 use crate::judging::Judging;
 use crate::report_counts::ReportCounts;
+use crate::unlooked::known_unlooked;
 use crate::warned::{Warned, known_warnings};
+use level_codes::CodeSet;
 use map_audit::Parts;
 use map_level::search::Search;
 use map_level::{Code, Level};
@@ -16,14 +18,15 @@ use map_warnings::Resources;
 use std::alloc::{AllocError, Allocator, Global};
 use std::marker::Model;
 
-/// A level that was looked over once: how often each code is told of it, the report on its warnings, and what looks for its
-/// findings. No finding is kept.
+/// A level that was looked over once: how often each code is told of it, the report on its warnings, those that weren't looked
+/// for, and what looks for its findings. No finding is kept.
 #[derive(Drop)]
 pub struct Judged<'l, 'a, A: Allocator = Global> {
     level: &'l Level<'a>,
     parts: Parts<'l, 'a, A>,
     warned: Vec<Warned<A>, A>,
     counts: ReportCounts,
+    unlooked: CodeSet,
 }
 
 impl<'l, 'a, A: Allocator> Model for Judged<'l, 'a, A> {
@@ -32,7 +35,7 @@ impl<'l, 'a, A: Allocator> Model for Judged<'l, 'a, A> {
 
     ghost Value = { JudgedLevel };
 
-    ghost view = { λ judged. record { level = judged.level.now; warned = judged.warned.items; counts = judged.counts } };
+    ghost view = { λ judged. record { level = judged.level.now; warned = judged.warned.items; counts = judged.counts; unlooked = judged.unlooked } };
 
     ghost invariant = { λ judged. judged.parts ≡ judged.level.now };
 }
@@ -52,12 +55,14 @@ impl<'l, 'a, A: Allocator + Copy> Judged<'l, 'a, A> {
         let parts = Parts::of(alloc, level)?;
         let found = count_all(&parts);
         let warned = known_warnings(alloc, level, resources, &found, most, judging)?;
+        let unlooked = known_unlooked(level, resources, &found, judging);
         let counts = ReportCounts::of(&found, &warned, &judging.ignored);
         Ok(Judged {
             level,
             parts,
             warned,
             counts,
+            unlooked,
         })
     }
 }
@@ -82,6 +87,13 @@ impl<'l, 'a, A: Allocator> Judged<'l, 'a, A> {
         ensures { result.now ≡ self.now.counts }
     {
         &self.counts
+    }
+
+    /// The warnings that were asked for and weren't looked for.
+    pub fn unlooked(&self) -> CodeSet
+        ensures { result ≡ self.now.unlooked }
+    {
+        self.unlooked
     }
 
     /// The first index at which a code holds, from a given one on.

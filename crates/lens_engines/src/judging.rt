@@ -1,48 +1,28 @@
 //! How the levels of a file are judged.
 
 use crate::base::Base;
-use crate::ignored::Ignored;
-use crate::verdict::Verdict;
+use level_codes::CodeSet;
 use map_level::Reading;
 
-/// Whether warnings are looked for, and how grave they are.
+/// Whether warnings are looked for.
 #[derive(Clone, Copy, Debug, PartialEq, Eq)]
 pub enum Warnings {
     /// They aren't looked for.
     Unasked,
-    /// They are shown and counted, and change no verdict.
+    /// They are shown and counted.
     Told,
-    /// They are shown and counted, and one is as grave as a fault.
-    Strict,
 }
 
-impl Warnings {
-    ghost use Rattle.std.specs.Prelude.{◌≡◌};
-    ghost use Rattle.lens_engines.specs.Warned.{warned_verdict};
-
-    /// The verdict on `count` warnings.
-    pub fn verdict(self, count: u64) -> Verdict
-        ensures { result ≡ warned_verdict self count }
-    {
-        match self {
-            Warnings::Unasked | Warnings::Told => Verdict::Clean,
-            Warnings::Strict => {
-                if count == 0 {
-                    Verdict::Clean
-                } else {
-                    Verdict::Faulty
-                }
-            }
-        }
-    }
-}
-
-/// How levels are judged: the reading of their numbers, whether warnings are looked for, and which codes are ignored.
+/// How levels are judged: the reading of their numbers, whether warnings are looked for, which codes are ignored, and which are
+/// as grave as a fault.
 #[derive(Clone, Copy)]
 pub struct Rules {
     pub reading: Reading,
     pub warnings: Warnings,
-    pub ignored: Ignored,
+    /// Their findings and warnings are neither shown nor counted. A fault is never ignored.
+    pub ignored: CodeSet,
+    /// A finding or a warning of these that isn't ignored is as grave as a fault.
+    pub failing: CodeSet,
 }
 
 impl Rules {
@@ -56,6 +36,7 @@ impl Rules {
             reading: self.reading,
             warnings: self.warnings,
             ignored: self.ignored,
+            failing: self.failing,
             base,
         }
     }
@@ -66,6 +47,9 @@ impl Rules {
 pub struct Judging<'b> {
     pub reading: Reading,
     pub warnings: Warnings,
-    pub ignored: Ignored,
+    /// Their findings and warnings are neither shown nor counted. A fault is never ignored.
+    pub ignored: CodeSet,
+    /// A finding or a warning of these that isn't ignored is as grave as a fault.
+    pub failing: CodeSet,
     pub base: &'b Base<'b>,
 }

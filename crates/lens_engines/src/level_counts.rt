@@ -7,13 +7,15 @@ ghost use Rattle.lens_engines.specs.LevelCounts.{HasLines, IsCounted};
 ghost use Rattle.lens_engines.specs.Survey.{verdict_of_counts};
 ghost use Rattle.lens_engines.specs.Warned.{known_files};
 
+use crate::failing::has_failing;
 use crate::judged::Judged;
 use crate::judging::{Judging, Warnings};
 use crate::report_counts::ReportCounts;
 use crate::tables::Tables;
-use crate::unlooked::Unlooked;
+use crate::unlisted::Unlisted;
 use crate::verdict::Verdict;
 use lens_texts::level_at;
+use level_codes::CodeSet;
 use map_cells::Frame;
 use map_level::Level;
 use map_warnings::Resources;
@@ -26,9 +28,13 @@ pub struct LevelCounts {
     pub tables: Tables,
     /// How many findings and warnings of each code there are.
     pub counts: ReportCounts,
-    /// Whether warnings were looked for, and how grave they are.
+    /// Whether warnings were looked for.
     pub warnings: Warnings,
-    pub unlooked: Unlooked,
+    /// Whether a finding or a warning is as grave as a fault.
+    pub fails: bool,
+    /// The warnings that were asked for and weren't looked for.
+    pub unlooked: CodeSet,
+    pub unlisted: Unlisted,
     /// Whether there is something to draw.
     pub drawn: bool,
 }
@@ -55,7 +61,9 @@ impl LevelCounts {
             tables: Tables::of(&level),
             counts: judged.counts().copied(),
             warnings: judging.warnings,
-            unlooked: Unlooked::of(resources, &judging.ignored),
+            fails: has_failing(&judging.failing, judged.counts()),
+            unlooked: judged.unlooked(),
+            unlisted: Unlisted::of(resources, &judging.ignored),
             drawn: has_lines(&level),
         })
     }
@@ -64,8 +72,11 @@ impl LevelCounts {
     pub fn verdict(&self) -> Verdict
         ensures { result ≡ verdict_of_level self.now }
     {
-        let warned = self.warnings.verdict(self.counts.warnings());
-        verdict_of_counts(&self.counts).graver(warned)
+        if self.fails {
+            Verdict::Faulty
+        } else {
+            verdict_of_counts(&self.counts)
+        }
     }
 }
 

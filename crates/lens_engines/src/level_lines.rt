@@ -4,26 +4,30 @@ ghost use Rattle.std.specs.Prelude.{◌≡◌, ◌-◌, ◌<◌, ◌≤◌, ◌+
 ghost use Rattle.line_io.specs.Writes.{EndsWriting, Writes};
 ghost use Rattle.map_audit.specs.Findings.{AuditHolds};
 ghost use Rattle.lens_texts.specs.Head.{head_of};
-ghost use Rattle.lens_engines.specs.LevelLines.{AreCounted, AreIndexes, AreShown, code_lines, code_part, findings_part, judged_text};
+ghost use Rattle.lens_engines.specs.LevelLines.{AreCounted, AreIndexes, AreShown, code_lines, code_part, findings_part, judged_text, remarks_text};
 ghost use Rattle.lens_engines.specs.LevelLines.{wide_part};
 ghost use Rattle.lens_texts.specs.LevelText.{finding_text};
 ghost use Rattle.lens_texts.specs.Owners.{AreOwners};
+ghost use Rattle.lens_engines.specs.UnlookedText.{unlooked_part};
 ghost use Rattle.lens_engines.specs.WarnedText.{warned_text};
 ghost use Rattle.map_level.specs.declared.finding.Code.{Code};
 
 use crate::counts::code_at;
 use crate::judged::Judged;
+use crate::unlooked_text::write_unlooked_part;
 use crate::warned::{write_more, write_warned};
 use le_rec::Sink;
-use lens_texts::{Form, Heading, Remark, write_line, write_remark, write_wide_object};
+use lens_texts::{
+    Form, Heading, Remark, write_line, write_remark, write_unbuilt, write_wide_object,
+};
 use level_codes::ReportCode;
 use line_io::IoFault;
 use map_level::search::CODE_COUNT;
 use map_level::{Code, Finding};
 use std::alloc::Allocator;
 
-/// Writes the lines of a judged level: its findings, its warnings, and that the wide reading alone finds it sound, where it does.
-/// `owners` has the linedefs of its sidedefs.
+/// Writes the lines of a judged level: that its nodes weren't built, where they weren't, its findings, its warnings, those that
+/// weren't looked for, and that the wide reading alone finds it sound, where it does. `owners` has the linedefs of its sidedefs.
 pub fn write_judged<A: Allocator, W: Sink>(
     judged: &Judged<'_, '_, A>,
     owners: &[Option<u32>],
@@ -37,7 +41,27 @@ pub fn write_judged<A: Allocator, W: Sink>(
     ensures ends { EndsWriting (W.state out.new) result }
     ensures text { (told : Code → List ℕ) → AreShown (AuditHolds judged.now.level) told → AreCounted judged.now.counts told
         → Writes (W.state out.old) (W.state out.new)
-        (judged_text (head_of heading.now) most judged.now.level told judged.now.warned sound_wide) result }
+        (judged_text (head_of heading.now) most judged.now told sound_wide) result }
+{
+    write_unbuilt(heading, judged.level(), out)?;
+    write_remarks(judged, owners, heading, most, sound_wide, out)
+}
+
+// Writes what is found at a level.
+fn write_remarks<A: Allocator, W: Sink>(
+    judged: &Judged<'_, '_, A>,
+    owners: &[Option<u32>],
+    heading: &Heading<'_>,
+    most: u64,
+    sound_wide: bool,
+    out: &mut W,
+) -> Result<(), IoFault>
+    requires owners { AreOwners judged.now.level owners.now }
+    requires sound { (W.state out.old).failed ≡ false }
+    ensures ends { EndsWriting (W.state out.new) result }
+    ensures text { (told : Code → List ℕ) → AreShown (AuditHolds judged.now.level) told → AreCounted judged.now.counts told
+        → Writes (W.state out.old) (W.state out.new)
+        (remarks_text (head_of heading.now) most judged.now told sound_wide) result }
 {
     write_codes(judged, owners, heading, most, out)?;
     write_rest(judged, owners, heading, sound_wide, out)
@@ -55,9 +79,10 @@ fn write_rest<A: Allocator, W: Sink>(
     requires sound { (W.state out.old).failed ≡ false }
     ensures { Writes (W.state out.old) (W.state out.new)
         (warned_text (head_of heading.now) judged.now.level judged.now.warned
-        ++ wide_part (head_of heading.now) sound_wide) result }
+        ++ (unlooked_part (head_of heading.now) judged.now.counts judged.now.unlooked ++ wide_part (head_of heading.now) sound_wide)) result }
 {
     write_warned(heading, judged.level(), owners, judged.warned(), out)?;
+    write_unlooked_part(heading, judged.counts(), &judged.unlooked(), out)?;
     write_wide(heading, sound_wide, out)
 }
 

@@ -16,9 +16,10 @@ use crate::judging::Warnings;
 use crate::level_counts::LevelCounts;
 use crate::report_counts::ReportCounts;
 use crate::tables::Tables;
+use crate::unlooked::write_unlooked;
 use le_rec::Sink;
-use lens_texts::{prepend_number, write_both, write_file, write_number, write_string};
-use level_codes::{REPORT_COUNT, ReportCode};
+use lens_texts::{prepend_number, write_file, write_number, write_string};
+use level_codes::{CodeSet, REPORT_COUNT, ReportCode};
 use line_io::{IoFault, TextLine, emit};
 use map_level::search::CODE_COUNT;
 use wad_dir::WadFault;
@@ -96,7 +97,16 @@ fn write_end<W: Sink>(counted: &LevelCounts, out: &mut W) -> Result<(), IoFault>
 {
     write_found(&counted.counts, out)?;
     write_warnings(counted.warnings, &counted.counts, out)?;
-    write_both(counted.unlooked.member(), b"}\n", out)
+    write_last(&counted.unlooked, out)
+}
+
+/// Writes which warnings weren't looked for, and the object's end.
+pub(crate) fn write_last<W: Sink>(unlooked: &CodeSet, out: &mut W) -> Result<(), IoFault>
+    requires { (W.state out.old).failed ≡ false }
+    ensures { Writes (W.state out.old) (W.state out.new) (unlooked_member unlooked.now ++ codes "}\n") result }
+{
+    write_unlooked(unlooked, out)?;
+    emit(out, b"}\n")
 }
 
 // Writes how many records or bytes the ten lumps have.
@@ -181,7 +191,7 @@ fn write_warnings<W: Sink>(
 {
     match warnings {
         Warnings::Unasked => emit(out, b""),
-        Warnings::Told | Warnings::Strict => write_asked(counts, out),
+        Warnings::Told => write_asked(counts, out),
     }
 }
 

@@ -1,6 +1,7 @@
 //! How often each code of a report is told of a level.
 
 ghost use Rattle.std.specs.Prelude.{◌≡◌, ◌<◌, ◌^◌, ◌-◌, min, sum};
+ghost use Rattle.level_codes.specs.Sets.{counted_codes};
 ghost use Rattle.map_audit.specs.Findings.{AuditHolds};
 ghost use Rattle.map_level.specs.Level.{Level};
 ghost use Rattle.map_level.specs.declared.finding.Code.{Code};
@@ -8,9 +9,9 @@ ghost use Rattle.lens_engines.specs.Counts.{AreCounts, fault_total, note_total};
 ghost use Rattle.lens_engines.specs.ReportCounts.{AreReportCounts, count_at, count_of, told_count, warning_total};
 
 use crate::counts::CodeCounts;
-use crate::ignored::Ignored;
+use crate::ignored::ignores;
 use crate::warned::Warned;
-use level_codes::{REPORT_COUNT, ReportCode};
+use level_codes::{CodeSet, REPORT_COUNT, ReportCode};
 use map_level::search::CODE_COUNT;
 use std::alloc::Allocator;
 use std::marker::Model;
@@ -41,7 +42,7 @@ impl ReportCounts {
     pub(crate) fn of<A: Allocator>(
         found: &CodeCounts,
         warned: &[Warned<A>],
-        ignored: &Ignored,
+        ignored: &CodeSet,
     ) -> ReportCounts
         ensures { (level : Level) → AreCounts (AuditHolds level) found.now
             → AreReportCounts ignored.now level warned.now result }
@@ -60,6 +61,13 @@ impl ReportCounts {
         ReportCounts {
             counts: self.counts,
         }
+    }
+
+    /// The codes of which there are any.
+    pub fn told(&self) -> CodeSet
+        ensures { result ≡ counted_codes self.now }
+    {
+        CodeSet::counted(&self.counts)
     }
 
     /// How many there are of a code.
@@ -95,7 +103,7 @@ impl ReportCounts {
 fn told_count<A: Allocator>(
     found: &CodeCounts,
     warned: &[Warned<A>],
-    ignored: &Ignored,
+    ignored: &CodeSet,
     code: ReportCode,
 ) -> u64
     ensures value { result ≡ told_count found.now warned.now ignored.now code }
@@ -103,7 +111,7 @@ fn told_count<A: Allocator>(
 {
     match code {
         ReportCode::Finding(finding) => {
-            if ignored.ignores(code) {
+            if ignores(ignored, code) {
                 return 0;
             }
             u64::from(found.get(usize::from(finding.rank())))

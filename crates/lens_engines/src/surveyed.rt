@@ -76,7 +76,12 @@ impl Surveyed {
         ensures { result ≡ totals_of self.now }
     {
         match self {
-            Surveyed::Judged(counted) => judged_totals(&counted.counts, counted.unlooked),
+            Surveyed::Judged(counted) => judged_totals(
+                &counted.counts,
+                counted.fails,
+                counted.unlooked,
+                counted.unlisted,
+            ),
             Surveyed::Unjudged(unjudged) => format_totals(unjudged.format()),
         }
     }

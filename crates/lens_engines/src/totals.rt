@@ -3,17 +3,20 @@
 ghost use Rattle.std.specs.Prelude.{◌≡◌, [], false};
 ghost use Rattle.line_io.specs.Writes.{Writes};
 ghost use Rattle.std.specs.Prelude.{◌+◌, ◌≤◌, ◌++◌, length};
-ghost use Rattle.lens_engines.specs.Totals.{format_totals, found_text, judged_totals, levels_text, totals_line, warnings_text};
-ghost use Rattle.lens_engines.specs.TotalsObject.{found_numbers, levels_members, totals_object, totals_text, warnings_number};
+ghost use Rattle.lens_engines.specs.Totals.{format_totals, found_text, judged_totals, levels_text, partly_text, totals_line, warnings_text};
+ghost use Rattle.lens_engines.specs.TotalsObject.{found_numbers, levels_members, partly_members, partly_number, totals_object, totals_text, warnings_number};
 
 use crate::judging::Warnings;
+use crate::object::write_last;
 use crate::report_counts::ReportCounts;
-use crate::unlooked::Unlooked;
+use crate::unlisted::Unlisted;
+use crate::unlooked::has_any;
 use crate::verdict::Verdict;
 use le_rec::Sink;
-use lens_texts::{Form, prepend_number, write_both};
+use lens_texts::{Form, prepend_number, write_both, write_number};
+use level_codes::CodeSet;
 use level_starts::Format;
-use line_io::{IoFault, TextLine};
+use line_io::{IoFault, TextLine, emit};
 
 /// How many levels there are, their faults, notes and warnings, and how many of the levels aren't judged. Each number stops at
 /// the greatest of 64 bits.
@@ -24,26 +27,41 @@ pub struct Totals {
     pub notes: u64,
     /// 0 where warnings aren't asked for.
     pub warnings: u64,
+    /// Levels with a finding or a warning that is as grave as a fault.
+    pub failing: u64,
     /// Levels that lack a lump, or one of whose lumps isn't inside the file.
     pub broken: u64,
     /// Levels in a format that isn't read.
     pub unread: u64,
-    /// Which warnings were asked for but not looked for, at one or more of the levels.
-    pub unlooked: Unlooked,
+    /// Levels at which a warning that was asked for wasn't looked for.
+    pub partly: u64,
+    /// The warnings that were asked for but not looked for, at one or more of the levels.
+    pub unlooked: CodeSet,
+    /// Which of them as no file lists the names.
+    pub unlisted: Unlisted,
 }
 
-/// The totals of a judged level, by how many there are of each code, with the warnings that weren't looked for.
-pub fn judged_totals(counts: &ReportCounts, unlooked: Unlooked) -> Totals
-    ensures { result ≡ judged_totals counts.now unlooked }
+/// The totals of a judged level, by how many there are of each code, whether one of them is as grave as a fault, and the warnings
+/// that weren't looked for.
+pub fn judged_totals(
+    counts: &ReportCounts,
+    fails: bool,
+    unlooked: CodeSet,
+    unlisted: Unlisted,
+) -> Totals
+    ensures { result ≡ judged_totals counts.now fails unlooked unlisted }
 {
     Totals {
         levels: 1,
         faults: counts.faults(),
         notes: counts.notes(),
         warnings: counts.warnings(),
+        failing: u64::from(fails),
         broken: 0,
         unread: 0,
+        partly: u64::from(has_any(&unlooked)),
         unlooked,
+        unlisted,
     }
 }
 
@@ -61,14 +79,17 @@ pub fn format_totals(format: Format) -> Totals
         faults: 0,
         notes: 0,
         warnings: 0,
+        failing: 0,
         broken,
         unread,
-        unlooked: Unlooked::none(),
+        partly: 0,
+        unlooked: CodeSet::none(),
+        unlisted: Unlisted::none(),
     }
 }
 
 impl Totals {
-    ghost use Rattle.lens_engines.specs.Totals.{no_totals, totals_with, verdict_of_totals, verdict_with};
+    ghost use Rattle.lens_engines.specs.Totals.{no_totals, totals_with, verdict_of_totals};
 
     /// The totals of no level.
     pub fn none() -> Totals
@@ -79,9 +100,12 @@ impl Totals {
             faults: 0,
             notes: 0,
             warnings: 0,
+            failing: 0,
             broken: 0,
             unread: 0,
-            unlooked: Unlooked::none(),
+            partly: 0,
+            unlooked: CodeSet::none(),
+            unlisted: Unlisted::none(),
         }
     }
 
@@ -94,17 +118,20 @@ impl Totals {
             faults: self.faults.saturating_add(other.faults),
             notes: self.notes.saturating_add(other.notes),
             warnings: self.warnings.saturating_add(other.warnings),
+            failing: self.failing.saturating_add(other.failing),
             broken: self.broken.saturating_add(other.broken),
             unread: self.unread.saturating_add(other.unread),
+            partly: self.partly.saturating_add(other.partly),
             unlooked: self.unlooked.with(other.unlooked),
+            unlisted: self.unlisted.with(other.unlisted),
         }
     }
 
-    /// The verdict by them, without warnings. A fault, or a level that lacks a lump, goes before a level that isn't read.
+    /// The verdict by them. A fault, what is as grave, or a level that lacks a lump goes before a level that isn't read.
     pub fn verdict(&self) -> Verdict
         ensures { result ≡ verdict_of_totals self.now }
     {
-        if self.faults == 0 && self.broken == 0 {
+        if self.faults == 0 && self.failing == 0 && self.broken == 0 {
             if self.unread == 0 {
                 Verdict::Clean
             } else {
@@ -113,13 +140,6 @@ impl Totals {
         } else {
             Verdict::Faulty
         }
-    }
-
-    /// The verdict by them, if warnings are asked for in this way.
-    pub fn verdict_with(&self, warnings: Warnings) -> Verdict
-        ensures { result ≡ verdict_with warnings self.now }
-    {
-        self.verdict().graver(warnings.verdict(self.warnings))
     }
 }
 
@@ -150,7 +170,28 @@ fn write_totals_object<W: Sink>(
     ensures { Writes (W.state out.old) (W.state out.new) (totals_object files warnings totals.now) result }
 {
     write_numbers(files, warnings, totals, out)?;
-    write_both(totals.unlooked.member(), b"}\n", out)
+    write_partly(totals.partly, &totals.unlooked, out)
+}
+
+// `[,"unlooked_levels":L,"unlooked":[<codes>]]}`
+fn write_partly<W: Sink>(partly: u64, unlooked: &CodeSet, out: &mut W) -> Result<(), IoFault>
+    requires { (W.state out.old).failed ≡ false }
+    ensures { Writes (W.state out.old) (W.state out.new) (partly_members partly unlooked.now) result }
+{
+    write_partly_number(partly, out)?;
+    write_last(unlooked, out)
+}
+
+// `,"unlooked_levels":L`, where there are some
+fn write_partly_number<W: Sink>(partly: u64, out: &mut W) -> Result<(), IoFault>
+    requires { (W.state out.old).failed ≡ false }
+    ensures { Writes (W.state out.old) (W.state out.new) (partly_number partly) result }
+{
+    if partly > 0 {
+        write_number(b"unlooked_levels", partly, out)
+    } else {
+        emit(out, b"")
+    }
 }
 
 // The members that are numbers.
@@ -196,7 +237,7 @@ fn prepend_warnings_number(line: &mut TextLine, warnings: Warnings, count: u64)
 {
     match warnings {
         Warnings::Unasked => {}
-        Warnings::Told | Warnings::Strict => prepend_number(line, b"warnings", count),
+        Warnings::Told => prepend_number(line, b"warnings", count),
     }
 }
 
@@ -208,6 +249,30 @@ fn write_totals_line<W: Sink>(
 ) -> Result<(), IoFault>
     requires { (W.state out.old).failed ≡ false }
     ensures { Writes (W.state out.old) (W.state out.new) (totals_line files warnings totals.now) result }
+{
+    write_sums(files, warnings, totals, out)?;
+    write_partly_line(totals.partly, out)
+}
+
+// `[, L with warnings not looked for]`, and the line's end.
+fn write_partly_line<W: Sink>(partly: u64, out: &mut W) -> Result<(), IoFault>
+    requires { (W.state out.old).failed ≡ false }
+    ensures { Writes (W.state out.old) (W.state out.new) (partly_text partly) result }
+{
+    let mut line = TextLine::new();
+    prepend_partly(&mut line, partly);
+    emit(out, line.as_bytes())
+}
+
+// What is counted, without the line's end.
+fn write_sums<W: Sink>(
+    files: u64,
+    warnings: Warnings,
+    totals: &Totals,
+    out: &mut W,
+) -> Result<(), IoFault>
+    requires { (W.state out.old).failed ≡ false }
+    ensures { Writes (W.state out.old) (W.state out.new) (levels_text files totals.now ++ found_text warnings totals.now) result }
 {
     let mut levels = TextLine::new();
     prepend_levels(&mut levels, files, totals);
@@ -232,13 +297,26 @@ fn prepend_found(line: &mut TextLine, warnings: Warnings, totals: &Totals)
     requires { line.old ≡ [] }
     ensures { line.new ≡ found_text warnings totals.now }
 {
-    line.prepend_bytes(b" not judged\n");
+    line.prepend_bytes(b" not judged");
     line.prepend_natural(totals.broken.saturating_add(totals.unread));
     prepend_warnings(line, warnings, totals.warnings);
     line.prepend_bytes(b" notes, ");
     line.prepend_natural(totals.notes);
     line.prepend_bytes(b" faults, ");
     line.prepend_natural(totals.faults);
+}
+
+// The text of that.
+fn prepend_partly(line: &mut TextLine, partly: u64)
+    requires { line.old ≡ [] }
+    ensures { line.new ≡ partly_text partly }
+{
+    line.prepend_bytes(b"\n");
+    if partly > 0 {
+        line.prepend_bytes(b" with warnings not looked for");
+        line.prepend_natural(partly);
+        line.prepend_bytes(b", ");
+    }
 }
 
 // `V warnings, `, where they were asked for
@@ -249,7 +327,7 @@ fn prepend_warnings(line: &mut TextLine, warnings: Warnings, count: u64)
 {
     match warnings {
         Warnings::Unasked => {}
-        Warnings::Told | Warnings::Strict => {
+        Warnings::Told => {
             line.prepend_bytes(b" warnings, ");
             line.prepend_natural(count);
         }

@@ -1,93 +1,149 @@
-//! Which warnings weren't looked for.
+//! Which warnings weren't looked for at a level.
 
-ghost use Rattle.std.specs.Prelude.{◌≡◌, length, ◌≤◌};
-ghost use Rattle.lens_engines.specs.Unlooked.{AreUnlooked, is_none, none_unlooked, unlooked_member, unlooked_note, unlooked_with};
+ghost use Rattle.std.specs.Prelude.{◌≡◌, ◌↔◌, ◌≤◌, ◌++◌, IsSomeAnd, IsTrue, false, length};
+ghost use Rattle.line_io.specs.Writes.{Writes};
+ghost use Rattle.map_audit.specs.Findings.{AuditHolds};
+ghost use Rattle.map_warnings.specs.Listed.{HasFlats, HasTextures};
+ghost use Rattle.level_codes.specs.Codes.{code_name};
+ghost use Rattle.lens_engines.specs.Counts.{AreCounts};
+ghost use Rattle.lens_engines.specs.Unlooked.{AreUnlooked, AreUnlookedFor, has_any, names_text, unlooked_member, unlooked_names};
 
-use crate::ignored::Ignored;
-use level_codes::{ReportCode, WarningCode};
+use crate::counts::CodeCounts;
+use crate::judging::{Judging, Warnings};
+use crate::warned::{have_references, is_faultless};
+use le_rec::Sink;
+use level_codes::{CodeSet, Offer, REPORT_COUNT, ReportCode};
+use line_io::{IoFault, TextLine, emit};
+use map_level::Level;
 use map_warnings::Resources;
 use std::alloc::Allocator;
 
-/// Which warnings were asked for but not looked for, as no file lists the names that they need.
-#[derive(Clone, Copy, Debug, PartialEq, Eq)]
-pub struct Unlooked {
-    /// W9, as TEXTURE1 isn't found.
-    pub textures: bool,
-    /// W10, as there is no F_START.
-    pub flats: bool,
+/// The warnings that were asked for at a level and weren't looked for, by how often each code of findings holds of the level. None
+/// if warnings aren't asked for. An ignored one isn't asked for.
+pub(crate) fn known_unlooked<A: Allocator>(
+    level: &Level<'_>,
+    resources: &Option<Resources<'_, '_, A>>,
+    counts: &CodeCounts,
+    judging: Judging<'_>,
+) -> CodeSet
+    requires { AreCounts (AuditHolds level.now) counts.now }
+    ensures { AreUnlookedFor judging.entry resources.now level.now result }
+{
+    match judging.warnings {
+        Warnings::Unasked => CodeSet::none(),
+        Warnings::Told => asked_unlooked(level, resources, counts, judging.ignored),
+    }
 }
 
-impl Unlooked {
-    /// All were looked for.
-    pub fn none() -> Unlooked
-        ensures { result ≡ none_unlooked }
-    {
-        Unlooked {
-            textures: false,
-            flats: false,
+// The codes of warnings whose wants aren't met, without the ignored ones.
+fn asked_unlooked<A: Allocator>(
+    level: &Level<'_>,
+    resources: &Option<Resources<'_, '_, A>>,
+    counts: &CodeCounts,
+    ignored: CodeSet,
+) -> CodeSet
+    requires { AreCounts (AuditHolds level.now) counts.now }
+    ensures { AreUnlooked ignored resources.now level.now result }
+{
+    let offer = Offer {
+        references: have_references(level, counts),
+        soundness: is_faultless(level, counts),
+        textures: list_textures(resources),
+        flats: list_flats(resources),
+    };
+    CodeSet::unmet(offer).without(ignored)
+}
+
+// Whether some files are known, and list textures.
+fn list_textures<A: Allocator>(resources: &Option<Resources<'_, '_, A>>) -> bool
+    ensures { IsTrue result ↔ IsSomeAnd resources.now HasTextures }
+{
+    match resources {
+        Some(known) => known.has_textures(),
+        None => false,
+    }
+}
+
+// Whether some files are known, and list flats.
+fn list_flats<A: Allocator>(resources: &Option<Resources<'_, '_, A>>) -> bool
+    ensures { IsTrue result ↔ IsSomeAnd resources.now HasFlats }
+{
+    match resources {
+        Some(known) => known.has_flats(),
+        None => false,
+    }
+}
+
+/// Whether a code is in a set.
+pub(crate) fn has_any(set: &CodeSet) -> bool
+    ensures { result ≡ has_any set.now }
+{
+    !set.is_empty()
+}
+
+/// Writes `,"unlooked":[<codes>]`, where there are some.
+pub(crate) fn write_unlooked<W: Sink>(set: &CodeSet, out: &mut W) -> Result<(), IoFault>
+    requires { (W.state out.old).failed ≡ false }
+    ensures { Writes (W.state out.old) (W.state out.new) (unlooked_member set.now) result }
+{
+    if has_any(set) {
+        write_unlooked_names(set, out)
+    } else {
+        emit(out, b"")
+    }
+}
+
+// `,"unlooked":[<codes>]`
+fn write_unlooked_names<W: Sink>(set: &CodeSet, out: &mut W) -> Result<(), IoFault>
+    requires { (W.state out.old).failed ≡ false }
+    ensures { Writes (W.state out.old) (W.state out.new) (unlooked_names set.now) result }
+{
+    emit(out, b",\"unlooked\":[")?;
+    write_names(set, b"\"", b"\"", out)?;
+    emit(out, b"]")
+}
+
+/// Writes the names of the codes of a set, each between two texts, and commas between them.
+pub(crate) fn write_names<W: Sink>(
+    set: &CodeSet,
+    front: &[u8],
+    back: &[u8],
+    out: &mut W,
+) -> Result<(), IoFault>
+    requires front { length front.now ≤ 1 }
+    requires back { length back.now ≤ 1 }
+    requires sound { (W.state out.old).failed ≡ false }
+    ensures { Writes (W.state out.old) (W.state out.new) (names_text front.now back.now set.now) result }
+{
+    let mut separator: &[u8] = b"";
+    'codes: for rank in 0..REPORT_COUNT {
+        let code = ReportCode::at(rank);
+        if set.has(code) {
+            write_name(separator, front, code, back, out)?;
+            separator = b",";
         }
     }
+    Ok(())
+}
 
-    /// Those of a level with these textures and flats, if they are asked for. What is ignored isn't asked for.
-    pub fn of<A: Allocator>(resources: &Option<Resources<'_, '_, A>>, ignored: &Ignored) -> Unlooked
-        ensures { AreUnlooked ignored.now resources.now result }
-    {
-        match resources {
-            Some(known) => Unlooked {
-                textures: !known.has_textures()
-                    && !ignored.ignores(ReportCode::Warning(WarningCode::W9)),
-                flats: !known.has_flats()
-                    && !ignored.ignores(ReportCode::Warning(WarningCode::W10)),
-            },
-            None => Unlooked::none(),
-        }
-    }
-
-    /// Whether all were looked for.
-    pub fn is_none(self) -> bool
-        ensures { result ≡ is_none self }
-    {
-        !self.textures && !self.flats
-    }
-
-    /// Both together.
-    pub fn with(self, other: Unlooked) -> Unlooked
-        ensures { result ≡ unlooked_with self other }
-    {
-        Unlooked {
-            textures: self.textures || other.textures,
-            flats: self.flats || other.flats,
-        }
-    }
-
-    /// `,"unlooked":[<codes>]`, where there are some.
-    pub fn member(self) -> &'static [u8]
-        ensures text { result.now ≡ unlooked_member self }
-        ensures short { length result.now ≤ 30 }
-    {
-        match (self.textures, self.flats) {
-            (true, true) => b",\"unlooked\":[\"W9\",\"W10\"]",
-            (true, false) => b",\"unlooked\":[\"W9\"]",
-            (false, true) => b",\"unlooked\":[\"W10\"]",
-            (false, false) => b"",
-        }
-    }
-
-    /// Which weren't, why, and how to have them looked for. It is empty if all were.
-    pub fn note(self) -> &'static [u8]
-        ensures { result.now ≡ unlooked_note self }
-    {
-        match (self.textures, self.flats) {
-            (true, true) => {
-                b"W9, W10 weren't looked for: no file has TEXTURE1, F_START; name the game's with --base"
-            }
-            (true, false) => {
-                b"W9 weren't looked for: no file has TEXTURE1; name the game's with --base"
-            }
-            (false, true) => {
-                b"W10 weren't looked for: no file has F_START; name the game's with --base"
-            }
-            (false, false) => b"",
-        }
-    }
+// `<separator><front><code><back>`
+fn write_name<W: Sink>(
+    separator: &[u8],
+    front: &[u8],
+    code: ReportCode,
+    back: &[u8],
+    out: &mut W,
+) -> Result<(), IoFault>
+    requires separator { length separator.now ≤ 1 }
+    requires front { length front.now ≤ 1 }
+    requires back { length back.now ≤ 1 }
+    requires sound { (W.state out.old).failed ≡ false }
+    ensures { Writes (W.state out.old) (W.state out.new) (separator.now ++ (front.now ++ (code_name code ++ back.now))) result }
+{
+    let mut line = TextLine::new();
+    line.prepend_bytes(back);
+    line.prepend_bytes(code.name());
+    line.prepend_bytes(front);
+    line.prepend_bytes(separator);
+    emit(out, line.as_bytes())
 }

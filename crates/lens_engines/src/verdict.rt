@@ -10,8 +10,7 @@ pub enum Verdict {
     Clean,
     /// A level is in a format that isn't judged.
     Unjudged,
-    /// A level has a fault, or a lump of it isn't there or isn't inside the file, or a warning where these are as grave. It goes
-    /// before `Unjudged`.
+    /// A level has a fault or what is as grave, or a lump of it isn't there or isn't inside the file. It goes before `Unjudged`.
     Faulty,
 }
 

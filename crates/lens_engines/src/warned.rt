@@ -16,11 +16,11 @@ ghost use Rattle.lens_engines.specs.Warned.{AddsWarned, AreAskedFor, AreWarned, 
 ghost use Rattle.lens_engines.specs.WarnedText.{more_text, warned_part, warned_text};
 
 use crate::counts::CodeCounts;
-use crate::ignored::Ignored;
+use crate::ignored::ignores;
 use crate::judging::{Judging, Warnings};
 use le_rec::Sink;
 use lens_texts::{Heading, Remark, write_left, write_remark};
-use level_codes::{REPORT_COUNT, ReportCode, WarningCode};
+use level_codes::{CodeSet, REPORT_COUNT, ReportCode, WarningCode};
 use line_io::IoFault;
 use map_level::Level;
 use map_level::search::CODE_COUNT;
@@ -72,7 +72,7 @@ pub fn asked_resources<'s, 'a, A: Allocator + Copy>(
 {
     match warnings {
         Warnings::Unasked => Ok(None),
-        Warnings::Told | Warnings::Strict => {
+        Warnings::Told => {
             let resources = Resources::of(alloc, set)?;
             Ok(Some(resources))
         }
@@ -94,7 +94,7 @@ pub(crate) fn known_warnings<A: Allocator + Copy>(
 {
     match judging.warnings {
         Warnings::Unasked => Ok(Vec::new(alloc)),
-        Warnings::Told | Warnings::Strict => {
+        Warnings::Told => {
             counted_warnings(alloc, level, resources, counts, &judging.ignored, most)
         }
     }
@@ -106,7 +106,7 @@ fn counted_warnings<A: Allocator + Copy>(
     level: &Level<'_>,
     resources: &Option<Resources<'_, '_, A>>,
     counts: &CodeCounts,
-    ignored: &Ignored,
+    ignored: &CodeSet,
     most: usize,
 ) -> Result<Vec<Warned<A>, A>, AllocError>
     requires { AreCounts (AuditHolds level.now) counts.now }
@@ -129,8 +129,8 @@ fn counted_checks<'l, 'a>(level: &'l Level<'a>, counts: &CodeCounts) -> Checks<'
     )
 }
 
-// Whether the references of a level hold, by its counts: there is no fault F3 to F9.
-fn have_references(level: &Level<'_>, counts: &CodeCounts) -> bool
+/// Whether the references of a level hold, by its counts: there is no fault F3 to F9.
+pub(crate) fn have_references(level: &Level<'_>, counts: &CodeCounts) -> bool
     requires { AreCounts (AuditHolds level.now) counts.now }
     ensures { IsTrue result ↔ HasReferences level.now }
 {
@@ -144,8 +144,8 @@ fn have_references(level: &Level<'_>, counts: &CodeCounts) -> bool
     true
 }
 
-// Whether a level has no fault, by its counts.
-fn is_faultless(level: &Level<'_>, counts: &CodeCounts) -> bool
+/// Whether a level has no fault, by its counts.
+pub(crate) fn is_faultless(level: &Level<'_>, counts: &CodeCounts) -> bool
     requires { AreCounts (AuditHolds level.now) counts.now }
     ensures { IsTrue result ↔ IsSound level.now }
 {
@@ -159,7 +159,7 @@ fn warned_by<A: Allocator + Copy>(
     alloc: A,
     checks: &Checks<'_, '_>,
     resources: &Option<Resources<'_, '_, A>>,
-    ignored: &Ignored,
+    ignored: &CodeSet,
     most: usize,
 ) -> Result<Vec<Warned<A>, A>, AllocError>
     ensures { IfOk result (λ all. AreWarned ignored.now resources.now checks.now most all.items) }
@@ -178,7 +178,7 @@ fn push_code<A: Allocator + Copy>(
     alloc: A,
     checks: &Checks<'_, '_>,
     resources: &Option<Resources<'_, '_, A>>,
-    ignored: &Ignored,
+    ignored: &CodeSet,
     code: WarningCode,
     most: usize,
     all: &mut Vec<Warned<A>, A>,
@@ -195,14 +195,14 @@ fn told_of<A: Allocator + Copy>(
     alloc: A,
     checks: &Checks<'_, '_>,
     resources: &Option<Resources<'_, '_, A>>,
-    ignored: &Ignored,
+    ignored: &CodeSet,
     code: WarningCode,
     most: usize,
 ) -> Result<Told<A>, AllocError>
     ensures told { IfOk result (λ told. Tells (WarnsUnlessIgnored ignored.now resources.now checks.now code) told) }
     ensures most { IfOk result (λ told. told.most ≡ most) }
 {
-    if ignored.ignores(ReportCode::Warning(code)) {
+    if ignores(ignored, ReportCode::Warning(code)) {
         return Ok(Told::new(alloc, most));
     }
     checks.told(alloc, code, resources, most)

@@ -9,7 +9,7 @@ use Rattle.wad_dir.specs.Wad.{Wad}
 use Rattle.lens_reports.specs.DemosTold.{LeavesDemos, TellsDemos, answers_in, fault_of_demos}
 use Rattle.lens_reports.specs.Run.{OnBytesErrors}
 use Rattle.lens_texts.specs.declared.form.Form.{Form}
-use Rattle.lens_reports.specs.declared.tell.Tally.{Tally}
+use Rattle.lens_reports.specs.declared.tell.ReportSum.{ReportSum}
 
 -- a demo isn't told to its end only where an end failed
 abbrev EndsDemo : DemosFault → SinkState → Type 0
@@ -93,7 +93,7 @@ module _ {W E : Type 0} (state : W → SinkState) (state' : E → SinkState) (fo
           (demo_ends told.texts told.is_read (state out) (state out') (state' errors) (state' errors') why told.tells)
 
 -- what holds where standard error failed
-pub handed_of_demos : (why : DemosFault) (holds : Type 0) → OnErrors (Err why) holds → OnBytesErrors {T = Tally} (Err (fault_of_demos why)) holds
+pub handed_of_demos : (why : DemosFault) (holds : Type 0) → OnErrors (Err why) holds → OnBytesErrors {T = ReportSum} (Err (fault_of_demos why)) holds
 handed_of_demos (NoWad why) holds is = tt
 handed_of_demos (Write all_read) holds is = tt
 handed_of_demos Errors holds is = is

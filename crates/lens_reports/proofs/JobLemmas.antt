@@ -9,13 +9,13 @@ use Rattle.line_io.proofs.WriteLemmas.{TakesFront-after}
 use Rattle.line_io.specs.declared.fault.IoFault.{IoFault}
 use Rattle.lens_engines.specs.declared.verdict.Verdict.{Verdict}
 use Rattle.lens_reports.specs.Files.{stored}
-use Rattle.lens_engines.specs.declared.unlooked.Unlooked.{Unlooked}
+use Rattle.lens_engines.specs.declared.unlisted.Unlisted.{Unlisted}
 use Rattle.lens_reports.specs.Job.{EndsTelling, TellsAll, TellsRest, closing_line, noted_end, unlooked_line}
 use Rattle.lens_reports.specs.Output.{output_state}
 use Rattle.lens_reports.specs.Run.{ToldTo}
 use Rattle.lens_reports.specs.declared.end.End.{End}
 use Rattle.lens_reports.specs.declared.output.Output.{Output}
-use Rattle.lens_reports.specs.declared.tell.Tally.{Tally}
+use Rattle.lens_reports.specs.declared.tell.ReportSum.{ReportSum}
 use Rattle.lens_reports.specs.declared.tell.Request.{Request}
 
 -- a text that was taken is a front of itself
@@ -50,26 +50,26 @@ rest_after contents text found old between new (Err why) whole rest = (
 
 -- all paths were told, which are those of a job
 pub tells_all : {W : Type 0} (held : List ℕ → Option (List ℕ)) (asked : Request) (paths : List (List ℕ)) (n : ℕ) (contents : W → Option (List ℕ)) (old between new : Output W) (errors between_errors errors' : SinkState)
-    (tally : Tally) (result : Result Verdict End)
+    (tally : ReportSum) (result : Result Verdict End)
     → n ≡ length paths
     → ToldTo (stored held) asked (output_state contents old) errors paths (output_state contents between) between_errors tally
-    → EndsTelling contents (closing_line asked n tally.totals) tally.totals.unlooked tally.verdict between new between_errors errors' result
+    → EndsTelling contents (closing_line asked n tally.totals) tally.totals.unlisted tally.verdict between new between_errors errors' result
     → TellsAll held asked paths contents old new errors errors' result
 tells_all held asked paths n contents old between new errors between_errors errors' tally result count told rest = record {
   between = between;
   between_errors = between_errors;
   tally = tally;
   told = told;
-  rest = subst (λ k. EndsTelling contents (closing_line asked k tally.totals) tally.totals.unlooked tally.verdict between new between_errors errors' result) count rest;
+  rest = subst (λ k. EndsTelling contents (closing_line asked k tally.totals) tally.totals.unlisted tally.verdict between new between_errors errors' result) count rest;
 }
 
 -- the rest was told, and standard error took what there was to note
-pub noted : {W : Type 0} (contents : W → Option (List ℕ)) (text : List ℕ) (unlooked : Unlooked) (found verdict : Verdict) (old new : Output W) (errors errors' : SinkState)
-    (outcome : Result (Unit {0}) IoFault) (result : Result Verdict End) → TellsRest contents text found old new (Ok verdict) → Writes errors errors' (unlooked_line unlooked) outcome
-    → result ≡ noted_end verdict outcome → EndsTelling contents text unlooked found old new errors errors' result
-noted contents text unlooked found verdict old new errors errors' outcome result rest writes ended = record { outcome = Ok verdict; rest = rest; notes = (outcome, writes, ended) }
+pub noted : {W : Type 0} (contents : W → Option (List ℕ)) (text : List ℕ) (unlisted : Unlisted) (found verdict : Verdict) (old new : Output W) (errors errors' : SinkState)
+    (outcome : Result (Unit {0}) IoFault) (result : Result Verdict End) → TellsRest contents text found old new (Ok verdict) → Writes errors errors' (unlooked_line unlisted) outcome
+    → result ≡ noted_end verdict outcome → EndsTelling contents text unlisted found old new errors errors' result
+noted contents text unlisted found verdict old new errors errors' outcome result rest writes ended = record { outcome = Ok verdict; rest = rest; notes = (outcome, writes, ended) }
 
 -- or it wasn't told
-pub unnoted : {W : Type 0} (contents : W → Option (List ℕ)) (text : List ℕ) (unlooked : Unlooked) (found : Verdict) (old new : Output W) (errors : SinkState)
-    (why : End) (result : Result Verdict End) → TellsRest contents text found old new (Err why) → result ≡ Err why → EndsTelling contents text unlooked found old new errors errors result
-unnoted contents text unlooked found old new errors why result rest ended = record { outcome = Err why; rest = rest; notes = (refl, ended) }
+pub unnoted : {W : Type 0} (contents : W → Option (List ℕ)) (text : List ℕ) (unlisted : Unlisted) (found : Verdict) (old new : Output W) (errors : SinkState)
+    (why : End) (result : Result Verdict End) → TellsRest contents text found old new (Err why) → result ≡ Err why → EndsTelling contents text unlisted found old new errors errors result
+unnoted contents text unlisted found old new errors why result rest ended = record { outcome = Err why; rest = rest; notes = (refl, ended) }

@@ -6,7 +6,7 @@ use Rattle.lens_engines.specs.declared.judging.Judging.{Judging}
 use Rattle.lens_engines.specs.Check.{CheckAsked, ChecksFile, RunsCheck}
 use Rattle.lens_engines.specs.Left.{RefusesBytes}
 use Rattle.lens_engines.specs.Survey.{RunsSurvey, SurveysFile}
-use Rattle.lens_engines.specs.Totals.{no_totals, verdict_with}
+use Rattle.lens_engines.specs.Totals.{no_totals, verdict_of_totals}
 use Rattle.lens_engines.specs.declared.totals.Totals.{Totals}
 use Rattle.lens_engines.specs.declared.verdict.LevelsFault.{LevelsFault}
 use Rattle.lens_engines.specs.declared.verdict.LevelsFault.TheVariants as engine
@@ -19,11 +19,11 @@ use Rattle.lens_reports.specs.Run.{ChecksBytes, StopsAt, StopsPath, SurveysBytes
 use Rattle.lens_reports.specs.declared.tell.Request.{Request}
 use Rattle.lens_reports.specs.declared.tell.Stop.{Stop}
 use Rattle.lens_reports.specs.declared.tell.Stop.TheVariants as stop
-use Rattle.lens_reports.specs.declared.tell.Tally.{Tally}
-use Rattle.lens_reports.specs.declared.tell.Word.TheVariants.{Check, Survey}
+use Rattle.lens_reports.specs.declared.tell.ReportSum.{ReportSum}
+use Rattle.lens_reports.specs.declared.tell.ReportKind.TheVariants.{Check, Survey}
 
 -- a survey that came to its end
-pub surveyed : {W : Type 0} (state : W → SinkState) (path bytes : List ℕ) (judging : Judging) (out out' : W) (verdict : Verdict) (tally : Tally)
+pub surveyed : {W : Type 0} (state : W → SinkState) (path bytes : List ℕ) (judging : Judging) (out out' : W) (verdict : Verdict) (tally : ReportSum)
     → tally.verdict ≡ verdict → tally.totals ≡ no_totals → RunsSurvey state path bytes judging out out' (Ok verdict)
     → SurveysBytes path bytes judging (state out) (state out') tally × ((state out').failed ≡ false)
 surveyed state path bytes judging out out' verdict tally of none (inl left) = absurd (no_err verdict left.fault left.ended)
@@ -67,8 +67,8 @@ survey_left state path bytes judging out out' why (inr ran) = go why ran
     go engine.Memory stopped = inr stopped
 
 -- a check that came to its end
-pub checked : {W : Type 0} (state : W → SinkState) (asked : CheckAsked) (bytes : List ℕ) (out out' : W) (totals : Totals) (tally : Tally)
-    → tally.totals ≡ totals → tally.verdict ≡ verdict_with asked.judging.warnings totals → RunsCheck state asked bytes out out' (Ok totals)
+pub checked : {W : Type 0} (state : W → SinkState) (asked : CheckAsked) (bytes : List ℕ) (out out' : W) (totals : Totals) (tally : ReportSum)
+    → tally.totals ≡ totals → tally.verdict ≡ verdict_of_totals totals → RunsCheck state asked bytes out out' (Ok totals)
     → ChecksBytes asked.most asked.form asked.path bytes asked.judging (state out) (state out') tally × ((state out').failed ≡ false)
 checked state asked bytes out out' totals tally of says (inl left) = absurd (no_err totals left.fault left.ended)
   where
@@ -105,13 +105,13 @@ check_left state asked bytes out out' why (inr ran) = go why ran
     go engine.Memory stopped = inr stopped
 
 -- a refused file was told
-pub refused_told : (known : Known) (asked : Request) (path : List ℕ) (refusal : FileRefusal) (out out' errors errors' : SinkState) (result : Result Tally Stop)
+pub refused_told : (known : Known) (asked : Request) (path : List ℕ) (refusal : FileRefusal) (out out' errors errors' : SinkState) (result : Result ReportSum Stop)
     → RefusesFile known asked.word refusal → IfOk result (WritesRefusal asked.word path refusal out out' errors errors') → IfOk result (TellsPath known asked path out out' errors errors')
 refused_told known asked path refusal out out' errors errors' (Ok tally) why writes = inr (record { refusal = refusal; why = why; writes = writes })
 refused_told known asked path refusal out out' errors errors' (Err stop) why writes = tt
 
 -- a refused file was told in part
-pub refused_stopped : (known : Known) (asked : Request) (path : List ℕ) (refusal : FileRefusal) (out out' errors errors' : SinkState) (result : Result Tally Stop)
+pub refused_stopped : (known : Known) (asked : Request) (path : List ℕ) (refusal : FileRefusal) (out out' errors errors' : SinkState) (result : Result ReportSum Stop)
     → RefusesFile known asked.word refusal → IfErr result (StopsRefusal asked.word path refusal out out' errors errors')
     → IfErr result (StopsPath known asked path out out' errors errors')
 refused_stopped known asked path refusal out out' errors errors' (Ok tally) why stops = tt
@@ -121,7 +121,7 @@ refused_stopped known asked path refusal out out' errors errors' (Err stop.Error
 
 -- all paths before one were told
 pub told_before : {P : Type 0} (path_of : P → List ℕ) (paths : List P) (i : ℕ) (d : P) → i < length paths
-    → (known : ℕ → List ℕ → Known) (asked : Request) (out errors out' errors' : SinkState) (sum : Tally)
+    → (known : ℕ → List ℕ → Known) (asked : Request) (out errors out' errors' : SinkState) (sum : ReportSum)
     → ToldTo known asked out errors (map path_of (take i paths)) out' errors' sum
     → ToldBefore known asked (map path_of paths) out errors (path_of (get_or paths i d)) out' errors' sum
 told_before path_of paths i d within known asked out errors out' errors' sum so_far = record {
@@ -138,7 +138,7 @@ module _ {P : Type 0} (path_of : P → List ℕ) (paths : List P) (i : ℕ) (d :
   counted = sym (length-map (take i paths) path_of ∙ length-take-le i paths (omega arith))
 
   -- one path more
-  pub told_more : (sum tally : Tally) → ToldTo known asked out errors (map path_of (take i paths)) between between_errors sum
+  pub told_more : (sum tally : ReportSum) → ToldTo known asked out errors (map path_of (take i paths)) between between_errors sum
       → TellsPath (known i (path_of (get_or paths i d))) asked (path_of (get_or paths i d)) between after between_errors after_errors tally
       → ToldTo known asked out errors (map path_of (take (i + 1) paths)) after after_errors (tally_with sum tally)
   told_more sum tally so_far one =
@@ -149,7 +149,7 @@ module _ {P : Type 0} (path_of : P → List ℕ) (paths : List P) (i : ℕ) (d :
       (subst (λ n. TellsPath (known n (path_of (get_or paths i d))) asked (path_of (get_or paths i d)) between after between_errors after_errors tally) counted one))
 
   -- it stopped at a path
-  pub stopped_at : (sum : Tally) (at_path : Stop) → ToldTo known asked out errors (map path_of (take i paths)) between between_errors sum
+  pub stopped_at : (sum : ReportSum) (at_path : Stop) → ToldTo known asked out errors (map path_of (take i paths)) between between_errors sum
       → StopsPath (known i (path_of (get_or paths i d))) asked (path_of (get_or paths i d)) between after between_errors after_errors at_path
       → StopsAt known asked (map path_of paths) out errors after after_errors (stop_after sum.verdict at_path)
   unfolding told_before

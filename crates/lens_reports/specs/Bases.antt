@@ -9,7 +9,7 @@ use Rattle.lens_reports.specs.declared.end.End.{End}
 use Rattle.lens_reports.specs.declared.end.End.TheVariants as end
 use Rattle.lens_reports.specs.declared.files.ReadFault.{ReadFault}
 use Rattle.lens_reports.specs.declared.files.ReadFault.TheVariants.{Refused, Memory}
-use Rattle.lens_reports.specs.declared.tell.Word.TheVariants.{Survey}
+use Rattle.lens_reports.specs.declared.tell.ReportKind.TheVariants.{Survey}
 
 -- bytes have a directory
 abbrev pub HasWad : List ℕ → Type 0

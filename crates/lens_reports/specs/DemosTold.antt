@@ -11,14 +11,14 @@ use Rattle.lens_engines.specs.declared.verdict.Verdict.TheVariants.{Clean, Unjud
 use Rattle.lens_texts.specs.declared.form.Form.{Form}
 use Rattle.lens_reports.specs.declared.tell.BytesFault.{BytesFault}
 use Rattle.lens_reports.specs.declared.tell.BytesFault.TheVariants as fault
-use Rattle.lens_reports.specs.declared.tell.Tally.{Tally}
+use Rattle.lens_reports.specs.declared.tell.ReportSum.{ReportSum}
 
 -- what is found where all demos were read, or not
 abbrev pub demos_verdict : Bool → Verdict
 demos_verdict true = Clean
 demos_verdict false = Unjudged
 
-abbrev pub demos_tally : Bool → Tally
+abbrev pub demos_tally : Bool → ReportSum
 demos_tally all_read = record { verdict = demos_verdict all_read; totals = no_totals }
 
 -- the demos of these bytes were reported on, as asked, all of them or up to where an end failed
@@ -31,7 +31,7 @@ abbrev pub answers_in : Form → List ℕ → DemosAsked
 answers_in form path = record { path = path; form = form }
 
 -- the demos of these bytes were told
-pub record TellsDemosOf (form : Form) (path bytes : List ℕ) (out out' errors errors' : SinkState) (tally : Tally) : Type 0 where
+pub record TellsDemosOf (form : Form) (path bytes : List ℕ) (out out' errors errors' : SinkState) (tally : ReportSum) : Type 0 where
   pub all_read : Bool
   pub told : TellsDemos (answers_in form path) bytes out out' errors errors' (Ok all_read)
   pub counts : tally ≡ demos_tally all_read

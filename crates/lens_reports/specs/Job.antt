@@ -9,11 +9,11 @@ use Rattle.line_io.specs.declared.fault.IoFault.{IoFault}
 use Rattle.wad_dir.specs.Wad.{Wad}
 use Rattle.lens_engines.specs.Rules.{IsOver}
 use Rattle.lens_engines.specs.TotalsObject.{totals_text}
-use Rattle.lens_engines.specs.Unlooked.{is_none, unlooked_note}
+use Rattle.lens_engines.specs.Unlisted.{is_none, unlisted_note}
 use Rattle.lens_engines.specs.declared.object.FileRefusal.{FileRefusal}
 use Rattle.lens_engines.specs.declared.judging.Warnings.{Warnings}
 use Rattle.lens_engines.specs.declared.totals.Totals.{Totals}
-use Rattle.lens_engines.specs.declared.unlooked.Unlooked.{Unlooked}
+use Rattle.lens_engines.specs.declared.unlisted.Unlisted.{Unlisted}
 use Rattle.lens_engines.specs.declared.verdict.Verdict.{Verdict}
 use Rattle.lens_reports.specs.Bases.{AreBases, EndsAtBase, IsRefusedAt, path_at}
 use Rattle.lens_reports.specs.Files.{RefusesRead, stored}
@@ -29,13 +29,13 @@ use Rattle.lens_reports.specs.declared.output.Output.{Output}
 use Rattle.lens_reports.specs.declared.tell.Request.{Request}
 use Rattle.lens_reports.specs.declared.tell.Stop.{Stop}
 use Rattle.lens_reports.specs.declared.tell.Stop.TheVariants as stop
-use Rattle.lens_reports.specs.declared.tell.Tally.{Tally}
-use Rattle.lens_reports.specs.declared.tell.Word.{Word}
-use Rattle.lens_reports.specs.declared.tell.Word.TheVariants.{Check, Demos, Survey}
-use Rattle.lens_reports.specs.declared.job.Job.{Job}
+use Rattle.lens_reports.specs.declared.tell.ReportSum.{ReportSum}
+use Rattle.lens_reports.specs.declared.tell.ReportKind.{ReportKind}
+use Rattle.lens_reports.specs.declared.tell.ReportKind.TheVariants.{Check, Demos, Survey}
+use Rattle.lens_reports.specs.declared.job.ReportJob.{ReportJob}
 
 -- the path of the list of more paths
-abbrev pub list_path : Job → Option (List ℕ)
+abbrev pub list_path : ReportJob → Option (List ℕ)
 list_path job = elim job.list [ None ↦ None | Some path ↦ Some path.now ]
 
 -- standard input
@@ -51,7 +51,7 @@ abbrev pub HoldsAt : (List ℕ → Option (List ℕ)) → Option (List ℕ) → 
 HoldsAt held left None list = list ≡ []
 HoldsAt held left (Some path) list = Keeps (held_at held left path) (Some list) × (length list ≤ MAX_READ)
 
-abbrev pub HoldsList : (List ℕ → Option (List ℕ)) → Option (List ℕ) → Job → List ℕ → Type 0
+abbrev pub HoldsList : (List ℕ → Option (List ℕ)) → Option (List ℕ) → ReportJob → List ℕ → Type 0
 HoldsList held left job list = HoldsAt held left (list_path job) list
 
 -- why it isn't read: there is one, and its file isn't
@@ -59,11 +59,11 @@ abbrev pub RefusesAt : (List ℕ → Option (List ℕ)) → Option (List ℕ) �
 RefusesAt held left None fault = ⊥
 RefusesAt held left (Some path) fault = RefusesRead (held_at held left path) fault
 
-abbrev pub ListUnread : (List ℕ → Option (List ℕ)) → Option (List ℕ) → Job → ReadFault → Type 0
+abbrev pub ListUnread : (List ℕ → Option (List ℕ)) → Option (List ℕ) → ReportJob → ReadFault → Type 0
 ListUnread held left job fault = RefusesAt held left (list_path job) fault
 
 -- the paths of a job: those of the words, and then those of the list
-abbrev pub job_paths : Job → List ℕ → List (List ℕ)
+abbrev pub job_paths : ReportJob → List ℕ → List (List ℕ)
 job_paths job list = map (λ file. file.now) job.files.items ++ listed_paths job.list_end list
 
 -- the list as messages name it
@@ -71,11 +71,11 @@ abbrev pub list_name_at : Option (List ℕ) → List ℕ
 list_name_at None = codes "standard input"
 list_name_at (Some path) = if bytes_eq path dash then codes "standard input" else path
 
-abbrev pub list_name : Job → List ℕ
+abbrev pub list_name : ReportJob → List ℕ
 list_name job = list_name_at (list_path job)
 
 -- what a run ends with: a check with its totals, and else nothing more
-abbrev pub last_line : Word → Warnings → ℕ → Totals → List ℕ
+abbrev pub last_line : ReportKind → Warnings → ℕ → Totals → List ℕ
 last_line (Check most form) warnings files totals = totals_text form files warnings totals
 last_line Survey warnings files totals = []
 last_line (Demos form) warnings files totals = []
@@ -84,8 +84,8 @@ abbrev pub closing_line : Request → ℕ → Totals → List ℕ
 closing_line asked files totals = last_line asked.word asked.judging.warnings files totals
 
 -- which warnings weren't looked for, and how to have them looked for
-abbrev pub unlooked_line : Unlooked → List ℕ
-unlooked_line unlooked = if is_none unlooked then [] else (codes "wadlens: " ++ (unlooked_note unlooked ++ codes "\n"))
+abbrev pub unlooked_line : Unlisted → List ℕ
+unlooked_line unlisted = if is_none unlisted then [] else (codes "wadlens: " ++ (unlisted_note unlisted ++ codes "\n"))
 
 -- how a run ends whose output failed
 abbrev pub output_end : Bool → Verdict → End
@@ -110,30 +110,30 @@ TellsRest contents text found old new (Err why) =
     (why ≡ output_end (is_closed new) found) × TakesFront (output_state contents old) (output_state contents new) text × (new.failed ≡ true)
 
 -- where the rest was told, standard error took which warnings weren't looked for, or failed
-abbrev pub NotesUnlooked : Unlooked → SinkState → SinkState → Result Verdict End → Result Verdict End → Type 0
-NotesUnlooked unlooked errors errors' (Err why) result = (errors' ≡ errors) × (result ≡ Err why)
-NotesUnlooked unlooked errors errors' (Ok verdict) result =
-    (outcome : Result (Unit {0}) IoFault) × Writes errors errors' (unlooked_line unlooked) outcome × (result ≡ noted_end verdict outcome)
+abbrev pub NotesUnlooked : Unlisted → SinkState → SinkState → Result Verdict End → Result Verdict End → Type 0
+NotesUnlooked unlisted errors errors' (Err why) result = (errors' ≡ errors) × (result ≡ Err why)
+NotesUnlooked unlisted errors errors' (Ok verdict) result =
+    (outcome : Result (Unit {0}) IoFault) × Writes errors errors' (unlooked_line unlisted) outcome × (result ≡ noted_end verdict outcome)
 
 -- the rest of the text was told, and then which warnings weren't looked for
-pub record EndsTelling {W : Type 0} (contents : W → Option (List ℕ)) (text : List ℕ) (unlooked : Unlooked) (found : Verdict) (old new : Output W) (errors errors' : SinkState) (result : Result Verdict End) : Type 0 where
+pub record EndsTelling {W : Type 0} (contents : W → Option (List ℕ)) (text : List ℕ) (unlisted : Unlisted) (found : Verdict) (old new : Output W) (errors errors' : SinkState) (result : Result Verdict End) : Type 0 where
   pub outcome : Result Verdict End
   pub rest : TellsRest contents text found old new outcome
-  pub notes : NotesUnlooked unlooked errors errors' outcome result
+  pub notes : NotesUnlooked unlisted errors errors' outcome result
 
 -- all paths were told, and then the run ended
 pub record TellsAll {W : Type 0} (held : List ℕ → Option (List ℕ)) (asked : Request) (paths : List (List ℕ)) (contents : W → Option (List ℕ)) (old new : Output W) (errors errors' : SinkState) (result : Result Verdict End) : Type 0 where
   pub between : Output W
   pub between_errors : SinkState
-  pub tally : Tally
+  pub tally : ReportSum
   pub told : ToldTo (stored held) asked (output_state contents old) errors paths (output_state contents between) between_errors tally
-  pub rest : EndsTelling contents (closing_line asked (length paths) tally.totals) tally.totals.unlooked tally.verdict between new between_errors errors' result
+  pub rest : EndsTelling contents (closing_line asked (length paths) tally.totals) tally.totals.unlisted tally.verdict between new between_errors errors' result
 
 -- the run stopped at a path; if standard error failed, nothing that was answered before is held back
 pub record StopsJob {W : Type 0} (held : List ℕ → Option (List ℕ)) (asked : Request) (paths : List (List ℕ)) (contents : W → Option (List ℕ)) (old new : Output W) (errors errors' : SinkState) (result : Result Verdict End) : Type 0 where
   pub stop : Stop
   pub stops : StopsAt (stored held) asked paths (output_state contents old) errors (output_state contents new) errors' stop
-  pub handed : OnErrors {T = Tally} (Err stop) (held_back new ≡ [])
+  pub handed : OnErrors {T = ReportSum} (Err stop) (held_back new ≡ [])
   pub ended : result ≡ Err (stop_end (is_closed new) stop)
 
 -- one of the two
@@ -142,12 +142,12 @@ TellsPaths held asked paths contents old new errors errors' result =
     TellsAll held asked paths contents old new errors errors' result ⊎ StopsJob held asked paths contents old new errors errors' result
 
 -- what a job asks of each file, over the base files
-pub record IsAsked (job : Job) (base : List Wad) (asked : Request) : Type 0 where
+pub record IsAsked (job : ReportJob) (base : List Wad) (asked : Request) : Type 0 where
   pub word : asked.word ≡ job.word
   pub over : IsOver job.rules base asked.judging
 
 -- the base files were read, and the paths of the words and of the list were reported on, or the run stopped at one
-pub record RunsPaths {W : Type 0} (held : List ℕ → Option (List ℕ)) (left : Option (List ℕ)) (job : Job) (contents : W → Option (List ℕ)) (old new : Output W) (errors errors' : SinkState) (result : Result Verdict End) : Type 0 where
+pub record RunsPaths {W : Type 0} (held : List ℕ → Option (List ℕ)) (left : Option (List ℕ)) (job : ReportJob) (contents : W → Option (List ℕ)) (old new : Output W) (errors errors' : SinkState) (result : Result Verdict End) : Type 0 where
   pub list : List ℕ
   pub holds : HoldsList held left job list
   pub base : List Wad
@@ -157,7 +157,7 @@ pub record RunsPaths {W : Type 0} (held : List ℕ → Option (List ℕ)) (left 
   pub tells : TellsPaths held asked (job_paths job list) contents old new errors errors' result
 
 -- the list was read, and the first base file that isn't taken was reported; nothing was answered
-pub record RefusesBases {W : Type 0} (held : List ℕ → Option (List ℕ)) (left : Option (List ℕ)) (job : Job) (old new : Output W) (errors errors' : SinkState) (result : Result Verdict End) : Type 0 where
+pub record RefusesBases {W : Type 0} (held : List ℕ → Option (List ℕ)) (left : Option (List ℕ)) (job : ReportJob) (old new : Output W) (errors errors' : SinkState) (result : Result Verdict End) : Type 0 where
   pub list : List ℕ
   pub holds : HoldsList held left job list
   pub first : BaseFault
@@ -168,7 +168,7 @@ pub record RefusesBases {W : Type 0} (held : List ℕ → Option (List ℕ)) (le
   pub ended : result ≡ Err why
 
 -- the list was refused before any file was read, and nothing was answered
-pub record RefusesList {W : Type 0} (held : List ℕ → Option (List ℕ)) (left : Option (List ℕ)) (job : Job) (old new : Output W) (errors errors' : SinkState) (result : Result Verdict End) : Type 0 where
+pub record RefusesList {W : Type 0} (held : List ℕ → Option (List ℕ)) (left : Option (List ℕ)) (job : ReportJob) (old new : Output W) (errors errors' : SinkState) (result : Result Verdict End) : Type 0 where
   pub refusal : FileRefusal
   pub why : ListUnread held left job (Refused refusal)
   pub told : IsTold errors errors' (refusal_line (list_name job) refusal)
@@ -182,7 +182,7 @@ pub record WantsMemory {W : Type 0} (old new : Output W) (errors errors' : SinkS
   pub ended : result ≡ Err end.Memory
 
 -- the run of a job over files that hold what `held` says, and an input that has the bytes `left`, where they are known
-abbrev pub RunsJob : {W : Type 0} → (List ℕ → Option (List ℕ)) → Option (List ℕ) → Job → (W → Option (List ℕ)) → Output W → Output W → SinkState → SinkState → Result Verdict End → Type 0
+abbrev pub RunsJob : {W : Type 0} → (List ℕ → Option (List ℕ)) → Option (List ℕ) → ReportJob → (W → Option (List ℕ)) → Output W → Output W → SinkState → SinkState → Result Verdict End → Type 0
 RunsJob held left job contents old new errors errors' result =
     WantsMemory old new errors errors' result ⊎ RefusesList held left job old new errors errors' result
     ⊎ RefusesBases held left job old new errors errors' result ⊎ RunsPaths held left job contents old new errors errors' result

@@ -16,7 +16,7 @@ use Rattle.lens_texts.specs.Head.{by_form}
 use Rattle.lens_engines.specs.Objects.{refusal_text, refused_object}
 use Rattle.lens_texts.specs.ShownPath.{shown_path}
 use Rattle.lens_engines.specs.Survey.{SurveysAll, SurveysFile, graver}
-use Rattle.lens_engines.specs.Totals.{no_totals, totals_with, verdict_with}
+use Rattle.lens_engines.specs.Totals.{no_totals, totals_with, verdict_of_totals}
 use Rattle.lens_engines.specs.declared.object.FileRefusal.{FileRefusal}
 use Rattle.lens_engines.specs.declared.object.FileRefusal.TheVariants as refusal
 use Rattle.lens_engines.specs.declared.verdict.LevelsFault.{LevelsFault}
@@ -32,9 +32,9 @@ use Rattle.lens_reports.specs.declared.tell.BytesFault.{BytesFault}
 use Rattle.lens_reports.specs.declared.tell.BytesFault.TheVariants as fault
 use Rattle.lens_reports.specs.declared.tell.Stop.{Stop}
 use Rattle.lens_reports.specs.declared.tell.Stop.TheVariants as stop
-use Rattle.lens_reports.specs.declared.tell.Tally.{Tally}
-use Rattle.lens_reports.specs.declared.tell.Word.{Word}
-use Rattle.lens_reports.specs.declared.tell.Word.TheVariants.{Check, Demos, Survey}
+use Rattle.lens_reports.specs.declared.tell.ReportSum.{ReportSum}
+use Rattle.lens_reports.specs.declared.tell.ReportKind.{ReportKind}
+use Rattle.lens_reports.specs.declared.tell.ReportKind.TheVariants.{Check, Demos, Survey}
 
 -- a refused file's line on standard error: `wadlens: PATH: TEXT`
 abbrev pub refusal_line : List ℕ → FileRefusal → List ℕ
@@ -45,26 +45,26 @@ abbrev pub IsTold : SinkState → SinkState → List ℕ → Type 0
 IsTold before after text = (outcome : Result (Unit {0}) IoFault) × Writes before after text outcome
 
 -- what is answered of a refused file: its object, where objects are asked for, and else nothing
-abbrev pub refusal_answer : Word → List ℕ → FileRefusal → List ℕ
+abbrev pub refusal_answer : ReportKind → List ℕ → FileRefusal → List ℕ
 refusal_answer Survey path refusal = refused_object path refusal
 refusal_answer (Check most form) path refusal = by_form form [] (refused_object path refusal)
 refusal_answer (Demos Lines) path refusal = []
 refusal_answer (Demos Objects) path refusal = refused_object path refusal
 
 -- of no file
-abbrev pub no_tally : Tally
+abbrev pub no_tally : ReportSum
 no_tally = record { verdict = Clean; totals = no_totals }
 
 -- of a refused file
-abbrev pub refused_tally : Tally
+abbrev pub refused_tally : ReportSum
 refused_tally = record { verdict = Unjudged; totals = no_totals }
 
 -- of a file whose survey has this verdict
-abbrev pub survey_tally : Verdict → Tally
+abbrev pub survey_tally : Verdict → ReportSum
 survey_tally verdict = record { verdict = verdict; totals = no_totals }
 
 -- of both
-abbrev pub tally_with : Tally → Tally → Tally
+abbrev pub tally_with : ReportSum → ReportSum → ReportSum
 tally_with a b = record { verdict = graver a.verdict b.verdict; totals = totals_with a.totals b.totals }
 
 -- a stop after files with a verdict: if the output failed, the graver of both counts
@@ -74,7 +74,7 @@ stop_after before (stop.Output found) = stop.Output (graver before found)
 stop_after before stop.Errors = stop.Errors
 
 -- the objects of all levels of these bytes were taken
-pub record SurveysBytes (path bytes : List ℕ) (judging : Judging) (before after : SinkState) (tally : Tally) : Type 0 where
+pub record SurveysBytes (path bytes : List ℕ) (judging : Judging) (before after : SinkState) (tally : ReportSum) : Type 0 where
   pub file : Wad
   pub of_bytes : file.bytes ≡ bytes
   pub read : IsRead file
@@ -82,47 +82,47 @@ pub record SurveysBytes (path bytes : List ℕ) (judging : Judging) (before afte
   pub adds : tally.totals ≡ no_totals
 
 -- the lines of all levels of these bytes were taken
-pub record ChecksBytes (most : ℕ) (form : Form) (path bytes : List ℕ) (judging : Judging) (before after : SinkState) (tally : Tally) : Type 0 where
+pub record ChecksBytes (most : ℕ) (form : Form) (path bytes : List ℕ) (judging : Judging) (before after : SinkState) (tally : ReportSum) : Type 0 where
   pub file : Wad
   pub of_bytes : file.bytes ≡ bytes
   pub read : IsRead file
   pub does : ChecksAll (record { form = form; path = path; most = most; judging = judging }) (file ∷ []) before after tally.totals
-  pub says : tally.verdict ≡ verdict_with judging.warnings tally.totals
+  pub says : tally.verdict ≡ verdict_of_totals tally.totals
 
 -- what was asked was told of these bytes
-abbrev pub TellsWord : Word → List ℕ → List ℕ → Judging → SinkState → SinkState → SinkState → SinkState → Tally → Type 0
+abbrev pub TellsWord : ReportKind → List ℕ → List ℕ → Judging → SinkState → SinkState → SinkState → SinkState → ReportSum → Type 0
 TellsWord Survey path bytes judging out out' errors errors' tally = SurveysBytes path bytes judging out out' tally × (errors' ≡ errors)
 TellsWord (Check most form) path bytes judging out out' errors errors' tally = ChecksBytes most form path bytes judging out out' tally × (errors' ≡ errors)
 TellsWord (Demos form) path bytes judging out out' errors errors' tally = TellsDemosOf form path bytes out out' errors errors' tally
 
 -- a write failed within the report on levels, with this verdict up to there
-abbrev pub StopsLevels : Word → List ℕ → List ℕ → Judging → SinkState → SinkState → Verdict → Type 0
+abbrev pub StopsLevels : ReportKind → List ℕ → List ℕ → Judging → SinkState → SinkState → Verdict → Type 0
 StopsLevels Survey path bytes judging before after found = SurveysFile path bytes judging before after (Err (engine.Write found))
 StopsLevels (Check most form) path bytes judging before after found =
     ChecksFile (record { form = form; path = path; most = most; judging = judging }) bytes before after (Err (engine.Write found))
 StopsLevels (Demos form) path bytes judging before after found = ⊥
 
 -- or within the report on these bytes, by the word
-abbrev pub TellsSome : Word → List ℕ → List ℕ → Judging → SinkState → SinkState → SinkState → SinkState → Verdict → Type 0
+abbrev pub TellsSome : ReportKind → List ℕ → List ℕ → Judging → SinkState → SinkState → SinkState → SinkState → Verdict → Type 0
 TellsSome Survey path bytes judging out out' errors errors' found = StopsLevels Survey path bytes judging out out' found × (errors' ≡ errors)
 TellsSome (Check most form) path bytes judging out out' errors errors' found = StopsLevels (Check most form) path bytes judging out out' found × (errors' ≡ errors)
 TellsSome (Demos form) path bytes judging out out' errors errors' found = StopsDemos form path bytes out out' errors errors' found
 
 -- standard error failed within the message about a demo that isn't read
-abbrev pub StopsErrors : Word → List ℕ → List ℕ → SinkState → SinkState → SinkState → SinkState → Type 0
+abbrev pub StopsErrors : ReportKind → List ℕ → List ℕ → SinkState → SinkState → SinkState → SinkState → Type 0
 StopsErrors Survey path bytes out out' errors errors' = ⊥
 StopsErrors (Check most form) path bytes out out' errors errors' = ⊥
 StopsErrors (Demos form) path bytes out out' errors errors' = StopsRefusals form path bytes out out' errors errors'
 
 -- there was no memory to report on all of these bytes: nothing was answered, or the report on the first levels
-abbrev pub TellsFirst : Word → List ℕ → List ℕ → Judging → SinkState → SinkState → Type 0
+abbrev pub TellsFirst : ReportKind → List ℕ → List ℕ → Judging → SinkState → SinkState → Type 0
 TellsFirst Survey path bytes judging before after = (after ≡ before) ⊎ SurveysFile path bytes judging before after (Err engine.Memory)
 TellsFirst (Check most form) path bytes judging before after =
     (after ≡ before) ⊎ ChecksFile (record { form = form; path = path; most = most; judging = judging }) bytes before after (Err engine.Memory)
 TellsFirst (Demos form) path bytes judging before after = after ≡ before
 
 -- bytes that are read as a WAD file have no directory; for demos, these are only bytes that begin as one
-abbrev pub LacksDirectory : Word → List ℕ → WadFault → Type 0
+abbrev pub LacksDirectory : ReportKind → List ℕ → WadFault → Type 0
 LacksDirectory Survey bytes why = RefusesWad bytes why
 LacksDirectory (Check most form) bytes why = RefusesWad bytes why
 LacksDirectory (Demos form) bytes why = (is_wad_file bytes ≡ true) × RefusesWad bytes why
@@ -135,7 +135,7 @@ fault_of engine.Memory = fault.Memory
 
 -- why the report on bytes isn't whole: they have no directory, and nothing was written; or an end failed; or there was no memory, and standard error took
 -- nothing
-abbrev pub LeavesBytes : {W E : Type 0} → (W → SinkState) → (E → SinkState) → Word → List ℕ → List ℕ → Judging → W → W → E → E → BytesFault → Type 0
+abbrev pub LeavesBytes : {W E : Type 0} → (W → SinkState) → (E → SinkState) → ReportKind → List ℕ → List ℕ → Judging → W → W → E → E → BytesFault → Type 0
 LeavesBytes state state' word path bytes judging out out' errors errors' (fault.NoWad why) =
     LacksDirectory word bytes why × (out' ≡ out) × (errors' ≡ errors)
 LeavesBytes state state' word path bytes judging out out' errors errors' (fault.Output found) =
@@ -146,7 +146,7 @@ LeavesBytes state state' word path bytes judging out out' errors errors' fault.M
     TellsFirst word path bytes judging (state out) (state out') × (state' errors' ≡ state' errors)
 
 -- the same for levels, which write to standard output alone
-abbrev pub LeavesLevels : {W : Type 0} → (W → SinkState) → Word → List ℕ → List ℕ → Judging → W → W → BytesFault → Type 0
+abbrev pub LeavesLevels : {W : Type 0} → (W → SinkState) → ReportKind → List ℕ → List ℕ → Judging → W → W → BytesFault → Type 0
 LeavesLevels state word path bytes judging out out' (fault.NoWad why) = RefusesWad bytes why × (out' ≡ out)
 LeavesLevels state word path bytes judging out out' (fault.Output found) =
     StopsLevels word path bytes judging (state out) (state out') found × ((state out').failed ≡ true)
@@ -154,45 +154,45 @@ LeavesLevels state word path bytes judging out out' fault.Errors = ⊥
 LeavesLevels state word path bytes judging out out' fault.Memory = TellsFirst word path bytes judging (state out) (state out')
 
 -- the file under a path was told
-pub record TellsHeld (known : Known) (asked : Request) (path : List ℕ) (out out' errors errors' : SinkState) (tally : Tally) : Type 0 where
+pub record TellsHeld (known : Known) (asked : Request) (path : List ℕ) (out out' errors errors' : SinkState) (tally : ReportSum) : Type 0 where
   pub bytes : List ℕ
   pub are : Keeps known.bytes (Some bytes)
   pub few : length bytes ≤ MAX_READ
   pub told : TellsWord asked.word path bytes asked.judging out out' errors errors' tally
 
 -- the bytes under a path, where they are known, have no directory
-pub record HasNoDirectory (known : Known) (word : Word) (why : WadFault) : Type 0 where
+pub record HasNoDirectory (known : Known) (word : ReportKind) (why : WadFault) : Type 0 where
   pub bytes : List ℕ
   pub are : Keeps known.bytes (Some bytes)
   pub few : length bytes ≤ MAX_READ
   pub refuses : LacksDirectory word bytes why
 
 -- why a file is refused of which a word asks
-abbrev pub RefusesFile : Known → Word → FileRefusal → Type 0
+abbrev pub RefusesFile : Known → ReportKind → FileRefusal → Type 0
 RefusesFile known word (refusal.NoWad why) = HasNoDirectory known word why
 RefusesFile known word refusal = RefusesKnown known (Refused refusal)
 
 -- a file was refused: both ends took the report on it
-pub record WritesRefusal (word : Word) (path : List ℕ) (refusal : FileRefusal) (out out' errors errors' : SinkState) (tally : Tally) : Type 0 where
+pub record WritesRefusal (word : ReportKind) (path : List ℕ) (refusal : FileRefusal) (out out' errors errors' : SinkState) (tally : ReportSum) : Type 0 where
   pub line : Appends errors.taken errors'.taken (refusal_line path refusal)
   pub answer : Appends out.taken out'.taken (refusal_answer word path refusal)
   pub counts : tally ≡ refused_tally
 
 -- the file under a path was refused
-pub record TellsRefusal (known : Known) (word : Word) (path : List ℕ) (out out' errors errors' : SinkState) (tally : Tally) : Type 0 where
+pub record TellsRefusal (known : Known) (word : ReportKind) (path : List ℕ) (out out' errors errors' : SinkState) (tally : ReportSum) : Type 0 where
   pub refusal : FileRefusal
   pub why : RefusesFile known word refusal
   pub writes : WritesRefusal word path refusal out out' errors errors' tally
 
 -- what is told of the file under a path
-abbrev pub TellsPath : Known → Request → List ℕ → SinkState → SinkState → SinkState → SinkState → Tally → Type 0
+abbrev pub TellsPath : Known → Request → List ℕ → SinkState → SinkState → SinkState → SinkState → ReportSum → Type 0
 TellsPath known asked path out out' errors errors' tally =
     TellsHeld known asked path out out' errors errors' tally ⊎ TellsRefusal known asked.word path out out' errors errors' tally
 
 -- the report on some paths, one after another, and its tally
-pub data ToldTo (known : ℕ → List ℕ → Known) (asked : Request) (out errors : SinkState) : List (List ℕ) → SinkState → SinkState → Tally → Type 0 where
+pub data ToldTo (known : ℕ → List ℕ → Known) (asked : Request) (out errors : SinkState) : List (List ℕ) → SinkState → SinkState → ReportSum → Type 0 where
   at_start : ToldTo known asked out errors [] out errors no_tally
-  with_path : (paths : List (List ℕ)) (out' errors' : SinkState) (sum : Tally) (path : List ℕ) (out'' errors'' : SinkState) (tally : Tally)
+  with_path : (paths : List (List ℕ)) (out' errors' : SinkState) (sum : ReportSum) (path : List ℕ) (out'' errors'' : SinkState) (tally : ReportSum)
       → ToldTo known asked out errors paths out' errors' sum → TellsPath (known (length paths) path) asked path out' out'' errors' errors'' tally
       → ToldTo known asked out errors (paths ++ path ∷ []) out'' errors'' (tally_with sum tally)
 
@@ -202,7 +202,7 @@ pub record AreSound (out errors : SinkState) : Type 0 where
   pub refusals : errors.failed ≡ false
 
 -- the output failed within the answer to a refused file, behind its line
-pub record LacksAnswer (word : Word) (path : List ℕ) (refusal : FileRefusal) (out out' errors errors' : SinkState) : Type 0 where
+pub record LacksAnswer (word : ReportKind) (path : List ℕ) (refusal : FileRefusal) (out out' errors errors' : SinkState) : Type 0 where
   pub line : Appends errors.taken errors'.taken (refusal_line path refusal)
   pub front : TakesFront out out' (refusal_answer word path refusal)
 
@@ -212,7 +212,7 @@ pub record LacksHand (out out' errors errors' : SinkState) : Type 0 where
   pub silent : errors' ≡ errors
 
 -- a write failed in the report on a refused file: the output's, or standard error's
-abbrev pub StopsRefusal : Word → List ℕ → FileRefusal → SinkState → SinkState → SinkState → SinkState → Stop → Type 0
+abbrev pub StopsRefusal : ReportKind → List ℕ → FileRefusal → SinkState → SinkState → SinkState → SinkState → Stop → Type 0
 StopsRefusal word path refusal out out' errors errors' stop.Memory = ⊥
 StopsRefusal word path refusal out out' errors errors' (stop.Output found) =
     (found ≡ Unjudged) × (out'.failed ≡ true) × (LacksAnswer word path refusal out out' errors errors' ⊎ LacksHand out out' errors errors')
@@ -235,7 +235,7 @@ pub record StopsOnErrors (known : Known) (asked : Request) (path : List ℕ) (ou
   pub stops : StopsErrors asked.word path bytes out out' errors errors'
 
 -- a run stopped in the report that the file under a path is refused
-pub record StopsRefusing (known : Known) (word : Word) (path : List ℕ) (out out' errors errors' : SinkState) (stop : Stop) : Type 0 where
+pub record StopsRefusing (known : Known) (word : ReportKind) (path : List ℕ) (out out' errors errors' : SinkState) (stop : Stop) : Type 0 where
   pub refusal : FileRefusal
   pub why : RefusesFile known word refusal
   pub stops : StopsRefusal word path refusal out out' errors errors' stop
@@ -261,7 +261,7 @@ StopsPath known asked path out out' errors errors' stop.Errors =
     StopsOnErrors known asked path out out' errors errors' ⊎ StopsRefusing known asked.word path out out' errors errors' stop.Errors
 
 -- of some paths, all before one were reported on
-pub record ToldBefore (known : ℕ → List ℕ → Known) (asked : Request) (paths : List (List ℕ)) (out errors : SinkState) (path : List ℕ) (out' errors' : SinkState) (found : Tally) : Type 0 where
+pub record ToldBefore (known : ℕ → List ℕ → Known) (asked : Request) (paths : List (List ℕ)) (out errors : SinkState) (path : List ℕ) (out' errors' : SinkState) (found : ReportSum) : Type 0 where
   pub before : List (List ℕ)
   pub after : List (List ℕ)
   pub stands : paths ≡ before ++ path ∷ after
@@ -272,7 +272,7 @@ pub record StopsAt (known : ℕ → List ℕ → Known) (asked : Request) (paths
   pub path : List ℕ
   pub out_before : SinkState
   pub errors_before : SinkState
-  pub found : Tally
+  pub found : ReportSum
   pub told : ToldBefore known asked paths out errors path out_before errors_before found
   pub at_path : Stop
   pub stops : StopsPath (known (length told.before) path) asked path out_before out' errors_before errors' at_path

@@ -4,11 +4,11 @@ ghost use Rattle.std.specs.Prelude.{◌≡◌, [], false, IfOk, IfErr, OnOk};
 ghost use Rattle.lens_reports.specs.DemosTold.{LeavesDemos, TellsDemosOf, demos_tally, demos_verdict};
 ghost use Rattle.lens_reports.specs.Run.{OnBytesErrors};
 
-use crate::tell::{BytesFault, Tally, no_tally};
-use demo_engines::{DemoQuestion, DemosFault, HandOn, Watch, demos_file};
+use crate::tell::{BytesFault, ReportSum, no_tally};
+use demo_engines::{DemoQuestion, DemosFault, demos_file};
 use le_rec::Sink;
 use lens_engines::Verdict;
-use lens_texts::Form;
+use lens_texts::{Form, HandOn, Watch};
 use std::alloc::Allocator;
 
 /// Reports on the demos of a file's bytes, in order. The message about one that isn't read comes after what was answered
@@ -21,7 +21,7 @@ pub fn tell_demos<A: Allocator + Copy, W: HandOn, E: Sink, P: Watch>(
     out: &mut W,
     errors: &mut E,
     watch: &mut P,
-) -> Result<Tally, BytesFault>
+) -> Result<ReportSum, BytesFault>
     requires out { (W.state out.old).failed ≡ false }
     requires errors { (E.state errors.old).failed ≡ false }
     ensures told { IfOk result (TellsDemosOf form path.now bytes.now (W.state out.old) (W.state out.new)
@@ -49,10 +49,10 @@ fn demos_verdict(all_read: bool) -> Verdict
     }
 }
 
-fn demos_tally(all_read: bool) -> Tally
+fn demos_tally(all_read: bool) -> ReportSum
     ensures { result ≡ demos_tally all_read }
 {
-    Tally {
+    ReportSum {
         verdict: demos_verdict(all_read),
         totals: no_tally().totals,
     }

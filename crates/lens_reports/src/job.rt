@@ -3,13 +3,13 @@
 ghost use Rattle.lens_reports.specs.Job.{IsAsked};
 
 use crate::bases::BasePaths;
-use crate::tell::{Request, Word};
+use crate::tell::{ReportKind, Request};
 use lens_engines::{Base, Rules};
 
 /// What is asked of which files.
 #[derive(Drop)]
-pub struct Job<'a> {
-    pub word: Word,
+pub struct ReportJob<'a> {
+    pub word: ReportKind,
     /// How levels are judged. Demos ignore it.
     pub rules: Rules,
     /// The paths of the base files.
@@ -22,7 +22,7 @@ pub struct Job<'a> {
     pub list_end: u8,
 }
 
-impl Job<'_> {
+impl ReportJob<'_> {
     ghost use Rattle.std.specs.Prelude.{◌≡◌};
     ghost use Rattle.lens_reports.specs.Job.{list_name};
 

@@ -3,8 +3,8 @@
 ghost use Rattle.std.specs.Prelude.{◌≡◌, IfOk};
 ghost use Rattle.lens_reports.specs.Output.{IsFresh, WritesOut, failed_by, is_closed};
 
-use demo_engines::HandOn;
 use le_rec::{EndFault, Sink};
+use lens_texts::HandOn;
 use line_io::BUFFER;
 use std::alloc::{AllocError, Global};
 use std::io;

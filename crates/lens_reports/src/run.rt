@@ -10,13 +10,13 @@ ghost use Rattle.lens_reports.specs.Run.{AreSound};
 use crate::bases::{read_bases, refuse_base, wads_of};
 use crate::end::End;
 use crate::files::{ReadFault, Stored, read_input, read_path};
-use crate::job::Job;
+use crate::job::ReportJob;
 use crate::output::Output;
 use crate::paths::{all_paths, word_paths};
-use crate::tell::{Request, Stop, Tally, Word, tell_paths, write_refusal};
-use demo_engines::Watch;
+use crate::tell::{ReportKind, ReportSum, Request, Stop, tell_paths, write_refusal};
 use le_rec::{EndFault, Sink};
-use lens_engines::{Base, Totals, Unlooked, Verdict, write_totals};
+use lens_engines::{Base, Totals, Unlisted, Verdict, write_totals};
+use lens_texts::Watch;
 use line_io::{IoFault, Storage, emit};
 use std::alloc::Global;
 use std::io::{Read, Write};
@@ -24,7 +24,7 @@ use std::io::{Read, Write};
 /// Does a job, and returns the gravest verdict. On Ok the buffer is empty.
 pub fn run_job<S: Storage, I: Read + Drop, O: Write + Drop, E: Sink, P: Watch>(
     alloc: Global,
-    job: &Job<'_>,
+    job: &ReportJob<'_>,
     storage: &S,
     reader: I,
     out: &mut Output<O>,
@@ -89,7 +89,7 @@ fn run_paths<S: Storage, O: Write + Drop, E: Sink, P: Watch>(
 /// The list of more paths of a job, empty where there is none.
 pub fn read_list<S: Storage, I: Read + Drop>(
     alloc: Global,
-    job: &Job<'_>,
+    job: &ReportJob<'_>,
     storage: &S,
     reader: I,
 ) -> Result<Vec<u8>, ReadFault>
@@ -107,16 +107,16 @@ pub fn read_list<S: Storage, I: Read + Drop>(
 fn finish<O: Write + Drop, E: Sink>(
     asked: Request<'_>,
     files: u64,
-    tally: &Tally,
+    tally: &ReportSum,
     out: &mut Output<O>,
     errors: &mut E,
 ) -> Result<Verdict, End>
     requires { AreSound (output_state O.contents out.old) (E.state errors.old) }
-    ensures { EndsTelling O.contents (closing_line asked.entry files tally.now.totals) tally.now.totals.unlooked tally.now.verdict
+    ensures { EndsTelling O.contents (closing_line asked.entry files tally.now.totals) tally.now.totals.unlisted tally.now.verdict
         out.old out.new (E.state errors.old) (E.state errors.new) result }
 {
     let found = write_totals_out(asked, files, tally, out)?;
-    match write_unlooked(tally.totals.unlooked, errors) {
+    match write_unlooked(tally.totals.unlisted, errors) {
         Ok(()) => Ok(found),
         Err(_) => Err(End::Errors),
     }
@@ -126,7 +126,7 @@ fn finish<O: Write + Drop, E: Sink>(
 fn write_totals_out<O: Write + Drop>(
     asked: Request<'_>,
     files: u64,
-    tally: &Tally,
+    tally: &ReportSum,
     out: &mut Output<O>,
 ) -> Result<Verdict, End>
     requires { (output_state O.contents out.old).failed ≡ false }
@@ -139,15 +139,15 @@ fn write_totals_out<O: Write + Drop>(
 }
 
 /// Writes which warnings weren't looked for, where there are some, and how to have them looked for.
-pub fn write_unlooked<E: Sink>(unlooked: Unlooked, errors: &mut E) -> Result<(), IoFault>
+pub fn write_unlooked<E: Sink>(unlisted: Unlisted, errors: &mut E) -> Result<(), IoFault>
     requires { (E.state errors.old).failed ≡ false }
-    ensures { Writes (E.state errors.old) (E.state errors.new) (unlooked_line unlooked) result }
+    ensures { Writes (E.state errors.old) (E.state errors.new) (unlooked_line unlisted) result }
 {
-    if unlooked.is_none() {
+    if unlisted.is_none() {
         return emit(errors, b"");
     }
     emit(errors, b"wadlens: ")?;
-    emit(errors, unlooked.note())?;
+    emit(errors, unlisted.note())?;
     emit(errors, b"\n")
 }
 
@@ -172,9 +172,10 @@ pub fn write_last<W: Sink>(
     requires { (W.state out.old).failed ≡ false }
     ensures { Writes (W.state out.old) (W.state out.new) (closing_line asked.entry files totals.now) result }
 {
+    let warnings = asked.judging.warnings;
     match asked.word {
-        Word::Check(_, form) => write_totals(form, files, asked.judging.warnings, totals, out),
-        Word::Survey | Word::Demos(_) => emit(out, b""),
+        ReportKind::Check(_, form) => write_totals(form, files, warnings, totals, out),
+        ReportKind::Survey | ReportKind::Demos(_) => emit(out, b""),
     }
 }
 

@@ -5,17 +5,16 @@ ghost use Rattle.lens_engines.specs.Objects.{refusal_text};
 ghost use Rattle.lens_reports.specs.Run.{AreSound, ChecksBytes, LeavesBytes, LeavesLevels, OnBytesErrors, OnErrors, StopsAt, StopsPath, StopsRefusal, SurveysBytes};
 ghost use Rattle.lens_reports.specs.Run.{TellsPath, TellsWord, ToldTo, WritesRefusal, no_tally, refusal_answer, refusal_line};
 ghost use Rattle.lens_reports.specs.Run.{stop_after, tally_with};
-ghost use Rattle.lens_reports.specs.declared.tell.Word.TheVariants as word;
+ghost use Rattle.lens_reports.specs.declared.tell.ReportKind.TheVariants as word;
 
 use crate::demos::tell_demos;
 use crate::files::{ReadFault, RunFiles};
-use demo_engines::{HandOn, Watch};
 use le_rec::Sink;
 use lens_engines::{
     FileRefusal, Judging, LevelsFault, Question, Totals, Verdict, check_file, refused_line,
     survey_file,
 };
-use lens_texts::{Form, write_path};
+use lens_texts::{Form, HandOn, Watch, write_path};
 use line_io::{IoFault, emit};
 use std::alloc::Allocator;
 use std::mem::replace;
@@ -27,7 +26,7 @@ pub const SHOWN: u64 = 20;
 
 /// What is asked of each file.
 #[derive(Clone, Copy, Debug, PartialEq, Eq)]
-pub enum Word {
+pub enum ReportKind {
     /// The findings, and the warnings if they are asked for, in a form. At most so many of one code in one level are shown; 0
     /// shows all.
     Check(u64, Form),
@@ -40,13 +39,13 @@ pub enum Word {
 /// What is asked of each file, and how its levels are judged. Demos ignore the latter.
 #[derive(Clone, Copy)]
 pub struct Request<'b> {
-    pub word: Word,
+    pub word: ReportKind,
     pub judging: Judging<'b>,
 }
 
 /// What was found.
 #[derive(Clone, Copy, Debug, PartialEq, Eq)]
-pub struct Tally {
+pub struct ReportSum {
     /// The gravest verdict. A refused file counts as one that isn't judged.
     pub verdict: Verdict,
     /// The totals of `check`; none of a survey or of demos.
@@ -113,21 +112,21 @@ impl BytesFault {
 }
 
 /// The tally of no file.
-pub fn no_tally() -> Tally
+pub fn no_tally() -> ReportSum
     ensures { result ≡ no_tally }
 {
-    Tally {
+    ReportSum {
         verdict: Verdict::Clean,
         totals: Totals::none(),
     }
 }
 
-impl Tally {
+impl ReportSum {
     /// Both together.
-    pub fn with(self, other: Tally) -> Tally
+    pub fn with(self, other: ReportSum) -> ReportSum
         ensures { result ≡ tally_with self other }
     {
-        Tally {
+        ReportSum {
             verdict: self.verdict.graver(other.verdict),
             totals: self.totals.with(other.totals),
         }
@@ -144,7 +143,7 @@ pub fn tell_paths<A: Allocator + Copy, S: RunFiles, W: HandOn, E: Sink, P: Watch
     out: &mut W,
     errors: &mut E,
     watch: &mut P,
-) -> Result<Tally, Stop>
+) -> Result<ReportSum, Stop>
     requires { AreSound (W.state out.old) (E.state errors.old) }
     ensures told { IfOk result (ToldTo (S.known files.now) asked.entry (W.state out.old) (E.state errors.old)
         (map (λ path. path.now) paths.now) (W.state out.new) (E.state errors.new)) }
@@ -156,9 +155,8 @@ pub fn tell_paths<A: Allocator + Copy, S: RunFiles, W: HandOn, E: Sink, P: Watch
     let mut sum = no_tally();
     let mut room = Vec::new(alloc);
     for (place, path) in paths.iter().enumerate() {
-        match tell_path(
-            alloc, files, place, asked, path, &mut room, out, errors, watch,
-        ) {
+        let file = FileAt { files, place, path };
+        match tell_path(alloc, asked, &file, &mut room, out, errors, watch) {
             Ok(tally) => sum = sum.with(tally),
             Err(stop) => return Err(stop.after(sum.verdict)),
         }
@@ -166,27 +164,37 @@ pub fn tell_paths<A: Allocator + Copy, S: RunFiles, W: HandOn, E: Sink, P: Watch
     Ok(sum)
 }
 
-// Reports on the file under a path. It is read into the memory of the one before it.
+// A file of a run: the one at a place, under its path.
+#[derive(Clone, Copy)]
+struct FileAt<'f, S> {
+    files: &'f S,
+    place: usize,
+    path: &'f [u8],
+}
+
+// Reports on a file. It is read into the memory of the one before it.
 fn tell_path<A: Allocator + Copy, S: RunFiles, W: HandOn, E: Sink, P: Watch>(
     alloc: A,
-    files: &S,
-    place: usize,
     asked: Request<'_>,
-    path: &[u8],
+    file: &FileAt<'_, S>,
     room: &mut Vec<u8, A>,
     out: &mut W,
     errors: &mut E,
     watch: &mut P,
-) -> Result<Tally, Stop>
+) -> Result<ReportSum, Stop>
     requires { AreSound (W.state out.old) (E.state errors.old) }
-    ensures told { IfOk result (TellsPath (S.known files.now place path.now) asked.entry path.now
+    ensures told { IfOk result (TellsPath (S.known file.now.files.now file.now.place file.now.path.now) asked.entry file.now.path.now
         (W.state out.old) (W.state out.new) (E.state errors.old) (E.state errors.new)) }
     ensures sound { OnOk result (AreSound (W.state out.new) (E.state errors.new)) }
-    ensures stopped { IfErr result (StopsPath (S.known files.now place path.now) asked.entry path.now
+    ensures stopped { IfErr result (StopsPath (S.known file.now.files.now file.now.place file.now.path.now) asked.entry file.now.path.now
         (W.state out.old) (W.state out.new) (E.state errors.old) (E.state errors.new)) }
     ensures handed { OnErrors result (W.held out.new ≡ []) }
 {
-    match files.read(place, path, replace(room, Vec::new(alloc))) {
+    let path = file.path;
+    match file
+        .files
+        .read(file.place, path, replace(room, Vec::new(alloc)))
+    {
         Ok(bytes) => {
             match tell_bytes(alloc, asked, path, bytes.as_slice(), out, errors, watch) {
                 Ok(tally) => {
@@ -218,13 +226,13 @@ fn tell_path<A: Allocator + Copy, S: RunFiles, W: HandOn, E: Sink, P: Watch>(
 
 /// Reports that a file is refused, and why. What was answered before is handed on first.
 pub fn tell_refusal<W: HandOn, E: Sink, P: Watch>(
-    word: Word,
+    word: ReportKind,
     path: &[u8],
     refusal: FileRefusal,
     out: &mut W,
     errors: &mut E,
     watch: &mut P,
-) -> Result<Tally, Stop>
+) -> Result<ReportSum, Stop>
     requires { AreSound (W.state out.old) (E.state errors.old) }
     ensures told { IfOk result (WritesRefusal word path.now refusal
         (W.state out.old) (W.state out.new) (E.state errors.old) (E.state errors.new)) }
@@ -245,7 +253,7 @@ pub fn tell_refusal<W: HandOn, E: Sink, P: Watch>(
         return Err(Stop::Output(Verdict::Unjudged));
     }
     watch.add_refused();
-    Ok(Tally {
+    Ok(ReportSum {
         verdict: Verdict::Unjudged,
         totals: no_tally().totals,
     })
@@ -278,7 +286,7 @@ fn write_reason<E: Sink>(refusal: FileRefusal, errors: &mut E) -> Result<(), IoF
 
 // Where objects are asked for a refused file has one.
 fn answer_refusal<W: Sink>(
-    word: Word,
+    word: ReportKind,
     path: &[u8],
     refusal: FileRefusal,
     out: &mut W,
@@ -287,10 +295,10 @@ fn answer_refusal<W: Sink>(
     ensures { Writes (W.state out.old) (W.state out.new) (refusal_answer word path.now refusal) result }
 {
     match word {
-        Word::Survey | Word::Check(_, Form::Objects) | Word::Demos(Form::Objects) => {
-            refused_line(path, refusal, out)
-        }
-        Word::Check(_, Form::Lines) | Word::Demos(Form::Lines) => emit(out, b""),
+        ReportKind::Survey
+        | ReportKind::Check(_, Form::Objects)
+        | ReportKind::Demos(Form::Objects) => refused_line(path, refusal, out),
+        ReportKind::Check(_, Form::Lines) | ReportKind::Demos(Form::Lines) => emit(out, b""),
     }
 }
 
@@ -303,7 +311,7 @@ pub fn tell_bytes<A: Allocator + Copy, W: HandOn, E: Sink, P: Watch>(
     out: &mut W,
     errors: &mut E,
     watch: &mut P,
-) -> Result<Tally, BytesFault>
+) -> Result<ReportSum, BytesFault>
     requires { AreSound (W.state out.old) (E.state errors.old) }
     ensures told { IfOk result (TellsWord asked.entry.word path.now bytes.now asked.entry.judging (W.state out.old) (W.state out.new)
         (E.state errors.old) (E.state errors.new)) }
@@ -313,8 +321,8 @@ pub fn tell_bytes<A: Allocator + Copy, W: HandOn, E: Sink, P: Watch>(
     ensures handed { OnBytesErrors result (W.held out.new ≡ []) }
 {
     match asked.word {
-        Word::Survey => survey_bytes(alloc, path, bytes, asked.judging, out),
-        Word::Check(most, form) => {
+        ReportKind::Survey => survey_bytes(alloc, path, bytes, asked.judging, out),
+        ReportKind::Check(most, form) => {
             let question = Question {
                 form,
                 path,
@@ -323,7 +331,7 @@ pub fn tell_bytes<A: Allocator + Copy, W: HandOn, E: Sink, P: Watch>(
             };
             check_bytes(alloc, &question, bytes, out)
         }
-        Word::Demos(form) => tell_demos(alloc, form, path, bytes, out, errors, watch),
+        ReportKind::Demos(form) => tell_demos(alloc, form, path, bytes, out, errors, watch),
     }
 }
 
@@ -334,14 +342,14 @@ fn survey_bytes<A: Allocator + Copy, W: Sink>(
     bytes: &[u8],
     judging: Judging<'_>,
     out: &mut W,
-) -> Result<Tally, BytesFault>
+) -> Result<ReportSum, BytesFault>
     requires { (W.state out.old).failed ≡ false }
     ensures told { IfOk result (SurveysBytes path.now bytes.now judging.entry (W.state out.old) (W.state out.new)) }
     ensures sound { OnOk result ((W.state out.new).failed ≡ false) }
     ensures left { IfErr result (LeavesLevels W.state word.Survey path.now bytes.now judging.entry out.old out.new) }
 {
     match survey_file(alloc, path, bytes, judging, out) {
-        Ok(verdict) => Ok(Tally {
+        Ok(verdict) => Ok(ReportSum {
             verdict,
             totals: no_tally().totals,
         }),
@@ -355,7 +363,7 @@ fn check_bytes<A: Allocator + Copy, W: Sink>(
     question: &Question<'_>,
     bytes: &[u8],
     out: &mut W,
-) -> Result<Tally, BytesFault>
+) -> Result<ReportSum, BytesFault>
     requires { (W.state out.old).failed ≡ false }
     ensures told { IfOk result (ChecksBytes question.now.most question.now.form question.now.path.now bytes.now question.now.judging
         (W.state out.old) (W.state out.new)) }
@@ -364,8 +372,8 @@ fn check_bytes<A: Allocator + Copy, W: Sink>(
         question.now.judging out.old out.new) }
 {
     match check_file(alloc, question, bytes, out) {
-        Ok(totals) => Ok(Tally {
-            verdict: totals.verdict_with(question.judging.warnings),
+        Ok(totals) => Ok(ReportSum {
+            verdict: totals.verdict(),
             totals,
         }),
         Err(fault) => Err(BytesFault::from_engine(fault)),

@@ -1,5 +1,7 @@
 pub mod CaseLevels
 pub mod EscapeLemmas
+mod ExplainLemmas
+pub mod HandingLemmas
 pub mod JsonLemmas
 mod LabelLemmas
 pub mod MemberLemmas

@@ -8,16 +8,16 @@ use Rattle.std.proofs.lemmas.Fmt.{decimal_is_IsNumeral}
 use Rattle.std.proofs.lemmas.Str.Parse.{digit_at}
 use Rattle.json.proofs.Printed.Decimals.{IsNumber-decimal}
 use Rattle.json.proofs.Printed.Numbers.{in_word-ended, lex-number}
-use Rattle.json.specs.Json.{Json, array, boolean, item, no_items, number, string}
+use Rattle.json.specs.Json.{Items, Json, array, boolean, number, string}
 use Rattle.json.specs.Lex.{Lexeme, token, comma, colon, between, lex}
 use Rattle.json.specs.Text.{content}
 use Rattle.json.specs.Token.{Token}
-use Rattle.json.specs.Tree.{depth, members_depth}
+use Rattle.json.specs.Tree.{depth, items_depth, members_depth}
 use Rattle.json.specs.Word.{ends_word, word}
 use Rattle.lens_texts.proofs.ReadBackLemmas.{is_line, is_line-append, is_line-escaped, law_strings_are_read, lex-quoted}
-use Rattle.lens_texts.proofs.ValueLemmas.{members_then, more_members, read_document, value_then}
+use Rattle.lens_texts.proofs.ValueLemmas.{items_then, members_then, more_members, read_document, value_then}
 use Rattle.lens_texts.specs.JsonString.{bool_text, escaped, json_string}
-use Rattle.lens_texts.specs.Members.{IsLineOf, file_value, members_of, number_at, object_of, text_at}
+use Rattle.lens_texts.specs.Members.{IsLineOf, file_value, members_of, names_of, number_at, object_of, text_at}
 use Rattle.lens_texts.specs.LevelObject.{file_member, number_member}
 
 -- the lexemes of members behind others, before others
@@ -150,37 +150,6 @@ Tells-plain name text plain as_is = Tells-member name (34 ∷ (text ++ 34 ∷ []
 pub Tells-bool : (name : List ℕ) (b : Bool) → IsPlain name → Tells (44 ∷ named name (bool_text b)) ((name, boolean b) ∷ [])
 Tells-bool name b plain = Tells-member name (bool_text b) (boolean b) plain (IsValue-bool b)
 
--- one name in an array, and two
-IsValue-one : (a : List ℕ) → IsPlain a → IsValue (91 ∷ 34 ∷ (a ++ 34 ∷ 93 ∷ [])) (array (item (string a) no_items))
-unfolding lex
-IsValue-one a plain = record {
-  reads = λ rest e. ap (λ t. token Token.begin_array ∷ lex between (34 ∷ t)) (append_assoc a (34 ∷ 93 ∷ []) rest)
-      ∙ ap (λ l. token Token.begin_array ∷ l) (lex-plain a (93 ∷ rest) plain);
-  shallow = omega arith;
-  unbroken = is_line-append a (34 ∷ 93 ∷ []) (plain_line a plain) refl;
-}
-
-IsValue-two : (a b : List ℕ) → IsPlain a → IsPlain b
-    → IsValue (91 ∷ 34 ∷ (a ++ 34 ∷ 44 ∷ 34 ∷ (b ++ 34 ∷ 93 ∷ []))) (array (item (string a) (item (string b) no_items)))
-unfolding lex
-IsValue-two a b plain also = record {
-  reads = λ rest e. ap (λ t. token Token.begin_array ∷ lex between (34 ∷ t)) (append_assoc a (34 ∷ 44 ∷ 34 ∷ (b ++ 34 ∷ 93 ∷ [])) rest)
-      ∙ ap (λ l. token Token.begin_array ∷ l) (lex-plain a (44 ∷ 34 ∷ ((b ++ 34 ∷ 93 ∷ []) ++ rest)) plain)
-      ∙ ap (λ t. token Token.begin_array ∷ token (Token.string a) ∷ comma ∷ lex between (34 ∷ t)) (append_assoc b (34 ∷ 93 ∷ []) rest)
-      ∙ ap (λ l. token Token.begin_array ∷ token (Token.string a) ∷ comma ∷ l) (lex-plain b (93 ∷ rest) also);
-  shallow = omega arith;
-  unbroken = is_line-append a (34 ∷ 44 ∷ 34 ∷ (b ++ 34 ∷ 93 ∷ [])) (plain_line a plain) (is_line-append b (34 ∷ 93 ∷ []) (plain_line b also) refl);
-}
-
-pub Tells-one : (name a : List ℕ) → IsPlain name → IsPlain a
-    → Tells (44 ∷ named name (91 ∷ 34 ∷ (a ++ 34 ∷ 93 ∷ []))) ((name, array (item (string a) no_items)) ∷ [])
-Tells-one name a plain as_is = Tells-member name (91 ∷ 34 ∷ (a ++ 34 ∷ 93 ∷ [])) (array (item (string a) no_items)) plain (IsValue-one a as_is)
-
-pub Tells-two : (name a b : List ℕ) → IsPlain name → IsPlain a → IsPlain b
-    → Tells (44 ∷ named name (91 ∷ 34 ∷ (a ++ 34 ∷ 44 ∷ 34 ∷ (b ++ 34 ∷ 93 ∷ [])))) ((name, array (item (string a) (item (string b) no_items))) ∷ [])
-Tells-two name a b plain as_is also =
-    Tells-member name (91 ∷ 34 ∷ (a ++ 34 ∷ 44 ∷ 34 ∷ (b ++ 34 ∷ 93 ∷ []))) (array (item (string a) (item (string b) no_items))) plain (IsValue-two a b as_is also)
-
 -- numbers behind one another
 abbrev pub ArePlain : List (List ℕ × ℕ) → Type 0
 ArePlain [] = Unit {0}
@@ -240,6 +209,55 @@ module _ {X : Type 0} (name : X → List ℕ) (count : X → ℕ) (are : (x : X)
   pub Tells-numbers : (group : List ℕ) (xs : List X) → IsPlain group → All (λ x. count x < 2 ^ 64) xs
       → Tells (44 ∷ named group (123 ∷ (join_with_byte 44 (texts xs) ++ 125 ∷ []))) ((group, object_of (numbers xs)) ∷ [])
   Tells-numbers group xs plain small = Tells-member group (123 ∷ (join_with_byte 44 (texts xs) ++ 125 ∷ [])) (object_of (numbers xs)) plain (IsValue-numbers xs small)
+
+-- ---- an array of names
+
+module _ {X : Type 0} (name : X → List ℕ) (are : (x : X) → IsPlain (name x)) where
+  abbrev quoted : List X → List (List ℕ)
+  quoted xs = map (λ x. 34 ∷ (name x ++ 34 ∷ [])) xs
+
+  abbrev strings : List X → Items
+  strings xs = names_of (map name xs)
+
+  lex-name : (x : X) (rest : List ℕ) → lex between ((34 ∷ (name x ++ 34 ∷ [])) ++ rest) ≡ token (Token.string (name x)) ∷ lex between rest
+  lex-name x rest = ap (λ t. lex between (34 ∷ t)) (append_assoc (name x) (34 ∷ []) rest) ∙ lex-plain (name x) rest (are x)
+
+  name_line : (x : X) → is_line (34 ∷ (name x ++ 34 ∷ [])) ≡ true
+  name_line x = is_line-append (name x) (34 ∷ []) (plain_line (name x) (are x)) refl
+
+  lex-names : (xs : List X) (rest : List ℕ) → lex between (join_with_byte 44 (quoted xs) ++ 93 ∷ rest) ≡ items_then (strings xs) (lex between rest)
+  unfolding lex
+  lex-names [] rest = refl
+  lex-names (x ∷ []) rest = lex-name x (93 ∷ rest)
+  lex-names (x ∷ y ∷ xs) rest =
+      let others = join_with_byte 44 (quoted (y ∷ xs)) in
+      ap (lex between) (append_assoc (34 ∷ (name x ++ 34 ∷ [])) (44 ∷ others) (93 ∷ rest))
+      ∙ lex-name x (44 ∷ (others ++ 93 ∷ rest))
+      ∙ ap (λ l. token (Token.string (name x)) ∷ comma ∷ l) (lex-names (y ∷ xs) rest)
+
+  strings_shallow : (xs : List X) → items_depth (strings xs) ≤ 0
+  strings_shallow [] = omega arith
+  strings_shallow (x ∷ xs) = let more = strings_shallow xs in omega (arith, more)
+
+  names_line : (xs : List X) → is_line (join_with_byte 44 (quoted xs)) ≡ true
+  names_line [] = refl
+  names_line (x ∷ []) = name_line x
+  names_line (x ∷ y ∷ xs) = is_line-append (34 ∷ (name x ++ 34 ∷ [])) (44 ∷ join_with_byte 44 (quoted (y ∷ xs))) (name_line x) (names_line (y ∷ xs))
+
+  IsValue-names : (xs : List X) → IsValue (91 ∷ (join_with_byte 44 (quoted xs) ++ 93 ∷ [])) (array (strings xs))
+  unfolding lex
+  IsValue-names xs =
+      let inside = join_with_byte 44 (quoted xs) in
+      record {
+        reads = λ rest e. ap (λ t. token Token.begin_array ∷ lex between t) (append_assoc inside (93 ∷ []) rest)
+            ∙ ap (λ l. token Token.begin_array ∷ l) (lex-names xs rest);
+        shallow = let flat = strings_shallow xs in omega (arith, flat);
+        unbroken = is_line-append inside (93 ∷ []) (names_line xs) refl;
+      }
+
+  pub Tells-names : (group : List ℕ) (xs : List X) → IsPlain group
+      → Tells (44 ∷ named group (91 ∷ (join_with_byte 44 (quoted xs) ++ 93 ∷ []))) ((group, array (strings xs)) ∷ [])
+  Tells-names group xs plain = Tells-member group (91 ∷ (join_with_byte 44 (quoted xs) ++ 93 ∷ [])) (array (strings xs)) plain (IsValue-names xs)
 
 -- ---- an object of a file with members behind that of its path
 

@@ -99,9 +99,13 @@ origin : told Signed F12 1 ≡ codes "origin (20000, 0) is outside -16384 to 163
 unfolding digits code_table
 origin = refl
 
-named_twice : told Signed F13 0 ≡ codes "named more than once, or the root and named, at (3, -4)"
+named_twice : told Signed F13 0 ≡ codes "named more than once, at (3, -4)"
 unfolding digits code_table
 named_twice = refl
+
+root_named : told Signed F13 1 ≡ codes "the root, and named, at (20000, 0)"
+unfolding digits code_table
+root_named = refl
 
 not_reached : told Signed F14 0 ≡ codes "not reached from the root, at (3, -4)"
 unfolding digits code_table
@@ -123,7 +127,7 @@ many_nodes : told Signed F18 0 ≡ codes "2 nodes, 32767 are the most"
 unfolding digits code_table
 many_nodes = refl
 
-left_over : told Signed N2 8 ≡ codes "3 bytes left over"
+left_over : told Signed N2 8 ≡ codes "SECTORS has 3 bytes left over"
 unfolding digits code_table
 left_over = refl
 

@@ -1,5 +1,7 @@
 pub mod Escape
+pub mod Explain
 pub mod FormatLine
+pub mod Handing
 pub mod Head
 pub mod JsonString
 pub mod Label
@@ -8,6 +10,7 @@ pub mod LevelObject
 pub mod LevelText
 pub mod Members
 pub mod Message
+pub mod Order
 pub mod Owners
 pub mod Parts
 pub mod Place
@@ -15,4 +18,5 @@ pub mod Remark
 pub mod RemarkLine
 pub mod RemarkObject
 pub mod ShownPath
+pub mod Unbuilt
 pub mod WarningMessage

@@ -1,7 +1,7 @@
 -- The members of an object and their values (ours), as a reader of JSON gives them.
 use Rattle.std.specs.Prelude.{◌≡◌, ℕ, Contains, Some, List, [], ◌∷◌, ◌++◌, codes, decimal}
 use Rattle.std.specs.Str.Lossy.{utf8_lossy}
-use Rattle.json.specs.Json.{Json, Members, document, member, no_members, number, object, string}
+use Rattle.json.specs.Json.{Items, Json, Members, document, item, member, no_items, no_members, number, object, string}
 
 -- members with their names, in their order
 abbrev pub members_of : List (List ℕ × Json) → Members
@@ -18,6 +18,11 @@ text_at name bytes = (name, string (utf8_lossy bytes))
 -- a member whose value is a number: its text are the digits
 abbrev pub number_at : List ℕ → ℕ → List ℕ × Json
 number_at name n = (name, number (decimal n))
+
+-- names in an array, in their order
+abbrev pub names_of : List (List ℕ) → Items
+names_of [] = no_items
+names_of (name ∷ names) = item (string name) (names_of names)
 
 -- what each object begins with
 abbrev pub file_value : List ℕ → List ℕ × Json

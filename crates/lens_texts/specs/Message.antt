@@ -1,16 +1,17 @@
 -- What is wrong where a code holds, in words and with the level's values (ours). Each text comes before other bytes. Codes that hold of no level of Doom's
 -- format have none.
-use Rattle.std.specs.Prelude.{ℕ, ◌+◌, ◌-◌, ◌/◌, ℤ, Bool, not, ◌&&◌, List, ◌++◌, length, is_some, is_none, codes, nat_lt, if◌then◌else◌}
+use Rattle.std.specs.Prelude.{ℕ, ◌+◌, ◌-◌, ◌/◌, ℤ, Bool, not, ◌&&◌, List, [], ◌++◌, length, is_some, is_none, codes, nat_eq, nat_lt, slice_index_or, if◌then◌else◌}
 use Rattle.std.specs.Fmt.{decimal, signed_decimal}
 use Rattle.std.specs.List.{slice_get}
 use Rattle.std.specs.Option.{option_and_then, option_map_or}
 use Rattle.std.specs.Ordering.{int_eq}
+use Rattle.le_rec.specs.Name.{shown_name}
 use Rattle.le_rec.specs.Record.{word}
 use Rattle.le_rec.specs.Table.{records_of}
 use Rattle.le_rec.specs.declared.records.Node.{Node}
 use Rattle.le_rec.specs.declared.records.Word.{Word}
 use Rattle.map_level.specs.Level.{Level}
-use Rattle.map_level.specs.LinkFaults.{rests}
+use Rattle.map_level.specs.LinkFaults.{rests, usual_names}
 use Rattle.map_level.specs.Links.{named, no_side}
 use Rattle.map_level.specs.declared.finding.Code.{Code}
 use Rattle.map_level.specs.declared.finding.Code.TheVariants.{F3, F4, F5, F6, F7, F8, F9, F10, F11, F12, F13, F14, F15, F16, F17, F18, N2, N3, N4, N5, N6, N7, N8, N9, N10, N11, N12}
@@ -69,6 +70,15 @@ child_text level found rest =
     then codes "child 1" ++ named_text level (place_of found.child1) rest
     else codes "child 0" ++ named_text level (place_of found.child0) rest
 
+-- node n is the root, the last one, and is named; any other is named more than once
+abbrev pub twice_text : Level → ℕ → List ℕ → List ℕ
+twice_text level n rest =
+    if nat_eq n (node_count level - 1) then codes "the root, and named" ++ rest else codes "named more than once" ++ rest
+
+-- `LUMP has N bytes left over`, of a lump counted from 0
+abbrev pub left_text : ℕ → ℕ → List ℕ → List ℕ
+left_text k left rest = shown_name (slice_index_or usual_names k []) ++ (codes " has " ++ (decimal left ++ (codes " bytes left over" ++ rest)))
+
 -- the range of coordinates
 abbrev pub outside_text : List ℕ → List ℕ
 outside_text rest = codes " is outside -16384 to 16383" ++ rest
@@ -114,13 +124,13 @@ message level F10 i rest = option_map_or (λ ssector. segs_text level ssector.fi
 message level F11 i rest = option_map_or (λ found. child_text level found rest) (slice_get level.nodes.records i) rest
 message level F12 i rest =
     option_map_or (λ found. codes "origin " ++ spot_text found.x found.y (outside_text rest)) (slice_get level.nodes.records i) rest
-message level F13 i rest = codes "named more than once, or the root and named" ++ rest
+message level F13 i rest = twice_text level i rest
 message level F14 i rest = codes "not reached from the root" ++ rest
 message level F15 i rest = codes "named more than once" ++ rest
 message level F16 i rest = codes "not reached from the root" ++ rest
 message level F17 i rest = codes "no ssector" ++ rest
 message level F18 i rest = decimal (node_count level) ++ (codes " nodes, 32767 are the most" ++ rest)
-message level N2 i rest = option_map_or (λ left. decimal left ++ (codes " bytes left over" ++ rest)) (slice_get (rests level) (i - 1)) rest
+message level N2 i rest = option_map_or (λ left. left_text (i - 1) left rest) (slice_get (rests level) (i - 1)) rest
 message level N3 i rest = codes "two-sided, without a back sidedef" ++ rest
 message level N4 i rest = codes "without a front sidedef" ++ rest
 message level N5 i rest = codes "without length" ++ rest

@@ -15,8 +15,8 @@ use Rattle.level_codes.specs.Codes.{kind_of}
 use Rattle.level_codes.specs.declared.code.ReportCode.TheVariants as report
 use Rattle.level_codes.specs.declared.kind.Kind.{Kind}
 use Rattle.level_codes.specs.declared.kind.Kind.TheVariants.{Linedef, Sidedef, Seg, Ssector, Node, Thing}
-use Rattle.lens_texts.specs.declared.place.Place.{Place}
-use Rattle.lens_texts.specs.declared.place.Place.TheVariants.{Nowhere, At, Between, OfLinedef}
+use Rattle.lens_texts.specs.declared.place.MapPlace.{MapPlace}
+use Rattle.lens_texts.specs.declared.place.MapPlace.TheVariants.{Nowhere, At, Between, OfLinedef}
 use Rattle.lens_texts.specs.declared.place.Spot.{Spot}
 
 -- a word of a level's record as an index
@@ -30,7 +30,7 @@ spot_at level word = do
   Some (record { x = vertex.x; y = vertex.y })
 
 -- between the vertexes that two words name, where both are there
-abbrev pub between : Level → ℤ → ℤ → Place
+abbrev pub between : Level → ℤ → ℤ → MapPlace
 between level v1 v2 =
     option_map_or (λ from. option_map_or (λ to. Between from to) (spot_at level v2) Nowhere) (spot_at level v1) Nowhere
 
@@ -66,7 +66,7 @@ abbrev pub owner_of : Level → ℕ → Option ℕ
 owner_of level i = owner_from level i 0
 
 -- where what is of a kind and a number lies, if anywhere
-abbrev pub place_at : Level → Kind → ℕ → Place
+abbrev pub place_at : Level → Kind → ℕ → MapPlace
 place_at level Linedef i = option_map_or (λ linedef. between level linedef.v1 linedef.v2) (slice_get level.linedefs.records i) Nowhere
 place_at level Seg i = option_map_or (λ seg. between level seg.v1 seg.v2) (slice_get level.segs.records i) Nowhere
 place_at level Sidedef i = option_map_or (λ linedef. OfLinedef linedef) (owner_of level i) Nowhere
@@ -76,7 +76,7 @@ place_at level Thing i = option_map_or (λ thing. At (record { x = thing.x; y = 
 place_at level _ i = Nowhere
 
 -- where a finding lies; the message of F12 has the node's origin itself
-abbrev pub place_of : Level → Code → ℕ → Place
+abbrev pub place_of : Level → Code → ℕ → MapPlace
 place_of level code i = if nat_eq (rank code) (rank F12) then Nowhere else place_at level (kind_of (report.Finding code)) i
 
 -- `(X, Y)`, before other bytes
@@ -84,7 +84,7 @@ abbrev pub spot_text : ℤ → ℤ → List ℕ → List ℕ
 spot_text x y rest = codes "(" ++ (signed_decimal x ++ (codes ", " ++ (signed_decimal y ++ (codes ")" ++ rest))))
 
 -- a place behind a message, before other bytes
-abbrev pub place_text : Place → List ℕ → List ℕ
+abbrev pub place_text : MapPlace → List ℕ → List ℕ
 place_text Nowhere rest = rest
 place_text (At spot) rest = codes ", at " ++ spot_text spot.x spot.y rest
 place_text (Between from to) rest = codes ", from " ++ spot_text from.x from.y (codes " to " ++ spot_text to.x to.y rest)

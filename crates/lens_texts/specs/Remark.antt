@@ -7,7 +7,7 @@ use Rattle.map_warnings.specs.Warnings.{code_of, number_of}
 use Rattle.lens_texts.specs.Message.{message}
 use Rattle.lens_texts.specs.Place.{place_of}
 use Rattle.lens_texts.specs.WarningMessage.{warning_message, warning_place}
-use Rattle.lens_texts.specs.declared.place.Place.{Place}
+use Rattle.lens_texts.specs.declared.place.MapPlace.{MapPlace}
 use Rattle.lens_texts.specs.declared.remark.Remark.{Remark}
 use Rattle.lens_texts.specs.declared.remark.Remark.TheVariants.{Finding, Warning}
 
@@ -25,6 +25,6 @@ abbrev pub remark_message : Level → Remark → List ℕ → List ℕ
 remark_message level (Finding f) rest = message level f.code f.index rest
 remark_message level (Warning w) rest = warning_message level w rest
 
-abbrev pub remark_place : Level → Remark → Place
+abbrev pub remark_place : Level → Remark → MapPlace
 remark_place level (Finding f) = place_of level f.code f.index
 remark_place level (Warning w) = warning_place level w

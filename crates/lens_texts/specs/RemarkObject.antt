@@ -12,8 +12,8 @@ use Rattle.lens_texts.specs.JsonString.{json_string}
 use Rattle.lens_texts.specs.LevelObject.{file_member, label_members, number_member}
 use Rattle.lens_texts.specs.Remark.{remark_code, remark_index, remark_message, remark_place}
 use Rattle.lens_texts.specs.declared.label.LevelLabel.{LevelLabel}
-use Rattle.lens_texts.specs.declared.place.Place.{Place}
-use Rattle.lens_texts.specs.declared.place.Place.TheVariants.{Nowhere, At, Between, OfLinedef}
+use Rattle.lens_texts.specs.declared.place.MapPlace.{MapPlace}
+use Rattle.lens_texts.specs.declared.place.MapPlace.TheVariants.{Nowhere, At, Between, OfLinedef}
 use Rattle.lens_texts.specs.declared.place.Spot.{Spot}
 use Rattle.lens_texts.specs.declared.remark.Remark.{Remark}
 
@@ -40,14 +40,14 @@ index_member level _ i = number_member (codes "index") i
 abbrev pub spot_pair : Spot → List ℕ → List ℕ
 spot_pair spot rest = codes "[" ++ (signed_decimal spot.x ++ (codes "," ++ (signed_decimal spot.y ++ (codes "]" ++ rest))))
 
-abbrev pub place_member : Place → List ℕ → List ℕ
+abbrev pub place_member : MapPlace → List ℕ → List ℕ
 place_member Nowhere rest = rest
 place_member (At spot) rest = codes ",\"place\":{\"at\":" ++ spot_pair spot (codes "}" ++ rest)
 place_member (Between from to) rest = codes ",\"place\":{\"from\":" ++ spot_pair from (codes ",\"to\":" ++ spot_pair to (codes "}" ++ rest))
 place_member (OfLinedef linedef) rest = codes ",\"place\":{\"linedef\":" ++ (decimal linedef ++ (codes "}" ++ rest))
 
 -- what an object says, and where, up to its end
-abbrev pub told_members : List ℕ → Place → List ℕ
+abbrev pub told_members : List ℕ → MapPlace → List ℕ
 told_members text place = codes ",\"message\":" ++ (json_string text ++ place_member place (codes "}\n"))
 
 -- the code, kind and index of a remark

@@ -19,8 +19,8 @@ use Rattle.level_codes.specs.declared.code.ReportCode.TheVariants as report
 use Rattle.map_level.specs.Level.{Level}
 use Rattle.map_warnings.specs.Warnings.{code_of, number_of}
 use Rattle.lens_texts.specs.Place.{place_at}
-use Rattle.lens_texts.specs.declared.place.Place.{Place}
-use Rattle.lens_texts.specs.declared.place.Place.TheVariants.{Nowhere, At}
+use Rattle.lens_texts.specs.declared.place.MapPlace.{MapPlace}
+use Rattle.lens_texts.specs.declared.place.MapPlace.TheVariants.{Nowhere, At}
 
 -- a part of a wall that has no texture
 abbrev pub part_text : Part → List ℕ → List ℕ
@@ -88,10 +88,10 @@ warning_message level (warning.UnknownFlat sector plane) rest = unknown_flat_tex
 warning_message level (warning.UnknownThing thing) rest = unknown_thing_text level thing rest
 
 -- where a vertex is
-abbrev pub vertex_place : Level → ℕ → Place
+abbrev pub vertex_place : Level → ℕ → MapPlace
 vertex_place level i = option_map_or (λ found. At (record { x = found.x; y = found.y })) (slice_get level.vertexes.records i) Nowhere
 
 -- where a warning lies: W1 at the vertex, and each other where its record is
-abbrev pub warning_place : Level → Warning → Place
+abbrev pub warning_place : Level → Warning → MapPlace
 warning_place level (warning.Unclosed sector vertex) = vertex_place level vertex
 warning_place level w = place_at level (kind_of (report.Warning (code_of w))) (number_of w)

@@ -4,7 +4,7 @@ ghost use Rattle.std.specs.Prelude.{◌≡◌, ◌<◌, false, length, slice_ind
 ghost use Rattle.line_io.specs.Writes.{Writes};
 ghost use Rattle.lens_texts.specs.Escape.{escaped, escaped_byte};
 
-use crate::parts::{Parts, write_parts};
+use crate::parts::{TextParts, write_parts};
 use le_rec::Sink;
 use line_io::{IoFault, emit};
 
@@ -14,7 +14,7 @@ struct Escaped<'a> {
     bytes: &'a [u8],
 }
 
-impl Parts for Escaped<'_> {
+impl TextParts for Escaped<'_> {
     ghost use Rattle.std.specs.Prelude.{map};
     ghost use Rattle.lens_texts.specs.Escape.{escaped_byte};
 

@@ -1,11 +1,13 @@
 //! What is told of a level's findings and warnings: each as a line for people and as an object of JSON, with its label, its
-//! place and its file's path. A line is put together in a `TextLine` of `line_io`; a document is a list of `Parts`, each written
-//! by itself.
+//! place and its file's path. A line is put together in a `TextLine` of `line_io`; a document is a list of `TextParts`, each
+//! written by itself. An output that hands on what it holds back, and a watch over a run, stand here, too.
 #![tactic(auto)]
 
 mod digits;
 pub mod escape;
+mod explain;
 mod form;
+mod hand_on;
 mod json_string;
 mod label;
 pub mod laws;
@@ -13,6 +15,7 @@ mod level_object;
 mod lines;
 mod message;
 mod opened;
+mod order;
 mod owners;
 pub mod parts;
 mod path;
@@ -21,18 +24,25 @@ mod records;
 mod remark;
 mod remark_object;
 mod report;
+mod unbuilt;
 mod warning_message;
+mod watch;
 
+pub use explain::write_explained;
 pub use form::Form;
+pub use hand_on::{AtOnce, HandOn};
 pub use json_string::write_string;
 pub use label::{LevelLabel, label_by, label_looked_up, prepend_label, prepend_name};
 pub use level_object::{
     format_name, prepend_number, write_file, write_level, write_name, write_number, write_other,
 };
-pub use lines::{Heading, write_both, write_format, write_format_alone, write_line};
+pub use lines::{Heading, write_both, write_format, write_format_alone, write_heading, write_line};
 pub use opened::{label_of, level_at};
+pub use order::write_order;
 pub use owners::owners_of;
 pub use path::{control_text, is_control_at, write_after_path, write_path};
 pub use remark::Remark;
-pub use remark_object::write_wide_object;
+pub use remark_object::{write_front, write_wide_object};
 pub use report::{write_left, write_remark};
+pub use unbuilt::{EmptyLumps, write_unbuilt};
+pub use watch::{Unwatched, Watch};

@@ -1,9 +1,10 @@
 //! What is wrong where a code holds, in words and with the level's values. Each text is put before the line.
 
-ghost use Rattle.std.specs.Prelude.{◌≡◌, ◌+◌, ◌<◌, ◌≤◌, ◌^◌, length};
+ghost use Rattle.std.specs.Prelude.{◌≡◌, ◌+◌, ◌<◌, ◌≤◌, ◌^◌, [], ◌++◌, length, slice_index_or};
 ghost use Rattle.std.specs.List.{slice_get};
-ghost use Rattle.map_level.specs.LinkFaults.{rests};
-ghost use Rattle.map_level.specs.declared.finding.Code.TheVariants.{F3, F4, F5, F6, F7, F8, F9, F10, F11, F12, F18, N2, N8, N9, N12};
+ghost use Rattle.le_rec.specs.Name.{shown_name};
+ghost use Rattle.map_level.specs.LinkFaults.{rests, usual_names};
+ghost use Rattle.map_level.specs.declared.finding.Code.TheVariants.{F3, F4, F5, F6, F7, F8, F9, F10, F11, F12, F13, F18, N2, N8, N9, N12};
 ghost use Rattle.map_tree.specs.Child.{has, place_of};
 ghost use Rattle.map_tree.specs.Paths.{node, ssector};
 ghost use Rattle.lens_texts.specs.Message.{is_offset_inside, is_side_missing, list_text, message, missing_text};
@@ -11,12 +12,13 @@ ghost use Rattle.lens_texts.specs.Message.{named_text, outside_text, segs_text, 
 ghost use Rattle.lens_texts.specs.Place.{index_of, spot_text};
 
 use crate::digits::{prepend_count, prepend_index, prepend_short, prepend_word};
+use crate::label::prepend_name;
 use crate::place::prepend_spot;
 use crate::records::{index_of, spot_at};
 use le_rec::{Table, Word};
 use line_io::TextLine;
 use map_level::links::{named, no_side};
-use map_level::{Code, Level};
+use map_level::{Code, Level, usual_name};
 use map_tables::blocks_along;
 use map_tree::NF_SUBSECTOR;
 
@@ -24,7 +26,7 @@ use map_tree::NF_SUBSECTOR;
 pub fn prepend_message(line: &mut TextLine, level: &Level<'_>, code: Code, index: u32)
     requires { length line.old ≤ 44 }
     ensures text { line.new ≡ message level.now code index line.old }
-    ensures length { length line.new ≤ length line.old + 68 }
+    ensures length { length line.new ≤ length line.old + 74 }
 {
     let i = index as usize;
     match code {
@@ -38,7 +40,7 @@ pub fn prepend_message(line: &mut TextLine, level: &Level<'_>, code: Code, index
         Code::F10 => prepend_ssector_segs(line, level, i),
         Code::F11 => prepend_child(line, level, i),
         Code::F12 => prepend_origin(line, level, i),
-        Code::F13 => line.prepend_bytes(b"named more than once, or the root and named"),
+        Code::F13 => prepend_named_twice(line, level, i),
         Code::F14 => line.prepend_bytes(b"not reached from the root"),
         Code::F15 => line.prepend_bytes(b"named more than once"),
         Code::F16 => line.prepend_bytes(b"not reached from the root"),
@@ -342,6 +344,19 @@ fn prepend_outside(line: &mut TextLine, x: &i16, y: &i16)
     prepend_spot(line, x, y);
 }
 
+// F13: the root is the last node.
+fn prepend_named_twice(line: &mut TextLine, level: &Level<'_>, i: usize)
+    requires { length line.old ≤ 44 }
+    ensures text { line.new ≡ message level.now F13 i line.old }
+    ensures length { length line.new ≤ length line.old + 68 }
+{
+    if i == level.nodes().len().saturating_sub(1) {
+        line.prepend_bytes(b"the root, and named");
+    } else {
+        line.prepend_bytes(b"named more than once");
+    }
+}
+
 // F18
 fn prepend_nodes(line: &mut TextLine, level: &Level<'_>)
     requires { length line.old ≤ 44 }
@@ -356,11 +371,25 @@ fn prepend_nodes(line: &mut TextLine, level: &Level<'_>)
 fn prepend_left_over(line: &mut TextLine, level: &Level<'_>, i: usize)
     requires { length line.old ≤ 44 }
     ensures text { line.new ≡ message level.now N2 i line.old }
-    ensures length { length line.new ≤ length line.old + 68 }
+    ensures length { length line.new ≤ length line.old + 74 }
 {
-    if let Some(left) = left_over(level, i.saturating_sub(1)) {
+    let k = i.saturating_sub(1);
+    if let Some(left) = left_over(level, k) {
         line.prepend_bytes(b" bytes left over");
         line.prepend_natural(left as u64);
+        line.prepend_bytes(b" has ");
+        prepend_usual(line, k);
+    }
+}
+
+// The usual name of a lump, counted from 0; nothing where there is none.
+fn prepend_usual(line: &mut TextLine, k: usize)
+    requires { length line.old ≤ 85 }
+    ensures text { line.new ≡ shown_name (slice_index_or usual_names k []) ++ line.old }
+    ensures length { length line.new ≤ length line.old + 32 }
+{
+    if k < 10 {
+        prepend_name(line, usual_name(k + 1));
     }
 }
 

@@ -8,7 +8,7 @@ use le_rec::Sink;
 use line_io::IoFault;
 
 /// A text in parts, each of which can be written by itself.
-pub trait Parts {
+pub trait TextParts {
     ghost use Rattle.std.specs.Prelude.{◌≡◌, ◌<◌, ℕ, List, [], false, length, slice_index_or};
     ghost use Rattle.line_io.specs.Writes.{Writes};
 
@@ -27,7 +27,7 @@ pub trait Parts {
 }
 
 /// Writes all parts, one after another.
-pub fn write_parts<P: Parts, W: Sink>(text: &P, out: &mut W) -> Result<(), IoFault>
+pub fn write_parts<P: TextParts, W: Sink>(text: &P, out: &mut W) -> Result<(), IoFault>
     requires { (W.state out.old).failed ≡ false }
     ensures { Writes (W.state out.old) (W.state out.new) (joined (P.parts text.now)) result }
 {

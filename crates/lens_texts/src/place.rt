@@ -20,7 +20,7 @@ pub struct Spot {
 
 /// Where on the map a finding lies.
 #[derive(Clone, Copy)]
-pub enum Place {
+pub enum MapPlace {
     /// It isn't known.
     Nowhere,
     At(Spot),
@@ -30,12 +30,12 @@ pub enum Place {
 }
 
 /// Where a finding lies, by the linedefs of the sidedefs.
-pub fn place_of(level: &Level<'_>, owners: &[Option<u32>], code: Code, index: u32) -> Place
+pub fn place_of(level: &Level<'_>, owners: &[Option<u32>], code: Code, index: u32) -> MapPlace
     requires { AreOwners level.now owners.now }
     ensures { result ≡ place_of level.now code index }
 {
     if code.rank() == Code::F12.rank() {
-        return Place::Nowhere;
+        return MapPlace::Nowhere;
     }
     place_at(
         level,
@@ -47,52 +47,52 @@ pub fn place_of(level: &Level<'_>, owners: &[Option<u32>], code: Code, index: u3
 
 /// Where what is of a kind and a number lies: a linedef or a seg between its vertexes, a sidedef on the first linedef that names
 /// it, an ssector where its first seg starts, a node at its origin.
-pub fn place_at(level: &Level<'_>, owners: &[Option<u32>], kind: Kind, i: usize) -> Place
+pub fn place_at(level: &Level<'_>, owners: &[Option<u32>], kind: Kind, i: usize) -> MapPlace
     requires { AreOwners level.now owners.now }
     ensures { result ≡ place_at level.now kind i }
 {
     match kind {
         Kind::Linedef => match level.linedefs().get(i) {
             Some(linedef) => between(level, &linedef.v1, &linedef.v2),
-            None => Place::Nowhere,
+            None => MapPlace::Nowhere,
         },
         Kind::Seg => match level.segs().get(i) {
             Some(seg) => between(level, &seg.v1, &seg.v2),
-            None => Place::Nowhere,
+            None => MapPlace::Nowhere,
         },
         Kind::Sidedef => match owner_of(level, owners, i) {
-            Some(linedef) => Place::OfLinedef(linedef),
-            None => Place::Nowhere,
+            Some(linedef) => MapPlace::OfLinedef(linedef),
+            None => MapPlace::Nowhere,
         },
         Kind::Ssector => match first_spot(level, i) {
-            Some(spot) => Place::At(spot),
-            None => Place::Nowhere,
+            Some(spot) => MapPlace::At(spot),
+            None => MapPlace::Nowhere,
         },
         Kind::Node => match level.nodes().get(i) {
-            Some(node) => Place::At(Spot {
+            Some(node) => MapPlace::At(Spot {
                 x: node.x,
                 y: node.y,
             }),
-            None => Place::Nowhere,
+            None => MapPlace::Nowhere,
         },
         Kind::Thing => match level.things().get(i) {
-            Some(thing) => Place::At(Spot {
+            Some(thing) => MapPlace::At(Spot {
                 x: thing.x,
                 y: thing.y,
             }),
-            None => Place::Nowhere,
+            None => MapPlace::Nowhere,
         },
-        Kind::Vertex | Kind::Sector | Kind::Lump | Kind::Block | Kind::Whole => Place::Nowhere,
+        Kind::Vertex | Kind::Sector | Kind::Lump | Kind::Block | Kind::Whole => MapPlace::Nowhere,
     }
 }
 
 // Between the vertexes that two words name.
-fn between(level: &Level<'_>, v1: &i16, v2: &i16) -> Place
+fn between(level: &Level<'_>, v1: &i16, v2: &i16) -> MapPlace
     ensures { result ≡ between level.now v1.now v2.now }
 {
     match (spot_at(level, *v1), spot_at(level, *v2)) {
-        (Some(from), Some(to)) => Place::Between(from, to),
-        _ => Place::Nowhere,
+        (Some(from), Some(to)) => MapPlace::Between(from, to),
+        _ => MapPlace::Nowhere,
     }
 }
 
@@ -107,24 +107,24 @@ fn owner_of(level: &Level<'_>, owners: &[Option<u32>], i: usize) -> Option<u32>
 }
 
 /// Puts a place before the line, as it follows a message.
-pub fn prepend_place(line: &mut TextLine, place: Place)
+pub fn prepend_place(line: &mut TextLine, place: MapPlace)
     requires { length line.old ≤ 1 }
     ensures text { line.new ≡ place_text place line.old }
     ensures length { length line.new ≤ length line.old + 43 }
 {
     match place {
-        Place::Nowhere => {}
-        Place::At(spot) => {
+        MapPlace::Nowhere => {}
+        MapPlace::At(spot) => {
             prepend_spot(line, &spot.x, &spot.y);
             line.prepend_bytes(b", at ");
         }
-        Place::Between(from, to) => {
+        MapPlace::Between(from, to) => {
             prepend_spot(line, &to.x, &to.y);
             line.prepend_bytes(b" to ");
             prepend_spot(line, &from.x, &from.y);
             line.prepend_bytes(b", from ");
         }
-        Place::OfLinedef(linedef) => {
+        MapPlace::OfLinedef(linedef) => {
             prepend_count(line, linedef as usize);
             line.prepend_bytes(b", of linedef ");
         }

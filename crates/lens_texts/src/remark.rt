@@ -4,7 +4,7 @@ ghost use Rattle.std.specs.Prelude.{◌≡◌, ◌≤◌, length};
 ghost use Rattle.lens_texts.specs.Owners.{AreOwners};
 
 use crate::message::prepend_message;
-use crate::place::{Place, place_of};
+use crate::place::{MapPlace, place_of};
 use crate::warning_message::{prepend_warning_message, warning_place};
 use level_codes::ReportCode;
 use line_io::TextLine;
@@ -42,7 +42,7 @@ impl Remark {
     }
 
     // Where it lies, by the linedefs of the sidedefs.
-    pub(crate) fn place(self, level: &Level<'_>, owners: &[Option<u32>]) -> Place
+    pub(crate) fn place(self, level: &Level<'_>, owners: &[Option<u32>]) -> MapPlace
         requires { AreOwners level.now owners.now }
         ensures { result ≡ remark_place level.now self }
     {

@@ -10,7 +10,7 @@ use crate::digits::{prepend_count, prepend_short, prepend_word};
 use crate::json_string::write_string;
 use crate::level_object::{prepend_number, write_file, write_label};
 use crate::lines::Heading;
-use crate::place::{Place, Spot};
+use crate::place::{MapPlace, Spot};
 use crate::remark::Remark;
 use le_rec::Sink;
 use level_codes::{Kind, ReportCode};
@@ -92,7 +92,7 @@ fn prepend_left(line: &mut TextLine, left: u64)
 fn write_told<W: Sink>(
     members: &[u8],
     text: &[u8],
-    place: Place,
+    place: MapPlace,
     out: &mut W,
 ) -> Result<(), IoFault>
     requires { (W.state out.old).failed ≡ false }
@@ -103,7 +103,7 @@ fn write_told<W: Sink>(
 }
 
 // Writes a message and a place, and an object's end.
-fn write_message<W: Sink>(text: &[u8], place: Place, out: &mut W) -> Result<(), IoFault>
+fn write_message<W: Sink>(text: &[u8], place: MapPlace, out: &mut W) -> Result<(), IoFault>
     requires { (W.state out.old).failed ≡ false }
     ensures { Writes (W.state out.old) (W.state out.new) (told_members text.now place) result }
 {
@@ -170,25 +170,25 @@ fn prepend_block(line: &mut TextLine, columns: u16, index: u32)
 }
 
 // `,"place":{..}`
-fn prepend_place(line: &mut TextLine, place: Place)
+fn prepend_place(line: &mut TextLine, place: MapPlace)
     requires { length line.old ≤ 2 }
     ensures { line.new ≡ place_member place line.old }
 {
     match place {
-        Place::Nowhere => {}
-        Place::At(spot) => {
+        MapPlace::Nowhere => {}
+        MapPlace::At(spot) => {
             line.prepend_bytes(b"}");
             prepend_spot(line, &spot);
             line.prepend_bytes(b",\"place\":{\"at\":");
         }
-        Place::Between(from, to) => {
+        MapPlace::Between(from, to) => {
             line.prepend_bytes(b"}");
             prepend_spot(line, &to);
             line.prepend_bytes(b",\"to\":");
             prepend_spot(line, &from);
             line.prepend_bytes(b",\"place\":{\"from\":");
         }
-        Place::OfLinedef(linedef) => {
+        MapPlace::OfLinedef(linedef) => {
             line.prepend_bytes(b"}");
             prepend_count(line, linedef as usize);
             line.prepend_bytes(b",\"place\":{\"linedef\":");

@@ -10,7 +10,7 @@ ghost use Rattle.lens_texts.specs.WarningMessage.{vertex_place, warning_message,
 
 use crate::digits::{prepend_count, prepend_word};
 use crate::label::prepend_name;
-use crate::place::{Place, Spot, place_at};
+use crate::place::{MapPlace, Spot, place_at};
 use le_rec::{Name8, Sector};
 use level_codes::ReportCode;
 use line_io::TextLine;
@@ -168,7 +168,7 @@ fn prepend_numbered(line: &mut TextLine, words: &[u8], number: u32)
 }
 
 /// Where a warning lies, by the linedefs of the sidedefs.
-pub fn warning_place(level: &Level<'_>, owners: &[Option<u32>], warning: Warning) -> Place
+pub fn warning_place(level: &Level<'_>, owners: &[Option<u32>], warning: Warning) -> MapPlace
     requires { AreOwners level.now owners.now }
     ensures { result ≡ warning_place level.now warning }
 {
@@ -182,14 +182,14 @@ pub fn warning_place(level: &Level<'_>, owners: &[Option<u32>], warning: Warning
 }
 
 // Where a vertex is.
-fn vertex_place(level: &Level<'_>, i: u32) -> Place
+fn vertex_place(level: &Level<'_>, i: u32) -> MapPlace
     ensures { result ≡ vertex_place level.now i }
 {
     match level.vertexes().get(i as usize) {
-        Some(vertex) => Place::At(Spot {
+        Some(vertex) => MapPlace::At(Spot {
             x: vertex.x,
             y: vertex.y,
         }),
-        None => Place::Nowhere,
+        None => MapPlace::Nowhere,
     }
 }

@@ -10,7 +10,7 @@ use Rattle.std.proofs.lemmas.List.FromFn.{get_or-range_with_len}
 use Rattle.map_level.specs.Findings.{is_fault, rank}
 use Rattle.map_level.specs.declared.finding.Code.{Code}
 use Rattle.map_level.specs.declared.finding.Code.TheVariants.{F1}
-use Rattle.level_codes.specs.Codes.{CodeRow, class_of, code_at, code_name, code_rank, code_table, no_row, row_at, text_of, view_of, warning_rank}
+use Rattle.level_codes.specs.Codes.{CodeRow, class_of, code_at, code_name, code_rank, code_table, no_row, row_at, small, text_of, view_of, warning_rank}
 use Rattle.level_codes.specs.declared.code.ReportCode.{ReportCode}
 use Rattle.level_codes.specs.declared.code.ReportCode.TheVariants.{Finding, Warning}
 use Rattle.level_codes.specs.declared.code.WarningCode.{WarningCode}
@@ -121,3 +121,20 @@ pub warning_class : (code : WarningCode) → class_of (Warning code) ≡ class.W
 unfolding code_table
 warning_class W1 = refl
 warning_class _ = refl
+
+-- the first code of some rows that is printed so but for the size of its letters
+abbrev code_spelled : List ℕ → List CodeRow → Option ReportCode
+code_spelled word [] = None
+code_spelled word (row ∷ rows) = if pointwise nat_eq (small row.name) word then Some row.code else code_spelled word rows
+
+spelled-name : (code : ReportCode) → code_spelled (small (code_name code)) code_table ≡ Some code
+unfolding code_table
+spelled-name (Finding F1) = refl
+spelled-name (Finding _) = refl
+spelled-name (Warning W1) = refl
+spelled-name (Warning _) = refl
+
+-- two codes that are printed alike in small letters are one
+pub same_from_small : (a b : ReportCode) → small (code_name a) ≡ small (code_name b) → a ≡ b
+same_from_small a b same =
+    let e : Some a ≡ Some b = sym (spelled-name a) ∙ ap (λ word. code_spelled word code_table) same ∙ spelled-name b in cc

@@ -1,1 +1,3 @@
 pub mod CodeLemmas
+pub mod ExplanationLemmas
+pub mod SetLemmas

@@ -1,5 +1,6 @@
 -- The table of all codes (ours): names, classes, what each is found at and wants of a level, and what it says.
-use Rattle.std.specs.Prelude.{Bool, false, ℕ, ◌+◌, List, [], ◌∷◌, codes, drop, map, slice_index_or, take}
+use Rattle.std.specs.Prelude.{Bool, false, true, ℕ, ◌+◌, List, [], ◌∷◌, codes, drop, map, slice_index_or, take}
+use Rattle.std.specs.Char.{to_ascii_lowercase}
 use Rattle.map_level.specs.Findings.{is_fault, rank}
 use Rattle.map_level.specs.declared.finding.Code.{Code}
 use Rattle.map_level.specs.declared.finding.Code.TheVariants.{F1, F2, F3, F4, F5, F6, F7, F8, F9, F10, F11, F12, F13, F14, F15, F16, F17, F18, N1, N2, N3, N4, N5, N6, N7, N8, N9, N10, N11, N12}
@@ -22,6 +23,7 @@ pub record CodeRow : Type 0 where
   pub class : Class
   pub kind : Kind
   pub wants : Wants
+  pub ends_game : Bool
   pub text : List ℕ
   pub meaning : List ℕ
 
@@ -33,21 +35,28 @@ view_of row = record {
   class = row.class;
   kind = row.kind;
   wants = row.wants;
+  ends_game = row.ends_game;
   text = row.text.now;
   meaning = row.meaning.now;
 }
 
 -- that of a fault, of a note and of a warning; a finding wants no more of a level than its ten lumps
 abbrev pub fault : Code → List ℕ → Kind → List ℕ → List ℕ → CodeRow
-fault c n k t m = record { code = code.Finding c; name = n; class = class.Fault; kind = k; wants = Lumps; text = t; meaning = m }
+fault c n k t m = record { code = code.Finding c; name = n; class = class.Fault; kind = k; wants = Lumps; ends_game = false; text = t; meaning = m }
 
 abbrev pub note : Code → List ℕ → Kind → List ℕ → List ℕ → CodeRow
-note c n k t m = record { code = code.Finding c; name = n; class = class.Note; kind = k; wants = Lumps; text = t; meaning = m }
+note c n k t m = record { code = code.Finding c; name = n; class = class.Note; kind = k; wants = Lumps; ends_game = false; text = t; meaning = m }
 
 abbrev pub warning : WarningCode → List ℕ → Kind → Wants → List ℕ → List ℕ → CodeRow
-warning c n k w t m = record { code = code.Warning c; name = n; class = class.Warning; kind = k; wants = w; text = t; meaning = m }
+warning c n k w t m = record { code = code.Warning c; name = n; class = class.Warning; kind = k; wants = w; ends_game = false; text = t; meaning = m }
 
--- all codes, in the order of a report
+-- a row whose code ends the game
+abbrev pub ends : CodeRow → CodeRow
+ends row = record row { ends_game = true }
+
+-- all codes, in the order of a report; the released game ends where a linedef has no front sidedef (P_GroupLines of p_setup.c), where player 1 has no start
+-- (P_PlayerThink of p_user.c), at a texture or a flat that isn't there (R_TextureNumForName, R_FlatNumForName of r_data.c), and at a thing of no known type
+-- (P_SpawnMapThing of p_mobj.c)
 unfoldable pub code_table : List CodeRow
 code_table =
     fault F1 (codes "F1") Lump (codes "lump missing after the label") (codes "a lump isn't there behind the label")
@@ -71,14 +80,14 @@ code_table =
     ∷ note N1 (codes "N1") Lump (codes "lump name differs") (codes "a lump's name isn't the usual one")
     ∷ note N2 (codes "N2") Lump (codes "bytes left over") (codes "a lump has bytes left over")
     ∷ note N3 (codes "N3") Linedef (codes "two-sided flag without side 1") (codes "a linedef is two-sided, without a back sidedef")
-    ∷ note N4 (codes "N4") Linedef (codes "no side 0") (codes "a linedef is without a front sidedef")
+    ∷ ends (note N4 (codes "N4") Linedef (codes "no side 0") (codes "a linedef is without a front sidedef"))
     ∷ note N5 (codes "N5") Linedef (codes "linedef of no length") (codes "a linedef is without length")
     ∷ note N6 (codes "N6") Ssector (codes "ssector without segs") (codes "an ssector is without segs")
     ∷ note N7 (codes "N7") Node (codes "partition without direction") (codes "a node is without direction")
     ∷ note N8 (codes "N8") Whole (codes "REJECT size") (codes "REJECT hasn't as many bytes as are wanted")
     ∷ note N9 (codes "N9") Whole (codes "BLOCKMAP short") (codes "BLOCKMAP hasn't as many words as are wanted")
     ∷ note N10 (codes "N10") Block (codes "block list faulty") (codes "a block's list isn't inside BLOCKMAP, or has no end")
-    ∷ note N11 (codes "N11") Whole (codes "no player 1 start") (codes "the level has no player 1 start")
+    ∷ ends (note N11 (codes "N11") Whole (codes "no player 1 start") (codes "the level has no player 1 start"))
     ∷ note N12 (codes "N12") Vertex (codes "vertex out of range") (codes "a vertex is outside -16384 to 16383")
     ∷ warning W1 (codes "W1") Sector References (codes "sector not closed") (codes "a sector isn't closed: its outline has a gap or an extra line")
     ∷ warning W2 (codes "W2") Linedef References (codes "wall without texture") (codes "a texture that is seen is missing")
@@ -88,9 +97,9 @@ code_table =
     ∷ warning W6 (codes "W6") Linedef References (codes "linedef on another") (codes "a linedef lies on another")
     ∷ warning W7 (codes "W7") Whole References (codes "no start of players 2 to 4") (codes "a start of players 2 to 4 is missing")
     ∷ warning W8 (codes "W8") Whole References (codes "fewer than 4 deathmatch starts") (codes "the level has fewer than 4 deathmatch starts")
-    ∷ warning W9 (codes "W9") Sidedef Textures (codes "texture not there") (codes "a texture isn't there: neither TEXTURE1 nor TEXTURE2 lists it")
-    ∷ warning W10 (codes "W10") Sector Flats (codes "flat not there") (codes "a flat isn't there: no entry has its name")
-    ∷ warning W11 (codes "W11") Thing References (codes "thing of no known type") (codes "a thing's type is none of the game's")
+    ∷ ends (warning W9 (codes "W9") Sidedef Textures (codes "texture not there") (codes "a texture isn't there: neither TEXTURE1 nor TEXTURE2 lists it"))
+    ∷ ends (warning W10 (codes "W10") Sector Flats (codes "flat not there") (codes "a flat isn't there: no entry has its name"))
+    ∷ ends (warning W11 (codes "W11") Thing References (codes "thing of no known type") (codes "a thing's type is none of the game's"))
     ∷ []
 
 -- all codes in their order, those of findings, and those of warnings
@@ -138,6 +147,10 @@ row_at k = slice_index_or code_table k no_row
 abbrev pub code_at : ℕ → ReportCode
 code_at k = (row_at k).code
 
+-- a word in small letters
+abbrev pub small : List ℕ → List ℕ
+small word = map to_ascii_lowercase word
+
 -- what stands in a code's row
 abbrev pub code_name : ReportCode → List ℕ
 code_name c = (row_at (code_rank c)).name
@@ -156,3 +169,7 @@ text_of c = (row_at (code_rank c)).text
 
 abbrev pub meaning_of : ReportCode → List ℕ
 meaning_of c = (row_at (code_rank c)).meaning
+
+-- whether the released game ends at it
+abbrev pub ends_game : ReportCode → Bool
+ends_game c = (row_at (code_rank c)).ends_game

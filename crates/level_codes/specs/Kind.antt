@@ -1,7 +1,10 @@
--- How a class of codes and what a code is found at are written (ours).
-use Rattle.std.specs.Prelude.{ℕ, List, codes}
+-- How a class of codes and what a code is found at are written, and whether a level has what a code wants (ours).
+use Rattle.std.specs.Prelude.{ℕ, Bool, true, ◌&&◌, List, codes}
 use Rattle.level_codes.specs.declared.kind.Class.{Class}
 use Rattle.level_codes.specs.declared.kind.Class.TheVariants.{Fault, Note, Warning}
+use Rattle.level_codes.specs.declared.kind.Offer.{Offer}
+use Rattle.level_codes.specs.declared.kind.Wants.{Wants}
+use Rattle.level_codes.specs.declared.kind.Wants.TheVariants.{Lumps, References, Soundness, Textures, Flats}
 use Rattle.level_codes.specs.declared.kind.Kind.{Kind}
 use Rattle.level_codes.specs.declared.kind.Kind.TheVariants.{Linedef, Sidedef, Vertex, Seg, Ssector, Node, Sector, Thing, Lump, Block, Whole}
 
@@ -24,3 +27,11 @@ kind_name Thing = codes "thing"
 kind_name Lump = codes "lump"
 kind_name Block = codes "block"
 kind_name Whole = codes "level"
+
+-- whether what is wanted is among what a level has
+abbrev pub are_met : Offer → Wants → Bool
+are_met offer Lumps = true
+are_met offer References = offer.references
+are_met offer Soundness = offer.soundness
+are_met offer Textures = offer.references && offer.textures
+are_met offer Flats = offer.references && offer.flats

@@ -1,9 +1,10 @@
 -- Laws of the table (ours).
-use Rattle.std.specs.Prelude.{◌≡◌, ℕ, ◌+◌, ◌-◌, ◌<◌, ◌++◌, codes, if◌then◌else◌}
+use Rattle.std.specs.Prelude.{◌≡◌, true, ℕ, ◌+◌, ◌-◌, ◌<◌, ◌++◌, codes, if◌then◌else◌}
 use Rattle.std.specs.Fmt.{decimal}
 use Rattle.map_level.specs.Findings.{is_fault, rank}
 use Rattle.map_level.specs.declared.finding.Code.{Code}
 use Rattle.level_codes.specs.Codes.{class_of, code_at, code_name, code_rank, warning_rank}
+use Rattle.level_codes.specs.Explanations.{explanation_of, fits_screen}
 use Rattle.level_codes.specs.declared.code.ReportCode.{ReportCode}
 use Rattle.level_codes.specs.declared.code.ReportCode.TheVariants.{Finding, Warning}
 use Rattle.level_codes.specs.declared.code.WarningCode.{WarningCode}
@@ -32,3 +33,7 @@ pub record NamesAreNumbered : Type 0 where
 pub record ClassesAreOfTheCodes : Type 0 where
   pub finding : (code : Code) → class_of (Finding code) ≡ (if is_fault code then class.Fault else class.Note)
   pub warning : (code : WarningCode) → class_of (Warning code) ≡ class.Warning
+
+-- each code is told in at most eight lines of 80 columns, the one of its name among them
+abbrev pub ExplanationsFitScreen : Type 0
+ExplanationsFitScreen = (code : ReportCode) → fits_screen (explanation_of code) ≡ true

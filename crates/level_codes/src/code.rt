@@ -1,10 +1,12 @@
 //! The codes of a report.
 
-ghost use Rattle.std.specs.Prelude.{◌≡◌, ◌<◌, ◌≤◌, ◌↔◌, Some, length};
-ghost use Rattle.level_codes.specs.Codes.{class_of, code_at, code_name, code_rank, is_fault_code, kind_of, meaning_of, row_at, text_of, view_of, wants_of, warning_rank};
+ghost use Rattle.std.specs.Prelude.{◌≡◌, ◌<◌, ◌≤◌, ◌↔◌, IsTrue, Some, length};
+ghost use Rattle.level_codes.specs.Explanations.{explained_of, explanation_of};
+ghost use Rattle.level_codes.specs.Codes.{class_of, code_at, code_name, code_rank, ends_game, is_fault_code, kind_of, meaning_of, row_at, small, text_of, view_of, wants_of, warning_rank};
 ghost use Rattle.level_codes.specs.declared.code.ReportCode.{ReportCode};
 ghost use Rattle.level_codes.specs.declared.table.TheConstants.{REPORT_COUNT};
 
+use crate::explanation::{Explanation, explanation_at};
 use crate::kind::{Class, Kind, Wants};
 use crate::table::{REPORT_COUNT, Row, row_at};
 use map_level::Code;
@@ -93,6 +95,19 @@ impl ReportCode {
         None
     }
 
+    /// The code that a word of a command line is, in capital or small letters.
+    pub fn from_word(word: &[u8]) -> Option<ReportCode>
+        ensures { (code : ReportCode) → (result ≡ Some code) ↔ (small (code_name code) ≡ small word.now) }
+    {
+        for rank in 0..REPORT_COUNT {
+            let row = row_at(rank);
+            if is_spelled(row.name, word) {
+                return Some(row.code);
+            }
+        }
+        None
+    }
+
     /// The code as it is printed: two bytes or three.
     pub fn name(self) -> &'static [u8]
         ensures name { result.now ≡ code_name self }
@@ -132,6 +147,13 @@ impl ReportCode {
         self.row().wants
     }
 
+    /// Whether the released game ends at it, or writes where nothing of its own is. Not told of faults.
+    pub fn ends_game(self) -> bool
+        ensures { result ≡ ends_game self }
+    {
+        self.row().ends_game
+    }
+
     /// What it says, in few words.
     pub fn text(self) -> &'static [u8]
         ensures text { result.now ≡ text_of self }
@@ -146,4 +168,17 @@ impl ReportCode {
     {
         self.row().meaning
     }
+    /// What it means to a mapper.
+    pub fn explanation(self) -> &'static Explanation
+        ensures { explained_of result.now ≡ explanation_of self }
+    {
+        explanation_at(self.rank())
+    }
+}
+
+// Whether a word is a name, in capital or small letters.
+fn is_spelled(name: &[u8], word: &[u8]) -> bool
+    ensures { IsTrue result ↔ (small name.now ≡ small word.now) }
+{
+    name.eq_ignore_ascii_case(word)
 }

@@ -1,7 +1,7 @@
 //! What the table says of a code beside its texts.
 
 ghost use Rattle.std.specs.Prelude.{◌≡◌, ◌≤◌, length};
-ghost use Rattle.level_codes.specs.Kind.{class_name, kind_name};
+ghost use Rattle.level_codes.specs.Kind.{are_met, class_name, kind_name};
 
 /// How grave a code is.
 #[derive(Clone, Copy, Debug, PartialEq, Eq)]
@@ -82,4 +82,30 @@ pub enum Wants {
     Textures,
     /// References that hold, in files that list flats.
     Flats,
+}
+
+/// What a level has of all that codes want.
+#[derive(Clone, Copy, Debug, PartialEq, Eq)]
+pub struct Offer {
+    pub references: bool,
+    pub soundness: bool,
+    /// Its files list textures.
+    pub textures: bool,
+    /// Its files list flats.
+    pub flats: bool,
+}
+
+impl Wants {
+    /// Whether a level has what is wanted.
+    pub fn are_met(self, offer: Offer) -> bool
+        ensures { result ≡ are_met offer self }
+    {
+        match self {
+            Wants::Lumps => true,
+            Wants::References => offer.references,
+            Wants::Soundness => offer.soundness,
+            Wants::Textures => offer.references && offer.textures,
+            Wants::Flats => offer.references && offer.flats,
+        }
+    }
 }

@@ -2,10 +2,14 @@
 #![tactic(auto)]
 
 mod code;
+mod explanation;
 mod kind;
 pub mod laws;
+mod set;
 mod table;
 
 pub use code::{ReportCode, WarningCode};
-pub use kind::{Class, Kind, Wants};
+pub use explanation::Explanation;
+pub use kind::{Class, Kind, Offer, Wants};
+pub use set::{CodeSet, Group};
 pub use table::REPORT_COUNT;

@@ -21,6 +21,8 @@ pub struct Row {
     pub kind: Kind,
     /// What the level has to have so that the code is looked for.
     pub wants: Wants,
+    /// Whether the released game ends at it, or writes where nothing of its own is. Of a fault it isn't told.
+    pub ends_game: bool,
     /// What the code says, in few words: of a finding those of `wadlook audit`.
     pub text: &'static [u8],
     /// The same as a sentence, without its capital and its full stop.
@@ -35,6 +37,7 @@ macro_rules! fault {
             class: Class::Fault,
             kind: Kind::$kind,
             wants: Wants::Lumps,
+            ends_game: false,
             text: $text,
             meaning: $meaning,
         }
@@ -49,6 +52,7 @@ macro_rules! note {
             class: Class::Note,
             kind: Kind::$kind,
             wants: Wants::Lumps,
+            ends_game: false,
             text: $text,
             meaning: $meaning,
         }
@@ -63,8 +67,19 @@ macro_rules! warning {
             class: Class::Warning,
             kind: Kind::$kind,
             wants: Wants::$wants,
+            ends_game: false,
             text: $text,
             meaning: $meaning,
+        }
+    };
+}
+
+// A row whose code ends the game.
+macro_rules! ends_game {
+    ($row:expr) => {
+        Row {
+            ends_game: true,
+            ..$row
         }
     };
 }
@@ -92,14 +107,14 @@ const TABLE: [Row; REPORT_COUNT] = [
     note! { N1, b"N1", Lump, b"lump name differs", b"a lump's name isn't the usual one" },
     note! { N2, b"N2", Lump, b"bytes left over", b"a lump has bytes left over" },
     note! { N3, b"N3", Linedef, b"two-sided flag without side 1", b"a linedef is two-sided, without a back sidedef" },
-    note! { N4, b"N4", Linedef, b"no side 0", b"a linedef is without a front sidedef" },
+    ends_game! { note! { N4, b"N4", Linedef, b"no side 0", b"a linedef is without a front sidedef" } },
     note! { N5, b"N5", Linedef, b"linedef of no length", b"a linedef is without length" },
     note! { N6, b"N6", Ssector, b"ssector without segs", b"an ssector is without segs" },
     note! { N7, b"N7", Node, b"partition without direction", b"a node is without direction" },
     note! { N8, b"N8", Whole, b"REJECT size", b"REJECT hasn't as many bytes as are wanted" },
     note! { N9, b"N9", Whole, b"BLOCKMAP short", b"BLOCKMAP hasn't as many words as are wanted" },
     note! { N10, b"N10", Block, b"block list faulty", b"a block's list isn't inside BLOCKMAP, or has no end" },
-    note! { N11, b"N11", Whole, b"no player 1 start", b"the level has no player 1 start" },
+    ends_game! { note! { N11, b"N11", Whole, b"no player 1 start", b"the level has no player 1 start" } },
     note! { N12, b"N12", Vertex, b"vertex out of range", b"a vertex is outside -16384 to 16383" },
     warning! { W1, b"W1", Sector, References, b"sector not closed", b"a sector isn't closed: its outline has a gap or an extra line" },
     warning! { W2, b"W2", Linedef, References, b"wall without texture", b"a texture that is seen is missing" },
@@ -109,9 +124,9 @@ const TABLE: [Row; REPORT_COUNT] = [
     warning! { W6, b"W6", Linedef, References, b"linedef on another", b"a linedef lies on another" },
     warning! { W7, b"W7", Whole, References, b"no start of players 2 to 4", b"a start of players 2 to 4 is missing" },
     warning! { W8, b"W8", Whole, References, b"fewer than 4 deathmatch starts", b"the level has fewer than 4 deathmatch starts" },
-    warning! { W9, b"W9", Sidedef, Textures, b"texture not there", b"a texture isn't there: neither TEXTURE1 nor TEXTURE2 lists it" },
-    warning! { W10, b"W10", Sector, Flats, b"flat not there", b"a flat isn't there: no entry has its name" },
-    warning! { W11, b"W11", Thing, References, b"thing of no known type", b"a thing's type is none of the game's" },
+    ends_game! { warning! { W9, b"W9", Sidedef, Textures, b"texture not there", b"a texture isn't there: neither TEXTURE1 nor TEXTURE2 lists it" } },
+    ends_game! { warning! { W10, b"W10", Sector, Flats, b"flat not there", b"a flat isn't there: no entry has its name" } },
+    ends_game! { warning! { W11, b"W11", Thing, References, b"thing of no known type", b"a thing's type is none of the game's" } },
 ];
 
 // The rows.

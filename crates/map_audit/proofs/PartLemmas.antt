@@ -6,7 +6,7 @@ use Rattle.map_level.specs.Findings.{IsFirst}
 use Rattle.map_level.specs.declared.finding.Code.{Code}
 use Rattle.map_level.specs.declared.finding.Code.TheVariants.{F11, F12, F13, F14, F15, F16, N7, N8, N9, N10}
 use Rattle.map_audit.specs.Findings.{AuditHolds, part_of, PartHolds}
-use Rattle.map_audit.specs.declared.auditing.Part.{Part}
+use Rattle.map_audit.specs.declared.auditing.LevelPart.{LevelPart}
 
 -- one of three that can hold
 first_alone : {A B C : Type 0} → ¬ B → ¬ C → A ⊎ (B ⊎ C) ↔ A
@@ -33,9 +33,9 @@ by_part level N10 i = third_alone (λ h. h) (λ h. h)
 by_part level _ i = first_alone (λ h. h) (λ h. h)
 
 -- what a part finds first is what is found first
-module _ (level : Level) (code : Code) (part : Part) (is : part ≡ part_of code) where
+module _ (level : Level) (code : Code) (part : LevelPart) (is : part ≡ part_of code) where
   both : (i : ℕ) → AuditHolds level code i ↔ PartHolds part level code i
-  both i = subst (λ (p : Part). AuditHolds level code i ↔ PartHolds p level code i) (sym is) (by_part level code i)
+  both i = subst (λ (p : LevelPart). AuditHolds level code i ↔ PartHolds p level code i) (sym is) (by_part level code i)
 
   pub first_by_part : (from : ℕ) (found : Option ℕ) → IfSome found (IsFirst (PartHolds part level code) from)
       → IfSome found (IsFirst (AuditHolds level code) from)

@@ -63,30 +63,30 @@ impl<'l, 'a, A: Allocator> Searched for Parts<'l, 'a, A> {
 impl<'l, 'a, A: Allocator> Search for Parts<'l, 'a, A> {
     fn first(&self, code: Code, from: u32) -> Option<u32> {
         match part_of(code) {
-            Part::Links => self.links.first(code, from),
-            Part::Nodes => self.nodes.first(code, from),
-            Part::Tables => self.tables.first(code, from),
+            LevelPart::Links => self.links.first(code, from),
+            LevelPart::Nodes => self.nodes.first(code, from),
+            LevelPart::Tables => self.tables.first(code, from),
         }
     }
 }
 
 // What looks for a code.
 #[derive(Clone, Copy)]
-enum Part {
+enum LevelPart {
     Links,
     Nodes,
     Tables,
 }
 
 // The part that looks for a code. The links' looks for F1 and F2, too, which hold of no level.
-fn part_of(code: Code) -> Part
+fn part_of(code: Code) -> LevelPart
     ensures { result ≡ part_of code }
 {
     match code {
         Code::F11 | Code::F12 | Code::F13 | Code::F14 | Code::F15 | Code::F16 | Code::N7 => {
-            Part::Nodes
+            LevelPart::Nodes
         }
-        Code::N8 | Code::N9 | Code::N10 => Part::Tables,
-        _ => Part::Links,
+        Code::N8 | Code::N9 | Code::N10 => LevelPart::Tables,
+        _ => LevelPart::Links,
     }
 }

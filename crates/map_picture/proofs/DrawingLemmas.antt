@@ -24,6 +24,8 @@ use Rattle.map_picture.specs.Counts.{CountsFindings}
 use Rattle.map_picture.specs.Drawing.{AreSectorsOf, HasNothing, IsAuditedDrawn, IsAuditedText, IsDrawn, IsFrameOf, IsPicture, IsSectorOf, StopsText, TakesWhole}
 use Rattle.map_picture.specs.Listing.{AreListed, IsListed}
 use Rattle.map_picture.specs.Picture.{picture_text}
+use Rattle.map_picture.specs.WarningMarks.{AreMarkedFor}
+use Rattle.map_warnings.specs.declared.warning.Warning.{Warning}
 use Rattle.map_picture.specs.declared.draw.TextFault.{TextFault}
 use Rattle.map_picture.specs.declared.draw.View.{View}
 use Rattle.map_picture.specs.declared.finding_counts.FindingCounts.{FindingCounts}
@@ -72,34 +74,36 @@ stops_as state P Q out out' fault.Write turns stops =
     record { text = stops.text; is = turns stops.text stops.is; front = stops.front; failed = stops.failed }
 
 -- the picture by the sectors that the cells show
-pub drawn_by : (level : Level) (cells : Cells) (grid : Grid) (shown seen : List SectorCells)
+pub drawn_by : (level : Level) (cells : Cells) (grid : Grid) (shown seen : List SectorCells) (marked : List Warning)
     → IsSound level → AreCells level cells → grid ≡ cells.grid → seen ≡ shown → AreSectorsOf cells shown
-    → (text : List ℕ) → IsAuditedText level grid seen text → IsAuditedDrawn level cells.grid text
-drawn_by level cells grid shown seen sound are over same sectors text by = record {
+    → (text : List ℕ) → IsAuditedText level grid seen marked text → IsAuditedDrawn level cells.grid marked text
+drawn_by level cells grid shown seen marked sound are over same sectors text by = record {
   found = by.found;
   audited = by.audited;
   drawn = record {
     shown = shown;
     shows = inl (sound, record { cells = cells; over = refl; are = are; sectors = sectors });
     is =
-        subst (λ (xs : List SectorCells). text ≡ picture_text level by.found cells.grid.frame cells.grid.size xs) same
-        (subst (λ (g : Grid). text ≡ picture_text level by.found g.frame g.size seen) over by.is);
+        subst (λ (xs : List SectorCells). text ≡ picture_text level by.found cells.grid.frame cells.grid.size xs marked) same
+        (subst (λ (g : Grid). text ≡ picture_text level by.found g.frame g.size seen marked) over by.is);
   };
 }
 
 -- the picture of a level that isn't sound
-pub drawn_bare : (level : Level) (grid : Grid) → ¬ IsSound level → (text : List ℕ) → IsAuditedText level grid [] text → IsAuditedDrawn level grid text
-drawn_bare level grid broken text by = record {
+pub drawn_bare : (level : Level) (grid : Grid) (marked : List Warning) → ¬ IsSound level
+    → (text : List ℕ) → IsAuditedText level grid [] marked text → IsAuditedDrawn level grid marked text
+drawn_bare level grid marked broken text by = record {
   found = by.found;
   audited = by.audited;
   drawn = record { shown = []; shows = inr (broken, refl); is = by.is };
 }
 
 -- the picture in the frame that is asked for, by cells of the size that is
-pub drawn_as_asked : (level counted : Level) (asked : View) (frame : Frame) (grid : Grid) → counted ≡ level → IsFrameOf level asked.frame frame
-    → grid.frame ≡ frame → IsSize frame asked.cells grid.size → (text : List ℕ) → IsAuditedDrawn counted grid text → IsPicture level asked text
-drawn_as_asked level counted asked frame grid same framed over sized text drawn =
-    let here = subst (λ (l : Level). IsAuditedDrawn l grid text) same drawn in
+pub drawn_as_asked : (level counted : Level) (asked : View) (frame : Frame) (grid : Grid) (seen marked : List Warning) → counted ≡ level
+    → IsFrameOf level asked.frame frame → grid.frame ≡ frame → IsSize frame asked.cells grid.size → seen ≡ marked → AreMarkedFor asked.warnings level marked
+    → (text : List ℕ) → IsAuditedDrawn counted grid seen text → IsPicture level asked text
+drawn_as_asked level counted asked frame grid seen marked same framed over sized is marks text drawn =
+    let here = subst (λ (l : Level). IsAuditedDrawn l grid seen text) same drawn in
     record {
       found = here.found;
       audited = here.audited;
@@ -107,7 +111,9 @@ drawn_as_asked level counted asked frame grid same framed over sized text drawn 
       framed = framed;
       size = grid.size;
       sized = sized;
-      drawn = subst (λ f. IsDrawn level here.found (grid_at f grid.size) text) over here.drawn;
+      marked = seen;
+      marks = subst (AreMarkedFor asked.warnings level) (sym is) marks;
+      drawn = subst (λ f. IsDrawn level here.found (grid_at f grid.size) seen text) over here.drawn;
     }
 
 -- what one thing that is seen adds to a count

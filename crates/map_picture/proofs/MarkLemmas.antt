@@ -14,7 +14,7 @@ use Rattle.map_level.specs.Level.{Level}
 use Rattle.map_level.specs.declared.finding.Code.{Code}
 use Rattle.map_level.specs.declared.finding.Finding.{Finding}
 use Rattle.map_level.specs.declared.search.TheConstants.{CODE_COUNT}
-use Rattle.map_picture.specs.Marks.{code_marks, code_part, ends_of, mark_line, mark_part, marked_by, marks}
+use Rattle.map_picture.specs.Marks.{code_marks, code_part, mark_line, mark_part, marked_by, marks, shape_of}
 use Rattle.lens_texts.specs.Parts.{joined}
 use Rattle.map_picture.specs.declared.marks.Marked.{Marked}
 use Rattle.map_picture.specs.declared.marks.Marked.TheVariants.{Nothing}
@@ -128,7 +128,7 @@ module _ (level : Level) where
       no_texts (code_part level code) found (λ f there. elim (cases_eq (rank f.code) (rank code)) [
         | inl same ↦
             of_code code f same
-            ∙ ap (λ (m : Marked). option_map_or (mark_line f) (ends_of level m f.index) []) (ap marked_by (same_from_rank f.code code same) ∙ nothing)
+            ∙ ap (λ (m : Marked). option_map_or (mark_line f) (shape_of level m f.index) []) (ap marked_by (same_from_rank f.code code same) ∙ nothing)
         | inr differs ↦ of_other code f differs
       ])
 

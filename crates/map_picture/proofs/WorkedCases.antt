@@ -1,7 +1,7 @@
 -- The texts of a picture, computed on the sample level and on small ones: each is what stands here.
 use Rattle.std.proofs.Common.{◌≡◌, ℕ, ℤ, pos, negsuc, true, false, List, [], ◌∷◌, ◌++◌, refl}
 use Rattle.std.specs.Fmt.{digits}
-use Rattle.std.specs.Prelude.{codes}
+use Rattle.std.specs.Prelude.{codes, map}
 use Rattle.le_rec.specs.Table.{Rows}
 use Rattle.le_rec.specs.declared.records.LineDef.{LineDef}
 use Rattle.le_rec.specs.declared.records.Seg.{Seg}
@@ -11,15 +11,22 @@ use Rattle.map_level.specs.Level.{Level}
 use Rattle.map_level.specs.declared.finding.Code.TheVariants.{F3, F4, F7, F9, F17, N3, N5, N11}
 use Rattle.map_level.specs.declared.reading.Reading.{Reading}
 use Rattle.map_level.specs.declared.reading.Reading.TheVariants.{Signed, Wide}
+use Rattle.level_codes.specs.Codes.{code_table}
 use Rattle.map_cells.specs.Frame.{frame_at}
+use Rattle.map_picture.specs.Class.{class_of}
+use Rattle.map_picture.specs.declared.class.Class.TheVariants.{Start, Monster, Weapon, Key, Other}
 use Rattle.map_picture.specs.Grey.{grey, shade}
 use Rattle.map_picture.specs.Head.{ground_line, svg_line, title_line}
 use Rattle.map_picture.specs.Lines.{lines_line}
 use Rattle.map_picture.specs.Marks.{marks}
 use Rattle.map_picture.specs.Picture.{picture_text}
 use Rattle.map_picture.specs.Sectors.{sector_line}
-use Rattle.map_picture.specs.Things.{things_lines}
+use Rattle.map_picture.specs.Things.{things_lines, turn_of}
+use Rattle.map_picture.specs.WarningMarks.{warning_marks}
 use Rattle.map_picture.specs.Window.{window_of}
+use Rattle.map_warnings.specs.declared.warning.Part.TheVariants.{Upper}
+use Rattle.map_warnings.specs.declared.warning.Side.TheVariants.{Back}
+use Rattle.map_warnings.specs.declared.warning.Warning.TheVariants.{Unclosed, Bare, InVoid, Untagged, Twin, UnknownThing}
 use Rattle.map_picture.specs.declared.sectors.SectorCells.{SectorCells}
 
 abbrev rows : {R : Type 0} → List R → Rows R
@@ -73,13 +80,13 @@ walls reading =
     ∷ line (pos 0) (pos 2) (pos 0) (negsuc 0) ∷ line (negsuc 0) (pos 0) (pos 0) (pos 0) ∷ [])
     reading
 
-sample_svg : svg_line (window_of (frame_at (pos 0) (pos 0) (pos 0) (pos 64))) ≡ codes "<svg xmlns=\"http://www.w3.org/2000/svg\" viewBox=\"-32 -96 64 128\">\n"
+sample_svg : svg_line (window_of (frame_at (pos 0) (pos 0) (pos 0) (pos 64))) ≡ codes "<svg xmlns=\"http://www.w3.org/2000/svg\" viewBox=\"-32 -96 64 128\" width=\"512\" height=\"1024\">\n"
 unfolding digits
 sample_svg = refl
 
 -- the widest frame there is
 wide_svg : svg_line (window_of (frame_at (negsuc 32767) (negsuc 32767) (pos 32767) (pos 32767)))
-    ≡ codes "<svg xmlns=\"http://www.w3.org/2000/svg\" viewBox=\"-32800 -32799 65599 65599\">\n"
+    ≡ codes "<svg xmlns=\"http://www.w3.org/2000/svg\" viewBox=\"-32800 -32799 65599 65599\" width=\"1024\" height=\"1024\">\n"
 unfolding digits
 wide_svg = refl
 
@@ -130,36 +137,65 @@ one_sided_wide : lines_line (walls Wide) false ≡ codes "<path class=\"w\" d=\"
 unfolding digits
 one_sided_wide = refl
 
--- linedef 3 and seg 2 have no end; F17 is found at no line
+-- linedef 3 has a start alone, at which a ring is drawn, linedef 4 an end alone; seg 2 has no end; F17 is found at no line
 some_marks :
     marks (walls Signed)
-    (record { code = F3; index = 3 } ∷ record { code = F4; index = 1 } ∷ record { code = F7; index = 1 } ∷ record { code = F9; index = 2 }
+    (record { code = F3; index = 3 } ∷ record { code = F3; index = 4 } ∷ record { code = F3; index = 1 } ∷ record { code = F4; index = 1 } ∷ record { code = F7; index = 1 } ∷ record { code = F9; index = 2 }
     ∷ record { code = F17; index = 0 } ∷ record { code = N3; index = 3 } ∷ record { code = N5; index = 2 } ∷ [])
-    ≡ codes "<path class=\"f\" d=\"M0 64L0 0\"><title>F4 1 linedef side names none</title></path>\n"
+    ≡ codes "<path class=\"f\" d=\"M0 0m-24 0a24 24 0 1 0 48 0a24 24 0 1 0-48 0\"><title>F3 3 linedef vertex names none</title></path>\n"
+    ++ (codes "<path class=\"f\" d=\"M0 0m-24 0a24 24 0 1 0 48 0a24 24 0 1 0-48 0\"><title>F3 4 linedef vertex names none</title></path>\n"
+    ++ (codes "<path class=\"f\" d=\"M0 64L0 0\"><title>F4 1 linedef side names none</title></path>\n"
     ++ (codes "<path class=\"f\" d=\"M0 64L0 0\"><title>F7 1 seg linedef names none</title></path>\n"
-    ++ codes "<path class=\"f\" d=\"M0 0L0 0\"><title>N5 2 linedef of no length</title></path>\n")
+    ++ codes "<path class=\"f\" d=\"M0 0L0 0\"><title>N5 2 linedef of no length</title></path>\n")))
 unfolding digits
 some_marks = refl
 
+-- a corner at vertex 1, a bare side and a twin of linedef 0, thing 1 in the void and of no known kind; what can't be drawn is left out
+some_warnings :
+    warning_marks (walls Signed)
+    (Unclosed 1 1 ∷ Unclosed 1 2 ∷ Bare 0 Back Upper ∷ InVoid 1 ∷ Twin 3 0 ∷ Twin 1 0 ∷ UnknownThing 1 ∷ UnknownThing 2 ∷ Untagged 0 ∷ [])
+    ≡ codes "<path class=\"a\" d=\"M0 64m-24 0a24 24 0 1 0 48 0a24 24 0 1 0-48 0\"><title>W1 1 sector not closed</title></path>\n"
+    ++ (codes "<path class=\"a\" d=\"M0 0L0 64\"><title>W2 0 wall without texture</title></path>\n"
+    ++ (codes "<path class=\"a\" d=\"M-32768 5m-24 0a24 24 0 1 0 48 0a24 24 0 1 0-48 0\"><title>W3 1 thing in the void</title></path>\n"
+    ++ (codes "<path class=\"a\" d=\"M0 64L0 0\"><title>W6 1 linedef on another</title></path>\n"
+    ++ codes "<path class=\"a\" d=\"M-32768 5m-24 0a24 24 0 1 0 48 0a24 24 0 1 0-48 0\"><title>W11 1 thing of no known type</title></path>\n")))
+unfolding digits code_table
+some_warnings = refl
+
 some_things : things_lines (walls Signed)
-    ≡ codes "<circle class=\"p\" cx=\"8\" cy=\"8\" r=\"12\"><title>thing 0: type 1, angle 0, flags 7</title></circle>\n"
-    ++ codes "<circle class=\"p\" cx=\"-32768\" cy=\"5\" r=\"12\"><title>thing 1: type 3001, angle 90, flags -1</title></circle>\n"
+    ≡ codes "<path class=\"p start\" transform=\"translate(8 8)rotate(0)\" d=\"M20 0L-12 14v-28z\"><title>thing 0: type 1, angle 0, flags 7</title></path>\n"
+    ++ codes "<path class=\"p monster\" transform=\"translate(-32768 5)rotate(90)\" d=\"M20 0L-12 14v-28z\"><title>thing 1: type 3001, angle 90, flags -1</title></path>\n"
 unfolding digits
 some_things = refl
 
+-- whole eighths of a turn, cut towards 0
+turns : turn_of (pos 44) ∷ turn_of (pos 45) ∷ turn_of (pos 100) ∷ turn_of (negsuc 49) ∷ turn_of (negsuc 32767) ∷ []
+    ≡ pos 0 ∷ pos 45 ∷ pos 90 ∷ negsuc 44 ∷ negsuc 32759 ∷ []
+turns = refl
+
+-- the first and the last kind of each class, and those beside; a teleporter's landing (14) is no start
+classes : map (λ kind. class_of (pos kind)) (0 ∷ 1 ∷ 4 ∷ 5 ∷ 6 ∷ 7 ∷ 8 ∷ 9 ∷ 11 ∷ 13 ∷ 14 ∷ 16 ∷ 38 ∷ 40 ∷ 41 ∷ 58 ∷ 63 ∷ 64 ∷ 69 ∷ 70 ∷ 72 ∷ 82 ∷ 84 ∷ [])
+    ≡ Other ∷ Start ∷ Start ∷ Key ∷ Key ∷ Monster ∷ Other ∷ Monster ∷ Start ∷ Key ∷ Other ∷ Monster ∷ Key ∷ Key ∷ Other ∷ Monster ∷ Other
+    ∷ Monster ∷ Monster ∷ Other ∷ Monster ∷ Weapon ∷ Monster ∷ []
+classes = refl
+
+more_classes : map (λ kind. class_of (pos kind)) (2000 ∷ 2001 ∷ 2006 ∷ 2007 ∷ 3000 ∷ 3001 ∷ 3006 ∷ 3007 ∷ [])
+    ≡ Other ∷ Weapon ∷ Weapon ∷ Other ∷ Other ∷ Monster ∷ Monster ∷ Other ∷ []
+more_classes = refl
+
 -- the whole sample, one cell wide and 65 high, all of which show sector 1
 sample_picture : (cells : SectorCells) → cells.number ≡ 1 → cells.blocks.now ≡ (record { column = 0; row = 0; width = 1; height = 65 }) ∷ [] → cells.cells ≡ 65
-    → picture_text sample [] (frame_at (pos 0) (pos 0) (pos 0) (pos 64)) 1 (cells ∷ [])
-    ≡ codes "<svg xmlns=\"http://www.w3.org/2000/svg\" viewBox=\"-32 -96 64 128\">\n"
+    → picture_text sample [] (frame_at (pos 0) (pos 0) (pos 0) (pos 64)) 1 (cells ∷ []) []
+    ≡ codes "<svg xmlns=\"http://www.w3.org/2000/svg\" viewBox=\"-32 -96 64 128\" width=\"512\" height=\"1024\">\n"
     ++ (codes "<title>E1M1: faults 0 notes 0</title>\n"
-    ++ (codes "<style>path{vector-effect:non-scaling-stroke}.s{shape-rendering:crispEdges}.s path:hover{fill:#fb5}.w{fill:none;stroke:#eee;stroke-width:1.5}.t{fill:none;stroke:#778;stroke-width:.7}.f{fill:none;stroke:#f33;stroke-width:4}.p{fill:#5cf}.p:hover{fill:#fff}</style>\n"
+    ++ (codes "<style>path{vector-effect:non-scaling-stroke}.s{shape-rendering:crispEdges}.s path:hover{fill:#fb5}.w{fill:none;stroke:#eee;stroke-width:1.5}.t{fill:none;stroke:#778;stroke-width:.7}.f{fill:none;stroke:#f33;stroke-width:4}.a{fill:none;stroke:#fb3;stroke-width:3}.p{vector-effect:none;stroke:#14161a;stroke-width:5;paint-order:stroke}.start{fill:#6f6}.monster{fill:#f7b}.weapon{fill:#5cf}.key{fill:#ff5}.other{fill:#cba}.p:hover{fill:#fff}</style>\n"
     ++ (codes "<rect x=\"-32\" y=\"-96\" width=\"64\" height=\"128\" fill=\"#14161a\"/>\n"
     ++ (codes "<g class=\"s\" transform=\"matrix(1 0 0 -1 0 0)\">\n"
     ++ (codes "<path fill=\"#7f7f93\" d=\"M0 0h1v65h-1z\"><title>sector 1: floor 0 FLAT1, ceiling 128 FLAT1, light 160, special 0, tag 0, 65 cells</title></path>\n"
     ++ (codes "</g><g transform=\"matrix(1 0 0 -1 0 0)\">\n"
     ++ (codes "<path class=\"t\" d=\"M0 0L0 64\"/>\n"
     ++ (codes "<path class=\"w\" d=\"\"/>\n"
-    ++ (codes "<circle class=\"p\" cx=\"8\" cy=\"8\" r=\"12\"><title>thing 0: type 1, angle 0, flags 7</title></circle>\n"
+    ++ (codes "<path class=\"p start\" transform=\"translate(8 8)rotate(0)\" d=\"M20 0L-12 14v-28z\"><title>thing 0: type 1, angle 0, flags 7</title></path>\n"
     ++ (codes "</g></svg>\n"))))))))))
 unfolding digits grey shade
 sample_picture cells number blocks count = rw (number, blocks, count) refl

@@ -3,7 +3,7 @@ use Rattle.std.specs.Prelude.{◌≡◌, ℕ, ◌+◌, ◌*◌, ◌^◌, ◌≤�
 use Rattle.map_level.specs.Findings.{AreFindings, AreFindingsBelow}
 use Rattle.map_level.specs.declared.finding.Code.{Code}
 use Rattle.map_level.specs.declared.finding.Finding.{Finding}
-use Rattle.wad_look.specs.Engines.Audit.{fault_count, note_count}
+use Rattle.look_engines.specs.Engines.Audit.{fault_count, note_count}
 use Rattle.map_picture.specs.declared.finding_counts.FindingCounts.{FindingCounts}
 
 -- the counts of a list

@@ -16,6 +16,8 @@ use Rattle.map_level.specs.Level.{Level}
 use Rattle.map_level.specs.declared.finding.Finding.{Finding}
 use Rattle.map_tree.specs.Sound.{IsSound}
 use Rattle.map_picture.specs.Picture.{picture_text}
+use Rattle.map_picture.specs.WarningMarks.{AreMarkedFor}
+use Rattle.map_warnings.specs.declared.warning.Warning.{Warning}
 use Rattle.map_picture.specs.declared.draw.View.{View}
 use Rattle.map_picture.specs.declared.draw.DrawFault.{DrawFault}
 use Rattle.map_picture.specs.declared.draw.DrawFault.TheVariants.{NothingToDraw, Memory, Write}
@@ -56,26 +58,26 @@ pub record ShowsCells (level : Level) (grid : Grid) (shown : List SectorCells) :
 abbrev pub ShowsSectors : Level → Grid → List SectorCells → Type 0
 ShowsSectors level grid shown = (IsSound level × ShowsCells level grid shown) ⊎ ((¬ IsSound level) × (shown ≡ []))
 
--- the picture's text, with these findings and over this grid
-pub record IsDrawn (level : Level) (found : List Finding) (grid : Grid) (text : List ℕ) : Type 0 where
+-- the picture's text, with these findings and marked warnings, and over this grid
+pub record IsDrawn (level : Level) (found : List Finding) (grid : Grid) (marked : List Warning) (text : List ℕ) : Type 0 where
   pub shown : List SectorCells
   pub shows : ShowsSectors level grid shown
-  pub is : text ≡ picture_text level found grid.frame grid.size shown
+  pub is : text ≡ picture_text level found grid.frame grid.size shown marked
 
 -- the same with the level's findings
-pub record IsAuditedDrawn (level : Level) (grid : Grid) (text : List ℕ) : Type 0 where
+pub record IsAuditedDrawn (level : Level) (grid : Grid) (marked : List Warning) (text : List ℕ) : Type 0 where
   pub found : List Finding
   pub audited : AreFindings (AuditHolds level) found
-  pub drawn : IsDrawn level found grid text
+  pub drawn : IsDrawn level found grid marked text
 
 -- the picture's text, with the level's findings and by these sectors over this grid
-pub record IsAuditedText (level : Level) (grid : Grid) (shown : List SectorCells) (text : List ℕ) : Type 0 where
+pub record IsAuditedText (level : Level) (grid : Grid) (shown : List SectorCells) (marked : List Warning) (text : List ℕ) : Type 0 where
   pub found : List Finding
   pub audited : AreFindings (AuditHolds level) found
-  pub is : text ≡ picture_text level found grid.frame grid.size shown
+  pub is : text ≡ picture_text level found grid.frame grid.size shown marked
 
--- the picture's text: of the level's findings, its frame or the one that is asked for, and cells of the least size at which the longer
--- side has at most as many as are asked for
+-- the picture's text: of the level's findings and the warnings that are asked for, its frame or the one that is asked for, and cells of
+-- the least size at which the longer side has at most as many as are asked for
 pub record IsPicture (level : Level) (asked : View) (text : List ℕ) : Type 0 where
   pub found : List Finding
   pub audited : AreFindings (AuditHolds level) found
@@ -83,7 +85,9 @@ pub record IsPicture (level : Level) (asked : View) (text : List ℕ) : Type 0 w
   pub framed : IsFrameOf level asked.frame frame
   pub size : ℕ
   pub sized : IsSize frame asked.cells size
-  pub drawn : IsDrawn level found (grid_at frame size) text
+  pub marked : List Warning
+  pub marks : AreMarkedFor asked.warnings level marked
+  pub drawn : IsDrawn level found (grid_at frame size) marked text
 
 -- a text of this kind was taken
 pub record TakesWhole (IsText : List ℕ → Type 0) (before after : SinkState) : Type 0 where

@@ -6,6 +6,8 @@ pub mod Head
 pub mod Sectors
 pub mod Lines
 pub mod Marks
+pub mod WarningMarks
+pub mod Class
 pub mod Things
 pub mod Picture
 pub mod Listing

@@ -12,12 +12,14 @@ use Rattle.map_level.specs.Findings.{AreFindings}
 use Rattle.map_level.specs.Level.{Level}
 use Rattle.map_level.specs.Links.{sectors_of}
 use Rattle.map_level.specs.declared.finding.Finding.{Finding}
+use Rattle.map_warnings.specs.declared.warning.Warning.{Warning}
 use Rattle.map_picture.specs.Head.{ground_line, style_line, svg_line, title_line, title_of}
 use Rattle.map_picture.specs.Lines.{lines_line}
 use Rattle.map_picture.specs.Marks.{marks}
 use Rattle.lens_texts.specs.Parts.{joined}
 use Rattle.map_picture.specs.Sectors.{sector_line}
 use Rattle.map_picture.specs.Things.{things_lines}
+use Rattle.map_picture.specs.WarningMarks.{warning_marks}
 use Rattle.map_picture.specs.Window.{window_of}
 use Rattle.map_picture.specs.declared.finding_counts.FindingCounts.{FindingCounts}
 use Rattle.map_picture.specs.declared.sectors.SectorCells.{SectorCells}
@@ -59,25 +61,26 @@ map_parts level title frame size shown =
 abbrev pub map_text : Level → FindingCounts → Frame → ℕ → List SectorCells → List ℕ
 map_text level counts frame size shown = joined (map_parts level (title_of level counts) frame size shown)
 
--- the lines behind the findings
-abbrev pub last_parts : Level → List (List ℕ)
-last_parts level = things_lines level ∷ codes "</g></svg>\n" ∷ []
+-- the lines behind the findings: marked warnings, and things
+abbrev pub last_parts : Level → List Warning → List (List ℕ)
+last_parts level marked = warning_marks level marked ∷ things_lines level ∷ codes "</g></svg>\n" ∷ []
 
 -- the lines from the findings on
-abbrev pub found_parts : Level → List Finding → List (List ℕ)
-found_parts level found = marks level found ∷ last_parts level
+abbrev pub found_parts : Level → List Finding → List Warning → List (List ℕ)
+found_parts level found marked = marks level found ∷ last_parts level marked
 
--- the lines of a picture: of a level with these findings, in a frame, by cells of a size that show sectors
-abbrev pub picture_parts : Level → List Finding → Frame → ℕ → List SectorCells → List (List ℕ)
-picture_parts level found frame size shown = map_parts level (title_line level found) frame size shown ++ found_parts level found
+-- the lines of a picture: of a level with these findings and marked warnings, in a frame, by cells of a size that show sectors
+abbrev pub picture_parts : Level → List Finding → Frame → ℕ → List SectorCells → List Warning → List (List ℕ)
+picture_parts level found frame size shown marked =
+    map_parts level (title_line level found) frame size shown ++ found_parts level found marked
 
 -- the text of a picture
-abbrev pub picture_text : Level → List Finding → Frame → ℕ → List SectorCells → List ℕ
-picture_text level found frame size shown = joined (picture_parts level found frame size shown)
+abbrev pub picture_text : Level → List Finding → Frame → ℕ → List SectorCells → List Warning → List ℕ
+picture_text level found frame size shown marked = joined (picture_parts level found frame size shown marked)
 
 -- the writer of the text of a level with all its findings answers `result`
-pub record WritesPicture {T : Type 0} (level : Level) (frame : Frame) (size : ℕ) (shown : List SectorCells) (before after : SinkState)
-    (result : Result T IoFault) : Type 0 where
+pub record WritesPicture {T : Type 0} (level : Level) (frame : Frame) (size : ℕ) (shown : List SectorCells) (marked : List Warning)
+    (before after : SinkState) (result : Result T IoFault) : Type 0 where
   pub found : List Finding
   pub audited : AreFindings (AuditHolds level) found
-  pub writes : Writes before after (picture_text level found frame size shown) result
+  pub writes : Writes before after (picture_text level found frame size shown marked) result

@@ -13,9 +13,11 @@ use crate::counted_level::CountedLevel;
 use crate::listing::listed;
 use crate::picture::{Drawn, write_picture};
 use crate::sectors::SectorCells;
+use crate::warned::{MarkedWarnings, marked_warnings};
 use le_rec::Sink;
 use map_cells::{CellCount, Cells, Frame, Grid, Groups, SectorCounts, Shown};
 use map_level::Level;
+use map_warnings::Warning;
 use std::alloc::{AllocError, Allocator};
 use thiserror::Error;
 
@@ -26,6 +28,8 @@ pub struct View {
     pub frame: Option<Frame>,
     /// How many cells the frame's longer side has at most.
     pub cells: CellCount,
+    /// Which warnings are marked; None for none.
+    pub warnings: Option<MarkedWarnings>,
 }
 
 /// Why a level isn't drawn.
@@ -70,8 +74,8 @@ impl From<AllocError> for DrawFault {
 }
 
 /// Writes the picture of a level, and returns whether the level has a fault. With a fault it is drawn without cells.
-/// `NothingToDraw` and `Memory` come before anything is written. It takes two bytes for each node and ssector. Without a fault
-/// it takes besides at most twelve bytes a cell, ten a seg and some hundred a sector.
+/// `NothingToDraw` and `Memory` come before anything is written. It takes two bytes for each node and ssector, and twelve for each
+/// warning that is marked. Without a fault it takes besides at most twelve bytes a cell, ten a seg and some hundred a sector.
 pub fn draw_level<A: Allocator + Copy, W: Sink>(
     alloc: A,
     level: &Level<'_>,
@@ -88,8 +92,9 @@ pub fn draw_level<A: Allocator + Copy, W: Sink>(
         return Err(DrawFault::NothingToDraw);
     };
     let counted = CountedLevel::of(alloc, level)?;
+    let marked = marked_warnings(alloc, level, asked.warnings)?;
     let faulty = counted.counts().faults > 0;
-    match draw_counted(alloc, &counted, Grid::new(frame, asked.cells), out) {
+    match draw_counted(alloc, &counted, &marked, Grid::new(frame, asked.cells), out) {
         Ok(()) => Ok(faulty),
         Err(TextFault::Memory) => Err(DrawFault::Memory),
         Err(TextFault::Write) => Err(DrawFault::Write(faulty)),
@@ -111,18 +116,19 @@ fn frame_of(level: &Level<'_>, asked: Option<Frame>) -> Option<Frame>
 fn draw_counted<A: Allocator + Copy, W: Sink>(
     alloc: A,
     counted: &CountedLevel<'_, '_, A>,
+    marked: &[Warning],
     grid: Grid,
     out: &mut W,
 ) -> Result<(), TextFault>
     requires { (W.state out.old).failed ≡ false }
-    ensures drawn { OnOk result (TakesWhole (IsAuditedDrawn counted.now grid) (W.state out.old) (W.state out.new)) }
-    ensures stopped { IfErr result (StopsText W.state (IsAuditedDrawn counted.now grid) out.old out.new) }
+    ensures drawn { OnOk result (TakesWhole (IsAuditedDrawn counted.now grid marked.now) (W.state out.old) (W.state out.new)) }
+    ensures stopped { IfErr result (StopsText W.state (IsAuditedDrawn counted.now grid marked.now) out.old out.new) }
 {
     let counts = counted.counts();
     if counts.faults > 0 {
-        draw_shown(counted, grid, &[], out)
+        draw_shown(counted, grid, &[], marked, out)
     } else {
-        draw_sound(alloc, counted, grid, out)
+        draw_sound(alloc, counted, marked, grid, out)
     }
 }
 
@@ -130,16 +136,17 @@ fn draw_counted<A: Allocator + Copy, W: Sink>(
 fn draw_sound<A: Allocator + Copy, W: Sink>(
     alloc: A,
     counted: &CountedLevel<'_, '_, A>,
+    marked: &[Warning],
     grid: Grid,
     out: &mut W,
 ) -> Result<(), TextFault>
     requires level_sound { IsSound counted.now }
     requires sound { (W.state out.old).failed ≡ false }
-    ensures drawn { OnOk result (TakesWhole (IsAuditedDrawn counted.now grid) (W.state out.old) (W.state out.new)) }
-    ensures stopped { IfErr result (StopsText W.state (IsAuditedDrawn counted.now grid) out.old out.new) }
+    ensures drawn { OnOk result (TakesWhole (IsAuditedDrawn counted.now grid marked.now) (W.state out.old) (W.state out.new)) }
+    ensures stopped { IfErr result (StopsText W.state (IsAuditedDrawn counted.now grid marked.now) out.old out.new) }
 {
     let cells = cells_of(alloc, counted.level(), grid)?;
-    draw_cells(alloc, counted, &cells, out)
+    draw_cells(alloc, counted, marked, &cells, out)
 }
 
 // What is shown at the points of a grid's cells.
@@ -159,19 +166,20 @@ fn cells_of<A: Allocator + Copy>(
 fn draw_cells<A: Allocator + Copy, W: Sink>(
     alloc: A,
     counted: &CountedLevel<'_, '_, A>,
+    marked: &[Warning],
     cells: &Cells<A>,
     out: &mut W,
 ) -> Result<(), TextFault>
     requires level_sound { IsSound counted.now }
     requires are { AreCells counted.now cells.now }
     requires sound { (W.state out.old).failed ≡ false }
-    ensures drawn { OnOk result (TakesWhole (IsAuditedDrawn counted.now cells.now.grid) (W.state out.old) (W.state out.new)) }
-    ensures stopped { IfErr result (StopsText W.state (IsAuditedDrawn counted.now cells.now.grid) out.old out.new) }
+    ensures drawn { OnOk result (TakesWhole (IsAuditedDrawn counted.now cells.now.grid marked.now) (W.state out.old) (W.state out.new)) }
+    ensures stopped { IfErr result (StopsText W.state (IsAuditedDrawn counted.now cells.now.grid marked.now) out.old out.new) }
 {
     let groups = Groups::of(alloc, cells)?;
     let counts = SectorCounts::of(alloc, cells)?;
     let shown = listed(alloc, &groups, &counts)?;
-    draw_shown(counted, cells.grid(), &shown, out)
+    draw_shown(counted, cells.grid(), &shown, marked, out)
 }
 
 // Writes the picture of a level by the sectors that cells show.
@@ -179,16 +187,18 @@ fn draw_shown<A: Allocator, W: Sink>(
     counted: &CountedLevel<'_, '_, A>,
     grid: Grid,
     shown: &[SectorCells<'_>],
+    marked: &[Warning],
     out: &mut W,
 ) -> Result<(), TextFault>
     requires { (W.state out.old).failed ≡ false }
-    ensures drawn { OnOk result (TakesWhole (IsAuditedText counted.now grid shown.now) (W.state out.old) (W.state out.new)) }
-    ensures stopped { IfErr result (StopsText W.state (IsAuditedText counted.now grid shown.now) out.old out.new) }
+    ensures drawn { OnOk result (TakesWhole (IsAuditedText counted.now grid shown.now marked.now) (W.state out.old) (W.state out.new)) }
+    ensures stopped { IfErr result (StopsText W.state (IsAuditedText counted.now grid shown.now marked.now) out.old out.new) }
 {
     let drawn = Drawn {
         frame: grid.frame(),
         size: grid.size(),
         shown,
+        marked,
     };
     match write_picture(counted, &drawn, out) {
         Ok(()) => Ok(()),

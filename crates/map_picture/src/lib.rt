@@ -1,6 +1,7 @@
 //! A picture of a level as the text of an SVG: which sector is shown where, the linedefs, the findings and the things.
 #![tactic(auto)]
 
+mod class;
 mod counted_level;
 mod draw;
 mod finding_counts;
@@ -13,6 +14,8 @@ mod paths;
 mod picture;
 mod sectors;
 mod things;
+mod warned;
+mod warning_marks;
 mod window;
 mod word;
 
@@ -21,3 +24,4 @@ pub use draw::{DrawFault, View, draw_level};
 pub use finding_counts::FindingCounts;
 pub use picture::{Drawn, write_picture};
 pub use sectors::SectorCells;
+pub use warned::{MOST_MARKS, MarkedWarnings};

@@ -6,7 +6,7 @@ ghost use Rattle.map_picture.specs.Lines.{has_back, line_class, line_part, lined
 
 use crate::paths::prepend_path;
 use le_rec::{LineDef, Sink};
-use lens_texts::parts::{Parts, write_parts};
+use lens_texts::parts::{TextParts, write_parts};
 use line_io::{IoFault, TextLine, emit};
 use map_cells::linedef_ends;
 use map_level::Level;
@@ -18,7 +18,7 @@ struct LinePaths<'l, 'a> {
     two_sided: bool,
 }
 
-impl Parts for LinePaths<'_, '_> {
+impl TextParts for LinePaths<'_, '_> {
     ghost use Rattle.map_picture.specs.Lines.{line_part};
     ghost use Rattle.lens_texts.specs.Parts.{numbered};
 
@@ -77,7 +77,7 @@ struct LinesLine<'l, 'a> {
     paths: LinePaths<'l, 'a>,
 }
 
-impl Parts for LinesLine<'_, '_> {
+impl TextParts for LinesLine<'_, '_> {
     ghost use Rattle.std.specs.Prelude.{[], ◌∷◌, codes};
     ghost use Rattle.map_picture.specs.Lines.{line_class, line_part};
     ghost use Rattle.lens_texts.specs.Parts.{joined, numbered};

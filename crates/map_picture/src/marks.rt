@@ -1,37 +1,40 @@
 //! The findings of a picture.
 
-ghost use Rattle.std.specs.Prelude.{◌≡◌, ◌++◌, List, codes, false};
+ghost use Rattle.std.specs.Prelude.{◌≡◌, List, false};
 ghost use Rattle.line_io.specs.Writes.{EndsWriting, Writes};
 ghost use Rattle.map_audit.specs.Findings.{AuditHolds};
 ghost use Rattle.map_level.specs.Findings.{AreFindings};
 ghost use Rattle.map_level.specs.declared.finding.Finding.{Finding};
 ghost use Rattle.lens_texts.specs.Escape.{escaped};
 ghost use Rattle.map_picture.specs.Head.{without_end};
-ghost use Rattle.map_picture.specs.Marks.{code_marks, mark_line, mark_part, ends_of, marked_by, marks};
-ghost use Rattle.map_picture.specs.Paths.{path_text};
-ghost use Rattle.wad_look.specs.Engines.Audit.{finding_line};
+ghost use Rattle.map_picture.specs.Marks.{code_marks, lone_end, lone_of, mark_line, mark_part, marked_by, marks, shape_of};
+ghost use Rattle.look_engines.specs.Engines.Audit.{finding_line};
 
 use crate::counted_level::CountedLevel;
-use crate::paths::prepend_path;
-use le_rec::Sink;
+use crate::paths::{Shape, write_shape};
+use le_rec::{Sink, Vertex};
 use lens_texts::escape::write_escaped;
-use lens_texts::parts::{Parts, write_parts};
+use lens_texts::parts::{TextParts, write_parts};
 use line_io::{IoFault, TextLine, emit};
-use map_cells::{Ends, linedef_ends, seg_ends};
+use look_engines::prepend_finding;
+use map_cells::{linedef_ends, seg_ends};
+use map_level::links::vertex;
 use map_level::search::CODES;
 use map_level::{Code, Finding, Level};
 use std::alloc::Allocator;
-use wad_look::prepend_finding;
 
-// What a code is found at, of what is drawn as a line.
+// What a code is found at, of what is drawn.
 #[derive(Clone, Copy)]
 enum Marked {
     Linedef,
+    /// The only end of a linedef that is there.
+    LoneEnd,
     Seg,
     Nothing,
 }
 
-/// Writes the lines of the findings of linedefs and segs whose two vertexes are there. It searches for no other codes.
+/// Writes the lines of the findings of linedefs and segs whose two vertexes are there, and of linedefs with one of them. It
+/// searches for no other codes.
 pub fn write_marks<A: Allocator, W: Sink>(
     counted: &CountedLevel<'_, '_, A>,
     out: &mut W,
@@ -59,7 +62,7 @@ fn write_code<A: Allocator, W: Sink>(
         → Writes (W.state out.old) (W.state out.new) (code_marks counted.now code found) result }
 {
     match marked_by(code) {
-        Marked::Linedef | Marked::Seg => write_each(counted, code, out),
+        Marked::Linedef | Marked::LoneEnd | Marked::Seg => write_each(counted, code, out),
         Marked::Nothing => emit(out, b""),
     }
 }
@@ -84,13 +87,13 @@ fn write_each<A: Allocator, W: Sink>(
     Ok(())
 }
 
-// Writes the line of a finding, if the ends of what it was found at are there.
+// Writes the line of a finding, if what it was found at can be drawn.
 fn write_part<W: Sink>(level: &Level<'_>, finding: &Finding, out: &mut W) -> Result<(), IoFault>
     requires { (W.state out.old).failed ≡ false }
     ensures { Writes (W.state out.old) (W.state out.new) (mark_part level.now finding.now) result }
 {
-    match ends_of(level, marked_by(finding.code), finding.index as usize) {
-        Some(ends) => write_mark(finding, &ends, out),
+    match shape_of(level, marked_by(finding.code), finding.index as usize) {
+        Some(shape) => write_mark(finding, &shape, out),
         None => emit(out, b""),
     }
 }
@@ -100,20 +103,41 @@ fn marked_by(code: Code) -> Marked
     ensures { result ≡ marked_by code }
 {
     match code {
+        Code::F3 => Marked::LoneEnd,
         Code::F4 | Code::N3 | Code::N4 | Code::N5 => Marked::Linedef,
         Code::F7 | Code::F8 | Code::F9 => Marked::Seg,
         _ => Marked::Nothing,
     }
 }
 
-// The ends of what is of a number.
-fn ends_of(level: &Level<'_>, marked: Marked, index: usize) -> Option<Ends>
-    ensures { result ≡ ends_of level.now marked index }
+// What is drawn at what is of a number.
+fn shape_of(level: &Level<'_>, marked: Marked, index: usize) -> Option<Shape>
+    ensures { result ≡ shape_of level.now marked index }
 {
     match marked {
-        Marked::Linedef => linedef_ends(level, index),
-        Marked::Seg => seg_ends(level, index),
+        Marked::Linedef => Some(Shape::Line(linedef_ends(level, index)?)),
+        Marked::LoneEnd => Some(Shape::Ring(lone_end(level, index)?)),
+        Marked::Seg => Some(Shape::Line(seg_ends(level, index)?)),
         Marked::Nothing => None,
+    }
+}
+
+// The only end of a linedef that is there.
+fn lone_end(level: &Level<'_>, index: usize) -> Option<Vertex>
+    ensures { result ≡ lone_end level.now index }
+{
+    let linedef = level.linedefs().get(index)?;
+    lone_of(vertex(level, linedef.v1), vertex(level, linedef.v2))
+}
+
+// The only one of two vertexes that is there.
+fn lone_of(start: Option<Vertex>, end: Option<Vertex>) -> Option<Vertex>
+    ensures { result ≡ lone_of start end }
+{
+    match (start, end) {
+        (Some(lone), None) => Some(lone),
+        (None, Some(lone)) => Some(lone),
+        (Some(_), Some(_)) | (None, None) => None,
     }
 }
 
@@ -121,18 +145,17 @@ fn ends_of(level: &Level<'_>, marked: Marked, index: usize) -> Option<Ends>
 #[derive(Drop)]
 struct MarkLine<'f> {
     finding: &'f Finding,
-    ends: &'f Ends,
+    shape: &'f Shape,
 }
 
-impl Parts for MarkLine<'_> {
-    ghost use Rattle.std.specs.Prelude.{[], ◌∷◌, ◌++◌, codes};
+impl TextParts for MarkLine<'_> {
+    ghost use Rattle.std.specs.Prelude.{[], ◌∷◌, codes};
     ghost use Rattle.lens_texts.specs.Escape.{escaped};
     ghost use Rattle.map_picture.specs.Head.{without_end};
-    ghost use Rattle.map_picture.specs.Paths.{path_text};
-    ghost use Rattle.wad_look.specs.Engines.Audit.{finding_line};
+    ghost use Rattle.map_picture.specs.Paths.{shape_part};
+    ghost use Rattle.look_engines.specs.Engines.Audit.{finding_line};
 
-    ghost parts = { λ mark. (codes "<path class=\"f\" d=\"" ++ path_text mark.ends.now (codes "\"><title>"))
-        ∷ escaped (without_end (finding_line mark.finding.now)) ∷ codes "</title></path>\n" ∷ [] };
+    ghost parts = { λ mark. shape_part (codes "f") mark.shape.now ∷ escaped (without_end (finding_line mark.finding.now)) ∷ codes "</title></path>\n" ∷ [] };
 
     fn count(&self) -> usize {
         3
@@ -140,7 +163,7 @@ impl Parts for MarkLine<'_> {
 
     fn write<W: Sink>(&self, number: usize, out: &mut W) -> Result<(), IoFault> {
         match number {
-            0 => write_ends(self.ends, out),
+            0 => write_shape(b"f", self.shape, out),
             1 => write_finding(self.finding, out),
             _ => emit(out, b"</title></path>\n"),
         }
@@ -148,24 +171,11 @@ impl Parts for MarkLine<'_> {
 }
 
 // Writes the line of a finding.
-fn write_mark<W: Sink>(finding: &Finding, ends: &Ends, out: &mut W) -> Result<(), IoFault>
+fn write_mark<W: Sink>(finding: &Finding, shape: &Shape, out: &mut W) -> Result<(), IoFault>
     requires { (W.state out.old).failed ≡ false }
-    ensures { Writes (W.state out.old) (W.state out.new) (mark_line finding.now ends.now) result }
+    ensures { Writes (W.state out.old) (W.state out.new) (mark_line finding.now shape.now) result }
 {
-    write_parts(&MarkLine { finding, ends }, out)
-}
-
-// `<path class="f" d="{line}"><title>`
-fn write_ends<W: Sink>(ends: &Ends, out: &mut W) -> Result<(), IoFault>
-    requires { (W.state out.old).failed ≡ false }
-    ensures { Writes (W.state out.old) (W.state out.new)
-        (codes "<path class=\"f\" d=\"" ++ path_text ends.now (codes "\"><title>")) result }
-{
-    let mut line = TextLine::new();
-    line.prepend_bytes(b"\"><title>");
-    prepend_path(&mut line, ends);
-    line.prepend_bytes(b"<path class=\"f\" d=\"");
-    emit(out, line.as_bytes())
+    write_parts(&MarkLine { finding, shape }, out)
 }
 
 // Writes a finding's line of the audit, without its end.

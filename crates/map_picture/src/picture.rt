@@ -18,13 +18,15 @@ use crate::lines::write_lines;
 use crate::marks::write_marks;
 use crate::sectors::{SectorCells, write_sector};
 use crate::things::write_things;
+use crate::warning_marks::write_warning_marks;
 use crate::window::window_of;
 use crate::word::prepend_word;
 use le_rec::Sink;
-use lens_texts::parts::{Parts, write_parts};
+use lens_texts::parts::{TextParts, write_parts};
 use line_io::{IoFault, TextLine, emit};
 use map_cells::Frame;
 use map_level::Level;
+use map_warnings::Warning;
 use std::alloc::Allocator;
 
 /// What is drawn besides a level's own lines.
@@ -36,6 +38,8 @@ pub struct Drawn<'p, 'b> {
     pub size: u32,
     /// The sectors that cells show, ascending.
     pub shown: &'p [SectorCells<'b>],
+    /// The warnings that are marked. One of another code than `MarkedWarnings` has is passed over.
+    pub marked: &'p [Warning],
 }
 
 // The lines up to the linedefs.
@@ -46,7 +50,7 @@ struct MapLines<'p, 'a, 'b> {
     drawn: &'p Drawn<'p, 'b>,
 }
 
-impl Parts for MapLines<'_, '_, '_> {
+impl TextParts for MapLines<'_, '_, '_> {
     ghost use Rattle.map_picture.specs.Head.{title_of};
     ghost use Rattle.map_picture.specs.Picture.{map_parts};
 
@@ -76,37 +80,40 @@ impl Parts for MapLines<'_, '_, '_> {
 #[derive(Drop)]
 struct LastLines<'p, 'a> {
     level: &'p Level<'a>,
+    marked: &'p [Warning],
 }
 
-impl Parts for LastLines<'_, '_> {
+impl TextParts for LastLines<'_, '_> {
     ghost use Rattle.map_picture.specs.Picture.{last_parts};
 
-    ghost parts = { λ lines. last_parts lines.level.now };
+    ghost parts = { λ lines. last_parts lines.level.now lines.marked.now };
 
     fn count(&self) -> usize {
-        2
+        3
     }
 
     fn write<W: Sink>(&self, number: usize, out: &mut W) -> Result<(), IoFault> {
         match number {
-            0 => write_things(self.level, out),
+            0 => write_warning_marks(self.level, self.marked, out),
+            1 => write_things(self.level, out),
             _ => write_end(out),
         }
     }
 }
 
 /// Writes the picture of a level with its findings: the sectors that cells show, by their blocks, the linedefs, the findings of
-/// linedefs and segs, and the things. `Write` where the sink fails: a front of the text was taken.
+/// linedefs and segs, the warnings that are marked, and the things. `Write` where the sink fails: a front of the text was taken.
 pub fn write_picture<A: Allocator, W: Sink>(
     counted: &CountedLevel<'_, '_, A>,
     drawn: &Drawn<'_, '_>,
     out: &mut W,
 ) -> Result<(), IoFault>
     requires { (W.state out.old).failed ≡ false }
-    ensures { WritesPicture counted.now drawn.now.frame drawn.now.size drawn.now.shown.now (W.state out.old) (W.state out.new) result }
+    ensures { WritesPicture counted.now drawn.now.frame drawn.now.size drawn.now.shown.now drawn.now.marked.now
+        (W.state out.old) (W.state out.new) result }
 {
     write_map(counted.level(), counted.counts(), drawn, out)?;
-    write_found(counted, out)
+    write_found(counted, drawn.marked, out)
 }
 
 // Writes the lines up to the linedefs.
@@ -131,15 +138,16 @@ fn write_map<W: Sink>(
 // Writes the lines from the findings on.
 fn write_found<A: Allocator, W: Sink>(
     counted: &CountedLevel<'_, '_, A>,
+    marked: &[Warning],
     out: &mut W,
 ) -> Result<(), IoFault>
     requires { (W.state out.old).failed ≡ false }
     ensures { (found : List Finding) → AreFindings (AuditHolds counted.now) found
-        → Writes (W.state out.old) (W.state out.new) (joined (found_parts counted.now found)) result }
+        → Writes (W.state out.old) (W.state out.new) (joined (found_parts counted.now found marked.now)) result }
 {
     write_marks(counted, out)?;
     let level = counted.level();
-    write_parts(&LastLines { level }, out)
+    write_parts(&LastLines { level, marked }, out)
 }
 
 // Writes the lines of the sectors that are shown.
@@ -231,7 +239,7 @@ struct SectorLines<'p, 'a, 'b> {
     shown: &'p [SectorCells<'b>],
 }
 
-impl Parts for SectorLines<'_, '_, '_> {
+impl TextParts for SectorLines<'_, '_, '_> {
     ghost use Rattle.std.specs.Prelude.{map};
     ghost use Rattle.map_picture.specs.Picture.{sector_part};
 

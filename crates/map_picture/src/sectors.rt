@@ -8,7 +8,7 @@ use crate::grey::prepend_grey;
 use crate::word::prepend_word;
 use le_rec::{Name8, Sector, Sink};
 use lens_texts::escape::write_escaped;
-use lens_texts::parts::{Parts, write_parts};
+use lens_texts::parts::{TextParts, write_parts};
 use line_io::{IoFault, TextLine, emit};
 use map_cells::Block;
 
@@ -28,7 +28,7 @@ struct BlockTexts<'b> {
     blocks: &'b [Block],
 }
 
-impl Parts for BlockTexts<'_> {
+impl TextParts for BlockTexts<'_> {
     ghost use Rattle.std.specs.Prelude.{map};
     ghost use Rattle.map_picture.specs.Sectors.{block_text};
 
@@ -79,7 +79,7 @@ struct SectorLine<'b> {
     cells: u32,
 }
 
-impl Parts for SectorLine<'_> {
+impl TextParts for SectorLine<'_> {
     ghost use Rattle.std.specs.Prelude.{[], ◌∷◌, map};
     ghost use Rattle.lens_texts.specs.Parts.{joined};
     ghost use Rattle.map_picture.specs.Sectors.{block_text, ceiling_text, fill_text, flat_text, floor_text, rest_text};

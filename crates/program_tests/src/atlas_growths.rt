@@ -2,13 +2,13 @@
 
 use crate::compare::{check_bytes, check_same, contains};
 use crate::sample::{UDMF, lumps, pack_three};
-use atlas_page::{Origin, Page, Refused, Row, push_rows, write_page};
+use atlas_page::{Origin, Page, PageHead, RefusedFile, Row, push_rows, write_page};
 use le_rec::{Name8, Sink};
 use lens_engines::{
-    Base, FileRefusal, Ignored, Judging, LevelCounts, Rules, Surveyed, Tables, Warnings,
-    asked_resources, over_base,
+    Base, FileRefusal, Judging, LevelCounts, Rules, Surveyed, Tables, Warnings, asked_resources,
+    over_base,
 };
-use level_codes::ReportCode;
+use level_codes::{CodeSet, ReportCode};
 use level_starts::Format;
 use line_io::IoFault;
 use map_level::Reading;
@@ -24,7 +24,8 @@ fn judging<'b>(base: &'b Base<'b>, warnings: Warnings) -> Judging<'b> {
     let rules = Rules {
         reading: Reading::Signed,
         warnings,
-        ignored: Ignored::none(),
+        ignored: CodeSet::none(),
+        failing: CodeSet::none(),
     };
     rules.over(base)
 }
@@ -202,11 +203,15 @@ fn page_refused(rt: HostRuntime) {
     let mut rows = Vec::new(&heap);
     let added = add_rows(&heap, &base, &three_levels(&rt), &mut rows);
     check_same(&rt, added, Ok(()));
-    let refused = [Refused {
+    let refused = [RefusedFile {
         path: b"b<.wad",
         why: FileRefusal::NoWad(WadFault::Short),
     }];
     let page = Page {
+        head: &PageHead {
+            title: b"Atlas",
+            day: b"",
+        },
         files: 2,
         warnings: Warnings::Told,
         rows: &rows,

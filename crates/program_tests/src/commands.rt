@@ -5,11 +5,11 @@ use crate::demo_cases::{TEXT, TWO};
 use crate::sample::{LINE_WITHOUT_SIDE_1, base, base_not_reached, base_with, pack};
 use crate::texts::{LISTED, NOT_REACHED, SHOWN, SIDE_MISSING};
 use le_rec::{Sink, Source};
+use look_engines::{Job, RunFault, job, run, status};
 use std::alloc::{AllocError, Allocator, Global};
 use std::process::Abort;
 use test_refusals::{Refusing, SliceSink, SliceSource};
 use wad_dir::MAX_FILES;
-use wad_look::{Job, RunFault, job, run, status};
 
 // A command line, its input, and what it writes.
 #[derive(Clone, Copy)]

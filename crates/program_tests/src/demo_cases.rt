@@ -3,9 +3,9 @@
 use crate::compare::{check_bytes, check_same};
 use demo_lump::DemoFault;
 use le_rec::{Sink, Source};
+use look_engines::{MAX_READ, RunFault, lmp};
 use std::process::Abort;
 use test_refusals::{SliceSink, SliceSource};
-use wad_look::{MAX_READ, RunFault, lmp};
 
 /// Two commands of one player, the marker and one byte behind it.
 pub const TWO: [u8; 23] = [

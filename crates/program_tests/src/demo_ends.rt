@@ -3,9 +3,9 @@
 use crate::compare::{check_bytes, check_same};
 use crate::demo_cases::TWO;
 use crate::sample::pack;
-use demo_engines::{AtOnce, DemoQuestion, DemosFault, Unwatched, demos_file};
+use demo_engines::{DemoQuestion, DemosFault, demos_file};
 use le_rec::Sink;
-use lens_texts::Form;
+use lens_texts::{AtOnce, Form, Unwatched};
 use std::process::Abort;
 use test_refusals::SliceSink;
 

@@ -2,11 +2,11 @@
 
 use crate::compare::{check_bytes, check_same};
 use le_rec::Sink;
+use look_engines::{RunFault, lumps};
 use std::alloc::Global;
 use std::process::Abort;
 use test_refusals::SliceSink;
 use wad_dir::MAX_FILES;
-use wad_look::{RunFault, lumps};
 
 // What `lumps` answers of these files.
 fn list<W: Sink>(

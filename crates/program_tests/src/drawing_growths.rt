@@ -102,6 +102,7 @@ fn check_file(
     let view = View {
         frame: Frame::new(-64, 0, 63, 127),
         cells: CellCount::new(16).expect(rt, "so many cells"),
+        warnings: None,
     };
     check_level(rt, &level_of(rt, file), &view, lines, faulty, spared);
 }
@@ -137,6 +138,7 @@ fn nothing_to_draw(rt: HostRuntime) {
     let view = View {
         frame: None,
         cells: CellCount::new(16).expect(&rt, "so many cells"),
+        warnings: None,
     };
     let drawn = draw(&rt, &heap, &level, &view, &mut out);
     check_same(&rt, drawn, Err(DrawFault::NothingToDraw));

@@ -3,11 +3,11 @@
 use crate::compare::{check_bytes, check_same};
 use crate::sample::base;
 use le_rec::{Sink, Source};
+use look_engines::{MAX_READ, RunFault, points, read_all};
 use map_level::Reading;
 use std::alloc::Global;
 use std::process::Abort;
 use test_refusals::{SliceSink, SliceSource};
-use wad_look::{MAX_READ, RunFault, points, read_all};
 
 const INPUT: &[u8] = b"1 5\n0 5\n-1 5\n";
 

@@ -5,10 +5,11 @@ use crate::line_levels::{base_with_lines, round, round_and};
 use crate::sample::{LINE_WITHOUT_SIDE_1, base_with};
 use le_rec::Sink;
 use lens_engines::{
-    Base, Ignored, Judging, LevelsFault, Question, Rules, Totals, Unlooked, Verdict, Warnings,
-    check_file, write_totals,
+    Base, Judging, LevelsFault, Question, Rules, Totals, Unlisted, Verdict, Warnings, check_file,
+    write_totals,
 };
 use lens_texts::Form;
+use level_codes::{CodeSet, ReportCode, WarningCode};
 use map_level::Reading;
 use std::alloc::Allocator;
 use std::process::Abort;
@@ -34,9 +35,12 @@ fn totals(levels: u64, faults: u64, notes: u64, broken: u64, unread: u64) -> Tot
         faults,
         notes,
         warnings: 0,
+        failing: 0,
         broken,
         unread,
-        unlooked: Unlooked::none(),
+        partly: 0,
+        unlooked: CodeSet::none(),
+        unlisted: Unlisted::none(),
     }
 }
 
@@ -45,7 +49,8 @@ fn signed<'b>(base: &'b Base<'b>, warnings: Warnings) -> Judging<'b> {
     let rules = Rules {
         reading: Reading::Signed,
         warnings,
-        ignored: Ignored::none(),
+        ignored: CodeSet::none(),
+        failing: CodeSet::none(),
     };
     rules.over(base)
 }
@@ -132,16 +137,26 @@ fn totals_of_a_run(rt: HostRuntime) {
 }
 
 // The sample level's file lists no textures and no flats.
-const NEITHER: Unlooked = Unlooked {
+const NEITHER: Unlisted = Unlisted {
     textures: true,
     flats: true,
 };
+
+// So W9 and W10 aren't looked for.
+fn neither() -> CodeSet {
+    CodeSet::between(
+        ReportCode::Warning(WarningCode::W9),
+        ReportCode::Warning(WarningCode::W10),
+    )
+}
 
 // The totals of the sample where it is warned of.
 fn warned() -> Totals {
     Totals {
         warnings: 6,
-        unlooked: NEITHER,
+        partly: 1,
+        unlooked: neither(),
+        unlisted: NEITHER,
         ..totals(1, 0, 0, 0, 0)
     }
 }
@@ -149,7 +164,8 @@ fn warned() -> Totals {
 #[test]
 fn totals_with_warnings(rt: HostRuntime) {
     let all = warned().with(warned()).with(totals(1, 2, 1, 0, 1));
-    let text = b"3 levels in 2 files: 2 faults, 1 notes, 12 warnings, 1 not judged\n";
+    let text =
+        b"3 levels in 2 files: 2 faults, 1 notes, 12 warnings, 1 not judged, 2 with warnings not looked for\n";
     check_totals(&rt, Warnings::Told, &all, text);
 }
 
@@ -213,7 +229,9 @@ a.wad: E1M1: W8 level: 0 deathmatch starts\n";
 fn alone(warnings: u64) -> Totals {
     Totals {
         warnings,
-        unlooked: NEITHER,
+        partly: 1,
+        unlooked: neither(),
+        unlisted: NEITHER,
         ..totals(1, 0, 0, 0, 0)
     }
 }

@@ -5,11 +5,11 @@ use crate::compare::{check_bytes, check_same};
 use crate::demo_cases::TWO;
 use crate::opening::level_of;
 use crate::sample::{LINE_WITHOUT_SIDE_1, base, base_with, pack};
-use demo_engines::{AtOnce, DemoQuestion, DemosFault, Unwatched, demos_file};
+use demo_engines::{DemoQuestion, DemosFault, demos_file};
 use le_rec::Sink;
-use lens_engines::{Base, CutFault, Ignored, Judged, Rules, Warnings, cut_level};
-use lens_texts::Form;
-use level_codes::WarningCode;
+use lens_engines::{Base, CutFault, Judged, Rules, Warnings, cut_level};
+use lens_texts::{AtOnce, Form, Unwatched};
+use level_codes::{CodeSet, WarningCode};
 use map_level::{Level, Reading};
 use std::alloc::{AllocError, Allocator};
 use std::process::Abort;
@@ -24,7 +24,8 @@ fn looked_over<'l, 'a, A: Allocator + Copy>(
     let rules = Rules {
         reading: Reading::Signed,
         warnings,
-        ignored: Ignored::none(),
+        ignored: CodeSet::none(),
+        failing: CodeSet::none(),
     };
     let base = Base::none();
     Judged::of(alloc, level, &None, 1, rules.over(&base))
@@ -108,7 +109,6 @@ fn all_told(
 fn check_warnings(rt: &(impl Abort + AllocGlobal), level: &Level<'_>) {
     let (growths, told) = all_told(rt, level, Warnings::Told);
     check_same(rt, told, WARNED);
-    check_same(rt, all_told(rt, level, Warnings::Strict), (growths, WARNED));
     // Where they aren't asked for, there are no growths but those for the level's findings.
     let (fewer, none) = all_told(rt, level, Warnings::Unasked);
     check_same(rt, none, NOT_WARNED);

@@ -1,9 +1,9 @@
 //! Each growth of `read_all` refused in turn.
 
 use crate::compare::{check_bytes, check_same};
+use look_engines::{RunFault, read_all};
 use std::process::Abort;
 use test_refusals::{Refusing, SliceSource};
-use wad_look::{RunFault, read_all};
 
 // Whether `read_all` met growth `n` refused.
 fn is_refused(rt: &(impl Abort + AllocGlobal), n: u64) -> bool {

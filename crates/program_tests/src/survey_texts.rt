@@ -3,7 +3,8 @@
 use crate::compare::{check_bytes, check_same};
 use crate::sample::{lumps, pack, pack_both};
 use le_rec::Sink;
-use lens_engines::{Base, Ignored, LevelsFault, Rules, Verdict, Warnings, survey_file};
+use lens_engines::{Base, LevelsFault, Rules, Verdict, Warnings, survey_file};
+use level_codes::CodeSet;
 use map_level::Reading;
 use std::alloc::Allocator;
 use std::process::Abort;
@@ -14,7 +15,8 @@ fn signed() -> Rules {
     Rules {
         reading: Reading::Signed,
         warnings: Warnings::Unasked,
-        ignored: Ignored::none(),
+        ignored: CodeSet::none(),
+        failing: CodeSet::none(),
     }
 }
 

@@ -8,7 +8,7 @@ use Rattle.le_rec.specs.Sink.{SinkState}
 use Rattle.lens_reports.specs.Bases.{AreBases, IsRefusedAt, path_at}
 use Rattle.lens_reports.specs.Files.{lent}
 use Rattle.lens_reports.specs.declared.bases.BaseFault.{BaseFault}
-use Rattle.lens_reports.specs.declared.tell.Word.{Word}
+use Rattle.lens_reports.specs.declared.tell.ReportKind.{ReportKind}
 use Rattle.lens_engines.specs.Rules.{IsOver}
 use Rattle.lens_engines.specs.declared.judging.Judging.{Judging}
 use Rattle.lens_engines.specs.declared.judging.Rules.{Rules}
@@ -20,13 +20,13 @@ use Rattle.wad_page.specs.declared.lens.LensFault.{LensFault}
 use Rattle.wad_page.specs.declared.lens.LensFault.TheVariants.{Full}
 use Rattle.wad_page.specs.declared.lens.LensQuestion.{LensQuestion}
 use Rattle.wad_page.specs.declared.lens.LensRequest.{LensRequest}
-use Rattle.wad_page.specs.declared.parts.Parts.{Parts}
+use Rattle.wad_page.specs.declared.parts.SizedBytes.{SizedBytes}
 
 -- the parts that were found
 pub parts_are : {V : Type 0} (f : V → List (List ℕ)) (found : Option V) (v : V) (whole : Option (List (List ℕ))) → option_map f found ≡ whole → found ≡ Some v → whole ≡ Some (f v)
 parts_are f found v whole cuts is = sym cuts ∙ ap (option_map f) is
 
-module _ {W E : Type 0} (question : LensQuestion) (named given : Parts) (out : W) (errors : E) (paths files : List (List ℕ))
+module _ {W E : Type 0} (question : LensQuestion) (named given : SizedBytes) (out : W) (errors : E) (paths files : List (List ℕ))
     (paths_are : cut named.sizes.now named.bytes.now ≡ Some paths) (files_are : cut given.sizes.now given.bytes.now ≡ Some files) where
   -- there aren't as many files as paths
   pub other_count : length paths ≢ length files → RefusesLens question named given out out errors errors
@@ -52,7 +52,7 @@ module _ {W E : Type 0} (question : LensQuestion) (named given : Parts) (out : W
   }
 
 -- the files were told, or there was no room
-pub answered : {W E : Type 0} (state : W → SinkState) (estate : E → SinkState) (question : LensQuestion) (named given : Parts) (out out' : W) (errors errors' : E)
+pub answered : {W E : Type 0} (state : W → SinkState) (estate : E → SinkState) (question : LensQuestion) (named given : SizedBytes) (out out' : W) (errors errors' : E)
     (asked : LensRequest) (paths files : List (List ℕ)) (result : Result Verdict LensFault) → AsksFiles question named given asked paths files
     → IfOk result (Answers asked.word asked.rules question.bases paths files (state out) (state out') (estate errors) (estate errors')) → IfErr result (λ fault. fault ≡ Full)
     → DoesLens state estate question named given out out' errors errors' result
@@ -70,7 +70,7 @@ other_slices n slices =
     ∙ sym (drop-map (λ (slice : Bor (List ℕ)). slice.now) n slices)
 
 -- the first files were read, and the others told over them
-pub tells_others : (word : Word) (rules : Rules) (bases : ℕ) (paths files : List (List ℕ)) (base : List Wad) (judging : Judging) (out out' errors errors' : SinkState)
+pub tells_others : (word : ReportKind) (rules : Rules) (bases : ℕ) (paths files : List (List ℕ)) (base : List Wad) (judging : Judging) (out out' errors errors' : SinkState)
     (result : Result Verdict LensFault) → AreBases (lent (take bases files)) (take bases paths) base → IsOver rules base judging
     → IfOk result (TellsAll (record { word = word; judging = judging }) (drop bases paths) (drop bases files) out out' errors errors')
     → IfOk result (TellsOver word rules bases paths files out out' errors errors')
@@ -79,7 +79,7 @@ tells_others word rules bases paths files base judging out out' errors errors' (
 tells_others word rules bases paths files base judging out out' errors errors' (Err fault) are over told = tt
 
 -- or one of the first is refused
-pub refuses_base : (word : Word) (rules : Rules) (bases : ℕ) (paths files : List (List ℕ)) (first : BaseFault) (out errors errors' : SinkState)
+pub refuses_base : (word : ReportKind) (rules : Rules) (bases : ℕ) (paths files : List (List ℕ)) (first : BaseFault) (out errors errors' : SinkState)
     (result : Result Verdict LensFault) → IsRefusedAt (lent (take bases files)) (take bases paths) first
     → IfOk result (TellsRefused (path_at (take bases paths) first.place) first.fault errors errors')
     → IfOk result (TellsOver word rules bases paths files out out errors errors')

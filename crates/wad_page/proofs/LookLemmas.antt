@@ -1,15 +1,15 @@
 -- Why words ask for nothing.
 use Rattle.std.proofs.Common.{◌≡◌, ℕ, List, length, Some, sym, subst, ap, ◌∙◌}
 use Rattle.std.proofs.lemmas.Option.{same_Some}
-use Rattle.wad_look.specs.Words.{IsJob, paths_of}
-use Rattle.wad_look.specs.declared.command.Job.{Job}
+use Rattle.look_engines.specs.Words.{IsJob, paths_of}
+use Rattle.look_engines.specs.declared.command.Job.{Job}
 use Rattle.wad_page.specs.Look.{RefusesLook}
 use Rattle.wad_page.specs.Parts.{AreWords, RefusesWords, cut}
-use Rattle.wad_page.specs.declared.parts.Parts.{Parts}
+use Rattle.wad_page.specs.declared.parts.SizedBytes.{SizedBytes}
 use Rattle.wad_page.specs.declared.refusal.PageRefusal.{PageRefusal}
 use Rattle.wad_page.specs.declared.refusal.PageRefusal.TheVariants.{Usage, Run}
 
-module _ (parts files : Parts) where
+module _ (parts files : SizedBytes) where
   pub refused_words : (refusal : PageRefusal) → RefusesWords parts refusal → RefusesLook parts files refusal
   refused_words Usage told = λ words job bytes asks. told words asks.words_are
   refused_words (Run fault) told = told

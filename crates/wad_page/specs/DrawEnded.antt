@@ -15,10 +15,11 @@ use Rattle.memory_streams.specs.ToVec.{ToVec, state_of}
 abbrev pub frame_of : DrawQuestion → Option Frame
 frame_of question = if question.framed == 0 then None else Some (frame_at question.x0 question.y0 question.x1 question.y1)
 
--- this is asked of the engine
+-- this is asked of the engine: no warnings, which the page marks by itself
 pub record IsAsked (question : DrawQuestion) (view : View) : Type 0 where
   pub framed : view.frame ≡ frame_of question
   pub many : view.cells ≡ question.cells
+  pub plain : view.warnings ≡ None
 
 -- the status: a level that was drawn has a fault or none, and what isn't drawn is refused
 abbrev pub draw_status : Result Bool PictureFault → ℕ

@@ -9,16 +9,18 @@ use Rattle.lens_reports.specs.Job.{closing_line, unlooked_line}
 use Rattle.lens_reports.specs.declared.bases.BaseFault.{BaseFault}
 use Rattle.lens_reports.specs.declared.files.ReadFault.{ReadFault}
 use Rattle.lens_reports.specs.declared.files.ReadFault.TheVariants.{Refused, Memory}
-use Rattle.lens_reports.specs.declared.tell.Word.{Word}
-use Rattle.lens_engines.specs.Ignored.{no_codes}
+use Rattle.lens_reports.specs.declared.tell.ReportKind.{ReportKind}
+use Rattle.level_codes.specs.Sets.{group_codes, no_codes}
+use Rattle.level_codes.specs.declared.set.CodeSet.{CodeSet}
+use Rattle.level_codes.specs.declared.set.Group.TheVariants as group
 use Rattle.lens_engines.specs.Rules.{IsOver}
 use Rattle.lens_engines.specs.declared.judging.Rules.{Rules}
 use Rattle.wad_dir.specs.Wad.{Wad}
 use Rattle.lens_reports.specs.Run.{ToldTo, refusal_line}
 use Rattle.lens_reports.specs.Status.{status_of}
 use Rattle.lens_reports.specs.declared.tell.Request.{Request}
-use Rattle.lens_reports.specs.declared.tell.Tally.{Tally}
-use Rattle.lens_reports.specs.declared.tell.Word.TheVariants.{Check, Survey, Demos}
+use Rattle.lens_reports.specs.declared.tell.ReportSum.{ReportSum}
+use Rattle.lens_reports.specs.declared.tell.ReportKind.TheVariants.{Check, Survey, Demos}
 use Rattle.lens_engines.specs.Cut.{IsCut, RefusesCut}
 use Rattle.lens_texts.specs.declared.form.Form.TheVariants.{Lines, Objects}
 use Rattle.lens_engines.specs.declared.cut.CutFault.{CutFault}
@@ -27,7 +29,7 @@ use Rattle.lens_engines.specs.declared.cut.Uncut.{Uncut}
 use Rattle.lens_engines.specs.declared.cut.Uncut.TheVariants as uncut
 use Rattle.lens_engines.specs.declared.judging.Judging.{Judging}
 use Rattle.lens_engines.specs.declared.judging.Warnings.{Warnings}
-use Rattle.lens_engines.specs.declared.judging.Warnings.TheVariants.{Unasked, Told, Strict}
+use Rattle.lens_engines.specs.declared.judging.Warnings.TheVariants.{Unasked, Told}
 use Rattle.lens_engines.specs.declared.object.FileRefusal.TheVariants as refusal
 use Rattle.lens_engines.specs.declared.verdict.Verdict.{Verdict}
 use Rattle.lens_engines.specs.declared.verdict.Verdict.TheVariants.{Clean, Unjudged, Faulty}
@@ -44,7 +46,7 @@ use Rattle.wad_page.specs.declared.lens.LensQuestion.{LensQuestion}
 use Rattle.wad_page.specs.declared.lens.LensRequest.{LensRequest}
 use Rattle.wad_page.specs.declared.lens.LensWord.{LensWord}
 use Rattle.wad_page.specs.declared.lens.LensWord.TheVariants.{Tell, Cut}
-use Rattle.wad_page.specs.declared.parts.Parts.{Parts}
+use Rattle.wad_page.specs.declared.parts.SizedBytes.{SizedBytes}
 
 -- a command's number, and what number goes with it
 abbrev pub AsksWord : ℕ → ℕ → LensWord → Type 0
@@ -58,8 +60,11 @@ AsksWord command number (Cut entry) = (command ≡ 4) × (entry ≡ number)
 -- how warnings are asked for
 abbrev pub AsksWarnings : ℕ → Warnings → Type 0
 AsksWarnings number Unasked = number ≡ 0
-AsksWarnings number Told = number ≡ 1
-AsksWarnings number Strict = number ≡ 2
+AsksWarnings number Told = (number ≡ 1) ⊎ (number ≡ 2)
+
+-- what is as grave as a fault: with 2 each warning is
+abbrev pub failing_of : ℕ → CodeSet
+failing_of number = if number == 2 then group_codes group.Warnings else no_codes
 
 abbrev pub reading_of : ℕ → Reading
 reading_of wide = if wide == 0 then Signed else Wide
@@ -70,6 +75,7 @@ pub record Asks (question : LensQuestion) (asked : LensRequest) : Type 0 where
   pub warnings_are : AsksWarnings question.warnings asked.rules.warnings
   pub reads : asked.rules.reading ≡ reading_of question.wide
   pub all : asked.rules.ignored ≡ no_codes
+  pub fails : asked.rules.failing ≡ failing_of question.warnings
 
 -- whether it can be asked of `count` files, of which the first `bases` are base files
 abbrev pub Takes : LensWord → ℕ → ℕ → Type 0
@@ -79,15 +85,15 @@ Takes (Cut entry) bases count = (bases ≡ 0) × (count ≡ 1)
 -- all files were reported on, and then which warnings weren't looked for
 pub record TellsAll (asked : Request) (paths files : List (List ℕ)) (out out' errors errors' : SinkState) (verdict : Verdict) : Type 0 where
   pub between : SinkState
-  pub tally : Tally
+  pub tally : ReportSum
   pub between_errors : SinkState
   pub told : ToldTo (lent files) asked out errors paths between between_errors tally
   pub closed : Appends between.taken out'.taken (closing_line asked (length paths) tally.totals)
-  pub noted : Appends between_errors.taken errors'.taken (unlooked_line tally.totals.unlooked)
+  pub noted : Appends between_errors.taken errors'.taken (unlooked_line tally.totals.unlisted)
   pub says : verdict ≡ tally.verdict
 
 -- the files behind the base files were reported on, over the base files
-pub record TellsOthers (word : Word) (rules : Rules) (bases : ℕ) (paths files : List (List ℕ)) (out out' errors errors' : SinkState) (verdict : Verdict) : Type 0 where
+pub record TellsOthers (word : ReportKind) (rules : Rules) (bases : ℕ) (paths files : List (List ℕ)) (out out' errors errors' : SinkState) (verdict : Verdict) : Type 0 where
   pub base : List Wad
   pub are_bases : AreBases (lent (take bases files)) (take bases paths) base
   pub judging : Judging
@@ -107,7 +113,7 @@ pub record RefusesBase (bases : ℕ) (paths files : List (List ℕ)) (out out' e
   pub told : TellsRefused (path_at (take bases paths) first.place) first.fault errors errors' verdict
 
 -- the files behind the base files were reported on, or a base file is refused
-abbrev pub TellsOver : Word → Rules → ℕ → List (List ℕ) → List (List ℕ) → SinkState → SinkState → SinkState → SinkState → Verdict → Type 0
+abbrev pub TellsOver : ReportKind → Rules → ℕ → List (List ℕ) → List (List ℕ) → SinkState → SinkState → SinkState → SinkState → Verdict → Type 0
 TellsOver word rules bases paths files out out' errors errors' verdict =
     RefusesBase bases paths files out out' errors errors' verdict ⊎ TellsOthers word rules bases paths files out out' errors errors' verdict
 
@@ -171,7 +177,7 @@ Answers (Cut entry) rules bases paths files out out' errors errors' verdict =
     CutsFile entry (slice_index_or paths 0 []) files out out' errors errors' verdict
 
 -- the question asks for this of these files, one for each path
-pub record AsksFiles (question : LensQuestion) (named given : Parts) (asked : LensRequest) (paths files : List (List ℕ)) : Type 0 where
+pub record AsksFiles (question : LensQuestion) (named given : SizedBytes) (asked : LensRequest) (paths files : List (List ℕ)) : Type 0 where
   pub asks : Asks question asked
   pub paths_are : cut named.sizes.now named.bytes.now ≡ Some paths
   pub files_are : cut given.sizes.now given.bytes.now ≡ Some files
@@ -179,7 +185,7 @@ pub record AsksFiles (question : LensQuestion) (named given : Parts) (asked : Le
   pub takes : Takes asked.word question.bases (length files)
 
 -- the question was answered
-pub record RunsLens (question : LensQuestion) (named given : Parts) (out out' errors errors' : SinkState) (verdict : Verdict) : Type 0 where
+pub record RunsLens (question : LensQuestion) (named given : SizedBytes) (out out' errors errors' : SinkState) (verdict : Verdict) : Type 0 where
   pub asked : LensRequest
   pub paths : List (List ℕ)
   pub files : List (List ℕ)
@@ -187,7 +193,7 @@ pub record RunsLens (question : LensQuestion) (named given : Parts) (out out' er
   pub answers : Answers asked.word asked.rules question.bases paths files out out' errors errors' verdict
 
 -- nothing is asked, or not of such files, and nothing was written
-pub record RefusesLens {W E : Type 0} (question : LensQuestion) (named given : Parts) (out out' : W) (errors errors' : E) : Type 0 where
+pub record RefusesLens {W E : Type 0} (question : LensQuestion) (named given : SizedBytes) (out out' : W) (errors errors' : E) : Type 0 where
   pub none : (asked : LensRequest) (paths files : List (List ℕ)) → ¬ AsksFiles question named given asked paths files
   pub untouched : out' ≡ out
   pub silent : errors' ≡ errors
@@ -197,7 +203,7 @@ abbrev pub AskSomething : LensQuestion → Type 0
 AskSomething question = (asked : LensRequest) × Asks question asked
 
 -- one of the two, or there was no room for what is asked
-abbrev pub DoesLens : {W E : Type 0} → (W → SinkState) → (E → SinkState) → LensQuestion → Parts → Parts → W → W → E → E → Result Verdict LensFault → Type 0
+abbrev pub DoesLens : {W E : Type 0} → (W → SinkState) → (E → SinkState) → LensQuestion → SizedBytes → SizedBytes → W → W → E → E → Result Verdict LensFault → Type 0
 DoesLens state estate question named given out out' errors errors' (Ok verdict) =
     RunsLens question named given (state out) (state out') (estate errors) (estate errors') verdict
 DoesLens state estate question named given out out' errors errors' (Err Usage) = RefusesLens question named given out out' errors errors'
@@ -217,9 +223,9 @@ lens_message (Err Full) told = told
 
 -- the question was answered: the status says how that ended, the answer stands at the front of `out`, and the message at the front of `why`
 pub record Lensed (question : LensQuestion) (paths path_sizes files file_sizes out out' why why' : List ℕ) (ended : Ended) : Type 0 where
-  pub named : Parts
+  pub named : SizedBytes
   pub names_are : AreGiven named paths path_sizes
-  pub given : Parts
+  pub given : SizedBytes
   pub files_are : AreGiven given files file_sizes
   pub sink : ToVec
   pub sink' : ToVec

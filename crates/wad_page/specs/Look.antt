@@ -4,23 +4,23 @@ use Rattle.le_rec.specs.Sink.{SinkState}
 use Rattle.memory_streams.specs.FromSlice.{bytes_left, state_of as slice_state}
 use Rattle.memory_streams.specs.ToVec.{ToVec, state_of as vec_state}
 use Rattle.memory_streams.specs.declared.from_slice.FromSlice.{FromSlice}
-use Rattle.wad_look.specs.RunsJob.{RunsJob}
-use Rattle.wad_look.specs.Words.{IsJob, paths_of}
-use Rattle.wad_look.specs.declared.command.Cmd.{Cmd}
-use Rattle.wad_look.specs.declared.command.Cmd.TheVariants.{Lmp}
-use Rattle.wad_look.specs.declared.command.Job.{Job}
-use Rattle.wad_look.specs.declared.fault.RunFault.{RunFault}
-use Rattle.wad_look.specs.declared.fault.RunFault.TheVariants.{Memory}
+use Rattle.look_engines.specs.RunsJob.{RunsJob}
+use Rattle.look_engines.specs.Words.{IsJob, paths_of}
+use Rattle.look_engines.specs.declared.command.Cmd.{Cmd}
+use Rattle.look_engines.specs.declared.command.Cmd.TheVariants.{Lmp}
+use Rattle.look_engines.specs.declared.command.Job.{Job}
+use Rattle.look_engines.specs.declared.fault.RunFault.{RunFault}
+use Rattle.look_engines.specs.declared.fault.RunFault.TheVariants.{Memory}
 use Rattle.wad_page.specs.Ended.{HandsOut, LacksRoom, TellsFront}
 use Rattle.wad_page.specs.Parts.{AreGiven, AreWords, cut}
 use Rattle.wad_page.specs.Refusal.{exit_status_of, page_end, reason_text}
 use Rattle.wad_page.specs.declared.Ended.{Ended}
-use Rattle.wad_page.specs.declared.parts.Parts.{Parts}
+use Rattle.wad_page.specs.declared.parts.SizedBytes.{SizedBytes}
 use Rattle.wad_page.specs.declared.refusal.PageRefusal.{PageRefusal}
 use Rattle.wad_page.specs.declared.refusal.PageRefusal.TheVariants.{Usage, Run}
 
 -- the words ask for a job, over as many files as it names
-pub record Asks (parts files : Parts) (words : List (List ℕ)) (job : Job) (bytes : List (List ℕ)) : Type 0 where
+pub record Asks (parts files : SizedBytes) (words : List (List ℕ)) (job : Job) (bytes : List (List ℕ)) : Type 0 where
   pub words_are : AreWords parts words
   pub asked : IsJob words job
   pub files_are : cut files.sizes.now files.bytes.now ≡ Some bytes
@@ -39,7 +39,7 @@ pub record RunsFiles {W : Type 0} (sink : W → SinkState) (words : List (List �
   pub runs : RunsJob slice_state sink words job files source source' out out' result
 
 -- the words' job runs over the files
-pub record RunsWords {W : Type 0} (sink : W → SinkState) (parts files : Parts) (input : List ℕ) (out out' : W) (result : Result Bool PageRefusal) : Type 0 where
+pub record RunsWords {W : Type 0} (sink : W → SinkState) (parts files : SizedBytes) (input : List ℕ) (out out' : W) (result : Result Bool PageRefusal) : Type 0 where
   pub words : List (List ℕ)
   pub job : Job
   pub bytes : List (List ℕ)
@@ -49,27 +49,27 @@ pub record RunsWords {W : Type 0} (sink : W → SinkState) (parts files : Parts)
   pub ended : result ≡ page_end outcome
 
 -- why none does: the words ask for none over so many files, or there is no memory
-abbrev pub RefusesLook : Parts → Parts → PageRefusal → Type 0
+abbrev pub RefusesLook : SizedBytes → SizedBytes → PageRefusal → Type 0
 RefusesLook parts files Usage = (words : List (List ℕ)) (job : Job) (bytes : List (List ℕ)) → ¬ Asks parts files words job bytes
 RefusesLook parts files (Run fault) = fault ≡ Memory
 
 -- it ended before anything was written
-pub record IsRefused {W : Type 0} (parts files : Parts) (out out' : W) (result : Result Bool PageRefusal) : Type 0 where
+pub record IsRefused {W : Type 0} (parts files : SizedBytes) (out out' : W) (result : Result Bool PageRefusal) : Type 0 where
   pub refusal : PageRefusal
   pub ended : result ≡ Err refusal
   pub holds : RefusesLook parts files refusal
   pub untouched : out' ≡ out
 
-abbrev pub DoesLook : {W : Type 0} → (W → SinkState) → Parts → Parts → List ℕ → W → W → Result Bool PageRefusal → Type 0
+abbrev pub DoesLook : {W : Type 0} → (W → SinkState) → SizedBytes → SizedBytes → List ℕ → W → W → Result Bool PageRefusal → Type 0
 DoesLook sink parts files input out out' result =
     IsRefused parts files out out' result ⊎ RunsWords sink parts files input out out' result
 
 -- it did what the words ask for: the status says how that ended, and isn't the one for no room; the whole answer stands at the front of `out`, and the
 -- reason of a refusal at the front of `why`
 pub record Looked (words word_sizes files file_sizes input out out' why why' : List ℕ) (ended : Ended) : Type 0 where
-  pub asked : Parts
+  pub asked : SizedBytes
   pub words_are : AreGiven asked words word_sizes
-  pub given : Parts
+  pub given : SizedBytes
   pub files_are : AreGiven given files file_sizes
   pub sink : ToVec
   pub sink' : ToVec

@@ -1,8 +1,8 @@
 -- How a run of `wadlook`'s words ends in a page, the status for it, and why there is no answer, in words (ours).
 use Rattle.std.specs.Prelude.{ℕ, Bool, List, [], codes, Result, Ok, Err}
-use Rattle.wad_look.specs.FaultText.{fault_text}
-use Rattle.wad_look.specs.Outcome.{status_of}
-use Rattle.wad_look.specs.declared.fault.RunFault.{RunFault}
+use Rattle.look_engines.specs.FaultText.{fault_text}
+use Rattle.look_engines.specs.Outcome.{status_of}
+use Rattle.look_engines.specs.declared.fault.RunFault.{RunFault}
 use Rattle.wad_page.specs.declared.refusal.PageRefusal.{PageRefusal}
 use Rattle.wad_page.specs.declared.refusal.PageRefusal.TheVariants.{Usage, Run}
 

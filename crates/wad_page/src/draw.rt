@@ -6,7 +6,7 @@ ghost use Rattle.wad_page.specs.DrawEnded.{AnswersDrawing, IsAsked, IsOutOfBound
 
 use crate::Ended;
 use crate::lens::reading_of;
-use block_alloc::{Block, arena};
+use block_alloc::{HostBlock, arena};
 use le_rec::Sink;
 use map_cells::{CellCount, Frame};
 use map_level::{Level, LevelFault, Reading};
@@ -39,7 +39,7 @@ pub const REFUSED: Ended = Ended {
 };
 
 /// Draws the first level of a file into `out`; None where there is no room.
-pub fn draw(heap: Block, file: &[u8], question: &DrawQuestion, out: &mut [u8]) -> Option<Ended>
+pub fn draw(heap: HostBlock, file: &[u8], question: &DrawQuestion, out: &mut [u8]) -> Option<Ended>
     ensures { IfSome result (AnswersDrawing file.now question.now out.old out.new) }
 {
     let Some(view) = view_of(question) else {
@@ -68,12 +68,17 @@ fn view_of(question: &DrawQuestion) -> Option<View>
         return None;
     };
     if question.framed == 0 {
-        return Some(View { frame: None, cells });
+        return Some(View {
+            frame: None,
+            cells,
+            warnings: None,
+        });
     }
     let frame = Frame::new(question.x0, question.y0, question.x1, question.y1)?;
     Some(View {
         frame: Some(frame),
         cells,
+        warnings: None,
     })
 }
 

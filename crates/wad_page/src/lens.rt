@@ -2,21 +2,23 @@
 
 ghost use Rattle.std.specs.Prelude.{◌≡◌, ◌↔◌, ◌<◌, ◌≤◌, [], false, Some, length, map, slice_index_or, IfErr, IfOk};
 ghost use Rattle.lens_reports.specs.Run.{AreSound};
-ghost use Rattle.wad_page.specs.Lens.{Asks, AsksWarnings, AsksWord, CutsBytes, CutsFile, DoesLens, TellsAll, TellsOver, TellsRefused, lens_message, lens_status, reading_of, verdict_of_cut, verdict_of_uncut};
+ghost use Rattle.wad_page.specs.Lens.{Asks, AsksWarnings, AsksWord, CutsBytes, CutsFile, DoesLens, TellsAll, TellsOver, TellsRefused, failing_of, lens_message, lens_status, reading_of, verdict_of_cut, verdict_of_uncut};
 ghost use Rattle.lens_engines.specs.declared.judging.Warnings.{Warnings};
 ghost use Rattle.memory_streams.specs.ToVec.{state_of as vec_state};
 ghost use Rattle.wad_page.specs.declared.lens.LensFault.TheVariants.{Full};
 ghost use Rattle.wad_page.specs.declared.lens.LensRequest.{LensRequest};
 ghost use Rattle.wad_page.specs.declared.lens.LensWord.{LensWord};
 
-use crate::parts::{Parts, slices};
+use crate::parts::{SizedBytes, slices};
 use le_rec::Sink;
-use lens_engines::{Base, CutFault, Ignored, Rules, Uncut, Verdict, Warnings, cut_level};
+use lens_engines::{Base, CutFault, Rules, Uncut, Verdict, Warnings, cut_level};
 use lens_reports::{
-    AtOnce, BaseFault, HandOn, Held, ReadFault, Request, RunFiles, Unwatched, Word, read_bases,
-    status, tell_paths, wads_of, write_cut_line, write_last, write_refusal, write_unlooked,
+    AtOnce, BaseFault, HandOn, Held, ReadFault, ReportKind, Request, RunFiles, Unwatched,
+    read_bases, status, tell_paths, wads_of, write_cut_line, write_last, write_refusal,
+    write_unlooked,
 };
 use lens_texts::Form;
+use level_codes::{CodeSet, Group};
 use map_level::Reading;
 use memory_streams::ToVec;
 use std::alloc::{AllocError, Allocator};
@@ -41,7 +43,7 @@ pub struct LensQuestion {
 #[derive(Clone, Copy)]
 pub enum LensWord {
     /// A report on each of them.
-    Tell(Word),
+    Tell(ReportKind),
     /// One level of the only file is cut out: the one whose label is the entry of this number.
     Cut(u64),
 }
@@ -91,8 +93,8 @@ impl From<AllocError> for LensFault {
 pub fn do_lens<A: Allocator + Copy, W: HandOn, E: Sink>(
     alloc: A,
     question: &LensQuestion,
-    paths: Parts<'_>,
-    files: Parts<'_>,
+    paths: SizedBytes<'_>,
+    files: SizedBytes<'_>,
     out: &mut W,
     errors: &mut E,
 ) -> Result<Verdict, LensFault>
@@ -127,8 +129,8 @@ pub fn do_lens<A: Allocator + Copy, W: HandOn, E: Sink>(
 pub fn lens_into<A: Allocator + Copy>(
     alloc: A,
     question: &LensQuestion,
-    paths: Parts<'_>,
-    files: Parts<'_>,
+    paths: SizedBytes<'_>,
+    files: SizedBytes<'_>,
     out: ToVec<A>,
     errors: &mut ToVec<A>,
 ) -> (ToVec<A>, Result<Verdict, LensFault>)
@@ -149,7 +151,8 @@ fn asked_by(question: &LensQuestion) -> Option<LensRequest>
     let rules = Rules {
         reading: reading_of(question.wide),
         warnings,
-        ignored: Ignored::none(),
+        ignored: CodeSet::none(),
+        failing: failing_of(question.warnings),
     };
     Some(LensRequest { word, rules })
 }
@@ -158,12 +161,12 @@ fn word_of(command: u8, number: u64) -> Option<LensWord>
     ensures { (word : LensWord) → (result ≡ Some word) ↔ AsksWord command number word }
 {
     match command {
-        0 => Some(LensWord::Tell(Word::Check(number, Form::Lines))),
-        1 => Some(LensWord::Tell(Word::Survey)),
-        2 => Some(LensWord::Tell(Word::Demos(Form::Lines))),
-        3 => Some(LensWord::Tell(Word::Demos(Form::Objects))),
+        0 => Some(LensWord::Tell(ReportKind::Check(number, Form::Lines))),
+        1 => Some(LensWord::Tell(ReportKind::Survey)),
+        2 => Some(LensWord::Tell(ReportKind::Demos(Form::Lines))),
+        3 => Some(LensWord::Tell(ReportKind::Demos(Form::Objects))),
         4 => Some(LensWord::Cut(number)),
-        5 => Some(LensWord::Tell(Word::Check(number, Form::Objects))),
+        5 => Some(LensWord::Tell(ReportKind::Check(number, Form::Objects))),
         _ => None,
     }
 }
@@ -173,9 +176,19 @@ fn warnings_of(warnings: u8) -> Option<Warnings>
 {
     match warnings {
         0 => Some(Warnings::Unasked),
-        1 => Some(Warnings::Told),
-        2 => Some(Warnings::Strict),
+        1 | 2 => Some(Warnings::Told),
         _ => None,
+    }
+}
+
+// What is as grave as a fault: with 2 each warning is.
+fn failing_of(warnings: u8) -> CodeSet
+    ensures { result ≡ failing_of warnings }
+{
+    if warnings == 2 {
+        CodeSet::of_group(Group::Warnings)
+    } else {
+        CodeSet::none()
     }
 }
 
@@ -193,7 +206,7 @@ pub fn reading_of(wide: u8) -> Reading
 // Reads the base files, which come first, and reports on the others. If a base file is refused, it reports which.
 fn tell_over<A: Allocator + Copy, W: HandOn, E: Sink>(
     alloc: A,
-    word: Word,
+    word: ReportKind,
     rules: Rules,
     bases: usize,
     paths: &[&[u8]],
@@ -275,7 +288,7 @@ fn tell_all<A: Allocator + Copy, W: HandOn, E: Sink>(
     if write_last(asked, paths.len() as u64, &tally.totals, out).is_err() {
         return Err(LensFault::Full);
     }
-    match write_unlooked(tally.totals.unlooked, errors) {
+    match write_unlooked(tally.totals.unlisted, errors) {
         Ok(()) => Ok(tally.verdict),
         Err(_) => Err(LensFault::Full),
     }

@@ -15,14 +15,14 @@ mod look;
 mod parts;
 mod refusal;
 
-use block_alloc::{Block, arena};
+use block_alloc::{HostBlock, arena};
 use draw::{DrawQuestion, draw};
 use le_rec::Sink;
 use lens::{LensFault, LensQuestion, lens_into, lens_message, lens_status};
 use linedefs::{LinedefsQuestion, list_out};
 use look::do_words;
 use memory_streams::{ToVec, hand_out};
-use parts::Parts;
+use parts::SizedBytes;
 use refusal::{exit_status, tell};
 
 /// How a run ended, as the host reads it.
@@ -54,7 +54,7 @@ const NO_ROOM: Ended = Ended {
 /// or the block. Nobody else uses the block, and no second call does.
 #[unsafe(no_mangle)]
 pub extern "C" fn run_wadlook(
-    heap: Block,
+    heap: HostBlock,
     words: &[u8],
     word_sizes: &[usize],
     files: &[u8],
@@ -66,11 +66,11 @@ pub extern "C" fn run_wadlook(
 )
     ensures { LookEnds words.now word_sizes.now files.now file_sizes.now input.now out.old out.new why.old why.new ended.new }
 {
-    let words = Parts {
+    let words = SizedBytes {
         bytes: words,
         sizes: word_sizes,
     };
-    let files = Parts {
+    let files = SizedBytes {
         bytes: files,
         sizes: file_sizes,
     };
@@ -83,7 +83,7 @@ pub extern "C" fn run_wadlook(
 /// The host must keep the same as for `run_wadlook`.
 #[unsafe(no_mangle)]
 pub extern "C" fn run_wadlens(
-    heap: Block,
+    heap: HostBlock,
     question: &LensQuestion,
     paths: &[u8],
     path_sizes: &[usize],
@@ -95,11 +95,11 @@ pub extern "C" fn run_wadlens(
 )
     ensures { LensEnds question.now paths.now path_sizes.now files.now file_sizes.now out.old out.new why.old why.new ended.new }
 {
-    let paths = Parts {
+    let paths = SizedBytes {
         bytes: paths,
         sizes: path_sizes,
     };
-    let files = Parts {
+    let files = SizedBytes {
         bytes: files,
         sizes: file_sizes,
     };
@@ -112,7 +112,7 @@ pub extern "C" fn run_wadlens(
 /// What the host keeps is as for `run_wadlook`.
 #[unsafe(no_mangle)]
 pub extern "C" fn draw_picture(
-    heap: Block,
+    heap: HostBlock,
     file: &[u8],
     question: &DrawQuestion,
     out: &mut [u8],
@@ -131,7 +131,7 @@ pub extern "C" fn draw_picture(
 /// What the host keeps is as for `run_wadlook`.
 #[unsafe(no_mangle)]
 pub extern "C" fn list_linedefs(
-    heap: Block,
+    heap: HostBlock,
     file: &[u8],
     question: &LinedefsQuestion,
     out: &mut [u8],
@@ -144,9 +144,9 @@ pub extern "C" fn list_linedefs(
 
 // What `run_wadlook` answers, where there is room.
 fn answer_look(
-    heap: Block,
-    words: Parts<'_>,
-    files: Parts<'_>,
+    heap: HostBlock,
+    words: SizedBytes<'_>,
+    files: SizedBytes<'_>,
     input: &[u8],
     out: &mut [u8],
     why: &mut [u8],
@@ -172,10 +172,10 @@ fn answer_look(
 
 // What `run_wadlens` answers, where there is room.
 fn answer_lens(
-    heap: Block,
+    heap: HostBlock,
     question: &LensQuestion,
-    paths: Parts<'_>,
-    files: Parts<'_>,
+    paths: SizedBytes<'_>,
+    files: SizedBytes<'_>,
     out: &mut [u8],
     why: &mut [u8],
 ) -> Option<Ended>

@@ -12,7 +12,7 @@ ghost use Rattle.wad_page.specs.LinedefsEnded.{AnswersLinedefs};
 use crate::Ended;
 use crate::draw::REFUSED;
 use crate::lens::reading_of;
-use block_alloc::{Block, arena};
+use block_alloc::{HostBlock, arena};
 use byteorder::{ByteOrder, LittleEndian};
 use le_rec::SideDef;
 use map_cells::linedef_ends;
@@ -61,7 +61,7 @@ impl From<AllocError> for ListFault {
 
 /// Lists the linedefs of a file's first level into `out`; None where there is no room.
 pub fn list_out(
-    heap: Block,
+    heap: HostBlock,
     file: &[u8],
     question: &LinedefsQuestion,
     out: &mut [u8],

@@ -1,21 +1,21 @@
 //! Commands of `wadlook` over files in memory.
 ghost use Rattle.std.specs.Prelude.{◌≡◌, ◌<◌, ◌≤◌, false, length, map, string_bytes};
 ghost use Rattle.wad_dir.specs.declared.set.TheConstants.{MAX_FILES};
-ghost use Rattle.wad_look.specs.Opening.{bytes_of};
+ghost use Rattle.look_engines.specs.Opening.{bytes_of};
 ghost use Rattle.wad_page.specs.Look.{DoesLook, RunsFiles};
 
-use crate::parts::{Parts, copies, read_words, slices};
+use crate::parts::{SizedBytes, copies, read_words, slices};
 use crate::refusal::{PageRefusal, page_end};
 use le_rec::Sink;
+use look_engines::{Cmd, Job, RunFault, job, run};
 use memory_streams::FromSlice;
 use std::alloc::Allocator;
-use wad_look::{Cmd, Job, RunFault, job, run};
 
 /// Does what the words ask for over the files and the input. The result is true if no fault was found.
 pub fn do_words<A: Allocator + Copy, W: Sink>(
     alloc: A,
-    words: Parts<'_>,
-    files: Parts<'_>,
+    words: SizedBytes<'_>,
+    files: SizedBytes<'_>,
     input: &[u8],
     out: &mut W,
 ) -> Result<bool, PageRefusal>

@@ -1,7 +1,7 @@
 //! Bytes that are handed in as one run, with the size of each part.
 ghost use Rattle.std.specs.Prelude.{◌≡◌, map, string_bytes, IfErr, IfOk};
 ghost use Rattle.std.specs.Option.{option_map};
-ghost use Rattle.wad_look.specs.Opening.{bytes_of};
+ghost use Rattle.look_engines.specs.Opening.{bytes_of};
 ghost use Rattle.wad_page.specs.Parts.{AreWords, RefusesWords, cut};
 
 use crate::refusal::PageRefusal;
@@ -9,7 +9,7 @@ use std::alloc::{AllocError, Allocator};
 
 /// Bytes, and the sizes of the parts that they are cut into.
 #[derive(Clone, Copy)]
-pub struct Parts<'a> {
+pub struct SizedBytes<'a> {
     pub bytes: &'a [u8],
     pub sizes: &'a [usize],
 }
@@ -17,7 +17,7 @@ pub struct Parts<'a> {
 /// The parts as borrowed slices; None if the sizes don't add up to the bytes.
 pub fn slices<'a, A: Allocator + Copy>(
     alloc: A,
-    parts: Parts<'a>,
+    parts: SizedBytes<'a>,
 ) -> Result<Option<Vec<&'a [u8], A>>, AllocError>
     ensures { IfOk result (λ found.
         option_map (λ slices. map (λ slice. slice.now) slices.items) found ≡ cut parts.entry.sizes.now parts.entry.bytes.now) }
@@ -62,7 +62,7 @@ pub fn copies<A: Allocator + Copy>(
 /// The parts as words, which are UTF-8.
 pub fn read_words<A: Allocator + Copy>(
     alloc: A,
-    words: Parts<'_>,
+    words: SizedBytes<'_>,
 ) -> Result<Vec<String<A>, A>, PageRefusal>
     ensures read { IfOk result (λ texts. AreWords words.entry (map string_bytes texts.items)) }
     ensures refused { IfErr result (RefusesWords words.entry) }

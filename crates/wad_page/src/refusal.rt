@@ -3,10 +3,10 @@ ghost use Rattle.std.specs.Prelude.{◌≡◌, IfSome, Some};
 ghost use Rattle.wad_page.specs.Ended.{TellsFront};
 ghost use Rattle.wad_page.specs.Refusal.{exit_status_of, page_end, reason_text, refusal_text};
 
+use look_engines::{RunFault, status};
 use memory_streams::hand_out;
 use std::alloc::{AllocError, Allocator};
 use std::fmt;
-use wad_look::{RunFault, status};
 
 /// Why there is no answer.
 #[derive(Clone, Copy)]
@@ -29,7 +29,7 @@ impl fmt::Display for PageRefusal {
 }
 
 impl From<AllocError> for PageRefusal {
-    ghost use Rattle.wad_look.specs.declared.fault.RunFault.TheVariants.{Memory};
+    ghost use Rattle.look_engines.specs.declared.fault.RunFault.TheVariants.{Memory};
     ghost use Rattle.wad_page.specs.declared.refusal.PageRefusal.TheVariants.{Run};
 
     ghost from_gives = { λ _ refusal. refusal ≡ Run Memory };

@@ -1,6 +1,5 @@
 //! An argument of a command, as a row of a table.
 
-use crate::judging_words::IGNORABLE;
 use clap::{Arg, ArgAction, value_parser};
 use std::alloc::{AllocError, Global};
 
@@ -31,7 +30,7 @@ pub enum Takes {
     Number,
     /// An option takes a number of cells.
     Cells,
-    /// An option that may be given again takes codes of notes and warnings.
+    /// An option that may be given again takes words for notes and warnings, with commas between them.
     Codes,
     /// A positional argument takes one text.
     Place,
@@ -87,17 +86,9 @@ fn as_option<'a>(arg: Arg<'a>, takes: Takes) -> Arg<'a> {
         Takes::Texts => arg.action(ArgAction::Append),
         Takes::Number => arg.value_parser(value_parser!(u64)),
         Takes::Cells => arg.value_parser(value_parser!(u32).range(1..=1024)),
-        Takes::Codes => with_codes(arg),
+        Takes::Codes => arg.action(ArgAction::Append).value_delimiter(','),
         _ => arg,
     }
-}
-
-// This option with the codes that it takes.
-fn with_codes<'a>(arg: Arg<'a>) -> Arg<'a> {
-    arg.action(ArgAction::Append)
-        .value_delimiter(',')
-        .value_parser(IGNORABLE)
-        .hide_possible_values(true)
 }
 
 // This argument, bound so.

@@ -4,8 +4,10 @@ use crate::arg_row::{ArgRow, Bound, Takes};
 use crate::mistake::Mistake;
 use crate::shared_words::{CELLS, cells_of};
 use crate::words::Telling;
+use atlas_page::PageHead;
 use clap::ArgMatches;
-use lens_commands::AtlasJob;
+use lens_commands::{AtlasJob, marks_by};
+use map_picture::View;
 
 /// What `atlas` is asked for.
 #[derive(Drop)]
@@ -27,6 +29,20 @@ pub const ATLAS: &[ArgRow] = &[
         help: "The folder to write into, which is made or is empty",
     },
     CELLS,
+    ArgRow {
+        id: "title",
+        value: Some("TITLE"),
+        takes: Takes::Text,
+        bound: Bound::Free,
+        help: "Head the page with this title [default: Atlas]",
+    },
+    ArgRow {
+        id: "day",
+        value: Some("DAY"),
+        takes: Takes::Text,
+        bound: Bound::Free,
+        help: "Show this day on the page, as 2026-11-30; without it none is shown",
+    },
 ];
 
 impl<'a> AtlasWords<'a> {
@@ -36,10 +52,20 @@ impl<'a> AtlasWords<'a> {
         let folder = matches.get_str("out").unwrap_or("");
         let cells = cells_of(matches)?;
         let Telling { job, progress, .. } = telling;
+        let head = PageHead {
+            title: matches.get_str("title").unwrap_or("Atlas").as_bytes(),
+            day: matches.get_str("day").unwrap_or("").as_bytes(),
+        };
+        let drawn = View {
+            frame: None,
+            cells,
+            warnings: marks_by(job.rules.warnings, &job.rules.ignored),
+        };
         Ok(AtlasWords {
             job: AtlasJob {
                 job,
-                cells,
+                head,
+                drawn,
                 folder: folder.as_bytes(),
             },
             folder,

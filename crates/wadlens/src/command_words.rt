@@ -2,14 +2,14 @@
 
 use crate::arg_row::{ArgRow, Bound, Takes};
 use crate::atlas_words::ATLAS;
-use crate::judging_words::{IGNORE, JUDGING};
+use crate::judging_words::{FAIL, IGNORE, JUDGING};
 use crate::picture_words::PICTURE;
 use clap::{Arg, Command};
 use std::alloc::{AllocError, Global};
 
 // The commands, in the order in which help shows them.
 const COMMANDS: &[&str] = &[
-    "check", "survey", "atlas", "demos", "picture", "cut", "compare", "assemble",
+    "check", "survey", "atlas", "explain", "demos", "picture", "cut", "compare", "assemble",
 ];
 
 /// All commands with their arguments.
@@ -28,19 +28,25 @@ pub fn command_named<'a>(alloc: Global, name: &str) -> Result<Command<'a>, Alloc
             alloc,
             "check",
             "Report what is wrong with each level, a line for each finding",
-            &[CHECK, IGNORE, JUDGING, FILES],
+            &[CHECK, IGNORE, FAIL, JUDGING, FILES],
         ),
         "survey" => command_of(
             alloc,
             "survey",
             "Write a JSON object a line for each level and each refused file",
-            &[IGNORE, JUDGING, FILES],
+            &[IGNORE, FAIL, JUDGING, FILES],
         ),
         "atlas" => command_of(
             alloc,
             "atlas",
             "Write a folder of pictures with a page over all levels, and their survey",
-            &[ATLAS, JUDGING, FILES],
+            &[ATLAS, IGNORE, FAIL, JUDGING, FILES],
+        ),
+        "explain" => command_of(
+            alloc,
+            "explain",
+            "Say what a code means, what the game does, and what to do; or list the codes",
+            &[EXPLAIN],
         ),
         "demos" => command_of(
             alloc,
@@ -52,7 +58,7 @@ pub fn command_named<'a>(alloc: Global, name: &str) -> Result<Command<'a>, Alloc
             alloc,
             "picture",
             "Draw a level as an SVG on standard output",
-            &[PICTURE],
+            &[PICTURE, IGNORE],
         ),
         "cut" => command_of(
             alloc,
@@ -128,6 +134,15 @@ const CHECK: &[ArgRow] = &[
     },
 ];
 
+// The arguments of `explain`.
+const EXPLAIN: &[ArgRow] = &[ArgRow {
+    id: "code",
+    value: Some("CODE"),
+    takes: Takes::Place,
+    bound: Bound::Free,
+    help: "A code, as F3; without one all codes are listed",
+}];
+
 // The arguments of `demos` alone.
 const DEMOS: &[ArgRow] = &[ArgRow {
     id: "json",
@@ -161,8 +176,15 @@ const CUT: &[ArgRow] = &[
         id: "entry",
         value: Some("G"),
         takes: Takes::Number,
-        bound: Bound::Required,
+        bound: Bound::Unless("level"),
         help: "The number of the level's label among the entries of FILE, from 0 on",
+    },
+    ArgRow {
+        id: "level",
+        value: Some("NAME"),
+        takes: Takes::Text,
+        bound: Bound::Without("entry"),
+        help: "The level's name, as MAP01: its last label in FILE",
     },
     ArgRow {
         id: "file",

@@ -15,6 +15,7 @@ pub struct DiskFolder<'a, R: Files + AllocGlobal> {
     rt: &'a R,
     path: &'a str,
     is_taken: bool,
+    is_made: bool,
 }
 
 impl<'a, R: Files + AllocGlobal> DiskFolder<'a, R> {
@@ -24,6 +25,7 @@ impl<'a, R: Files + AllocGlobal> DiskFolder<'a, R> {
             rt,
             path,
             is_taken: false,
+            is_made: false,
         }
     }
 
@@ -37,11 +39,11 @@ impl<'a, R: Files + AllocGlobal> DiskFolder<'a, R> {
         Ok((part, whole))
     }
 
-    // Checks that the folder is empty, or creates it.
-    fn find_or_create(&self) -> Result<(), FolderFault> {
+    // Checks that the folder is empty, or creates it. Whether it was created.
+    fn find_or_create(&self) -> Result<bool, FolderFault> {
         match fs::read_dir(&self.rt, self.path) {
             Ok(mut entries) => match entries.next() {
-                None => Ok(()),
+                None => Ok(false),
                 Some(Ok(_)) => Err(FolderFault::Refused(FolderRefusal::NotEmpty)),
                 Some(Err(e)) => Err(fault_of(&e, FolderRefusal::Unread)),
             },
@@ -54,9 +56,9 @@ impl<'a, R: Files + AllocGlobal> DiskFolder<'a, R> {
     }
 
     // Creates the folder, which doesn't exist yet.
-    fn create(&self) -> Result<(), FolderFault> {
+    fn create(&self) -> Result<bool, FolderFault> {
         match fs::create_dir(self.rt, self.path) {
-            Ok(()) => Ok(()),
+            Ok(()) => Ok(true),
             Err(e) if e.kind() == ErrorKind::NotFound => {
                 Err(FolderFault::Refused(FolderRefusal::NoParent))
             }
@@ -121,7 +123,7 @@ impl<R: Files + AllocGlobal> Folder for DiskFolder<'_, R> {
     ghost taken = { λ folder. folder.is_taken };
 
     fn make(&mut self) -> Result<(), FolderFault> {
-        self.find_or_create()?;
+        self.is_made = self.find_or_create()?;
         self.is_taken = true;
         Ok(())
     }
@@ -152,6 +154,13 @@ impl<R: Files + AllocGlobal> Folder for DiskFolder<'_, R> {
         }
         let _ = fs::remove_file(self.rt, file.part.as_str());
         Err(KeepFault::Write)
+    }
+
+    fn leave(&mut self) {
+        if self.is_made {
+            // If it can't be removed, it stays empty.
+            let _ = fs::remove_dir(self.rt, self.path);
+        }
     }
 
     fn discard(&mut self, file: Self::File, _name: &[u8]) {

@@ -4,15 +4,10 @@ use crate::arg_row::{ArgRow, Bound, Takes};
 use crate::mistake::Mistake;
 use crate::shared_words::{WIDE, reading_of, texts_of};
 use clap::ArgMatches;
-use lens_engines::{Ignored, Rules, Warnings};
+use lens_engines::{Rules, Warnings};
 use lens_reports::BasePaths;
+use level_codes::{CodeSet, Group};
 use std::alloc::Global;
-
-/// The codes that can be ignored.
-pub const IGNORABLE: &[&str] = &[
-    "N1", "N2", "N3", "N4", "N5", "N6", "N7", "N8", "N9", "N10", "N11", "N12", "W1", "W2", "W3",
-    "W4", "W5", "W6", "W7", "W8", "W9", "W10", "W11",
-];
 
 /// The option `--ignore`.
 pub const IGNORE: &[ArgRow] = &[ArgRow {
@@ -20,10 +15,19 @@ pub const IGNORE: &[ArgRow] = &[ArgRow {
     value: Some("CODES"),
     takes: Takes::Codes,
     bound: Bound::Free,
-    help: "Ignore these notes and warnings, as N2,W7",
+    help: "Ignore these notes and warnings, as N2,W7-W8",
 }];
 
-/// The arguments for how levels are judged, except `--ignore`.
+/// The option `--fail`.
+pub const FAIL: &[ArgRow] = &[ArgRow {
+    id: "fail",
+    value: Some("CODES"),
+    takes: Takes::Codes,
+    bound: Bound::Free,
+    help: "End with status 1 at these, too, as N2,W9-W11; game, notes and warnings name many",
+}];
+
+/// The other arguments for how levels are judged.
 pub const JUDGING: &[ArgRow] = &[
     WIDE,
     ArgRow {
@@ -52,31 +56,83 @@ pub const JUDGING: &[ArgRow] = &[
 
 /// How levels are to be judged, by a command's arguments.
 pub fn rules_of(matches: &ArgMatches<'_>) -> Result<Rules, Mistake> {
-    let warnings = if matches.get_flag("strict") {
-        Warnings::Strict
-    } else if matches.get_flag("map") {
-        Warnings::Told
-    } else {
-        Warnings::Unasked
-    };
+    let ignored = codes_of(matches, "ignore", IGNORE_WANTS)?;
+    let failing = codes_of(matches, "fail", FAIL_WANTS)?;
+    if failing.written.shares(&ignored.written) {
+        return Err(Mistake::Told("--fail and --ignore name the same code"));
+    }
+    let warnings = CodeSet::of_group(Group::Warnings);
+    let asked = matches.get_flag("map");
+    if !asked && failing.all.shares(&warnings) {
+        return Err(Mistake::Told("--fail wants --map for a warning"));
+    }
     Ok(Rules {
         reading: reading_of(matches),
-        warnings,
-        ignored: ignored_of(matches)?,
+        warnings: if asked {
+            Warnings::Told
+        } else {
+            Warnings::Unasked
+        },
+        ignored: ignored.all,
+        failing: if matches.get_flag("strict") {
+            failing.all.with(warnings)
+        } else {
+            failing.all
+        },
     })
 }
 
-// The codes that a command's arguments ignore.
-fn ignored_of(matches: &ArgMatches<'_>) -> Result<Ignored, Mistake> {
-    let mut ignored = Ignored::none();
-    if let Some(names) = matches.get_strs("ignore") {
-        for name in names {
-            ignored = ignored.with(name).ok_or(Mistake::Told(
-                "--ignore wants codes of notes and warnings, as N2,W7",
-            ))?;
+// What --ignore and --fail want.
+const IGNORE_WANTS: &str =
+    "--ignore wants notes and warnings, as N2,W7-W8: codes, ranges, or game, notes, warnings";
+
+const FAIL_WANTS: &str =
+    "--fail wants notes and warnings, as N2,W9-W11: codes, ranges, or game, notes, warnings";
+
+// What an option names: the codes that are written out, and all.
+#[derive(Clone, Copy)]
+struct NamedCodes {
+    written: CodeSet,
+    all: CodeSet,
+}
+
+impl NamedCodes {
+    fn none() -> NamedCodes {
+        NamedCodes {
+            written: CodeSet::none(),
+            all: CodeSet::none(),
         }
     }
-    Ok(ignored)
+
+    // These and those of one word more; None if it names none.
+    fn with(self, word: &str) -> Option<NamedCodes> {
+        if let Some(group) = Group::named(word) {
+            return Some(NamedCodes {
+                written: self.written,
+                all: self.all.with(CodeSet::of_group(group)),
+            });
+        }
+        let codes = CodeSet::written(word)?;
+        Some(NamedCodes {
+            written: self.written.with(codes),
+            all: self.all.with(codes),
+        })
+    }
+}
+
+// The codes that a command's option names; a word that names none is a mistake, told by what is wanted.
+fn codes_of(
+    matches: &ArgMatches<'_>,
+    id: &str,
+    wanted: &'static str,
+) -> Result<NamedCodes, Mistake> {
+    let mut codes = NamedCodes::none();
+    if let Some(words) = matches.get_strs(id) {
+        for word in words {
+            codes = codes.with(word).ok_or(Mistake::Told(wanted))?;
+        }
+    }
+    Ok(codes)
 }
 
 /// The base files that a command's arguments name.

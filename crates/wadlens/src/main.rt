@@ -16,11 +16,12 @@ mod words;
 use atlas_words::AtlasWords;
 use clap::error::ErrorKind;
 use disk_folder::DiskFolder;
-use le_rec::ToWrite;
+use le_rec::{Sink, ToWrite};
 use lens_commands::{run_assemble, run_atlas, run_compare, run_picture};
 use lens_engines::Verdict;
-use lens_reports::{End, Output, exit_status, run_cut, run_job};
-use line_io::Disk;
+use lens_reports::{End, Output, exit_status, run_cut, run_explain, run_job};
+use level_codes::ReportCode;
+use line_io::{Disk, emit};
 use mistake::Mistake;
 use picture_words::PictureWords;
 use progress::Progress;
@@ -34,6 +35,10 @@ use words::{CompareWords, CutWords, Task, Telling, read_words, usage};
 // The refusal of a run with an argument that isn't UTF-8: the kit hands arguments on as text only.
 const NOT_UTF_8: &str =
     "wadlens: a word isn't UTF-8, so the whole run is refused: hand such a file over as /dev/stdin <FILE";
+
+// What is told besides, if a picture's name looks like a file's.
+const NAME_FIRST: &[u8] =
+    b"wadlens: the level's name comes before its files: wadlens picture NAME FILE...\n";
 
 fn main(rt: HostRuntime) -> ExitCode {
     let errors = rt.stderr();
@@ -88,6 +93,7 @@ fn do_task<R: Files + Input + Print + AllocGlobal, E: Write + Drop>(
             let shown = (words.progress || is_terminal).then_some(line);
             make_atlas(rt, words, errors, shown)
         }
+        Task::Explain(code) => explain(rt, *code),
         Task::Cut(words) => cut(rt, words, errors),
         Task::Draw(words) => draw(rt, words, errors),
         Task::Compare(words) => compare(rt, words, errors),
@@ -135,6 +141,12 @@ fn make_atlas<R: Files + Input + AllocGlobal, E: Write + Drop>(
     )
 }
 
+// Explains a code, or lists all.
+fn explain<R: Print + AllocGlobal>(rt: &R, code: Option<ReportCode>) -> Result<Verdict, End> {
+    let mut output = Output::new(rt.alloc(), io::writer(rt))?;
+    run_explain(code, &mut output)
+}
+
 // Cuts a level out.
 fn cut<R: Files + Print + AllocGlobal, E: Write + Drop>(
     rt: &R,
@@ -145,7 +157,7 @@ fn cut<R: Files + Print + AllocGlobal, E: Write + Drop>(
     let mut told = ToWrite::new(errors);
     run_cut(
         rt.alloc(),
-        words.entry,
+        words.level,
         words.path.as_bytes(),
         &Disk(rt),
         &mut output,
@@ -161,14 +173,19 @@ fn draw<R: Files + Print + AllocGlobal, E: Write + Drop>(
 ) -> Result<Verdict, End> {
     let mut output = Output::new(rt.alloc(), io::writer(rt))?;
     let mut told = ToWrite::new(errors);
-    run_picture(
+    let ended = run_picture(
         rt.alloc(),
         words.question(),
         words.files(),
         &Disk(rt),
         &mut output,
         &mut told,
-    )
+    );
+    if matches!(ended, Err(End::Refused)) && words.has_file_as_name() && !told.failed() {
+        // If standard error fails, the hint is lost.
+        let _ = emit(&mut told, NAME_FIRST);
+    }
+    ended
 }
 
 // Compares two demo files.

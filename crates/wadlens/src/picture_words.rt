@@ -4,10 +4,11 @@ ghost use Rattle.std.specs.Prelude.{◌≡◌, ◌≤◌, length, vec_len};
 ghost use Rattle.wad_dir.specs.declared.set.TheConstants.{MAX_FILES};
 
 use crate::arg_row::{ArgRow, Bound, Takes};
+use crate::judging_words::rules_of;
 use crate::mistake::Mistake;
-use crate::shared_words::{CELLS, WIDE, cells_of, reading_of, texts_of};
+use crate::shared_words::{CELLS, WIDE, cells_of, texts_of};
 use clap::ArgMatches;
-use lens_commands::PictureQuestion;
+use lens_commands::{PictureQuestion, marks_by};
 use map_cells::Frame;
 use map_picture::View;
 use std::alloc::Global;
@@ -19,6 +20,13 @@ const BAD_FRAME: &str =
 /// The arguments of `picture`.
 pub const PICTURE: &[ArgRow] = &[
     WIDE,
+    ArgRow {
+        id: "map",
+        value: None,
+        takes: Takes::Flag,
+        bound: Bound::Free,
+        help: "Also mark likely mapping mistakes: open corners, bare sides, things in the void, twins, unknown things",
+    },
     CELLS,
     ArgRow {
         id: "frame",
@@ -63,11 +71,16 @@ impl<'a> PictureWords<'a> {
             None => None,
         };
         let cells = cells_of(matches)?;
+        let rules = rules_of(matches)?;
         let question = PictureQuestion {
             // It is required.
             name: matches.get_str("name").unwrap_or("").as_bytes(),
-            reading: reading_of(matches),
-            drawn: View { frame, cells },
+            reading: rules.reading,
+            drawn: View {
+                frame,
+                cells,
+                warnings: marks_by(rules.warnings, &rules.ignored),
+            },
         };
         Ok(PictureWords { question, files })
     }
@@ -75,6 +88,13 @@ impl<'a> PictureWords<'a> {
     /// The question for the engine.
     pub fn question(&self) -> &PictureQuestion<'a> {
         &self.question
+    }
+
+    /// Whether the name looks like that of a file: both were exchanged, or so it seems.
+    pub fn has_file_as_name(&self) -> bool {
+        let name = self.question.name;
+        let from = name.len().saturating_sub(4);
+        matches!(&name[from..], [b'.', b'W' | b'w', b'A' | b'a', b'D' | b'd'])
     }
 
     /// The paths of the files.

@@ -7,8 +7,9 @@ use crate::mistake::Mistake;
 use crate::picture_words::PictureWords;
 use crate::shared_words::texts_of;
 use clap::{ArgMatches, Command};
-use lens_reports::{Job, SHOWN, Word};
+use lens_reports::{CutAsked, ReportJob, ReportKind, SHOWN};
 use lens_texts::Form;
+use level_codes::ReportCode;
 use std::alloc::{AllocError, Global};
 
 /// What the command line asks for.
@@ -16,6 +17,8 @@ use std::alloc::{AllocError, Global};
 pub enum Task<'a> {
     /// A report on files: `check`, `survey` or `demos`.
     Tell(Telling<'a>),
+    /// A code is explained, or all are listed.
+    Explain(Option<ReportCode>),
     /// A level is cut out.
     Cut(CutWords<'a>),
     /// A level is drawn.
@@ -31,8 +34,7 @@ pub enum Task<'a> {
 /// Which level is cut out.
 #[derive(Drop)]
 pub struct CutWords<'a> {
-    /// The number of its label's entry.
-    pub entry: u64,
+    pub level: CutAsked<'a>,
     pub path: &'a str,
 }
 
@@ -46,7 +48,7 @@ pub struct CompareWords<'a> {
 /// What is reported on files, and how.
 #[derive(Drop)]
 pub struct Telling<'a> {
-    pub job: Job<'a>,
+    pub job: ReportJob<'a>,
     /// Whether nothing is written to standard output.
     pub quiet: bool,
     /// Whether progress is shown on standard error.
@@ -77,6 +79,7 @@ fn shown(command: &str) -> Option<&'static str> {
         "check" => Some("wadlens check"),
         "survey" => Some("wadlens survey"),
         "demos" => Some("wadlens demos"),
+        "explain" => Some("wadlens explain"),
         "picture" => Some("wadlens picture"),
         "cut" => Some("wadlens cut"),
         "atlas" => Some("wadlens atlas"),
@@ -98,15 +101,18 @@ fn program<'a>(alloc: Global) -> Result<Command<'a>, AllocError> {
 // What the arguments ask for. Values that are read here without a default are required.
 fn task_of<'a>(alloc: Global, matches: &ArgMatches<'a>) -> Result<Task<'a>, Mistake> {
     if let Some(of_atlas) = matches.subcommand_matches("atlas") {
-        let telling = job_over(alloc, Word::Survey, of_atlas)?;
+        let telling = job_over(alloc, ReportKind::Survey, of_atlas)?;
         return Ok(Task::Atlas(AtlasWords::of(telling, of_atlas)?));
     }
     if let Some(of_picture) = matches.subcommand_matches("picture") {
         return Ok(Task::Draw(PictureWords::of(alloc, of_picture)?));
     }
+    if let Some(of_explain) = matches.subcommand_matches("explain") {
+        return Ok(Task::Explain(code_of(of_explain)?));
+    }
     if let Some(of_cut) = matches.subcommand_matches("cut") {
         return Ok(Task::Cut(CutWords {
-            entry: of_cut.get_one::<u64>("entry").unwrap_or(0),
+            level: level_of(of_cut),
             path: of_cut.get_str("file").unwrap_or(""),
         }));
     }
@@ -122,6 +128,25 @@ fn task_of<'a>(alloc: Global, matches: &ArgMatches<'a>) -> Result<Task<'a>, Mist
     Ok(Task::Tell(job_of(alloc, matches)?))
 }
 
+// Which level the arguments of `cut` ask for.
+fn level_of<'a>(of_cut: &ArgMatches<'a>) -> CutAsked<'a> {
+    match of_cut.get_str("level") {
+        Some(name) => CutAsked::Named(name.as_bytes()),
+        None => CutAsked::Entry(of_cut.get_one::<u64>("entry").unwrap_or(0)),
+    }
+}
+
+// The code that the arguments name, if they name one.
+fn code_of(of_explain: &ArgMatches<'_>) -> Result<Option<ReportCode>, Mistake> {
+    let Some(word) = of_explain.get_str("code") else {
+        return Ok(None);
+    };
+    match ReportCode::from_word(word.as_bytes()) {
+        Some(code) => Ok(Some(code)),
+        None => Err(Mistake::Told("there are the codes F1 to F18, N1 to N12 and W1 to W11")),
+    }
+}
+
 // How many findings or warnings of one code are shown of a level at most, where 0 asks for all.
 fn most_of(of_check: &ArgMatches<'_>) -> u64 {
     match of_check.get_one::<u64>("max") {
@@ -135,14 +160,14 @@ fn most_of(of_check: &ArgMatches<'_>) -> u64 {
 fn job_of<'a>(alloc: Global, matches: &ArgMatches<'a>) -> Result<Telling<'a>, Mistake> {
     match matches.subcommand_matches("check") {
         Some(of_check) => {
-            let word = Word::Check(most_of(of_check), form_of(of_check));
+            let word = ReportKind::Check(most_of(of_check), form_of(of_check));
             job_over(alloc, word, of_check)
         }
         None => match matches.subcommand_matches("demos") {
-            Some(of_demos) => job_over(alloc, Word::Demos(form_of(of_demos)), of_demos),
+            Some(of_demos) => job_over(alloc, ReportKind::Demos(form_of(of_demos)), of_demos),
             None => match matches.subcommand_matches("survey") {
-                Some(of_survey) => job_over(alloc, Word::Survey, of_survey),
-                None => job_over(alloc, Word::Survey, matches),
+                Some(of_survey) => job_over(alloc, ReportKind::Survey, of_survey),
+                None => job_over(alloc, ReportKind::Survey, matches),
             },
         },
     }
@@ -160,14 +185,14 @@ fn form_of(matches: &ArgMatches<'_>) -> Form {
 // The job over the files that a command's arguments name.
 fn job_over<'a>(
     alloc: Global,
-    word: Word,
+    word: ReportKind,
     matches: &ArgMatches<'a>,
 ) -> Result<Telling<'a>, Mistake> {
     let rules = rules_of(matches)?;
     let bases = bases_of(alloc, matches)?;
     let files = texts_of(alloc, matches, "files")?;
     Ok(Telling {
-        job: Job {
+        job: ReportJob {
             word,
             rules,
             bases,

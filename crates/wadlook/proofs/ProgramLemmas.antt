@@ -1,8 +1,8 @@
 -- Why no command runs.
 use Rattle.std.proofs.Common.{◌≡◌, ◌≢◌, ◌<◌, ℕ, List, [], ◌∷◌, length, Option, refl, subst, arith}
-use Rattle.wad_look.specs.Words.{IsJob, paths_of}
-use Rattle.wad_look.specs.declared.command.Cmd.TheVariants.{Lmp}
-use Rattle.wad_look.specs.declared.command.Job.{Job}
+use Rattle.look_engines.specs.Words.{IsJob, paths_of}
+use Rattle.look_engines.specs.declared.command.Cmd.TheVariants.{Lmp}
+use Rattle.look_engines.specs.declared.command.Job.{Job}
 use Rattle.wadlook.specs.Files.{IsNumbered, IsTooLong, RefusesPaths}
 use Rattle.wadlook.specs.Program.{RefusesJob, RefusesWords}
 use Rattle.wadlook.specs.declared.refusal.ProgramRefusal.{ProgramRefusal}

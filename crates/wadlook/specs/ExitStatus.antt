@@ -1,6 +1,6 @@
 -- The status with which the program ends (ours).
 use Rattle.std.specs.Prelude.{ℕ, Bool, Result, Ok, Err}
-use Rattle.wad_look.specs.Outcome.{status_of}
+use Rattle.look_engines.specs.Outcome.{status_of}
 use Rattle.wadlook.specs.declared.refusal.ProgramRefusal.{ProgramRefusal}
 use Rattle.wadlook.specs.declared.refusal.ProgramRefusal.TheVariants.{Run}
 

@@ -5,7 +5,7 @@ use Rattle.line_io.specs.declared.input.TheConstants.{MAX_READ}
 use Rattle.line_io.specs.declared.storage.FirstUnread.{FirstUnread}
 use Rattle.line_io.specs.declared.storage.StorageFault.{StorageFault}
 use Rattle.line_io.specs.declared.storage.StorageFault.TheVariants as read
-use Rattle.wad_look.specs.declared.fault.RunFault.TheVariants as fault
+use Rattle.look_engines.specs.declared.fault.RunFault.TheVariants as fault
 use Rattle.wadlook.specs.declared.refusal.ProgramRefusal.{ProgramRefusal}
 use Rattle.wadlook.specs.declared.refusal.ProgramRefusal.TheVariants.{Unreadable, TooLong, Run}
 

@@ -4,12 +4,12 @@ use Rattle.std.specs.Io.KnownBytes.{Keeps}
 use Rattle.le_rec.specs.Sink.{SinkState}
 use Rattle.le_rec.specs.Source.{SourceState}
 use Rattle.line_io.specs.declared.input.TheConstants.{MAX_READ}
-use Rattle.wad_look.specs.RunsJob.{RunsJob}
-use Rattle.wad_look.specs.Words.{IsJob, paths_of}
-use Rattle.wad_look.specs.declared.command.Cmd.TheVariants.{Lmp}
-use Rattle.wad_look.specs.declared.command.Job.{Job}
-use Rattle.wad_look.specs.declared.fault.RunFault.{RunFault}
-use Rattle.wad_look.specs.declared.fault.RunFault.TheVariants.{Write}
+use Rattle.look_engines.specs.RunsJob.{RunsJob}
+use Rattle.look_engines.specs.Words.{IsJob, paths_of}
+use Rattle.look_engines.specs.declared.command.Cmd.TheVariants.{Lmp}
+use Rattle.look_engines.specs.declared.command.Job.{Job}
+use Rattle.look_engines.specs.declared.fault.RunFault.{RunFault}
+use Rattle.look_engines.specs.declared.fault.RunFault.TheVariants.{Write}
 use Rattle.line_io.specs.Storage.{AreHeld, total_length}
 use Rattle.wadlook.specs.Files.{IsTooLong, RefusesPaths}
 use Rattle.wadlook.specs.declared.refusal.ProgramRefusal.{ProgramRefusal}

@@ -1,13 +1,13 @@
 //! The files of a run.
 ghost use Rattle.std.specs.Prelude.{◌≡◌, ◌+◌, ◌<◌, ◌≤◌, ◌^◌, length, vec_len, map, string_bytes, IfErr, IfOk};
 ghost use Rattle.line_io.specs.Storage.{AreHeld, total_length};
-ghost use Rattle.wad_look.specs.Opening.{bytes_of};
+ghost use Rattle.look_engines.specs.Opening.{bytes_of};
 ghost use Rattle.wadlook.specs.Files.{RefusesPaths, refusal_of};
 
 use crate::refusal::ProgramRefusal;
 use line_io::{FirstUnread, Storage, StorageFault, read_files};
+use look_engines::{MAX_READ, RunFault};
 use std::alloc::Global;
-use wad_look::{MAX_READ, RunFault};
 
 /// Reads the files at the paths. Together they may have at most `MAX_READ` bytes.
 pub fn read_paths<S: Storage>(

@@ -8,12 +8,12 @@ mod program;
 mod refusal;
 
 use line_io::Disk;
+use look_engines::RunFault;
 use program::do_words;
 use refusal::{ProgramRefusal, exit_status};
 use std::process::ExitCode;
 use std::rt::{Env, Files};
 use std::{env, io};
-use wad_look::RunFault;
 
 fn main(rt: HostRuntime) -> ExitCode {
     let outcome = run(&rt);

@@ -1,9 +1,9 @@
 //! Runs what the arguments ask for, over any files, reader and writer.
 ghost use Rattle.std.specs.Prelude.{◌≡◌, ◌≤◌, ◌⊎◌, Err, length, map, string_bytes};
 ghost use Rattle.wad_dir.specs.declared.set.TheConstants.{MAX_FILES};
-ghost use Rattle.wad_look.specs.Opening.{bytes_of};
-ghost use Rattle.wad_look.specs.Words.{IsJob};
-ghost use Rattle.wad_look.specs.declared.fault.RunFault.TheVariants.{Memory, Write as WriteFault};
+ghost use Rattle.look_engines.specs.Opening.{bytes_of};
+ghost use Rattle.look_engines.specs.Words.{IsJob};
+ghost use Rattle.look_engines.specs.declared.fault.RunFault.TheVariants.{Memory, Write as WriteFault};
 ghost use Rattle.wadlook.specs.Program.{DoesWords, IsStopped, ListsPath, RunsFiles, program_end};
 ghost use Rattle.wadlook.specs.Tied.{file_source, tied_sink, tied_source};
 
@@ -12,9 +12,9 @@ use crate::files::read_paths;
 use crate::refusal::ProgramRefusal;
 use le_rec::{FromRead, ToWrite};
 use line_io::{FilePath, Storage, TiedReader, TiedWriter};
+use look_engines::{Cmd, Job, RunFault, job, run};
 use std::alloc::Global;
 use std::io::{Read, Write};
-use wad_look::{Cmd, Job, RunFault, job, run};
 
 /// Does what the arguments ask for. The result is true if no fault was found.
 pub fn do_words<D: Storage, I: Read + Drop, O: Write + Drop>(

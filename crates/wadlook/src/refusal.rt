@@ -2,9 +2,9 @@
 ghost use Rattle.std.specs.Prelude.{◌≡◌};
 ghost use Rattle.wadlook.specs.ExitStatus.{exit_status_of};
 
+use look_engines::{RunFault, status};
 use std::alloc::AllocError;
 use thiserror::Error;
-use wad_look::{RunFault, status};
 
 /// Why the program refused.
 #[derive(Clone, Copy, Debug, Error)]
@@ -34,7 +34,7 @@ impl From<RunFault> for ProgramRefusal {
 }
 
 impl From<AllocError> for ProgramRefusal {
-    ghost use Rattle.wad_look.specs.declared.fault.RunFault.TheVariants.{Memory};
+    ghost use Rattle.look_engines.specs.declared.fault.RunFault.TheVariants.{Memory};
     ghost use Rattle.wadlook.specs.declared.refusal.ProgramRefusal.TheVariants.{Run};
 
     ghost from_gives = { λ _ refusal. refusal ≡ Run Memory };

@@ -5,7 +5,7 @@ use Rattle.std.proofs.lemmas.List.Sums.{sum_by-cons}
 use Rattle.std.specs.List.{count_by}
 use Rattle.std.specs.Prelude.{if◌then◌else◌}
 use Rattle.map_level.specs.declared.finding.Finding.{Finding}
-use Rattle.wad_look.specs.Engines.Audit.{fault_count, note_count}
+use Rattle.look_engines.specs.Engines.Audit.{fault_count, note_count}
 
 one_of_two : (b : Bool) → (if b then 1 else 0) + (if not b then 1 else 0) ≡ 1
 one_of_two true = refl

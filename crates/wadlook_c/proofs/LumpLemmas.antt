@@ -12,7 +12,7 @@ use Rattle.wad_dir.specs.Standing.{StandsAt}
 use Rattle.wad_dir.specs.Wad.{Wad}
 use Rattle.wad_dir.specs.declared.set.Place.{Place}
 use Rattle.wad_dir.proofs.StandingLemmas.{StandsAt-is}
-use Rattle.wad_look.specs.Opening.{AreRead}
+use Rattle.look_engines.specs.Opening.{AreRead}
 use Rattle.wadlook_c.specs.Lumps.{TellsLump}
 
 -- the bytes of an entry that may be there

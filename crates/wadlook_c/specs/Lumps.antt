@@ -9,9 +9,9 @@ use Rattle.wad_dir.specs.Slice.{IsLump, IsSlice}
 use Rattle.wad_dir.specs.Wad.{Wad}
 use Rattle.wad_dir.specs.Winner.{Wins}
 use Rattle.wad_dir.specs.declared.lump.LumpFault.TheVariants as lump
-use Rattle.wad_look.specs.Opening.{AreRead, RefusesFiles}
-use Rattle.wad_look.specs.declared.fault.RunFault.{RunFault}
-use Rattle.wad_look.specs.declared.fault.RunFault.TheVariants as fault
+use Rattle.look_engines.specs.Opening.{AreRead, RefusesFiles}
+use Rattle.look_engines.specs.declared.fault.RunFault.{RunFault}
+use Rattle.look_engines.specs.declared.fault.RunFault.TheVariants as fault
 use Rattle.wadlook_c.specs.declared.find.WadlookLump.{WadlookLump}
 
 -- the bytes of a file from the place on, as many as the size, are the lump of the entry, and stand where the entry says

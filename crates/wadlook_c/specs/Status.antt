@@ -8,8 +8,8 @@ use Rattle.wad_dir.specs.declared.lump.LumpFault.TheVariants as lump
 use Rattle.wad_dir.specs.declared.packer.PackFault.TheVariants as pack
 use Rattle.wad_dir.specs.declared.wad.WadFault.{WadFault}
 use Rattle.wad_dir.specs.declared.wad.WadFault.TheVariants as wad
-use Rattle.wad_look.specs.declared.fault.RunFault.{RunFault}
-use Rattle.wad_look.specs.declared.fault.RunFault.TheVariants as fault
+use Rattle.look_engines.specs.declared.fault.RunFault.{RunFault}
+use Rattle.look_engines.specs.declared.fault.RunFault.TheVariants as fault
 
 -- the number of why a file has no directory
 abbrev pub wad_number_of : WadFault → ℕ

@@ -1,16 +1,16 @@
 //! A level alone, as a file.
 
 ghost use Rattle.std.specs.Prelude.{◌≡◌, ◌∷◌, [], ◌<◌, ◌≤◌, IfErr, IfOk, List, ℕ, drop, length, take};
-ghost use Rattle.wad_look.specs.Engines.Extract.{IsPacked, RefusesExtract};
+ghost use Rattle.look_engines.specs.Engines.Extract.{IsPacked, RefusesExtract};
 ghost use Rattle.wadlook_c.specs.Ends.{EndsBy};
 ghost use Rattle.wadlook_c.specs.Status.{no_room_number};
 
 use crate::opening::open_file;
 use crate::status::{DONE, NO_ROOM, number_of};
 use le_rec::Name8;
+use look_engines::{RunFault, pack_level};
 use map_level::{Level, Reading};
 use std::alloc::Global;
-use wad_look::{RunFault, pack_level};
 
 /// Writes a PWAD of the level alone to the front of `out`, and its number of bytes to `written`. It returns 0, or else
 /// the status of a refusal. At `NO_ROOM`, `written` is the number of bytes that it needs.

@@ -3,17 +3,17 @@
 ghost use Rattle.std.specs.Prelude.{◌≡◌, ◌<◌, ◌∷◌, [], ℕ, pos, List, length, IfOk, IfErr, IfSome, IfNone};
 ghost use Rattle.wad_dir.specs.Entries.{joined};
 ghost use Rattle.wad_dir.specs.Slice.{IsLump};
-ghost use Rattle.wad_look.specs.Opening.{AreRead};
+ghost use Rattle.look_engines.specs.Opening.{AreRead};
 ghost use Rattle.wadlook_c.specs.Ends.{EndsBy};
 ghost use Rattle.wadlook_c.specs.Lumps.{IsFound, RefusesLump, TellsLump};
 
 use crate::opening::open_file;
 use crate::status::{DONE, number_of};
 use le_rec::Name8;
+use look_engines::RunFault;
 use map_level::LevelFault;
 use std::alloc::{Allocator, Global};
 use wad_dir::{LumpFault, Place, Set};
-use wad_look::RunFault;
 
 /// An entry's number, from 0, and its lump: its place in the file and its size.
 #[repr(C)]

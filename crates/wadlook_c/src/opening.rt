@@ -2,15 +2,15 @@
 
 ghost use Rattle.std.specs.Prelude.{◌≡◌, ◌∷◌, [], IfErr, IfOk, OnOk};
 ghost use Rattle.map_tree.specs.Sound.{IsSound};
-ghost use Rattle.wad_look.specs.Opening.{AreRead, IsOpened, RefusesAudit, RefusesFiles, RefusesName};
+ghost use Rattle.look_engines.specs.Opening.{AreRead, IsOpened, RefusesAudit, RefusesFiles, RefusesName};
 ghost use Rattle.wadlook_c.specs.Ends.{reading_of};
 
 use le_rec::Name8;
+use look_engines::RunFault;
 use map_audit::sound_tree;
 use map_level::{Level, Reading};
 use std::alloc::Allocator;
 use wad_dir::{Set, SetFault};
-use wad_look::RunFault;
 
 /// The reading that a flag asks for.
 pub fn reading_of(wide: bool) -> Reading

@@ -2,18 +2,18 @@
 
 ghost use Rattle.std.specs.Prelude.{◌≡◌, ◌∷◌, [], ◌<◌, ◌≤◌, IfErr, OnOk, IfOk, drop, length};
 ghost use Rattle.map_level.specs.Level.{Level};
-ghost use Rattle.wad_look.specs.Opening.{IsAccepted, RefusesAccepted, bytes_of};
+ghost use Rattle.look_engines.specs.Opening.{IsAccepted, RefusesAccepted, bytes_of};
 ghost use Rattle.wadlook_c.specs.Ends.{EndsBy, reading_of};
 ghost use Rattle.wadlook_c.specs.Places.{TellsLeaf, TellsPlace, TellsPlaces};
 ghost use Rattle.wadlook_c.specs.Status.{no_room_number, number_of};
 
 use crate::opening::{open_level, reading_of};
 use crate::status::{DONE, NO_ROOM, number_of};
+use look_engines::{RunFault, sector_tree};
 use map_geo::Point;
 use map_level::Reading;
 use map_tree::SectorTree;
 use std::alloc::{Allocator, Global};
-use wad_look::{RunFault, sector_tree};
 
 /// A point, in map units.
 #[repr(C)]

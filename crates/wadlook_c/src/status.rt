@@ -4,9 +4,9 @@ ghost use Rattle.std.specs.Prelude.{◌≡◌};
 ghost use Rattle.wadlook_c.specs.Status.{demo_number_of, level_number_of, number_of, wad_number_of};
 
 use demo_lump::DemoFault;
+use look_engines::RunFault;
 use map_level::LevelFault;
 use wad_dir::{LumpFault, PackFault, WadFault};
-use wad_look::RunFault;
 
 /// All was done.
 pub const DONE: u32 = 0;

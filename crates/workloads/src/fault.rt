@@ -1,10 +1,10 @@
 //! Why a job isn't done.
 
 use lens_engines::LevelsFault;
+use look_engines::RunFault;
 use map_picture::DrawFault;
 use std::alloc::AllocError;
 use wad_dir::SetFault;
-use wad_look::RunFault;
 
 /// Why a job isn't done.
 #[derive(Clone, Copy, Debug, PartialEq, Eq)]

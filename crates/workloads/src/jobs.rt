@@ -9,16 +9,17 @@ use crate::fault::Fault;
 use crate::inputs::{demo, point_lines, square_lines};
 use crate::random::Random;
 use crate::varied::varied;
-use lens_engines::{Base, Ignored, Question, Rules, Warnings, check_file};
+use lens_engines::{Base, Question, Rules, Warnings, check_file};
 use lens_texts::{Form, label_of, level_at};
+use level_codes::CodeSet;
 use level_starts::{Format, LevelStarts, format_of};
+use look_engines::{MAX_INPUT, MAX_READ, census_text, lmp, points};
 use map_cells::{CellCount, Frame};
 use map_level::{Level, Reading};
 use map_picture::{View, draw_level};
 use memory_streams::{FromSlice, ToVec};
 use std::alloc::Global;
 use wad_dir::Set;
-use wad_look::{MAX_INPUT, MAX_READ, census_text, lmp, points};
 
 /// What is done in each round.
 #[derive(Clone, Copy, PartialEq, Eq)]
@@ -130,7 +131,11 @@ fn draw_varied(
     let Some(cells) = CellCount::new(512 - random.below(64)) else {
         return Ok(());
     };
-    let asked = View { frame, cells };
+    let asked = View {
+        frame,
+        cells,
+        warnings: None,
+    };
     let mut out = ToVec::new(alloc);
     draw_level(alloc, level, asked, &mut out)?;
     digest.add(out.taken());
@@ -161,7 +166,8 @@ fn check_varied(
     let rules = Rules {
         reading: Reading::Signed,
         warnings: Warnings::Told,
-        ignored: Ignored::none(),
+        ignored: CodeSet::none(),
+        failing: CodeSet::none(),
     };
     let question = Question {
         form: Form::Lines,

@@ -16,12 +16,12 @@ use digest::Digest;
 use fault::Fault;
 use jobs::{do_round, job_named};
 use le_rec::FromRead;
+use look_engines::{MAX_READ, read_all};
 use random::Random;
 use std::env;
 use std::fs::File;
 use std::process::ExitCode;
 use std::rt::{Env, Files};
-use wad_look::{MAX_READ, read_all};
 
 fn main(rt: HostRuntime) -> ExitCode {
     match run(&rt) {

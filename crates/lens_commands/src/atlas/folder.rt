@@ -1,7 +1,7 @@
 //! The folder that an atlas is written into.
 
 use crate::atlas::fault::KeepFault;
-use demo_engines::HandOn;
+use lens_texts::HandOn;
 
 /// Why a folder is refused.
 #[derive(Clone, Copy, Debug, PartialEq, Eq)]
@@ -82,6 +82,11 @@ pub trait Folder {
         requires { taken self.old ≡ true }
         ensures taken { taken self.new ≡ true }
         ensures kept { KeepsFile (kept self.old) (kept self.new) (Self.File.state file) name.now result };
+
+    /// Leaves the folder, which has no file. It is removed if it was made.
+    fn leave(&mut self)
+        requires { taken self.old ≡ true }
+        ensures kept { kept self.new ≡ kept self.old };
 
     /// Discards a file that isn't whole.
     fn discard(&mut self, file: Self::File, name: &[u8])

@@ -10,7 +10,6 @@ use crate::atlas::folder::Folder;
 use atlas_page::{Origin, Row, prepend_picture_name};
 use lens_texts::level_at;
 use line_io::TextLine;
-use map_cells::CellCount;
 use map_level::Level;
 use map_picture::{DrawFault, View, draw_level};
 use std::alloc::Global;
@@ -19,7 +18,7 @@ use wad_dir::Set;
 /// Draws the levels of a file's rows, each into a file of the folder, where the page shows a picture.
 pub fn draw_rows<F: Folder>(
     alloc: Global,
-    cells: CellCount,
+    drawn: &View,
     origin: &Origin<'_, '_>,
     set: &Set<'_>,
     rows: &[Row<'_>],
@@ -28,11 +27,11 @@ pub fn draw_rows<F: Folder>(
     requires taken { F.taken folder.old ≡ true }
     requires rows { All (λ row. IsRow origin.now set.now row.entry row) rows.now }
     ensures taken { F.taken folder.new ≡ true }
-    ensures all { OnOk result (DrawsRows cells origin.now.judging.reading set.now rows.now (F.kept folder.old) (F.kept folder.new)) }
-    ensures some { OnErr result (DrawsSome cells origin.now.judging.reading set.now rows.now (F.kept folder.old) (F.kept folder.new)) }
+    ensures all { OnOk result (DrawsRows drawn.now origin.now.judging.reading set.now rows.now (F.kept folder.old) (F.kept folder.new)) }
+    ensures some { OnErr result (DrawsSome drawn.now origin.now.judging.reading set.now rows.now (F.kept folder.old) (F.kept folder.new)) }
 {
     for row in rows {
-        draw_row(alloc, cells, origin, set, row, folder)?;
+        draw_row(alloc, drawn, origin, set, row, folder)?;
     }
     Ok(())
 }
@@ -40,7 +39,7 @@ pub fn draw_rows<F: Folder>(
 // Draws the level of a row, where the page shows a picture.
 fn draw_row<F: Folder>(
     alloc: Global,
-    cells: CellCount,
+    drawn: &View,
     origin: &Origin<'_, '_>,
     set: &Set<'_>,
     row: &Row<'_>,
@@ -49,7 +48,7 @@ fn draw_row<F: Folder>(
     requires taken { F.taken folder.old ≡ true }
     requires row { IsRow origin.now set.now row.now.entry row.now }
     ensures taken { F.taken folder.new ≡ true }
-    ensures drawn { OnOk result (DrawsRow cells origin.now.judging.reading set.now row.now (F.kept folder.old) (F.kept folder.new)) }
+    ensures drawn { OnOk result (DrawsRow drawn.now origin.now.judging.reading set.now row.now (F.kept folder.old) (F.kept folder.new)) }
     ensures kept { OnErr result (F.kept folder.new ≡ F.kept folder.old) }
 {
     if !row.found.is_drawn() {
@@ -58,13 +57,13 @@ fn draw_row<F: Folder>(
     let level = level_at(set, row.entry as usize, origin.judging.reading);
     let mut name = TextLine::new();
     prepend_picture_name(&mut name, row.file, row.entry);
-    draw_file(alloc, cells, &level, name.as_bytes(), folder)
+    draw_file(alloc, *drawn, &level, name.as_bytes(), folder)
 }
 
 // Draws a level into a file of the folder.
 fn draw_file<F: Folder>(
     alloc: Global,
-    cells: CellCount,
+    drawn: View,
     level: &Level<'_>,
     name: &[u8],
     folder: &mut F,
@@ -72,12 +71,11 @@ fn draw_file<F: Folder>(
     requires taken { F.taken folder.old ≡ true }
     requires lines { HasLines level.now }
     ensures taken { F.taken folder.new ≡ true }
-    ensures drawn { OnOk result (DrawsFile cells level.now name.now (F.kept folder.old) (F.kept folder.new)) }
+    ensures drawn { OnOk result (DrawsFile drawn level.now name.now (F.kept folder.old) (F.kept folder.new)) }
     ensures kept { OnErr result (F.kept folder.new ≡ F.kept folder.old) }
 {
     let mut file = folder.begin(name)?;
-    let asked = View { frame: None, cells };
-    match draw_level(alloc, level, asked, &mut file) {
+    match draw_level(alloc, level, drawn, &mut file) {
         Ok(_) => folder.keep(file, name),
         Err(DrawFault::NothingToDraw) => unreachable!(),
         Err(fault) => {

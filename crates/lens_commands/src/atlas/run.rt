@@ -1,7 +1,7 @@
 //! The run of `atlas`.
 
 ghost use Rattle.std.specs.Prelude.{◌≡◌, ◌≤◌, ◌∷◌, [], false, true, IfOk, IfErr, IfSome, OnOk, OnErr, length, map};
-ghost use Rattle.lens_commands.specs.Atlas.{RunsAtlas, RunsTaken, StopsAtlas, TellsFault, WritesAtlas, index_file, survey_of};
+ghost use Rattle.lens_commands.specs.Atlas.{EndsAtlas, RunsAtlas, RunsTaken, StopsAtlas, TellsFault, is_all_refused, page_file, survey_of};
 ghost use Rattle.lens_commands.specs.Folder.{with_files};
 ghost use Rattle.lens_commands.specs.AtlasTold.{fault_end, folder_line, write_text};
 ghost use Rattle.lens_commands.specs.Until.{TellsUntil};
@@ -9,10 +9,10 @@ ghost use Rattle.lens_reports.specs.Run.{IsTold};
 
 use crate::atlas::fault::{AtlasFault, KeepFault};
 use crate::atlas::folder::{Folder, FolderFault};
-use crate::atlas::gather::{Gathered, gather};
+use crate::atlas::gather::{AtlasFiles, Gathered, gather};
 use crate::atlas::job::{AtlasJob, AtlasRequest};
 use crate::atlas::tell::{fault_end, write_folder_line};
-use atlas_page::{Page, write_page};
+use atlas_page::{Page, PageHead, RefusedFile, write_page};
 use le_rec::Sink;
 use lens_engines::{Base, Verdict, Warnings};
 use lens_reports::{
@@ -100,7 +100,8 @@ fn run_taken<S: Storage, F: Folder, E: Sink, P: Watch>(
     };
     let asked = AtlasRequest {
         judging: job.job.rules.over(&base),
-        cells: job.cells,
+        head: job.head,
+        drawn: job.drawn,
     };
     match write_atlas(alloc, &asked, paths, storage, folder, errors, watch) {
         Ok(verdict) => Ok(verdict),
@@ -108,7 +109,8 @@ fn run_taken<S: Storage, F: Folder, E: Sink, P: Watch>(
     }
 }
 
-/// Writes the files of an atlas into a folder: the pictures, the survey, and the page last.
+/// Writes the files of an atlas into a folder: the pictures, the survey, and the page last. If all files are refused, there is
+/// nothing to show: nothing is kept, and the folder is left.
 pub fn write_atlas<S: Storage, F: Folder, E: Sink, P: Watch>(
     alloc: Global,
     asked: &AtlasRequest<'_>,
@@ -120,30 +122,32 @@ pub fn write_atlas<S: Storage, F: Folder, E: Sink, P: Watch>(
 ) -> Result<Verdict, AtlasFault>
     requires taken { F.taken folder.old ≡ true }
     requires sound { (E.state errors.old).failed ≡ false }
-    ensures all { IfOk result (WritesAtlas (S.held storage.now) asked.now (map (λ path. path.now) paths.now)
+    ensures all { IfOk result (EndsAtlas (S.held storage.now) asked.now (map (λ path. path.now) paths.now)
         (F.kept folder.old) (F.kept folder.new) (E.state errors.old) (E.state errors.new)) }
     ensures some { OnErr result (StopsAtlas (S.held storage.now) asked.now (map (λ path. path.now) paths.now)
         (F.kept folder.old) (F.kept folder.new) (E.state errors.old) (E.state errors.new)) }
     ensures told { IfErr result (TellsUntil (S.held storage.now) (survey_of asked.now.judging) (map (λ path. path.now) paths.now)
         (F.kept folder.old) (F.kept folder.new) (E.state errors.old) (E.state errors.new)) }
 {
-    let warnings = asked.judging.warnings;
     let mut survey = folder.begin(SURVEY)?;
-    let gathered = gather(
-        alloc,
-        asked,
-        paths,
-        storage,
-        &mut survey,
-        folder,
-        errors,
-        watch,
-    );
+    let files = AtlasFiles { storage, paths };
+    let gathered = gather(alloc, asked, &files, &mut survey, folder, errors, watch);
     watch.finish();
     match gathered {
         Ok(gathered) => {
+            if is_all_refused(paths, &gathered.refused) {
+                folder.discard(survey, SURVEY);
+                folder.leave();
+                return Ok(gathered.tally.verdict);
+            }
             folder.keep(survey, SURVEY)?;
-            write_index(paths.len() as u64, warnings, &gathered, folder)?;
+            write_index(
+                &asked.head,
+                asked.judging.warnings,
+                paths.len() as u64,
+                &gathered,
+                folder,
+            )?;
             Ok(gathered.tally.verdict)
         }
         Err(fault) => {
@@ -153,21 +157,30 @@ pub fn write_atlas<S: Storage, F: Folder, E: Sink, P: Watch>(
     }
 }
 
+// Whether there are files, and all are refused.
+fn is_all_refused(paths: &[&[u8]], refused: &[RefusedFile<'_>]) -> bool
+    ensures { result ≡ is_all_refused (length paths.now) (length refused.now) }
+{
+    (paths.len() > 0) & (refused.len() == paths.len())
+}
+
 // Writes the page into the folder.
 fn write_index<F: Folder>(
-    files: u64,
+    head: &PageHead<'_>,
     warnings: Warnings,
+    files: u64,
     gathered: &Gathered<'_>,
     folder: &mut F,
 ) -> Result<(), KeepFault>
     requires taken { F.taken folder.old ≡ true }
     ensures taken { F.taken folder.new ≡ true }
     ensures written { OnOk result (F.kept folder.new
-        ≡ with_files (F.kept folder.old) (index_file files warnings gathered.now.rows.items gathered.now.refused.items ∷ [])) }
+        ≡ with_files (F.kept folder.old) (page_file head.now warnings files gathered.now.rows.items gathered.now.refused.items ∷ [])) }
     ensures kept { OnErr result (F.kept folder.new ≡ F.kept folder.old) }
 {
     let mut file = folder.begin(INDEX)?;
     let page = Page {
+        head,
         files,
         warnings,
         rows: &gathered.rows,

@@ -5,7 +5,7 @@ ghost use Rattle.lens_commands.specs.Picture.{DrawsFiles, DrawsPaths};
 ghost use Rattle.lens_reports.specs.Output.{output_state};
 ghost use Rattle.lens_reports.specs.Run.{AreSound};
 ghost use Rattle.wad_dir.specs.declared.set.TheConstants.{MAX_FILES};
-ghost use Rattle.wad_look.specs.Opening.{bytes_of};
+ghost use Rattle.look_engines.specs.Opening.{bytes_of};
 
 use crate::picture::draw::{PictureQuestion, draw_named};
 use crate::picture::told::tell_refused;

@@ -30,7 +30,7 @@ use denote.Triple.Call.{calls_from}
 use Rattle.block_alloc.specs.contracts.OneBlock.take as callee
 use Rattle.block_alloc.specs.contracts.OneBlock.take.Key as take_key
 use Rattle.block_alloc.proofs.OneBlock.take.Met.{met as takes}
-use Rattle.block_alloc.proofs.Taken.{Taken, Told, taken, hands_out}
+use Rattle.block_alloc.proofs.Taken.{Taken, ServesIfTaken, taken, hands_out}
 use Rattle.block_alloc.specs.contracts.OneBlockAllocator.allocate.{ended, clauses}
 use Rattle.block_alloc.specs.contracts.OneBlockAllocator.allocate.Key.{name as #self}
 use Rattle.block_alloc.proofs.OneBlockAllocator.allocate.Statement.{statement}
@@ -64,8 +64,8 @@ allocate_spec 𝓤 𝓛 𝓜 𝓡 wired =
     enter ! C Λ fn vs Post $
     alloc_all ! (λ l. pass_all ! refl ((tt, tt), ((tt, record { fits = are.1.0.1 }), ((tt, record { fits = are.1.1.0.1 }), tt))) $ let En : Env 𝓤 𝓛.H = env fn.locals l in
     calls_from ! (framed 𝓤 𝓛.H 𝓜 (tables 𝓤 𝓛.H 𝓜 𝓡 𝓡.env)) (raw (k.pre y)) vs (k.post y) (subst (λ (us : List Val). ent 𝓤 (k.pre y) (C take_key.name us (k.post y))) told (takes 𝓤 𝓛 𝓜 𝓡 (compiled.calls-block_alloc::OneBlock::take 𝓡.env wired) y)) (and_then ! (get ! refl) (and_then ! (get ! refl) (and_then ! (get ! refl) (no_more !)))) (λ v.
-    use1 𝓛 (later (some (λ (x : Taken.Denot). (raw (alive 𝓛 En₀.signature z.0.0 z.0.1) ⊛ ‵ (Taken.own_val x (v ∷ []))) ⊛ some (λ (ls : Lasts callee.ended z.0.0 a). ‵ (lasts callee.ended z.0.0 a ls) ⊛ raw (fact 𝓤 (Told n al x)))))) (id⊢ 𝓤 (k.post y v)) $
-    await ! tt $ pick ! (λ x. split ! $ move ! (1 ∷ []) $ pick ! (λ _. split ! $ drop ! $ heard ! (Told n al x) (λ said. split ! $ move ! (1 ∷ []) $
+    use1 𝓛 (later (some (λ (x : Taken.Denot). (raw (alive 𝓛 En₀.signature z.0.0 z.0.1) ⊛ ‵ (Taken.own_val x (v ∷ []))) ⊛ some (λ (ls : Lasts callee.ended z.0.0 a). ‵ (lasts callee.ended z.0.0 a ls) ⊛ raw (fact 𝓤 (ServesIfTaken n al x)))))) (id⊢ 𝓤 (k.post y v)) $
+    await ! tt $ pick ! (λ x. split ! $ move ! (1 ∷ []) $ pick ! (λ _. split ! $ drop ! $ heard ! (ServesIfTaken n al x) (λ said. split ! $ move ! (1 ∷ []) $
     taken ! n al x v said
     (λ m serves b o e. let p : Ptr = block_ptr b o in
     use1 𝓛 (‵ (froom τ b o) ⊛ ‵ ftrue) (hands_out 𝓛 τ b o m n al asked.0 serves) $ lands_as ! (e) refl (tt, (record { fits = lit< tt }, ((tt, tt), tt))) $

@@ -5,8 +5,8 @@ use Rattle.demo_engines.specs.Assembly.{WantsFirst, wanted_behind}
 use Rattle.demo_engines.specs.declared.assembly.Wanted.{Wanted}
 use Rattle.demo_lump.specs.Demo.{IsDemo}
 use Rattle.demo_lump.specs.Header.{players_in}
-use Rattle.wad_look.specs.Listing.{header_line, totals_line}
-use Rattle.wad_look.specs.Turn.{Turn, tic_of}
+use Rattle.look_engines.specs.Listing.{header_line, totals_line}
+use Rattle.look_engines.specs.Turn.{PlayerTurn, tic_of}
 use Rattle.demo_engines.proofs.assembly.assemble.Goals as goal
 
 pub returns-in_default-clause-wrong : goal.returns-in_default-clause-wrong
@@ -22,12 +22,12 @@ returns-in_default-take_totals-clause-wrong c =
       of_commands = c.in-Ok.ensures.fit;
       few = c.in-Ok.ensures.few;
     } in
-    let no_totals = subst (λ (t : Turn). (after : ℕ) (r : List ℕ) → after < 2 ^ 64
+    let no_totals = subst (λ (t : PlayerTurn). (after : ℕ) (r : List ℕ) → after < 2 ^ 64
     → c.in-Ok.taken.rest.now ≢ totals_line (tic_of t.players t.index) (t.index % players_in t.players) after ++ r) c.in-Ok.ensures.turns c.in_default-take_totals.ensures.none in
     let count : c.len-lines.result ≡ length c.in-Ok.taken.commands.items = search rules in
     let why = c.wrong_line-in_default-take_totals.ensures in
     let turns : c.in-Ok.taken.turn ≡ record { players = c.in-Some.header.players; index = length c.in-Ok.taken.commands.items } = c.in-Ok.ensures.turns in
-    let first = subst (λ (t : Turn). WantsFirst c.in-Ok.taken.rest.now (wanted_behind c.in-Ok.taken.rest.now t) why.0) turns
+    let first = subst (λ (t : PlayerTurn). WantsFirst c.in-Ok.taken.rest.now (wanted_behind c.in-Ok.taken.rest.now t) why.0) turns
     (subst (λ (w : Wanted). WantsFirst c.in-Ok.taken.rest.now w why.0) c.wanted_behind-wanted.ensures why.1) in
     rw (why.2, count) (refuses_there c.args.listing.now c.in-Some.header c.in-Ok.taken.commands.items c.in-Ok.taken.rest.now taken why.0 c.in-Ok.ensures.none no_totals first)
 
@@ -39,7 +39,7 @@ returns-then-not-is_empty-clause-wrong c =
       of_commands = c.in-Ok.ensures.fit;
       few = c.in-Ok.ensures.few;
     } in
-    let found = subst (λ (t : Turn). (after : ℕ) × (after < 2 ^ 64)
+    let found = subst (λ (t : PlayerTurn). (after : ℕ) × (after < 2 ^ 64)
     × (c.in-Ok.taken.rest.now ≡ totals_line (tic_of t.players t.index) (t.index % players_in t.players) after ++ c.in-Some-take_totals.rest.now)) c.in-Ok.ensures.turns
     c.in-Some-take_totals.ensures.some in
     let some : 0 < length c.in-Some-take_totals.rest.now = search rules in
@@ -56,7 +56,7 @@ returns-in-Ok-write_demo-clause-ok c =
       of_commands = c.in-Ok.ensures.fit;
       few = c.in-Ok.ensures.few;
     } in
-    let found = subst (λ (t : Turn). (after : ℕ) × (after < 2 ^ 64)
+    let found = subst (λ (t : PlayerTurn). (after : ℕ) × (after < 2 ^ 64)
     × (c.in-Ok.taken.rest.now ≡ totals_line (tic_of t.players t.index) (t.index % players_in t.players) after ++ c.in-Some-take_totals.rest.now)) c.in-Ok.ensures.turns
     c.in-Some-take_totals.ensures.some in
     let zero : length c.in-Some-take_totals.rest.now ≡ 0 = search rules in

@@ -1,8 +1,8 @@
 use Rattle.std.proofs.Common.{true, false, inr, refl, sym, ◌∙◌}
+use Rattle.lens_texts.proofs.HandingLemmas.{hand_ends, text_stopped, text_taken}
 use Rattle.demo_engines.specs.Demos.{asked_of, unread_texts}
 use Rattle.demo_engines.specs.RefusalText.{reason_text}
 use Rattle.demo_engines.proofs.DemosLemmas.{lacks_answer, told_refused}
-use Rattle.demo_engines.proofs.HandingLemmas.{hand_ends, text_stopped, text_taken}
 use Rattle.demo_engines.proofs.demos.tell_refused.Goals as goal
 
 pub returns-then-is_err-clause-told : goal.returns-then-is_err-clause-told

@@ -2,7 +2,7 @@ use Rattle.std.proofs.Common.{◌≡◌, ◌∷◌, ◌++◌, ◌<◌, List, ℕ
 use Rattle.demo_engines.specs.Parts.{FitsHeader, fields, numbers_of}
 use Rattle.demo_engines.proofs.HeaderLineLemmas.{labels}
 use Rattle.demo_lump.specs.declared.header.Header.{Header}
-use Rattle.wad_look.specs.Listing.{header_line}
+use Rattle.look_engines.specs.Listing.{header_line}
 use Rattle.demo_engines.proofs.header_line.guess_numbers.Given as goal
 
 abbrev pub invariant-loop-i : goal.invariant-loop-i

@@ -24,13 +24,14 @@ pub returns : goal.returns
 returns g c =
     let level = c.level_at-level.result in
     let judged = c.in-Ok.judged in
-    let text = subst (λ (head : Head). (told : Code → List ℕ) → AreShown (AuditHolds level) told → AreCounted judged.counts told
+    let text = subst (λ (head : Head). (told : Code → List ℕ) → AreShown (AuditHolds judged.level) told → AreCounted judged.counts told
     → Writes (g.W.Sink.state c.args.out.now) (g.W.Sink.state c.write_judged-wrote.new.out)
-    (judged_text head c.args.question.now.most level told judged.warned c.in-Ok-is_sound_wide_alone.sound_wide) c.write_judged-wrote.result) c.requires.heading
-    (rw c.in-Ok.ensures.of_level at c.write_judged-wrote.ensures.text) in
+    (judged_text head c.args.question.now.most judged told c.in-Ok-is_sound_wide_alone.sound_wide) c.write_judged-wrote.result) c.requires.heading
+    c.write_judged-wrote.ensures.text in
     let are = rw c.requires.known at c.in-Ok.ensures in
-    let unlooked = rw c.requires.known at c.of-2.ensures in
-    let ended = rw (c.judged_totals-totals.ensures, c.counts-counts.ensures) at c.text_end.ensures in
+    let unlisted = rw c.requires.known at c.of-unlisted.ensures in
+    let failing = rw c.counts-counts.ensures at c.has_failing-fails.ensures in
+    let ended = rw (c.judged_totals-totals.ensures, c.counts-counts.ensures, c.unlooked.ensures) at c.text_end.ensures in
     judged_written g.W.Sink.state (asked_of c.args.question.now) c.args.set.now c.args.g c.args.heading.now.label level judged
-    c.of-2.result c.in-Ok-is_sound_wide_alone.sound_wide c.args.out.now c.write_judged-wrote.new.out c.write_judged-wrote.result c.text_end.result
-    c.level_at-level.ensures are unlooked c.in-Ok-is_sound_wide_alone.ensures text ended
+    c.has_failing-fails.result c.of-unlisted.result c.in-Ok-is_sound_wide_alone.sound_wide c.args.out.now c.write_judged-wrote.new.out c.write_judged-wrote.result c.text_end.result
+    c.level_at-level.ensures are failing unlisted c.in-Ok-is_sound_wide_alone.ensures text ended

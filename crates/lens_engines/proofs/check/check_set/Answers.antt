@@ -13,7 +13,7 @@ returns-in-Err g c =
     let next = rw c.levels.invariant.of_set at c.in-Some.ensures.steps.0 in
     let some = level_stopped g.W.Sink.state (asked_of c.args.question.now) c.args.set.now (g.W.Sink.state c.args.out.now) c.levels.g-iterator.from c.in-Some.g c.levels.sum
     c.levels.out c.check_level.new.out c.in-Err.fault c.levels.invariant.so_far c.levels.invariant.sound next c.in-Err.ensures in
-    rw (c.after.ensures, c.verdict_with.ensures) (record { all = tt; some = some })
+    rw (c.after.ensures, c.verdict.ensures) (record { all = tt; some = some })
 
 pub levels-preserved : goal.levels-preserved
 levels-preserved g c =

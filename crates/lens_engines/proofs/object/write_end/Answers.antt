@@ -18,6 +18,4 @@ returns-in_err-write_warnings g c =
     rw (p.1, p.2) (Writes-later c.in_ok-write_found.ensures (Writes-stop {U = Unit {0}} (unlooked_member c.args.counted.now.unlooked ++ codes "}\n") c.in_err-write_warnings.ensures))
 
 pub returns : goal.returns
-returns g c =
-    let rest = rw c.member.ensures.text at c.write_both.ensures in
-    Writes-after c.in_ok-write_found.ensures (Writes-after c.in_ok-write_warnings.ensures rest)
+returns g c = Writes-after c.in_ok-write_found.ensures (Writes-after c.in_ok-write_warnings.ensures c.write_last.ensures)

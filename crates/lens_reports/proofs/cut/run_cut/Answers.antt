@@ -9,4 +9,4 @@ returns-in-Err-Refused g c =
     inr (inl (record { refusal = c.in-Err-Refused.refusal; why = why; told = (c.write_refusal.result, wrote); untouched = refl; ended = refl }))
 
 pub returns-in-Ok : goal.returns-in-Ok
-returns-in-Ok g c = inr (inr (record { bytes = c.deref.result.now; are = search rules; few = search rules; cuts = c.cut_bytes.ensures }))
+returns-in-Ok g c = inr (inr (record { bytes = c.deref.result.now; are = search rules; few = search rules; cuts = c.cut_asked.ensures }))

@@ -2,13 +2,13 @@ use Rattle.std.proofs.Common.{◌++◌, codes, sym, ◌∙◌}
 use Rattle.std.proofs.lemmas.Result.{err_from_is_err_and}
 use Rattle.line_io.proofs.WriteLemmas.{Writes-stop}
 use Rattle.lens_texts.proofs.WritingLemmas.{Writes-after, Writes-later}
-use Rattle.lens_engines.specs.Unlooked.{unlooked_note}
+use Rattle.lens_engines.specs.Unlisted.{unlisted_note}
 use Rattle.lens_reports.proofs.run.write_unlooked.Goals as goal
 
 pub returns-in_err-emit : goal.returns-in_err-emit
 returns-in_err-emit g c =
     let p = err_from_is_err_and c.from_residual.result c.from_residual.ensures.1 in
-    rw (sym c.is_none.ensures ∙ c.if-is_none.false, p.1, p.2) (Writes-stop (unlooked_note c.args.unlooked ++ codes "\n") c.in_err-emit.ensures)
+    rw (sym c.is_none.ensures ∙ c.if-is_none.false, p.1, p.2) (Writes-stop (unlisted_note c.args.unlisted ++ codes "\n") c.in_err-emit.ensures)
 
 pub returns-in_err-emit-2 : goal.returns-in_err-emit-2
 returns-in_err-emit-2 g c =

@@ -5,7 +5,7 @@ use Rattle.lens_reports.proofs.tell.check_bytes.Goals as goal
 
 pub returns-in-Ok : goal.returns-in-Ok
 returns-in-Ok g c =
-    let told = checked g.W.Sink.state (asked_of c.args.question.now) c.args.bytes.now c.args.out.now c.check_file.new.out c.in-Ok.totals _ refl c.verdict_with.ensures c.in-Ok.ensures in
+    let told = checked g.W.Sink.state (asked_of c.args.question.now) c.args.bytes.now c.args.out.now c.check_file.new.out c.in-Ok.totals _ refl c.verdict.ensures c.in-Ok.ensures in
     record { told = told.0; sound = told.1; left = tt }
 
 pub returns-in-Err : goal.returns-in-Err

@@ -1,8 +1,8 @@
 use Rattle.std.proofs.Common.{true, false, inl, inr, refl, sym, ap, ◌∙◌}
-use Rattle.demo_engines.proofs.HandingLemmas.{appends_kept, front_kept, hand_ends, text_stopped, text_taken}
+use Rattle.lens_texts.proofs.HandingLemmas.{appends_kept, front_kept, hand_ends, text_stopped, text_taken}
 use Rattle.lens_engines.specs.declared.verdict.Verdict.TheVariants.{Unjudged}
 use Rattle.lens_reports.specs.Run.{refusal_answer, refusal_line}
-use Rattle.lens_reports.specs.declared.tell.Tally.{Tally}
+use Rattle.lens_reports.specs.declared.tell.ReportSum.{ReportSum}
 use Rattle.lens_reports.proofs.tell.tell_refusal.Goals as goal
 
 pub returns-then-is_err-clause-stopped : goal.returns-then-is_err-clause-stopped
@@ -46,7 +46,7 @@ returns g c =
         line = line.0;
         answer = appends_kept (g.W.Sink.state c.args.out.now).taken (g.W.Sink.state c.hand_on.new.self).taken (g.W.Sink.state c.answer_refusal.new.out).taken answer
             c.hand_on.ensures.keeps.bytes answered.0;
-        counts = ap (λ (t : Tally). record t { verdict = Unjudged }) c.no_tally.ensures;
+        counts = ap (λ (t : ReportSum). record t { verdict = Unjudged }) c.no_tally.ensures;
       };
       sound = record { answers = answered.1; refusals = line.1 };
       stopped = tt;

@@ -12,16 +12,16 @@ pub returns-then-counts-gt0-clause-drawn : goal.returns-then-counts-gt0-clause-d
 returns-then-counts-gt0-clause-drawn g c =
     let level = c.args.counted.now in
     let decided = sound_by_counts level c.counts-counts.result c.counts-counts.ensures in
-    let turns = drawn_bare level c.args.grid (λ sound. omega (arith, decided.0 sound, c.if-counts-gt0.true)) in
+    let turns = drawn_bare level c.args.grid c.args.marked.now (λ sound. omega (arith, decided.0 sound, c.if-counts-gt0.true)) in
     on_ok_weaker c.draw_shown.result
-    (takes_as (IsAuditedText level c.args.grid []) (IsAuditedDrawn level c.args.grid) (g.W.Sink.state c.args.out.now) (g.W.Sink.state c.draw_shown.new.out) turns)
+    (takes_as (IsAuditedText level c.args.grid [] c.args.marked.now) (IsAuditedDrawn level c.args.grid c.args.marked.now) (g.W.Sink.state c.args.out.now) (g.W.Sink.state c.draw_shown.new.out) turns)
     c.draw_shown.ensures.drawn
 
 pub returns-then-counts-gt0-clause-stopped : goal.returns-then-counts-gt0-clause-stopped
 returns-then-counts-gt0-clause-stopped g c =
     let level = c.args.counted.now in
     let decided = sound_by_counts level c.counts-counts.result c.counts-counts.ensures in
-    let turns = drawn_bare level c.args.grid (λ sound. omega (arith, decided.0 sound, c.if-counts-gt0.true)) in
+    let turns = drawn_bare level c.args.grid c.args.marked.now (λ sound. omega (arith, decided.0 sound, c.if-counts-gt0.true)) in
     IfErr-weaker c.draw_shown.result _ _
-    (λ fault. stops_as g.W.Sink.state (IsAuditedText level c.args.grid []) (IsAuditedDrawn level c.args.grid) c.args.out.now c.draw_shown.new.out fault turns)
+    (λ fault. stops_as g.W.Sink.state (IsAuditedText level c.args.grid [] c.args.marked.now) (IsAuditedDrawn level c.args.grid c.args.marked.now) c.args.out.now c.draw_shown.new.out fault turns)
     c.draw_shown.ensures.stopped

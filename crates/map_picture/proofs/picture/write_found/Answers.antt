@@ -8,7 +8,7 @@ use Rattle.map_picture.proofs.picture.write_found.Goals as goal
 pub returns-in_err-write_marks : goal.returns-in_err-write_marks
 returns-in_err-write_marks g c =
     let p = err_from_is_err_and c.from_residual.result c.from_residual.ensures.1 in
-    rw (p.1, p.2) (λ found are. Writes-stop (joined (last_parts c.args.counted.now)) (c.in_err-write_marks.ensures.text found are))
+    rw (p.1, p.2) (λ found are. Writes-stop (joined (last_parts c.args.counted.now c.args.marked.now)) (c.in_err-write_marks.ensures.text found are))
 
 pub returns : goal.returns
 returns g c =

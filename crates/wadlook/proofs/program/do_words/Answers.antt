@@ -1,7 +1,7 @@
 use Rattle.std.proofs.Common.{rules, ◌≢◌, ◌∙◌, Err, map, string_bytes, inl, refl, subst, ap}
 use Rattle.std.proofs.lemmas.Result.{err_from_is_err_and}
-use Rattle.wad_look.specs.Opening.{bytes_of}
-use Rattle.wad_look.specs.declared.command.Cmd.TheVariants.{Lmp}
+use Rattle.look_engines.specs.Opening.{bytes_of}
+use Rattle.look_engines.specs.declared.command.Cmd.TheVariants.{Lmp}
 use Rattle.wadlook.proofs.ProgramLemmas.{job_refuses, paths_refuse}
 use Rattle.line_io.specs.Storage.{AreHeld}
 use Rattle.wadlook.specs.declared.refusal.ProgramRefusal.TheVariants.{Usage}

@@ -1,7 +1,7 @@
 use Rattle.std.proofs.Common.{◌≡◌, ◌∙◌, ap, arith, inl, inr, length, map, refl, rules, slice_index_or, string_bytes, subst, sym, Global, List, [], ℕ}
 use Rattle.std.proofs.lemmas.List.{get_or-map, length-map}
 use Rattle.std.specs.Io.KnownBytes.{Keeps}
-use Rattle.wad_look.specs.Words.{paths_of}
+use Rattle.look_engines.specs.Words.{paths_of}
 use Rattle.wadlook.proofs.ProgramLemmas.{first_reached}
 use Rattle.wadlook.specs.Tied.{file_source}
 use Rattle.wadlook.specs.declared.refusal.ProgramRefusal.TheVariants.{Unreadable}

@@ -1,5 +1,5 @@
 use Rattle.std.proofs.Common.{Err, [], ◌∷◌, ap}
-use Rattle.wad_look.proofs.LevelFileLemmas.{level_packed, level_refused}
+use Rattle.look_engines.proofs.LevelFileLemmas.{level_packed, level_refused}
 use Rattle.wadlook_c.proofs.extract.file_of.Goals as goal
 
 pub returns-in-Ok-pack_level-clause-ok : goal.returns-in-Ok-pack_level-clause-ok

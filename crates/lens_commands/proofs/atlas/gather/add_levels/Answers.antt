@@ -37,7 +37,7 @@ pub returns-in-Ok-draw_rows-clause-adds : goal.returns-in-Ok-draw_rows-clause-ad
 returns-in-Ok-draw_rows-clause-adds g c =
     let adds = c.in-Ok-add_rows.ensures in
     let same = part_added c.args.origin.now c.in-Ok.set (length (names c.in-Ok.set)) c.len-before.result c.deref.result.now c.args.rows.now.items c.add_rows.new.rows.items adds (search rules) (search rules) in
-    levels_added c.args.cells c.args.origin.now c.args.bytes.now c.args.rows.now.items c.add_rows.new.rows.items (g.F.Folder.kept c.args.folder.now) (g.F.Folder.kept c.draw_rows.new.folder)
+    levels_added c.args.drawn c.args.origin.now c.args.bytes.now c.args.rows.now.items c.add_rows.new.rows.items (g.F.Folder.kept c.args.folder.now) (g.F.Folder.kept c.draw_rows.new.folder)
     c.in-Ok.set _ c.in-Ok.ensures.bytes c.in-Ok.ensures.read adds same c.in-Ok-draw_rows.ensures.all
 
 pub returns-clause-left : goal.returns-clause-left
@@ -45,7 +45,7 @@ returns-clause-left g c =
     let adds = c.in-Ok-add_rows.ensures in
     let same = part_added c.args.origin.now c.in-Ok.set (length (names c.in-Ok.set)) c.len-before.result c.deref.result.now c.args.rows.now.items c.add_rows.new.rows.items adds (search rules) (search rules) in
     record {
-      front = levels_stopped c.args.cells c.args.origin.now c.args.bytes.now c.args.rows.now.items c.add_rows.new.rows.items (g.F.Folder.kept c.args.folder.now) (g.F.Folder.kept c.draw_rows.new.folder)
+      front = levels_stopped c.args.drawn c.args.origin.now c.args.bytes.now c.args.rows.now.items c.add_rows.new.rows.items (g.F.Folder.kept c.args.folder.now) (g.F.Folder.kept c.draw_rows.new.folder)
           c.in-Ok.set _ c.in-Ok.ensures.bytes c.in-Ok.ensures.read adds same c.in-Err.ensures.some;
       left = inr (inr (record {
         verdict = c.in-Ok-write_lines.verdict;

@@ -13,14 +13,14 @@ loop-i-init g c = record {
   taken = c.requires.taken;
   sound = c.requires.sound;
   told = rw c.no_tally.ensures at_start;
-  all = rw (c.new.ensures.items, c.new-2.ensures.items, c.no_tally.ensures) (all_none (g.S.Storage.held c.args.storage.now) c.args.asked.now (g.F.Folder.kept c.args.folder.now)
+  all = rw (c.new.ensures.items, c.new-2.ensures.items, c.no_tally.ensures) (all_none (g.S.Storage.held c.args.files.now.storage.now) c.args.asked.now (g.F.Folder.kept c.args.folder.now)
       (g.F.File.Sink.state c.args.survey.now) (g.E.Sink.state c.args.errors.now));
 }
 
 pub returns-in_err-tally-clause-some : goal.returns-in_err-tally-clause-some
 returns-in_err-tally-clause-some g c =
     let p = err_from_is_err_and c.from_residual.result c.from_residual.ensures.1 in
-    let some = some_stopped (g.S.Storage.held c.args.storage.now) c.args.asked.now c.args.paths.now c.loop-i.i _ (omega (arith, c.loop-i-test.true)) _
+    let some = some_stopped (g.S.Storage.held c.args.files.now.storage.now) c.args.asked.now c.args.files.now.paths.now c.loop-i.i _ (omega (arith, c.loop-i-test.true)) _
     (g.F.Folder.kept c.args.folder.now) (g.F.Folder.kept c.loop-i.folder) (g.F.Folder.kept c.add_path.new.folder)
     (g.F.File.Sink.state c.args.survey.now) (g.F.File.Sink.state c.loop-i.survey) (g.F.File.Sink.state c.add_path.new.survey)
     (g.E.Sink.state c.args.errors.now) (g.E.Sink.state c.loop-i.errors) (g.E.Sink.state c.add_path.new.errors) c.loop-i.gathered.tally
@@ -31,19 +31,19 @@ returns-in_err-tally-clause-some g c =
 pub returns-in_err-tally-clause-stopped : goal.returns-in_err-tally-clause-stopped
 returns-in_err-tally-clause-stopped g c =
     let p = err_from_is_err_and c.from_residual.result c.from_residual.ensures.1 in
-    let at = stopped_at (λ (path : Bor (List ℕ)). path.now) c.args.paths.now c.loop-i.i _ (omega (arith, c.loop-i-test.true))
-    (g.S.Storage.held c.args.storage.now) (survey_of c.args.asked.now.judging) (g.F.File.Sink.state c.args.survey.now) (g.E.Sink.state c.args.errors.now)
+    let at = stopped_at (λ (path : Bor (List ℕ)). path.now) c.args.files.now.paths.now c.loop-i.i _ (omega (arith, c.loop-i-test.true))
+    (g.S.Storage.held c.args.files.now.storage.now) (survey_of c.args.asked.now.judging) (g.F.File.Sink.state c.args.survey.now) (g.E.Sink.state c.args.errors.now)
     (g.F.File.Sink.state c.loop-i.survey) (g.E.Sink.state c.loop-i.errors) (g.F.File.Sink.state c.add_path.new.survey) (g.E.Sink.state c.add_path.new.errors)
     c.loop-i.gathered.tally _ c.loop-i.invariant.told c.in_err-tally.ensures.stopped in
     rw (p.1, p.2) at
 
 pub loop-i-preserved : goal.loop-i-preserved
 loop-i-preserved g c =
-    let more = told_more (λ (path : Bor (List ℕ)). path.now) c.args.paths.now c.loop-i.i _ (omega (arith, c.loop-i-test.true))
-    (stored (g.S.Storage.held c.args.storage.now)) (survey_of c.args.asked.now.judging) (g.F.File.Sink.state c.args.survey.now) (g.E.Sink.state c.args.errors.now)
+    let more = told_more (λ (path : Bor (List ℕ)). path.now) c.args.files.now.paths.now c.loop-i.i _ (omega (arith, c.loop-i-test.true))
+    (stored (g.S.Storage.held c.args.files.now.storage.now)) (survey_of c.args.asked.now.judging) (g.F.File.Sink.state c.args.survey.now) (g.E.Sink.state c.args.errors.now)
     (g.F.File.Sink.state c.loop-i.survey) (g.E.Sink.state c.loop-i.errors) (g.F.File.Sink.state c.add_path.new.survey) (g.E.Sink.state c.add_path.new.errors)
     c.loop-i.gathered.tally c.in_ok-tally.tally c.loop-i.invariant.told c.in_ok-tally.ensures.told in
-    let all = all_more (g.S.Storage.held c.args.storage.now) c.args.asked.now c.args.paths.now c.loop-i.i _ (omega (arith, c.loop-i-test.true)) _
+    let all = all_more (g.S.Storage.held c.args.files.now.storage.now) c.args.asked.now c.args.files.now.paths.now c.loop-i.i _ (omega (arith, c.loop-i-test.true)) _
     (g.F.Folder.kept c.args.folder.now) (g.F.Folder.kept c.loop-i.folder) (g.F.Folder.kept c.add_path.new.folder)
     (g.F.File.Sink.state c.args.survey.now) (g.F.File.Sink.state c.loop-i.survey) (g.F.File.Sink.state c.add_path.new.survey)
     (g.E.Sink.state c.args.errors.now) (g.E.Sink.state c.loop-i.errors) (g.E.Sink.state c.add_path.new.errors) c.loop-i.gathered.tally

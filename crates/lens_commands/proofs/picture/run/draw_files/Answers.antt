@@ -1,6 +1,6 @@
 use Rattle.std.proofs.Common.{◌≡◌, ℕ, ◌+◌, ◌-◌, Err, Vec, Global, ap, ◌∙◌, arith, inl, inr, refl}
 use Rattle.std.proofs.lemmas.List.{length-map}
-use Rattle.wad_look.specs.Opening.{bytes_of}
+use Rattle.look_engines.specs.Opening.{bytes_of}
 use Rattle.lens_commands.proofs.FileLemmas.{first_among}
 use Rattle.lens_commands.proofs.picture.run.draw_files.Goals as goal
 

@@ -12,6 +12,8 @@ returns g c =
       are_warned = judged.asked;
       counts = rw (c.copied.ensures, c.counts.ensures) judged.counts;
       asked = refl;
-      unlooked = rw c.requires.known at c.of-3.ensures;
+      failing = rw (c.copied.ensures, c.counts.ensures) (rw c.counts-2.ensures at c.has_failing.ensures);
+      unlooked = rw c.unlooked.ensures judged.unlooked;
+      unlisted = rw c.requires.known at c.of-3.ensures;
       drawn = c.has_lines.ensures;
     }

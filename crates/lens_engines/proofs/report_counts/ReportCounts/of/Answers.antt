@@ -1,4 +1,4 @@
-use Rattle.std.proofs.Common.{◌≡◌, ◌<◌, ◌≢◌, ◌∙◌, arith, below_more, get_or, get_or-set_other, get_or-set_same, length, sym}
+use Rattle.std.proofs.Common.{◌<◌, ◌≢◌, ◌∙◌, arith, below_more, get_or-set_other, get_or-set_same, length}
 use Rattle.std.proofs.lemmas.List.{length-set}
 use Rattle.lens_engines.proofs.ReportCountLemmas.{are_report_counts, finding_at}
 use Rattle.lens_engines.proofs.report_counts.ReportCounts.of.Goals as goal

@@ -1,0 +1,11 @@
+use Rattle.std.proofs.Common.{◌≡◌, ℕ, ◌<◌, false, get_or, length}
+use Rattle.level_codes.specs.Codes.{code_at}
+use Rattle.level_codes.specs.Sets.{in_both}
+use Rattle.level_codes.specs.declared.table.TheConstants.{REPORT_COUNT}
+use Rattle.level_codes.proofs.set.CodeSet.common.Given as goal
+
+abbrev pub invariant-loop-rank : goal.invariant-loop-rank
+invariant-loop-rank l = record {
+  long : length l.codes ≡ REPORT_COUNT;
+  each : (k : ℕ) → k < l.rank → get_or l.codes k false ≡ in_both l.self l.other (code_at k);
+}

@@ -1,0 +1,96 @@
+//! The warnings that a picture marks.
+
+ghost use Rattle.std.specs.Prelude.{IfOk, OnOk};
+ghost use Rattle.map_picture.specs.WarningMarks.{AddsFirst, AreFirst, AreMarked, AreMarkedFor};
+
+use level_codes::WarningCode;
+use map_level::Level;
+use map_warnings::{Checks, Resources, Told, Warning};
+use std::alloc::{AllocError, Allocator};
+
+/// Which warnings are marked where they hold.
+#[derive(Clone, Copy, Debug, PartialEq, Eq)]
+pub struct MarkedWarnings {
+    /// W1: a ring at each open corner of a sector.
+    pub unclosed: bool,
+    /// W2: the linedef of each bare side.
+    pub bare: bool,
+    /// W3: a ring at each thing in the void.
+    pub in_void: bool,
+    /// W6: each linedef that lies on an earlier one.
+    pub twins: bool,
+    /// W11: a ring at each thing of no known kind.
+    pub unknown_things: bool,
+}
+
+/// How many warnings of one code are marked at most.
+pub const MOST_MARKS: usize = 1000;
+
+/// The warnings of a level that are marked: of each code that is asked for the first ones, one code after another. At most twelve
+/// bytes are kept for each. Besides, a code takes what `map_warnings` says, as long as it is looked for.
+pub fn marked_warnings<A: Allocator + Copy>(
+    alloc: A,
+    level: &Level<'_>,
+    asked: Option<MarkedWarnings>,
+) -> Result<Vec<Warning, A>, AllocError>
+    ensures { IfOk result (λ marked. AreMarkedFor asked level.now marked.items) }
+{
+    match asked {
+        Some(asked) => marked_of(alloc, level, asked),
+        None => Ok(Vec::new(alloc)),
+    }
+}
+
+// The warnings of the codes that are asked for.
+fn marked_of<A: Allocator + Copy>(
+    alloc: A,
+    level: &Level<'_>,
+    asked: MarkedWarnings,
+) -> Result<Vec<Warning, A>, AllocError>
+    ensures { IfOk result (λ marked. AreMarked asked level.now marked.items) }
+{
+    let checks = Checks::of(alloc, level)?;
+    let mut marked = Vec::new(alloc);
+    add_first(alloc, &checks, asked.unclosed, WarningCode::W1, &mut marked)?;
+    add_first(alloc, &checks, asked.bare, WarningCode::W2, &mut marked)?;
+    add_first(alloc, &checks, asked.in_void, WarningCode::W3, &mut marked)?;
+    add_first(alloc, &checks, asked.twins, WarningCode::W6, &mut marked)?;
+    add_first(
+        alloc,
+        &checks,
+        asked.unknown_things,
+        WarningCode::W11,
+        &mut marked,
+    )?;
+    Ok(marked)
+}
+
+// Adds the first warnings of a code, if it is asked for.
+fn add_first<A: Allocator + Copy>(
+    alloc: A,
+    checks: &Checks<'_, '_>,
+    asked: bool,
+    code: WarningCode,
+    marked: &mut Vec<Warning, A>,
+) -> Result<(), AllocError>
+    ensures { OnOk result (AddsFirst asked checks.now code marked.old.items marked.new.items) }
+{
+    if asked {
+        let told = first_told(alloc, checks, code)?;
+        marked.extend_from_slice(told.first())?;
+    }
+    Ok(())
+}
+
+// The report on the warnings of a code: the first of them.
+fn first_told<A: Allocator + Copy>(
+    alloc: A,
+    checks: &Checks<'_, '_>,
+    code: WarningCode,
+) -> Result<Told<A>, AllocError>
+    ensures { IfOk result (λ told. AreFirst checks.now code told.first) }
+{
+    // Only W9 and W10, which aren't marked, ask for textures and flats.
+    let resources: Option<Resources<'_, '_, A>> = None;
+    checks.told(alloc, code, &resources, MOST_MARKS)
+}

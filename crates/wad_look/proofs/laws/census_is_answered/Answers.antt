@@ -1,5 +1,0 @@
-use Rattle.wad_look.proofs.engines.CensusLemmas.{census_is_answered}
-use Rattle.wad_look.proofs.laws.census_is_answered.Goals as goal
-
-pub returns : goal.returns
-returns c = census_is_answered

@@ -1,5 +1,0 @@
-use Rattle.wad_look.proofs.engines.PointsLemmas.{points_are_answered}
-use Rattle.wad_look.proofs.laws.points_are_answered.Goals as goal
-
-pub returns : goal.returns
-returns c = points_are_answered

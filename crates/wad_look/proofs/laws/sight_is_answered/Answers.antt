@@ -1,5 +1,0 @@
-use Rattle.wad_look.proofs.engines.SightLemmas.{sight_is_answered}
-use Rattle.wad_look.proofs.laws.sight_is_answered.Goals as goal
-
-pub returns : goal.returns
-returns c = sight_is_answered

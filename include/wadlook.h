@@ -4,8 +4,8 @@
  * threads may call at once. Nothing is kept of what a call is given: what it takes of memory it gives back.
  *
  * What a caller owes, and nothing tests:
- *   - a pointer and the length after it are those of memory that stays as it is for the call. The pointer isn't NULL, also
- *     where the length is 0;
+ *   - a pointer and the length after it are those of memory that stays as it is for the call. Where the length is 0 the
+ *     pointer isn't followed, and may be NULL, as an empty std::vector gives it. A pointer without a length isn't NULL;
  *   - what a call writes to overlaps nothing else that the call is given;
  *   - a bool is 0 or 1, and a pointer is aligned as its type asks.
  * All else is tested: any bytes, any name and any numbers are answered by one of the statuses below. Where the status isn't

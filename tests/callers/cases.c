@@ -292,6 +292,47 @@ static void demo(void) {
     CHECK(wadlook_demo(longer, sizeof longer, commands, 3, &info) == WADLOOK_DONE && info.commands == 1 && commands[0].turn == 258);
 }
 
+/* NULL with the length 0 in the place of each array: what is asked, and what is written to. */
+static void nothing(void) {
+    const uint8_t bytes[] = {109, 3, 1, 1, 0, 0, 0, 0, 0, 1, 0, 0, 0, 25, 0, 0, 0, 128};
+    const wadlook_point_at origin = {0, 5};
+    const wadlook_rect rect = {-1, 0, 1, 1};
+    const uint16_t sectors[] = {5, 6};
+    wadlook_totals totals = {9, 9};
+    wadlook_lump lump = {9, 9, 9};
+    wadlook_block_at found = {9, 9, 9, 9};
+    wadlook_demo_info info;
+    wadlook_place place = {7, 7};
+    size_t count = 9;
+    uint32_t blocked = 9;
+    fresh();
+    CHECK(wadlook_points(NULL, 0, NAME("E1M1"), false, &origin, 1, &place, 1) == WADLOOK_SHORT && place.sector == 7);
+    CHECK(wadlook_points(wad, BASE, NULL, 0, false, &origin, 1, &place, 1) == WADLOOK_NO_NAME && place.sector == 7);
+    CHECK(wadlook_points(wad, BASE, NAME("E1M1"), false, NULL, 0, &place, 1) == WADLOOK_DONE && place.sector == 7);
+    CHECK(wadlook_points(wad, BASE, NAME("E1M1"), false, NULL, 0, NULL, 0) == WADLOOK_DONE);
+    CHECK(wadlook_points(wad, BASE, NAME("E1M1"), false, &origin, 1, NULL, 0) == WADLOOK_NO_ROOM);
+    CHECK(wadlook_prepare(NULL, 0, NULL, 0, false, NULL, 0, &count) == WADLOOK_SHORT && count == 9);
+    CHECK(wadlook_prepare(wad, BASE, NAME("E1M1"), false, NULL, 0, &count) == WADLOOK_NO_ROOM && count == 2);
+    CHECK(wadlook_point(NULL, 0, sectors, 2, origin).sector == 5); /* no nodes: ssector 0 is the whole level */
+    CHECK(wadlook_point(wad + NODES, 28, NULL, 0, origin).ssector == WADLOOK_NOWHERE);
+    CHECK(wadlook_point(NULL, 0, NULL, 0, origin).ssector == WADLOOK_NOWHERE);
+    CHECK(wadlook_census(NULL, 0, NULL, 0, false, &rect, NULL, 0, &count) == WADLOOK_SHORT && count == 2);
+    count = 9;
+    CHECK(wadlook_census(wad, BASE, NAME("E1M1"), false, &rect, NULL, 0, &count) == WADLOOK_DONE && count == 2);
+    CHECK(wadlook_audit(NULL, 0, NULL, 0, false, NULL, 0, &totals) == WADLOOK_SHORT && totals.faults == 9);
+    CHECK(wadlook_audit(wad, BASE, NAME("THINGS"), false, NULL, 0, &totals) == WADLOOK_DONE && totals.faults == 1); /* F1 */
+    CHECK(wadlook_find(NULL, 0, NULL, 0, 0, &lump) == WADLOOK_SHORT && lump.entry == 9);
+    CHECK(wadlook_find(wad, BASE, NULL, 0, 0, &lump) == WADLOOK_NO_NAME && lump.entry == 9);
+    memset(wad + entry(7) + 8, 0, 8); /* an entry of no name */
+    CHECK(wadlook_find(wad, BASE, NULL, 0, 0, &lump) == WADLOOK_DONE && lump.entry == 7 && lump.place == NODES);
+    CHECK(wadlook_sight(NULL, 0, 2, 0, 1, &blocked) == WADLOOK_UNKNOWN && blocked == 9);
+    CHECK(wadlook_block(NULL, 0, false, origin, &found) == WADLOOK_NO_BLOCKMAP && found.first == 9);
+    CHECK(wadlook_extract(NULL, 0, NULL, 0, NULL, 0, &count) == WADLOOK_SHORT && count == 2);
+    CHECK(wadlook_extract(wad, BASE, NAME("E1M1"), NULL, 0, &count) == WADLOOK_NO_ROOM && count == BASE);
+    CHECK(wadlook_demo(NULL, 0, NULL, 0, &info) == WADLOOK_DEMO_EMPTY);
+    CHECK(wadlook_demo(bytes, sizeof bytes, NULL, 0, &info) == WADLOOK_DONE && info.commands == 1);
+}
+
 static uint32_t audit_of(size_t len, wadlook_totals *totals) {
     wadlook_finding found;
     return wadlook_audit(wad, len, NAME("E1M1"), false, &found, 1, totals);
@@ -361,6 +402,7 @@ int main(int argc, char **argv) {
     blocks();
     extract();
     demo();
+    nothing();
     cuts();
     threads();
     printf("%u passed, %u failed\n", passed, failed);

@@ -9,8 +9,11 @@
  *   - what a call writes to overlaps nothing else that the call is given;
  *   - a bool is 0 or 1, and a pointer is aligned as its type asks.
  * All else is tested: any bytes, any name and any numbers are answered by one of the statuses below. Where the status isn't
- * WADLOOK_DONE, what the call writes to is as it was, unless it is said of WADLOOK_NO_ROOM that a number was written. Entries of
- * an array after the answer are left unchanged.
+ * WADLOOK_DONE, what the call writes to is as it was, but for *count and *written at NO_ROOM. Entries of an array after the
+ * answer are left unchanged.
+ *
+ * Where the array for an answer is too short, a call that says NO_ROOM writes nothing to it, a call that says FRONT fills it with
+ * the front of the answer and is DONE, and what stands right of the `<` there is the length that is enough.
  *
  * A call takes one file: of a PWAD over a game's file ask the PWAD first, and then the game's. `name` is looked up as the game
  * does: its first eight bytes in capital letters, up to a NUL; the last entry of that name is taken. No call lists the names of
@@ -35,6 +38,15 @@
 #include <stdbool.h>
 #include <stddef.h>
 #include <stdint.h>
+
+/* A status that is dropped is warned of. */
+#if (defined __cplusplus && __cplusplus >= 201703L) || (defined __STDC_VERSION__ && __STDC_VERSION__ >= 202311L)
+#define WADLOOK_NODISCARD [[nodiscard]]
+#elif defined __GNUC__
+#define WADLOOK_NODISCARD __attribute__((warn_unused_result))
+#else
+#define WADLOOK_NODISCARD
+#endif
 
 #ifdef __cplusplus
 extern "C" {
@@ -85,14 +97,14 @@ typedef struct {
 
 /* Writes to places[i] the ssector and the sector in which points[i] lies, for each point; the file is read and the level
  * audited once. NO_ROOM: places_len < points_len. Else DONE, UNSOUND, MEMORY, SHORT to LUMP_OUTSIDE. */
-uint32_t wadlook_points(const uint8_t *wad, size_t wad_len, const uint8_t *name, size_t name_len, bool wide,
+WADLOOK_NODISCARD uint32_t wadlook_points(const uint8_t *wad, size_t wad_len, const uint8_t *name, size_t name_len, bool wide,
     const wadlook_point_at *points, size_t points_len, wadlook_place *places, size_t places_len);
 
 /* Audits a level once for many calls of wadlook_point: writes the sector of each ssector to the front of sectors, and how
- * many there are to *count, also at NO_ROOM. NO_ROOM comes before the audit: with more room the level may still be UNSOUND. Room
- * for 32,768 is enough for each sound level. Else DONE, UNSOUND, MEMORY, SHORT to LUMP_OUTSIDE. */
-uint32_t wadlook_prepare(const uint8_t *wad, size_t wad_len, const uint8_t *name, size_t name_len, bool wide, uint16_t *sectors,
-    size_t sectors_len, size_t *count);
+ * many there are to *count, also at NO_ROOM. NO_ROOM: sectors_len < *count. That comes before the audit: with more room the level
+ * may still be UNSOUND. Room for 32,768 is enough for each sound level. Else DONE, UNSOUND, MEMORY, SHORT to LUMP_OUTSIDE. */
+WADLOOK_NODISCARD uint32_t wadlook_prepare(const uint8_t *wad, size_t wad_len, const uint8_t *name, size_t name_len, bool wide,
+    uint16_t *sectors, size_t sectors_len, size_t *count);
 
 /* The place of one point, by the bytes of a level's NODES (wadlook_find with 7) and the *count sectors that
  * wadlook_prepare listed. Takes no memory. Any bytes and numbers may be handed in; where they are no sound level's, the
@@ -108,9 +120,9 @@ typedef struct {
     uint32_t sector, points;
 } wadlook_count;
 
-/* How many whole points of a rectangle lie in each sector, by sectors, of those that have some: as many pairs as there is
- * room for, and how many there are to *count. NO_RECT; else DONE, UNSOUND, MEMORY, SHORT to LUMP_OUTSIDE. */
-uint32_t wadlook_census(const uint8_t *wad, size_t wad_len, const uint8_t *name, size_t name_len, bool wide,
+/* Writes how many whole points of a rectangle lie in each sector, by sectors, of those that have some, and how many sectors these
+ * are to *count. FRONT: counts_len < *count. NO_RECT; else DONE, UNSOUND, MEMORY, SHORT to LUMP_OUTSIDE. */
+WADLOOK_NODISCARD uint32_t wadlook_census(const uint8_t *wad, size_t wad_len, const uint8_t *name, size_t name_len, bool wide,
     const wadlook_rect *rect, wadlook_count *counts, size_t counts_len, size_t *count);
 
 /* ---- What is wrong with a level ---------------------------------------------------------------------------------- */
@@ -159,10 +171,10 @@ typedef struct {
     size_t faults, notes;
 } wadlook_totals;
 
-/* The faults and notes of a level, by code and then by index: as many findings as there is room for, and how many there
- * are. A lump that is missing or outside the file is the only finding, F1 or F2 with the lump's number. DONE, MEMORY,
- * SHORT to NO_NAME. */
-uint32_t wadlook_audit(const uint8_t *wad, size_t wad_len, const uint8_t *name, size_t name_len, bool wide,
+/* Writes the faults and notes of a level, by code and then by index, and how many there are to *totals. FRONT: findings_len <
+ * totals->faults + totals->notes. A lump that is missing or outside the file is the only finding, F1 or F2 with the lump's
+ * number. DONE, MEMORY, SHORT to NO_NAME. */
+WADLOOK_NODISCARD uint32_t wadlook_audit(const uint8_t *wad, size_t wad_len, const uint8_t *name, size_t name_len, bool wide,
     wadlook_finding *findings, size_t findings_len, wadlook_totals *totals);
 
 /* ---- Lumps, sight and blocks ------------------------------------------------------------------------------------- */
@@ -175,11 +187,13 @@ typedef struct {
 /* The entry that stands `after` entries behind the last one of a name, and its lump. Behind a level's label 1 to 10 are
  * THINGS, LINEDEFS, SIDEDEFS, VERTEXES, SEGS, SSECTORS, NODES, SECTORS, REJECT and BLOCKMAP. DONE, MEMORY, SHORT to
  * LUMP_OUTSIDE. */
-uint32_t wadlook_find(const uint8_t *wad, size_t wad_len, const uint8_t *name, size_t name_len, size_t after, wadlook_lump *lump);
+WADLOOK_NODISCARD uint32_t wadlook_find(
+    const uint8_t *wad, size_t wad_len, const uint8_t *name, size_t name_len, size_t after, wadlook_lump *lump);
 
 /* Whether REJECT's bytes, of a level of so many sectors (SECTORS has 26 bytes for each), refuse the sight from a sector to
  * another: *blocked is 1 or 0. NO_SECTOR, UNKNOWN, DONE. Takes no memory. */
-uint32_t wadlook_sight(const uint8_t *reject, size_t reject_len, uint32_t sectors, uint32_t from, uint32_t to, uint32_t *blocked);
+WADLOOK_NODISCARD uint32_t wadlook_sight(
+    const uint8_t *reject, size_t reject_len, uint32_t sectors, uint32_t from, uint32_t to, uint32_t *blocked);
 
 typedef struct {
     uint32_t column, row;
@@ -188,13 +202,14 @@ typedef struct {
 
 /* The block that holds a point, and where its list stands in BLOCKMAP's bytes, up to its end word: little-endian words,
  * signed unless wide. The first word of a list is mostly 0 and no linedef. OUT_OF_RANGE to NO_END, DONE. Takes no memory. */
-uint32_t wadlook_block(const uint8_t *blockmap, size_t blockmap_len, bool wide, wadlook_point_at point, wadlook_block_at *block);
+WADLOOK_NODISCARD uint32_t wadlook_block(
+    const uint8_t *blockmap, size_t blockmap_len, bool wide, wadlook_point_at point, wadlook_block_at *block);
 
 /* ---- A level alone, and demos ------------------------------------------------------------------------------------ */
 
 /* Writes a PWAD of the level alone, its label and its ten lumps, to the front of out, and its length to *written, also at
- * NO_ROOM. Else DONE, MEMORY, TOO_LARGE, SHORT to LUMP_OUTSIDE. */
-uint32_t wadlook_extract(
+ * NO_ROOM. NO_ROOM: out_len < *written. Else DONE, MEMORY, TOO_LARGE, SHORT to LUMP_OUTSIDE. */
+WADLOOK_NODISCARD uint32_t wadlook_extract(
     const uint8_t *wad, size_t wad_len, const uint8_t *name, size_t name_len, uint8_t *out, size_t out_len, size_t *written);
 
 typedef struct {
@@ -210,9 +225,9 @@ typedef struct {
     uint8_t buttons;
 } wadlook_command;
 
-/* What a demo's bytes say, and as many commands as there is room for, in order. DONE, DEMO_EMPTY to DEMO_NO_MARKER. Takes
- * no memory. */
-uint32_t wadlook_demo(
+/* Writes the commands of a demo, in order, and what else its bytes say to *info. FRONT: commands_len < info->commands. DONE,
+ * DEMO_EMPTY to DEMO_NO_MARKER. Takes no memory. */
+WADLOOK_NODISCARD uint32_t wadlook_demo(
     const uint8_t *bytes, size_t bytes_len, wadlook_command *commands, size_t commands_len, wadlook_demo_info *info);
 
 #ifdef __cplusplus

@@ -169,6 +169,9 @@ class Demo(NamedTuple):
     after: int
 
 
+Name = Union[str, bytes]
+"""An entry's name: a text, or the bytes of a directory. The first eight bytes count, up to a NUL."""
+
 Points = Union[Sequence[tuple[int, int]], Iterable[tuple[int, int]], "array[int]", memoryview]
 
 # tools/tables writes from here
@@ -288,6 +291,20 @@ _MOST = 2 ** (8 * ctypes.sizeof(ctypes.c_size_t)) - 1
 """The greatest number of entries that the library takes."""
 
 
+def _bytes_of(name: Name) -> bytes:
+    """A name as the library takes it. Of a word or a path Python keeps bytes that are no UTF-8 as surrogates."""
+    if isinstance(name, bytes):
+        return name
+    if isinstance(name, str):
+        return name.encode("utf-8", "surrogateescape")
+    raise TypeError(f"a name is of type str or bytes, not {type(name).__name__}")
+
+
+def _text_of(name: Name) -> str:
+    """A name in words: of bytes what stands before a NUL, where what is no UTF-8 is escaped."""
+    return name if isinstance(name, str) else name.partition(b"\0")[0].decode("utf-8", "backslashreplace")
+
+
 def _stop_at(status: int, what: str = "") -> None:
     if status == Status.MEMORY:
         raise MemoryError(f"{what}: no memory left" if what else "no memory left")
@@ -371,12 +388,12 @@ class _Lent:
             return self.given[lump.place : lump.place + lump.size]
         return (ctypes.c_char * lump.size).from_buffer(self.given, lump.place)
 
-    def find(self, name: str, after: int) -> Lump:
+    def find(self, name: Name, after: int) -> Lump:
         """What `Wad.find` answers: a lump of these bytes, whatever a kind of `Wad` makes of `find`."""
-        given, asked, lump = self.given, name.encode(), _Lump()
+        given, asked, lump = self.given, _bytes_of(name), _Lump()
         if not 0 <= operator.index(after) <= _MOST:
             raise OverflowError("the number of entries behind a name isn't that of any")
-        _stop_at(_so.wadlook_find(given, len(given), asked, len(asked), after, ctypes.byref(lump)), name)
+        _stop_at(_so.wadlook_find(given, len(given), asked, len(asked), after, ctypes.byref(lump)), _text_of(name))
         return Lump(lump.entry, lump.place, lump.size)
 
 
@@ -403,21 +420,21 @@ class Wad:
             self.name = ""
         self._lent = _Lent(source)
 
-    def find(self, name: str, after: int = 0) -> Lump:
+    def find(self, name: Name, after: int = 0) -> Lump:
         """The entry that many entries behind the last one of a name; behind a level's label 1 to 10 are its lumps."""
         return self._lent.find(name, after)
 
-    def lump(self, name: str, after: int = 0) -> memoryview:
+    def lump(self, name: Name, after: int = 0) -> memoryview:
         """The bytes of that entry's lump, lent."""
         return self._lent.view(self.find(name, after))
 
-    def level(self, name: str, wide: bool = False) -> Level:
+    def level(self, name: Name, wide: bool = False) -> Level:
         """The level of a name, its indexes read as unsigned where `wide` says so."""
         return Level(self, name, wide)
 
-    def demo(self, name: str) -> Demo:
+    def demo(self, name: Name) -> Demo:
         """The demo in the lump of a name."""
-        return _demo_in(bytes(self.lump(name)), name)
+        return _demo_in(bytes(self.lump(name)), _text_of(name))
 
 
 class _Prepared(NamedTuple):
@@ -437,9 +454,9 @@ class Level:
     A pickle and `copy.deepcopy` take its `wad` along, once for all levels of it that go together; `copy.copy` shares it.
     """
 
-    def __init__(self, wad: Wad, name: str, wide: bool = False) -> None:
-        self.wad, self.name, self.wide = wad, name, wide
-        self._asked = name.encode()
+    def __init__(self, wad: Wad, name: Name, wide: bool = False) -> None:
+        self._asked = _bytes_of(name)
+        self.wad, self.name, self.wide = wad, _text_of(name), wide
         self._audited: list[Finding] | None = None
         self._prepared: _Prepared | None = None
         try:
@@ -454,6 +471,10 @@ class Level:
     def _words(self) -> tuple[_Given, int, bytes, int, bool]:
         given = self.wad._lent.given
         return given, len(given), self._asked, len(self._asked), self.wide
+
+    def _find(self, number: int) -> Lump:
+        """The lump of this number behind the level's label."""
+        return self.wad._lent.find(self._asked, number)
 
     @property
     def findings(self) -> list[Finding]:
@@ -525,7 +546,7 @@ class Level:
         sectors = (ctypes.c_uint16 * room)()
         status = _so.wadlook_prepare(*self._words(), sectors, room, ctypes.byref(count))
         _stop_at(Status.UNSOUND if status == Status.NO_ROOM else status, self.name)
-        return _Prepared(lent.part(lent.find(self.name, 7)), sectors, count.value)
+        return _Prepared(lent.part(self._find(7)), sectors, count.value)
 
     def census(self, x0: int, y0: int, x1: int, y1: int) -> dict[int, int]:
         """How many whole points of the columns x0 to x1 and the rows y0 to y1 lie in each sector, of those that have some."""
@@ -542,7 +563,7 @@ class Level:
     def is_blocked(self, a: int, b: int) -> Union[bool, None]:
         """Whether REJECT refuses the sight from sector a to sector b, None where it ends before their bit."""
         lent = self.wad._lent
-        reject, count = lent.find(self.name, 9), lent.find(self.name, 8).size // 26
+        reject, count = self._find(9), self._find(8).size // 26
         if not (0 <= operator.index(a) < count and 0 <= operator.index(b) < count):
             raise WadlookError(Status.NO_SECTOR, self.name)
         bit = ctypes.c_uint32()
@@ -556,7 +577,7 @@ class Level:
         """The block that holds a point and its list, None where no block does."""
         _fit(x, y)
         lent, block = self.wad._lent, _Block()
-        lump = lent.find(self.name, 10)
+        lump = self._find(10)
         status = _so.wadlook_block(lent.at(lump), lump.size, self.wide, _Point(x, y), ctypes.byref(block))
         if status == Status.NO_BLOCK:
             return None

@@ -5,7 +5,7 @@
 use std::io::{self, BufWriter, Read, Write};
 use std::process::ExitCode;
 use std::{env, fs};
-use wadlook::{read_demo, Code, Level, Place, Point, Rect, Refused, Wad};
+use wadlook::{read_demo, Code, Error, Level, Place, Point, Rect, Refused, Wad};
 
 /// Why a run ends, in the program's words.
 struct Stop(String);
@@ -33,6 +33,12 @@ impl From<Refused> for Stop {
             _ => return Stop(why.to_string()),
         };
         Stop(words.into())
+    }
+}
+
+impl From<Error> for Stop {
+    fn from(error: Error) -> Stop {
+        error.why().into()
     }
 }
 
@@ -120,7 +126,7 @@ fn point(level: Level<'_>, out: &mut impl Write) -> Told {
 fn census(level: Level<'_>, out: &mut impl Write) -> Told {
     level.census(Rect { x0: 0, y0: 0, x1: 0, y1: 0 })?; // a level that isn't sound is refused before any line
     each_line(out, &read_lines()?, |[x0, y0, x1, y1]| {
-        let counts = match level.census(Rect { x0, y0, x1, y1 }) {
+        let counts = match level.census(Rect { x0, y0, x1, y1 }).map_err(Error::why) {
             Err(Refused::NoRect) => return Ok(None),
             counts => counts?,
         };
@@ -132,7 +138,7 @@ fn census(level: Level<'_>, out: &mut impl Write) -> Told {
 
 fn sight(level: Level<'_>, out: &mut impl Write) -> Told {
     each_line(out, &read_lines()?, |[a, b]| {
-        let told = match level.is_blocked(a as u32, b as u32) {
+        let told = match level.is_blocked(a as u32, b as u32).map_err(Error::why) {
             Err(Refused::NoSector) => return Ok(None),
             Err(Refused::Unknown) => "unknown",
             blocked => {
@@ -148,13 +154,13 @@ fn sight(level: Level<'_>, out: &mut impl Write) -> Told {
 }
 
 fn blocks(wad: Wad<'_>, name: &str, level: Level<'_>, out: &mut impl Write) -> Told {
-    if let Err(Refused::NoBlockMap) = level.block(Point::default()) {
+    if let Err(Refused::NoBlockMap) = level.block(Point::default()).map_err(Error::why) {
         return Err(Refused::NoBlockMap.into());
     }
     let lump = wad.lump(name, 10)?;
     let column = |z: i32, at: usize| (z - i32::from(i16::from_le_bytes([lump[at], lump[at + 1]]))) / 128;
     each_line(out, &read_lines()?, |[x, y]| {
-        let fault = match level.block(Point { x, y }) {
+        let fault = match level.block(Point { x, y }).map_err(Error::why) {
             Err(Refused::OutOfRange) => return Ok(None),
             Err(Refused::NoBlock) => return Ok(Some(format!("{x} {y} no block"))),
             Err(Refused::OffsetOutside) => 1,
@@ -171,23 +177,23 @@ fn blocks(wad: Wad<'_>, name: &str, level: Level<'_>, out: &mut impl Write) -> T
 }
 
 /// Why an entry isn't there, which is told otherwise where it is no part of a level.
-fn no_lump(why: Refused) -> Stop {
-    match why {
+fn no_lump(error: Error) -> Stop {
+    match error.why() {
         Refused::NoName => Stop("5 no such lump".into()),
         Refused::LumpOutside => Stop("6 outside file".into()),
-        _ => why.into(),
+        why => why.into(),
     }
 }
 
 fn demo(wad: Wad<'_>, name: &str, out: &mut impl Write) -> Told {
     let lump = wad.lump(name, 0).map_err(no_lump)?;
-    let (info, commands) = read_demo(lump).map_err(|why| match (why, lump) {
+    let (info, commands) = read_demo(lump).map_err(|error| match (error.why(), lump) {
         (Refused::DemoVersion, [version, ..]) => Stop(format!("demo 2 version {version}")),
         (Refused::DemoNoMarker, [version, ..]) => {
             let each = if *version == 111 { 5 } else { 4 };
             Stop(format!("demo 5 at {}", 13 + (lump.len() - 13) / each * each)) // behind the whole commands
         }
-        _ => why.into(),
+        (why, _) => why.into(),
     })?;
     write!(out, "demo version {} skill {} episode {} map {} ", info.version, info.skill, info.episode, info.map)?;
     write!(out, "deathmatch {} respawn {} fast {} ", info.deathmatch, info.respawn, info.fast)?;
@@ -206,7 +212,7 @@ fn demo(wad: Wad<'_>, name: &str, out: &mut impl Write) -> Told {
 fn find(wad: Wad<'_>, name: &str, out: &mut impl Write) -> Told {
     for after in 0.. {
         match wad.find(name, after) {
-            Err(Refused::LumpMissing) => break,
+            Err(error) if error.why() == Refused::LumpMissing => break,
             lump => {
                 let lump = lump.map_err(no_lump)?;
                 writeln!(out, "{} {} {}", lump.entry, lump.place, lump.size)?;

@@ -11,7 +11,7 @@
 //! let level = Wad::new(&bytes).level("E1M1");
 //! let places = level.places(&[Point { x: 0, y: 5 }])?;
 //! assert_eq!(places[0].map(|place| place.sector), Some(1));
-//! # Ok::<(), wadlook::Refused>(())
+//! # Ok::<(), wadlook::Error>(())
 //! ```
 //!
 //! They judge levels in Doom's format: of another format the answers mean nothing, and `wadlens check FILE` tells which those are. They
@@ -27,11 +27,13 @@ extern crate alloc;
 use alloc::{vec, vec::Vec};
 use core::fmt;
 
+mod name;
 mod raw;
 mod refused;
 mod texts;
 
-pub use refused::Refused;
+use name::Name;
+pub use refused::{Error, Refused};
 
 /// A point, in map units from -16384 to 16383.
 #[repr(C)]
@@ -196,34 +198,30 @@ impl<'a> Wad<'a> {
     }
 
     /// The entry that many entries behind the last one of a name; behind a level's label 1 to 10 are its lumps.
-    pub fn find(self, name: &str, after: usize) -> Result<Lump, Refused> {
-        self.entry(name.as_bytes(), after)
+    pub fn find(self, name: &str, after: usize) -> Result<Lump, Error> {
+        self.entry(Name::of(name.as_bytes()), after)
     }
 
     /// The bytes of that entry's lump.
-    pub fn lump(self, name: &str, after: usize) -> Result<&'a [u8], Refused> {
-        self.lump_of(name.as_bytes(), after)
+    pub fn lump(self, name: &str, after: usize) -> Result<&'a [u8], Error> {
+        self.lump_of(Name::of(name.as_bytes()), after)
     }
 
     /// The level of a name, of which the first eight bytes count and are kept; its indexes are read as signed. Each call
     /// looks it up, and answers where there is none.
     pub fn level(self, name: &str) -> Level<'a> {
-        let mut kept = [0; 8];
-        for (to, from) in kept.iter_mut().zip(name.bytes()) {
-            *to = from;
-        }
-        Level { wad: self, name: kept, wide: false }
+        Level { wad: self, name: Name::of(name.as_bytes()), wide: false }
     }
 
-    fn entry(self, name: &[u8], after: usize) -> Result<Lump, Refused> {
-        let mut lump = Lump::default();
+    fn entry(self, name: Name, after: usize) -> Result<Lump, Error> {
+        let (asked, mut lump) = (name.bytes(), Lump::default());
         // SAFETY: each pointer and length are those of one slice that is borrowed for the call; `lump` is borrowed mutably.
         let status =
-            unsafe { raw::wadlook_find(self.bytes.as_ptr(), self.bytes.len(), name.as_ptr(), name.len(), after, &mut lump) };
-        Refused::of(status).map(|()| lump)
+            unsafe { raw::wadlook_find(self.bytes.as_ptr(), self.bytes.len(), asked.as_ptr(), asked.len(), after, &mut lump) };
+        Error::of(status, Some(name)).map(|()| lump)
     }
 
-    fn lump_of(self, name: &[u8], after: usize) -> Result<&'a [u8], Refused> {
+    fn lump_of(self, name: Name, after: usize) -> Result<&'a [u8], Error> {
         let lump = self.entry(name, after)?;
         Ok(&self.bytes[lump.place..lump.place + lump.size])
     }
@@ -239,7 +237,7 @@ impl fmt::Debug for Wad<'_> {
 #[derive(Clone, Copy)]
 pub struct Level<'a> {
     wad: Wad<'a>,
-    name: [u8; 8],
+    name: Name,
     wide: bool,
 }
 
@@ -250,10 +248,10 @@ impl<'a> Level<'a> {
     }
 
     /// Writes the place of each point to the front of `places`, which may be longer. Takes no memory but what the audit takes.
-    pub fn places_into(&self, points: &[Point], places: &mut [Place]) -> Result<(), Refused> {
-        let (wad, name) = (self.wad.bytes, &self.name);
+    pub fn places_into(&self, points: &[Point], places: &mut [Place]) -> Result<(), Error> {
+        let (wad, name) = (self.wad.bytes, self.name.bytes());
         // SAFETY: as in `entry`.
-        Refused::of(unsafe {
+        let status = unsafe {
             raw::wadlook_points(
                 wad.as_ptr(),
                 wad.len(),
@@ -265,19 +263,20 @@ impl<'a> Level<'a> {
                 places.as_mut_ptr(),
                 places.len(),
             )
-        })
+        };
+        self.ended(status)
     }
 
     /// The place of each point, None where one is out of range.
-    pub fn places(&self, points: &[Point]) -> Result<Vec<Option<Place>>, Refused> {
+    pub fn places(&self, points: &[Point]) -> Result<Vec<Option<Place>>, Error> {
         let mut places = vec![Place::default(); points.len()];
         self.places_into(points, &mut places)?;
         Ok(places.into_iter().map(Place::somewhere).collect())
     }
 
     /// The level audited once, for one point after another.
-    pub fn prepare(&self) -> Result<Prepared<'a>, Refused> {
-        let (wad, name) = (self.wad.bytes, &self.name);
+    pub fn prepare(&self) -> Result<Prepared<'a>, Error> {
+        let (wad, name) = (self.wad.bytes, self.name.bytes());
         let mut sectors = vec![0; 32768]; // no sound level has more ssectors
         let mut count = 0;
         // SAFETY: as in `entry`.
@@ -293,23 +292,22 @@ impl<'a> Level<'a> {
                 &mut count,
             )
         };
-        match Refused::of(status) {
-            Ok(()) => {}
-            Err(Refused::NoRoom) => return Err(Refused::Unsound),
-            Err(why) => return Err(why),
+        match self.ended(status) {
+            Err(error) if error.why() == Refused::NoRoom => return Err(Error::new(Refused::Unsound, self.name)),
+            ended => ended?,
         }
         sectors.truncate(count);
-        Ok(Prepared { nodes: self.wad.lump_of(&self.name, 7)?, sectors })
+        Ok(Prepared { nodes: self.wad.lump_of(self.name, 7)?, sectors })
     }
 
     /// How many points of a rectangle lie in each sector that has some, by sectors.
-    pub fn census(&self, rect: Rect) -> Result<Vec<Count>, Refused> {
-        let (wad, name) = (self.wad.bytes, &self.name);
+    pub fn census(&self, rect: Rect) -> Result<Vec<Count>, Error> {
+        let (wad, name) = (self.wad.bytes, self.name.bytes());
         let mut counts = vec![Count::default(); 256];
         loop {
             let mut count = 0;
             // SAFETY: as in `entry`.
-            Refused::of(unsafe {
+            let status = unsafe {
                 raw::wadlook_census(
                     wad.as_ptr(),
                     wad.len(),
@@ -321,7 +319,8 @@ impl<'a> Level<'a> {
                     counts.len(),
                     &mut count,
                 )
-            })?;
+            };
+            self.ended(status)?;
             let all = count <= counts.len();
             counts.resize(count, Count::default());
             if all {
@@ -331,13 +330,13 @@ impl<'a> Level<'a> {
     }
 
     /// The level's faults and then its notes, by code and then by index.
-    pub fn findings(&self) -> Result<Vec<Finding>, Refused> {
-        let (wad, name) = (self.wad.bytes, &self.name);
+    pub fn findings(&self) -> Result<Vec<Finding>, Error> {
+        let (wad, name) = (self.wad.bytes, self.name.bytes());
         let mut found = vec![raw::Finding { code: 0, index: 0 }; 64];
         loop {
             let mut totals = raw::Totals::default();
             // SAFETY: as in `entry`.
-            Refused::of(unsafe {
+            let status = unsafe {
                 raw::wadlook_audit(
                     wad.as_ptr(),
                     wad.len(),
@@ -348,7 +347,8 @@ impl<'a> Level<'a> {
                     found.len(),
                     &mut totals,
                 )
-            })?;
+            };
+            self.ended(status)?;
             let count = totals.faults + totals.notes;
             if count <= found.len() {
                 return Ok(found[..count].iter().map(told).collect());
@@ -358,28 +358,29 @@ impl<'a> Level<'a> {
     }
 
     /// Whether REJECT refuses the sight from a sector to another; `Unknown` where it ends before their bit.
-    pub fn is_blocked(&self, from: u32, to: u32) -> Result<bool, Refused> {
-        let reject = self.wad.lump_of(&self.name, 9)?;
-        let sectors = self.wad.entry(&self.name, 8)?.size / 26;
+    pub fn is_blocked(&self, from: u32, to: u32) -> Result<bool, Error> {
+        let reject = self.wad.lump_of(self.name, 9)?;
+        let sectors = self.wad.entry(self.name, 8)?.size / 26;
         let mut blocked = 0;
         // SAFETY: as in `entry`.
         let status = unsafe { raw::wadlook_sight(reject.as_ptr(), reject.len(), sectors as u32, from, to, &mut blocked) };
-        Refused::of(status).map(|()| blocked == 1)
+        self.ended(status).map(|()| blocked == 1)
     }
 
     /// The block that holds a point, and its list.
-    pub fn block(&self, point: Point) -> Result<Block<'a>, Refused> {
-        let lump = self.wad.lump_of(&self.name, 10)?;
+    pub fn block(&self, point: Point) -> Result<Block<'a>, Error> {
+        let lump = self.wad.lump_of(self.name, 10)?;
         let mut block = raw::Block::default();
         // SAFETY: as in `entry`.
-        Refused::of(unsafe { raw::wadlook_block(lump.as_ptr(), lump.len(), self.wide, point, &mut block) })?;
+        let status = unsafe { raw::wadlook_block(lump.as_ptr(), lump.len(), self.wide, point, &mut block) };
+        self.ended(status)?;
         let bytes = &lump[2 * block.first..2 * (block.first + block.count)];
         Ok(Block { column: block.column, row: block.row, bytes, wide: self.wide })
     }
 
     /// A PWAD of the level alone.
-    pub fn extract(&self) -> Result<Vec<u8>, Refused> {
-        let (wad, name) = (self.wad.bytes, &self.name);
+    pub fn extract(&self) -> Result<Vec<u8>, Error> {
+        let (wad, name) = (self.wad.bytes, self.name.bytes());
         let mut out = Vec::new();
         loop {
             let mut written = 0;
@@ -387,21 +388,22 @@ impl<'a> Level<'a> {
             let status = unsafe {
                 raw::wadlook_extract(wad.as_ptr(), wad.len(), name.as_ptr(), name.len(), out.as_mut_ptr(), out.len(), &mut written)
             };
-            match Refused::of(status) {
-                Err(Refused::NoRoom) => out.resize(written, 0),
+            match self.ended(status) {
+                Err(error) if error.why() == Refused::NoRoom => out.resize(written, 0),
                 ended => return ended.map(|()| out),
             }
         }
+    }
+
+    /// What the status of a call on this level says.
+    fn ended(&self, status: u32) -> Result<(), Error> {
+        Error::of(status, Some(self.name))
     }
 }
 
 impl fmt::Debug for Level<'_> {
     fn fmt(&self, f: &mut fmt::Formatter<'_>) -> fmt::Result {
-        let name = self.name.split(|&byte| byte == 0).next().unwrap_or_default();
-        f.debug_struct("Level")
-            .field("name", &format_args!("\"{}\"", name.escape_ascii()))
-            .field("wide", &self.wide)
-            .finish_non_exhaustive()
+        f.debug_struct("Level").field("name", &self.name).field("wide", &self.wide).finish_non_exhaustive()
     }
 }
 
@@ -436,12 +438,13 @@ impl fmt::Debug for Prepared<'_> {
 }
 
 /// What a demo's bytes say, and its commands: of each tic one for each player that takes part.
-pub fn read_demo(bytes: &[u8]) -> Result<(DemoInfo, Vec<Command>), Refused> {
+pub fn read_demo(bytes: &[u8]) -> Result<(DemoInfo, Vec<Command>), Error> {
     let mut commands = vec![Command::default(); 4096];
     loop {
         let mut info = DemoInfo::default();
         // SAFETY: as in `entry`.
-        Refused::of(unsafe { raw::wadlook_demo(bytes.as_ptr(), bytes.len(), commands.as_mut_ptr(), commands.len(), &mut info) })?;
+        let status = unsafe { raw::wadlook_demo(bytes.as_ptr(), bytes.len(), commands.as_mut_ptr(), commands.len(), &mut info) };
+        Error::of(status, None)?;
         let all = info.commands <= commands.len();
         commands.resize(info.commands, Command::default());
         if all {

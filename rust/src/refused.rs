@@ -1,23 +1,24 @@
-//! Why a call was refused.
+//! Why a call was refused, and of which name.
 
+use crate::name::Name;
 use core::fmt;
 
 macro_rules! refusals {
     ($($number:literal $name:ident $words:literal,)*) => {
         /// Why a call was refused: a status of `include/wadlook.h`. As text it is the reason in words.
-        #[derive(Clone, Copy, Debug, PartialEq, Eq)]
+        #[derive(Clone, Copy, Debug, PartialEq, Eq, Hash)]
         #[repr(u32)]
         pub enum Refused {
             $(#[doc = concat!("It says: ", $words, ".")] $name = $number,)*
         }
 
         impl Refused {
-            /// What a status says: `Ok` where it is 0.
-            pub(crate) fn of(status: u32) -> Result<(), Refused> {
+            /// What a status says: None where it is 0.
+            fn of(status: u32) -> Option<Refused> {
                 match status {
-                    0 => Ok(()),
-                    $($number => Err(Refused::$name),)*
-                    _ => Err(Refused::Other),
+                    0 => None,
+                    $($number => Some(Refused::$name),)*
+                    _ => Some(Refused::Other),
                 }
             }
         }
@@ -59,3 +60,48 @@ refusals! {
 }
 
 impl core::error::Error for Refused {}
+
+/// A call that was refused. As text it is the name that was asked for, if any, and the reason: `MAP99: no entry of this name`.
+#[derive(Clone, Copy, Debug, PartialEq, Eq, Hash)]
+pub struct Error {
+    why: Refused,
+    name: Option<Name>,
+}
+
+impl Error {
+    /// Why the call was refused.
+    pub fn why(self) -> Refused {
+        self.why
+    }
+
+    /// The name of a level or of an entry that was asked for: its first eight bytes, up to a NUL. None where bytes were asked alone.
+    pub fn name(&self) -> Option<&[u8]> {
+        self.name.as_ref().map(Name::text)
+    }
+
+    pub(crate) fn new(why: Refused, name: Name) -> Error {
+        Error { why, name: Some(name) }
+    }
+
+    /// What a status says: `Ok` where it is 0.
+    pub(crate) fn of(status: u32, name: Option<Name>) -> Result<(), Error> {
+        Refused::of(status).map_or(Ok(()), |why| Err(Error { why, name }))
+    }
+}
+
+impl From<Error> for Refused {
+    fn from(error: Error) -> Refused {
+        error.why
+    }
+}
+
+impl fmt::Display for Error {
+    fn fmt(&self, f: &mut fmt::Formatter<'_>) -> fmt::Result {
+        match self.name {
+            Some(name) => write!(f, "{name}: {}", self.why),
+            None => self.why.fmt(f),
+        }
+    }
+}
+
+impl core::error::Error for Error {}

@@ -1,6 +1,6 @@
 //! The calls on worked cases over the sample level (`sample/README.md`).
 
-use wadlook::{read_demo, Code, Command, Count, Finding, Level, Lump, Place, Point, Rect, Refused, Wad};
+use wadlook::{read_demo, Code, Command, Count, Error, Finding, Level, Lump, Place, Point, Rect, Refused, Wad};
 
 const TWO_COMMANDS: [u8; 23] = [109, 3, 1, 1, 0, 0, 0, 0, 0, 1, 0, 0, 0, 25, 0, 0, 0, 206, 128, 255, 128, 128, 7];
 
@@ -20,6 +20,11 @@ fn sector(level: Level<'_>, x: i32, y: i32) -> Result<Option<u16>, Refused> {
     Ok(level.places(&[Point { x, y }])?[0].map(|place| place.sector))
 }
 
+/// Why a call was refused.
+fn why<T: std::fmt::Debug>(ended: Result<T, Error>) -> Refused {
+    ended.unwrap_err().why()
+}
+
 /// The level of a name that is made for the call.
 fn level_of(wad: Wad<'_>, number: u32) -> Level<'_> {
     let name = format!("E1M{number}");
@@ -36,7 +41,7 @@ fn points() {
     assert_eq!(sector(level, 16384, 0), Ok(None));
     assert_eq!(level.places(&[]), Ok(vec![]));
     let mut places = [Place::default(); 1];
-    assert_eq!(level.places_into(&[Point::default(); 2], &mut places), Err(Refused::NoRoom));
+    assert_eq!(why(level.places_into(&[Point::default(); 2], &mut places)), Refused::NoRoom);
     assert_eq!(sector(Wad::new(&wad).level("E2M9"), 0, 5), Err(Refused::NoName));
     assert_eq!(sector(Wad::new(&wad[..11]).level("E1M1"), 0, 5), Err(Refused::Short));
     assert_eq!(sector(Wad::new(&[]).level("E1M1"), 0, 5), Err(Refused::Short));
@@ -59,15 +64,15 @@ fn names_are_kept() {
     assert_eq!(level.is_blocked(0, 1), Ok(false));
     assert_eq!(level.block(Point { x: 0, y: 5 }).map(|block| (block.column, block.row)), Ok((0, 0)));
     assert_eq!(level.extract(), Ok(base()));
-    assert_eq!(level_of(Wad::new(&wad), 2).findings(), Err(Refused::NoName));
+    assert_eq!(why(level_of(Wad::new(&wad), 2).findings()), Refused::NoName);
     let prepared = level_of(Wad::new(&wad), 1).prepare().unwrap();
     assert_eq!(prepared.place(Point { x: 0, y: 5 }), Some(Place { ssector: 1, sector: 1 }));
     for name in ["e1m1", "E1M1\0", "E1M1\0ABCDEFG"] {
         assert_eq!(sector(Wad::new(&wad).level(name), 0, 5), Ok(Some(1)), "{name:?}");
     }
     for name in ["", "\0E1M1", "E1M", "E1M1 ", "E1M1É", "ÉÉÉÉÉ"] {
-        assert_eq!(Wad::new(&wad).level(name).findings(), Err(Refused::NoName), "{name:?}");
-        assert_eq!(Wad::new(&wad).find(name, 0), Err(Refused::NoName), "{name:?}");
+        assert_eq!(why(Wad::new(&wad).level(name).findings()), Refused::NoName, "{name:?}");
+        assert_eq!(why(Wad::new(&wad).find(name, 0)), Refused::NoName, "{name:?}");
     }
     wad[233 + 8..233 + 16].copy_from_slice(b"E1M1ABCD");
     for name in ["E1M1ABCD", "e1m1abcdé", "E1M1ABCDEFGHIJKLM"] {
@@ -75,8 +80,32 @@ fn names_are_kept() {
         assert_eq!(Wad::new(&wad).find(name, 7), Ok(Lump { entry: 7, place: 136, size: 28 }), "{name:?}");
     }
     for name in ["E1M1", "E1M1ABC", "E1M1ABC\0"] {
-        assert_eq!(Wad::new(&wad).level(name).findings(), Err(Refused::NoName), "{name:?}");
+        assert_eq!(why(Wad::new(&wad).level(name).findings()), Refused::NoName, "{name:?}");
     }
+}
+
+#[test]
+fn refusals_name_what_was_asked() {
+    let wad = base();
+    let wad = Wad::new(&wad);
+    let told = |error: Error| (error.to_string(), error.name().map(<[u8]>::to_vec));
+    let absent = ("E2M9: no entry of this name".to_string(), Some(b"E2M9".to_vec()));
+    let level = wad.level("E2M9");
+    assert_eq!(told(level.findings().unwrap_err()), absent);
+    assert_eq!(told(level.places(&[]).unwrap_err()), absent);
+    assert_eq!(told(level.prepare().unwrap_err()), absent);
+    assert_eq!(told(level.census(Rect { x0: 0, y0: 0, x1: 0, y1: 0 }).unwrap_err()), absent);
+    assert_eq!(told(level.is_blocked(0, 0).unwrap_err()), absent);
+    assert_eq!(told(level.block(Point::default()).unwrap_err()), absent);
+    assert_eq!(told(level.extract().unwrap_err()), absent);
+    assert_eq!(told(wad.find("E2M9", 0).unwrap_err()), absent);
+    assert_eq!(told(wad.lump("E2M9", 0).unwrap_err()), absent);
+    assert_eq!(wad.lump("REJECT", 2).unwrap_err().to_string(), "REJECT: the list of entries ends before the lump");
+    assert_eq!(wad.find("ÉÉÉÉÉ", 0).unwrap_err().to_string(), r"\xc3\x89\xc3\x89\xc3\x89\xc3\x89: no entry of this name");
+    assert_eq!(told(read_demo(&[]).unwrap_err()), ("a demo of no bytes".to_string(), None));
+    let error = wad.find("E2M9", 0).unwrap_err();
+    assert_eq!(Refused::from(error), Refused::NoName);
+    assert_eq!(format!("{error:?}"), r#"Error { why: NoName, name: Some("E2M9") }"#);
 }
 
 #[test]
@@ -97,7 +126,7 @@ fn faults() {
     let fault = |code, index| Finding { code: Code::Fault(code), index };
     assert_eq!(level.findings(), Ok(vec![fault(15, 0), fault(16, 1)]));
     assert_eq!(sector(level, 0, 5), Err(Refused::Unsound));
-    assert_eq!(level.prepare().err(), Some(Refused::Unsound));
+    assert_eq!(why(level.prepare()), Refused::Unsound);
     assert_eq!(Wad::new(&base()).level("E1M1").findings(), Ok(vec![]));
     assert_eq!(Wad::new(&base()).level("THINGS").findings(), Ok(vec![fault(1, 10)]));
     let mut renamed = base();
@@ -112,7 +141,7 @@ fn census() {
     let level = Wad::new(&wad).level("E1M1");
     let counts = vec![Count { sector: 0, points: 2 }, Count { sector: 1, points: 4 }];
     assert_eq!(level.census(Rect { x0: -1, y0: 0, x1: 1, y1: 1 }), Ok(counts));
-    assert_eq!(level.census(Rect { x0: 1, y0: 0, x1: 0, y1: 0 }), Err(Refused::NoRect));
+    assert_eq!(why(level.census(Rect { x0: 1, y0: 0, x1: 0, y1: 0 })), Refused::NoRect);
 }
 
 #[test]
@@ -121,12 +150,12 @@ fn lumps_sight_and_blocks() {
     let level = Wad::new(&wad).level("E1M1");
     assert_eq!(Wad::new(&wad).find("E1M1", 7), Ok(Lump { entry: 7, place: 136, size: 28 }));
     assert_eq!(Wad::new(&wad).lump("REJECT", 0), Ok(&[0][..]));
-    assert_eq!(Wad::new(&wad).lump("REJECT", 2), Err(Refused::LumpMissing));
+    assert_eq!(why(Wad::new(&wad).lump("REJECT", 2)), Refused::LumpMissing);
     assert_eq!(level.is_blocked(0, 1), Ok(false));
-    assert_eq!(level.is_blocked(2, 1), Err(Refused::NoSector));
+    assert_eq!(why(level.is_blocked(2, 1)), Refused::NoSector);
     let block = level.block(Point { x: 0, y: 5 }).unwrap();
     assert_eq!((block.column, block.row, block.lines().collect::<Vec<_>>()), (0, 0, vec![0, 0]));
-    assert_eq!(level.block(Point { x: -9, y: 5 }).err(), Some(Refused::NoBlock));
+    assert_eq!(why(level.block(Point { x: -9, y: 5 })), Refused::NoBlock);
     let lists = with_words(217, &[0, 0, 1, 1, 5, 0, -2, -1]);
     let level = Wad::new(&lists).level("E1M1");
     let lines = |level: Level<'_>| level.block(Point::default()).unwrap().lines().collect::<Vec<_>>();
@@ -137,16 +166,16 @@ fn lumps_sight_and_blocks() {
 fn cuts() {
     let wad = base();
     for len in 0..wad.len() {
-        let why = if len < 12 { Refused::Short } else { Refused::Directory };
-        assert_eq!(Wad::new(&wad[..len]).level("E1M1").findings(), Err(why), "wad_cut {len}");
+        let wanted = if len < 12 { Refused::Short } else { Refused::Directory };
+        assert_eq!(why(Wad::new(&wad[..len]).level("E1M1").findings()), wanted, "wad_cut {len}");
     }
     for len in 0..22 {
-        let why = match len {
+        let wanted = match len {
             0 => Refused::DemoEmpty,
             1..=12 => Refused::DemoShort,
             _ => Refused::DemoNoMarker,
         };
-        assert_eq!(read_demo(&TWO_COMMANDS[..len]).err(), Some(why), "demo_cut {len}");
+        assert_eq!(why(read_demo(&TWO_COMMANDS[..len])), wanted, "demo_cut {len}");
     }
     assert_eq!(read_demo(&TWO_COMMANDS[..22]).map(|(info, commands)| (commands.len(), info.after)), Ok((2, 0)));
 }
@@ -156,7 +185,7 @@ fn a_level_alone() {
     let mut wad = base();
     wad[0] = b'I';
     assert_eq!(Wad::new(&wad).level("E1M1").extract(), Ok(base()));
-    assert_eq!(Wad::new(&wad).level("E2M9").extract(), Err(Refused::NoName));
+    assert_eq!(why(Wad::new(&wad).level("E2M9").extract()), Refused::NoName);
 }
 
 #[test]
@@ -165,7 +194,7 @@ fn demos() {
     assert_eq!((info.version, info.map, info.players, info.player, info.after), (109, 1, 1, [1, 0, 0, 0], 1));
     assert_eq!(commands.len(), 2);
     assert_eq!(commands[1], Command { turn: 255, forward: -50, side: -128, buttons: 128 });
-    assert_eq!(read_demo(&[]).err(), Some(Refused::DemoEmpty));
+    assert_eq!(why(read_demo(&[])), Refused::DemoEmpty);
     assert_eq!(Refused::DemoEmpty.to_string(), "a demo of no bytes");
     let mut many = TWO_COMMANDS[..13].to_vec();
     many.resize(13 + 40000, 0);

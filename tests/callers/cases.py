@@ -134,6 +134,8 @@ def cases(path):
     check("a label outside the file, of which no byte is asked", Wad(label).level("E1M1").sectors([(0, 5)]) == [1])
     check("a missing lump, audited", [it[:2] for it in Wad(base).level("THINGS").findings] == [("F1", 10)])
 
+    names_in_bytes(base)
+
     last = many_sectors(base)
     check("a level of 65,536 sectors is sound", last.is_sound and [it.code for it in last.findings] == ["N8"])
     check("the last of 65,536 sectors", last.places(asked) == [Place(0, 0), Place(NOWHERE, 1), Place(NOWHERE, 1), None])
@@ -176,6 +178,43 @@ def cases(path):
         if name[0] != "_" and (callable(it) or isinstance(it, property))
     ]
     check("docstrings", all(it.__doc__ for it in public + members))
+
+
+def names_in_bytes(base):
+    """Names as the bytes of a directory."""
+    wad = Wad(base)
+    for name in (b"E1M1", b"e1m1", b"E1M1\0\0\0\0", b"E1M1\0ABCDEF"):
+        level = wad.level(name)
+        check(f"a level by bytes: {name}", level.sectors([(0, 5)]) == [1] and level.place(0, 5) == Place(1, 1))
+        check(f"a level's lumps by bytes: {name}", level.is_blocked(0, 1) is False and level.block(0, 5) == Block(0, 0, (0, 0)))
+        check(f"an entry by bytes: {name}", wad.find(name, 7) == (7, NODES, 28) and bytes(wad.lump(name, 9)) == b"\0")
+        check(f"a level of bytes tells its name: {name}", level.name.upper() == "E1M1" and level.extract() == base)
+        check(f"pickled: {name}", pickle.loads(pickle.dumps(level)).sectors([(0, 5)]) == [1])
+        check(f"no demo by bytes: {name}", refused(Status.DEMO_EMPTY, wad.demo, name))
+    check("a name of bytes that isn't there", told(wad.level, b"E2M9\0\0\0\0") == "E2M9: no entry of this name")
+    check("a name that isn't there", told(wad.level, "E2M9") == "E2M9: no entry of this name")
+    check("an entry that isn't there", told(wad.find, "DEMO1") == "DEMO1: no entry of this name")
+    check("a lump that isn't there", told(wad.lump, "REJECT", 2) == "REJECT: the list of entries ends before the lump")
+    label = DIRECTORY + 8
+    other = base[:label] + b"\xc9\xff1\0" + base[label + 4 :]
+    check("a name that is no UTF-8", Wad(other).level(b"\xc9\xff1").sectors([(0, 5)]) == [1])
+    check(
+        "the same as a word of the system",
+        Wad(other).level(b"\xc9\xff1".decode("utf-8", "surrogateescape")).sectors([(0, 5)]) == [1],
+    )
+    check("a name that is no UTF-8 in words", told(wad.level, b"\xc9\xff1") == r"\xc9\xff1: no entry of this name")
+    for name in (1, None, bytearray(b"E1M1"), ["E1M1"]):
+        for call in (wad.level, wad.find, wad.lump, wad.demo):
+            check(f"{call.__name__} of a {type(name).__name__}", raises(TypeError, call, name))
+
+
+def told(call, *words):
+    """The words in which a call is refused."""
+    try:
+        call(*words)
+    except WadlookError as why:
+        return str(why)
+    return None
 
 
 def numbers_of(enum):

@@ -102,7 +102,9 @@ static void round_of(const uint8_t *base, uint32_t size) {
     if (wadlook_extract(wad, len, name, 4, out, out_len, &count) == WADLOOK_DONE) must(!memcmp(out, "PWAD", 4), "a file");
     wadlook_demo_info info;
     if (len) wad[0] = (uint8_t)(109 + below(3));
-    wadlook_demo(wad, len, ROOM(wadlook_command, 3), 3, &info);
+    uint32_t demo = wadlook_demo(wad, len, ROOM(wadlook_command, 3), 3, &info);
+    must(demo == WADLOOK_DONE || (demo >= WADLOOK_DEMO_EMPTY && demo <= WADLOOK_DEMO_NO_MARKER),
+        "bytes are a demo or are told why not");
 }
 
 /* Nodes and sectors of any kind, each child's word an ssector or a node. */

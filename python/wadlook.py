@@ -21,7 +21,10 @@ import enum
 import operator
 import os
 from array import array
-from typing import Iterable, NamedTuple, Sequence, Union
+from typing import TYPE_CHECKING, Any, Iterable, NamedTuple, Protocol, Union, cast, overload
+
+if TYPE_CHECKING:
+    from mmap import mmap
 
 __all__ = [
     "Block",
@@ -123,7 +126,7 @@ class Finding(NamedTuple):
     """A fault (F1 to F18) or a note (N1 to N12), the record or lump at which it holds, and what it says."""
 
     code: str
-    index: int
+    index: int  # type: ignore[assignment]  # a tuple has a method of this name
     text: str
 
 
@@ -172,7 +175,21 @@ class Demo(NamedTuple):
 Name = Union[str, bytes]
 """An entry's name: a text, or the bytes of a directory. The first eight bytes count, up to a NUL."""
 
-Points = Union[Sequence[tuple[int, int]], Iterable[tuple[int, int]], "array[int]", memoryview]
+
+class _NumpyArray(Protocol):
+    """An array of numpy, as type checkers know it."""
+
+    @property
+    def __array_interface__(self) -> dict[str, Any]:
+        ...
+
+
+Buffer = Union["array[int]", memoryview, _NumpyArray]
+Source = Union[bytes, bytearray, "mmap", "ctypes.Array[Any]", Buffer]
+"""A file's bytes."""
+
+Pairs = Iterable[tuple[int, int]]
+Points = Union[Pairs, Buffer]
 
 # tools/tables writes from here
 _TEXTS = {
@@ -262,8 +279,8 @@ class _Command(ctypes.Structure):
 
 def _library() -> ctypes.CDLL:
     here = os.path.dirname(os.path.abspath(__file__))
-    places = (os.path.join(here, *folder, "libwadlook.so") for folder in ([], [os.pardir, "out", "lib"]))
-    so = ctypes.CDLL(next(filter(os.path.exists, places), "libwadlook.so"))
+    places = [os.path.join(here, "libwadlook.so"), os.path.join(here, os.pardir, "out", "lib", "libwadlook.so")]
+    so = ctypes.CDLL(next((place for place in places if os.path.exists(place)), "libwadlook.so"))
     bytes_in = [ctypes.c_void_p, ctypes.c_size_t]
     level = [*bytes_in, *bytes_in, ctypes.c_bool]
     takes = {
@@ -312,22 +329,22 @@ def _stop_at(status: int, what: str = "") -> None:
         raise WadlookError(status, what)
 
 
-def _is_buffer(points: Points) -> bool:
+def _view_of(points: Points) -> Union[memoryview, None]:
+    """The bytes of a buffer, lent; None of what is no buffer."""
     try:
-        memoryview(points)  # type: ignore[arg-type]
+        return memoryview(cast(memoryview, points))
     except TypeError:
-        return False
-    return True
+        return None
 
 
 def _points_of(points: Points) -> tuple[ctypes.Array[_Point], int]:
     """The points as the library reads them: the buffer itself, where it is one and can be written to."""
-    if not _is_buffer(points):
-        points = array("i", (number for x, y in points for number in (x, y)))
-    flat = memoryview(points)  # type: ignore[arg-type]
+    flat = _view_of(points)
+    if flat is None:
+        flat = memoryview(array("i", (number for x, y in cast(Pairs, points) for number in (x, y))))
     if flat.itemsize != 4 or flat.format not in ("i", "l", "<i", "=i") or not flat.c_contiguous or flat.nbytes % 8:
         raise TypeError("points in a buffer are pairs of 32-bit integers without gaps, as array('i') or numpy's int32")
-    if flat.shape[1:] not in ((), (2,)):
+    if (flat.shape or ())[1:] not in ((), (2,)):
         raise TypeError(f"points in a buffer stand in one dimension or in two columns, not in the shape {flat.shape}")
     count = flat.nbytes // 8
     if count == 0:
@@ -352,8 +369,8 @@ class _Lent:
     Each call asks `given` for its address. None is kept: a copy would take along the address of bytes that it doesn't hold.
     """
 
-    def __init__(self, source: Union[bytes, bytearray, memoryview]) -> None:
-        view = memoryview(source)
+    def __init__(self, source: Source) -> None:
+        view = memoryview(cast(memoryview, source))
         self.given: _Given
         if type(source) is bytes:
             self.given = source
@@ -411,7 +428,7 @@ class Wad:
     in them. `copy.copy` shares lent bytes.
     """
 
-    def __init__(self, source: Union[str, "os.PathLike[str]", bytes, bytearray, memoryview]) -> None:
+    def __init__(self, source: Union[str, "os.PathLike[str]", Source]) -> None:
         if isinstance(source, (str, os.PathLike)):
             self.name = os.fspath(source)
             with open(source, "rb") as file:
@@ -513,6 +530,14 @@ class Level:
         _stop_at(_so.wadlook_points(*self._words(), given, count, out, count), self.name)
         return told, count
 
+    @overload
+    def sectors(self, points: Buffer) -> memoryview:
+        ...
+
+    @overload
+    def sectors(self, points: Pairs) -> list[Union[int, None]]:
+        ...
+
     def sectors(self, points: Points) -> Union[list[Union[int, None]], memoryview]:
         """The sector of each point.
 
@@ -523,7 +548,7 @@ class Level:
         none may write to the buffer.
         """
         told, count = self._places(points)
-        if _is_buffer(points):
+        if _view_of(points) is not None:
             return memoryview(told)[1 : 2 * count : 2]
         return [None if told[k] == NOWHERE else told[k + 1] for k in range(0, 2 * count, 2)]
 
@@ -598,9 +623,9 @@ class Level:
         return out.raw
 
 
-def read_demo(source: Union[bytes, bytearray, memoryview]) -> Demo:
+def read_demo(source: Source) -> Demo:
     """The demo that bytes hold."""
-    return _demo_in(bytes(source))
+    return _demo_in(bytes(cast(memoryview, source)))
 
 
 def _demo_in(given: bytes, name: str = "") -> Demo:
@@ -614,4 +639,5 @@ def _demo_in(given: bytes, name: str = "") -> Demo:
         room = info.commands
     listed = [Command(it.forward, it.side, it.turn, it.buttons) for it in commands[: info.commands]]
     header = {name: getattr(info, name) for name in _HEADER}
-    return Demo(**header, players=tuple(info.player), commands=listed, after=info.after)
+    one, two, three, four = info.player
+    return Demo(**header, players=(one, two, three, four), commands=listed, after=info.after)

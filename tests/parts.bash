@@ -85,7 +85,7 @@ declare -A packages=(
     [black]=black [c++]=g++ [chromium]=chromium [clang-format]=clang-format [compiler]=gcc [curl]=curl [dpkg-deb]=dpkg
     [dpkg-shlibdeps]=dpkg-dev [eslint]=eslint [faketime]=faketime [fish]=fish [flake8]=flake8 [freedm.wad]=freedm
     [freedoom]='freedoom freedm' [freedoom1.wad]='freedoom freedm' [freedoom2.wad]=freedoom [git]=git [groff]=groff
-    [lintian]=lintian [man-db]=man-db [nm]=binutils [node]=nodejs [node.js]=nodejs [numpy]=python3-numpy [objdump]=binutils
+    [lintian]=lintian [man-db]=man-db [mypy]=mypy [nm]=binutils [node]=nodejs [node.js]=nodejs [numpy]=python3-numpy [objdump]=binutils
     [pkg-config]=pkg-config [python]='python3 python3-venv' [python3]=python3 [readelf]=binutils [rsvg-convert]=librsvg2-bin
     [script]=bsdutils [setpriv]=util-linux [shellcheck]=shellcheck [yaml]=python3-yaml [zsh]=zsh
 )

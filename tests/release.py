@@ -3,6 +3,7 @@
 import base64
 import hashlib
 import importlib.metadata
+import inspect
 import os
 import sys
 
@@ -21,5 +22,11 @@ files = importlib.metadata.files("wadlook") or []
 here = os.path.dirname(wadlook.__file__)
 assert here.startswith(sys.prefix), f"the module is that of {here}"
 assert wadlook._so._name == os.path.join(here, "libwadlook.so"), f"the library is {wadlook._so._name}"
-assert {"libwadlook.so", "__init__.py", "PROOF", "METADATA", "WHEEL"} <= {file.name for file in files if file.hash}, files
+assert {"libwadlook.so", "__init__.py", "py.typed", "PROOF", "METADATA", "WHEEL"} <= {
+    file.name for file in files if file.hash
+}, files
+about = importlib.metadata.metadata("wadlook")
+assert about["Description-Content-Type"] == "text/markdown" and about["Requires-Python"] == ">=3.9", about.items()
+description = about["Description"] or about.get_payload()
+assert description.strip() == inspect.getdoc(wadlook), description
 assert all(map(is_whole, files)), [file for file in files if not is_whole(file)]

@@ -37,7 +37,7 @@ pub use refused::{Error, Refused};
 
 /// A point, in map units from -16384 to 16383.
 #[repr(C)]
-#[derive(Clone, Copy, Debug, Default, PartialEq, Eq)]
+#[derive(Clone, Copy, Debug, Default, PartialEq, Eq, Hash)]
 pub struct Point {
     /// To the east.
     pub x: i32,
@@ -45,9 +45,15 @@ pub struct Point {
     pub y: i32,
 }
 
+impl From<(i32, i32)> for Point {
+    fn from((x, y): (i32, i32)) -> Point {
+        Point { x, y }
+    }
+}
+
 /// Where a point lies.
 #[repr(C)]
-#[derive(Clone, Copy, Debug, Default, PartialEq, Eq)]
+#[derive(Clone, Copy, Debug, Default, PartialEq, Eq, Hash)]
 pub struct Place {
     /// The number of the ssector.
     pub ssector: u16,
@@ -64,7 +70,7 @@ impl Place {
 
 /// The whole points of the columns x0 to x1 and the rows y0 to y1, with both ends.
 #[repr(C)]
-#[derive(Clone, Copy, Debug, PartialEq, Eq)]
+#[derive(Clone, Copy, Debug, PartialEq, Eq, Hash)]
 #[allow(missing_docs)]
 pub struct Rect {
     pub x0: i32,
@@ -75,7 +81,7 @@ pub struct Rect {
 
 /// A sector, and how many of a rectangle's points lie in it.
 #[repr(C)]
-#[derive(Clone, Copy, Debug, Default, PartialEq, Eq)]
+#[derive(Clone, Copy, Debug, Default, PartialEq, Eq, Hash)]
 #[allow(missing_docs)]
 pub struct Count {
     pub sector: u32,
@@ -84,7 +90,7 @@ pub struct Count {
 
 /// An entry's number, from 0, and its lump: `size` bytes of the file from `place` on.
 #[repr(C)]
-#[derive(Clone, Copy, Debug, Default, PartialEq, Eq)]
+#[derive(Clone, Copy, Debug, Default, PartialEq, Eq, Hash)]
 #[allow(missing_docs)]
 pub struct Lump {
     pub entry: usize,
@@ -92,8 +98,9 @@ pub struct Lump {
     pub size: usize,
 }
 
-/// What can be found at a level. As text it is `F1` or `N1`.
-#[derive(Clone, Copy, Debug, PartialEq, Eq)]
+/// What can be found at a level. As text it is `F1` or `N1`. Later versions may tell of more.
+#[derive(Clone, Copy, Debug, PartialEq, Eq, Hash)]
+#[non_exhaustive]
 pub enum Code {
     /// F1 to F18: the level isn't sound.
     Fault(u32),
@@ -111,7 +118,7 @@ impl fmt::Display for Code {
 }
 
 /// A fault or a note, and the record or lump at which it holds.
-#[derive(Clone, Copy, Debug, PartialEq, Eq)]
+#[derive(Clone, Copy, Debug, PartialEq, Eq, Hash)]
 #[allow(missing_docs)]
 pub struct Finding {
     pub code: Code,
@@ -130,7 +137,7 @@ impl Finding {
 }
 
 /// A block of BLOCKMAP, and its list's words as they stand, two bytes each, which [`Block::lines`] reads.
-#[derive(Clone, Copy, Debug, PartialEq, Eq)]
+#[derive(Clone, Copy, Debug, PartialEq, Eq, Hash)]
 #[allow(missing_docs)]
 pub struct Block<'a> {
     pub column: u32,
@@ -156,7 +163,7 @@ impl<'a> Block<'a> {
 
 /// What one player does in one tic.
 #[repr(C)]
-#[derive(Clone, Copy, Debug, Default, PartialEq, Eq)]
+#[derive(Clone, Copy, Debug, Default, PartialEq, Eq, Hash)]
 #[allow(missing_docs)]
 pub struct Command {
     pub turn: u16,
@@ -167,7 +174,7 @@ pub struct Command {
 
 /// What a demo's header says, and how many commands and bytes after the end marker there are.
 #[repr(C)]
-#[derive(Clone, Copy, Debug, Default, PartialEq, Eq)]
+#[derive(Clone, Copy, Debug, Default, PartialEq, Eq, Hash)]
 #[allow(missing_docs)]
 pub struct DemoInfo {
     pub commands: usize,

@@ -5,8 +5,9 @@ use core::fmt;
 
 macro_rules! refusals {
     ($($number:literal $name:ident $words:literal,)*) => {
-        /// Why a call was refused: a status of `include/wadlook.h`. As text it is the reason in words.
+        /// Why a call was refused: a status of `include/wadlook.h`. As text it is the reason in words. Later versions may have more.
         #[derive(Clone, Copy, Debug, PartialEq, Eq, Hash)]
+        #[non_exhaustive]
         #[repr(u32)]
         pub enum Refused {
             $(#[doc = concat!("It says: ", $words, ".")] $name = $number,)*

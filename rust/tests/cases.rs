@@ -1,5 +1,6 @@
 //! The calls on worked cases over the sample level (`sample/README.md`).
 
+use std::collections::HashMap;
 use wadlook::{read_demo, Code, Command, Count, Error, Finding, Level, Lump, Place, Point, Rect, Refused, Wad};
 
 const TWO_COMMANDS: [u8; 23] = [109, 3, 1, 1, 0, 0, 0, 0, 0, 1, 0, 0, 0, 25, 0, 0, 0, 206, 128, 255, 128, 128, 7];
@@ -45,6 +46,18 @@ fn points() {
     assert_eq!(sector(Wad::new(&wad).level("E2M9"), 0, 5), Err(Refused::NoName));
     assert_eq!(sector(Wad::new(&wad[..11]).level("E1M1"), 0, 5), Err(Refused::Short));
     assert_eq!(sector(Wad::new(&[]).level("E1M1"), 0, 5), Err(Refused::Short));
+}
+
+#[test]
+fn points_of_pairs() {
+    let wad = base();
+    let pairs = [(1, 5), (0, 5), (-1, 5)];
+    let points = pairs.map(Point::from);
+    assert_eq!(points[0], Point { x: 1, y: 5 });
+    let places = Wad::new(&wad).level("E1M1").places(&points).unwrap();
+    assert_eq!(places.iter().flatten().map(|place| place.sector).collect::<Vec<_>>(), [0, 1, 1]);
+    let known: HashMap<_, _> = points.into_iter().zip(places).collect();
+    assert_eq!(known[&(0, 5).into()], Some(Place { ssector: 1, sector: 1 }));
 }
 
 #[test]

@@ -39,6 +39,9 @@
 #include <stddef.h>
 #include <stdint.h>
 
+/* The version of this header. docs/COMPATIBILITY.md says what a later one keeps. */
+#define WADLOOK_VERSION "0.1.0"
+
 /* A status that is dropped is warned of. */
 #if (defined __cplusplus && __cplusplus >= 201703L) || (defined __STDC_VERSION__ && __STDC_VERSION__ >= 202311L)
 #define WADLOOK_NODISCARD [[nodiscard]]
@@ -51,6 +54,9 @@
 #ifdef __cplusplus
 extern "C" {
 #endif
+
+/* The version of the library that the program runs with, as WADLOOK_VERSION tells that of the header. */
+const char *wadlook_version(void);
 
 /* How a call ended. */
 enum wadlook_status {

@@ -10,8 +10,8 @@ judge levels in Doom's format: of another format the answers mean nothing, and `
 is one file: of a PWAD over a game's file ask the PWAD first, and then the game's.
 
 The module calls libwadlook through ctypes; `include/wadlook.h` of the project says what each call promises. It takes the library
-beside it, as in a release's wheel, or that of the checkout that it stands in (`tools/library` builds it into out/lib), and else the
-one that the system's loader finds. The calls keep no state and let other threads of Python run.
+beside it, as in a release's wheel, or that of the checkout that it stands in (`tools/library` builds it into out/lib), and else
+libwadlook.so.0 where the system's loader finds it. The calls keep no state and let other threads of Python run.
 """
 
 from __future__ import annotations
@@ -40,6 +40,8 @@ __all__ = [
     "WadlookError",
     "read_demo",
 ]
+
+__version__ = "0.1.0"
 
 NOWHERE = 65535
 """The sector and the ssector of a point that is out of range, in answers to buffers.
@@ -280,7 +282,13 @@ class _Command(ctypes.Structure):
 def _library() -> ctypes.CDLL:
     here = os.path.dirname(os.path.abspath(__file__))
     places = [os.path.join(here, "libwadlook.so"), os.path.join(here, os.pardir, "out", "lib", "libwadlook.so")]
-    so = ctypes.CDLL(next((place for place in places if os.path.exists(place)), "libwadlook.so"))
+    try:
+        so = ctypes.CDLL(next((place for place in places if os.path.exists(place)), "libwadlook.so.0"))
+    except OSError as why:
+        raise ImportError(
+            f"libwadlook isn't there, or isn't for this machine: {why}. A release's wheel brings it, Debian's package libwadlook0, "
+            "and in a checkout `tools/library --released out`"
+        ) from why
     bytes_in = [ctypes.c_void_p, ctypes.c_size_t]
     level = [*bytes_in, *bytes_in, ctypes.c_bool]
     takes = {

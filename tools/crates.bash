@@ -65,14 +65,14 @@ make_room() {
     rooms+=("$room")
 }
 
-# put_in_place FROM TO: moves all files below one folder to their places below another; no signal parts them.
+# put_in_place FROM TO: moves all files and links below one folder to their places below another; no signal parts them.
 put_in_place() {
     local file
     trap '' HUP INT TERM
     while IFS= read -r -d '' file; do
         mkdir -p "$(dirname "$2/$file")"
         mv -f "$1/$file" "$2/$file"
-    done < <(find "$1" -type f -printf '%P\0')
+    done < <(find "$1" ! -type d -printf '%P\0')
     heed_signals
 }
 

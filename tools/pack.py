@@ -1,7 +1,7 @@
 """pack.py FOLDER FILE: packs all files of a folder into FILE, in the form that its ending names.
 
-.tar.gz and .crate are tarballs, .zip and .whl zips; of a wheel RECORD is written here. The same files give the same bytes: they stand
-in the order of their names, owned by 0, with the time SOURCE_DATE_EPOCH, and nothing tells when, where or by whom they were packed.
+.tar.gz and .crate are tarballs, which keep links, .zip and .whl zips; of a wheel RECORD is written here. The same files give the same
+bytes: they stand in the order of their names, owned by 0, with the time SOURCE_DATE_EPOCH, and nothing tells when, where or by whom they were packed.
 """
 
 import base64
@@ -34,7 +34,12 @@ def write_tarball(files: list[tuple[str, Path]], to: Path) -> None:
         with tarfile.open(fileobj=packed, mode="w", format=tarfile.USTAR_FORMAT) as tar:
             for name, path in files:
                 member = tarfile.TarInfo(name)
-                member.size, member.mode, member.mtime = path.stat().st_size, mode_of(path), MOMENT
+                member.mode, member.mtime = mode_of(path), MOMENT
+                if path.is_symlink():
+                    member.type, member.linkname = tarfile.SYMTYPE, os.readlink(path)
+                    tar.addfile(member)
+                    continue
+                member.size = path.stat().st_size
                 with path.open("rb") as body:
                     tar.addfile(member, body)
 

@@ -1,4 +1,4 @@
-"""unlink.py FOLDER: in the pages below a folder, leaves the words alone of each link to a file that isn't there."""
+"""unlink.py FOLDER: in the pages below a folder, leaves the words alone of each link to a file that isn't there, and no picture that isn't."""
 
 import re
 import sys
@@ -8,9 +8,14 @@ from pathlib import Path
 LINK = re.compile(r"\[([^][]+)\]\(([^):#]+)(?:#[^)]*)?\)")
 
 
+# A picture, and the lines that it takes.
+PICTURE = re.compile(r'^<img src="([^"]+)"[^>]*>\n\n?', re.M)
+
+
 def without_absent(page: Path) -> str:
-    """The text of a page, without the links to what isn't there."""
+    """The text of a page, without the links to what isn't there, and without such pictures."""
     text = page.read_text(encoding="utf-8")
+    text = PICTURE.sub(lambda picture: picture[0] if (page.parent / picture[1]).exists() else "", text)
     return LINK.sub(lambda link: link[0] if (page.parent / link[2]).exists() else link[1], text)
 
 

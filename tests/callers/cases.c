@@ -391,6 +391,7 @@ int main(int argc, char **argv) {
         return 1;
     }
     fclose(file);
+    CHECK(!strcmp(wadlook_version(), WADLOOK_VERSION));
     points();
     many_sectors();
     refusals();

@@ -169,6 +169,10 @@ def cases(path):
     check("the findings' texts", wadlook._TEXTS == texts and list(wadlook._TEXTS) == list(texts))
     check("the statuses", {it.name: str(it.value) for it in Status} == numbers_of("wadlook_status"))
     check("the codes' numbers", {code: str(number) for number, code in enumerate(texts)} == numbers_of("wadlook_code"))
+    with open("VERSION", encoding="utf-8") as file:
+        version = file.read().strip()
+    wadlook._so.wadlook_version.restype = ctypes.c_char_p
+    check("the version", wadlook.__version__ == version and wadlook._so.wadlook_version().decode() == version)
     public = [getattr(wadlook, name) for name in wadlook.__all__ if callable(getattr(wadlook, name))]
     members = [
         it

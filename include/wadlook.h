@@ -7,7 +7,9 @@
  *   - a pointer and the length after it are those of memory that stays as it is for the call. Where the length is 0 the
  *     pointer isn't followed, and may be NULL, as an empty std::vector gives it. A pointer without a length isn't NULL;
  *   - what a call writes to overlaps nothing else that the call is given;
- *   - a bool is 0 or 1, and a pointer is aligned as its type asks.
+ *   - a bool is 0 or 1, and a pointer is aligned as its type asks;
+ *   - a call that takes memory isn't made where malloc may not be: in a signal handler, or in the forked child of a process
+ *     with threads.
  * All else is tested: any bytes, any name and any numbers are answered by one of the statuses below. Where the status isn't
  * WADLOOK_DONE, what the call writes to is as it was, but for *count and *written at NO_ROOM. Entries of an array after the
  * answer are left unchanged.

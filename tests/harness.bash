@@ -225,6 +225,28 @@ example() {
 # prints_sectors CMD..: what each example prints; some read the sample as their input.
 prints_sectors() { diff <(printf 'sector 1, sector 0\n') <("$@" <"$sample"); }
 
+# compiles_by_cmake PREFIX: whether CMake finds the library below a prefix, compiles the page's example in C with the shared object and with
+# the archive, and refuses a version that is to come.
+compiles_by_cmake() {
+    local project=$room/cmake each
+    rm -rf "$project"
+    mkdir "$project"
+    example c >"$project/example.c"
+    cat >"$project/CMakeLists.txt" <<'END'
+cmake_minimum_required(VERSION 3.13)
+project(example C)
+find_package(wadlook ${WANTED} REQUIRED CONFIG)
+add_executable(shared example.c)
+target_link_libraries(shared PRIVATE wadlook::wadlook)
+add_executable(static example.c)
+target_link_libraries(static PRIVATE wadlook::static)
+END
+    cmake -S "$project" -B "$project/build" -DCMAKE_PREFIX_PATH="$1" -DWANTED="$(<"$root/VERSION")" && cmake --build "$project/build" || return
+    grep -F "wadlook_DIR:PATH=$1/" "$project/build/CMakeCache.txt" || return
+    for each in shared static; do prints_sectors "$project/build/$each" || return; done
+    ! cmake -S "$project" -B "$project/other" -DCMAKE_PREFIX_PATH="$1" -DWANTED=99 2>"$project/said" && grep 'version: '"$(<"$root/VERSION")" "$project/said"
+}
+
 # ---- Scripts that end early -----------------------------------------------------------------------------------------
 
 # ends_with STATUS WORDS CMD..: whether a command ends with that status, and last says a line with these words.

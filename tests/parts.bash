@@ -82,7 +82,7 @@ keep_skipped() {
 
 # The packages of Debian that bring a tool, or levels, by a word of the reason; what else brings one.
 declare -A packages=(
-    [black]=black [c++]=g++ [chromium]=chromium [clang-format]=clang-format [compiler]=gcc [curl]=curl [dpkg-deb]=dpkg
+    [black]=black [c++]=g++ [chromium]=chromium [clang-format]=clang-format [cmake]=cmake [compiler]=gcc [curl]=curl [dpkg-deb]=dpkg
     [dpkg-shlibdeps]=dpkg-dev [eslint]=eslint [faketime]=faketime [fish]=fish [flake8]=flake8 [freedm.wad]=freedm
     [freedoom]='freedoom freedm' [freedoom1.wad]='freedoom freedm' [freedoom2.wad]=freedoom [git]=git [groff]=groff
     [lintian]=lintian [man-db]=man-db [mypy]=mypy [nm]=binutils [node]=nodejs [node.js]=nodejs [numpy]=python3-numpy [objdump]=binutils

@@ -1,0 +1,12 @@
+# Which versions find_package(wadlook VERSION) of CMake takes: this one, and each before it, as docs/COMPATIBILITY.md says. Where no language
+# is enabled, CMake doesn't know the machine.
+set(PACKAGE_VERSION "@VERSION@")
+if(CMAKE_SIZEOF_VOID_P AND NOT "${CMAKE_SYSTEM_NAME} ${CMAKE_SYSTEM_PROCESSOR} ${CMAKE_SIZEOF_VOID_P}" STREQUAL "Linux x86_64 8")
+  set(PACKAGE_VERSION "@VERSION@ for Linux on x86-64")
+  set(PACKAGE_VERSION_UNSUITABLE TRUE)
+elseif(NOT PACKAGE_FIND_VERSION VERSION_GREATER PACKAGE_VERSION)
+  set(PACKAGE_VERSION_COMPATIBLE TRUE)
+  if(PACKAGE_FIND_VERSION VERSION_EQUAL PACKAGE_VERSION)
+    set(PACKAGE_VERSION_EXACT TRUE)
+  endif()
+endif()

@@ -213,9 +213,9 @@ apart() {
 # What docs/CALLING.md calls each language.
 declare -A languages=([c]=C [cpp]=C++ [python]=Python [rust]=Rust)
 
-# example LANGUAGE: the example in docs/CALLING.md in a language.
+# example LANGUAGE [findings]: the example in docs/CALLING.md in a language, which prints sectors, or that which prints findings.
 example() {
-    awk -v fence="\`\`\`$1" -v heading="## ${languages[$1]}" '
+    awk -v fence="\`\`\`$*" -v heading="## ${languages[$1]}" '
         /^## / { here = $0 == heading; next }
         here && $0 == fence { inside = 1; next }
         /^```/ { inside = 0 }
@@ -245,6 +245,15 @@ END
     grep -F "wadlook_DIR:PATH=$1/" "$project/build/CMakeCache.txt" || return
     for each in shared static; do prints_sectors "$project/build/$each" || return; done
     ! cmake -S "$project" -B "$project/other" -DCMAKE_PREFIX_PATH="$1" -DWANTED=99 2>"$project/said" && grep 'version: '"$(<"$root/VERSION")" "$project/said"
+}
+
+# prints_findings CMD..: what each other example prints of the sample, and that it tells of each finding where one ssector is named twice.
+prints_findings() {
+    diff <(printf '0 faults, 0 notes\n') <("$@" <"$sample") || return
+    cp "$sample" "$room/faulty.wad"
+    printf '\0\200\0\200' | dd of="$room/faulty.wad" bs=1 seek=160 conv=notrunc status=none
+    "$@" <"$room/faulty.wad" >"$room/found" || return
+    diff <(head -n 1 "$room/found"; sed -n 's/.* at \([0-9]*\).*/\1/p' "$room/found") <(printf '%s\n' '2 faults, 0 notes' 0 1)
 }
 
 # ---- Scripts that end early -----------------------------------------------------------------------------------------

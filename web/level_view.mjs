@@ -31,6 +31,17 @@ const isSame = (a, b) => a.file.name === b.file.name && a.name === b.name && (a.
 
 const whyNot = (/** @type {unknown} */ error) => error instanceof Stopped ? 'Stopped. Choose the level again to draw it.' : wordsOf(error);
 
+const LEGEND = { width: 120, height: 46 }; // pixels of a legend of one line and what is about it
+
+/** What the buttons and the legend take of the map's edges; there is room for a line of the legend before it is shown. */
+function taken() {
+  const frame = get('map').getBoundingClientRect(), [zoom, legend] = ['.zoom', '#legend'].map((part) => get('map').querySelector(part)?.getBoundingClientRect());
+  return {
+    right: zoom?.width ? frame.right - zoom.left : 0,
+    corner: legend?.height ? { width: legend.right - frame.left, height: frame.bottom - legend.top } : LEGEND,
+  };
+}
+
 /** The items of an empty list. @returns {never} */
 const none = () => { throw new RangeError('an empty list'); };
 
@@ -72,6 +83,7 @@ export class LevelView {
       pin: (x, y) => this.pin(x, y),
       unpin: () => this.unpin(),
       moved: (view) => this.#moved(view),
+      taken,
     });
     this.explained = new Explained(() => get('findings').focus());
     this.findings = new ListBox(get('findings'), (/** @type {Finding} */ finding) => {
@@ -80,7 +92,7 @@ export class LevelView {
       const code = make('span', `code${finding.code.startsWith('F') ? ' fault' : ''}`, finding.code || '–');
       code.title = meaningOf(finding.code);
       return [code, make('span', 'row-name', finding.where), message, ...this.explained.mark(finding.code)];
-    }, (finding, k) => this.#choose(finding, k), ({ more, wide }) => !!more || wide, ({ code }) => meaningOf(code));
+    }, (finding, k) => this.#choose(finding, k), { isButton: ({ more, wide }) => !!more || wide, describe: ({ code }) => meaningOf(code) });
     get('findings').addEventListener('click', (event) => this.#ask(event), { capture: true });
     get('findings').addEventListener('keydown', ({ key }) => {
       if (key === '?' && this.findings.at >= 0) this.explained.toggle(this.findings.item(this.findings.at).code);

@@ -1,14 +1,19 @@
 // A list whose rows are chosen by pointer or keys: the listbox pattern of ARIA.
-import { make, Rows } from './rows.mjs';
+import { make, Rows, WholeRows } from './rows.mjs';
+
+/**
+ * @template T
+ * @typedef {{ isButton?: (item: T) => boolean, describe?: (item: T) => string, isShort?: boolean }} Manner  whether a row does something, and so
+ *   waits for Enter or a click where keys only pass it; what a row means, for those who hear it; whether all rows are made, each as tall as it has to be
+ */
 
 /** @template T */
 export class ListBox {
   /**
    * @param {HTMLElement} element @param {(item: T, k: number) => (Node | string)[]} draw what stands in a row
-   * @param {(item: T, k: number) => void} choose @param {(item: T) => boolean} [isButton] whether a row does something, and so waits for Enter or
-   *   a click where keys only pass it @param {(item: T) => string} [describe] what a row means, for those who hear it
+   * @param {(item: T, k: number) => void} choose @param {Manner<T>} [manner]
    */
-  constructor(element, draw, choose, isButton = () => false, describe = () => '') {
+  constructor(element, draw, choose, { isButton = () => false, describe = () => '', isShort = false } = {}) {
     this.element = element;
     this.draw = draw;
     this.choose = choose;
@@ -23,7 +28,7 @@ export class ListBox {
     element.replaceChildren(body);
     element.setAttribute('role', 'listbox');
     element.tabIndex = 0;
-    this.rows = new Rows(element, body, (k) => this.#row(k));
+    this.rows = new (isShort ? WholeRows : Rows)(element, body, (k) => this.#row(k));
     element.addEventListener('keydown', (event) => this.#key(event));
     element.addEventListener('click', (event) => {
       const row = /** @type {HTMLElement | null} */ (/** @type {Element} */ (event.target).closest('[role=option]'));
@@ -40,6 +45,7 @@ export class ListBox {
     this.item = item;
     this.at = chosen;
     this.element.hidden = !count;
+    this.element.style.setProperty('--count', String(Math.min(count, 100))); // for page.css
     if (kept) this.rows.redraw(count); else this.rows.show(count);
     if (!kept && chosen >= 0) this.rows.reveal(chosen);
     this.#mark();

@@ -10,7 +10,9 @@ import { CLASSES, THING } from './picture.mjs';
 /** @typedef {(colour: Colour, ...lines: [Path2D, number][]) => void} Cased  strokes paths of some widths over their cases */
 /**
  * @typedef {{ hover: (x: number, y: number, under: Under) => void, leave: () => void, pin: (x: number, y: number) => void,
- *   unpin: () => void, moved: (view: View) => void }} Tell
+ *   unpin: () => void, moved: (view: View) => void, taken: () => Taken }} Tell
+ * @typedef {{ right: number, corner: { width: number, height: number } }} Taken  pixels that are covered along the right edge, and in the lower left
+ *   corner
  */
 
 const CLOSEST = 16; // pixels to a unit
@@ -211,7 +213,7 @@ export class MapView {
     this.#resize(); // it may have been hidden until now
     this.found = place;
     if (place) {
-      const { x, y, width, height } = boxOf(place), near = Math.max(this.view.zoom, Math.min(0.6, this.#fitZoom() * 5));
+      const { x, y, width, height } = boxOf(place), near = Math.max(this.view.zoom, Math.min(0.6, this.#whole().zoom * 5));
       const whole = 0.8 * Math.min(this.size.width / width, this.size.height / height); // so that all of an outline is seen, and a small one, too
       this.#fly({ x, y, zoom: place.length > 4 ? Math.min(whole, Math.max(near, 60 / Math.max(1, width, height)), CLOSEST) : near });
     }
@@ -242,19 +244,24 @@ export class MapView {
 
   fit() {
     if (!this.picture) return this.#redraw();
-    const { x, y, width, height } = this.picture.box;
-    this.#set({ x: x + width / 2, y: y + height / 2, zoom: this.#fitZoom() });
+    const { x, y, width, height } = this.picture.box, { left, right, bottom, zoom } = this.#whole();
+    this.#set({ x: x + width / 2 + (right - left) / 2 / zoom, y: y + height / 2 - bottom / 2 / zoom, zoom });
     this.fitted = true;
   }
 
-  #fitZoom() {
-    const { width, height } = this.picture?.box ?? this.size;
-    return Math.min(CLOSEST, 0.95 * Math.min(this.size.width / width, this.size.height / height));
+  /** The zoom at which all of the map is beside what covers the frame's edges, and what it leaves free there. */
+  #whole() {
+    const { right, corner } = this.tell.taken(), { width, height } = this.size, box = this.picture?.box ?? this.size;
+    const [beside, above] = [{ left: corner.width, right, bottom: 0 }, { left: 0, right, bottom: corner.height }].map((edges) => {
+      const free = { width: Math.max(width - edges.left - edges.right, width / 3), height: Math.max(height - edges.bottom, height / 3) };
+      return { ...edges, zoom: Math.min(CLOSEST, 0.95 * Math.min(free.width / box.width, free.height / box.height)) };
+    });
+    return beside.zoom > above.zoom ? beside : above;
   }
 
   /** Zooms about a place of the frame, the middle where none is given. @param {number} factor @param {number} [px] @param {number} [py] */
   zoom(factor, px = this.size.width / 2, py = this.size.height / 2) {
-    const zoom = Math.max(this.#fitZoom() / 2, Math.min(CLOSEST, this.view.zoom * factor)), [x, y] = this.at(px, py);
+    const zoom = Math.max(this.#whole().zoom / 2, Math.min(CLOSEST, this.view.zoom * factor)), [x, y] = this.at(px, py);
     this.#set({ zoom, x: x - (px - this.size.width / 2) / zoom, y: y + (py - this.size.height / 2) / zoom });
   }
 

@@ -52,7 +52,6 @@ const files = new ListBox(get('files'), (f) => {
   const held = [sizeOf(f.file.size), f.heads.count && `${plural(f.heads.count, 'level')}${f.game ? ` over ${f.game.file.name}` : ''}`,
     f.kind !== 'demo' && f.demos.count && plural(f.demos.count, 'demo')];
   const more = make('span', 'row-more', f.refused || held.filter(Boolean).join(' · '));
-  more.title = more.textContent ?? ''; // where it is cut off
   return [
     make('span', 'row-name', f.file.name),
     make('span', `row-state${f.refused ? ' fault' : ''}`, f.refused ? 'refused' : f.kind || 'reading'),
@@ -62,7 +61,7 @@ const files = new ListBox(get('files'), (f) => {
   chooseFile(f);
   if (f !== state.of) showOf(f);
   if (f.heads.count || f.demos.count) pane('levels');
-});
+}, { isShort: true });
 const showFiles = () => files.show(state.files.length, (k) => state.files[k], state.file ? state.files.indexOf(state.file) : -1, true);
 
 /**

@@ -128,3 +128,45 @@ export class Rows {
     }
   }
 }
+
+/** The rows of a list that is short: all are made, each as tall as what stands in it. It is used as `Rows` is. */
+export class WholeRows {
+  /** @param {HTMLElement} viewport the part that scrolls @param {HTMLElement} body @param {(k: number) => HTMLElement} draw makes row `k` */
+  constructor(viewport, body, draw) {
+    this.viewport = viewport;
+    this.body = body;
+    this.draw = draw;
+    this.count = 0;
+    /** @type {Map<number, HTMLElement>} */
+    this.made = new Map();
+    viewport.classList.add('whole');
+  }
+
+  /** The height of a row, as far as one is like the other. */
+  get height() {
+    return this.made.get(0)?.offsetHeight ?? 0;
+  }
+
+  /** Shows `count` rows from the first on. @param {number} count */
+  show(count) {
+    this.redraw(count);
+    this.viewport.scrollTop = 0;
+  }
+
+  /** Makes all rows anew. @param {number} [count] */
+  redraw(count = this.count) {
+    this.count = count;
+    this.made = new Map(Array.from({ length: count }, (_, k) => [k, this.draw(k)]));
+    this.body.replaceChildren(...this.made.values());
+  }
+
+  /** Scrolls no further than is needed to see row `k`. @param {number} k */
+  reveal(k) {
+    this.row(k)?.scrollIntoView({ block: 'nearest' });
+  }
+
+  /** Row `k`. @param {number} k */
+  row(k) {
+    return this.made.get(k);
+  }
+}

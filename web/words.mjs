@@ -14,7 +14,8 @@ export const say = (words, isRefusal = false) => {
   get('said').textContent = words;
   get('said').className = isRefusal ? 'refusal' : 'unseen';
 };
-export const isNarrow = () => matchMedia('(max-width: 880px)').matches;
+/** Whether one pane is shown at a time: as page.css has it. */
+export const isNarrow = () => matchMedia('(max-width: 880px), (max-height: 480px)').matches;
 export const plural = (/** @type {number} */ n, /** @type {string} */ word) => `${n} ${word}${n === 1 ? '' : 's'}`;
 export const sizeOf = (/** @type {number} */ bytes) => bytes < 1e6 ? `${Math.max(1, Math.round(bytes / 1e3))} kB` : `${(bytes / 1e6).toFixed(1)} MB`;
 export const wordsOf = (/** @type {unknown} */ error) => error instanceof Error ? error.message : String(error);

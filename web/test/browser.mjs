@@ -154,7 +154,7 @@ export class Browser {
   /** Drops files on the page. @param {...string} files */
   async drop(...files) {
     const data = { items: [], files, dragOperationsMask: 1 };
-    for (const type of ['dragEnter', 'dragOver', 'drop']) await this.send('Input.dispatchDragEvent', { type, x: 300, y: 300, data });
+    for (const type of ['dragEnter', 'dragOver', 'drop']) await this.send('Input.dispatchDragEvent', { type, x: 60, y: 60, data });
   }
 
   /** Chooses files in an input. @param {string} selector @param {...string} files */

@@ -6,6 +6,7 @@ import { wait } from './browser.mjs';
 import { measure } from './measure.mjs';
 import { contrast, keys, labels, phone } from './page_access.mjs';
 import { games } from './page_games.mjs';
+import { layout } from './page_layout.mjs';
 import { mapper } from './page_mapper.mjs';
 import {
   browser, built, check, drawn, drawnAnew, dropRooms, filterBy, fresh, hasInk, isHidden, isNative, judged, legend, options, pick, pictures, pinAt,
@@ -503,6 +504,7 @@ async function refusals() {
   await browser.drop(written('gone.wad', twoRooms));
   await drawn('MAP01');
   check('what goes well is told and not seen', [await textOf('#said'), await isSeen()], ['MAP01 drawn, sound', false]);
+  await browser.press('#in');
   await browser.until("document.querySelector('#map').dataset.fine", 'the worker of parts has read the file, too');
   written('gone.wad', 'now another');
   await browser.run('free()');
@@ -661,7 +663,7 @@ if (!isThere) skipped("Chromium doesn't start here", 'the page');
 let at = 'the start';
 try {
   const all = [files, levels, picture, point, moves, finer, findings, reading, early, late, edge, unknown, warnings, games, mapper, faults, undrawn, demos,
-    saves, markup, hostile, manyFindings, large, stop, stopAll, refusals, wide, contrast, labels, keys, phone, unable, unserved, engineless, anyHost, alone,
+    saves, markup, hostile, manyFindings, large, stop, stopAll, refusals, wide, contrast, labels, keys, phone, layout, unable, unserved, engineless, anyHost, alone,
     policy];
   const only = valueOf('--only').split(',');
   for (const one of all.filter(({ name }) => isThere && (!only[0] || only.includes(name)))) {

@@ -1,0 +1,134 @@
+// The cases of the page at sizes of windows, from a phone's to a desk's, and zoomed.
+import { browser, check, drawn, drawnAnew, fresh, judged, legend, pinBy, pointTold, textsOf, viewOf, written } from './person.mjs';
+import { demo, oneLost, oneMistaken, rooms, twoOverlooked, twoUnknown, wad } from './wads.mjs';
+
+/** Widths and heights, in the pixels that are left of a window once it is zoomed. */
+const SIZES = [
+  [320, 480], [480, 320], [360, 640], [640, 360], [390, 844], [844, 390], [932, 430], // phones, upright and sideways
+  [768, 1024], [1024, 768], [880, 600], [881, 481], [1280, 480], [1280, 800], [1920, 1080], [2560, 1440],
+  [640, 400], [426, 266], [320, 200], // 1280 by 800 at 200, 300 and 400 %
+  [320, 256], [80, 120], [120, 80], // 1280 by 1024 and a phone at 400 %
+];
+
+const demos = ['DEMO1', 'DEMO2', 'DEMO3', 'DEMO4'].map((name) => /** @type {[string, Buffer]} */ ([name, demo(35)]));
+/** Several levels, of which the first has findings of many kinds, and demos. */
+const full = wad([
+  ...rooms('MAP01', { damage: (lumps) => [twoOverlooked, twoUnknown, oneMistaken].forEach((damage) => damage(lumps)) }),
+  ...rooms('MAP02', { damage: oneLost }), ...['MAP03', 'MAP04', 'MAP05', 'MAP06', 'MAP07', 'MAP08'].flatMap((name) => rooms(name)), ...demos,
+]);
+const LONG = 'a_level_of_a_community_project_whose_name_is_longer_than_any_column_of_the_page_is_wide_v1.0.2.wad';
+
+/** Names what can be used and isn't on top in its middle, once it is brought into view. @returns {Promise<string[]>} */
+const covered = () => browser.run(`(() => {
+  const name = (e) => e && (e.id || e.className || e.textContent.trim().slice(0, 30) || e.tagName);
+  const used = [...document.querySelectorAll('button, input, label, a, summary, .row, .ask')].filter((e) => e.checkVisibility({ visibilityProperty: true }) && !e.matches('.skip'));
+  return used.flatMap((e) => {
+    e.scrollIntoView({ block: e.offsetHeight > innerHeight ? 'center' : 'nearest', inline: e.offsetWidth > innerWidth ? 'center' : 'nearest' });
+    const { x, y, width, height } = e.getBoundingClientRect(), hit = document.elementFromPoint(x + width / 2, y + height / 2);
+    return hit && (e.contains(hit) || hit.closest('label')?.contains(e)) ? [] : [name(e) + ' under ' + name(hit)];
+  }); })()`);
+
+/** Names what is wider than the window, and what of the page is below it. */
+const beyond = () => browser.run(`[document.documentElement, ...document.querySelectorAll('.bar, .pane, .plate, .head, .readout, .legend')]
+  .filter((e) => e.scrollWidth > innerWidth || e.getBoundingClientRect().right > innerWidth + 1).map((e) => e.className || e.tagName)
+  .concat(document.documentElement.scrollHeight > innerHeight ? ['higher than its window'] : [])`);
+
+/** What is wrong with the parts of the page that are shown, one after the other. @param {boolean} isTiny whether the page scrolls as a whole */
+async function wrong(isTiny) {
+  const told = [], panes = await browser.run("document.querySelector('.tabs').checkVisibility()") ? ['files', 'levels', 'map', 'notes'] : ['all'];
+  for (const pane of panes) {
+    if (pane !== 'all') await browser.run(`document.querySelector('.tabs [data-to=${pane}]').click()`);
+    await drawnAnew();
+    for (const one of [...await covered(), ...isTiny ? [] : await beyond()]) told.push(`${pane}: ${one}`);
+    await browser.run('document.documentElement.scrollTo(0, 0)');
+  }
+  return told;
+}
+
+/** At no size does anything cover what can be used, and at none but the smallest is the page larger than its window. */
+async function sizes() {
+  const file = written(LONG, full), notes = written(`not_${LONG}.txt`, 'notes about the rooms');
+  for (const [width, height] of SIZES) {
+    const isTiny = height <= 320 || width <= 260, at = `${width} by ${height}`;
+    await browser.screen(width, height, 'dark');
+    await fresh();
+    check(`nothing is covered before any file, ${at}`, [...await covered(), ...isTiny ? [] : await beyond()], []);
+    await browser.drop(file, notes);
+    await drawn('MAP01');
+    await judged();
+    check(`nor is it with files, ${at}`, await wrong(isTiny), []);
+    await browser.run("{ document.querySelector('#at').value = '100 100'; document.querySelector('#pin').click(); document.querySelector('#codes button').click(); }");
+    await pointTold('100 100');
+    await browser.run("document.querySelector('#fit').click()");
+    check(`nor with a pinned point and a code explained, ${at}`, await wrong(isTiny), []);
+    await browser.run("document.querySelector('#demos .row').click()");
+    await browser.until("document.querySelectorAll('.cells-row').length", 'a demo');
+    check(`nor with a demo, ${at}`, await wrong(isTiny), []);
+  }
+}
+
+/** All of the map is beside the legend and the buttons, and those don't lie on each other. */
+async function fits() {
+  for (const [width, height, isTouched] of /** @type {[number, number, boolean][]} */ ([[1440, 900, false], [390, 844, true], [844, 390, true], [640, 400, false]])) {
+    await browser.screen(width, height, 'dark', isTouched);
+    await fresh();
+    await browser.drop(written('full.wad', full));
+    await drawn('MAP01');
+    await browser.run("document.querySelector('.tabs [data-to=notes]').click()");
+    await pinBy('100 100');
+    await pointTold('100 100');
+    await browser.run("document.querySelector('.tabs [data-to=map]').click()");
+    await browser.until("document.querySelector('#legend').classList.contains('sight')", 'the legend');
+    await browser.press('#fit');
+    await drawnAnew();
+    const [x, y, zoom] = await viewOf();
+    check(`the legend tells all, ${width}`, (await legend()).length, 4);
+    check(`no room and no button lies under another, ${width}`, await browser.run(`(() => {
+      const boxOf = (e) => e.getBoundingClientRect(), frame = boxOf(document.querySelector('#map')), left = frame.x + frame.width / 2, top = frame.y + frame.height / 2;
+      const rooms = { left: left + (0 - ${x}) * ${zoom}, right: left + (512 - ${x}) * ${zoom}, top: top - (256 - ${y}) * ${zoom}, bottom: top - (0 - ${y}) * ${zoom} };
+      const all = [rooms, frame, ...['.zoom', '#legend'].map((s) => boxOf(document.querySelector(s)))], [, , zoom, legend] = all;
+      const isApart = (a, b) => a.right <= b.left || b.right <= a.left || a.bottom <= b.top || b.bottom <= a.top;
+      return [isApart(rooms, zoom), isApart(rooms, legend), isApart(zoom, legend), rooms.left >= frame.left && rooms.top >= frame.top]; })()`), [true, true, true, true]);
+  }
+}
+
+/** What is long is read whole: names of files, why one is refused, the counts of a level each in one piece. */
+async function wraps() {
+  const cut = (/** @type {string} */ selector) => browser.run(`[...document.querySelectorAll('${selector}')].filter((e) => e.checkVisibility() && (e.scrollWidth > e.clientWidth + 1 ||
+    e.scrollHeight > e.clientHeight + 3)).map((e) => e.textContent)`);
+  const notes = written(`not_${LONG}.txt`, 'notes about the rooms');
+  for (const width of [320, 390, 1024, 1440]) {
+    await browser.screen(width, 800, 'light');
+    await fresh();
+    await browser.drop(written(LONG, full), notes);
+    await drawn('MAP01');
+    await browser.run("document.querySelector('.tabs [data-to=files]').click()");
+    check(`a long name is read whole, ${width}`, await cut('#crumbs, #files .row, #files .row-name, #files .row-more'), []);
+    await browser.run("document.querySelector('.tabs [data-to=map]').click()");
+    await drawnAnew();
+    check(`each count is in one piece, ${width}`, await browser.run("[...document.querySelectorAll('#counts div')].filter((e) => e.getBoundingClientRect().height > 24 || e.getBoundingClientRect().right > innerWidth).length"), 0);
+  }
+  check('the names', await textsOf('#files .row-name'), [LONG, `not_${LONG}.txt`]);
+}
+
+/** Forced colours take no colour of the legend, and leave the shown part told. */
+async function forced() {
+  await browser.screen(390, 844, 'dark', true);
+  await browser.send('Emulation.setEmulatedMedia', { features: [{ name: 'forced-colors', value: 'active' }] });
+  await fresh();
+  await browser.drop(written('full.wad', full));
+  await drawn('MAP01');
+  await browser.press('.tabs [data-to=map]');
+  await browser.until("document.querySelector('#legend').classList.contains('found')", 'the legend');
+  const ink = await browser.run(`(() => { const style = getComputedStyle(document.querySelector('#legend .mark'), '::before'), e = document.createElement('i');
+    e.style.cssText = 'forced-color-adjust: none; color: var(--fault)';
+    document.body.append(e);
+    return [style.backgroundColor === getComputedStyle(e).color, style.forcedColorAdjust]; })()`);
+  check('the legend keeps its colours', ink, [true, 'none']);
+  check('the part that is shown stands out', await browser.run(`(() => { const [on, off] = ['[aria-current]', ':not([aria-current])'].map((s) => getComputedStyle(document.querySelector('.tabs button' + s)).borderTopColor); return on !== off; })()`), true);
+}
+
+export async function layout() {
+  for (const one of [sizes, fits, wraps, forced]) await one();
+  await browser.screen(1440, 900, 'dark');
+}

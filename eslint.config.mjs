@@ -63,7 +63,7 @@ const rules = {
 
 // The names that browsers, their workers and Node have, as far as they are used.
 const globalsOf = (...names) => Object.fromEntries(names.map((name) => [name, 'readonly']));
-const both = globalsOf('AbortController', 'Blob', 'TextDecoder', 'TextEncoder', 'URL', 'WebAssembly', 'clearTimeout', 'console', 'fetch', 'globalThis',
+const both = globalsOf('AbortController', 'Blob', 'DecompressionStream', 'TextDecoder', 'TextEncoder', 'URL', 'WebAssembly', 'clearTimeout', 'console', 'fetch', 'globalThis',
   'performance', 'queueMicrotask', 'setTimeout', 'structuredClone');
 const browser = {
   ...both,

@@ -6,6 +6,7 @@ import { lineOf } from './linedefs.mjs';
 import { ListBox } from './list.mjs';
 import { Lines } from './lines.mjs';
 import { MapView } from './map_view.mjs';
+import { tell } from './notices.mjs';
 import { Stopped } from './questions.mjs';
 import { make } from './rows.mjs';
 import { get, field, inShort, isNarrow, notJudged, pane, say, unlookedWords, verdict, wordsOf } from './words.mjs';
@@ -248,7 +249,7 @@ export class LevelView {
       this.#list(new Lines(findings), spots, mine === this.choices ? first : -1);
       this.#mark();
       if (mine === this.choices && !isNarrow()) this.#choose(this.findings.item(first), first);
-    } catch (error) { say(`${asked.name}: ${wordsOf(error)}`, !(error instanceof Stopped)); }
+    } catch (error) { if (!(error instanceof Stopped)) tell({ about: asked.name, words: wordsOf(error) }); }
   }
 
   /** Where the findings that row `k` leaves out begin among all: each such row before it stands for as many as it says. @param {number} k */
@@ -429,6 +430,6 @@ export class LevelView {
       map.sharpen(picture);
       get('map').dataset.fine = String(picture.size);
       this.#sharpen(); // where the map was moved meanwhile
-    } catch (error) { if (!(error instanceof Stopped)) say(`${asked.name}: ${wordsOf(error)}`, true); }
+    } catch (error) { if (!(error instanceof Stopped)) tell({ about: asked.name, words: wordsOf(error) }); }
   }
 }

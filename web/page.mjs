@@ -5,12 +5,14 @@ import { apart, gameOf } from './games.mjs';
 import { LevelView } from './level_view.mjs';
 import { Lines } from './lines.mjs';
 import { ListBox } from './list.mjs';
+import { forget, tell } from './notices.mjs';
 import { Questions, Stopped } from './questions.mjs';
 import { make } from './rows.mjs';
+import { droppedFiles, takeApart } from './sources.mjs';
 import { canRun } from './wad_page.mjs';
-import { field, get, isNarrow, notJudged, pane, plural, say, sizeOf, verdict, wordsOf } from './words.mjs';
+import { field, get, helpOf, isNarrow, notJudged, pane, plural, say, sizeOf, verdict, wordsOf } from './words.mjs';
 
-/** @typedef {import('./words.mjs').Level} Level */
+/** @typedef {import('./words.mjs').Level} Level @typedef {import('./sources.mjs').Source} Source */
 /**
  * @typedef {{ key: string, file: File, kind: string, refused: string, heads: Lines, survey: Lines | null, demos: Lines,
  *   stopped: boolean, failed: string, surveys: number, game: OpenFile | null, wasGame: boolean }} OpenFile  `heads` and `demos` are lines of
@@ -26,6 +28,7 @@ const state = {
   of: /** @type {OpenFile | null} */ (null), // whose level or demo is shown
   shown: -1, // the level's number in its file; -1 for a demo, or where nothing of the file is shown
   name: '', // of the level that was shown last
+  seen: /** @type {OpenFile | null} */ (null), // whose row is to be in view
   wide: false,
 };
 
@@ -55,6 +58,7 @@ const files = new ListBox(get('files'), (f) => {
   return [
     make('span', 'row-name', f.file.name),
     make('span', `row-state${f.refused ? ' fault' : ''}`, f.refused ? 'refused' : f.kind || 'reading'),
+    shut(f),
     more,
   ];
 }, (f) => {
@@ -62,6 +66,17 @@ const files = new ListBox(get('files'), (f) => {
   if (f !== state.of) showOf(f);
   if (f.heads.count || f.demos.count) pane('levels');
 }, { isShort: true });
+/** A cross that closes a file, for a row whose keys do the same. @param {OpenFile} f */
+function shut(f) {
+  const cross = make('span', 'shut', '×');
+  cross.title = `Close ${f.file.name} (Delete)`;
+  cross.setAttribute('aria-hidden', 'true');
+  cross.addEventListener('click', (event) => {
+    event.stopPropagation();
+    close(f);
+  });
+  return cross;
+}
 const showFiles = () => files.show(state.files.length, (k) => state.files[k], state.file ? state.files.indexOf(state.file) : -1, true);
 
 /**
@@ -79,45 +94,52 @@ function list(fresh) {
     } else state.files.push(f);
   }
   showFiles();
+  for (const f of [fresh.at(-1), fresh[0]]) reveal(f ?? null);
 }
 
 /** Whether what is shown is of an earlier file of this name, in whose place this one stands. @param {OpenFile} f */
 const isAgain = (f) => !!state.of && !state.files.includes(state.of) && state.of.file.name === f.file.name;
 
+/** Brings the row of a file into view. @param {OpenFile | null} [f] */
+function reveal(f = state.seen) {
+  state.seen = f;
+  if (f) files.rows.reveal(state.files.indexOf(f));
+}
+
+/** Opens what was dropped or chosen, of which archives are taken apart. @param {Source[]} picked */
+async function take(picked) {
+  if (!picked.length) return;
+  document.body.classList.remove('empty');
+  const sources = [];
+  for await (const some of takeApart(picked, (file) => desk.ask('unpack', { file }, `Unpacking ${file.name}`))) sources.push(...some);
+  open(sources);
+}
+
 /**
  * Opens files, the games' first, so that what stands on them is judged once. What is shown of a file that is opened again is shown of the new
  * one. Else the first that isn't refused is shown, of others than games' where there are any; and not the game's of what is shown already.
- * @param {Iterable<File>} chosen
+ * @param {Source[]} sources
  */
-async function open(chosen) {
-  document.body.classList.remove('empty');
+async function open(sources) {
   /** @type {OpenFile[]} */
-  const fresh = [...chosen].map((file, k) => ({
-    key: `${performance.now()} ${k}`, file, kind: '', refused: '', heads: none(), survey: null, demos: none(), stopped: false, failed: '', surveys: 0,
+  const fresh = sources.map(({ file, refused = '' }, k) => ({
+    key: `${performance.now()} ${k}`, file, kind: '', refused, heads: none(), survey: null, demos: none(), stopped: false, failed: '', surveys: 0,
     game: null, wasGame: false,
   }));
   list(fresh);
   const { games, others } = await apart(fresh);
   let isShown = fresh.some(isAgain), isStopped = false;
   for (const f of [...games, ...others]) {
-    if (!state.files.includes(f)) continue; // opened again meanwhile
-    try {
-      if (isStopped) throw new Stopped(); // a stop is of them all
-      const { levels, demos, ...told } = await desk.ask('open', asking(f), `Reading ${f.file.name}`);
-      Object.assign(f, told, !told.refused && { heads: new Lines(levels), demos: new Lines(demos) });
-    } catch (error) {
-      isStopped = error instanceof Stopped;
-      f.refused = isStopped ? 'stopped before it was read' : wordsOf(error);
-    }
+    if (!state.files.includes(f)) continue; // opened again meanwhile, or closed
+    isStopped = await read(f, isStopped);
     if (!state.files.includes(f)) continue;
-    setOnGames(f);
+    setOnGames(f.kind === 'IWAD' || f.wasGame ? state.files : [f], f);
     if (isAgain(f)) showAgain(f);
     else if (f === state.file && f === state.of) { // it was chosen while it was read
       isShown = true;
       showOf(f);
     }
     if (f === state.file) showFile(); else showFiles();
-    if (f.refused) say(`${f.file.name}: ${f.refused}`);
     const first = [...others, ...games].find((one) => !one.refused && one !== state.of?.game);
     if (!isShown && first?.kind) {
       isShown = true;
@@ -125,17 +147,70 @@ async function open(chosen) {
     }
     survey(f);
   }
+  reveal(fresh.find((f) => f === state.file) ?? fresh.find(({ refused }) => refused) ?? fresh[0]);
 }
 
-/** Sets a file that was read on its game's, or others on this one; these are judged anew. @param {OpenFile} fresh */
-function setOnGames(fresh) {
+/**
+ * Reads what a file has; one that is refused is told. Whether the reading was stopped: a stop is of all files.
+ * @param {OpenFile} f @param {boolean} isStopped
+ */
+async function read(f, isStopped) {
+  try {
+    if (isStopped) throw new Stopped();
+    if (!f.refused) {
+      const { levels, demos, ...told } = await desk.ask('open', asking(f), `Reading ${f.file.name}`);
+      Object.assign(f, told, !told.refused && { heads: new Lines(levels), demos: new Lines(demos) });
+    }
+  } catch (error) {
+    isStopped = error instanceof Stopped;
+    f.refused = isStopped ? 'stopped before it was read' : wordsOf(error);
+  }
+  if (f.refused) tell({ about: f.file.name, words: f.refused, help: helpOf(f.refused) }); else forget(f.file.name);
+  return isStopped;
+}
+
+/** Sets files on their games; one that then stands on another, and isn't the fresh one, is judged anew. @param {OpenFile[]} which @param {OpenFile} [fresh] */
+function setOnGames(which, fresh) {
   const games = state.files.filter(({ kind }) => kind === 'IWAD');
-  for (const f of fresh.kind === 'IWAD' || fresh.wasGame ? state.files : [fresh]) {
+  for (const f of which) {
     const game = gameOf(f, games);
     if (game === f.game) continue;
     f.game = game;
     if (f !== fresh) judgeAnew(f);
   }
+}
+
+/** Closes a file. What stands on it is judged anew; where it was the one that is shown, the next one is. @param {OpenFile} f */
+function close(f) {
+  const at = state.files.indexOf(f);
+  if (at < 0) return;
+  state.files.splice(at, 1);
+  f.surveys++; // its late answer is let go
+  for (const questions of [desk, judge, finer]) questions.tell('close', { key: f.key });
+  forget(f.file.name);
+  say(`${f.file.name} closed`);
+  setOnGames(state.files);
+  const next = state.files[Math.min(at, state.files.length - 1)];
+  if (!next) return closeAll();
+  if (f === state.of || !state.of) {
+    chooseFile(next);
+    showOf(next);
+  } else if (f === state.file) chooseFile(state.files.includes(state.of) ? state.of : next);
+  else showFiles();
+  reveal(state.file);
+}
+
+/** Shows the page as it was before any file. */
+function closeAll() {
+  Object.assign(state, { file: null, of: null, shown: -1, name: '', seen: null });
+  demoShown = -1;
+  view.asked = null;
+  view.clear('');
+  showFiles();
+  stage('map', null, '');
+  document.body.classList.add('empty');
+  pane('files');
+  get('choose-too').focus();
 }
 
 /** @param {OpenFile} f */
@@ -203,7 +278,7 @@ async function survey(f) {
     if (mine !== f.surveys) return;
     f.stopped = error instanceof Stopped;
     f.failed = f.stopped ? '' : wordsOf(error);
-    if (f.failed) say(`${f.file.name}: ${f.failed}`, true);
+    if (f.failed) tell({ about: f.file.name, words: f.failed, help: helpOf(f.failed) });
   }
   if (f === state.file) showLevels(true);
   if (f === state.of && state.shown >= 0 && f.survey && levelOf(f, state.shown).format !== 'doom') showLevel(); // now it can say why
@@ -215,6 +290,7 @@ function chooseFile(f) {
   field('filter').value = '';
   field('only').checked = false;
   showFile();
+  reveal(f);
 }
 
 /** Shows what the chosen file holds. */
@@ -321,12 +397,12 @@ function showLevel() {
   view.show({ ...asking(f), entry, name, wantsGame: f.kind === 'PWAD' && !f.game }, format && format !== 'doom' ? notJudged(level) : '');
 }
 
-/** @param {'map' | 'demo'} which @param {OpenFile} f @param {string} name */
+/** @param {'map' | 'demo'} which @param {OpenFile | null} f none where all are closed @param {string} name */
 function stage(which, f, name) {
   get('demo').hidden = which !== 'demo';
   document.body.classList.toggle('at-demo', which === 'demo');
-  get('crumbs').replaceChildren(make('span', '', f.file.name), ...(f.kind === 'demo' || !name ? [] : [make('span', 'here', name)]));
-  document.title = `${name || f.file.name} – wadlook`;
+  get('crumbs').replaceChildren(...(f ? [make('span', '', f.file.name)] : []), ...(!f || f.kind === 'demo' || !name ? [] : [make('span', 'here', name)]));
+  document.title = `${name || (f ? f.file.name : 'level inspector')} – wadlook`;
 }
 
 const view = new LevelView(desk, finer, () => {
@@ -412,7 +488,7 @@ const saves = {
 };
 for (const [id, act] of Object.entries(saves)) {
   get(id).addEventListener('click', async () => {
-    try { if (state.file) await act(state.file); } catch (error) { say(`Not saved: ${wordsOf(error)}`, !(error instanceof Stopped)); }
+    try { if (state.file) await act(state.file); } catch (error) { if (!(error instanceof Stopped)) tell({ about: 'Not saved', words: wordsOf(error) }); }
   });
 }
 
@@ -420,11 +496,14 @@ for (const [id, act] of Object.entries(saves)) {
 
 for (const id of ['choose', 'choose-too']) get(id).addEventListener('click', () => field('file').click());
 field('file').addEventListener('change', () => {
-  open([...field('file').files ?? []]);
+  take([...field('file').files ?? []].map((file) => ({ file, handle: null })));
   field('file').value = ''; // so that the same file can be chosen again
 });
 for (const tab of /** @type {NodeListOf<HTMLElement>} */ (document.querySelectorAll('.tabs button'))) {
-  tab.addEventListener('click', () => pane(tab.dataset.to ?? ''));
+  tab.addEventListener('click', () => {
+    pane(tab.dataset.to ?? '');
+    if (tab.dataset.to === 'files') reveal();
+  });
 }
 for (const id of ['filter', 'only']) get(id).addEventListener('input', () => showLevels());
 field('filter').addEventListener('keydown', (event) => {
@@ -434,7 +513,10 @@ field('filter').addEventListener('keydown', (event) => {
   levels.pick(Math.max(0, levels.at));
 });
 field('wide').addEventListener('input', readAnew);
-get('said').addEventListener('click', () => say('')); // a refusal, which was read
+get('close-file').addEventListener('click', () => state.file && close(state.file));
+get('files').addEventListener('keydown', ({ key }) => {
+  if (key === 'Delete' && files.at >= 0) close(files.item(files.at));
+});
 get('stop').addEventListener('click', () => [desk, judge].forEach((questions) => questions.stop()));
 addEventListener('keydown', (event) => {
   if (event.key !== '/' || /** @type {Element} */ (event.target).matches('input')) return;
@@ -450,10 +532,10 @@ const dragged = (/** @type {number} */ now) => {
 addEventListener('dragenter', () => dragged(over + 1));
 addEventListener('dragleave', () => dragged(over - 1));
 addEventListener('dragover', (event) => event.preventDefault());
-addEventListener('drop', (event) => {
+addEventListener('drop', async (event) => {
   event.preventDefault();
   dragged(0);
-  if (canRun() && event.dataTransfer?.files.length) open([...event.dataTransfer.files]);
+  if (canRun() && event.dataTransfer?.items.length) take(await droppedFiles(event.dataTransfer));
 });
 
 pane('files');

@@ -32,6 +32,11 @@ export class Questions {
     });
   }
 
+  /** Tells the worker, if there is one, what has no answer. @param {string} job @param {object} body */
+  tell(job, body) {
+    this.worker?.postMessage({ id: 0, job, ...body });
+  }
+
   /** What is under way: of what has a label, what was asked first; undefined where there is none. */
   get label() {
     return [...this.open.values()].find(({ label }) => label)?.label;

@@ -9,11 +9,14 @@
 
 export const get = (/** @type {string} */ id) => /** @type {HTMLElement} */ (document.getElementById(id));
 export const field = (/** @type {string} */ id) => /** @type {HTMLInputElement} */ (get(id));
-/** Tells those who can't see it; a refusal is seen, too, until something else is told. @param {string} words @param {boolean} [isRefusal] */
-export const say = (words, isRefusal = false) => {
-  get('said').textContent = words;
-  get('said').className = isRefusal ? 'refusal' : 'unseen';
-};
+/** Tells those who can't see what happened. @param {string} words */
+export const say = (words) => { get('said').textContent = words; };
+/** What to do about a file that is refused, where something helps. @param {string} why */
+export function helpOf(why) {
+  if (/^(not a WAD file|shorter than a WAD header)/.test(why)) return 'Drop a WAD file, a demo, or a ZIP or PK3 that has some.';
+  if (why.endsWith("can't be read")) return 'It was changed, moved or is a folder: drop it again, and of a folder its files.';
+  return why.startsWith('stopped') ? 'Drop it again to read it.' : '';
+}
 /** Whether one pane is shown at a time: as page.css has it. */
 export const isNarrow = () => matchMedia('(max-width: 880px), (max-height: 480px)').matches;
 export const plural = (/** @type {number} */ n, /** @type {string} */ word) => `${n} ${word}${n === 1 ? '' : 's'}`;

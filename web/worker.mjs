@@ -5,6 +5,7 @@ import { boundsOf } from './linedefs.mjs';
 import { Lines, linesOf } from './lines.mjs';
 import { read } from './picture.mjs';
 import { drawPicture, listLinedefs, runWadlens, runWadlook } from './wad_page.mjs';
+import { filesIn } from './zip.mjs';
 
 /** @typedef {import('./wad_page.mjs').Ended} Ended */
 /** @typedef {import('./wad_page.mjs').LensQuestion} LensQuestion */
@@ -180,6 +181,12 @@ function judgedOf({ bytes, ends }) {
 // Jobs -------------------------------------------------------------------------------------------------------------------------
 
 const jobs = {
+  /** The files of an archive. @param {{ file: File }} asked */
+  unpack: ({ file }) => filesIn(file, file.name),
+
+  /** Lets a file go that was closed. @param {{ key: string }} asked */
+  close: async ({ key }) => { held.delete(key); },
+
   /** What a file is: its kind, its levels and demos as lines of `lumps`; or why it is refused. @param {Asked} asked */
   async open(asked) {
     const { bytes } = await hold(asked), entries = bytes.length < 12 ? 0 : new DataView(bytes.buffer).getUint32(4, true); // room for so many lines

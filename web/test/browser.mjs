@@ -7,7 +7,7 @@ export const wait = (/** @type {number} */ ms) => new Promise((go) => setTimeout
 
 /** The codes of keys that are no signs. */
 const KEYS = /** @type {Record<string, number>} */ ({
-  ArrowDown: 40, ArrowUp: 38, ArrowLeft: 37, ArrowRight: 39, Enter: 13, Escape: 27, Tab: 9, End: 35, Home: 36,
+  ArrowDown: 40, ArrowUp: 38, ArrowLeft: 37, ArrowRight: 39, Enter: 13, Escape: 27, Tab: 9, End: 35, Home: 36, Delete: 46,
 });
 
 // What an expression ends with whose page is left while it is computed.

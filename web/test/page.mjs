@@ -5,6 +5,7 @@ import { pathToFileURL } from 'node:url';
 import { wait } from './browser.mjs';
 import { measure } from './measure.mjs';
 import { contrast, keys, labels, phone } from './page_access.mjs';
+import { drops } from './page_drops.mjs';
 import { games } from './page_games.mjs';
 import { layout } from './page_layout.mjs';
 import { mapper } from './page_mapper.mjs';
@@ -496,35 +497,38 @@ async function stopAll() {
   check('and nothing is under way', await isHidden('#work'), true);
 }
 
-/** What fails is seen, and doesn't read as if it had been stopped. */
+/** What fails is seen until it is closed, and doesn't read as if it had been stopped. */
 async function refusals() {
-  const isSeen = () => browser.run("(({ width, height }) => width > 100 && height > 20)(document.querySelector('#said').getBoundingClientRect())");
+  const notices = () => textsOf('#notices .notice p');
   await fresh();
   await withhold('survey');
   await browser.drop(written('gone.wad', twoRooms));
   await drawn('MAP01');
-  check('what goes well is told and not seen', [await textOf('#said'), await isSeen()], ['MAP01 drawn, sound', false]);
+  check('what goes well is told and not seen', [await textOf('#said'), await isHidden('#notices')], ['MAP01 drawn, sound', true]);
   await browser.press('#in');
   await browser.until("document.querySelector('#map').dataset.fine", 'the worker of parts has read the file, too');
   written('gone.wad', 'now another');
   await browser.run('free()');
-  await browser.until("document.querySelector('#said').textContent.endsWith(\"can't be read\")", 'a survey that fails');
-  check('why a survey fails is seen', [await textOf('#said'), await isSeen()], ["gone.wad: can't be read", true]);
+  await browser.until("document.querySelector('#notices .notice')", 'a survey that fails');
+  const gone = "gone.wad: can't be read. It was changed, moved or is a folder: drop it again, and of a folder its files.";
+  check('why a survey fails is seen', [await notices(), await isHidden('#notices')], [[gone], false]);
   check('and its levels are not told as stopped', [await textsOf('#levels .row-state'), await textOf('#levels-none')],
     [['not judged', 'not judged'], "Not judged: can't be read. Try again"]);
   await pick('levels', 'MAP02');
   await drawn('MAP02');
-  check('what then goes well hides it', await isSeen(), false);
+  check('what then goes well leaves it', await notices(), [gone]);
   await browser.press('#save-report');
-  await browser.until("document.querySelector('#said').textContent === \"Not saved: can't be read\"", 'a report that fails');
-  check('why nothing is saved is seen', await isSeen(), true);
-  await browser.press('#said');
-  check('until it is clicked', [await textOf('#said'), await isSeen()], ['', false]);
+  await browser.until("document.querySelectorAll('#notices .notice').length === 2", 'a report that fails');
+  check('why nothing is saved is seen', [(await notices())[1], await textOf('#notices-count')], ["Not saved: can't be read.", '2 messages']);
+  await browser.press('#notices .notice .close');
+  check('until it is closed', await notices(), ["Not saved: can't be read."]);
+  await browser.press('#notices .notice .close');
+  check('and so are all', [await notices(), await isHidden('#notices')], [[], true]);
   await withhold('survey');
   await browser.press('#levels-none button');
   await browser.press('#stop');
   await browser.until("document.querySelector('#levels-none').textContent.startsWith('Stopped')", 'a survey that is stopped');
-  check('what was stopped is told as such, and not seen', [await textsOf('#levels .row-state'), await isSeen()], [['stopped', 'stopped'], false]);
+  check('what was stopped is told as such, and not seen', [await textsOf('#levels .row-state'), await isHidden('#notices')], [['stopped', 'stopped'], true]);
 }
 
 async function stop() {
@@ -662,9 +666,9 @@ const isThere = await Promise.race([browser.attach().then(() => true, () => fals
 if (!isThere) skipped("Chromium doesn't start here", 'the page');
 let at = 'the start';
 try {
-  const all = [files, levels, picture, point, moves, finer, findings, reading, early, late, edge, unknown, warnings, games, mapper, faults, undrawn, demos,
-    saves, markup, hostile, manyFindings, large, stop, stopAll, refusals, wide, contrast, labels, keys, phone, layout, unable, unserved, engineless, anyHost, alone,
-    policy];
+  const all = [files, drops, levels, picture, point, moves, finer, findings, reading, early, late, edge, unknown, warnings, games, mapper, faults, undrawn,
+    demos, saves, markup, hostile, manyFindings, large, stop, stopAll, refusals, wide, contrast, labels, keys, phone, layout, unable, unserved,
+    engineless, anyHost, alone, policy];
   const only = valueOf('--only').split(',');
   for (const one of all.filter(({ name }) => isThere && (!only[0] || only.includes(name)))) {
     at = one.name;

@@ -21,7 +21,8 @@ const LONG = 'a_level_of_a_community_project_whose_name_is_longer_than_any_colum
 /** Names what can be used and isn't on top in its middle, once it is brought into view. @returns {Promise<string[]>} */
 const covered = () => browser.run(`(() => {
   const name = (e) => e && (e.id || e.className || e.textContent.trim().slice(0, 30) || e.tagName);
-  const used = [...document.querySelectorAll('button, input, label, a, summary, .row, .ask')].filter((e) => e.checkVisibility({ visibilityProperty: true }) && !e.matches('.skip'));
+  const all = document.querySelectorAll('button, input, label, a:not(.skip), summary, .row, .ask');
+  const used = [...all].filter((e) => e.checkVisibility({ visibilityProperty: true }));
   return used.flatMap((e) => {
     e.scrollIntoView({ block: e.offsetHeight > innerHeight ? 'center' : 'nearest', inline: e.offsetWidth > innerWidth ? 'center' : 'nearest' });
     const { x, y, width, height } = e.getBoundingClientRect(), hit = document.elementFromPoint(x + width / 2, y + height / 2);
@@ -69,7 +70,8 @@ async function sizes() {
 
 /** All of the map is beside the legend and the buttons, and those don't lie on each other. */
 async function fits() {
-  for (const [width, height, isTouched] of /** @type {[number, number, boolean][]} */ ([[1440, 900, false], [390, 844, true], [844, 390, true], [640, 400, false]])) {
+  const screens = /** @type {[number, number, boolean][]} */ ([[1440, 900, false], [390, 844, true], [844, 390, true], [640, 400, false]]);
+  for (const [width, height, isTouched] of screens) {
     await browser.screen(width, height, 'dark', isTouched);
     await fresh();
     await browser.drop(written('full.wad', full));
@@ -85,10 +87,10 @@ async function fits() {
     check(`the legend tells all, ${width}`, (await legend()).length, 4);
     check(`no room and no button lies under another, ${width}`, await browser.run(`(() => {
       const boxOf = (e) => e.getBoundingClientRect(), frame = boxOf(document.querySelector('#map')), left = frame.x + frame.width / 2, top = frame.y + frame.height / 2;
-      const rooms = { left: left + (0 - ${x}) * ${zoom}, right: left + (512 - ${x}) * ${zoom}, top: top - (256 - ${y}) * ${zoom}, bottom: top - (0 - ${y}) * ${zoom} };
-      const all = [rooms, frame, ...['.zoom', '#legend'].map((s) => boxOf(document.querySelector(s)))], [, , zoom, legend] = all;
+      const rooms = { left: left - ${x * zoom}, right: left + ${(512 - x) * zoom}, top: top - ${(256 - y) * zoom}, bottom: top + ${y * zoom} };
+      const [buttons, legend] = ['.zoom', '#legend'].map((s) => boxOf(document.querySelector(s)));
       const isApart = (a, b) => a.right <= b.left || b.right <= a.left || a.bottom <= b.top || b.bottom <= a.top;
-      return [isApart(rooms, zoom), isApart(rooms, legend), isApart(zoom, legend), rooms.left >= frame.left && rooms.top >= frame.top]; })()`), [true, true, true, true]);
+      return [isApart(rooms, buttons), isApart(rooms, legend), isApart(buttons, legend), rooms.left >= frame.left && rooms.top >= frame.top]; })()`), [true, true, true, true]);
   }
 }
 

@@ -1,4 +1,5 @@
-// Small WAD files for the tests, built by the formats.
+// Small WAD files for the tests, and ZIP archives of them, built by the formats.
+import { deflateRawSync } from 'node:zlib';
 
 /** @param {string} name */
 const eight = (name) => Buffer.concat([Buffer.from(name, 'latin1'), Buffer.alloc(8)]).subarray(0, 8);
@@ -94,3 +95,38 @@ export const oneMistaken = ({ LINEDEFS }) => { LINEDEFS.writeUInt16LE(4, 4 * 14 
 export const oneLost = ({ LINEDEFS }) => { LINEDEFS.writeUInt16LE(60000, 5 * 14 + 10); };
 /** Lets the node have its own ssector 0 twice: faults with which warnings are looked for. @param {Record<string, Buffer>} lumps */
 export const oneTwice = ({ NODES }) => { NODES.writeUInt16LE(0x8000, 24); };
+
+/** CRC-32 of bytes, a bit at a time. @param {Buffer} bytes */
+function crcOf(bytes) {
+  let sum = ~0;
+  for (const byte of bytes) {
+    sum ^= byte;
+    for (let k = 0; k < 8; k++) sum = sum & 1 ? (sum >>> 1) ^ 0xedb88320 : sum >>> 1;
+  }
+  return ~sum >>> 0;
+}
+
+/** @param {...[number, number]} numbers each with how many bytes it takes */
+const little = (...numbers) => Buffer.concat(numbers.map(([number, size]) => {
+  const bytes = Buffer.alloc(size);
+  bytes.writeUIntLE(number, 0, size);
+  return bytes;
+}));
+
+/**
+ * A ZIP archive.
+ * @param {[string, Buffer, { flags?: number, size?: number }?][]} members paths and bytes, and what an entry says instead of what is so
+ */
+export function zipped(members) {
+  let at = 0;
+  const parts = members.map(([path, body, { flags = 0, size = body.length } = {}]) => {
+    const packed = deflateRawSync(body), name = Buffer.from(path);
+    const common = little([20, 2], [flags, 2], [8, 2], [0, 4], [crcOf(body), 4], [packed.length, 4], [size, 4], [name.length, 2], [0, 2]);
+    const local = Buffer.concat([Buffer.from('PK\x03\x04'), common, name, packed]);
+    const entry = Buffer.concat([Buffer.from('PK\x01\x02'), little([20, 2]), common, little([0, 2], [0, 2], [0, 2], [0, 4], [at, 4]), name]);
+    at += local.length;
+    return { local, entry };
+  });
+  const directory = Buffer.concat(parts.map(({ entry }) => entry)), count = /** @type {[number, number]} */ ([members.length, 2]);
+  return Buffer.concat([...parts.map(({ local }) => local), directory, Buffer.from('PK\x05\x06'), little([0, 4], count, count, [directory.length, 4], [at, 4], [0, 2])]);
+}

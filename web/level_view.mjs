@@ -1,4 +1,5 @@
 // One level: its picture, the pinned point, its findings.
+import { changesOf, placeAgain } from './changes.mjs';
 import { meaningOf } from './codes.mjs';
 import { Explained } from './explained.mjs';
 import { findingOf } from './findings.mjs';
@@ -15,6 +16,10 @@ import { get, field, inShort, isNarrow, notJudged, pane, say, unlookedWords, ver
 /** @typedef {import('./findings.mjs').Finding} Finding @typedef {import('./findings.mjs').Spots} Spots */
 /** @typedef {import('./questions.mjs').Questions} Questions @typedef {import('./map_view.mjs').View} View */
 /** @typedef {{ linedefs: Int32Array, first: Int32Array, bounds: Int32Array }} Linedefs  their numbers, and which are about each sector: see linedefs.mjs */
+/**
+ * @typedef {{ view: View | null, pinned: { x: number, y: number } | null, findings: Finding[], chosen: Finding | null }} Kept  of a level that may be shown
+ *   again: its view, its pinned point, what was found in it, and which of that was chosen
+ */
 /** @typedef {import('./worker.mjs').AskedLevel & { wantsGame: boolean }} Asked  what a question about a level has */
 
 const CELLS = 512; // of the picture of a level
@@ -22,6 +27,7 @@ const FINE_CELLS = 1024; // and of that of a part
 const COARSE = 2.5; // pixels to a cell from which on a part is asked for in smaller ones
 const MARKED = 1000; // findings whose places are marked while none is chosen
 const MARKED_LINES = 20000; // and lines of their places, of which a sector may have many: no more of one are marked
+const COMPARED = 5000; // findings of two savings of a level
 const COUNTS = /** @type {const} */ (['things', 'linedefs', 'sidedefs', 'vertexes', 'segs', 'ssectors', 'nodes', 'sectors']);
 
 /** Where each of REJECT's answers is listed. */
@@ -49,9 +55,9 @@ const none = () => { throw new RangeError('an empty list'); };
 /** Numbers in a part that scrolls; it fades below while there are more. @param {string} list */
 function numbers(list) {
   const part = make('span', 'numbers', list);
-  const tell = () => part.classList.toggle('more', part.scrollTop + part.clientHeight < part.scrollHeight - 1);
-  part.addEventListener('scroll', tell, { passive: true });
-  new ResizeObserver(tell).observe(part);
+  const fade = () => part.classList.toggle('more', part.scrollTop + part.clientHeight < part.scrollHeight - 1);
+  part.addEventListener('scroll', fade, { passive: true });
+  new ResizeObserver(fade).observe(part);
   return part;
 }
 
@@ -74,8 +80,10 @@ export class LevelView {
     this.pins = 0; // a late answer of an earlier pin is let go
     this.choices = 0; // so is the late place of an earlier finding
     this.sector = -1; // of the pinned point
-    /** @type {{ view: View | null, pinned: { x: number, y: number } | null } | null} */
+    /** @type {Kept | null} */
     this.kept = null; // what a level that is shown again will have in view
+    /** @type {Set<Finding>} */
+    this.fresh = new Set(); // findings that came since the level was shown before
     /** @type {Promise<unknown>} */
     this.drawing = Promise.resolve();
     this.map = new MapView(get('map'), {
@@ -92,7 +100,8 @@ export class LevelView {
       message.title = finding.message; // where it is cut off
       const code = make('span', `code${finding.code.startsWith('F') ? ' fault' : ''}`, finding.code || '–');
       code.title = meaningOf(finding.code);
-      return [code, make('span', 'row-name', finding.where), message, ...this.explained.mark(finding.code)];
+      const name = make('span', 'row-name', finding.where, ...(this.fresh.has(finding) ? [make('span', 'fresh', 'new')] : []));
+      return [code, name, message, ...this.explained.mark(finding.code)];
     }, (finding, k) => this.#choose(finding, k), { isButton: ({ more, wide }) => !!more || wide, describe: ({ code }) => meaningOf(code) });
     get('findings').addEventListener('click', (event) => this.#ask(event), { capture: true });
     get('findings').addEventListener('keydown', ({ key }) => {
@@ -115,6 +124,7 @@ export class LevelView {
    */
   async show(asked, why) {
     const again = this.last && isSame(this.last, asked);
+    this.before = this.last?.file; // which isn't another saving where only the reading is
     this.last = this.asked = asked;
     this.finer.stop();
     this.clear(why);
@@ -139,10 +149,16 @@ export class LevelView {
     this.explained.toggle(mark.dataset.code ?? '');
   }
 
-  /** The pinned point, and the part that is in view; none where it is the whole picture. */
+  /** What a level that is shown has; no part of it is in view where that is the whole picture. @returns {Kept} */
   #inView() {
-    const { picture, fitted, view, pinned } = this.map;
-    return { view: picture && !fitted ? view : null, pinned };
+    const { picture, fitted, view, pinned } = this.map, findings = this.#listed();
+    return { view: picture && !fitted ? view : null, pinned, findings, chosen: findings[this.findings.at] ?? null };
+  }
+
+  /** The findings that are listed, where they are no more than can be compared. */
+  #listed() {
+    const { count, item } = this.findings;
+    return count <= COMPARED ? Array.from({ length: count }, (_, k) => item(k)) : [];
   }
 
   /**
@@ -166,6 +182,8 @@ export class LevelView {
     get('codes').textContent = '';
     this.explained.hide();
     this.findings.show(0, none);
+    this.fresh = new Set();
+    get('changes').hidden = true;
     get('findings-none').hidden = false;
     get('findings-none').textContent = why;
     get('unlooked').hidden = true;
@@ -194,6 +212,7 @@ export class LevelView {
     const objects = new Lines(findings), { warnings } = JSON.parse(objects.at(objects.count - 1)); // the last has the sums
     this.#tell(level, verdict(level, warnings));
     this.#list(objects, spots);
+    if (this.kept) this.#compare(this.kept, asked);
     const left = unlookedWords(level, asked.wantsGame);
     get('unlooked').textContent = left;
     get('unlooked').hidden = !left;
@@ -232,9 +251,32 @@ export class LevelView {
   /** @param {Lines} objects of `check`, of which the last has the sums @param {Spots} spots @param {number} [chosen] a row */
   #list(objects, spots, chosen) {
     const count = Math.max(0, objects.count - 1);
-    this.findings.show(count, (k) => findingOf(objects.at(k), spots), chosen);
+    /** @type {Map<number, Finding>} */
+    const made = new Map(); // each once, so that one can be told from another
+    const item = (/** @type {number} */ k) => {
+      const finding = made.get(k) ?? findingOf(objects.at(k), spots);
+      if (count <= COMPARED) made.set(k, finding);
+      return finding;
+    };
+    this.findings.show(count, item, chosen);
     get('findings-none').hidden = count > 0;
     get('findings-none').textContent = 'Nothing was found: all links and nodes hold together, and there is nothing to warn of.';
+  }
+
+  /** Tells what came and what went since the level was shown before, and chooses what was chosen then. @param {Kept} kept @param {Asked} asked */
+  #compare({ findings, chosen }, asked) {
+    const now = this.#listed(), { came, went } = changesOf(findings, now), at = placeAgain(now, chosen);
+    if (this.asked !== asked || asked.file === this.before) return;
+    this.fresh = new Set(came);
+    const time = new Date(asked.file.lastModified).toLocaleTimeString();
+    get('changes-title').textContent = came.length || went.length ? `Saved at ${time}: ${came.length} came, ${went.length} went` : `Saved at ${time}: nothing came or went`;
+    get('changes-list').replaceChildren(...[...came.map((one) => ['came', one]), ...went.map((one) => ['went', one])].map(([what, one]) => {
+      const { code, where, message } = /** @type {Finding} */ (one);
+      return make('li', '', `${what}: ${code} ${where}: ${message}`);
+    }));
+    get('changes').hidden = false;
+    this.findings.show(this.findings.count, this.findings.item, at);
+    if (at >= 0) this.#placeOf(now[at]).then((place) => this.asked === asked && this.map.mark(place, true));
   }
 
   /**

@@ -176,7 +176,7 @@ export class MapView {
     }
     this.#ink();
     if (picture && view) this.#set(view); else this.fit();
-    if (this.found && this.frame.checkVisibility()) this.mark(this.found);
+    if (this.found && this.frame.checkVisibility()) this.mark(this.found, !!view);
   }
 
   /** What the picture tells of a sector; nothing where it has no cell of it. @param {number} sector */
@@ -208,11 +208,14 @@ export class MapView {
     this.#redraw();
   }
 
-  /** Marks the place of a chosen finding (x y, or lines) and brings it to the middle; none with null. @param {number[] | null} place */
-  mark(place) {
+  /**
+   * Marks the place of a chosen finding (x y, or lines) and brings it to the middle; none with null.
+   * @param {number[] | null} place @param {boolean} [stays] whether the view stays as it is
+   */
+  mark(place, stays = false) {
     this.#resize(); // it may have been hidden until now
     this.found = place;
-    if (place) {
+    if (place && !stays) {
       const { x, y, width, height } = boxOf(place), near = Math.max(this.view.zoom, Math.min(0.6, this.#whole().zoom * 5));
       const whole = 0.8 * Math.min(this.size.width / width, this.size.height / height); // so that all of an outline is seen, and a small one, too
       this.#fly({ x, y, zoom: place.length > 4 ? Math.min(whole, Math.max(near, 60 / Math.max(1, width, height)), CLOSEST) : near });

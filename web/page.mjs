@@ -1,6 +1,7 @@
 // The page: which files are open, which level or demo is shown, and how the parts tell one another.
 import { meaningOf } from './codes.mjs';
 import { DemoTable } from './demo_table.mjs';
+import { Follower, stampOf } from './follow.mjs';
 import { apart, gameOf } from './games.mjs';
 import { LevelView } from './level_view.mjs';
 import { Lines } from './lines.mjs';
@@ -8,16 +9,18 @@ import { ListBox } from './list.mjs';
 import { forget, tell } from './notices.mjs';
 import { Questions, Stopped } from './questions.mjs';
 import { make } from './rows.mjs';
-import { droppedFiles, takeApart } from './sources.mjs';
+import { droppedFiles, pickedOf, refusal, takeApart } from './sources.mjs';
 import { canRun } from './wad_page.mjs';
 import { field, get, helpOf, isNarrow, notJudged, pane, plural, say, sizeOf, verdict, wordsOf } from './words.mjs';
 
 /** @typedef {import('./words.mjs').Level} Level @typedef {import('./sources.mjs').Source} Source */
+/** @typedef {import('./sources.mjs').Handle} Handle */
 /**
- * @typedef {{ key: string, file: File, kind: string, refused: string, heads: Lines, survey: Lines | null, demos: Lines,
- *   stopped: boolean, failed: string, surveys: number, game: OpenFile | null, wasGame: boolean }} OpenFile  `heads` and `demos` are lines of
- *   `lumps`, `survey` those of the engine's answer, once all is judged; `failed` tells why it isn't; `game` is the game's file on which it stands;
- *   `wasGame` tells whether a game's file was there before, in whose place it stands
+ * @typedef {{ key: string, file: File, handle: Handle | null, stamp: string, kind: string, refused: string, heads: Lines, survey: Lines | null,
+ *   demos: Lines, stopped: boolean, failed: string, surveys: number, game: OpenFile | null, wasGame: boolean }} OpenFile  `handle` reads it again, and
+ *   `stamp` is of the saving that was read; `heads` and `demos` are lines of `lumps`, `survey` those of the engine's answer, once all is judged;
+ *   `failed` tells why it isn't; `game` is the game's file on which it stands; `wasGame` tells whether a game's file was there before, in whose place
+ *   it stands
  */
 
 const none = () => new Lines({ bytes: new Uint8Array(), ends: new Uint32Array() });
@@ -106,12 +109,40 @@ function reveal(f = state.seen) {
   if (f) files.rows.reveal(state.files.indexOf(f));
 }
 
+/** Files as they are opened. @param {Source[]} picked */
+async function apartOf(picked) {
+  const sources = [];
+  for await (const some of takeApart(picked, (file) => desk.ask('unpack', { file }, `Unpacking ${file.name}`))) sources.push(...some);
+  return sources;
+}
+
 /** Opens what was dropped or chosen, of which archives are taken apart. @param {Source[]} picked */
 async function take(picked) {
   if (!picked.length) return;
   document.body.classList.remove('empty');
-  const sources = [];
-  for await (const some of takeApart(picked, (file) => desk.ask('unpack', { file }, `Unpacking ${file.name}`))) sources.push(...some);
+  open(await apartOf(picked));
+}
+
+/** Lets the browser choose files: by handles, where it has them, so that they can be followed. */
+async function choose() {
+  const { showOpenFilePicker } = /** @type {any} */ (window);
+  if (!showOpenFilePicker) return field('file').click();
+  try {
+    take(await pickedOf(await showOpenFilePicker({ multiple: true })));
+  } catch (error) { if (/** @type {Error} */ (error).name !== 'AbortError') field('file').click(); }
+}
+
+/**
+ * Opens again what was read by a handle: what an archive has no more is closed, and what can't be read is told as such.
+ * @param {Handle} handle @param {boolean} isThere
+ */
+async function openAgain(handle, isThere) {
+  const mine = () => state.files.filter((f) => f.handle === handle);
+  let sources = /** @type {Source[]} */ ([]);
+  if (isThere) sources = await pickedOf([handle]).then(apartOf).catch(() => []);
+  const gone = mine().filter(({ file }) => !sources.some((one) => one.file.name === file.name));
+  if (!sources.length) return open(gone.map(({ file, stamp }) => refusal(file.name, "it was changed or moved, and can't be read", handle, stamp)));
+  gone.forEach(close);
   open(sources);
 }
 
@@ -122,8 +153,8 @@ async function take(picked) {
  */
 async function open(sources) {
   /** @type {OpenFile[]} */
-  const fresh = sources.map(({ file, refused = '' }, k) => ({
-    key: `${performance.now()} ${k}`, file, kind: '', refused, heads: none(), survey: null, demos: none(), stopped: false, failed: '', surveys: 0,
+  const fresh = sources.map(({ file, handle, stamp = stampOf(file), refused = '' }, k) => ({
+    key: `${performance.now()} ${k}`, file, handle, stamp, kind: '', refused, heads: none(), survey: null, demos: none(), stopped: false, failed: '', surveys: 0,
     game: null, wasGame: false,
   }));
   list(fresh);
@@ -474,6 +505,7 @@ function save(part, name, type) {
 function showSaves() {
   get('save-report').toggleAttribute('disabled', !state.file?.heads.count);
   get('save-json').toggleAttribute('disabled', !state.file?.survey);
+  get('reload-file').title = state.file?.handle ? 'Read the chosen file again; it is read by itself once it is saved' : 'Choose the file again, to see what was saved';
 }
 
 /** @type {Record<string, (f: OpenFile) => unknown>} what is saved of the level, or of the chosen file */
@@ -494,7 +526,7 @@ for (const [id, act] of Object.entries(saves)) {
 
 // The window -------------------------------------------------------------------------------------------------------------------
 
-for (const id of ['choose', 'choose-too']) get(id).addEventListener('click', () => field('file').click());
+for (const id of ['choose', 'choose-too']) get(id).addEventListener('click', choose);
 field('file').addEventListener('change', () => {
   take([...field('file').files ?? []].map((file) => ({ file, handle: null })));
   field('file').value = ''; // so that the same file can be chosen again
@@ -513,6 +545,9 @@ field('filter').addEventListener('keydown', (event) => {
   levels.pick(Math.max(0, levels.at));
 });
 field('wide').addEventListener('input', readAnew);
+get('reload-file').addEventListener('click', () => {
+  if (state.file?.handle) openAgain(state.file.handle, true); else choose();
+});
 get('close-file').addEventListener('click', () => state.file && close(state.file));
 get('files').addEventListener('keydown', ({ key }) => {
   if (key === 'Delete' && files.at >= 0) close(files.item(files.at));
@@ -538,6 +573,7 @@ addEventListener('drop', async (event) => {
   if (canRun() && event.dataTransfer?.items.length) take(await droppedFiles(event.dataTransfer));
 });
 
+new Follower(() => state.files, openAgain);
 pane('files');
 document.body.dataset.ready = 'yes';
 if (!canRun()) {

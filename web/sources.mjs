@@ -1,9 +1,11 @@
 // What was dropped or chosen, as files: folders are taken apart, and archives are handed to `unpack`.
+import { stampOf } from './follow.mjs';
 import { isZip } from './zip.mjs';
 
 /**
  * @typedef {any} Handle  a FileSystemHandle, where the browser hands one out
- * @typedef {{ file: File, handle: Handle | null, refused?: string }} Source  a file, by what it may be read again, or why it isn't taken
+ * @typedef {{ file: File, handle: Handle | null, stamp?: string, refused?: string }} Source  a file, by what it may be read again, of which saving it
+ *   is, or why it isn't taken
  * @typedef {{ file: File, handle: Handle | null }} Picked  a file as it was handed over: it may be an archive
  * @typedef {{ path: string, get: () => Promise<Picked> }} Found  a file of a folder
  * @typedef {(file: File) => Promise<{ files: { path: string, blob: Blob }[], refused: { path: string, why: string }[], others: number }>} Unpack
@@ -14,8 +16,11 @@ const IS_WANTED = /\.(wad|lmp|zip|pk3)$/i, IS_ARCHIVE = /\.(zip|pk3)$/i;
 /** How other archives begin. */
 const OTHERS = /** @type {[string, number[]][]} */ ([['a 7z archive', [0x37, 0x7a, 0xbc, 0xaf]], ['a RAR archive', [0x52, 0x61, 0x72, 0x21]], ['a gzip archive', [0x1f, 0x8b]]]);
 
-/** A file that isn't taken. @param {string} name @param {string} refused @returns {Source} */
-const refusal = (name, refused) => ({ file: new File([], name), handle: null, refused });
+/**
+ * A file that isn't taken.
+ * @param {string} name @param {string} refused @param {Handle | null} [handle] @param {string} [stamp] @returns {Source}
+ */
+export const refusal = (name, refused, handle = null, stamp = '') => ({ file: new File([], name), handle, stamp, refused });
 
 /** A file under its path. @param {Blob} blob @param {string} path @param {number} lastModified */
 const under = (blob, path, lastModified) => new File([blob], path, { lastModified });
@@ -101,12 +106,13 @@ export async function* takeApart(picked, unpack) {
 
 /** The files of an archive, or a file itself. @param {Picked} source @param {Unpack} unpack @returns {Promise<Source[]>} */
 async function membersOf({ file, handle }, unpack) {
-  const { name, lastModified } = file, other = await otherArchive(file);
-  if (other) return [refusal(name, `${other}, which isn't read here: unpack it, and drop its files`)];
-  if (!IS_ARCHIVE.test(name) && !await isZip(file)) return [{ file, handle }];
+  const { name, lastModified } = file, stamp = stampOf(file), other = await otherArchive(file);
+  const refused = (/** @type {string} */ path, /** @type {string} */ why) => refusal(path, why, handle, stamp);
+  if (other) return [refused(name, `${other}, which isn't read here: unpack it, and drop its files`)];
+  if (!IS_ARCHIVE.test(name) && !await isZip(file)) return [{ file, handle, stamp }];
   let found;
-  try { found = await unpack(file); } catch (error) { return [refusal(name, error instanceof Error ? error.message : String(error))]; }
-  const { files, refused, others } = found, all = [...files.map(({ path, blob }) => ({ file: under(blob, path, lastModified), handle })),
-    ...refused.map(({ path, why }) => refusal(path, why))];
-  return all.length ? all : [refusal(name, `a ZIP without a WAD file or a demo${others ? `: it has ${others} other files` : ''}`)];
+  try { found = await unpack(file); } catch (error) { return [refused(name, error instanceof Error ? error.message : String(error))]; }
+  const { files, refused: bad, others } = found, all = [...files.map(({ path, blob }) => ({ file: under(blob, path, lastModified), handle, stamp })),
+    ...bad.map(({ path, why }) => refused(path, why))];
+  return all.length ? all : [refused(name, `a ZIP without a WAD file or a demo${others ? `: it has ${others} other files` : ''}`)];
 }

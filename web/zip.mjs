@@ -56,7 +56,7 @@ function nameOf(bytes) {
 /** A member of the directory, and how long its entry is. @param {DataView} view @param {number} at @param {number} shift what stands before the archive */
 function entryAt(view, at, shift) {
   if (at + ENTRY_SIZE > view.byteLength || view.getUint32(at, true) !== ENTRY) throw new Unread('a ZIP whose directory is damaged');
-  const flags = view.getUint16(at + 8, true), method = view.getUint16(at + 10, true), [crc, packed, size] = [16, 20, 24].map((k) => view.getUint32(at + k, true));
+  const [flags, method] = [8, 10].map((k) => view.getUint16(at + k, true)), [crc, packed, size] = [16, 20, 24].map((k) => view.getUint32(at + k, true));
   const [name, extra, comment] = [28, 30, 32].map((k) => view.getUint16(at + k, true)), length = ENTRY_SIZE + name + extra + comment;
   if (at + length > view.byteLength) throw new Unread('a ZIP whose directory is damaged');
   const path = nameOf(new Uint8Array(view.buffer, at + ENTRY_SIZE, name));

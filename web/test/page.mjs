@@ -6,13 +6,14 @@ import { wait } from './browser.mjs';
 import { measure } from './measure.mjs';
 import { contrast, keys, labels, phone } from './page_access.mjs';
 import { drops } from './page_drops.mjs';
+import { follows } from './page_follow.mjs';
 import { games } from './page_games.mjs';
 import { layout } from './page_layout.mjs';
 import { mapper } from './page_mapper.mjs';
 import {
   browser, built, check, drawn, drawnAnew, dropRooms, filterBy, fresh, hasInk, isHidden, isNative, judged, legend, options, pick, pictures, pinAt,
   pinBy, placeOf, pointTold, printed, programs, room, roomsFile, root, saved, server, textOf, textsOf, twoRooms, valueOf, viewOf,
-  withhold, written,
+  withhold, withoutHandles, written,
 } from './person.mjs';
 import { addUp, fail, skipped } from '../../tests/harness.mjs';
 import { pythonHost, runProgram, serve } from './server.mjs';
@@ -666,8 +667,9 @@ const isThere = await Promise.race([browser.attach().then(() => true, () => fals
 if (!isThere) skipped("Chromium doesn't start here", 'the page');
 let at = 'the start';
 try {
-  const all = [files, drops, levels, picture, point, moves, finer, findings, reading, early, late, edge, unknown, warnings, games, mapper, faults, undrawn,
-    demos, saves, markup, hostile, manyFindings, large, stop, stopAll, refusals, wide, contrast, labels, keys, phone, layout, unable, unserved,
+  if (isThere) await withoutHandles();
+  const all = [drops, follows, files, levels, picture, point, moves, finer, findings, reading, early, late, edge, unknown, warnings, games, mapper, faults,
+    undrawn, demos, saves, markup, hostile, manyFindings, large, stop, stopAll, refusals, wide, contrast, labels, keys, phone, layout, unable, unserved,
     engineless, anyHost, alone, policy];
   const only = valueOf('--only').split(',');
   for (const one of all.filter(({ name }) => isThere && (!only[0] || only.includes(name)))) {

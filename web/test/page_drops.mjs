@@ -103,17 +103,17 @@ async function folders() {
 /** A file is closed by a button, a key and its cross. */
 async function closing() {
   const shown = async () => [await names(), await textOf('#crumbs')];
-  const game = written('game.wad', wad([...rooms('MAP01'), ...wallsOfRooms()], 'IWAD')), mine = written('mine.wad', wad(rooms('MAP01', { damage: twoUnknown })));
+  const game = written('doom.wad', wad([...rooms('MAP01'), ...wallsOfRooms()], 'IWAD')), mine = written('pwad.wad', wad(rooms('MAP01', { damage: twoUnknown })));
   await fresh();
   await browser.drop(game, mine, written('other.wad', wad(rooms('MAP02'))), written('notes.txt', 'notes about the rooms'));
   await read(4);
   await drawn('MAP01');
   await judged();
-  check('over a game', [await textOf('#codes'), (await textsOf('#files .row-more'))[1].includes('over game.wad')], ['W9 1 · W10 1', true]);
+  check('over a game', [await textOf('#codes'), (await textsOf('#files .row-more'))[1].includes('over doom.wad')], ['W9 1 · W10 1', true]);
   await browser.run("document.querySelector('#files .row .shut').id = 'shut'");
   await browser.press('#shut');
   await browser.until("document.querySelector('#codes').textContent === ''", 'a level that stands on no game any more');
-  check('a cross closes a file that is not shown', await shown(), [['mine.wad', 'other.wad', 'notes.txt'], 'mine.wadMAP01']);
+  check('a cross closes a file that is not shown', await shown(), [['pwad.wad', 'other.wad', 'notes.txt'], 'pwad.wadMAP01']);
   check('and what stood on it is judged anew', (await textsOf('#files .row-more'))[0].includes('over'), false);
   await browser.press('#close-file');
   await drawn('MAP02');
@@ -129,14 +129,14 @@ async function closing() {
     [[[], ''], true, 'level inspector – wadlook']);
   await browser.drop(mine);
   await drawn('MAP01');
-  check('and it goes on from there', await shown(), [['mine.wad'], 'mine.wadMAP01']);
+  check('and it goes on from there', await shown(), [['pwad.wad'], 'pwad.wadMAP01']);
   await withhold('open', 'other.wad');
   await browser.drop(join(room, 'other.wad'));
   await browser.until("document.querySelectorAll('#files .row').length === 2", 'a file under way');
   await browser.run("[...document.querySelectorAll('#files .shut')][1].click()");
   await browser.run('free()');
   await drawnAnew();
-  check('a file that is closed while it is read stays closed', await shown(), [['mine.wad'], 'mine.wadMAP01']);
+  check('a file that is closed while it is read stays closed', await shown(), [['pwad.wad'], 'pwad.wadMAP01']);
 }
 
 export async function drops() {

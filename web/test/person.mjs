@@ -19,6 +19,19 @@ export const room = mkdtempSync(join(tmpdir(), 'page-'));
 export const server = isNative ? await serve(join(root, 'web'), room, programs) : await serve(built, room);
 export const browser = new Browser(chromium(), join(room, 'profile'));
 
+/** Browsers hand out handles of files, or don't; the cases go without, so that no file that they write is read by itself. */
+const WITHOUT_HANDLES = 'delete DataTransferItem.prototype.getAsFileSystemHandle; delete window.showOpenFilePicker;';
+let handles = '';
+export async function withoutHandles() {
+  handles = (await browser.send('Page.addScriptToEvaluateOnNewDocument', { source: WITHOUT_HANDLES })).identifier;
+}
+/** Does something where the browser hands out handles. @param {() => Promise<void>} act */
+export async function withHandles(act) {
+  await browser.send('Page.removeScriptToEvaluateOnNewDocument', { identifier: handles });
+  await act();
+  await withoutHandles();
+}
+
 // What a person sees and does ---------------------------------------------------------------------------------------------------
 
 export const textOf = (/** @type {string} */ selector) => browser.run(`document.querySelector(${JSON.stringify(selector)}).textContent`);

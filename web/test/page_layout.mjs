@@ -1,5 +1,7 @@
 // The cases of the page at sizes of windows, from a phone's to a desk's, and zoomed.
-import { browser, check, drawn, drawnAnew, fresh, judged, legend, pinBy, pointTold, textsOf, viewOf, written } from './person.mjs';
+import {
+  browser, check, drawn, drawnAnew, fresh, isHidden, judged, legend, pinBy, pointTold, textsOf, viewOf, withhold, written,
+} from './person.mjs';
 import { demo, oneLost, oneMistaken, rooms, twoOverlooked, twoUnknown, wad } from './wads.mjs';
 
 /** Widths and heights, in the pixels that are left of a window once it is zoomed. */
@@ -113,6 +115,23 @@ async function wraps() {
   check('the names', await textsOf('#files .row-name'), [LONG, `not_${LONG}.txt`]);
 }
 
+/** What is under way moves nothing that is pressed. */
+async function steady() {
+  for (const [width, height] of [[390, 844], [640, 400], [1280, 800]]) {
+    await browser.screen(width, height, 'dark');
+    await fresh();
+    await withhold('survey');
+    await browser.drop(written('full.wad', full));
+    await drawn('MAP01');
+    const places = () => browser.run("['.bar', 'main', '#choose', '#levels', '#filter'].map((s) => { const { x, y, width, height } = document.querySelector(s).getBoundingClientRect(); return [x, y, width, height]; })");
+    const before = await places();
+    check(`work is under way, ${width}`, await isHidden('#work'), false);
+    await browser.run('free()');
+    await browser.until("document.querySelector('#work').hidden", 'the end of it');
+    check(`work that ends moves nothing, ${width}`, await places(), before);
+  }
+}
+
 /** Forced colours take no colour of the legend, and leave the shown part told. */
 async function forced() {
   await browser.screen(390, 844, 'dark', true);
@@ -131,6 +150,6 @@ async function forced() {
 }
 
 export async function layout() {
-  for (const one of [sizes, fits, wraps, forced]) await one();
+  for (const one of [sizes, fits, wraps, steady, forced]) await one();
   await browser.screen(1440, 900, 'dark');
 }

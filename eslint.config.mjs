@@ -67,7 +67,8 @@ const both = globalsOf('AbortController', 'Blob', 'DecompressionStream', 'TextDe
   'performance', 'queueMicrotask', 'setTimeout', 'structuredClone');
 const browser = {
   ...both,
-  ...globalsOf('File', 'ImageData', 'OffscreenCanvas', 'Path2D', 'ResizeObserver', 'Worker', 'addEventListener', 'cancelAnimationFrame', 'devicePixelRatio',
+  ...globalsOf('File', 'ImageData', 'OffscreenCanvas', 'Path2D', 'Request', 'ResizeObserver', 'Worker', 'addEventListener', 'caches', 'cancelAnimationFrame',
+    'devicePixelRatio',
     'document', 'getComputedStyle', 'history', 'location', 'matchMedia', 'navigator', 'postMessage', 'requestAnimationFrame', 'self', 'window'),
   onmessage: 'writable',
 };

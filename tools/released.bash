@@ -28,7 +28,7 @@ find_roots() {
 list_sources() {
     mapfile -t files < <(find "${roots[@]}" \( -path 'web/*/*' -o -name __pycache__ \) -prune -o -type f ! -name '[.#]*' \
         \( -name '*.rt' -o -name '*.antt' -o -name '*.h' -o -name '*.py' -o -name '*.rs' -o -name Cargo.toml -o -name Cargo.lock \
-        -o -name '*.html' -o -name '*.css' -o -name '*.mjs' -o -name '*.svg' -o -name VERSION \) -print 2>/dev/null | LC_ALL=C sort)
+        -o -name '*.html' -o -name '*.css' -o -name '*.mjs' -o -name '*.svg' -o -path 'web/*.json' -o -path 'web/*.txt' -o -name VERSION \) -print 2>/dev/null | LC_ALL=C sort)
 }
 
 # take_sources PART...: names in `source_lines` a line `DIGEST  PART` for VERSION, each of these parts and each crate below: the digest of

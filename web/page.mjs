@@ -574,8 +574,10 @@ addEventListener('drop', async (event) => {
 });
 
 new Follower(() => state.files, openAgain);
+/** @type {any} */ (navigator).serviceWorker?.register('offline.mjs').catch(() => {}); // without one the page works while it is served
 pane('files');
 document.body.dataset.ready = 'yes';
+if (canRun()) for (const questions of [desk, judge, finer]) questions.start();
 if (!canRun()) {
   get('unable').hidden = false;
   get('unable').textContent = "This browser can't run the engine: it has no 64-bit WebAssembly memory. Chrome and Edge have it from 133 on, Firefox from 134 on.";

@@ -19,17 +19,26 @@ export class Questions {
    * @param {string} job @param {object} body @param {string} [label] @returns {Promise<any>}
    */
   ask(job, body, label) {
-    if (!this.worker) {
-      this.worker = new Worker(new URL('worker.mjs', import.meta.url), { type: 'module' });
-      this.worker.onmessage = ({ data }) => this.#answered(data);
-      this.worker.onerror = (event) => this.stop(new Error(event.message || 'the worker ended'));
-    }
+    this.#begin();
     const id = this.next++;
     return new Promise((resolve, reject) => {
       this.open.set(id, { resolve, reject, label });
       this.worker?.postMessage({ id, job, ...body });
       this.changed();
     });
+  }
+
+  /** Starts the worker before anything is asked, so that all that it needs is there. */
+  start() {
+    this.#begin();
+    this.tell('ready', {});
+  }
+
+  #begin() {
+    if (this.worker) return;
+    this.worker = new Worker(new URL('worker.mjs', import.meta.url), { type: 'module' });
+    this.worker.onmessage = ({ data }) => this.#answered(data);
+    this.worker.onerror = (event) => this.stop(new Error(event.message || 'the worker ended'));
   }
 
   /** Tells the worker, if there is one, what has no answer. @param {string} job @param {object} body */

@@ -36,7 +36,7 @@ const total = (/** @type {Uint8Array[]} */ parts) => parts.reduce((sum, part) =>
 let compiled = null;
 
 /** The module, compiled once. */
-function load() {
+export function load() {
   compiled ??= compile();
   compiled.catch(() => { compiled = null; }); // it may be there the next time
   return compiled;

@@ -4,7 +4,7 @@ import { contents, isName } from './entries.mjs';
 import { boundsOf } from './linedefs.mjs';
 import { Lines, linesOf } from './lines.mjs';
 import { read } from './picture.mjs';
-import { drawPicture, listLinedefs, runWadlens, runWadlook } from './wad_page.mjs';
+import { drawPicture, listLinedefs, load, runWadlens, runWadlook } from './wad_page.mjs';
 import { filesIn } from './zip.mjs';
 
 /** @typedef {import('./wad_page.mjs').Ended} Ended */
@@ -181,6 +181,9 @@ function judgedOf({ bytes, ends }) {
 // Jobs -------------------------------------------------------------------------------------------------------------------------
 
 const jobs = {
+  /** Loads the engine before it is asked. */
+  ready: async () => { await load(); },
+
   /** The files of an archive. @param {{ file: File }} asked */
   unpack: ({ file }) => filesIn(file, file.name),
 

@@ -5,6 +5,7 @@ import { numbersOf } from './shown_linedefs.mjs';
 /** @typedef {import('../wad_page.mjs').LensQuestion} LensQuestion */
 /** @typedef {import('../wad_page.mjs').DrawQuestion} DrawQuestion */
 
+export const load = async () => {};
 export const canRun = () => WebAssembly.validate(new Uint8Array([0, 0x61, 0x73, 0x6d, 1, 0, 0, 0]));
 
 /**

@@ -1,7 +1,6 @@
 // The cases of the page: see `page`, which runs this.
 import { rmSync, writeFileSync } from 'node:fs';
 import { join } from 'node:path';
-import { pathToFileURL } from 'node:url';
 import { wait } from './browser.mjs';
 import { measure } from './measure.mjs';
 import { contrast, keys, labels, phone } from './page_access.mjs';
@@ -10,6 +9,7 @@ import { follows } from './page_follow.mjs';
 import { games } from './page_games.mjs';
 import { layout } from './page_layout.mjs';
 import { mapper } from './page_mapper.mjs';
+import { offlines, unserved } from './page_offline.mjs';
 import {
   browser, built, check, drawn, drawnAnew, dropRooms, filterBy, fresh, hasInk, isHidden, isNative, judged, legend, options, pick, pictures, pinAt,
   pinBy, placeOf, pointTold, printed, programs, room, roomsFile, root, saved, server, textOf, textsOf, twoRooms, valueOf, viewOf,
@@ -604,20 +604,6 @@ async function unable() {
   await browser.send('Page.removeScriptToEvaluateOnNewDocument', { identifier });
 }
 
-/** Opened as a file, where none of its scripts is loaded, the page says so. */
-async function unserved() {
-  const [asked, complained] = [browser.requests.length, browser.complaints.length];
-  await browser.send('Page.navigate', { url: pathToFileURL(join(root, 'web/index.html')).href });
-  await browser.until("document.querySelector('.unserved')?.checkVisibility({ visibilityProperty: true })", 'the word on a file');
-  check('a page that is opened as a file', (await textOf('.unserved')).startsWith("Opened as a file this page can't start"), true);
-  await fresh();
-  await wait(3500);
-  check('and one that is served', await browser.run("document.querySelector('.unserved').checkVisibility({ visibilityProperty: true })"), false);
-  const keepServed = (/** @type {string[]} */ told, /** @type {number} */ from) => told.splice(from, Infinity, ...told.slice(from).filter((one) => !one.includes('file:')));
-  keepServed(browser.requests, asked);
-  keepServed(browser.complaints, complained);
-}
-
 /** Without its module the page says that it isn't there. */
 async function engineless() {
   const bare = await serve(join(root, 'web'), room), before = browser.complaints.length;
@@ -645,6 +631,7 @@ async function anyHost() {
   }
 }
 const hosts = [server.address];
+const offline = () => offlines(hosts);
 
 /** What the page's own policy refuses. */
 async function policy() {
@@ -670,7 +657,7 @@ try {
   if (isThere) await withoutHandles();
   const all = [drops, follows, files, levels, picture, point, moves, finer, findings, reading, early, late, edge, unknown, warnings, games, mapper, faults,
     undrawn, demos, saves, markup, hostile, manyFindings, large, stop, stopAll, refusals, wide, contrast, labels, keys, phone, layout, unable, unserved,
-    engineless, anyHost, alone, policy];
+    offline, engineless, anyHost, alone, policy];
   const only = valueOf('--only').split(',');
   for (const one of all.filter(({ name }) => isThere && (!only[0] || only.includes(name)))) {
     at = one.name;

@@ -6,7 +6,7 @@ import { basename, extname, join, normalize } from 'node:path';
 import { isLens, pathsOf } from './asked.mjs';
 
 const TYPES = /** @type {Record<string, string>} */ ({
-  '.html': 'text/html', '.css': 'text/css', '.mjs': 'text/javascript', '.svg': 'image/svg+xml',
+  '.html': 'text/html', '.css': 'text/css', '.mjs': 'text/javascript', '.svg': 'image/svg+xml', '.json': 'application/json', '.txt': 'text/plain',
 });
 
 /** What stands beside the page's files in the engine's place. */

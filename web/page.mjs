@@ -3,12 +3,14 @@ import { meaningOf } from './codes.mjs';
 import { DemoTable } from './demo_table.mjs';
 import { Follower, stampOf } from './follow.mjs';
 import { apart, gameOf } from './games.mjs';
+import { themeNow } from './inks.mjs';
 import { LevelView } from './level_view.mjs';
 import { Lines } from './lines.mjs';
 import { ListBox } from './list.mjs';
 import { forget, tell } from './notices.mjs';
 import { Questions, Stopped } from './questions.mjs';
 import { make } from './rows.mjs';
+import { savedPicture } from './saved_picture.mjs';
 import { droppedFiles, pickedOf, refusal, takeApart } from './sources.mjs';
 import { canRun } from './wad_page.mjs';
 import { field, get, helpOf, isNarrow, notJudged, pane, plural, say, sizeOf, verdict, wordsOf } from './words.mjs';
@@ -514,7 +516,7 @@ const saves = {
     const { asked } = view; // another may be shown when the answer is there
     if (asked) save(await desk.ask('cut', asked), `${asked.name}.wad`, 'application/octet-stream');
   },
-  'save-svg': () => view.svg && save(view.svg, `${view.asked?.name}.svg`, 'image/svg+xml'),
+  'save-svg': () => view.svg && save(savedPicture(view.svg, themeNow(), view.map.places), `${view.asked?.name}.svg`, 'image/svg+xml'),
   'save-report': async (f) => save(await judge.ask('report', { ...asking(f), path: pathOf(f) }, `Checking ${f.file.name}`), `${f.file.name}.txt`, 'text/plain'),
   'save-json': (f) => f.survey && save(f.survey.bytes, `${f.file.name}.jsonl`, 'application/jsonl'),
 };

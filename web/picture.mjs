@@ -16,6 +16,9 @@ export const CLASSES = /** @type {const} */ (['start', 'monster', 'weapon', 'key
 /** How many numbers `things` has of each. */
 export const THING = 4;
 
+/** The light of a sector, from 0 to 1, by the grey that the engine gives its cells. @param {number} grey from 40 to 180 */
+export const lightOf = (grey) => Math.max(0, Math.min(1, (grey - 40) / 140));
+
 /** The most cells that are read: `--cells` is at most 1024. */
 const MOST_CELLS = 1 << 21;
 const NAMES = /** @type {Record<string, string>} */ ({ amp: '&', lt: '<', gt: '>', quot: '"' });
@@ -77,7 +80,7 @@ function addPath(picture, line) {
  */
 function addCells(picture, path, title, grey) {
   const { columns, rows, cells, shown } = picture;
-  shown.push({ sector: Number(/^sector (\d+)/.exec(title)?.[1] ?? -1), light: Math.max(0, Math.min(1, (grey - 40) / 140)), title });
+  shown.push({ sector: Number(/^sector (\d+)/.exec(title)?.[1] ?? -1), light: lightOf(grey), title });
   for (const [, i, j, n, k] of path.matchAll(/M(\d+) (\d+)h(\d+)v(\d+)/g)) {
     const end = Math.min(columns, Number(i) + Number(n)), top = Math.min(rows, Number(j) + Number(k));
     for (let row = Number(j); row < top; row++) cells.fill(shown.length, row * columns + Number(i), row * columns + end);

@@ -10,6 +10,7 @@ import { games } from './page_games.mjs';
 import { layout } from './page_layout.mjs';
 import { mapper } from './page_mapper.mjs';
 import { offlines, unserved } from './page_offline.mjs';
+import { savedPictures } from './page_saved.mjs';
 import {
   browser, built, check, drawn, drawnAnew, dropRooms, filterBy, fresh, hasInk, isHidden, isNative, judged, legend, options, pick, pictures, pinAt,
   pinBy, placeOf, pointTold, printed, programs, room, roomsFile, root, saved, server, textOf, textsOf, twoRooms, valueOf, viewOf,
@@ -403,7 +404,6 @@ async function saves() {
   check('the saved level is the program\'s', await saved('pwad', 'MAP01.wad'), printed(['extract', 'MAP01', 'f'], twoRooms).toString('latin1'));
   check('the saved report', await saved('report', 'rooms.wad.txt'), printed(['check', '--map', '--max', '0', 'rooms.wad'], twoRooms).toString('latin1'));
   check('the saved survey', await saved('json', 'rooms.wad.jsonl'), printed(['survey', '--map', 'rooms.wad'], twoRooms).toString('latin1'));
-  check('the saved picture', await saved('svg', 'MAP01.svg'), printed(['picture', '--cells', '512', 'MAP01', 'f'], twoRooms).toString('latin1'));
   await withhold('cut');
   await browser.press('#save-pwad');
   await pick('levels', 'MAP02');
@@ -656,8 +656,8 @@ let at = 'the start';
 try {
   if (isThere) await withoutHandles();
   const all = [drops, follows, files, levels, picture, point, moves, finer, findings, reading, early, late, edge, unknown, warnings, games, mapper, faults,
-    undrawn, demos, saves, markup, hostile, manyFindings, large, stop, stopAll, refusals, wide, contrast, labels, keys, phone, layout, unable, unserved,
-    offline, engineless, anyHost, alone, policy];
+    undrawn, demos, saves, savedPictures, markup, hostile, manyFindings, large, stop, stopAll, refusals, wide, contrast, labels, keys, phone, layout, unable,
+    unserved, offline, engineless, anyHost, alone, policy];
   const only = valueOf('--only').split(',');
   for (const one of all.filter(({ name }) => isThere && (!only[0] || only.includes(name)))) {
     at = one.name;

@@ -1,5 +1,5 @@
 // What the cases of the page stand on: the page in a browser, and what a person sees and does there.
-import { existsSync, mkdirSync, mkdtempSync, readFileSync, statSync, writeFileSync } from 'node:fs';
+import { existsSync, mkdirSync, mkdtempSync, readFileSync, rmSync, statSync, writeFileSync } from 'node:fs';
 import { tmpdir } from 'node:os';
 import { join } from 'node:path';
 import { built, check, programs, root } from '../../tests/harness.mjs';
@@ -63,6 +63,8 @@ export const written = (name, body) => {
   writeFileSync(join(room, name), body);
   return join(room, name);
 };
+/** Takes a file away that was saved before. @param {string} name */
+export const rm = (name) => rmSync(join(room, name), { force: true });
 /** What a program prints of a file, or of several. @param {string[]} words @param {Buffer | Buffer[]} files @param {string} [input] */
 export const printed = (words, files, input = '') => runProgram(programs, room, words, [files].flat(), Buffer.from(input)).answer;
 /** The place on the screen of a place of the map. @param {number} x @param {number} y @returns {Promise<[number, number]>} */

@@ -1,7 +1,10 @@
 // A demo's commands as a table.
+import { buttonsOf, turnOf } from './demo_words.mjs';
 import { make, Rows } from './rows.mjs';
 
-const COLUMNS = ['tic', 'player', 'forward', 'side', 'turn', 'buttons'];
+/** The columns, and what a sign means in them. */
+const COLUMNS = [['tic', ''], ['player', ''], ['forward', '+ forward, - back'], ['side', '+ right, - left'], ['turn', '+ left, - right'], ['buttons', '']];
+const TURN = 4, BUTTONS = 5;
 
 /** @param {string} tag @param {string} role @param {string} text @param {string} [name] */
 function cell(tag, role, text, name) {
@@ -13,7 +16,11 @@ function cell(tag, role, text, name) {
 export class DemoTable {
   /** @param {HTMLElement} viewport the part that scrolls */
   constructor(viewport) {
-    const head = make('div', 'cells-head', ...COLUMNS.map((name) => cell('span', 'columnheader', name)));
+    const head = make('div', 'cells-head', ...COLUMNS.map(([name, signs]) => {
+      const title = cell('span', 'columnheader', name);
+      title.title = signs;
+      return title;
+    }));
     head.setAttribute('role', 'row');
     const body = make('div', 'cells');
     body.setAttribute('role', 'rowgroup');
@@ -23,6 +30,7 @@ export class DemoTable {
     this.viewport = viewport;
     /** @type {import('./lines.mjs').Lines | null} */
     this.lines = null;
+    this.version = 0;
     this.rows = new Rows(viewport, body, (k) => this.#row(k));
   }
 
@@ -32,6 +40,7 @@ export class DemoTable {
    */
   show(lines) {
     this.lines = lines;
+    this.version = Number(/ version (\d+)/.exec(lines?.at(0) ?? '')?.[1] ?? 0);
     const count = lines ? Math.max(0, lines.count - 2) : 0;
     this.viewport.setAttribute('aria-rowcount', String(count + 1));
     this.rows.show(count);
@@ -58,7 +67,10 @@ export class DemoTable {
   /** @param {number} k */
   #row(k) {
     const row = make('div', 'cells-row');
-    this.#line(k).split(' ').forEach((word, column) => row.append(cell('span', 'cell', word, column > 1 && /^0+$/.test(word) ? 'nil' : '')));
+    this.#line(k).split(' ').forEach((word, column) => {
+      const told = column === TURN ? turnOf(Number(word), this.version) : column === BUTTONS ? buttonsOf(parseInt(word, 16)) || '–' : word;
+      row.append(cell('span', 'cell', told, column > 1 && /^(0|–)$/.test(told) ? 'nil' : ''));
+    });
     row.setAttribute('role', 'row');
     row.setAttribute('aria-rowindex', String(k + 2));
     return row;

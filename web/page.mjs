@@ -1,6 +1,7 @@
 // The page: which files are open, which level or demo is shown, and how the parts tell one another.
 import { meaningOf } from './codes.mjs';
 import { DemoTable } from './demo_table.mjs';
+import { demoLine } from './demo_words.mjs';
 import { Follower, stampOf } from './follow.mjs';
 import { apart, gameOf } from './games.mjs';
 import { themeNow } from './inks.mjs';
@@ -481,7 +482,7 @@ async function chooseDemo(k) {
   table.show(null);
   const told = await desk.ask('demo', { ...asking(f), at: Number(at), size: Number(size) }, `Reading ${name}`).catch((error) => ({ refused: wordsOf(error) }));
   if (state.of !== f || state.shown >= 0 || demoShown !== k) return;
-  get('told').textContent = told.refused ? `refused: ${told.refused}` : told.line;
+  get('told').textContent = told.refused ? `refused: ${told.refused}` : demoLine(told.line, f.heads.count ? f.heads.at(0).split(' ')[3] : '');
   get('told').className = told.refused ? 'fault' : '';
   table.show(told.listing ? new Lines(told.listing) : null);
 }

@@ -386,16 +386,39 @@ async function demos() {
   await dropRooms();
   await answering('a demo of 10000 tics, to its table', () => browser.press('#demos .row'), "document.querySelectorAll('.cells-row').length > 0");
   await browser.until("document.querySelector('#told').textContent", 'the line of the demo');
-  check('a demo in one line', await textOf('#told'), 'version 109, skill 2, episode 1, map 4, 1 player, 10000 tics, 4:45.71');
+  check('a demo in one line', await textOf('#told'), 'version 109, Hurt me plenty (skill 3), MAP04, 1 player, 10000 tics, 4:45.71');
   check('only rows in view are made', await browser.run("document.querySelectorAll('.cells-row').length < 80"), true);
   check('of all its commands', await browser.run("document.querySelector('#commands').getAttribute('aria-rowcount')"), '10001');
   await browser.run("{ document.querySelector('#tic').value = '9000'; }");
   await answering('a tic of it', () => browser.press('#tic-form button'), "[...document.querySelectorAll('.cells-row')].some((row) => row.firstChild.textContent === '9000')");
   check('a command', await browser.run("[...document.querySelectorAll('.cells-row')].find((row) => row.firstChild.textContent === '9000').innerText.split(/\\s+/)"),
-    ['9000', '1', '50', '0', '0', '00']);
+    ['9000', '1', '50', '0', '0', '–']);
+  await spoken();
   await pick('levels', 'MAP01');
   await drawn('MAP01');
   check('back to the level', await isHidden('#demo'), true);
+}
+
+/** A demo as players name it: by the levels of its file, or by both names; turns with a sign, and buttons by name. */
+async function spoken() {
+  const table = () => browser.run("[...document.querySelectorAll('.cells-row')].slice(0, 8).map((row) => [...row.children].slice(4).map((e) => e.textContent).join(' '))");
+  const listed = (/** @type {string} */ name) => browser.until(`document.querySelector('#title').textContent === '${name}' && document.querySelector('.cells-row')`, name);
+  const commands = [[50, 0, 254, 0x81], [50, 0, 128, 0x82 + (3 << 2)], [206, 0, 127, 3], [0, 0, 0, 4 + (6 << 3)], [0, 0, 1, 1 + 4], [0, 24, 0, 0]];
+  const walk = Buffer.from([109, 4, 1, 9, 0, 0, 0, 0, 0, 1, 0, 0, 0, ...commands.flat(), 128]);
+  const long = Buffer.from([111, 0, 2, 3, 0, 0, 0, 0, 0, 1, 0, 0, 0, 50, 0, 0x00, 0xff, 0, 50, 0, 0x01, 0x02, 2, 128]);
+  await browser.drop(written('spoken.lmp', walk));
+  await listed('spoken.lmp');
+  check('a demo beside no level has both names of its map', await textOf('#told'), 'version 109, Nightmare! (skill 5), E1M9 or MAP09, 1 player, 6 tics, 0:00.17');
+  check('turns have a sign, and buttons names', await table(), ['-2 pause', '-128 save, slot 4', '+127 attack, use', '0 BFG 9000', '+1 attack, fist', '0 –']);
+  check('what a sign means is told', await browser.run("[...document.querySelectorAll('.cells-head span')].map((e) => e.title).filter(Boolean)"),
+    ['+ forward, - back', '+ right, - left', '+ left, - right']);
+  check('the table has the width of its part', await browser.run("(() => { const [row, part] = ['.cells-row', '#commands'].map((s) => document.querySelector(s)); return part.clientWidth - row.lastChild.getBoundingClientRect().right + part.getBoundingClientRect().left < 40; })()"), true);
+  await browser.drop(written('long.lmp', long));
+  await listed('long.lmp');
+  check('turns of two bytes, and a later episode', [(await textOf('#told')).split(', ').slice(1, 3), (await table()).slice(0, 2)],
+    [["I'm too young to die (skill 1)", 'E2M3'], ['-256 –', '+513 use']]);
+  await pick('files', 'rooms.wad');
+  await drawn('MAP01');
 }
 
 async function saves() {

@@ -2,7 +2,7 @@
 import { spawn, spawnSync } from 'node:child_process';
 import { existsSync, mkdirSync, readFileSync, rmSync, statSync, writeFileSync } from 'node:fs';
 import { createServer } from 'node:http';
-import { basename, extname, join, normalize } from 'node:path';
+import { dirname, extname, join, normalize } from 'node:path';
 import { isLens, pathsOf } from './asked.mjs';
 
 const TYPES = /** @type {Record<string, string>} */ ({
@@ -22,9 +22,12 @@ const NATIVE = /** @type {Record<string, string>} */ ({ 'wad_page.mjs': 'native_
 export function runProgram({ wadlook, wadlens }, room, words, files, input) {
   const paths = pathsOf(words, files.length), folder = join(room, 'run');
   mkdirSync(folder, { recursive: true });
-  paths.forEach((path, k) => writeFileSync(join(folder, basename(path)), files[k]));
+  paths.forEach((path, k) => {
+    mkdirSync(join(folder, dirname(path)), { recursive: true }); // a member of an archive stands below the archive's name
+    writeFileSync(join(folder, path), files[k]);
+  });
   const ran = spawnSync(isLens(words) ? wadlens : wadlook, words, { cwd: folder, input, maxBuffer: 1 << 30 });
-  paths.forEach((path) => rmSync(join(folder, basename(path)), { force: true }));
+  rmSync(folder, { recursive: true, force: true });
   return { status: ran.status ?? 3, answer: ran.stdout, refused: ran.stderr.toString().replace(/^refused: /, '').trimEnd() };
 }
 

@@ -76,6 +76,13 @@ cases_of_paths() {
     says 'a path with what JSON escapes' 0 "$(sound 'a\\"b\\\\c\\u001f.wad' E1M1 0)" '' survey $'a"b\\c\x1f.wad'
     cp base.wad ü.wad
     says 'a path with a line break' 0 "$(sound 'two\\u000alines.wad' E1M1 0)" '' survey $'two\nlines.wad'
+    # A copy of another level lies under the path without its last byte.
+    cp base.wad 'blank.wad '
+    cp base.wad $'blank.wad\t'
+    cp faulty.wad blank.wad
+    says 'a path that ends in a blank' 0 "$(sound 'blank.wad ' E1M1 0)" '' survey 'blank.wad '
+    says 'a path that ends in a tab' 0 "$(sound 'blank.wad\\u0009' E1M1 0)" '' survey $'blank.wad\t'
+    says_on 'a path of a list that ends in a blank' 'blank.wad \n' 0 "$(sound 'blank.wad ' E1M1 0)" '' survey --files-from -
     says 'a path that is not ASCII' 0 "$(sound 'ü.wad' E1M1 0)" '' survey ü.wad
 }
 

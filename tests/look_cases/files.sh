@@ -49,6 +49,11 @@ cases_of_files() {
     refuses 'an unreadable file before a faulty first one' 'file 3: read' points E1M1 none.wad base.wad folder
     refuses 'a file that is not there, before a NAME that is not there' 'file 1: read' points E2M9 no.wad
     prints 'a file from a pipe' 'file 1 PWAD 0\n' lumps <(cat empty.wad)
+    # A file of other bytes lies under the path without its last byte.
+    cp empty.wad 'base.wad '
+    cp empty.wad $'base.wad\t'
+    prints 'a path that ends in a blank' 'file 1 PWAD 0\n' lumps 'base.wad '
+    prints 'a path that ends in a tab' 'file 1 PWAD 0\n' lumps $'base.wad\t'
     local size fault said cuts=''
     : >output
     for ((size = 0; size < 409; size++)); do
@@ -137,6 +142,7 @@ cases_of_ends() {
     cannot_write 'points' '0 5\n' points E1M1 base.wad
     answers 'line_forms: no input' '' '' points E1M1 base.wad
     stops 'an input that cannot be read' '' read points E1M1 base.wad <folder
+    cases_of_a_write_that_fails_once
     refuses 'an input is left where the file is refused' 'file 1: 1 short' points E1M1 none.wad
     refuses 'an input is left where the NAME is not there' '8 no label' points E2M9 base.wad
 
@@ -175,6 +181,20 @@ cases_of_ends() {
     cat <&9 >left
     exec 9<&-
     judge 'answers in a pipe' 0 '1 5 sector 0 ssector 0;;0 5 sector 1 ssector 1;' '' ''
+}
+
+# The answers are flushed before the second read. If that write fails, the run ends with it, though the next write would go.
+cases_of_a_write_that_fails_once() {
+    local compiler=${CC:-cc}
+    wants "$compiler" 'a write that fails once' || return
+    check 'what fails a write' "$compiler" -O2 -shared -fPIC -o failing.so "$root/tests/failing_write.c"
+    printf '0 5\n1 5\n' >input
+    timeout 60 env LD_PRELOAD="$PWD/failing.so" FAILING=1 "$program" points E1M1 base.wad <input >output 2>error
+    printf '%s' $? >status
+    # What the buffer still had may come behind it.
+    : >output
+    : >left
+    judge 'a write before a read that fails once' 2 '' 'refused: write\n' ''
 }
 
 # listing FILE FIRST: what `lumps` tells of the sample as file FILE, with entries from FIRST.

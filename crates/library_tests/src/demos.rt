@@ -1,11 +1,11 @@
-//! Demos written.
+//! Demos written, and refused by their headers.
 
 ghost use Rattle.std.specs.Prelude.{◌≡◌, ◌<◌, ◌≤◌, All};
 ghost use Rattle.demo_lump.specs.Header.{players_in};
 ghost use Rattle.demo_lump.specs.Writable.{IsWritable};
 
 use crate::compare::{check_bytes, check_same};
-use demo_lump::{Command, Demo, Header, write_demo};
+use demo_lump::{Command, Demo, DemoFault, Header, write_demo};
 use std::process::Abort;
 use std::test::Fail;
 use test_refusals::Refusing;
@@ -113,6 +113,25 @@ const THREE_OF_TWO: [u8; 27] = [
 fn demo_two_players(rt: HostRuntime) {
     check_same(&rt, counts_of(&rt, &TWO_PLAYERS), [2, 1, 0, 1]);
     check_same(&rt, counts_of(&rt, &THREE_OF_TWO), [3, 1, 1, 1]);
+}
+
+// A demo without commands of version 108, and one of no player.
+const OF_108: [u8; 14] = [108, 3, 1, 1, 0, 0, 0, 0, 0, 1, 0, 0, 0, 128];
+
+const OF_NOBODY: [u8; 14] = [109, 3, 1, 1, 0, 0, 0, 0, 0, 0, 0, 0, 0, 128];
+
+// Why the bytes are no demo.
+fn check_refused(rt: &impl Abort, bytes: &[u8], expected: DemoFault) {
+    check_same(rt, Demo::read(bytes).err(), Some(expected));
+}
+
+// The version is looked at before the players are.
+#[test]
+fn demo_refused_by_its_header(rt: HostRuntime) {
+    check_refused(&rt, &OF_108, DemoFault::Version(108));
+    check_refused(&rt, &OF_108[..1], DemoFault::Version(108));
+    check_refused(&rt, &OF_NOBODY, DemoFault::NoPlayers);
+    check_refused(&rt, &OF_NOBODY[..12], DemoFault::ShortHeader);
 }
 
 // Compares a command of a demo with what is expected.

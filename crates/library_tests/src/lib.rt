@@ -32,4 +32,6 @@ mod streamed_demos;
 #[cfg(test)]
 mod text_lines;
 #[cfg(test)]
+mod tied_ends;
+#[cfg(test)]
 mod writers;

@@ -7,11 +7,21 @@ use std::io;
 use std::io::Write;
 use std::process::Abort;
 
-// Its first write fails, and each later one takes all.
+/// A writer whose first write fails, and each later one takes all.
 #[derive(Drop)]
-struct FailsOnce {
+pub(crate) struct FailsOnce {
     kind: io::ErrorKind,
     has_failed: bool,
+}
+
+impl FailsOnce {
+    /// One whose first write fails with an error of this kind.
+    pub(crate) fn new(kind: io::ErrorKind) -> FailsOnce {
+        FailsOnce {
+            kind,
+            has_failed: false,
+        }
+    }
 }
 
 impl Write for FailsOnce {
@@ -47,10 +57,7 @@ fn a_writer_that_takes_none_has_failed(rt: HostRuntime) {
 
 // A writer whose first write fails is written to once for the put that fails.
 fn check_failed_put(rt: &impl Abort, kind: io::ErrorKind) {
-    let mut sink = ToWrite::new(FailsOnce {
-        kind,
-        has_failed: false,
-    });
+    let mut sink = ToWrite::new(FailsOnce::new(kind));
     assert!(rt; !sink.failed());
     check_put(rt, &mut sink, b"0 5", Err(EndFault));
     assert!(rt; sink.failed());

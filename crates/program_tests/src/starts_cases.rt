@@ -1,10 +1,11 @@
-//! Where the sample level starts, and that none does behind it.
+//! Where the sample level starts, that none does behind it, and what its label's holder takes.
 
 use crate::compare::check_same;
-use crate::sample::base;
-use level_starts::{Format, LevelStarts, format_of, next_start};
+use crate::sample::{Lump, base, lumps, pack_both};
+use level_starts::{Format, Holders, LevelStarts, format_of, next_start};
 use map_level::{Level, Reading};
 use std::process::Abort;
+use test_refusals::Refusing;
 use wad_dir::Set;
 
 // The first start from an entry on, and its format.
@@ -61,4 +62,36 @@ fn start_of_the_sample(rt: HostRuntime) {
     check_none_from(&rt, &file, 11);
     check_none_from(&rt, &file, usize::MAX);
     check_label(&rt, &file);
+}
+
+// Lumps of as many other names.
+const OTHERS: [Lump<'static>; 12] = [
+    (b"A", &[]),
+    (b"B", &[]),
+    (b"C", &[]),
+    (b"D", &[]),
+    (b"E", &[]),
+    (b"F", &[]),
+    (b"G", &[]),
+    (b"H", &[]),
+    (b"I", &[]),
+    (b"J", &[]),
+    (b"K", &[]),
+    (b"L", &[]),
+];
+
+// Whether the holders of a set's labels ask for growth `n`.
+fn ask_for(rt: &(impl Abort + AllocGlobal), set: &Set<'_>, n: u64) -> bool {
+    let heap = Refusing::new(rt.alloc(), n);
+    assert!(rt; Holders::of(&heap, set).is_err() == heap.has_refused());
+    heap.has_refused()
+}
+
+// One label takes one growth. The names of all 23 entries would take several.
+#[test]
+fn holder_of_one_label(rt: HostRuntime) {
+    let file = pack_both(&rt, &lumps(), &OTHERS);
+    let set = Set::one(rt.alloc(), &file).expect(&rt, "a set of the file");
+    assert!(rt; ask_for(&rt, &set, 1));
+    assert!(rt; !ask_for(&rt, &set, 2));
 }

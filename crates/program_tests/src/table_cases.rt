@@ -1,7 +1,7 @@
-//! Findings on REJECT and BLOCKMAP, with each growth refused in turn.
+//! Findings on REJECT and BLOCKMAP, also with each growth refused in turn.
 
 use crate::compare::check_same;
-use crate::findings::finding;
+use crate::findings::{check_list, finding};
 use crate::opening::level_of;
 use crate::sample::{LINE_WITHOUT_SIDE_1, base, base_not_reached, base_with};
 use map_level::{Code, Finding, Level};
@@ -10,6 +10,8 @@ use std::process::Abort;
 use test_refusals::Refusing;
 
 const REJECT: usize = 9;
+
+const BLOCKMAP: usize = 10;
 
 // Whether the findings of the level met growth `n` refused; else they are these.
 fn is_refused(
@@ -38,6 +40,21 @@ fn check_growths(
     assert!(rt; is_refused(rt, &level, 0, expected) == refused[0]);
     assert!(rt; is_refused(rt, &level, 1, expected) == refused[1]);
     assert!(rt; is_refused(rt, &level, 2, expected) == refused[2]);
+}
+
+// A BLOCKMAP of two blocks with a word for the first one's offset, which is past its words.
+const ONE_OFFSET: [u8; 10] = [248, 255, 248, 255, 1, 0, 2, 0, 7, 0];
+
+#[test]
+fn findings_of_both_tables(rt: HostRuntime) {
+    let file = base_with(&rt, &[(REJECT, &[]), (BLOCKMAP, &ONE_OFFSET)]);
+    let found = table_findings(rt.alloc(), &level_of(&rt, &file));
+    let expected = [(Code::N8, 0), (Code::N9, 0), (Code::N10, 0)];
+    check_list(
+        &rt,
+        &found.expect(&rt, "no memory for the findings"),
+        &expected,
+    );
 }
 
 #[test]

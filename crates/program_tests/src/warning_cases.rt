@@ -5,7 +5,7 @@ use crate::compare::check_same;
 use crate::growth_end::GrowthEnd;
 use crate::line_levels::{Ends, base_with_lines, round, round_and};
 use crate::opening::level_of;
-use crate::sample::{base, base_with, lumps, pack_both};
+use crate::sample::{base, base_with, lumps, pack, pack_both};
 use le_rec::Name8;
 use level_codes::WarningCode;
 use map_level::{Level, Reading};
@@ -258,6 +258,40 @@ fn resources(rt: HostRuntime) {
     let without = pack_both(&rt, &level, &[]);
     check_in_file(&rt, &without, WarningCode::W9, NOTHING);
     check_in_file(&rt, &without, WarningCode::W10, NOTHING);
+}
+
+// A TEXTURE1 or TEXTURE2 with two textures of one name.
+const TWICE_STONE: [u8; 20] = [
+    2, 0, 0, 0, 12, 0, 0, 0, 12, 0, 0, 0, 83, 84, 79, 78, 69, 0, 0, 0,
+];
+
+// Whether there is memory for what a file lists.
+fn has_room<A: Allocator + Copy>(alloc: A, file: &[u8]) -> bool {
+    match Set::one(alloc, file) {
+        Ok(set) => Resources::of(alloc, &set).is_ok(),
+        Err(_) => false,
+    }
+}
+
+// Whether what a file lists asks for growth `n`. Growth 1 is its directory's.
+fn asks_for(rt: &(impl Abort + AllocGlobal), file: &[u8], n: u64) -> bool {
+    let heap = Refusing::new(rt.alloc(), n);
+    assert!(rt; has_room(&heap, file) != heap.has_refused());
+    heap.has_refused()
+}
+
+// Four names fill the memory of one growth, so each lump is listed once. One that isn't there takes none.
+#[test]
+fn textures_are_listed_once(rt: HostRuntime) {
+    let both = pack(
+        &rt,
+        &[(b"TEXTURE1", &TWICE_STONE), (b"TEXTURE2", &TWICE_STONE)],
+    );
+    assert!(rt; asks_for(&rt, &both, 2));
+    assert!(rt; !asks_for(&rt, &both, 3));
+    let first = pack(&rt, &[(b"TEXTURE1", &TWICE_STONE)]);
+    assert!(rt; asks_for(&rt, &first, 2));
+    assert!(rt; !asks_for(&rt, &first, 3));
 }
 
 // Whether a level could be looked over with growth `n` refused. Then its soundness is right.

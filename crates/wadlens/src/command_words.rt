@@ -24,12 +24,7 @@ pub fn commands<'a>(alloc: Global) -> Result<Vec<Command<'a>>, AllocError> {
 /// The command of this name with its arguments; for a name that is no other's, `assemble`.
 pub fn command_named<'a>(alloc: Global, name: &str) -> Result<Command<'a>, AllocError> {
     match name {
-        "check" => command_of(
-            alloc,
-            "check",
-            "Report what is wrong with each level, a line for each finding",
-            &[CHECK, IGNORE, FAIL, JUDGING, FILES],
-        ),
+        "check" => check_command(alloc),
         "survey" => command_of(
             alloc,
             "survey",
@@ -81,6 +76,17 @@ pub fn command_named<'a>(alloc: Global, name: &str) -> Result<Command<'a>, Alloc
     }
 }
 
+// The command `check`. Its help ends with the codes and the statuses.
+fn check_command<'a>(alloc: Global) -> Result<Command<'a>, AllocError> {
+    let command = command_of(
+        alloc,
+        "check",
+        "Report what is wrong with each level, a line for each finding",
+        &[CHECK, IGNORE, FAIL, JUDGING, FILES],
+    )?;
+    Ok(command.after_help(CODES_AND_STATUSES))
+}
+
 // A command of this name, with what it does and the arguments of all rows.
 fn command_of<'a>(
     alloc: Global,
@@ -108,6 +114,15 @@ fn add_args<'a>(alloc: Global, rows: &[ArgRow], args: &mut Vec<Arg<'a>>) -> Resu
     }
     Ok(())
 }
+
+// What the help of `check` ends with.
+const CODES_AND_STATUSES: &str =
+    "F1 to F18 are faults, N1 to N12 notes, and W1 to W11 warnings, which --map asks for.\n\
+     `wadlens explain CODE` says what a code means, and `wadlens explain` lists all.\n\
+     \n\
+     The status is 0 without a fault, 1 if a level has a fault or lacks a lump, or has what\n\
+     --strict or --fail asks for, 2 if a file or a level can't be judged or the words are wrong,\n\
+     and 3 if memory ran out.";
 
 // The arguments of `check` alone.
 const CHECK: &[ArgRow] = &[

@@ -428,7 +428,7 @@ function showLevel() {
   if (!f) return;
   const level = levelOf(f, state.shown), { level: name, entry, format } = level;
   stage('map', f, name);
-  view.show({ ...asking(f), entry, name, wantsGame: f.kind === 'PWAD' && !f.game }, format && format !== 'doom' ? notJudged(level) : '');
+  view.show({ ...asking(f), entry, name, known: f.survey && level, wantsGame: f.kind === 'PWAD' && !f.game }, format && format !== 'doom' ? notJudged(level) : '');
 }
 
 /** @param {'map' | 'demo'} which @param {OpenFile | null} f none where all are closed @param {string} name */

@@ -15,7 +15,8 @@ import { filesIn } from './zip.mjs';
 /** @typedef {{ bytes: Uint8Array, levels: Map<number, Alone> }} Held */
 /** @typedef {{ key: string, file: File }} Source  a file that the page holds, and what it is known by */
 /** @typedef {Source & { wide: boolean, game: Source | null }} Asked  `game` is the game's file on which the file stands, if it stands on one */
-/** @typedef {Asked & { entry: number, name: string }} AskedLevel */
+/** @typedef {import('./words.mjs').Level} Level */
+/** @typedef {Asked & { entry: number, name: string, known?: Level | null }} AskedLevel  `known` is what the file's survey told of the level */
 
 const MOST_BYTES = 268435456; // of a file, and of all that are held
 const MOST_ALONE = 8; // levels of a file that are kept cut out
@@ -218,12 +219,13 @@ const jobs = {
 
   /**
    * The level's object, and `check`'s; and where the vertexes and the nodes are, if N12 or F12 is found, whose objects have no place. Alone the
-   * level stands on its own file, whose textures and flats it may use, under a label that takes the place of none of their names.
+   * level stands on its own file, whose textures and flats it may use, under a label that takes the place of none of their names. Where the file
+   * was surveyed the level's object is known, and the level is judged once.
    * @param {AskedLevel & { max: number }} asked
    */
   async look(asked) {
     const file = labelled((await alone(asked)).bytes, UNFOUND), bases = [...await basesOf(asked), (await hold(asked)).bytes];
-    const level = JSON.parse(firstLine(await judge(asked, { command: 'survey' }, bases, file)));
+    const level = asked.known ?? JSON.parse(firstLine(await judge(asked, { command: 'survey' }, bases, file)));
     /** @type {Record<string, number>} */
     const counts = { ...level.findings, ...level.warnings };
     const found = asked.max ? 0 : Object.values(counts).reduce((sum, n) => sum + n, 0); // so many objects need room

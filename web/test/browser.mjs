@@ -26,6 +26,8 @@ export class Browser {
     this.complaints = [];
     /** @type {string[]} */
     this.requests = [];
+    /** @type {string[]} the sessions of the page's workers that are there, in the order in which those began */
+    this.workers = [];
     const ended = () => { for (const { no, what } of this.waiting.values()) no(new Error(`${what}: the browser ended`)); };
     this.process.once('exit', ended).once('error', ended);
     this.input.on('error', ended);
@@ -50,7 +52,10 @@ export class Browser {
     } else if (method === 'Log.entryAdded' && params.entry.level === 'error') {
       this.complaints.push(`${params.entry.text} ${params.entry.url ?? ''}`);
     } else if (method === 'Network.requestWillBeSent') this.requests.push(params.request.url);
-    else if (method === 'Target.attachedToTarget') this.#watch(params.sessionId);
+    else if (method === 'Target.attachedToTarget') {
+      if (params.targetInfo.type === 'worker') this.workers.push(params.sessionId);
+      this.#watch(params.sessionId);
+    } else if (method === 'Target.detachedFromTarget') this.workers = this.workers.filter((one) => one !== params.sessionId);
   }
 
   /** Watches what a worker asks for, too. @param {string} session */
@@ -66,12 +71,12 @@ export class Browser {
     this.input.write(`${JSON.stringify({ ...message, id })}\0`);
   }
 
-  /** @param {string} method @param {object} [params] @returns {Promise<any>} */
-  send(method, params = {}) {
+  /** @param {string} method @param {object} [params] @param {string} [sessionId] @returns {Promise<any>} */
+  send(method, params = {}, sessionId = this.session) {
     const id = this.next++;
     return new Promise((go, no) => {
       this.waiting.set(id, { go, no, what: method });
-      this.#write({ id, method, params, ...(this.session && { sessionId: this.session }) });
+      this.#write({ id, method, params, ...(sessionId && { sessionId }) });
     });
   }
 
@@ -84,9 +89,9 @@ export class Browser {
     await this.send('Target.setAutoAttach', { autoAttach: true, waitForDebuggerOnStart: true, flatten: true });
   }
 
-  /** @param {string} expression @returns {Promise<any>} */
-  async run(expression) {
-    const { result, exceptionDetails } = await this.send('Runtime.evaluate', { expression, awaitPromise: true, returnByValue: true });
+  /** @param {string} expression @param {string} [session] a worker's, where it isn't the page's @returns {Promise<any>} */
+  async run(expression, session) {
+    const { result, exceptionDetails } = await this.send('Runtime.evaluate', { expression, awaitPromise: true, returnByValue: true }, session);
     if (exceptionDetails) throw new Error(`${exceptionDetails.exception?.description ?? exceptionDetails.text} in ${expression}`);
     return result.value;
   }

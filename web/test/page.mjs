@@ -7,6 +7,7 @@ import { contrast, keys, labels, phone } from './page_access.mjs';
 import { drops } from './page_drops.mjs';
 import { follows } from './page_follow.mjs';
 import { games } from './page_games.mjs';
+import { judgings } from './page_judged.mjs';
 import { layout } from './page_layout.mjs';
 import { mapper } from './page_mapper.mjs';
 import { offlines, unserved } from './page_offline.mjs';
@@ -678,9 +679,9 @@ if (!isThere) skipped("Chromium doesn't start here", 'the page');
 let at = 'the start';
 try {
   if (isThere) await withoutHandles();
-  const all = [drops, follows, files, levels, picture, point, moves, finer, findings, reading, early, late, edge, unknown, warnings, games, mapper, faults,
-    undrawn, demos, saves, savedPictures, markup, hostile, manyFindings, large, stop, stopAll, refusals, wide, contrast, labels, keys, phone, layout, unable,
-    unserved, offline, engineless, anyHost, alone, policy];
+  const all = [drops, follows, files, levels, picture, point, moves, finer, findings, reading, early, late, edge, unknown, warnings, games, judgings, mapper,
+    faults, undrawn, demos, saves, savedPictures, markup, hostile, manyFindings, large, stop, stopAll, refusals, wide, contrast, labels, keys, phone, layout,
+    unable, unserved, offline, engineless, anyHost, alone, policy];
   const only = valueOf('--only').split(',');
   for (const one of all.filter(({ name }) => isThere && (!only[0] || only.includes(name)))) {
     at = one.name;

@@ -105,6 +105,7 @@ def script_block(rows: List[Row]) -> List[str]:
         *[f"  {row.name}: {script_string(row.meaning)}," for row in rows],
         "};",
         f"const KINDS = /** @type {{Record<string, string>}} */ ({{ {kinds} }});",
+        f"const ENDING = [{', '.join(script_string(row.name) for row in rows if row.ends_game)}];",
         "/** @type {Record<string, { text: string, parts: string[] }>} */",
         "const EXPLANATIONS = {",
         *[line for row in rows for line in script_entry(row, told[row.name])],

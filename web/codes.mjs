@@ -46,6 +46,7 @@ const MEANINGS = {
   W11: "a thing's type is none of the game's",
 };
 const KINDS = /** @type {Record<string, string>} */ ({ F: 'Fault', N: 'Note', W: 'Warning' });
+const ENDING = ['N4', 'N11', 'W9', 'W10', 'W11'];
 /** @type {Record<string, { text: string, parts: string[] }>} */
 const EXPLANATIONS = {
   F1: {
@@ -381,6 +382,12 @@ const EXPLANATIONS = {
 
 /** What a code means; nothing where it is none. @param {string} code */
 export const meaningOf = (code) => code in MEANINGS ? `${KINDS[code[0]]} ${code}: ${MEANINGS[code]}.` : '';
+
+/** What a code is: a fault, a note or a warning. @param {string} code */
+export const classOf = (code) => KINDS[code[0]]?.toLowerCase() ?? '';
+
+/** Whether the released game ends at what has this code. @param {string} code */
+export const endsGame = (code) => ENDING.includes(code);
 
 /** What a code means to a mapper: what it says, what it is, what the game does with it, and what to do; nothing where it is none. @param {string} code */
 export const explanationOf = (code) => Object.hasOwn(EXPLANATIONS, code) ? EXPLANATIONS[code] : null;

@@ -1,18 +1,18 @@
 // What `check` found, an object a line, as rows of the page.
+import { sentence } from './words.mjs';
 
 /**
  * @typedef {{ at?: number[], from?: number[], to?: number[], linedef?: number }} Place
- * @typedef {{ code?: string, kind?: string, index?: number | number[], message?: string, place?: Place, more?: number, empty?: string[] }} Told
- *   an object: a finding or a warning, how many more there are of a code, which lumps of a node builder are empty, or that the wide reading alone
- *   finds the level sound
+ * @typedef {{ code?: string, kind?: string, index?: number | number[], message?: string, place?: Place }} Told  an object: a finding or a warning
  * @typedef {{ vertex?: Int16Array, node?: Int16Array }} Spots  x y of each vertex and of each node, where an object may want them
- * @typedef {{ code: string, where: string, message: string, title: string, place: number[] | null, linedef: number, sector: number, more: number,
- *   wide: boolean }} Finding  a row: its place is x y or x y x y, or that of a linedef or a sector (else -1); its title tells no place in numbers;
- *   it stands for `more` findings, or for the wide reading
+ * @typedef {{ code: string, where: string, message: string, title: string, place: number[] | null, linedef: number, sector: number,
+ *   kind: string, index: number }} Finding  a row: its place is x y or x y x y, or that of a linedef or a sector (else -1); its title tells no place in
+ *   numbers; what it is about, by its kind and index (-1 where it has none)
  */
 
+const UNSIGNED = /\b(vertex|sidedef|sector|linedef|from) -(\d+)/g; // numbers of records, as the signed reading has them
+
 const spotWords = (/** @type {number[]} */ [x, y]) => `(${x}, ${y})`;
-const sentence = (/** @type {string} */ words) => `${words[0]?.toUpperCase() ?? ''}${words.slice(1)}`;
 
 /** A place in numbers, in words. @param {Place} place */
 function placeWords({ at, from, to }) {
@@ -35,18 +35,8 @@ function placeOf({ kind = '', index, place = {} }, spots) {
   return spot && spot.length ? [...spot] : null;
 }
 
-/** A row that leads on: to all findings of a code, or to the wide reading. @param {Told} told @returns {Finding} */
-function rowOn({ code = '', more = 0 }) {
-  return {
-    code, where: more ? `${more} more` : 'sound with --wide', place: null, linedef: -1, sector: -1, more, wide: !more, title: '',
-    message: more ? 'Choose this to list them all.' : 'Choose this to read its indexes as unsigned.',
-  };
-}
-
-/** A row that says why there are many findings: the nodes weren't built. @param {string} message @returns {Finding} */
-function rowOfEmpty(message) {
-  return { code: '', where: 'level', message: sentence(message), title: sentence(message), place: null, linedef: -1, sector: -1, more: 0, wide: false };
-}
+/** Words with no negative number of a record: tools of mappers have none. @param {string} words */
+const unsigned = (words) => words.replace(UNSIGNED, (_, what, number) => `${what} ${65536 - number}`);
 
 /**
  * A row of what was found, of a line of `check`.
@@ -54,12 +44,10 @@ function rowOfEmpty(message) {
  */
 export function findingOf(line, spots) {
   /** @type {Told} */
-  const told = JSON.parse(line), { code = '', kind, index, message = '', place = {}, empty } = told;
-  if (empty) return rowOfEmpty(message);
-  if (!kind) return rowOn(told);
-  const { linedef = -1 } = place, title = `${message}${linedef < 0 ? '' : `, of linedef ${linedef}`}`;
+  const told = JSON.parse(line), { code = '', kind = '', index, message = '', place = {} } = told, { linedef = -1 } = place;
+  const title = `${unsigned(message)}${linedef < 0 ? '' : `, of linedef ${linedef}`}`;
   return {
     code, where: whereWords(told), message: sentence(`${title}${placeWords(place)}`), title: sentence(title), place: placeOf(told, spots), linedef,
-    sector: kind === 'sector' ? Number(index) : -1, more: 0, wide: false,
+    sector: kind === 'sector' ? Number(index) : -1, kind, index: typeof index === 'number' ? index : -1,
   };
 }

@@ -1,16 +1,13 @@
 // One level: its picture, the pinned point, its findings.
 import { changesOf, placeAgain } from './changes.mjs';
-import { meaningOf } from './codes.mjs';
-import { Explained } from './explained.mjs';
-import { findingOf } from './findings.mjs';
+import { FoundList } from './found_list.mjs';
 import { lineOf } from './linedefs.mjs';
-import { ListBox } from './list.mjs';
 import { Lines } from './lines.mjs';
 import { MapView } from './map_view.mjs';
 import { tell } from './notices.mjs';
 import { Stopped } from './questions.mjs';
 import { make } from './rows.mjs';
-import { get, field, inShort, isNarrow, notJudged, pane, say, unlookedWords, verdict, wordsOf } from './words.mjs';
+import { adviceOf, get, field, inShort, isNarrow, notJudged, pane, say, unlookedWords, verdict, wordsOf } from './words.mjs';
 
 /** @typedef {import('./words.mjs').Level} Level */
 /** @typedef {import('./findings.mjs').Finding} Finding @typedef {import('./findings.mjs').Spots} Spots */
@@ -25,9 +22,8 @@ import { get, field, inShort, isNarrow, notJudged, pane, say, unlookedWords, ver
 const CELLS = 512; // of the picture of a level
 const FINE_CELLS = 1024; // and of that of a part
 const COARSE = 2.5; // pixels to a cell from which on a part is asked for in smaller ones
-const MARKED = 1000; // findings whose places are marked while none is chosen
-const MARKED_LINES = 20000; // and lines of their places, of which a sector may have many: no more of one are marked
-const COMPARED = 5000; // findings of two savings of a level
+const SLICE = 20; // ms of marking, after which the page answers
+const MARKED_LINES = 20000; // of the places of findings that are marked while none is chosen; of a sector, which may have many, no more either
 const COUNTS = /** @type {const} */ (['things', 'linedefs', 'sidedefs', 'vertexes', 'segs', 'ssectors', 'nodes', 'sectors']);
 
 /** Where each of REJECT's answers is listed. */
@@ -49,9 +45,6 @@ function taken() {
   };
 }
 
-/** The items of an empty list. @returns {never} */
-const none = () => { throw new RangeError('an empty list'); };
-
 /** Numbers in a part that scrolls; it fades below while there are more. @param {string} list */
 function numbers(list) {
   const part = make('span', 'numbers', list);
@@ -62,11 +55,15 @@ function numbers(list) {
 }
 
 export class LevelView {
-  /** @param {Questions} desk @param {Questions} finer @param {() => void} readWide called where the wide reading is chosen */
-  constructor(desk, finer, readWide) {
+  /**
+   * @param {Questions} desk @param {Questions} finer @param {() => void} readWide called where the wide reading is chosen
+   * @param {() => void} hid called where a code is hidden or shown
+   */
+  constructor(desk, finer, readWide, hid) {
     this.desk = desk;
     this.finer = finer;
-    this.readWide = readWide;
+    /** @type {Map<string, Set<string>>} codes that are hidden, by the names of files */
+    this.hidden = new Map();
     /** @type {Asked | null} */
     this.asked = null;
     /** @type {Asked | null} the level that was shown last, also where none is shown now */
@@ -79,11 +76,10 @@ export class LevelView {
     this.ends = undefined;
     this.pins = 0; // a late answer of an earlier pin is let go
     this.choices = 0; // so is the late place of an earlier finding
+    this.marking = 0; // and so are marks of earlier findings
     this.sector = -1; // of the pinned point
     /** @type {Kept | null} */
     this.kept = null; // what a level that is shown again will have in view
-    /** @type {Set<Finding>} */
-    this.fresh = new Set(); // findings that came since the level was shown before
     /** @type {Promise<unknown>} */
     this.drawing = Promise.resolve();
     this.map = new MapView(get('map'), {
@@ -94,19 +90,16 @@ export class LevelView {
       moved: (view) => this.#moved(view),
       taken,
     });
-    this.explained = new Explained(() => get('findings').focus());
-    this.findings = new ListBox(get('findings'), (/** @type {Finding} */ finding) => {
-      const message = make('span', 'row-message', finding.message);
-      message.title = finding.message; // where it is cut off
-      const code = make('span', `code${finding.code.startsWith('F') ? ' fault' : ''}`, finding.code || '–');
-      code.title = meaningOf(finding.code);
-      const name = make('span', 'row-name', finding.where, ...(this.fresh.has(finding) ? [make('span', 'fresh', 'new')] : []));
-      return [code, name, message, ...this.explained.mark(finding.code)];
-    }, (finding, k) => this.#choose(finding, k), { isButton: ({ more, wide }) => !!more || wide, describe: ({ code }) => meaningOf(code) });
-    get('findings').addEventListener('click', (event) => this.#ask(event), { capture: true });
-    get('findings').addEventListener('keydown', ({ key }) => {
-      if (key === '?' && this.findings.at >= 0) this.explained.toggle(this.findings.item(this.findings.at).code);
+    this.found = new FoundList({
+      choose: (finding) => this.#choose(finding),
+      listAll: (code, place) => this.#listAll(code, place),
+      changed: () => this.#mark(),
+      hid: () => {
+        this.#tell();
+        hid();
+      },
     });
+    get('read-wide').addEventListener('click', readWide);
     get('unpin').addEventListener('click', () => this.unpin());
     get('point-form').addEventListener('submit', (event) => {
       event.preventDefault();
@@ -141,24 +134,17 @@ export class LevelView {
     }
   }
 
-  /** Folds out what a row's code means, where its question mark was clicked: the row itself isn't chosen then. @param {MouseEvent} event */
-  #ask(event) {
-    const mark = /** @type {HTMLElement | null} */ (/** @type {Element} */ (event.target).closest('.ask'));
-    if (!mark) return;
-    event.stopPropagation();
-    this.explained.toggle(mark.dataset.code ?? '');
-  }
-
   /** What a level that is shown has; no part of it is in view where that is the whole picture. @returns {Kept} */
   #inView() {
-    const { picture, fitted, view, pinned } = this.map, findings = this.#listed();
-    return { view: picture && !fitted ? view : null, pinned, findings, chosen: findings[this.findings.at] ?? null };
+    const { picture, fitted, view, pinned } = this.map;
+    return { view: picture && !fitted ? view : null, pinned, findings: this.found.all(), chosen: this.found.chosen };
   }
 
-  /** The findings that are listed, where they are no more than can be compared. */
-  #listed() {
-    const { count, item } = this.findings;
-    return count <= COMPARED ? Array.from({ length: count }, (_, k) => item(k)) : [];
+  /** The codes that are hidden in a file. @param {string} name */
+  hiddenIn(name) {
+    const found = this.hidden.get(name) ?? new Set();
+    this.hidden.set(name, found);
+    return found;
   }
 
   /**
@@ -179,11 +165,9 @@ export class LevelView {
     get('counts').replaceChildren();
     get('told').textContent = '';
     get('told').className = '';
-    get('codes').textContent = '';
-    this.explained.hide();
-    this.findings.show(0, none);
-    this.fresh = new Set();
-    get('changes').hidden = true;
+    get('found-count').textContent = '';
+    this.found.clear();
+    for (const id of ['changes', 'advice', 'read-wide']) get(id).hidden = true;
     get('findings-none').hidden = false;
     get('findings-none').textContent = why;
     get('unlooked').hidden = true;
@@ -200,7 +184,7 @@ export class LevelView {
   /** @param {Asked} asked */
   async #look(asked) {
     const began = performance.now();
-    const { level, findings, spots } = await this.desk.ask('look', { ...asked, max: 20 }, `Judging ${asked.name}`);
+    const { level, findings, spots } = await this.desk.ask('look', asked, `Judging ${asked.name}`);
     if (this.asked !== asked) return;
     this.level = level;
     get('save-pwad').removeAttribute('disabled');
@@ -209,9 +193,8 @@ export class LevelView {
       get('findings-none').textContent = notJudged(level);
       return;
     }
-    const objects = new Lines(findings), { warnings } = JSON.parse(objects.at(objects.count - 1)); // the last has the sums
-    this.#tell(level, verdict(level, warnings));
-    this.#list(objects, spots);
+    this.#tell();
+    this.#list(new Lines(findings), spots);
     if (this.kept) this.#compare(this.kept, asked);
     const left = unlookedWords(level, asked.wantsGame);
     get('unlooked').textContent = left;
@@ -228,46 +211,51 @@ export class LevelView {
     this.map.show(picture ?? null, kept?.view);
     this.kept = null;
     this.#tellSector(); // of a point that was pinned meanwhile
-    this.#mark();
-    get('map').setAttribute('aria-label', `Map of ${asked.name}: ${verdict(level, warnings)}`);
+    get('map').setAttribute('aria-label', `Map of ${asked.name}: ${this.#verdict()}`);
     Object.assign(get('map').dataset, { drawn: asked.name, paths: picture?.paths ?? 0, ms: (performance.now() - began).toFixed(0) });
     this.#rest();
-    say(`${asked.name}${picture ? ' drawn' : ''}, ${verdict(level, warnings)}`);
+    say(`${asked.name}${picture ? ' drawn' : ''}, ${this.#verdict()}`);
     this.#linedefs(); // so that a pinned point needn't wait for them
+    this.#mark();
   }
 
-  /** @param {Level} level @param {string} found */
-  #tell(level, found) {
-    get('told').textContent = found;
+  /** What was found in the level, without what is hidden. */
+  #verdict() {
+    return this.level ? verdict(this.level, this.hiddenIn(this.asked?.file.name ?? ''), true) : '';
+  }
+
+  /** Tells the level's verdict, its counts and its codes. */
+  #tell() {
+    const { level } = this;
+    if (!level) return;
+    get('told').textContent = this.#verdict();
     get('told').className = level.sound ? '' : 'fault';
     get('counts').replaceChildren(...COUNTS.map((name) => make('div', '', make('dt', '', name), make('dd', '', String(level[name])))));
-    const codes = Object.entries({ ...level.findings, ...level.warnings });
-    get('codes').replaceChildren(...codes.flatMap(([code, n], k) => {
-      const count = this.explained.button(code, `${code} ${n}`, meaningOf(code));
-      return k ? [' · ', count] : [count];
-    }));
   }
 
-  /** @param {Lines} objects of `check`, of which the last has the sums @param {Spots} spots @param {number} [chosen] a row */
-  #list(objects, spots, chosen) {
-    const count = Math.max(0, objects.count - 1);
-    /** @type {Map<number, Finding>} */
-    const made = new Map(); // each once, so that one can be told from another
-    const item = (/** @type {number} */ k) => {
-      const finding = made.get(k) ?? findingOf(objects.at(k), spots);
-      if (count <= COMPARED) made.set(k, finding);
-      return finding;
-    };
-    this.findings.show(count, item, chosen);
-    get('findings-none').hidden = count > 0;
+  /** @param {Lines} objects of `check`, of which the last has the sums @param {Spots} spots */
+  #list(objects, spots) {
+    const { level, asked } = this;
+    if (!level || !asked) return;
+    this.found.show(objects, spots, { ...level.findings, ...level.warnings }, this.hiddenIn(asked.file.name));
+    const { unbuilt, isWide } = adviceOf(objects);
+    get('advice').textContent = [unbuilt, isWide ? 'Read with unsigned indexes, as larger levels for ports use them, its links and its nodes are whole.' : ''].filter(Boolean).join(' ');
+    get('advice').hidden = !get('advice').textContent;
+    get('read-wide').hidden = !isWide;
+    get('found-count').textContent = String(this.found.total || '');
+    get('findings-none').hidden = this.found.count > 0;
     get('findings-none').textContent = 'Nothing was found: all links and nodes hold together, and there is nothing to warn of.';
   }
 
   /** Tells what came and what went since the level was shown before, and chooses what was chosen then. @param {Kept} kept @param {Asked} asked */
   #compare({ findings, chosen }, asked) {
-    const now = this.#listed(), { came, went } = changesOf(findings, now), at = placeAgain(now, chosen);
-    if (this.asked !== asked || asked.file === this.before) return;
-    this.fresh = new Set(came);
+    const now = this.found.all(), { came, went } = changesOf(findings, now), at = placeAgain(now, chosen);
+    if (at >= 0) {
+      this.found.choose(this.found.placeOf(now[at]), true);
+      this.#placeOf(now[at]).then((place) => this.asked === asked && this.map.mark(place, true));
+    }
+    if (asked.file === this.before) return;
+    this.found.tellFresh(came);
     const time = new Date(asked.file.lastModified).toLocaleTimeString();
     get('changes-title').textContent = came.length || went.length ? `Saved at ${time}: ${came.length} came, ${went.length} went` : `Saved at ${time}: nothing came or went`;
     get('changes-list').replaceChildren(...[...came.map((one) => ['came', one]), ...went.map((one) => ['went', one])].map(([what, one]) => {
@@ -275,41 +263,26 @@ export class LevelView {
       return make('li', '', `${what}: ${code} ${where}: ${message}`);
     }));
     get('changes').hidden = false;
-    this.findings.show(this.findings.count, this.findings.item, at);
-    if (at >= 0) this.#placeOf(now[at]).then((place) => this.asked === asked && this.map.mark(place, true));
   }
 
   /**
-   * Lists all findings; the first that is new in the place of row `k` is marked, and chosen where the list stays in view.
-   * @param {Asked} asked @param {number} k
+   * Lists all findings, where there are too many to be listed at first; the next of a code is chosen, where the list stays in view.
+   * @param {string} code @param {number} place of it among those of its code
    */
-  async #listAll(asked, k) {
-    const first = this.#placeInAll(k), mine = this.choices;
+  async #listAll(code, place) {
+    const { asked } = this, mine = this.choices;
+    if (!asked) return;
     try {
-      const { findings, spots } = await this.desk.ask('look', { ...asked, max: 0 }, 'Listing all findings');
+      const { findings, spots } = await this.desk.ask('look', { ...asked, isWhole: true }, 'Listing all findings');
       if (this.asked !== asked) return;
-      this.#list(new Lines(findings), spots, mine === this.choices ? first : -1);
-      this.#mark();
-      if (mine === this.choices && !isNarrow()) this.#choose(this.findings.item(first), first);
+      this.#list(new Lines(findings), spots);
+      if (mine === this.choices) this.found.choose(this.found.firstOf(code) + place, isNarrow());
     } catch (error) { if (!(error instanceof Stopped)) tell({ about: asked.name, words: wordsOf(error) }); }
   }
 
-  /** Where the findings that row `k` leaves out begin among all: each such row before it stands for as many as it says. @param {number} k */
-  #placeInAll(k) {
-    let place = k;
-    for (let row = 0; row < k; row++) {
-      const { more } = this.findings.item(row);
-      if (more) place += more - 1;
-    }
-    return place;
-  }
-
-  /** @param {Finding} finding @param {number} k its row */
-  async #choose(finding, k) {
-    const { asked } = this, mine = ++this.choices;
-    if (finding.wide) return this.readWide();
-    if (finding.more && asked) return this.#listAll(asked, k);
-    const place = await this.#placeOf(finding);
+  /** @param {Finding} finding */
+  async #choose(finding) {
+    const { asked } = this, mine = ++this.choices, place = await this.#placeOf(finding);
     if (this.asked !== asked || mine !== this.choices) return;
     if (place && this.map.picture && isNarrow()) pane('map');
     this.map.mark(place);
@@ -317,21 +290,25 @@ export class LevelView {
     if (!place) get('under').textContent = `${finding.code} ${finding.where} has no place on the map.`.trim();
   }
 
-  /** Marks the places of the first findings that are listed, and says how many those are where there are more. */
+  /** Marks the places of all findings that are shown, a part at a time where they are very many, and says how many those are where there are more. */
   async #mark() {
-    const { asked, findings, level } = this, places = [];
-    let k = 0, isWhole = findings.count > 0;
-    for (let lines = 0; k < Math.min(MARKED, findings.count) && lines < MARKED_LINES; k++) {
-      const finding = findings.item(k), at = await this.#placeOf(finding);
-      if (finding.more) isWhole = false;
-      if (!at) continue;
-      places.push({ at, title: `${finding.code} ${finding.where}: ${finding.title}` });
-      lines += at.length / 4;
+    const { asked, found } = this, mine = ++this.marking, shown = found.shown(), places = [];
+    if (!this.map.picture) return;
+    let lines = 0, until = performance.now() + SLICE;
+    for (const k of shown) {
+      const finding = found.finding(k), at = await this.#placeOf(finding);
+      if (at) places.push({ at, k, title: `${finding.code} ${finding.where}: ${finding.title}` });
+      lines += (at?.length ?? 0) / 4;
+      if (lines >= MARKED_LINES) break;
+      if (performance.now() < until) continue;
+      await new Promise((go) => setTimeout(go));
+      if (this.asked !== asked || mine !== this.marking) return;
+      until = performance.now() + SLICE;
     }
-    if (this.asked !== asked) return;
+    if (this.asked !== asked || mine !== this.marking) return;
     this.map.markAll(places);
-    const total = Object.values({ ...level?.findings, ...level?.warnings }).reduce((sum, n) => sum + n, 0);
-    get('legend-found').textContent = isWhole && k === findings.count ? 'findings' : `${places.length} of ${total} findings`;
+    const isWhole = lines < MARKED_LINES && shown.length === found.total;
+    get('legend-found').textContent = isWhole ? 'findings' : `${places.length} of ${found.total} findings`;
     this.#legend('found', places.length > 0);
   }
 

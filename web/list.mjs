@@ -1,11 +1,14 @@
-// A list whose rows are chosen by pointer or keys: the listbox pattern of ARIA.
+// A list whose rows are chosen by pointer or keys: the listbox pattern of ARIA, or that of a tree where rows stand under headings.
 import { make, Rows, WholeRows } from './rows.mjs';
 
 /**
  * @template T
- * @typedef {{ isButton?: (item: T) => boolean, describe?: (item: T) => string, isShort?: boolean }} Manner  whether a row does something, and so
- *   waits for Enter or a click where keys only pass it; what a row means, for those who hear it; whether all rows are made, each as tall as it has to be
+ * @typedef {{ isButton?: (item: T) => boolean, describe?: (item: T) => string, isShort?: boolean, branch?: (item: T, k: number) => Branch,
+ *   fold?: (item: T, isOpen: boolean) => void }} Manner  whether a row does something, and so waits for Enter or a click where keys only pass it; what a
+ *   row means, for those who hear it; whether all rows are made, each as tall as it has to be; of a tree, where a row stands in it, and what an arrow
+ *   to the right or to the left does
  */
+/** @typedef {{ level: number, at: number, of: number, isOpen?: boolean }} Branch  a row of a tree: its place among its like; of a heading whether it's open */
 
 /** @template T */
 export class ListBox {
@@ -13,12 +16,14 @@ export class ListBox {
    * @param {HTMLElement} element @param {(item: T, k: number) => (Node | string)[]} draw what stands in a row
    * @param {(item: T, k: number) => void} choose @param {Manner<T>} [manner]
    */
-  constructor(element, draw, choose, { isButton = () => false, describe = () => '', isShort = false } = {}) {
+  constructor(element, draw, choose, { isButton = () => false, describe = () => '', isShort = false, branch, fold = () => {} } = {}) {
     this.element = element;
     this.draw = draw;
     this.choose = choose;
     this.isButton = isButton;
     this.describe = describe;
+    this.branch = branch;
+    this.fold = fold;
     this.count = 0;
     /** @type {(k: number) => T} */
     this.item = () => { throw new RangeError('an empty list'); };
@@ -26,27 +31,27 @@ export class ListBox {
     const body = make('div', 'rows');
     body.setAttribute('role', 'presentation');
     element.replaceChildren(body);
-    element.setAttribute('role', 'listbox');
+    element.setAttribute('role', branch ? 'tree' : 'listbox');
     element.tabIndex = 0;
     this.rows = new (isShort ? WholeRows : Rows)(element, body, (k) => this.#row(k));
     element.addEventListener('keydown', (event) => this.#key(event));
     element.addEventListener('click', (event) => {
-      const row = /** @type {HTMLElement | null} */ (/** @type {Element} */ (event.target).closest('[role=option]'));
+      const row = /** @type {HTMLElement | null} */ (/** @type {Element} */ (event.target).closest('.row'));
       if (row) this.pick(Number(row.dataset.at));
     });
   }
 
   /**
    * Shows `count` items, of which row `chosen` is marked and in view; the list stays where it was scrolled to if it is `kept`.
-   * @param {number} count @param {(k: number) => T} item @param {number} [chosen] @param {boolean} [kept]
+   * @param {number} count @param {(k: number) => T} item @param {number} [chosen] @param {boolean} [kept] @param {number[]} [odd] rows of heights of their own
    */
-  show(count, item, chosen = -1, kept = false) {
+  show(count, item, chosen = -1, kept = false, odd = []) {
     this.count = count;
     this.item = item;
     this.at = chosen;
     this.element.hidden = !count;
     this.element.style.setProperty('--count', String(Math.min(count, 100))); // for page.css
-    if (kept) this.rows.redraw(count); else this.rows.show(count);
+    if (kept) this.rows.redraw(count, odd); else this.rows.show(count, odd);
     if (!kept && chosen >= 0) this.rows.reveal(chosen);
     this.#mark();
   }
@@ -67,11 +72,19 @@ export class ListBox {
     if (meaning) row.setAttribute('aria-description', meaning);
     row.id = `${this.element.id}-${k}`;
     row.dataset.at = String(k);
-    row.setAttribute('role', 'option');
     row.setAttribute('aria-selected', String(k === this.at));
-    row.setAttribute('aria-posinset', String(k + 1));
-    row.setAttribute('aria-setsize', String(this.count));
+    this.#tellPlace(row, item, k);
     return row;
+  }
+
+  /** Tells those who hear a row where it stands. @param {HTMLElement} row @param {T} item @param {number} k */
+  #tellPlace(row, item, k) {
+    const { level = 0, at = k + 1, of = this.count, isOpen } = this.branch?.(item, k) ?? {};
+    row.setAttribute('role', level ? 'treeitem' : 'option');
+    row.setAttribute('aria-posinset', String(at));
+    row.setAttribute('aria-setsize', String(of));
+    if (level) row.setAttribute('aria-level', String(level));
+    if (isOpen !== undefined) row.setAttribute('aria-expanded', String(isOpen));
   }
 
   #mark() {
@@ -84,6 +97,11 @@ export class ListBox {
   /** @param {KeyboardEvent} event */
   #key(event) {
     if (event.altKey || event.ctrlKey || event.metaKey) return;
+    if (this.branch && /^Arrow(Left|Right)$/.test(event.key)) {
+      event.preventDefault();
+      if (this.at >= 0) this.fold(this.item(this.at), event.key === 'ArrowRight');
+      return;
+    }
     const page = Math.max(1, Math.floor(this.element.clientHeight / (this.rows.height || 40)) - 1), last = this.count - 1;
     /** @type {Record<string, number>} */
     const places = {

@@ -4,7 +4,7 @@
 const KEPT = 'wadlook';
 /** All that the page consists of. */
 const FILES = ['./', 'index.html', 'page.css', 'icon.svg', 'manifest.json', 'served.mjs', 'wad_page.wasm',
-  ...['changes', 'codes', 'demo_table', 'demo_words', 'entries', 'explained', 'findings', 'follow', 'games', 'inks', 'level_view', 'linedefs', 'lines', 'list', 'map_view',
+  ...['changes', 'codes', 'demo_table', 'demo_words', 'entries', 'findings', 'follow', 'found_list', 'games', 'groups', 'inks', 'level_view', 'linedefs', 'lines', 'list', 'map_view',
     'notices', 'page', 'picture', 'questions', 'rows', 'saved_picture', 'sources', 'wad_page', 'words', 'worker', 'zip'].map((name) => `${name}.mjs`)];
 const own = new Set(FILES.map((file) => new URL(file, location.href).href));
 

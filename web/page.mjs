@@ -4,6 +4,7 @@ import { DemoTable } from './demo_table.mjs';
 import { demoLine } from './demo_words.mjs';
 import { Follower, stampOf } from './follow.mjs';
 import { apart, gameOf } from './games.mjs';
+import { byRank } from './groups.mjs';
 import { themeNow } from './inks.mjs';
 import { LevelView } from './level_view.mjs';
 import { Lines } from './lines.mjs';
@@ -14,7 +15,7 @@ import { make } from './rows.mjs';
 import { savedPicture } from './saved_picture.mjs';
 import { droppedFiles, pickedOf, refusal, takeApart } from './sources.mjs';
 import { canRun } from './wad_page.mjs';
-import { field, get, helpOf, isNarrow, notJudged, pane, plural, say, sizeOf, verdict, wordsOf } from './words.mjs';
+import { field, get, helpOf, isFatal, isNarrow, notJudged, pane, plural, say, sizeOf, verdict, wordsOf } from './words.mjs';
 
 /** @typedef {import('./words.mjs').Level} Level @typedef {import('./sources.mjs').Source} Source */
 /** @typedef {import('./sources.mjs').Handle} Handle */
@@ -346,11 +347,12 @@ function levelOf(f, k) {
 
 /** @type {ListBox<{ k: number, level: Level }>} */
 const levels = new ListBox(get('levels'), ({ level }) => {
-  const { format, faults } = level, doom = format === 'doom', codes = Object.keys(level.warnings ?? {});
-  const told = doom ? `${verdict(level)}${codes.length ? ` · ${codes.join(' ')}` : ''}` : format || state.file?.failed ? 'not judged' : state.file?.stopped ? 'stopped' : '…';
-  const isFault = faults || format === 'incomplete' || format === 'outside';
-  const found = make('span', `row-state${isFault ? ' fault' : level.notes || codes.length ? ' noted' : ''}`, told);
-  found.title = [told, ...Object.keys({ ...level.findings, ...level.warnings }).map(meaningOf)].join('\n'); // it may be cut off
+  const { format, faults } = level, doom = format === 'doom', hidden = view.hiddenIn(state.file?.file.name ?? '');
+  const codes = byRank(Object.keys({ ...level.findings, ...level.warnings }).filter((code) => !hidden.has(code)), (code) => code);
+  const told = doom ? `${verdict(level, hidden)}${codes.length ? ` · ${codes.join(' ')}` : ''}` : format || state.file?.failed ? 'not judged' : state.file?.stopped ? 'stopped' : '…';
+  const isFault = faults || isFatal(level, hidden) || format === 'incomplete' || format === 'outside';
+  const found = make('span', `row-state${isFault ? ' fault' : codes.length ? ' noted' : ''}`, told);
+  found.title = [told, ...codes.map(meaningOf)].join('\n'); // it may be cut off
   const more = doom ? `${level.linedefs} linedefs · ${level.sectors} sectors · ${level.things} things` : format ? notJudged(level) : `entry ${level.entry}`;
   const name = make('span', 'row-name level-name', make('span', '', level.level), ...(format ? [' ', make('span', 'format', format)] : []));
   return [make('span', 'row-head', name, found), make('span', 'row-more', more)];
@@ -362,7 +364,8 @@ const levels = new ListBox(get('levels'), ({ level }) => {
 /** Whether the level is among those asked for. @param {Level} level @param {string[]} words @param {boolean} only */
 function isWanted(level, words, only) {
   const { faults, format } = level;
-  const codes = Object.keys({ ...level.findings, ...level.warnings }).join(' ');
+  const hidden = view.hiddenIn(state.file?.file.name ?? '');
+  const codes = Object.keys({ ...level.findings, ...level.warnings }).filter((code) => !hidden.has(code)).join(' ');
   if (only && !codes && format === 'doom') return false;
   const told = `${level.level} ${format} ${level.lump ?? level.tag ?? ''} ${codes} ${faults ? 'faults' : faults === 0 ? 'sound' : ''}`.toLowerCase();
   return words.every((word) => told.includes(word));
@@ -442,7 +445,7 @@ function stage(which, f, name) {
 const view = new LevelView(desk, finer, () => {
   field('wide').checked = true;
   readAnew();
-});
+}, () => showLevels(true));
 
 /** Reads all indexes as the box says, and judges and draws anew. */
 function readAnew() {

@@ -1,4 +1,5 @@
-// The rows of a list or a table that scrolls: only those in view are made, so a million of them cost no more than a screen.
+// The rows of a list or a table that scrolls: only those in view are made, so a million of them cost no more than a screen. All are equally tall,
+// but for a few that are as tall as what stands in them, as headings are: those are always made.
 
 /** Browsers give no element more than some ten million pixels; a longer list scrolls in larger steps. */
 const TALLEST = 8_000_000;
@@ -26,6 +27,10 @@ export class Rows {
     this.count = 0;
     this.offset = 0; // pixels of rows above the first that is seen
     this.placed = -1; // where the viewport was last scrolled to from here
+    /** @type {number[]} */
+    this.odd = []; // rows that are as tall as what stands in them, in their order
+    /** @type {{ at: number, tall: number }[]} */
+    this.heights = []; // of these, as they were measured
     /** @type {Map<number, HTMLElement>} */
     this.made = new Map();
     viewport.addEventListener('scroll', () => this.#scrolled(), { passive: true });
@@ -35,18 +40,17 @@ export class Rows {
 
   /**
    * Shows `count` rows from the first on.
-   * @param {number} count
+   * @param {number} count @param {number[]} [odd] those that are as tall as what stands in them
    */
-  show(count) {
-    this.count = count;
+  show(count, odd) {
     this.offset = 0;
-    this.#clear();
-    this.#measure();
+    this.redraw(count, odd);
   }
 
-  /** Makes the rows in view anew, and `count` of them all. @param {number} [count] */
-  redraw(count = this.count) {
+  /** Makes the rows in view anew, and `count` of them all. @param {number} [count] @param {number[]} [odd] */
+  redraw(count = this.count, odd = []) {
     this.count = count;
+    this.odd = odd;
     this.#clear();
     this.#measure();
   }
@@ -56,10 +60,30 @@ export class Rows {
    * @param {number} k @param {boolean} [first]
    */
   reveal(k, first = false) {
-    const top = k * this.height, view = this.#view();
-    if (first || top < this.offset || view < this.height) this.offset = top;
-    else if (top + this.height > this.offset + view) this.offset = top + this.height - view;
+    const top = this.#top(k), end = this.#top(k + 1), view = this.#view();
+    if (first || top < this.offset || view < end - top) this.offset = top;
+    else if (end > this.offset + view) this.offset = end - view;
     this.#place();
+  }
+
+  /** Pixels of the rows before row `k`. @param {number} k */
+  #top(k) {
+    let top = k * this.height;
+    for (const { at, tall } of this.heights) if (at < k) top += tall - this.height;
+    return top;
+  }
+
+  /** The row that has a pixel of all rows. @param {number} y */
+  #rowAt(y) {
+    let next = 0, top = 0; // a row, and the pixels before it
+    for (const { at, tall } of this.heights) {
+      const from = top + (at - next) * this.height;
+      if (y < from) break;
+      if (y < from + tall) return at;
+      next = at + 1;
+      top = from + tall;
+    }
+    return next + Math.floor((y - top) / this.height);
   }
 
   /** Row `k` where it is made. @param {number} k */
@@ -79,13 +103,15 @@ export class Rows {
 
   #measure() {
     this.height = parseFloat(getComputedStyle(this.viewport).getPropertyValue('--row')) || 40;
-    this.body.style.height = `${Math.min(TALLEST, this.count * this.height)}px`;
+    for (const k of this.odd) this.#make(k).classList.add('odd');
+    this.heights = this.odd.map((at) => ({ at, tall: this.made.get(at)?.offsetHeight || this.height }));
+    this.body.style.height = `${Math.min(TALLEST, this.#top(this.count))}px`;
     this.#place();
   }
 
   /** Pixels of rows to a pixel of scrolling. */
   #ratio() {
-    const view = this.#view(), total = this.count * this.height;
+    const view = this.#view(), total = this.#top(this.count);
     return total <= TALLEST ? 1 : (total - view) / (TALLEST - view);
   }
 
@@ -103,29 +129,32 @@ export class Rows {
   }
 
   #place() {
-    this.offset = Math.max(0, Math.min(this.offset, this.count * this.height - this.#view()));
+    this.offset = Math.max(0, Math.min(this.offset, this.#top(this.count) - this.#view()));
     this.viewport.scrollTop = this.offset / this.#ratio();
     this.placed = this.viewport.scrollTop;
     this.#fill();
   }
 
   #fill() {
-    const first = Math.max(0, Math.floor(this.offset / this.height) - 4);
-    const last = Math.min(this.count, Math.ceil((this.offset + this.#view()) / this.height) + 4);
+    const first = Math.max(0, this.#rowAt(this.offset) - 4), last = Math.min(this.count, this.#rowAt(this.offset + this.#view()) + 5);
     for (const [k, row] of this.made) {
-      if (k >= first && k < last) continue;
+      if ((k >= first && k < last) || row.classList.contains('odd')) continue;
       row.remove();
       this.made.delete(k);
     }
     const moved = this.#ratio() === 1 ? 0 : this.viewport.scrollTop - this.offset;
-    for (let k = last - 1; k >= first; k--) {
-      const row = this.made.get(k) ?? this.draw(k);
-      row.style.transform = `translateY(${k * this.height + moved}px)`;
-      if (this.made.has(k)) continue;
-      this.made.set(k, row);
-      const next = this.made.get(k + 1); // rows stand in their order, for those who hear them read
-      if (next) next.before(row); else this.body.append(row);
-    }
+    for (let k = last - 1; k >= first; k--) this.#make(k);
+    for (const [k, row] of this.made) row.style.transform = `translateY(${this.#top(k) + moved}px)`;
+  }
+
+  /** Row `k`, which is made where it isn't there. Rows stand in their order, for those who hear them read. @param {number} k */
+  #make(k) {
+    const found = this.made.get(k);
+    if (found) return found;
+    const row = this.draw(k), next = Math.min(...[...this.made.keys()].filter((other) => other > k));
+    this.made.set(k, row);
+    this.body.insertBefore(row, this.made.get(next) ?? null);
+    return row;
   }
 }
 

@@ -1,4 +1,6 @@
 // What the engine tells, in the page's words; and the parts of the page.
+import { endsGame } from './codes.mjs';
+import { runsOf } from './groups.mjs';
 
 /**
  * @typedef {{ level: string, entry: number, format?: string, tag?: string, lump?: string, sound?: boolean, faults?: number, notes?: number,
@@ -6,6 +8,7 @@
  *   vertexes?: number, segs?: number, ssectors?: number, nodes?: number, sectors?: number, reject?: number, blockmap?: number }} Level
  *   an object of `survey`; before the level was judged it has its name and entry alone
  */
+/** @typedef {import('./lines.mjs').Lines} Lines */
 
 export const get = (/** @type {string} */ id) => /** @type {HTMLElement} */ (document.getElementById(id));
 export const field = (/** @type {string} */ id) => /** @type {HTMLInputElement} */ (get(id));
@@ -19,6 +22,7 @@ export function helpOf(why) {
 }
 /** Whether one pane is shown at a time: as page.css has it. */
 export const isNarrow = () => matchMedia('(max-width: 880px), (max-height: 480px)').matches;
+export const sentence = (/** @type {string} */ words) => `${words[0]?.toUpperCase() ?? ''}${words.slice(1)}`;
 export const plural = (/** @type {number} */ n, /** @type {string} */ word) => `${n} ${word}${n === 1 ? '' : 's'}`;
 export const sizeOf = (/** @type {number} */ bytes) => bytes < 1e6 ? `${Math.max(1, Math.round(bytes / 1e3))} kB` : `${(bytes / 1e6).toFixed(1)} MB`;
 export const wordsOf = (/** @type {unknown} */ error) => error instanceof Error ? error.message : String(error);
@@ -41,9 +45,38 @@ export function notJudged({ format, tag, lump }) {
   }
 }
 
-/** What was found in a level. @param {Level} level @param {number} [warnings] */
-export function verdict({ sound, faults = 0, notes = 0 }, warnings = 0) {
-  return [sound ? 'sound' : plural(faults, 'fault'), notes && plural(notes, 'note'), warnings && plural(warnings, 'warning')].filter(Boolean).join(', ');
+/** What a level has of codes that aren't hidden, by their first letters. @param {Level} level @param {Set<string>} hidden */
+function countsOf({ findings, warnings }, hidden) {
+  const counts = /** @type {Record<string, number>} */ ({ F: 0, N: 0, W: 0 });
+  for (const [code, n] of Object.entries({ ...findings, ...warnings })) if (!hidden.has(code)) counts[code[0]] += n;
+  return counts;
+}
+
+/** Whether the game ends at something in a level that isn't hidden. @param {Level} level @param {Set<string>} hidden */
+export const isFatal = ({ findings, warnings }, hidden) => Object.keys({ ...findings, ...warnings }).some((code) => endsGame(code) && !hidden.has(code));
+
+/**
+ * What was found in a level, what is worst first: it is sound alone where nothing was.
+ * @param {Level} level @param {Set<string>} hidden codes that are hidden @param {boolean} [isLong] whether it says that links and nodes are whole
+ */
+export function verdict(level, hidden, isLong = false) {
+  const { F, W, N } = countsOf(level, hidden), isEnd = isFatal(level, hidden);
+  const told = [F && plural(F, 'fault'), W && plural(W, 'warning'), N && plural(N, 'note')].filter(Boolean).join(', ');
+  if (!told) return 'sound';
+  return `${isEnd ? 'ends the game: ' : ''}${told}${isLong && level.sound && !isEnd ? ', otherwise sound' : ''}`;
+}
+
+/** What `check` tells beside its findings: that the nodes weren't built, and whether the wide reading mends all faults. @param {Lines} objects */
+export function adviceOf(objects) {
+  let unbuilt = '', isWide = false;
+  for (const { code, from, to } of runsOf(objects)) {
+    for (let k = from; !code && k < to; k++) {
+      const { empty, message = '', sound_with_wide: isMended } = JSON.parse(objects.at(k));
+      if (empty) unbuilt = `${sentence(message)}.`;
+      isWide ||= !!isMended;
+    }
+  }
+  return { unbuilt, isWide };
 }
 
 const SILENCING = /^F[3-9]$/; // with one of these no warning is looked for

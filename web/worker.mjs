@@ -21,6 +21,8 @@ import { filesIn } from './zip.mjs';
 const MOST_BYTES = 268435456; // of a file, and of all that are held
 const MOST_ALONE = 8; // levels of a file that are kept cut out
 const OBJECT = 192; // room for an object of `check`
+const MOST_LISTED = 100000; // findings of a level that are listed at once
+const FEW = 20; // of each code, where there are more
 const PATH = 'f'; // of a file whose name isn't shown
 const UNFOUND = 'level'; // a label in small letters, which no look-up finds
 const NO_MEMORY = 'there is not enough memory for it';
@@ -221,15 +223,17 @@ const jobs = {
    * The level's object, and `check`'s; and where the vertexes and the nodes are, if N12 or F12 is found, whose objects have no place. Alone the
    * level stands on its own file, whose textures and flats it may use, under a label that takes the place of none of their names. Where the file
    * was surveyed the level's object is known, and the level is judged once.
-   * @param {AskedLevel & { max: number }} asked
+   * Very many findings are listed whole only where that is asked for.
+   * @param {AskedLevel & { isWhole?: boolean }} asked
    */
   async look(asked) {
     const file = labelled((await alone(asked)).bytes, UNFOUND), bases = [...await basesOf(asked), (await hold(asked)).bytes];
     const level = asked.known ?? JSON.parse(firstLine(await judge(asked, { command: 'survey' }, bases, file)));
     /** @type {Record<string, number>} */
     const counts = { ...level.findings, ...level.warnings };
-    const found = asked.max ? 0 : Object.values(counts).reduce((sum, n) => sum + n, 0); // so many objects need room
-    const check = await judge(asked, { command: 'check', json: true, max: asked.max }, bases, file, Math.max(1 << 20, OBJECT * found));
+    const found = Object.values(counts).reduce((sum, n) => sum + n, 0), isWhole = asked.isWhole || found <= MOST_LISTED;
+    const room = Math.max(1 << 20, isWhole ? OBJECT * found : 0); // so many objects need room
+    const check = await judge(asked, { command: 'check', json: true, max: isWhole ? 0 : FEW }, bases, file, room);
     const spots = { vertex: counts.N12 && spotsOf(file, 4, 4), node: counts.F12 && spotsOf(file, 7, 28) };
     return { level, findings: findingsIn(check.answer), spots };
   },

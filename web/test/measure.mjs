@@ -94,7 +94,7 @@ async function looks(given) {
   await level(given, 'E3M7');
   await browser.press('#levels .row');
   await browser.until("document.querySelector('#map').dataset.drawn === 'E3M7'");
-  await browser.press('#findings .row');
+  await browser.press('#findings .row:not(.odd)');
   await keep(given, 'finding-light');
   await browser.screen(390, 844, 'light', true);
   for (const pane of ['files', 'levels', 'map', 'notes']) {

@@ -13,9 +13,9 @@ import { mapper } from './page_mapper.mjs';
 import { offlines, unserved } from './page_offline.mjs';
 import { savedPictures } from './page_saved.mjs';
 import {
-  browser, built, check, drawn, drawnAnew, dropRooms, filterBy, fresh, hasInk, isHidden, isNative, judged, legend, options, pick, pictures, pinAt,
-  pinBy, placeOf, pointTold, printed, programs, room, roomsFile, root, saved, server, textOf, textsOf, twoRooms, valueOf, viewOf,
-  withhold, withoutHandles, written,
+  FINDING, browser, built, check, codes, drawn, drawnAnew, dropRooms, filterBy, found, fresh, hasInk, isHidden, isNative, judged, legend, options,
+  pick, pictures, pinAt, pinBy, placeOf, pointTold, printed, programs, room, roomsFile, root, saved, server, textOf, textsOf, twoRooms, valueOf,
+  viewOf, withhold, withoutHandles, written,
 } from './person.mjs';
 import { addUp, fail, skipped } from '../../tests/harness.mjs';
 import { pythonHost, runProgram, serve } from './server.mjs';
@@ -59,7 +59,7 @@ async function reading() {
 async function levels() {
   await judged();
   check('the levels', await textsOf('#levels .row-name'), ['MAP01 doom', 'MAP02 doom']);
-  check('what was found', await textsOf('#levels .row-state'), ['sound', 'sound, 1 note']);
+  check('what was found', await textsOf('#levels .row-state'), ['sound', '1 note · N3']);
   check('their counts', (await textsOf('#levels .row-more'))[0], '7 linedefs · 2 sectors · 9 things');
   await filterBy('map02');
   check('the filter', await textsOf('#levels .row-name'), ['MAP02 doom']);
@@ -205,10 +205,10 @@ async function finer() {
 async function findings() {
   await pick('levels', 'MAP02');
   await drawn('MAP02');
-  check('a finding\'s codes', await textOf('#codes'), 'N3 1');
-  check('a finding', await textsOf('#findings .row > span:not(.ask)'), ['N3', 'linedef 4', 'Two-sided, without a back sidedef, from (256, 256) to (512, 256)']);
+  check('a finding\'s codes', await codes(), 'N3 1');
+  check('a finding', await found(), ['N3', 'linedef 4', 'Two-sided, without a back sidedef, from (256, 256) to (512, 256)']);
   const before = await viewOf();
-  await browser.press('#findings .row');
+  await browser.press(FINDING);
   await browser.until("document.querySelector('#map').dataset.view.startsWith('384.000 256.000')", 'the view at the finding');
   check('a finding moves the view to its place', before.slice(0, 2).join(' ') !== (await viewOf()).slice(0, 2).join(' '), true);
   await drawnAnew();
@@ -231,8 +231,8 @@ async function early() {
   await dropRooms();
   await withhold('picture');
   await pick('levels', 'MAP02');
-  await browser.until("document.querySelector('#findings .row')", 'the findings before the picture');
-  await browser.press('#findings .row');
+  await browser.until(`document.querySelector('${FINDING}')`, 'the findings before the picture');
+  await browser.press(FINDING);
   await pinBy('300 100');
   await pointTold('300 100');
   check('no picture yet tells of its sector', [await isHidden('#sector-row'), await legend()], [true, []]);
@@ -249,9 +249,9 @@ async function early() {
   await fresh();
   await withhold('picture');
   await browser.drop(written('overlooked.wad', wad(rooms('MAP01', { damage: twoOverlooked }))));
-  await browser.until("document.querySelector('#findings .row')", 'the findings before the picture');
+  await browser.until(`document.querySelector('${FINDING}')`, 'the findings before the picture');
   await browser.press('.tabs [data-to=notes]');
-  await browser.press('#findings .row');
+  await browser.press(FINDING);
   await browser.run('free()');
   await drawn('MAP01');
   await browser.press('.tabs [data-to=map]');
@@ -269,11 +269,11 @@ async function late() {
   await withhold('ends');
   await browser.drop(written('late.wad', wad(rooms('MAP01', { damage }))));
   await drawn('MAP01');
-  check('a finding whose place is asked for, and one that tells it', (await textsOf('#findings .row-message')).slice(0, 2),
-    ["Sector -1 isn't there (2 sectors), of linedef 0", 'Two-sided, without a back sidedef, from (256, 256) to (512, 256)']);
-  await browser.press('#findings .row');
+  check('a finding whose place is asked for, and one that tells it', (await textsOf(`${FINDING} .row-message`)).slice(0, 2),
+    ["Sector 65535 isn't there (2 sectors), of linedef 0", 'Two-sided, without a back sidedef, from (256, 256) to (512, 256)']);
+  await browser.press(FINDING);
   await browser.run("document.querySelector('#findings').focus()");
-  await browser.key('ArrowDown');
+  for (let k = 0; k < 2; k++) await browser.key('ArrowDown'); // past a heading
   await browser.until("document.querySelector('#map').dataset.view.startsWith('384.000 256.000')", 'the later finding');
   await browser.run('free()');
   await browser.until("document.querySelector('#legend').classList.contains('found')", 'all places');
@@ -321,10 +321,10 @@ async function warnings() {
   await browser.drop(written('overlooked.wad', file));
   await drawn('MAP01');
   await judged();
-  check('warnings beside the verdict', await textsOf('#levels .row-state'), ['sound · W2 W3', 'sound']);
-  check('how many of them', await textOf('#told'), 'sound, 2 warnings');
-  check('their codes', await textOf('#codes'), 'W2 1 · W3 1');
-  check('each in words', await textsOf('#findings .row > span:not(.ask)'), ['W2', 'linedef 5', 'No middle texture in front, from (512, 256) to (512, 0)',
+  check('warnings beside the verdict', await textsOf('#levels .row-state'), ['2 warnings · W2 W3', 'sound']);
+  check('how many of them', await textOf('#told'), '2 warnings, otherwise sound');
+  check('their codes', await codes(), 'W2 1 · W3 1');
+  check('each in words', await found(), ['W2', 'linedef 5', 'No middle texture in front, from (512, 256) to (512, 0)',
     'W3', 'thing 1', 'Stands in the void, at (536, 128)']);
   await drawnAnew();
   check('the legend tells of them', await legend(), ['findings']);
@@ -335,10 +335,10 @@ async function warnings() {
   check('and over the lines of a block', await hasInk('fault', 512, 128), true);
   await browser.mouse('mouseMoved', ...await placeOf(511, 40));
   check('a warning under the pointer', (await textOf('#under')).split('  –  '), ['W2 linedef 5 · No middle texture in front', 'sector 1 · floor 24 FLOOR0_1 · ceiling 128 CEIL1_1 · light 224 · special 0 · tag 0']);
-  await browser.press('#findings .row');
+  await browser.press(FINDING);
   await browser.until("document.querySelector('#map').dataset.view.startsWith('512.000 128.000')", 'the linedef of a warning');
   await browser.run("document.querySelector('#findings').focus()");
-  await browser.key('ArrowDown');
+  for (let k = 0; k < 2; k++) await browser.key('ArrowDown'); // past a heading
   await browser.until("document.querySelector('#map').dataset.view.startsWith('536.000 128.000')", 'the thing of a warning');
   await filterBy('w3');
   check('a filter by a warning', await textsOf('#levels .row-name'), ['MAP01 doom']);
@@ -355,16 +355,11 @@ async function faults() {
   await browser.drop(written('lost.wad', file));
   await drawn('MAP01');
   await judged();
-  check('levels that are not judged', await textsOf('#levels .row-state'), ['100 faults', 'not judged', 'not judged']);
+  check('levels that are not judged', await textsOf('#levels .row-state'), ['100 faults · F3', 'not judged', 'not judged']);
   check('and why', (await textsOf('#levels .row-more')).slice(1), ['incomplete: no LINEDEFS where it belongs', 'udmf: not read']);
   check('the verdict of a level with faults', await textOf('#told'), '100 faults');
-  await browser.run("{ const e = document.querySelector('#findings'); e.focus(); e.scrollTop = e.scrollHeight; }");
-  await browser.until("[...document.querySelectorAll('#findings .row')].pop().getAttribute('aria-posinset') === '21'", 'the last finding');
-  check('as many as are listed at first', (await textsOf('#findings .row-name')).pop(), '80 more');
-  await browser.key('End');
-  await browser.key('Enter');
-  await browser.until("document.querySelector('#findings .row')?.getAttribute('aria-setsize') === '100'", 'all findings');
-  check('all of them', await textOf('#findings .row .row-message'), "Start vertex 4000 isn't there (6 vertexes)");
+  check('all of them are listed at once', [await codes(), await browser.run("document.querySelector('#findings .row:not(.odd)').ariaSetSize")], ['F3 100', '100']);
+  check('each in words', await textOf(`${FINDING} .row-message`), "Start vertex 4000 isn't there (6 vertexes)");
   await pick('levels', 'MAP02');
   await browser.until("document.querySelector('#title').textContent === 'MAP02' && document.querySelector('#map-none').textContent !== ''", 'MAP02');
   check('no picture of it', await browser.run("document.querySelector('#map').dataset.drawn ?? ''"), '');
@@ -379,7 +374,7 @@ async function undrawn() {
   await drawn('MAP01');
   check('the program draws nothing', runProgram(programs, room, ['picture', 'MAP01', 'f'], [file], Buffer.alloc(0)).refused, 'wadlens: MAP01: nothing to draw');
   check('and the page tells why', await textOf('#map-none'), 'nothing to draw: no linedef has both of its vertexes');
-  check('its findings are there', (await textsOf('#findings .row-name')).length > 0, true);
+  check('its findings are there', (await textsOf(`${FINDING} .row-name`)).length > 0, true);
   check('no picture is saved', await browser.run("document.querySelector('#save-svg').disabled"), true);
 }
 
@@ -485,13 +480,16 @@ async function hostile() {
 }
 
 async function manyFindings() {
-  const lost = isWhole ? 1_400_000 : 60_000, file = written('lost.wad', wad(rooms('MAP01', { linedefs: Buffer.alloc(14 * lost, lostLinedef) })));
+  const lost = isWhole ? 1_400_000 : 120_000, file = written('lost.wad', wad(rooms('MAP01', { linedefs: Buffer.alloc(14 * lost, lostLinedef) })));
   await fresh();
   await answering(`a level of ${lost} findings, to its picture`, () => browser.drop(file), "document.querySelector('#map').dataset.drawn === 'MAP01'");
+  check('very many are listed in part', [await codes(), (await textsOf(`${FINDING} .row-name`)).length < 40], [`F3 ${lost}`, true]);
   await browser.run("document.querySelector('#findings').focus()");
   await browser.key('End');
-  await answering('the list of all', () => browser.key('Enter'), `document.querySelector('#findings .row')?.getAttribute('aria-setsize') === '${lost}'`);
-  await answering('the last of them, by a key', () => browser.key('End'), `document.querySelector('#findings [aria-selected=true]')?.getAttribute('aria-posinset') === '${lost}'`);
+  const last = () => "Number(document.querySelector('#findings [aria-selected=true]')?.ariaPosInSet)";
+  check('a row stands for the others', await browser.run("document.querySelector('#findings [aria-selected=true] .row-name').textContent"), `${lost - 20} more`);
+  await answering('the list of all', () => browser.key('Enter'), "document.querySelector('#findings [aria-selected=true] .row-name')?.textContent === 'linedef 27'");
+  await answering('the last of them, by a key', () => browser.key('End'), `${last()} === ${lost}`);
   check('the last of very many findings', await textOf('#findings [aria-selected=true] .row-name'), `linedef ${lost + 6}`);
   check('only findings in view', await browser.run("document.querySelectorAll('#findings .row').length < 40"), true);
   await browser.run("document.querySelector('#map').focus()");
@@ -571,14 +569,14 @@ async function stop() {
   await browser.press('#levels-none button');
   await judged();
   await browser.until("document.querySelector('#levels .row-state').textContent === 'sound'", 'the rest');
-  check('and gone on', await textsOf('#levels .row-state'), ['sound', 'sound, 1 note']);
+  check('and gone on', await textsOf('#levels .row-state'), ['sound', '1 note · N3']);
 
   await withhold('picture');
   await pick('levels', 'MAP02');
   await browser.until("document.querySelector('#work-label').textContent === 'Drawing MAP02' && !document.querySelector('#work').hidden", 'a picture under way');
   await browser.press('#stop');
   await browser.until("document.querySelector('#map-none').textContent === 'Stopped. Choose the level again to draw it.'", 'a stopped picture');
-  check('its findings stay', await textsOf('#findings .row-name'), ['linedef 4']);
+  check('its findings stay', await textsOf(`${FINDING} .row-name`), ['linedef 4']);
   await browser.run('free()');
   await pick('levels', 'MAP02');
   await drawn('MAP02');
@@ -601,23 +599,21 @@ async function wide() {
   const far = wad(rooms('MAP01', { damage: ({ SIDEDEFS }) => SIDEDEFS.writeInt16LE(-1, 28) }));
   await browser.drop(written('wide.wad', far));
   await drawn('MAP01');
-  check('signed', await textOf('#findings .row-message'), "Sector -1 isn't there (2 sectors), of linedef 0");
+  check('signed', await textOf(`${FINDING} .row-message`), "Sector 65535 isn't there (2 sectors), of linedef 0");
   await browser.press('#wide');
   await browser.until("document.querySelector('#findings .row-message')?.textContent.includes('65535')", 'the wide reading');
-  check('wide', await textOf('#findings .row-message'), "Sector 65535 isn't there (2 sectors), of linedef 0");
+  check('wide', await textOf(`${FINDING} .row-message`), "Sector 65535 isn't there (2 sectors), of linedef 0");
 
   await fresh();
   await browser.drop(written('large.wad', wad(rooms('MAP01', { linedefs: farLinedef, vertexes: 40001 }))));
   await drawn('MAP01');
-  check('faults under the signed reading alone', [await textOf('#told'), (await textsOf('#findings .row-name')).pop()], ['1 fault', 'sound with --wide']);
-  await browser.run("document.querySelector('#findings').focus()");
-  await browser.key('End');
-  await drawnAnew();
-  check('a key that passes the word on that reads nothing anew', await browser.run("document.querySelector('#wide').checked"), false);
-  await browser.key('Enter');
-  await browser.until("document.querySelector('#told').textContent === 'sound, 3 warnings'", 'the wide reading');
+  check('faults under the signed reading alone', [await textOf('#told'), (await found())[2]], ['1 fault', "Start vertex 40000 isn't there (40001 vertexes)"]);
+  check('are told as such', [await isHidden('#read-wide'), await textOf('#advice')],
+    [false, 'Read with unsigned indexes, as larger levels for ports use them, its links and its nodes are whole.']);
+  await browser.press('#read-wide');
+  await browser.until("document.querySelector('#told').textContent === '3 warnings, otherwise sound'", 'the wide reading');
   await judged();
-  check('are none under the wide one', await textOf('#levels .row-state'), 'sound · W1 W6');
+  check('are none under the wide one', await textOf('#levels .row-state'), '3 warnings · W1 W6');
 }
 
 async function unable() {
@@ -649,7 +645,7 @@ async function anyHost() {
     await browser.drop(roomsFile);
     await drawn('MAP01');
     await judged();
-    check(`from ${host === plain ? 'a host of bytes' : "Python's"}`, await textsOf('#levels .row-state'), ['sound', 'sound, 1 note']);
+    check(`from ${host === plain ? 'a host of bytes' : "Python's"}`, await textsOf('#levels .row-state'), ['sound', '1 note · N3']);
     hosts.push(host.address);
     host.close();
   }

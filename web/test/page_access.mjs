@@ -1,6 +1,6 @@
 // The cases of the page for those who see little, use keys, or hold a phone.
 import {
-  browser, check, drawn, drawnAnew, dropRooms, fresh, hasInk, judged, pick, pinBy, pointTold, textOf, viewOf, written,
+  FINDING, browser, check, drawn, drawnAnew, dropRooms, fresh, hasInk, judged, pick, pinBy, pointTold, textOf, viewOf, written,
 } from './person.mjs';
 import { rooms, twoOverlooked, wad } from './wads.mjs';
 
@@ -26,7 +26,7 @@ export async function contrast() {
   await drawn('MAP01');
   for (const scheme of /** @type {const} */ (['dark', 'light'])) {
     await browser.screen(1440, 900, scheme);
-    await browser.until("document.querySelector('#findings .row')", 'the findings');
+    await browser.until(`document.querySelector('${FINDING}')`, 'the findings');
     check(`contrast, ${scheme}`, await browser.run(script), []);
     await drawnAnew();
     const zoom = (await viewOf())[2];
@@ -45,7 +45,7 @@ export async function labels() {
   await pinBy('100 100');
   await pointTold('100 100');
   const { nodes } = await browser.send('Accessibility.getFullAXTree');
-  const named = ['button', 'textbox', 'searchbox', 'checkbox', 'listbox', 'spinbutton', 'option', 'table', 'application'];
+  const named = ['button', 'textbox', 'searchbox', 'checkbox', 'listbox', 'spinbutton', 'option', 'tree', 'treeitem', 'table', 'application'];
   const bare = nodes.filter((/** @type {any} */ node) => !node.ignored && named.includes(node.role?.value) && !node.name?.value);
   check('all that can be used has a name', bare.map((/** @type {any} */ node) => node.role.value), []);
   check('and is large enough', await small(), []);
@@ -78,7 +78,7 @@ export async function phone() {
   await pick('levels', 'MAP02');
   await drawn('MAP02');
   await browser.press('.tabs [data-to=notes]');
-  await browser.press('#findings .row');
+  await browser.press(FINDING);
   await browser.until("document.querySelector('#map').dataset.view.startsWith('384.000 256.000')", 'the finding on a phone');
   check('a finding leads to the map', await browser.run('document.body.dataset.pane'), 'map');
 }
@@ -104,7 +104,7 @@ export async function keys() {
   await browser.key('Enter');
   await drawn('MAP02');
   for (let k = 0; k < 30 && await browser.run("document.activeElement.id !== 'findings'"); k++) await browser.key('Tab');
-  await browser.key('ArrowDown');
+  for (let k = 0; k < 2; k++) await browser.key('ArrowDown');
   await browser.until("document.querySelector('#map').dataset.view.startsWith('384.000 256.000')", 'a finding by keys');
   check('a finding by keys', await textOf('#findings [aria-selected=true] .row-name'), 'linedef 4');
 }

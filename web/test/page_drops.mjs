@@ -1,7 +1,7 @@
 // The cases of the page of what is dropped: many files at once, archives, folders, what is refused; and how a file is closed.
 import { mkdirSync, writeFileSync } from 'node:fs';
 import { join } from 'node:path';
-import { browser, check, drawn, drawnAnew, fresh, isHidden, judged, pick, room, textOf, textsOf, withhold, written } from './person.mjs';
+import { browser, check, codes, drawn, drawnAnew, fresh, isHidden, judged, pick, room, textOf, textsOf, withhold, written } from './person.mjs';
 import { demo, rooms, twoUnknown, wad, wallsOfRooms, zipped } from './wads.mjs';
 
 const one = wad(rooms('MAP01')), names = () => textsOf('#files .row-name'), notices = () => textsOf('#notices .notice p');
@@ -109,10 +109,10 @@ async function closing() {
   await read(4);
   await drawn('MAP01');
   await judged();
-  check('over a game', [await textOf('#codes'), (await textsOf('#files .row-more'))[1].includes('over doom.wad')], ['W9 1 · W10 1', true]);
+  check('over a game', [await codes(), (await textsOf('#files .row-more'))[1].includes('over doom.wad')], ['W9 1 · W10 1', true]);
   await browser.run("document.querySelector('#files .row .shut').id = 'shut'");
   await browser.press('#shut');
-  await browser.until("document.querySelector('#codes').textContent === ''", 'a level that stands on no game any more');
+  await browser.until("!document.querySelector('#findings .row')", 'a level that stands on no game any more');
   check('a cross closes a file that is not shown', await shown(), [['pwad.wad', 'other.wad', 'notes.txt'], 'pwad.wadMAP01']);
   check('and what stood on it is judged anew', (await textsOf('#files .row-more'))[0].includes('over'), false);
   await browser.press('#close-file');

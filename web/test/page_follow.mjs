@@ -3,7 +3,7 @@ import { rmSync } from 'node:fs';
 import { join } from 'node:path';
 import { wait } from './browser.mjs';
 import {
-  browser, check, drawn, drawnAnew, fresh, hasInk, isHidden, pick, pinBy, pointTold, room, textOf, textsOf, viewOf, withHandles, written,
+  FINDING, browser, check, codes, drawn, drawnAnew, fresh, hasInk, isHidden, pick, pinBy, pointTold, room, textOf, textsOf, viewOf, withHandles, written,
 } from './person.mjs';
 import { oneMistaken, rooms, twoOverlooked, twoUnknown, wad, wallsOfRooms, zipped } from './wads.mjs';
 
@@ -20,9 +20,9 @@ async function saved() {
   await browser.drop(written('saved.wad', level(twoOverlooked)));
   await drawn('MAP00');
   await pick('levels', 'MAP01');
-  await verdict('sound, 2 warnings');
+  await verdict('2 warnings, otherwise sound');
   check('a file that is read first has no changes', await changes(), null);
-  await browser.press('#findings .row:nth-child(2)');
+  await browser.press(`${FINDING}:nth-child(4)`);
   await browser.until("document.querySelector('#map').dataset.view.startsWith('536.000 128.000')", 'the second finding');
   await pinBy('480 100');
   await pointTold('480 100 sector');
@@ -30,17 +30,17 @@ async function saved() {
   await drawnAnew();
   const view = await viewOf(), point = await textOf('#point-line');
   written('saved.wad', level(twoOverlooked, oneMistaken));
-  await verdict('sound, 1 note, 2 warnings');
+  await verdict('2 warnings, 1 note, otherwise sound');
   check('what came is told', await changes(), ['Saved: 1 came, 0 went', 'came: N3 linedef 4: Two-sided, without a back sidedef, from (256, 256) to (512, 256)']);
-  check('and marked in the list', await browser.run("[...document.querySelectorAll('#findings .row')].filter((e) => e.querySelector('.fresh')).map((e) => e.querySelector('.code').textContent)"), ['N3']);
+  check('and marked in the list', await browser.run("[...document.querySelectorAll('#findings .fresh')].map((e) => e.parentElement.firstChild.textContent)"), ['linedef 4']);
   await drawnAnew();
   check('the chosen finding stays chosen', [await chosen(), await hasInk('fault', 536, 128, 19)], ['thing 1', true]);
   check('so do the view and the point', [await viewOf(), await textOf('#point-line')], [view, point]);
   check('and the level', await textOf('#title'), 'MAP01');
   written('saved.wad', level());
   await verdict('sound');
-  check('what went is told', await changes(), ['Saved: 0 came, 3 went', ...['N3 linedef 4: Two-sided, without a back sidedef, from (256, 256) to (512, 256)',
-    'W2 linedef 5: No middle texture in front, from (512, 256) to (512, 0)', 'W3 thing 1: Stands in the void, at (536, 128)'].map((told) => `went: ${told}`)]);
+  check('what went is told', await changes(), ['Saved: 0 came, 3 went', ...['W2 linedef 5: No middle texture in front, from (512, 256) to (512, 0)',
+    'W3 thing 1: Stands in the void, at (536, 128)', 'N3 linedef 4: Two-sided, without a back sidedef, from (256, 256) to (512, 256)'].map((told) => `went: ${told}`)]);
   await browser.run("{ document.querySelector('#changes-title').textContent = ''; }");
   written('saved.wad', level());
   await browser.until("document.querySelector('#changes-title').textContent", 'a file that is saved as it was');
@@ -56,7 +56,7 @@ async function unreadable() {
   await browser.drop(written('gone.wad', level(twoOverlooked)));
   await drawn('MAP00');
   await pick('levels', 'MAP01');
-  await verdict('sound, 2 warnings');
+  await verdict('2 warnings, otherwise sound');
   rmSync(join(room, 'gone.wad'));
   await browser.until("document.querySelector('#map-none').textContent.startsWith('Refused')", 'a file that is gone');
   const why = "it was changed or moved, and can't be read";
@@ -66,7 +66,7 @@ async function unreadable() {
   await browser.until("!/moved|reading/.test(document.querySelector('#files').textContent)", 'half of a file');
   check('half of it is refused', await textsOf('#files .row-state'), ['refused']);
   written('gone.wad', level(oneMistaken));
-  await verdict('sound, 1 note');
+  await verdict('1 note, otherwise sound');
   check('once it is there again it is shown', [await textOf('#title'), await notices()], ['MAP01', []]);
   check('with what changed since it was read', (await changes())?.[0], 'Saved: 1 came, 2 went');
 }
@@ -76,9 +76,10 @@ async function others() {
   const walls = wallsOfRooms(), game = (/** @type {[string, Buffer][]} */ lumps) => wad([...rooms('MAP01'), ...lumps], 'IWAD');
   await fresh();
   await browser.drop(written('doom.wad', game(walls)), written('pwad.wad', wad(rooms('MAP01', { damage: twoUnknown }))));
-  await verdict('sound, 2 warnings');
+  await verdict('ends the game: 2 warnings');
   written('doom.wad', game(walls.slice(1)));
-  await browser.until("document.querySelector('#codes').textContent === 'W10 1'", "a game's file that lists no textures");
+  await browser.until("document.querySelectorAll('#findings .odd').length === 1", "a game's file that lists no textures");
+  check('by what it has now', await codes(), 'W10 1');
   check('what stands on a file that was saved is judged anew', await textOf('#title'), 'MAP01');
   await fresh();
   await browser.drop(written('pack.zip', zipped([['a.wad', level()], ['b.wad', level(oneMistaken)]])));
@@ -98,7 +99,7 @@ async function reloads() {
   await browser.press('#choose-too');
   await drawn('MAP00');
   await pick('levels', 'MAP01');
-  await verdict('sound, 1 note');
+  await verdict('1 note, otherwise sound');
   await browser.run(`window.save(${JSON.stringify([...level()])})`);
   await verdict('sound');
   check('a file that was chosen is followed', (await changes())?.[0], 'Saved: 0 came, 1 went');
@@ -122,7 +123,7 @@ async function unfollowed() {
   check('and a button asks for the file', await browser.run('window.clicks'), 1);
   await pick('levels', 'MAP01');
   await browser.until("document.querySelector('#told').textContent || document.querySelector('#map-none').textContent", 'a level');
-  check('a level that is read already is told', await textOf('#told'), 'sound, 1 note');
+  check('a level that is read already is told', await textOf('#told'), '1 note, otherwise sound');
 }
 
 export async function follows() {

@@ -1,6 +1,6 @@
 // The cases of the page over the game's file: what is looked for there, and which file serves.
 import {
-  browser, check, drawn, fresh, isHidden, judged, pick, printed, programs, room, saved, textOf, textsOf, withhold, written,
+  FINDING, browser, check, codes, drawn, found, fresh, isHidden, judged, pick, printed, programs, room, saved, textOf, textsOf, withhold, written,
 } from './person.mjs';
 import { runProgram } from './server.mjs';
 import { demo, flats, rooms, textures, twoUnknown, wad, wallsOfRooms } from './wads.mjs';
@@ -41,11 +41,11 @@ async function later() {
   await read(2);
   await judged();
   check("the level stays when its game's file comes", [await textOf('#crumbs'), await textOf('#title')], ['mine.wadMAP01', 'MAP01']);
-  check('and is judged over that', [await note(), await textOf('#told'), await textOf('#codes')], ['', 'sound, 2 warnings', 'W9 1 · W10 1']);
-  check('each in words', await textsOf('#findings .row > span:not(.ask)'), ['W9', 'sidedef 5', W9, 'W10', 'sector 1', W10]);
-  check('so are all its levels', await textsOf('#levels .row-state'), ['sound · W9 W10']);
+  check('and is judged over that', [await note(), await textOf('#told'), await codes()], ['', 'ends the game: 2 warnings', 'W9 1 · W10 1']);
+  check('each in words', await found(), ['W9', 'sidedef 5', W9, 'W10', 'sector 1', W10]);
+  check('so are all its levels', await textsOf('#levels .row-state'), ['ends the game: 2 warnings · W9 W10']);
   check('which file serves', [await textsOf('#files .row-name'), await held()], [['mine.wad', 'game.wad'], ['1 level over game.wad · 1 demo', '1 level']]);
-  await browser.press('#findings .row');
+  await browser.press(FINDING);
   await browser.until("document.querySelector('#map').dataset.view.startsWith('512.000 128.000')", 'the linedef of an unknown texture');
   const over = (/** @type {string[]} */ [command, ...words]) => printed([command, '--base', 'game.wad', ...words, 'mine.wad'], [game, mine]).toString('latin1');
   check('the saved report', await saved('report', 'mine.wad.txt'), over(['check', '--map', '--max', '0']));
@@ -67,7 +67,7 @@ async function together() {
   await read(3);
   await drawn('MAP01');
   await judged();
-  check('of files that are dropped together mine is shown', [await textOf('#crumbs'), await textOf('#codes')], ['mine.wadMAP01', 'W9 1 · W10 1']);
+  check('of files that are dropped together mine is shown', [await textOf('#crumbs'), await codes()], ['mine.wadMAP01', 'W9 1 · W10 1']);
   check('in the order of the drop', await textsOf('#files .row-name'), ['game.wad', 'notes.txt', 'mine.wad']);
   const asked = await browser.run(`window.asked.filter((one) => /^(open|survey|look) /.test(one)).sort()`);
   check('each was judged once', asked, ['look mine.wad', 'open game.wad', 'open mine.wad', 'open notes.txt', 'survey game.wad', 'survey mine.wad']);
@@ -83,13 +83,13 @@ async function several() {
   await drawn('MAP01');
   await judged();
   check('the only game serves all', await held(), ['1 level over first.wad · 1 demo', '1 level over first.wad', '1 level']);
-  check('and has a texture', await textsOf('#levels .row-state'), ['sound · W10']);
+  check('and has a texture', await textsOf('#levels .row-state'), ['ends the game: 1 warning · W10']);
   await redrawn(() => browser.drop(gameFile), 'MAP01');
   await read(4);
   await judged();
   const sorted = ['1 level over game.wad · 1 demo', '1 level over first.wad', '1 level', '1 level'];
   check('one with levels of such names takes its place', await held(), sorted);
-  check('and what is unknown there is told', [await textsOf('#levels .row-state'), await textOf('#codes')], [['sound · W9 W10'], 'W9 1 · W10 1']);
+  check('and what is unknown there is told', [await textsOf('#levels .row-state'), await codes()], [['ends the game: 2 warnings · W9 W10'], 'W9 1 · W10 1']);
   await browser.drop(written('second.wad', game));
   await read(5);
   check('a later one does not', await held(), [...sorted, '1 level']);
@@ -102,16 +102,16 @@ async function own() {
   await browser.drop(written('own.wad', wad([...rooms('MAP01', { damage: twoUnknown }), ['TEXTURE1', textures(['STEP1', 'STONE2'])]])));
   await drawn('MAP01');
   await judged();
-  check('textures of its own', [await textsOf('#levels .row-state'), await textOf('#codes')], [['sound · W9'], 'W9 1']);
+  check('textures of its own', [await textsOf('#levels .row-state'), await codes()], [['ends the game: 1 warning · W9'], 'W9 1']);
   check('flats of none', await note(), `W10 weren't looked for: no file has F_START${HELPS}`);
   await fresh();
   await browser.drop(written('label.wad', wad([...rooms('TEXTURE1', { damage: twoUnknown }), ...rooms('NOFLAT', { flat: 'LEVEL' }), ...wallsOfRooms()])));
   await drawn('TEXTURE1');
   await judged();
-  check('a label is a flat, too, and hides no later textures', [await textsOf('#levels .row-state'), await textOf('#codes')], [['sound · W9', 'sound · W10'], 'W9 1']);
+  check('a label is a flat, too, and hides no later textures', [await textsOf('#levels .row-state'), await codes()], [['ends the game: 1 warning · W9', 'ends the game: 2 warnings · W10'], 'W9 1']);
   await pick('levels', 'NOFLAT');
   await drawn('NOFLAT');
-  check('the copy that is asked has a label that is no flat', await textOf('#codes'), 'W10 2');
+  check('the copy that is asked has a label that is no flat', await codes(), 'W10 2');
   await fresh();
   await browser.drop(written('bare.wad', wad(rooms('MAP01'), 'IWAD')));
   await drawn('MAP01');

@@ -1,6 +1,6 @@
 // The cases of the page about how often a level is judged.
 import { wait } from './browser.mjs';
-import { browser, check, drawn, fresh, isNative, judged, pick, textOf, written } from './person.mjs';
+import { browser, check, codes, drawn, fresh, isNative, judged, pick, textOf, written } from './person.mjs';
 import { oneMistaken, rooms, wad, wallsOfRooms } from './wads.mjs';
 
 /** Lets the workers of the page that are there keep the names of the engine's calls. */
@@ -32,7 +32,7 @@ export async function judgings() {
   await drawn('MAP02');
   await browser.until("document.querySelector('#legend').classList.contains('found')", 'its marks');
   check('a click cuts a level out, and judges it once beside its picture', await asked(), ['run_wadlens', 'run_wadlens', 'draw_picture', 'list_linedefs']);
-  check('with the sums of the survey', [await textOf('#told'), await textOf('#codes')], ['sound, 1 note', 'N3 1']);
+  check('with the sums of the survey', [await textOf('#told'), await codes()], ['1 note, otherwise sound', 'N3 1']);
   await pick('levels', 'MAP01');
   await drawn('MAP01');
   await browser.until("document.querySelector('#told').textContent === 'sound'", 'the first level');

@@ -60,7 +60,7 @@ async function sizes() {
     await drawn('MAP01');
     await judged();
     check(`nor is it with files, ${at}`, await wrong(isTiny), []);
-    await browser.run("{ document.querySelector('#at').value = '100 100'; document.querySelector('#pin').click(); document.querySelector('#codes button').click(); }");
+    await browser.run("{ document.querySelector('#at').value = '100 100'; document.querySelector('#pin').click(); document.querySelector('#findings .ask').click(); }");
     await pointTold('100 100');
     await browser.run("document.querySelector('#fit').click()");
     check(`nor with a pinned point and a code explained, ${at}`, await wrong(isTiny), []);

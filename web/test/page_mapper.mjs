@@ -3,8 +3,8 @@ import { readFileSync } from 'node:fs';
 import { join } from 'node:path';
 import { wait } from './browser.mjs';
 import {
-  browser, check, drawn, drawnAnew, filterBy, fresh, hasInk, isHidden, judged, legend, pick, pinBy, placeOf, pointTold, printed, room, root,
-  textOf, textsOf, viewOf, written,
+  FINDING, browser, check, codes, drawn, drawnAnew, filterBy, found, fresh, hasInk, isHidden, judged, legend, pick, pinBy, placeOf, pointTold,
+  printed, room, root, textOf, textsOf, viewOf, written,
 } from './person.mjs';
 import { demo, flats, lostLinedef, oneLost, oneMistaken, oneTwice, rooms, textures, twoOverlooked, twoUnknown, wad, wallsOfRooms, words } from './wads.mjs';
 
@@ -39,41 +39,94 @@ async function silenced() {
   await browser.drop(twice);
   await browser.until("document.querySelector('#crumbs').textContent === 'twice.wadMAP01' && document.querySelector('#map').dataset.drawn", 'other faults');
   check('other faults silence two of them', [await textsOf('#findings .code'), await unlooked()],
-    [['F15', 'F16', 'W9', 'W10'], "W3 and W5 aren't looked for until all faults are mended."]);
+    [['W9', 'W10', 'F15', 'F16'], "W3 and W5 aren't looked for until all faults are mended."]);
 }
 
-/** The row that stands for more findings waits for Enter or a click; then the first that is new is chosen in its place. */
-async function more() {
+/** What of the findings is chosen: its words, and its place among its like. */
+const chosenRow = () => browser.run("(() => { const e = document.querySelector('#findings [aria-selected=true]'); return [e?.querySelector('.row-name').textContent, e?.ariaPosInSet, e?.ariaSetSize, e?.ariaExpanded ?? '']; })()");
+
+/** Findings stand under headings, what ends the game first, which fold by clicks and by keys. */
+async function groups() {
   const lost = Buffer.concat(Array.from({ length: 33 }, () => lostLinedef));
-  const spare = (/** @type {Record<string, Buffer>} */ lumps) => {
-    lumps.SEGS = Buffer.concat([lumps.SEGS, ...Array.from({ length: 24 }, () => words(90, 91, 0, 0, 0, 0))]);
+  const more = (/** @type {Record<string, Buffer>} */ lumps) => {
+    lumps.SEGS = Buffer.concat([lumps.SEGS, words(90, 91, 0, 0, 0, 0)]);
+    lumps.THINGS = lumps.THINGS.subarray(10); // no player 1 start
+    oneMistaken(lumps);
   };
-  const file = written('more.wad', wad(rooms('MAP01', { linedefs: lost, damage: spare })));
-  const chosen = () => browser.run("(() => { const e = document.querySelector('#findings [aria-selected=true]'); return [e?.ariaPosInSet, e?.ariaSetSize, e?.querySelector('.row-name').textContent]; })()");
-  const listed = () => browser.until("document.querySelector('#findings .row')?.getAttribute('aria-setsize') === '57' && document.querySelector('#findings [aria-selected=true]')", 'all findings');
   await fresh();
-  await browser.drop(file);
+  await browser.drop(written('groups.wad', wad(rooms('MAP01', { linedefs: lost, damage: more }))));
   await drawn('MAP01');
+  check('what ends the game stands first, then faults and notes', await codes(), 'N11 1 · F3 33 · F6 1 · N3 1');
+  check('each under a heading in plain words', await textsOf('#findings .group-name'),
+    ['No player 1 start, 1', 'Linedef vertex names none, 33', 'Seg vertex names none, 1', 'Two-sided flag without side 1, 1']);
+  check('that says what it is', await textsOf('#findings .odd .row-more'), ['N11 ends the game · note', 'F3 fault', 'F6 fault', 'N3 note']);
+  check('a group of many is folded', (await found()).filter((_, k) => k % 3 < 2), ['N11', 'level', 'F6', 'seg 8', 'N3', 'linedef 4']);
   await browser.run("document.querySelector('#findings').focus()");
-  for (let k = 0; k < 21; k++) await browser.key('ArrowDown');
-  await drawnAnew();
-  check('an arrow key onto the row of more lists nothing', await chosen(), ['21', '42', '13 more']);
+  for (let k = 0; k < 3; k++) await browser.key('ArrowDown');
+  check('keys pass a heading', await chosenRow(), ['Linedef vertex names none, 33', '2', '4', 'false']);
+  await browser.key('ArrowRight');
+  check('which an arrow to the right opens', [await chosenRow(), (await textsOf(`${FINDING} .row-name`)).slice(0, 2)], [['Linedef vertex names none, 33', '2', '4', 'true'], ['level', 'linedef 7']]);
   await browser.key('ArrowDown');
-  check('and the next goes on', await chosen(), ['22', '42', 'seg 8']);
-  await browser.key('End');
+  check('and the next is the first under it', await chosenRow(), ['linedef 7', '1', '33', '']);
+  await browser.key('ArrowLeft');
+  check('an arrow to the left folds it, with what was chosen there', await chosenRow(), ['Linedef vertex names none, 33', '2', '4', 'false']);
   await browser.key('Enter');
-  await listed();
-  check('Enter lists all, and chooses the first that is new', await chosen(), ['54', '57', 'seg 28']);
-  await browser.key('ArrowUp');
-  check('from which the keys go on', await chosen(), ['53', '57', 'seg 27']);
-  await pick('levels', 'MAP01');
+  check('Enter does as a click', (await chosenRow())[3], 'true');
+  await browser.press('#findings [aria-selected=true] .group-name');
+  check('a click folds it', (await chosenRow())[3], 'false');
+  const { nodes } = await browser.send('Accessibility.getFullAXTree');
+  check('all of that is heard as a tree', ['tree', 'treeitem'].map((role) => nodes.some((/** @type {any} */ node) => !node.ignored && node.role?.value === role)), [true, true]);
+  await sifted();
+}
+
+/** A filter leaves headings with what it passes. The level has 36 findings. */
+async function sifted() {
+  const sift = (/** @type {string} */ told) => browser.run(`{ const e = document.querySelector('#found-filter'); e.value = ${JSON.stringify(told)}; e.dispatchEvent(new Event('input')); }`);
+  await sift('start 38');
+  check('a filter passes what has its words', await found(), ['F3', 'linedef 38', "Start vertex 4000 isn't there (6 vertexes)"]);
+  check('and tells how many of how many', await codes(), 'F3 1 of 33');
+  await sift('n3');
+  check('a code passes all of it', await found(), ['N3', 'linedef 4', 'Two-sided, without a back sidedef, from (256, 256) to (512, 256)']);
+  await browser.until("document.querySelector('#legend-found').textContent === '1 of 36 findings'", 'marks of what is passed');
+  await sift('nothing');
+  check('what nothing has is told', [await codes(), await isHidden('#found-none')], ['', false]);
+  await sift('');
+  check('without one all are there', [await codes(), await isHidden('#found-none')], ['N11 1 · F3 33 · F6 1 · N3 1', true]);
+}
+
+/** What is hidden stays so in all levels of its file, and counts no more. */
+async function hides() {
+  const damages = (/** @type {Record<string, Buffer>} */ lumps) => [twoOverlooked, oneMistaken].forEach((damage) => damage(lumps));
+  await fresh();
+  await browser.drop(written('hides.wad', wad([...rooms('MAP01', { damage: damages }), ...rooms('MAP02', { damage: twoOverlooked })])));
   await drawn('MAP01');
-  await browser.until("document.querySelector('#findings .row')?.getAttribute('aria-setsize') === '42'", 'a list that is short again');
+  await judged();
+  await browser.until("document.querySelector('#legend').classList.contains('found')", 'the marks');
+  await drawnAnew();
+  check('what is found is marked', await hasInk('fault', 512, 128), true);
+  await browser.press('#findings .shut');
+  await browser.until("!document.querySelector('#hidden-codes').hidden", 'a hidden code');
+  await drawnAnew();
+  check('a cross hides a code', [await codes(), await textOf('#hidden-codes'), await hasInk('fault', 512, 128)], ['W3 1 · N3 1', 'Hidden in this file: W2, 1', false]);
+  check('in the verdict and beside the levels', [await textOf('#told'), await textsOf('#levels .row-state')], ['1 warning, 1 note, otherwise sound', ['1 warning, 1 note · W3 N3', '1 warning · W3']]);
+  await pick('levels', 'MAP02');
+  await drawn('MAP02');
+  check('in all levels of its file', [await codes(), await textOf('#told')], ['W3 1', '1 warning, otherwise sound']);
+  await browser.drop(written('hides.wad', wad([...rooms('MAP01'), ...rooms('MAP02', { damage: damages })])));
+  await browser.until("document.querySelector('#told').textContent === '1 warning, 1 note, otherwise sound'", 'the file that was saved');
+  check('also once it was saved anew', await codes(), 'W3 1 · N3 1');
   await browser.run("document.querySelector('#findings').focus()");
-  for (let k = 0; k < 21; k++) await browser.key('ArrowDown');
-  await browser.press('#findings [aria-selected=true]');
-  await listed();
-  check('and so does a click', await chosen(), ['21', '57', 'linedef 27']);
+  await browser.key('ArrowDown');
+  await browser.key('Delete');
+  check('a key hides a code, too', [await codes(), await textOf('#hidden-codes')], ['N3 1', 'Hidden in this file: W2, 1 W3, 1']);
+  await browser.press('#hidden-codes button');
+  check('and a button shows it again', [await codes(), await browser.run('document.activeElement.id')], ['W2 1 · N3 1', 'findings']);
+  await browser.drop(written('faulty.wad', wad(rooms('MAP01', { damage: oneLost }))));
+  await browser.until("document.querySelector('#crumbs').textContent === 'faulty.wadMAP01' && document.querySelector('#map').dataset.drawn", 'a fault');
+  await browser.run("document.querySelector('#findings').focus()");
+  await browser.key('ArrowDown');
+  await browser.key('Delete');
+  check("a fault can't be hidden", [await codes(), await textsOf('#findings .shut')], ['F4 1', []]);
 }
 
 /** What the page shows: the file and the level of the crumbs, the title, the verdict, the marked level, and whether the level can be saved. */
@@ -118,7 +171,7 @@ async function others() {
   await at('first.wadMAP02');
   await pick('files', 'first.wad');
   await drawnAnew();
-  check('the file of what is shown leaves it', await shown(), ['first.wadMAP02', 'MAP02', 'sound, 1 note', 'MAP02 doom', true]);
+  check('the file of what is shown leaves it', await shown(), ['first.wadMAP02', 'MAP02', '1 note, otherwise sound', 'MAP02 doom', true]);
 }
 
 /** A file that was saved and is dropped again takes the place of the one before, and what is chosen stays. */
@@ -142,11 +195,11 @@ async function again() {
   await browser.press('#in');
   await drawnAnew();
   const view = await viewOf(), mended = wad([...rooms('MAP00'), ...rooms('MAP01'), ...rooms('MAP02', { damage: twoUnknown })]);
-  await drop('mine.wad', mended, 'sound, 2 warnings');
+  await drop('mine.wad', mended, 'ends the game: 2 warnings');
   await drawn('MAP02');
   check('a file that is dropped again takes the place of the one before', await names(), ['game.wad', 'mine.wad']);
   check('and shows what it has now', (await textsOf('#files .row-more'))[1].split(' · ').slice(1), ['3 levels over game.wad']);
-  check('of the same level', await shown(), ['mine.wadMAP02', 'MAP02', 'sound, 2 warnings', 'MAP02 doom', true]);
+  check('of the same level', await shown(), ['mine.wadMAP02', 'MAP02', 'ends the game: 2 warnings', 'MAP02 doom', true]);
   check('from where it was seen', await viewOf(), view);
   await pointTold('100 100 sector');
   check('with its pinned point', `${await textOf('#point-line')}\n`, printed(['points', 'MAP02', 'f'], mended, '100 100\n').toString());
@@ -156,13 +209,13 @@ async function again() {
   check('where that level is gone the first is shown', await shown(), ['mine.wadMAP01', 'MAP01', 'sound', 'MAP01 doom', true]);
   await drawn('MAP01');
   check('the whole of it, and no point', [(await viewOf())[2] < view[2], await isHidden('#point')], [true, true]);
-  await drop('mine.wad', wad(rooms('MAP01', { damage: twoUnknown })), 'sound, 2 warnings');
-  await drop('game.wad', wad([...rooms('MAP01'), ['TEXTURE1', textures(['STEP1', 'STONE2', 'NOWALL'])], ...flats('CEIL1_1')], 'IWAD'), 'sound, 2 warnings');
-  check('so does the game\'s file, and what stands on it is judged anew', [await names(), (await shown())[0], await textOf('#codes')], [['game.wad', 'mine.wad'], 'mine.wadMAP01', 'W10 2']);
+  await drop('mine.wad', wad(rooms('MAP01', { damage: twoUnknown })), 'ends the game: 2 warnings');
+  await drop('game.wad', wad([...rooms('MAP01'), ['TEXTURE1', textures(['STEP1', 'STONE2', 'NOWALL'])], ...flats('CEIL1_1')], 'IWAD'), 'ends the game: 2 warnings');
+  check('so does the game\'s file, and what stands on it is judged anew', [await names(), (await shown())[0], await codes()], [['game.wad', 'mine.wad'], 'mine.wadMAP01', 'W10 2']);
   await drop('game.wad', wad(rooms('MAP01')), 'sound');
   await pick('files', 'mine.wad');
   await browser.until("document.querySelector('#crumbs').textContent === 'mine.wadMAP01' && document.querySelector('#told').textContent === 'sound'", 'no game');
-  check('as where it is none any more', [await textsOf('#files .row-state'), await textOf('#codes')], [['PWAD', 'PWAD'], '']);
+  check('as where it is none any more', [await textsOf('#files .row-state'), await codes()], [['PWAD', 'PWAD'], '']);
   await pinBy('100 100');
   await pointTold('100 100 sector');
   await browser.press('#in');
@@ -190,7 +243,7 @@ async function sectors() {
   await fresh();
   await browser.drop(file);
   await drawn('MAP01');
-  check('findings with a sector and without a place', await textsOf('#findings .row > span:nth-child(-n + 2)'), ['N11', 'level', 'W9', 'sidedef 5', 'W10', 'sector 1', 'W10', 'sector 4']);
+  check('findings with a sector and without a place', (await found()).filter((_, k) => k % 3 < 2), ['N11', 'level', 'W9', 'sidedef 5', 'W10', 'sector 1', 'W10', 'sector 4']);
   await drawnAnew();
   const outline = () => Promise.all([[256, 60], [400, 256], [512, 60], [400, 0], [100, 256]].map(([x, y]) => hasInk('fault', x, y)));
   check('a sector is marked as the other findings are', await outline(), [true, true, true, true, false]);
@@ -205,12 +258,13 @@ async function sectors() {
   const [, , zoom] = await viewOf(), width = await browser.run("document.querySelector('#map').clientWidth");
   check('a finding on a sector shows all of it', [await outline(), 256 * zoom < width, 256 * zoom > 60], [[true, true, true, true, false], true, true]);
   check('with a line that is wider than the other marks', await hasInk('fault', 512 - 2 / zoom, 60), true);
-  await browser.key('ArrowUp');
+  for (let k = 0; k < 2; k++) await browser.key('ArrowUp'); // past a heading
   await browser.until("document.querySelector('#map').dataset.view.startsWith('512.000 128.000')", 'the view at the linedef');
   await still();
   check('one on a linedef has a mark about it', await hasInk('fault', 512, 128, 19), true);
   const view = await viewOf();
   await browser.key('Home');
+  await browser.key('ArrowDown');
   await still();
   check('one without a place moves nothing, and takes that mark away', [await viewOf(), await hasInk('fault', 512, 128, 19)], [view, false]);
   check('and says so', await textOf('#under'), 'N11 level has no place on the map.');
@@ -226,14 +280,14 @@ async function outside() {
   await fresh();
   await browser.drop(file);
   await drawn('MAP01');
-  check('what is out of range', await textsOf('#findings .row > span:not(.ask)'), ['F12', 'node 0', 'Origin (20000, 0) is outside -16384 to 16383',
+  check('what is out of range', await found(), ['F12', 'node 0', 'Origin (20000, 0) is outside -16384 to 16383',
     'N10', 'block (2, 1)', "Its list isn't inside BLOCKMAP", 'N12', 'vertex 6', '(17000, 300) is outside -16384 to 16383']);
-  await browser.press('#findings .row');
+  await browser.press(FINDING);
   await browser.until("document.querySelector('#map').dataset.view.startsWith('20000.000 0.000')", 'the view at the node');
   await browser.run("document.querySelector('#findings').focus()");
-  await browser.key('ArrowDown');
+  for (let k = 0; k < 2; k++) await browser.key('ArrowDown'); // past a heading
   await browser.until("document.querySelector('#under').textContent === 'N10 block (2, 1) has no place on the map.'", 'a block');
-  await browser.key('ArrowDown');
+  for (let k = 0; k < 2; k++) await browser.key('ArrowDown');
   await browser.until("document.querySelector('#map').dataset.view.startsWith('17000.000 300.000')", 'the view at the vertex');
 }
 
@@ -268,9 +322,9 @@ async function widths() {
     await browser.drop(file);
     await drawn('MAP01');
     await judged();
-    check(`a level of many codes, ${width}`, (await textsOf('#levels .row-state'))[0], 'sound, 2 notes · W2 W3 W7 W8 W9 W10');
+    check(`a level of many codes, ${width}`, (await textsOf('#levels .row-state'))[0], 'ends the game: 6 warnings, 2 notes · N11 W9 W10 W2 W3 W7 W8 N3');
     check(`keeps its name, ${width}`, await cut(), []);
-    check(`and tells all of them, ${width}`, await browser.run("document.querySelector('#levels .row-state').title.split('\\n')[0]"), 'sound, 2 notes · W2 W3 W7 W8 W9 W10');
+    check(`and tells all of them, ${width}`, await browser.run("document.querySelector('#levels .row-state').title.split('\\n')[0]"), 'ends the game: 6 warnings, 2 notes · N11 W9 W10 W2 W3 W7 W8 N3');
   }
   const panes = () => browser.run("[...document.querySelectorAll('.pane')].filter((e) => e.checkVisibility()).map((e) => e.dataset.pane)");
   check('four panes in three columns', await panes(), ['files', 'levels', 'map', 'notes']);
@@ -281,52 +335,44 @@ async function widths() {
   }
 }
 
-/** The legend says how many findings are marked where there are more. */
+/** All findings are marked, not those alone that are listed first. */
 async function marked() {
-  const twoSided = Buffer.concat(Array.from({ length: 30 }, (_, k) => words(0, 1, 4, 0, 0, k ? 0 : 7, -1)));
+  const twoSided = Buffer.concat(Array.from({ length: 99 }, (_, k) => words(0, 1, 4, 0, 0, k ? 0 : 7, -1)));
   await fresh();
   await browser.drop(written('marked.wad', wad(rooms('MAP01', { linedefs: twoSided }))));
   await drawn('MAP01');
   await browser.until("document.querySelector('#legend').classList.contains('found')", 'the marks');
-  const codes = await textOf('#codes'), total = [...codes.matchAll(/ (\d+)/g)].reduce((sum, [, n]) => sum + Number(n), 0);
-  const listed = await browser.run("Number(document.querySelector('#findings .row').ariaSetSize)");
-  const left = [...codes.matchAll(/ (\d+)/g)].filter(([, n]) => Number(n) > 20).length;
-  check('the legend says how many findings are marked', await legend(), [`${listed - left} of ${total} findings`]);
-  await browser.run("document.querySelector('#findings').focus()");
-  for (let k = 0; k < 21; k++) await browser.key('ArrowDown');
-  await browser.key('Enter');
-  await browser.until(`document.querySelector('#findings .row').ariaSetSize === '${total}'`, 'all findings');
-  await browser.until("document.querySelector('#legend-found').textContent === 'findings'", 'all marks');
-  check('and no number once all are', await legend(), ['findings']);
+  check('all of a group are told', (await codes()).split(' · ').at(-1), 'N3 99');
+  check('and marked, which needs no number', await legend(), ['findings']);
 }
 
 /** Each code is told in words, where it is pointed at and where it is heard. */
 async function meanings() {
   const page = readFileSync(join(root, 'docs/wadlens.1'), 'utf8'), told = page.slice(page.indexOf('.SH FINDINGS'), page.indexOf('.SH DIAGNOSTICS'));
-  const codes = [...told.matchAll(/^([FNW]\d+)\t/gm)].map(([, code]) => code);
+  const all = [...told.matchAll(/^([FNW]\d+)\t/gm)].map(([, code]) => code);
   await fresh();
   const untold = await browser.run(`(async () => { const { meaningOf } = await import(new URL('codes.mjs', document.baseURI));
-    return ${JSON.stringify(codes)}.filter((code) => !meaningOf(code).startsWith({ F: 'Fault ', N: 'Note ', W: 'Warning ' }[code[0]] + code + ': ')); })()`);
-  check('each code of the man page has a meaning', [codes.length > 35, untold], [true, []]);
+    return ${JSON.stringify(all)}.filter((code) => !meaningOf(code).startsWith({ F: 'Fault ', N: 'Note ', W: 'Warning ' }[code[0]] + code + ': ')); })()`);
+  check('each code of the man page has a meaning', [all.length > 35, untold], [true, []]);
   check('faults, notes and warnings are explained before any file', await browser.run("[...document.querySelectorAll('#welcome p')].some((e) => e.checkVisibility() && /fault.*note.*warning/.test(e.textContent))"), true);
   await browser.drop(written('codes.wad', wad(rooms('MAP01', { damage: manyCodes }))));
   await drawn('MAP01');
   await judged();
   const meaning = 'Note N3: a linedef is two-sided, without a back sidedef.';
-  check('a code in words', await browser.run("[...document.querySelectorAll('#findings .code, #codes button')].filter((e) => e.textContent.startsWith('N3')).map((e) => e.title)"), [meaning, meaning]);
-  check('beside a level, too', await browser.run("document.querySelector('#levels .row-state').title.split('\\n')[1]"), meaning);
+  check('a code in words', await browser.run("[...document.querySelectorAll('#findings .odd')].filter((e) => e.querySelector('.code').textContent === 'N3').map((e) => e.ariaDescription ?? e.getAttribute('aria-description'))"), [meaning]);
+  check('beside a level, too', await browser.run("document.querySelector('#levels .row-state').title.split('\\n').at(-1)"), meaning);
   const { nodes } = await browser.send('Accessibility.getFullAXTree');
-  const described = nodes.find((/** @type {any} */ node) => node.role?.value === 'option' && node.name?.value.includes('N3') && node.description?.value);
+  const described = nodes.find((/** @type {any} */ node) => node.role?.value === 'treeitem' && node.name?.value.includes('N3') && node.description?.value);
   check('and heard', described?.description.value, meaning);
   await explanations();
   const unbuilt = (/** @type {Record<string, Buffer>} */ lumps) => { lumps.NODES = Buffer.alloc(0); };
   await browser.drop(written('unbuilt.wad', wad(rooms('MAP01', { damage: unbuilt }))));
   await browser.until("document.querySelector('#crumbs').textContent === 'unbuilt.wadMAP01' && document.querySelector('#map').dataset.drawn", 'a level without nodes');
-  check('nodes that were not built are told in front of what is found', (await textsOf('#findings .row > span:not(.ask)')).slice(0, 4),
-    ['–', 'level', "NODES is empty: 1 ssectors can't be reached; build the nodes", 'F16']);
+  check('nodes that were not built are told in front of what is found', [await textOf('#advice'), await codes()],
+    ["NODES is empty: 1 ssectors can't be reached; build the nodes.", 'F16 1']);
   await browser.drop(written('lost.wad', wad(rooms('MAP01', { damage: oneLost }))));
   await browser.until("document.querySelector('#crumbs').textContent === 'lost.wadMAP01' && document.querySelector('#map').dataset.drawn", 'a level with a fault');
-  check('and what it means is folded in with its level', await isHidden('#explained'), true);
+  check('and what it means is folded in with its level', await browser.run("document.querySelector('#findings .explained') === null"), true);
   await pinBy('100 100');
   await pointTold('100 100');
   check('a level with faults answers no point', await textOf('#point-line'), "100 100 can't be answered while the level has faults");
@@ -341,30 +387,25 @@ function wordsOfN3() {
   return [head, lines.join(' ')];
 }
 
-/** A question mark in the list, a code above it and a key fold out what a code means. The level has N3. */
+/** A question mark in a heading and a key fold out what a code means, under it. The level has N3. */
 async function explanations() {
-  const folded = async () => [await isHidden('#explained'), await textOf('#explained-title'), (await textsOf('#explained-text p')).join(' ')];
-  const row = "[...document.querySelectorAll('#findings .row')].find((e) => e.querySelector('.code').textContent === 'N3')";
-  const chosen = () => browser.run("document.querySelector('#findings [aria-selected=true] .code')?.textContent ?? ''");
-  const expanded = () => browser.run("[...document.querySelectorAll('#codes [aria-expanded=true]')].map((e) => e.dataset.code)");
-  check('no code is explained unasked', await isHidden('#explained'), true);
-  await browser.run(`${row}.querySelector('.ask').id = 'asked'`);
+  const folded = () => browser.run("[...document.querySelectorAll('#findings .explained')].flatMap((e) => [e.parentElement.querySelector('.code').textContent, [...e.children].map((p) => p.textContent).join(' ')])");
+  const ask = "[...document.querySelectorAll('#findings .ask')].find((e) => e.dataset.code === 'N3')";
+  const below = () => browser.run(`(() => { const head = ${ask}.closest('.row'), next = head.nextElementSibling, [a, b] = [head, next].map((e) => e.getBoundingClientRect()); return Math.abs(Math.round(b.top - a.bottom)); })()`);
+  const [, words3] = wordsOfN3();
+  check('no code is explained unasked', await folded(), []);
+  await browser.run(`${ask}.id = 'asked'`);
   await browser.press('#asked');
-  check('a question mark folds out what its code means', await folded(), [false, ...wordsOfN3()]);
-  check('in three parts', (await textsOf('#explained-text p')).length, 3);
-  check('and chooses no row', await chosen(), '');
-  check('the code above is told as expanded', await expanded(), ['N3']);
+  check('a question mark folds out what its code means', await folded(), ['N3', words3]);
+  check('in three parts, and nothing lies on them', [(await textsOf('#findings .explained p')).length, await below()], [3, 0]);
+  check('and chooses no row', await browser.run("document.querySelector('#findings [aria-selected=true]') === null"), true);
+  await browser.run(`${ask}.id = 'asked'`);
   await browser.press('#asked');
-  check('it folds it in again', [await isHidden('#explained'), await expanded()], [true, []]);
-  await browser.press("#codes button[data-code='N3']");
-  check('so does the code above the list', await folded(), [false, ...wordsOfN3()]);
-  await browser.press('#unexplain');
-  check('and a button folds it in', await isHidden('#explained'), true);
-  check('which gives the keys to the list', await browser.run('document.activeElement.id'), 'findings');
-  await browser.run(`${row}.id`).then((id) => browser.press(`#${id} .row-name`));
+  check('it folds it in again', await folded(), []);
   await browser.run("document.querySelector('#findings').focus()");
+  await browser.key('End');
   await browser.key('?');
-  check('and so does a key, of the chosen row', await folded(), [false, ...wordsOfN3()]);
+  check('and so does a key, of the chosen row', (await folded())[0], 'N3');
   const each = await browser.run(`(async () => { const { explanationOf } = await import(new URL('codes.mjs', document.baseURI));
     return ['F1', 'F18', 'N12', 'W11', 'X1', 'toString'].map((code) => explanationOf(code)?.parts.length ?? 0); })()`);
   check('each code is explained, and no other word', each, [3, 3, 3, 3, 0, 0]);
@@ -398,7 +439,7 @@ async function without() {
 }
 
 export async function mapper() {
-  for (const one of [silenced, more, others, again, sectors, outside, unjudged, widths, marked, meanings, without]) {
+  for (const one of [silenced, groups, hides, others, again, sectors, outside, unjudged, widths, marked, meanings, without]) {
     await browser.screen(1440, 900, 'dark');
     await one();
   }

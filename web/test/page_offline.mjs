@@ -31,12 +31,12 @@ async function offline() {
     await browser.drop(roomsFile);
     await drawn('MAP01');
     await judged();
-    check('without its host it starts and judges', await textsOf('#levels .row-state'), ['sound', 'sound, 1 note']);
+    check('without its host it starts and judges', await textsOf('#levels .row-state'), ['sound', '1 note · N3']);
     await browser.run("{ document.querySelector('#stop').click(); document.querySelector('#map').dataset.drawn = ''; }");
     await browser.drop(roomsFile);
     await drawn('MAP01');
     await judged();
-    check('and so does a worker that begins anew', await textsOf('#levels .row-state'), ['sound', 'sound, 1 note']);
+    check('and so does a worker that begins anew', await textsOf('#levels .row-state'), ['sound', '1 note · N3']);
   });
   return address;
 }
@@ -53,7 +53,7 @@ async function early() {
     await browser.drop(roomsFile);
     await drawn('MAP01');
     await judged();
-    check('a page that was opened goes on without its host', await textsOf('#levels .row-state'), ['sound', 'sound, 1 note']);
+    check('a page that was opened goes on without its host', await textsOf('#levels .row-state'), ['sound', '1 note · N3']);
   });
   await browser.send('Page.removeScriptToEvaluateOnNewDocument', { identifier });
   return address;

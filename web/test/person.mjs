@@ -36,6 +36,14 @@ export async function withHandles(act) {
 
 export const textOf = (/** @type {string} */ selector) => browser.run(`document.querySelector(${JSON.stringify(selector)}).textContent`);
 export const textsOf = (/** @type {string} */ selector) => browser.run(`[...document.querySelectorAll(${JSON.stringify(selector)})].map((e) => e.textContent)`);
+/** What is listed of what was found: code, where and words of each, flat. @returns {Promise<string[]>} */
+export const found = () => browser.run(`(() => { let code = '';
+  return [...document.querySelectorAll('#findings .row')].flatMap((row) => { code = row.querySelector('.code')?.textContent ?? code;
+    return row.classList.contains('odd') ? [] : [code, ...[...row.children].map((e) => e.textContent)]; }); })()`);
+/** The headings of what was found, each as its code and how many there are. @returns {Promise<string>} */
+export const codes = () => browser.run("[...document.querySelectorAll('#findings .odd')].map((row) => `${row.querySelector('.code').textContent} ${row.querySelector('.group-count').textContent.slice(2)}`).join(' · ')");
+/** A finding's row, the first that is listed where no words tell it. */
+export const FINDING = '#findings .row:not(.odd)';
 export const isHidden = (/** @type {string} */ selector) => browser.run(`document.querySelector(${JSON.stringify(selector)}).hidden`);
 export const viewOf = async () => (await browser.run("document.querySelector('#map').dataset.view")).split(' ').map(Number);
 export const judged = () => browser.until("!!document.querySelector('#levels .row-state') && ![...document.querySelectorAll('#levels .row-state')].some((e) => e.textContent === '…')", 'all judged');

@@ -3,6 +3,7 @@ import { explanationOf, meaningOf } from './codes.mjs';
 import { findingOf } from './findings.mjs';
 import { byRank, rankWords, runsOf } from './groups.mjs';
 import { Lines } from './lines.mjs';
+import { linked } from './links.mjs';
 import { ListBox } from './list.mjs';
 import { make } from './rows.mjs';
 import { field, get, sentence } from './words.mjs';
@@ -235,7 +236,7 @@ export class FoundList {
   #draw({ group, k }) {
     if (k < 0) return this.#heading(group);
     if (k === group.to) return [make('span', 'row-name', `${group.total - (group.to - group.from)} more`), make('span', 'row-message', 'Choose this to list them all.')];
-    const finding = this.finding(k), message = make('span', 'row-message', finding.message);
+    const finding = this.finding(k), message = make('span', 'row-message', ...linked(finding.message));
     message.title = finding.message; // where it is cut off
     return [make('span', 'row-name', finding.where, ...(this.fresh.has(finding) ? [make('span', 'fresh', 'new')] : [])), message];
   }

@@ -1,17 +1,20 @@
 // One level: its picture, the pinned point, its findings.
 import { changesOf, placeAgain } from './changes.mjs';
+import { inFewWords } from './facts.mjs';
 import { FoundList } from './found_list.mjs';
 import { lineOf } from './linedefs.mjs';
 import { Lines } from './lines.mjs';
+import { link, numbers } from './links.mjs';
 import { MapView } from './map_view.mjs';
 import { tell } from './notices.mjs';
 import { Stopped } from './questions.mjs';
+import { RecordView, askedBy } from './record_view.mjs';
 import { make } from './rows.mjs';
 import { adviceOf, get, field, inShort, isNarrow, notJudged, pane, say, unlookedWords, verdict, wordsOf } from './words.mjs';
 
 /** @typedef {import('./words.mjs').Level} Level */
 /** @typedef {import('./findings.mjs').Finding} Finding @typedef {import('./findings.mjs').Spots} Spots */
-/** @typedef {import('./questions.mjs').Questions} Questions @typedef {import('./map_view.mjs').View} View */
+/** @typedef {import('./questions.mjs').Questions} Questions @typedef {import('./map_view.mjs').View} View @typedef {import('./map_view.mjs').Under} Under */
 /** @typedef {{ linedefs: Int32Array, first: Int32Array, bounds: Int32Array }} Linedefs  their numbers, and which are about each sector: see linedefs.mjs */
 /**
  * @typedef {{ view: View | null, pinned: { x: number, y: number } | null, findings: Finding[], chosen: Finding | null }} Kept  of a level that may be shown
@@ -45,15 +48,6 @@ function taken() {
   };
 }
 
-/** Numbers in a part that scrolls; it fades below while there are more. @param {string} list */
-function numbers(list) {
-  const part = make('span', 'numbers', list);
-  const fade = () => part.classList.toggle('more', part.scrollTop + part.clientHeight < part.scrollHeight - 1);
-  part.addEventListener('scroll', fade, { passive: true });
-  new ResizeObserver(fade).observe(part);
-  return part;
-}
-
 export class LevelView {
   /**
    * @param {Questions} desk @param {Questions} finer @param {() => void} readWide called where the wide reading is chosen
@@ -85,11 +79,12 @@ export class LevelView {
     this.map = new MapView(get('map'), {
       hover: (x, y, under) => this.#hover(x, y, under),
       leave: () => this.#rest(),
-      pin: (x, y) => this.pin(x, y),
+      press: (x, y, under) => this.#press(x, y, under),
       unpin: () => this.unpin(),
       moved: (view) => this.#moved(view),
       taken,
     });
+    this.record = new RecordView(this.map, () => this.#linedefs(), () => this.#rest());
     this.found = new FoundList({
       choose: (finding) => this.#choose(finding),
       listAll: (code, place) => this.#listAll(code, place),
@@ -103,9 +98,10 @@ export class LevelView {
     get('unpin').addEventListener('click', () => this.unpin());
     get('point-form').addEventListener('submit', (event) => {
       event.preventDefault();
-      const [x, y] = field('at').value.match(/-?\d+/g) ?? [];
-      if (y !== undefined) this.pin(Number(x), Number(y));
+      this.#goTo(field('at').value);
     });
+    field('at').addEventListener('input', () => field('at').setCustomValidity(''));
+    get('point-form').closest('.notes')?.addEventListener('click', (event) => this.#follow(/** @type {MouseEvent} */ (event)), { capture: true });
     get('in').addEventListener('click', () => this.map.zoom(1.5));
     get('out').addEventListener('click', () => this.map.zoom(1 / 1.5));
     get('fit').addEventListener('click', () => this.map.fit());
@@ -156,6 +152,8 @@ export class LevelView {
     this.level = null;
     this.svg = null;
     this.ends = undefined;
+    this.map.linedefs = new Int32Array();
+    this.record.take(null);
     this.unpin();
     this.#legend('found', false);
     this.map.show(null);
@@ -215,7 +213,7 @@ export class LevelView {
     Object.assign(get('map').dataset, { drawn: asked.name, paths: picture?.paths ?? 0, ms: (performance.now() - began).toFixed(0) });
     this.#rest();
     say(`${asked.name}${picture ? ' drawn' : ''}, ${this.#verdict()}`);
-    this.#linedefs(); // so that a pinned point needn't wait for them
+    this.#takeRecords(asked);
     this.#mark();
   }
 
@@ -280,14 +278,21 @@ export class LevelView {
     } catch (error) { if (!(error instanceof Stopped)) tell({ about: asked.name, words: wordsOf(error) }); }
   }
 
-  /** @param {Finding} finding */
-  async #choose(finding) {
+  /** @param {Finding} finding @param {boolean} [stays] whether the view stays as it is */
+  async #choose(finding, stays = false) {
     const { asked } = this, mine = ++this.choices, place = await this.#placeOf(finding);
     if (this.asked !== asked || mine !== this.choices) return;
     if (place && this.map.picture && isNarrow()) pane('map');
-    this.map.mark(place);
+    this.map.mark(place, stays);
+    await this.#showOf(finding);
     this.#rest();
     if (!place) get('under').textContent = `${finding.code} ${finding.where} has no place on the map.`.trim();
+  }
+
+  /** Shows the record that a finding is about, where that is one that can be asked for. @param {Finding} finding */
+  async #showOf({ kind, index, linedef }) {
+    const isThere = await (linedef >= 0 ? this.record.show('linedef', linedef, 'unmarked') : this.record.show(kind, index, 'unmarked'));
+    if (!isThere) this.record.hide();
   }
 
   /** Marks the places of all findings that are shown, a part at a time where they are very many, and says how many those are where there are more. */
@@ -337,6 +342,63 @@ export class LevelView {
     return this.ends = ends;
   }
 
+  /** Asks for what lies on the map in numbers, so that a pinned point and the pointer needn't wait for them. @param {Asked} asked */
+  async #takeRecords(asked) {
+    const ends = this.#linedefs(), lumps = await this.desk.ask('records', asked).catch(() => null), { linedefs } = await ends;
+    if (this.asked !== asked) return;
+    this.map.linedefs = linedefs;
+    this.record.take(lumps);
+    get('map').dataset.asked = asked.name; // for the tests
+  }
+
+  // What is asked of the map -----------------------------------------------------------------------------------------------------
+
+  /**
+   * A click or a tap: on a mark it chooses the finding, and else it pins the point and shows what lies there.
+   * @param {number} x @param {number} y @param {Under} under
+   */
+  #press(x, y, { thing, linedef, found }) {
+    if (found) {
+      this.found.choose(found.k, true);
+      this.#choose(this.found.finding(found.k), true);
+      return;
+    }
+    this.pin(x, y);
+    if (thing >= 0) this.record.show('thing', thing, 'there');
+    else if (linedef >= 0) this.record.show('linedef', linedef, 'there');
+    else this.record.hide();
+  }
+
+  /** Goes to a point, or to what has a number, as the field of the point says. @param {string} words */
+  async #goTo(words) {
+    const [x, y] = words.match(/-?\d+/g) ?? [], asked = askedBy(words);
+    if (!asked) {
+      if (y !== undefined) this.pin(Number(x), Number(y));
+      return;
+    }
+    if (await this.#go(asked.kind, asked.index)) return;
+    field('at').setCustomValidity(`There is no ${asked.kind} ${asked.index}.`);
+    field('at').reportValidity();
+  }
+
+  /** Shows a record, and on a phone the map, where it has a place. @param {string} kind @param {number} index */
+  async #go(kind, index) {
+    const isThere = await this.record.show(kind, index);
+    if (isThere && this.map.asked && isNarrow()) pane('map');
+    if (isThere) say(this.record.told);
+    this.#rest();
+    return isThere;
+  }
+
+  /** A link to a record is followed; what it stands in isn't chosen. @param {MouseEvent} event */
+  #follow(event) {
+    const anchor = /** @type {HTMLElement | null} */ (/** @type {Element} */ (event.target).closest('a.go'));
+    if (!anchor) return;
+    event.preventDefault();
+    event.stopPropagation();
+    this.#go(anchor.dataset.kind ?? '', Number(anchor.dataset.index));
+  }
+
   // Point ------------------------------------------------------------------------------------------------------------------------
 
   /** @param {number} x @param {number} y */
@@ -362,7 +424,8 @@ export class LevelView {
   /** Tells what only the picture knows of the pinned point's sector. */
   #tellSector() {
     const title = this.sector < 0 ? '' : inShort(this.map.titleOf(this.sector));
-    get('point-sector').textContent = title.replace(/^sector /, '');
+    const [number = '', ...rest] = title.replace(/^sector /, '').split(' · ');
+    get('point-sector').replaceChildren(...(title ? [link('sector', Number(number), number), ...rest.map((one) => ` · ${one}`)] : []));
     get('sector-row').hidden = !title;
     this.#legend('pinned', this.sector >= 0);
     this.#legend('sight', this.map.seen.answers.includes('clear'));
@@ -377,10 +440,10 @@ export class LevelView {
   /** Tells the line of `blocks`; answers its linedefs. @param {string} line @returns {number[]} */
   #tellBlock(line) {
     const found = /^-?\d+ -?\d+ block (\d+) (\d+) lines ?(.*)$/.exec(line);
-    const words = found ? [`${found[1]} ${found[2]}, its list `, numbers(found[3])] : [line.replace(/^-?\d+ -?\d+ /, '')];
+    const list = found?.[3] ? found[3].split(' ').map(Number) : [], isLed = list[0] === 0, lines = isLed ? list.slice(1) : list;
+    const words = found ? [`${found[1]} ${found[2]}, its list `, numbers('linedef', lines, isLed ? '0 ' : '')] : [line.replace(/^-?\d+ -?\d+ /, '')];
     get('point-block').replaceChildren(...words);
-    const list = found?.[3].split(' ').map(Number) ?? [];
-    return list[0] === 0 ? list.slice(1) : list; // the word 0 that lists begin with names no linedef of the block
+    return lines; // the word 0 that lists begin with names no linedef of the block
   }
 
   /** Asks what REJECT says of each sector from one. @param {number} sector @param {number} mine */
@@ -396,7 +459,7 @@ export class LevelView {
     this.map.sight(sector, answers);
     for (const [id, answer] of SIGHTS) {
       const list = answers.flatMap((told, other) => told === answer ? [other] : []);
-      get(id).replaceChildren(list.length ? numbers(list.join(' ')) : answers.length ? 'none' : 'unknown');
+      get(id).replaceChildren(list.length ? numbers('sector', list) : answers.length ? 'none' : 'unknown');
     }
     get('unknown-row').hidden = !answers.includes('unknown');
     this.#legend('sight', answers.includes('clear'));
@@ -414,17 +477,20 @@ export class LevelView {
 
   // The map's readout ------------------------------------------------------------------------------------------------------------
 
-  /** @param {number} x @param {number} y @param {import('./map_view.mjs').Under} under */
-  #hover(x, y, { sector, thing, found }) {
+  /** @param {number} x @param {number} y @param {Under} under */
+  #hover(x, y, { sector, thing, linedef, found }) {
+    const { records } = this.record, few = (/** @type {string} */ kind, /** @type {number} */ k) => records && k >= 0 ? inFewWords(records, kind, k) : '';
     if (!this.map.picture) return;
     get('where').textContent = `${x} ${y}`;
-    get('under').textContent = [found, thing, sector].filter(Boolean).map(inShort).join('  –  ') || 'nothing is shown here';
+    const told = [inShort(found?.title ?? ''), few('thing', thing), few('linedef', linedef), inShort(sector)];
+    get('under').textContent = told.filter(Boolean).join('  –  ') || 'nothing is shown here';
   }
 
   /** What the readout says while nothing is under the pointer. */
   #rest() {
+    const point = get('point').hidden ? '' : get('point-line').textContent, told = [this.record?.told, point].filter(Boolean).join('  –  ');
     get('where').textContent = '';
-    get('under').textContent = get('point').hidden ? (this.map?.picture ? 'Click or tap the map to pin a point.' : '') : get('point-line').textContent;
+    get('under').textContent = told || (this.map?.picture ? 'Click or tap the map to pin a point.' : '');
   }
 
   /** @param {View} view */

@@ -35,3 +35,27 @@ export function boundsOf(linedefs) {
   each((sector, line) => { bounds[next[sector]++] = line; });
   return { first, bounds };
 }
+
+/**
+ * The linedef that is nearest to a place; -1 where none is near.
+ * @param {Int32Array} linedefs @param {number} x @param {number} y @param {number} near units
+ */
+export function lineAt(linedefs, x, y, near) {
+  let nearest = near, found = -1;
+  for (let k = 0; k < linedefs.length; k += NUMBERS) {
+    const ax = linedefs[k], ay = linedefs[k + 1], bx = linedefs[k + 2], by = linedefs[k + 3];
+    if (ax === NOT_THERE || Math.min(ax, bx) > x + nearest || Math.max(ax, bx) < x - nearest) continue;
+    if (Math.min(ay, by) > y + nearest || Math.max(ay, by) < y - nearest) continue;
+    const far = distance([ax, ay, bx, by], x, y);
+    if (far >= nearest) continue; // of several at one place the first
+    nearest = far;
+    found = k / NUMBERS;
+  }
+  return found;
+}
+
+/** How far a place is from a line. @param {number[]} line @param {number} x @param {number} y */
+export function distance([ax, ay, bx = ax, by = ay], x, y) {
+  const dx = bx - ax, dy = by - ay, along = ((x - ax) * dx + (y - ay) * dy) / (dx * dx + dy * dy || 1), t = Math.max(0, Math.min(1, along));
+  return Math.hypot(ax + t * dx - x, ay + t * dy - y);
+}

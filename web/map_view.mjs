@@ -1,15 +1,20 @@
 // The picture on two canvases: the ground of cells, and over it lines, things and marks; with zoom, pan, keys and a pin.
 import { cellColour, css, pixel, themeNow } from './inks.mjs';
+import { distance, lineAt } from './linedefs.mjs';
 import { CLASSES, THING } from './picture.mjs';
 
 /** @typedef {import('./picture.mjs').Picture} Picture */
 /** @typedef {import('./inks.mjs').Colour} Colour @typedef {import('./inks.mjs').Sight} Sight */
 /** @typedef {{ x: number, y: number, zoom: number }} View  the map's place in the middle, and pixels to a unit */
-/** @typedef {{ at: number[], title: string }} FindingPlace  of a finding: x y, or x y x y of each of its lines */
-/** @typedef {{ sector: string, thing: string, found: string }} Under  titles of what lies under the pointer */
+/** @typedef {{ at: number[], k: number, title: string }} FindingPlace  of a finding and its object: x y, or x y x y of each of its lines */
+/**
+ * @typedef {{ sector: string, thing: number, linedef: number, found: FindingPlace | null }} Under  what lies under the pointer: what the picture tells of
+ *   a sector, numbers of a thing and a linedef, -1 where there is none, and a finding
+ */
+/** @typedef {{ at: number[], kind: string }} Asked  the place of what was asked for */
 /** @typedef {(colour: Colour, ...lines: [Path2D, number][]) => void} Cased  strokes paths of some widths over their cases */
 /**
- * @typedef {{ hover: (x: number, y: number, under: Under) => void, leave: () => void, pin: (x: number, y: number) => void,
+ * @typedef {{ hover: (x: number, y: number, under: Under) => void, leave: () => void, press: (x: number, y: number, under: Under) => void,
  *   unpin: () => void, moved: (view: View) => void, taken: () => Taken }} Tell
  * @typedef {{ right: number, corner: { width: number, height: number } }} Taken  pixels that are covered along the right edge, and in the lower left
  *   corner
@@ -19,6 +24,8 @@ const CLOSEST = 16; // pixels to a unit
 const FARTHEST = 32767; // a number of a place is no larger; cells may reach beyond
 const SLOW = 30; // ms: a picture that takes longer is moved as it is, and drawn anew when it rests
 const RING = 24; // units about the only end of a linedef
+const NEAR = 7, NEAR_TOUCH = 16; // pixels in which a mark, a thing or a linedef is hit by a pointer, and by a finger
+const BATCH = 500; // things of a path: a browser takes longer for one of many more than for many of them
 const CASE = 1.2; // pixels of the ground's colour about a mark, so that it stands out on each sector, whatever its light and tint
 
 /** Lines of x y x y as a path. @param {ArrayLike<number>} at */
@@ -52,12 +59,6 @@ function marksOf(all) {
     path.arc(x, y, RING, 0, 2 * Math.PI);
   }
   return path;
-}
-
-/** How far a place is from a line. @param {number[]} line @param {number} x @param {number} y */
-function distance([ax, ay, bx = ax, by = ay], x, y) {
-  const dx = bx - ax, dy = by - ay, along = ((x - ax) * dx + (y - ay) * dy) / (dx * dx + dy * dy || 1), t = Math.max(0, Math.min(1, along));
-  return Math.hypot(ax + t * dx - x, ay + t * dy - y);
 }
 
 /** Whether a finding's place is nearer than this. @param {number[]} at @param {number} x @param {number} y @param {number} near */
@@ -126,6 +127,7 @@ export class MapView {
     frame.prepend(this.base, this.over);
     /** @type {Picture | null} */
     this.picture = null;
+    this.linedefs = new Int32Array(); // six numbers of each: see linedefs.mjs
     /** @type {Ground | null} */
     this.ground = null;
     /** @type {Ground | null} */
@@ -159,6 +161,8 @@ export class MapView {
     /** @type {{ x: number, y: number } | null} */
     this.pinned = null;
     this.block = new Path2D();
+    /** @type {Asked | null} */
+    this.asked = null;
     this.seen = { sector: -1, answers: /** @type {string[]} */ ([]) };
   }
 
@@ -215,12 +219,22 @@ export class MapView {
   mark(place, stays = false) {
     this.#resize(); // it may have been hidden until now
     this.found = place;
-    if (place && !stays) {
-      const { x, y, width, height } = boxOf(place), near = Math.max(this.view.zoom, Math.min(0.6, this.#whole().zoom * 5));
-      const whole = 0.8 * Math.min(this.size.width / width, this.size.height / height); // so that all of an outline is seen, and a small one, too
-      this.#fly({ x, y, zoom: place.length > 4 ? Math.min(whole, Math.max(near, 60 / Math.max(1, width, height)), CLOSEST) : near });
-    }
+    if (place && !stays) this.#flyTo(place);
     this.#redraw();
+  }
+
+  /** Marks what was asked for, and brings it to the middle; none with null. @param {Asked | null} asked @param {boolean} [stays] */
+  ask(asked, stays = false) {
+    this.asked = asked;
+    if (asked && !stays) this.#flyTo(asked.at);
+    this.#redraw();
+  }
+
+  /** @param {number[]} place */
+  #flyTo(place) {
+    const { x, y, width, height } = boxOf(place), near = Math.max(this.view.zoom, Math.min(0.6, this.#whole().zoom * 5));
+    const whole = 0.8 * Math.min(this.size.width / width, this.size.height / height); // so that all of an outline is seen, and a small one, too
+    this.#fly({ x, y, zoom: place.length > 4 ? Math.min(whole, Math.max(near, 60 / Math.max(1, width, height)), CLOSEST) : near });
   }
 
   /** Marks the pinned point; none with null. @param {{ x: number, y: number } | null} at */
@@ -413,6 +427,7 @@ export class MapView {
     this.#drawThings(pen, picture.things);
     cased(inks.accent, [this.block, 2.6]);
     this.#drawPlaces(cased);
+    this.#drawAsked(cased);
     this.#drawFound(pen, cased);
     this.#drawPin(pen);
   }
@@ -424,18 +439,20 @@ export class MapView {
 
   /** @param {CanvasRenderingContext2D} pen @param {Int32Array} things */
   #drawThings(pen, things) {
-    const { inks } = this.theme, { zoom } = this.view, scale = this.#thing() / DART_SIZE, darts = CLASSES.map(() => new Path2D());
-    for (let k = 0; k < things.length; k += THING) {
+    const { inks } = this.theme, { zoom } = this.view, scale = this.#thing() / DART_SIZE, darts = CLASSES.map(() => [new Path2D()]);
+    for (let k = 0, drawn = 0; k < things.length; k += THING) {
       const [x, y, turn, kind] = things.subarray(k, k + THING);
-      if (!this.#outOfView(x, y)) addDart(darts[kind], x, y, turn, scale);
+      if (this.#outOfView(x, y)) continue;
+      addDart(darts[kind][0], x, y, turn, scale);
+      if (++drawn % BATCH === 0) for (const paths of darts) paths.unshift(new Path2D());
     }
     pen.lineJoin = 'round';
     pen.lineWidth = 2 * CASE / zoom;
     pen.strokeStyle = css(inks.void);
-    for (const dart of darts) pen.stroke(dart);
+    for (const path of darts.flat()) pen.stroke(path);
     CLASSES.forEach((name, kind) => {
       pen.fillStyle = css(inks[name]);
-      pen.fill(darts[kind]);
+      for (const path of darts[kind]) pen.fill(path);
     });
   }
 
@@ -448,6 +465,20 @@ export class MapView {
     }
     cased(this.theme.inks.fault, [this.placeLines, 2.4]);
     cased(this.theme.inks.fault, [rings, 2]);
+  }
+
+  /** Lines of what was asked for, or a ring about it; a linedef has a tick on its front. @param {Cased} cased */
+  #drawAsked(cased) {
+    const { asked } = this, { inks } = this.theme, unit = 1 / this.view.zoom;
+    if (!asked) return;
+    const path = pathOf(asked.at), [ax, ay, bx, by] = asked.at;
+    if (asked.at.length === 2) path.arc(ax, ay, (asked.kind === 'thing' ? this.#thing() * 2 + 4 * unit : 7 * unit), 0, 2 * Math.PI);
+    const length = Math.hypot(bx - ax, by - ay);
+    if (asked.kind === 'linedef' && length) {
+      path.moveTo((ax + bx) / 2, (ay + by) / 2);
+      path.lineTo((ax + bx) / 2 + 9 * unit * (by - ay) / length, (ay + by) / 2 - 9 * unit * (bx - ax) / length);
+    }
+    cased(inks.ink, [path, 3]);
   }
 
   /** @param {CanvasRenderingContext2D} pen @param {Cased} cased */
@@ -498,24 +529,29 @@ export class MapView {
 
   // Pointer and keys -------------------------------------------------------------------------------------------------------------
 
-  /** What lies under a place of the map. @param {number} x @param {number} y @returns {Under} */
-  #under(x, y) {
-    const { picture } = this, radius = Math.max(this.#thing(), 5 / this.view.zoom);
-    if (!picture) return { sector: '', thing: '', found: '' };
-    let nearest = radius, thing = '';
-    for (let k = 0; k < picture.things.length; k += THING) {
-      const far = Math.hypot(picture.things[k] - x, picture.things[k + 1] - y);
-      if (far > nearest) continue;
-      nearest = far;
-      thing = picture.thingTitles[k / THING];
-    }
-    const shown = (this.fine?.has(x, y) ? this.fine : this.ground)?.shownAt(x, y);
+  /** What lies under a place of the map. @param {number} x @param {number} y @param {number} [near] pixels @returns {Under} */
+  #under(x, y, near = NEAR) {
+    const reach = near / this.view.zoom, shown = (this.fine?.has(x, y) ? this.fine : this.ground)?.shownAt(x, y);
+    if (!this.picture) return { sector: '', thing: -1, linedef: -1, found: null };
     if ((shown?.sector ?? -1) !== this.hovered) {
       this.hovered = shown?.sector ?? -1;
       this.#ink();
     }
-    const found = this.places.find(({ at }) => isNear(at, x, y, 7 / this.view.zoom))?.title ?? '';
-    return { sector: shown?.title ?? '', thing, found };
+    const found = this.places.find(({ at }) => isNear(at, x, y, reach)) ?? null;
+    return { sector: shown?.title ?? '', thing: this.#thingAt(x, y, Math.max(this.#thing(), reach)), linedef: lineAt(this.linedefs, x, y, reach), found };
+  }
+
+  /** The number of the thing that is nearest to a place; -1 where none is near. @param {number} x @param {number} y @param {number} near units */
+  #thingAt(x, y, near) {
+    const things = this.picture?.things ?? [];
+    let nearest = near, thing = -1;
+    for (let k = 0; k < things.length; k += THING) {
+      const far = Math.hypot(things[k] - x, things[k + 1] - y);
+      if (far > nearest) continue;
+      nearest = far;
+      thing = Number(/\d+/.exec(this.picture?.thingTitles[k / THING] ?? '')?.[0] ?? -1);
+    }
+    return thing;
   }
 
   /** @param {WheelEvent} event */
@@ -578,7 +614,14 @@ export class MapView {
     this.pointers.delete(event.pointerId);
     this.frame.classList.remove('dragging');
     const [x, y] = this.at(at.x, at.y);
-    if (event.type === 'pointerup' && this.dragged <= 4 && !this.pointers.size) this.tell.pin(Math.floor(x), Math.floor(y));
+    if (event.type !== 'pointerup' || this.dragged > 4 || this.pointers.size) return;
+    this.tell.press(Math.floor(x), Math.floor(y), this.#under(x, y, event.pointerType === 'touch' ? NEAR_TOUCH : NEAR));
+  }
+
+  /** Asks what is in the middle: of findings there is a list for keys. */
+  #enter() {
+    const { x, y } = this.view;
+    this.tell.press(Math.floor(x), Math.floor(y), { ...this.#under(x, y), found: null });
   }
 
   /** @param {KeyboardEvent} event */
@@ -589,7 +632,7 @@ export class MapView {
     const keys = {
       ArrowLeft: () => this.pan(step, 0), ArrowRight: () => this.pan(-step, 0), ArrowUp: () => this.pan(0, step), ArrowDown: () => this.pan(0, -step),
       '+': () => this.zoom(1.4), '=': () => this.zoom(1.4), '-': () => this.zoom(1 / 1.4), 0: () => this.fit(),
-      Enter: () => this.tell.pin(Math.floor(this.view.x), Math.floor(this.view.y)), Escape: () => this.tell.unpin(),
+      Enter: () => this.#enter(), Escape: () => this.tell.unpin(),
     };
     if (!keys[event.key]) return;
     keys[event.key]();

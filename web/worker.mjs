@@ -4,6 +4,7 @@ import { contents, isName } from './entries.mjs';
 import { boundsOf } from './linedefs.mjs';
 import { Lines, linesOf } from './lines.mjs';
 import { read } from './picture.mjs';
+import { TABLES } from './records.mjs';
 import { drawPicture, listLinedefs, load, runWadlens, runWadlook } from './wad_page.mjs';
 import { filesIn } from './zip.mjs';
 
@@ -155,13 +156,21 @@ function labelled(file, label) {
 }
 
 /**
+ * A lump of a level.
+ * @param {Uint8Array} file a level's own @param {number} lump its number behind the label
+ */
+function lumpOf(file, lump) {
+  const view = new DataView(file.buffer, file.byteOffset), entry = view.getInt32(8, true) + 16 * lump, at = view.getInt32(entry, true);
+  return file.subarray(at, at + view.getInt32(entry + 4, true));
+}
+
+/**
  * x y of each record of a lump, which begins with them.
  * @param {Uint8Array} file a level's own @param {number} lump its number behind the label @param {number} size of a record
  */
 function spotsOf(file, lump, size) {
-  const view = new DataView(file.buffer, file.byteOffset), entry = view.getInt32(8, true) + 16 * lump;
-  const spots = new Int16Array(2 * Math.floor(view.getInt32(entry + 4, true) / size));
-  for (let k = 0, at = view.getInt32(entry, true); k < spots.length; k += 2, at += size) {
+  const bytes = lumpOf(file, lump), view = new DataView(bytes.buffer, bytes.byteOffset), spots = new Int16Array(2 * Math.floor(bytes.length / size));
+  for (let k = 0, at = 0; k < spots.length; k += 2, at += size) {
     spots[k] = view.getInt16(at, true);
     spots[k + 1] = view.getInt16(at + 2, true);
   }
@@ -246,6 +255,12 @@ const jobs = {
     if (ended.status === 2) return { why: 'nothing to draw: no linedef has both of its vertexes' };
     const picture = read(ended.answer);
     return picture ? { picture, svg: ended.answer } : { why: 'the picture is too large to be shown here; it can be saved', svg: ended.answer };
+  },
+
+  /** The lumps of the level's records. @param {AskedLevel} asked */
+  async records(asked) {
+    const { bytes } = await alone(asked);
+    return Object.fromEntries(TABLES.map(([kind, lump]) => [kind, lumpOf(bytes, lump).slice()]));
   },
 
   /** The numbers of all linedefs, and which are about each sector. @param {AskedLevel} asked */

@@ -4,6 +4,7 @@ import { join } from 'node:path';
 import { wait } from './browser.mjs';
 import { measure } from './measure.mjs';
 import { contrast, keys, labels, phone } from './page_access.mjs';
+import { asks } from './page_asked.mjs';
 import { drops } from './page_drops.mjs';
 import { follows } from './page_follow.mjs';
 import { games } from './page_games.mjs';
@@ -93,7 +94,7 @@ async function picture() {
   await browser.mouse('mouseMoved', ...await placeOf(130, 100));
   check('what lies under the pointer', await textOf('#under'), 'sector 0 · floor 0 FLOOR0_1 · ceiling 128 CEIL1_1 · light 160 · special 0 · tag 0');
   await browser.mouse('mouseMoved', ...await placeOf(384, 128));
-  check('a thing under the pointer', (await textOf('#under')).split('  –  ')[0], 'thing 1 · type 3004 · angle 0 · flags 7');
+  check('a thing under the pointer', (await textOf('#under')).split('  –  ')[0], 'thing 1: former human · monster · faces east · in easy, medium, hard');
   await browser.mouse('mouseMoved', ...await placeOf(130, -8));
   check('nothing under the pointer', await textOf('#under'), 'nothing is shown here');
   const [west, east] = await groundOfRooms();
@@ -334,7 +335,7 @@ async function warnings() {
   await drawnAnew();
   check('and over the lines of a block', await hasInk('fault', 512, 128), true);
   await browser.mouse('mouseMoved', ...await placeOf(511, 40));
-  check('a warning under the pointer', (await textOf('#under')).split('  –  '), ['W2 linedef 5 · No middle texture in front', 'sector 1 · floor 24 FLOOR0_1 · ceiling 128 CEIL1_1 · light 224 · special 0 · tag 0']);
+  check('a warning under the pointer', (await textOf('#under')).split('  –  '), ['W2 linedef 5 · No middle texture in front', 'linedef 5: one-sided', 'sector 1 · floor 24 FLOOR0_1 · ceiling 128 CEIL1_1 · light 224 · special 0 · tag 0']);
   await browser.press(FINDING);
   await browser.until("document.querySelector('#map').dataset.view.startsWith('512.000 128.000')", 'the linedef of a warning');
   await browser.run("document.querySelector('#findings').focus()");
@@ -675,9 +676,9 @@ if (!isThere) skipped("Chromium doesn't start here", 'the page');
 let at = 'the start';
 try {
   if (isThere) await withoutHandles();
-  const all = [drops, follows, files, levels, picture, point, moves, finer, findings, reading, early, late, edge, unknown, warnings, games, judgings, mapper,
-    faults, undrawn, demos, saves, savedPictures, markup, hostile, manyFindings, large, stop, stopAll, refusals, wide, contrast, labels, keys, phone, layout,
-    unable, unserved, offline, engineless, anyHost, alone, policy];
+  const all = [drops, follows, files, levels, picture, point, moves, finer, findings, reading, early, late, edge, unknown, warnings, games, judgings, asks,
+    mapper, faults, undrawn, demos, saves, savedPictures, markup, hostile, manyFindings, large, stop, stopAll, refusals, wide, contrast, labels, keys,
+    phone, layout, unable, unserved, offline, engineless, anyHost, alone, policy];
   const only = valueOf('--only').split(',');
   for (const one of all.filter(({ name }) => isThere && (!only[0] || only.includes(name)))) {
     at = one.name;

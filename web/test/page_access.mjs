@@ -32,7 +32,7 @@ export async function contrast() {
     const zoom = (await viewOf())[2];
     check(`a finding's line and its case, ${scheme}`, [await hasInk('fault', 512, 100), await hasInk('void', 512, 100, 1, 4), await hasInk('void', 512, 100, -4, -1)], [true, true, true]);
     check(`a start and its case, ${scheme}`, [await hasInk('start', 64, 64), await hasInk('void', 64, 64, 7 * zoom, 8 * zoom + 3)], [true, true]);
-    check(`a monster that looks east, ${scheme}`, [await hasInk('monster', 548, 128), await hasInk('monster', 524, 128)], [true, false]);
+    check(`a monster that looks east, ${scheme}`, [await hasInk('monster', 550, 128), await hasInk('monster', 522, 128)], [true, false]);
   }
 }
 

@@ -10,7 +10,7 @@ import { tell } from './notices.mjs';
 import { Stopped } from './questions.mjs';
 import { RecordView, askedBy } from './record_view.mjs';
 import { make } from './rows.mjs';
-import { adviceOf, get, field, inShort, isNarrow, notJudged, pane, say, unlookedWords, verdict, wordsOf } from './words.mjs';
+import { adviceOf, get, field, inShort, isFatal, isNarrow, notJudged, pane, say, unlookedWords, verdict, wordsOf } from './words.mjs';
 
 /** @typedef {import('./words.mjs').Level} Level */
 /** @typedef {import('./findings.mjs').Finding} Finding @typedef {import('./findings.mjs').Spots} Spots */
@@ -224,10 +224,10 @@ export class LevelView {
 
   /** Tells the level's verdict, its counts and its codes. */
   #tell() {
-    const { level } = this;
-    if (!level) return;
+    const { level, asked } = this;
+    if (!level || !asked) return;
     get('told').textContent = this.#verdict();
-    get('told').className = level.sound ? '' : 'fault';
+    get('told').className = level.sound && !isFatal(level, this.hiddenIn(asked.file.name)) ? '' : 'fault';
     get('counts').replaceChildren(...COUNTS.map((name) => make('div', '', make('dt', '', name), make('dd', '', String(level[name])))));
   }
 

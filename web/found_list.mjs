@@ -127,6 +127,11 @@ export class FoundList {
     return [...this.made].find(([, one]) => one === finding)?.[0] ?? -1;
   }
 
+  /** Brings what is chosen into view, where the list has less room than before. */
+  reveal() {
+    if (this.list.at >= 0) this.list.rows.reveal(this.list.at);
+  }
+
   /** Tells findings as new. @param {Finding[]} came */
   tellFresh(came) {
     this.fresh = new Set(came);

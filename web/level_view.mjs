@@ -293,6 +293,7 @@ export class LevelView {
   async #showOf({ kind, index, linedef }) {
     const isThere = await (linedef >= 0 ? this.record.show('linedef', linedef, 'unmarked') : this.record.show(kind, index, 'unmarked'));
     if (!isThere) this.record.hide();
+    this.found.reveal();
   }
 
   /** Marks the places of all findings that are shown, a part at a time where they are very many, and says how many those are where there are more. */

@@ -58,6 +58,7 @@ export class RecordView {
     get('asked-title').textContent = this.told = titleOf(records, kind, index);
     get('asked-facts').replaceChildren(...factsOf(records, kind, index).flatMap(([name, ...facts]) => [make('dt', '', name), make('dd', '', ...facts)]));
     get('asked-part').hidden = false;
+    if (way !== 'unmarked') get('asked-part').scrollIntoView({ block: 'nearest' });
     const told = get('asked-facts').firstChild, at = way === 'unmarked' ? [] : await this.#placeOf(records, kind, index);
     if (told === get('asked-facts').firstChild) this.map.ask(at.length ? { at, kind } : null, way === 'there'); // a later one may be shown
     return true;

@@ -125,8 +125,11 @@ async function marks() {
   await told('Thing 1: former human');
   check('so does the ring about a thing', await chosen(), 'thing 1');
   check('what is seen stays as it is', await viewOf(), view);
+  await browser.press('#unask');
+  const rowTop = () => browser.run("document.querySelector('#findings .row:not(.odd)').getBoundingClientRect().top"), top = await rowTop();
   await browser.press(FINDING);
   await told('Linedef 5');
+  check('a finding that is chosen stays where it is', await rowTop(), top);
   check('a finding that is chosen tells what it is about', (await facts()).Front, 'sidedef 5, sector 1: upper -, middle -, lower STEP1');
 }
 

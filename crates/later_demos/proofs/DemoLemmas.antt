@@ -7,7 +7,7 @@ use Rattle.demo_lump.specs.Header.{players_in}
 use Rattle.demo_lump.specs.Pieces.{NoneBegins}
 use Rattle.later_demos.specs.Command.{AreCommands, IsCommand, commands_in, left_in}
 use Rattle.later_demos.specs.Demo.{Demo, IsDemo, IsKeyFrame, IsWrapper}
-use Rattle.later_demos.specs.Header.{IsHeader, header_refusal, players_at, players_of}
+use Rattle.later_demos.specs.Header.{IsHeader, header_refusal, options_in, players_at, players_of}
 use Rattle.later_demos.specs.Layout.{layout_of}
 use Rattle.later_demos.specs.Numbers.{or_else}
 use Rattle.later_demos.specs.Refusal.{IsCutAt, RefusesBy, RefusesDemo, behind_frame, behind_front, behind_header, behind_wrapper, first_refusal, form_of, frame_of, header_of, inner_refusal, key_frame_refusal, layout_in}
@@ -57,6 +57,66 @@ pub inner_passed : (wrapper : Option Wrapper) (bytes : List ℕ) → inner_refus
 unfolding inner_refusal
 inner_passed wrapper bytes h = or_else_none _ _ (passed _ _ _ h).1
 
+-- a wrapper, a header and a key frame in front of other bytes, and what the whole says of them
+module _ (wrapper : Option Wrapper) (layout : Layout) (header : List ℕ) (kept : Option (List ℕ))
+    (front frame third : List ℕ) (wrapped : IsWrapper front wrapper) (begins : IsHeader header layout)
+    (framed : IsKeyFrame wrapper frame kept) where
+  abbrev whole_second : List ℕ
+  whole_second = frame ++ third
+
+  abbrev whole_first : List ℕ
+  whole_first = header ++ whole_second
+
+  abbrev whole : List ℕ
+  whole = front ++ whole_first
+
+  whole_some : 0 < length whole_first
+  whole_some = omega (arith, length-append header whole_second, some_header header whole_second layout begins)
+
+  whole_other : slice_index whole_first 0 ≢ 255
+  whole_other =
+      let same = left_index header whole_second 0 (some_header header whole_second layout begins) in
+      λ e. not_255 _ layout begins.version (sym same ∙ e)
+
+  whole_outer : (wrapper_of whole ≡ wrapper) × (wrapper_refusal whole ≡ None) × (length front ≡ size_of wrapper)
+  whole_outer = wraps front whole_first wrapper wrapped whole_some whole_other
+
+  whole_behind : behind_wrapper whole ≡ whole_first
+  unfolding behind_wrapper
+  whole_behind = drop_at front whole_first _ (whole_outer.2 ∙ ap size_of (sym whole_outer.0))
+
+  whole_left : behind_header (behind_wrapper whole) ≡ whole_second
+  whole_left = ap behind_header whole_behind ∙ more_left header whole_second layout begins
+
+  whole_inner : inner_refusal wrapper whole_first ≡ None
+  whole_inner =
+      inner_none wrapper whole_first whole_some (allowed_left header whole_second layout begins (size_of wrapper))
+      (ap (key_frame_refusal wrapper) (more_left header whole_second layout begins)
+      ∙ (frames wrapper frame third kept framed).0)
+
+  pub whole_allowed : first_refusal whole ≡ None
+  whole_allowed =
+      first_none whole (omega (arith, whole_some, length-append front whole_first)) whole_outer.1
+      (ap (λ w. inner_refusal w (behind_wrapper whole)) whole_outer.0 ∙ ap (inner_refusal wrapper) whole_behind ∙ whole_inner)
+
+  pub whole_wrapped : wrapper_of whole ≡ wrapper
+  whole_wrapped = whole_outer.0
+
+  pub whole_version : layout_in whole ≡ Some layout
+  whole_version = ap (λ b. layout_of (slice_index b 0)) whole_behind ∙ version_left header whole_second layout begins
+
+  whole_header : header_of (behind_wrapper whole) ≡ header
+  whole_header = ap header_of whole_behind ∙ header_left header whole_second layout begins
+
+  whole_frame : frame_of wrapper (behind_header (behind_wrapper whole)) ≡ kept
+  whole_frame = ap (frame_of wrapper) whole_left ∙ (frames wrapper frame third kept framed).1
+
+  pub whole_commands : behind_front whole ≡ third
+  unfolding behind_front
+  whole_commands =
+      ap (λ w. behind_frame w (behind_header (behind_wrapper whole))) whole_outer.0
+      ∙ ap (behind_frame wrapper) whole_left ∙ (frames wrapper frame third kept framed).2
+
 -- what bytes say of a demo that they are, place by place
 pub record IsPlaced (bytes : List ℕ) (demo : Demo) : Type 0 where
   pub allowed : first_refusal bytes ≡ None
@@ -68,44 +128,17 @@ pub record IsPlaced (bytes : List ℕ) (demo : Demo) : Type 0 where
   pub left : left_in (form_of demo.layout demo.wrapper) (behind_front bytes) ≡ 128 ∷ demo.rest
 
 pub placed : (bytes : List ℕ) (demo : Demo) → IsDemo bytes demo → IsPlaced bytes demo
-unfolding behind_wrapper behind_front
 placed bytes demo is =
     let third = is.body ++ 128 ∷ demo.rest in
-    let second = is.frame ++ third in
-    let first = demo.header ++ second in
-    let some : 0 < length first =
-    omega (arith, length-append demo.header second, some_header demo.header second demo.layout is.begins) in
-    let same : slice_index first 0 ≡ slice_index demo.header 0 =
-    left_index demo.header second 0 (some_header demo.header second demo.layout is.begins) in
-    let other : slice_index first 0 ≢ 255 =
-    λ e. not_255 _ demo.layout is.begins.version (sym same ∙ e) in
-    let whole = is.front ++ first in
-    let outer = wraps is.front first demo.wrapper is.wrapped some other in
-    let behind : behind_wrapper whole ≡ first =
-    drop_at is.front first _ (outer.2 ∙ ap size_of (sym outer.0)) in
-    let left : behind_header (behind_wrapper whole) ≡ second =
-    ap behind_header behind ∙ more_left demo.header second demo.layout is.begins in
-    let frame = frames demo.wrapper is.frame third demo.key_frame is.framed in
-    let commands : behind_front whole ≡ third =
-    ap (λ w. behind_frame w (behind_header (behind_wrapper whole))) outer.0
-    ∙ ap (behind_frame demo.wrapper) left ∙ frame.2 in
-    let inner : inner_refusal demo.wrapper first ≡ None =
-    inner_none demo.wrapper first some
-    (allowed_left demo.header second demo.layout is.begins (size_of demo.wrapper))
-    (ap (key_frame_refusal demo.wrapper) (more_left demo.header second demo.layout is.begins) ∙ frame.0) in
     let form = form_of demo.layout demo.wrapper in
     let scan = commands_one form is.body (128 ∷ demo.rest) demo.commands is.follow (marker_stops form demo.rest) in
+    let commands = whole_commands demo.wrapper demo.layout demo.header demo.key_frame is.front is.frame third is.wrapped is.begins is.framed in
     subst (λ b. IsPlaced b demo) (sym is.joined) (record {
-      allowed =
-          first_none whole (omega (arith, some, length-append is.front first)) outer.1
-          (ap (λ w. inner_refusal w (behind_wrapper whole)) outer.0
-          ∙ ap (inner_refusal demo.wrapper) behind ∙ inner);
-      wrapped = outer.0;
-      version =
-          ap (λ b. layout_of (slice_index b 0)) behind
-          ∙ version_left demo.header second demo.layout is.begins;
-      header = ap header_of behind ∙ header_left demo.header second demo.layout is.begins;
-      frame = ap (frame_of demo.wrapper) left ∙ frame.1;
+      allowed = whole_allowed demo.wrapper demo.layout demo.header demo.key_frame is.front is.frame third is.wrapped is.begins is.framed;
+      wrapped = whole_wrapped demo.wrapper demo.layout demo.header demo.key_frame is.front is.frame third is.wrapped is.begins is.framed;
+      version = whole_version demo.wrapper demo.layout demo.header demo.key_frame is.front is.frame third is.wrapped is.begins is.framed;
+      header = whole_header demo.wrapper demo.layout demo.header demo.key_frame is.front is.frame third is.wrapped is.begins is.framed;
+      frame = whole_frame demo.wrapper demo.layout demo.header demo.key_frame is.front is.frame third is.wrapped is.begins is.framed;
       commands = ap (commands_in form) commands ∙ scan.0;
       left = ap (left_in form) commands ∙ scan.1;
     })
@@ -270,6 +303,9 @@ module _ (bytes : List ℕ) where
         let sound = layout_sound (slice_index header 0) layout begun.version in
         length-take-le 4 (drop (players_at layout header) header)
         (omega (arith, length-drop (players_at layout header) header, begun.long, sound.players))
+
+    pub options_few : options_in layout.engine header ≤ 25
+    options_few = begun.options
 
     pub players_low : layout.players ≤ 269
     players_low = (layout_sound (slice_index (behind_wrapper bytes) 0) layout version).few

@@ -1,12 +1,13 @@
 -- The table of versions is sound: its places are inside its headers.
-use Rattle.std.proofs.Common.{◌≡◌, ◌≢◌, ℕ, ◌+◌, ◌≤◌, Option, Some, None, IfSome, List, ◌++◌, length, refl, sym, ap, ◌∙◌, subst, arith, lit≤, ◌==◌}
+use Rattle.std.proofs.Common.{◌≡◌, ◌≢◌, ℕ, ◌+◌, ◌≤◌, Option, Some, None, IfSome, List, [], ◌∷◌, ◌++◌, find, length, option_map, refl, sym, ap, ◌∙◌, subst, arith, lit≤}
 use Rattle.std.proofs.lemmas.Bool.{cond_both}
 use Rattle.std.proofs.lemmas.Option.{none-some}
 use Rattle.later_demos.specs.Header.{options_in}
-use Rattle.later_demos.specs.Layout.{in_range, layout_of, signature_of}
+use Rattle.later_demos.specs.Layout.{covers, layout_of, signature_of, versions}
 use Rattle.later_demos.specs.declared.layout.Engine.{Engine}
 use Rattle.later_demos.specs.declared.layout.Engine.TheVariants.{Early, Doom, Boom, Mbf, PrBoom, Mbf21}
 use Rattle.later_demos.specs.declared.layout.Layout.{Layout}
+use Rattle.later_demos.specs.declared.layout.VersionRow.{VersionRow}
 use Rattle.later_demos.proofs.FrontLemmas.{left_index}
 
 -- the place of the count of options is inside a header that has one
@@ -16,30 +17,68 @@ CountsWithin _ size = Unit {0}
 
 pub record IsSound (layout : Layout) : Type 0 where
   pub least : 13 ≤ layout.size
+  pub most : layout.size ≤ 301
   pub players : layout.players + 4 ≤ layout.size
   pub few : layout.players ≤ 269
   pub signed : 1 + length (signature_of layout.engine) ≤ layout.size
   pub counted : CountsWithin layout.engine layout.size
 
-abbrev AllSound : Option Layout → Type 0
-AllSound o = IfSome o IsSound
+-- what holds of each row holds of the one that covers a version
+abbrev AllSound : List VersionRow → Type 0
+AllSound [] = Unit {0}
+AllSound (row ∷ rows) = IsSound row.layout × AllSound rows
 
-rows_sound : (version : ℕ) → AllSound (layout_of version)
-unfolding layout_of
-rows_sound version =
-    cond_both (in_range 104 108 version) _ _ AllSound (λ _. record { least = lit≤ tt; players = lit≤ tt; few = lit≤ tt; signed = lit≤ tt; counted = tt })
-    (λ _. cond_both (in_range 109 110 version) _ _ AllSound (λ _. record { least = lit≤ tt; players = lit≤ tt; few = lit≤ tt; signed = lit≤ tt; counted = tt })
-    (λ _. cond_both (version == 111) _ _ AllSound (λ _. record { least = lit≤ tt; players = lit≤ tt; few = lit≤ tt; signed = lit≤ tt; counted = tt })
-    (λ _. cond_both (version == 200) _ _ AllSound (λ _. record { least = lit≤ tt; players = lit≤ tt; few = lit≤ tt; signed = lit≤ tt; counted = tt })
-    (λ _. cond_both (in_range 201 202 version) _ _ AllSound (λ _. record { least = lit≤ tt; players = lit≤ tt; few = lit≤ tt; signed = lit≤ tt; counted = tt })
-    (λ _. cond_both (version == 203) _ _ AllSound (λ _. record { least = lit≤ tt; players = lit≤ tt; few = lit≤ tt; signed = lit≤ tt; counted = tt })
-    (λ _. cond_both (in_range 210 213 version) _ _ AllSound (λ _. record { least = lit≤ tt; players = lit≤ tt; few = lit≤ tt; signed = lit≤ tt; counted = tt })
-    (λ _. cond_both (version == 214) _ _ AllSound (λ _. record { least = lit≤ tt; players = lit≤ tt; few = lit≤ tt; signed = lit≤ tt; counted = tt })
-    (λ _. cond_both (version == 221) _ _ AllSound (λ _. record { least = lit≤ tt; players = lit≤ tt; few = lit≤ tt; signed = lit≤ tt; counted = lit≤ tt })
-    (λ _. tt)))))))))
+row_sound : (version : ℕ) (rows : List VersionRow) → AllSound rows
+    → IfSome (option_map (λ row. row.layout) (find (covers version) rows)) IsSound
+row_sound version [] all = tt
+row_sound version (row ∷ rows) all =
+    cond_both (covers version row) (Some row) (find (covers version) rows)
+    (λ o. IfSome (option_map (λ one. one.layout) o) IsSound)
+    (λ _. all.0) (λ _. row_sound version rows all.1)
+
+rows_sound : AllSound versions
+rows_sound = (
+  record { least = lit≤ tt; most = lit≤ tt; players = lit≤ tt; few = lit≤ tt; signed = lit≤ tt; counted = tt },
+  (
+    record { least = lit≤ tt; most = lit≤ tt; players = lit≤ tt; few = lit≤ tt; signed = lit≤ tt; counted = tt },
+    (
+      record { least = lit≤ tt; most = lit≤ tt; players = lit≤ tt; few = lit≤ tt; signed = lit≤ tt; counted = tt },
+      (
+        record { least = lit≤ tt; most = lit≤ tt; players = lit≤ tt; few = lit≤ tt; signed = lit≤ tt; counted = tt },
+        (
+          record { least = lit≤ tt; most = lit≤ tt; players = lit≤ tt; few = lit≤ tt; signed = lit≤ tt; counted = tt },
+          (
+            record { least = lit≤ tt; most = lit≤ tt; players = lit≤ tt; few = lit≤ tt; signed = lit≤ tt; counted = tt },
+            (
+              record { least = lit≤ tt; most = lit≤ tt; players = lit≤ tt; few = lit≤ tt; signed = lit≤ tt; counted = tt },
+              (
+                record { least = lit≤ tt; most = lit≤ tt; players = lit≤ tt; few = lit≤ tt; signed = lit≤ tt; counted = tt },
+                (
+                  record { least = lit≤ tt; most = lit≤ tt; players = lit≤ tt; few = lit≤ tt; signed = lit≤ tt; counted = lit≤ tt },
+                  tt,
+                ),
+              ),
+            ),
+          ),
+        ),
+      ),
+    ),
+  ),
+)
 
 pub layout_sound : (version : ℕ) (layout : Layout) → layout_of version ≡ Some layout → IsSound layout
-layout_sound version layout is = subst AllSound is (rows_sound version)
+unfolding layout_of
+layout_sound version layout is =
+    let P : Option Layout → Type 0 = λ o. IfSome o IsSound in
+    subst P is (row_sound version versions rows_sound)
+
+-- headers are short
+pub row_small : (version : ℕ) (row : VersionRow) → find (covers version) versions ≡ Some row
+    → (row.layout.size ≤ 301) × (row.layout.players ≤ 269)
+unfolding layout_of
+row_small version row is =
+    let sound = layout_sound version row.layout (ap (λ o. option_map (λ (one : VersionRow). one.layout) o) is) in
+    (sound.most, sound.few)
 
 -- a wrapper's first byte is no version
 no_255 : layout_of 255 ≡ None

@@ -4,7 +4,10 @@ pub mod CommandLemmas
 pub mod CommandPartLemmas
 pub mod WrapperLemmas
 pub mod HeaderLemmas
+pub mod FieldLemmas
 pub mod FrameLemmas
 pub mod DemoLemmas
 pub mod LawLemmas
+pub mod FooterLemmas
+pub mod DoomLemmas
 mod WorkedCases

@@ -1,13 +1,18 @@
 -- The worked cases of demos, computed on the definitions: what is read of each, or the reason why it is refused.
 use Rattle.std.proofs.Common.{◌≡◌, ℕ, Option, Some, None, List, [], ◌∷◌, ◌++◌, length, slice_index, drop, replicate, refl}
+use Rattle.std.specs.Fmt.{digits}
+use Rattle.std.specs.Prelude.{codes}
 use Rattle.le_rec.specs.Number.{unsigned16, unsigned32}
 use Rattle.demo_lump.specs.Header.{players_in}
 use Rattle.later_demos.specs.Command.{begins, command_of, command_size, commands_in, left_in}
+use Rattle.later_demos.specs.FaultText.{fault_text}
+use Rattle.later_demos.specs.Footer.{lines_footer, text_of}
 use Rattle.later_demos.specs.Header.{players_of, refusal_by}
 use Rattle.later_demos.specs.Layout.{layout_of}
 use Rattle.later_demos.specs.Refusal.{behind_frame, behind_front, behind_header, behind_wrapper, first_refusal, form_of, frame_of, header_of, inner_refusal, key_frame_refusal, layout_in}
 use Rattle.later_demos.specs.Wrapper.{dsda_refusal, pr_um_refusal, wrapper_of, wrapper_refusal}
 use Rattle.later_demos.specs.declared.fault.LaterFault.TheVariants.{Empty, Version, Dsda, PrUm, Short, Signature, Options, NoPlayers, KeyFrame}
+use Rattle.later_demos.specs.declared.layout.Engine.TheVariants.{Boom, Mbf}
 use Rattle.later_demos.specs.declared.layout.Layout.{Layout}
 
 -- the numbers that are read of bytes: the version, how many players are in the game, the commands, the byte in place of the next one
@@ -150,7 +155,7 @@ abbrev bytes_14 : List ℕ
 bytes_14 =
     (202 ∷ 29 ∷ 77 ∷ [])
 
-case_14 : first_refusal bytes_14 ≡ Some (Signature 202)
+case_14 : first_refusal bytes_14 ≡ Some (Signature 202 Boom)
 unfolding layout_of wrapper_of wrapper_refusal dsda_refusal pr_um_refusal refusal_by header_of behind_header key_frame_refusal frame_of behind_frame inner_refusal behind_wrapper first_refusal behind_front command_size command_of begins commands_in left_in unsigned16 unsigned32
 case_14 = refl
 
@@ -177,7 +182,7 @@ abbrev bytes_17 : List ℕ
 bytes_17 =
     (203 ∷ 29 ∷ 66 ∷ 111 ∷ 111 ∷ 109 ∷ 230 ∷ 4 ∷ 1 ∷ 15 ∷ 0 ∷ 0 ∷ 1 ∷ 1 ∷ 0 ∷ 1 ∷ 0 ∷ 1 ∷ 0 ∷ 0 ∷ 0 ∷ 0 ∷ 214 ∷ 24 ∷ 132 ∷ 93 ∷ []) ++ (replicate 50 0) ++ (1 ∷ []) ++ (replicate 35 0) ++ (128 ∷ [])
 
-case_17 : first_refusal bytes_17 ≡ Some (Signature 203)
+case_17 : first_refusal bytes_17 ≡ Some (Signature 203 Mbf)
 unfolding layout_of wrapper_of wrapper_refusal dsda_refusal pr_um_refusal refusal_by header_of behind_header key_frame_refusal frame_of behind_frame inner_refusal behind_wrapper first_refusal behind_front command_size command_of begins commands_in left_in unsigned16 unsigned32
 case_17 = refl
 
@@ -493,3 +498,36 @@ bytes_51 =
 case_51 : first_refusal bytes_51 ≡ Some (Version 255)
 unfolding layout_of wrapper_of wrapper_refusal dsda_refusal pr_um_refusal refusal_by header_of behind_header key_frame_refusal frame_of behind_frame inner_refusal behind_wrapper first_refusal behind_front command_size command_of begins commands_in left_in unsigned16 unsigned32
 case_51 = refl
+
+-- why bytes are no demo, in words
+text_of_early : fault_text (Version 3) ≡ codes "version 3 (1.2 and before): not read"
+unfolding digits
+text_of_early = refl
+
+text_of_signature : fault_text (Signature 203 Mbf) ≡ codes "version 203 (MBF): its signature isn't 1d 4d 42 46 e6 00"
+unfolding digits
+text_of_signature = refl
+
+text_of_dsda : fault_text (Dsda 3) ≡ codes "version 255 (DSDA 3): not read"
+unfolding digits
+text_of_dsda = refl
+
+text_of_short : fault_text (Short 118 301) ≡ codes "118 bytes of a header's 301"
+unfolding digits
+text_of_short = refl
+
+-- what engines leave behind the marker
+woof_footer : lines_footer (codes "Woof 10.5.1\n-iwad x  \nmore") ≡ (record { port = Some (codes "Woof 10.5.1"); words = Some (codes "-iwad x") })
+woof_footer = refl
+
+woof_without_end : lines_footer (codes "Woof 10.5.1") ≡ (record { port = Some (codes "Woof 10.5.1"); words = None })
+woof_without_end = refl
+
+woof_without_words : lines_footer (codes "Woof 1 \n\n") ≡ (record { port = Some (codes "Woof 1 "); words = Some [] })
+woof_without_words = refl
+
+small_letters : lines_footer (codes "woof 1\n") ≡ (record { port = None; words = None })
+small_letters = refl
+
+words_of_a_lump : text_of (codes "-iwad \"a b.wad\" \n") ≡ codes "-iwad \"a b.wad\""
+words_of_a_lump = refl

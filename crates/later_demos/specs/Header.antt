@@ -29,7 +29,7 @@ players_of layout bytes = take 4 (drop (players_at layout bytes) bytes)
 unfoldable pub refusal_by : Layout → ℕ → List ℕ → Option LaterFault
 refusal_by layout before bytes =
     if not (starts_with nat_eq (signature_of layout.engine) (take (length (signature_of layout.engine)) (drop 1 bytes)))
-    then Some (Signature (slice_index bytes 0))
+    then Some (Signature (slice_index bytes 0) layout.engine)
     else (if nat_lt 25 (options_in layout.engine bytes)
     then Some (Options (options_in layout.engine bytes))
     else (if nat_lt (length bytes) (header_size layout bytes)

@@ -1,30 +1,41 @@
 -- The table of versions (G_ReadDemoHeaderEx of g_game.c, as dsda-doom 0.25.6 has it; recorded demos of dsda-doom and Woof).
-use Rattle.std.specs.Prelude.{ℕ, Bool, true, false, ◌==◌, ◌&&◌, nat_le, if◌then◌else◌, Option, Some, None, List, [], ◌∷◌, codes}
+use Rattle.std.specs.Prelude.{ℕ, Bool, true, false, ◌&&◌, nat_le, find, Option, List, [], ◌∷◌, codes}
+use Rattle.std.specs.Option.{option_map}
 use Rattle.later_demos.specs.declared.layout.Engine.{Engine}
 use Rattle.later_demos.specs.declared.layout.Engine.TheVariants.{Early, Doom, Boom, Mbf, PrBoom, Mbf21}
 use Rattle.later_demos.specs.declared.layout.Layout.{Layout}
+use Rattle.later_demos.specs.declared.layout.VersionRow.{VersionRow}
 
--- a row of the table: whose version it is, the bytes of a header, the place of its players, and whether a turn has two bytes
-abbrev pub row : Engine → ℕ → ℕ → Bool → Option Layout
-row engine size players long =
-    Some (record { engine = engine; size = size; players = players; long = long })
+-- a row of the table: the versions from one to another; whose these are, the bytes of a header, the place of its players, and whether a
+-- turn has two bytes
+abbrev row : ℕ → ℕ → Engine → ℕ → ℕ → Bool → VersionRow
+row first last engine size players long = record {
+  first = first;
+  last = last;
+  layout = record { engine = engine; size = size; players = players; long = long };
+}
 
--- a version is one of those from one to another
-abbrev pub in_range : ℕ → ℕ → ℕ → Bool
-in_range low high version = nat_le low version && nat_le version high
+-- the table of the versions that are read; of MBF21 the size and the place are those without compatibility options
+abbrev pub versions : List VersionRow
+versions =
+    row 104 108 Early 13 9 false
+    ∷ row 109 110 Doom 13 9 false
+    ∷ row 111 111 Doom 13 9 true
+    ∷ row 200 200 Boom 301 269 false
+    ∷ row 201 202 Boom 109 77 false
+    ∷ row 203 203 Mbf 109 77 false
+    ∷ row 210 213 PrBoom 109 77 false
+    ∷ row 214 214 PrBoom 109 77 true
+    ∷ row 221 221 Mbf21 65 33 true
+    ∷ []
 
--- what the demos of a version have; none of the others is read. Of MBF21 the size and the place are those without compatibility options
+-- a row speaks of a version
+abbrev pub covers : ℕ → VersionRow → Bool
+covers version row = nat_le row.first version && nat_le version row.last
+
+-- what the demos of a version have; a version without a row isn't read
 unfoldable pub layout_of : ℕ → Option Layout
-layout_of version =
-    if in_range 104 108 version then row Early 13 9 false
-    else (if in_range 109 110 version then row Doom 13 9 false
-    else (if version == 111 then row Doom 13 9 true
-    else (if version == 200 then row Boom 301 269 false
-    else (if in_range 201 202 version then row Boom 109 77 false
-    else (if version == 203 then row Mbf 109 77 false
-    else (if in_range 210 213 version then row PrBoom 109 77 false
-    else (if version == 214 then row PrBoom 109 77 true
-    else (if version == 221 then row Mbf21 65 33 true else None))))))))
+layout_of version = option_map (λ row. row.layout) (find (covers version) versions)
 
 -- the bytes behind the version, by which engines know their demos: 29 and `Boom`, or 29 and `MBF`
 abbrev pub signature_of : Engine → List ℕ

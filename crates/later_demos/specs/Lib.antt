@@ -2,10 +2,14 @@ pub mod Layout
 pub mod Numbers
 pub mod Wrapper
 pub mod Header
+pub mod FaultText
 pub mod Field
 pub mod Part
+pub mod Game
 pub mod Command
 pub mod Refusal
 pub mod Front
 pub mod Demo
+pub mod Footer
+pub mod Doom
 pub mod Laws

@@ -1,9 +1,10 @@
 //! A demo in memory.
 
-ghost use Rattle.std.specs.Prelude.{◌≡◌, ◌≢◌, ◌/◌, ◌%◌, ◌<◌, ◌^◌, ◌↔◌, List, ℕ, ◌∷◌, length, slice_index, MatchOption};
+ghost use Rattle.std.specs.Prelude.{◌≡◌, ◌≢◌, ◌/◌, ◌%◌, ◌<◌, ◌≤◌, ◌^◌, ◌↔◌, List, ℕ, ◌∷◌, length, slice_index, MatchOption};
 ghost use Rattle.std.specs.Option.{option_copied};
 ghost use Rattle.demo_lump.specs.Header.{players_in};
 ghost use Rattle.later_demos.specs.Field.{comp_of, number_in};
+ghost use Rattle.later_demos.specs.Game.{byte_in, game_of};
 ghost use Rattle.later_demos.specs.Header.{players_of};
 ghost use Rattle.later_demos.specs.Part.{part_of};
 ghost use Rattle.later_demos.specs.Refusal.{RefusesDemo, form_of};
@@ -11,12 +12,14 @@ ghost use Rattle.later_demos.specs.Refusal.{RefusesDemo, form_of};
 use crate::command::{Commands, Form, MARKER, scan};
 use crate::fault::LaterFault;
 use crate::field::{Field, comp_of};
+use crate::footer::Footer;
 use crate::front::read_front;
 use crate::header::{count_players, players_of};
 use crate::layout::Layout;
 use crate::numbers::byte_at;
 use crate::part::{Part, part_of};
 use crate::wrapper::{Wrapper, has_actions};
+use demo_lump::Header;
 use std::marker::Model;
 
 /// A demo. It borrows the bytes, and reads a command when it is asked for.
@@ -37,7 +40,7 @@ impl<'a> Model for LaterDemo<'a> {
     ghost use Rattle.demo_lump.specs.Header.{players_in};
     ghost use Rattle.later_demos.specs.Command.{commands_in};
     ghost use Rattle.later_demos.specs.Demo as demo;
-    ghost use Rattle.later_demos.specs.Header.{players_of};
+    ghost use Rattle.later_demos.specs.Header.{options_in, players_of};
     ghost use Rattle.later_demos.specs.Refusal.{form_of};
 
     ghost Value = { demo.Demo };
@@ -52,13 +55,14 @@ impl<'a> Model for LaterDemo<'a> {
     } };
 
     ghost invariant = { λ d. (d.layout.players ≤ 269) × (0 < players_in (players_of d.layout d.header.now))
-        × (length (players_of d.layout d.header.now) ≡ 4)
+        × (length (players_of d.layout d.header.now) ≡ 4) × (options_in d.layout.engine d.header.now ≤ 25)
         × (d.count ≡ length (commands_in (form_of d.layout d.wrapper) d.commands.now)) };
 }
 
 impl<'a> LaterDemo<'a> {
     ghost use Rattle.later_demos.specs.Demo as demo;
     ghost use Rattle.later_demos.specs.Demo.{IsDemo};
+    ghost use Rattle.later_demos.specs.Footer.{IsFooter};
 
     /// The demo in the bytes, up to the first marker in place of a command. What follows the marker is
     /// accepted and not read.
@@ -103,11 +107,44 @@ impl<'a> LaterDemo<'a> {
         self.header
     }
 
+    /// The byte at a place of the header, or 0 past its end.
+    pub fn byte_at(&self, place: usize) -> u8
+        ensures { result ≡ slice_index self.now.header place }
+    {
+        byte_at(self.header, place)
+    }
+
     /// The version.
     pub fn version(&self) -> u8
         ensures { result ≡ slice_index self.now.header 0 }
     {
         byte_at(self.header, 0)
+    }
+
+    /// The numbers of the header that each version has: those of Doom's.
+    pub fn game(&self) -> Header
+        ensures game { result ≡ game_of self.now.layout self.now.header }
+        ensures some { 0 < players_in result.players }
+    {
+        Header {
+            version: self.version(),
+            skill: self.byte(Field::Skill),
+            episode: self.byte(Field::Episode),
+            map: self.byte(Field::Map),
+            deathmatch: self.byte(Field::Deathmatch),
+            respawn: self.byte(Field::Respawn),
+            fast: self.byte(Field::Fast),
+            no_monsters: self.byte(Field::NoMonsters),
+            viewpoint: self.byte(Field::Viewpoint),
+            players: self.players(),
+        }
+    }
+
+    // The byte of a field.
+    fn byte(&self, field: Field) -> u8
+        ensures { result ≡ byte_in field self.now.layout self.now.header }
+    {
+        field.byte(self.layout, self.header)
     }
 
     /// The number of a field, or None where the version hasn't the field.
@@ -125,8 +162,10 @@ impl<'a> LaterDemo<'a> {
     }
 
     /// The compatibility options, a byte each: none before MBF.
+    #[tactic(auto, using(crate::proofs::FieldLemmas::comp_few))]
     pub fn comp(&self) -> &'a [u8]
-        ensures { result.now ≡ comp_of self.now.layout.engine self.now.header }
+        ensures comp { result.now ≡ comp_of self.now.layout.engine self.now.header }
+        ensures few { length result.now ≤ 32 }
     {
         comp_of(self.layout.engine, self.header)
     }
@@ -190,6 +229,13 @@ impl<'a> LaterDemo<'a> {
         ensures { result.now ≡ self.now.rest }
     {
         self.rest
+    }
+
+    /// What these bytes tell of the recording.
+    pub fn footer(&self) -> Footer<'a>
+        ensures { IsFooter self.now.rest result }
+    {
+        Footer::read(self.rest)
     }
 }
 

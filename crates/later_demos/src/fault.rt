@@ -1,5 +1,9 @@
 //! Why bytes are no demo.
 
+ghost use Rattle.std.specs.Prelude.{◌≡◌};
+ghost use Rattle.later_demos.specs.FaultText.{early_text};
+
+use crate::layout::Engine;
 use thiserror::Error;
 
 /// Why bytes are no demo: the first reason that holds. Places and lengths count from the first byte.
@@ -9,7 +13,7 @@ pub enum LaterFault {
     #[error("empty")]
     Empty,
     /// The version isn't read. It is 255 where that byte begins no wrapper, or stands in one.
-    #[error("version {0}: not read")]
+    #[error("version {0}{early}: not read", early = early_name(*.0))]
     Version(u8),
     /// A wrapper of DSDA-Doom has another version than 1 and 2.
     #[error("version 255 (DSDA {0}): not read")]
@@ -21,8 +25,8 @@ pub enum LaterFault {
     #[error("{0} bytes of a header's {1}")]
     Short(u64, u64),
     /// One of the bytes behind the version isn't the signature's of the engine.
-    #[error("version {0}: its signature isn't the engine's")]
-    Signature(u8),
+    #[error("version {0} ({name}): its signature isn't {bytes}", name = .1.name(), bytes = .1.signature_digits())]
+    Signature(u8, Engine),
     /// MBF21's header says that it has more than 25 compatibility options.
     #[error("{0} compatibility options, 25 are the most")]
     Options(u8),
@@ -35,4 +39,11 @@ pub enum LaterFault {
     /// After the most whole commands comes no marker: the place where it should stand.
     #[error("no end marker: the bytes from place {0} on make no whole command")]
     NoMarker(u64),
+}
+
+// Whose version it is that is told, though it isn't read: those of Doom 1.2 have the skill as their first byte.
+fn early_name(version: u8) -> &'static str
+    ensures { result.now ≡ early_text version }
+{
+    if version < 5 { " (1.2 and before)" } else { "" }
 }

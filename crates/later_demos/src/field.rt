@@ -1,7 +1,8 @@
 //! The fields of a header: their names and their places.
 
-ghost use Rattle.std.specs.Prelude.{◌≡◌};
+ghost use Rattle.std.specs.Prelude.{◌≡◌, ◌≤◌, length};
 ghost use Rattle.later_demos.specs.Field.{comp_of, field_row, number_at, number_in, place_of, view_of};
+ghost use Rattle.later_demos.specs.Game.{byte_in};
 
 use crate::layout::{Engine, Layout};
 use crate::numbers::{big16_at, big32_at, byte_at, part_of};
@@ -169,8 +170,10 @@ impl Field {
     }
 
     /// The name, as listings have it.
+    #[tactic(auto, using(crate::proofs::FieldLemmas::name_short))]
     pub fn name(self) -> &'static [u8]
-        ensures { result.now ≡ (field_row self).name }
+        ensures name { result.now ≡ (field_row self).name }
+        ensures short { length result.now ≤ 21 }
     {
         self.row().name
     }
@@ -193,6 +196,16 @@ impl Field {
             Engine::Boom | Engine::Mbf | Engine::PrBoom => {
                 if row.since <= version { row.boom } else { None }
             }
+        }
+    }
+
+    /// The byte in a header, or 0 where its version hasn't the field.
+    pub(crate) fn byte(self, layout: Layout, header: &[u8]) -> u8
+        ensures { result ≡ byte_in self layout header.now }
+    {
+        match self.place(byte_at(header, 0), layout) {
+            Some(at) => byte_at(header, usize::from(at)),
+            None => 0,
         }
     }
 

@@ -44,7 +44,7 @@ fn check_header(layout: &Layout, before: usize, bytes: &[u8]) -> Result<(), Late
 {
     let signature = layout.engine.signature();
     if !signature.starts_with(part_of(bytes, 1, signature.len())) {
-        return Err(LaterFault::Signature(bytes[0]));
+        return Err(LaterFault::Signature(bytes[0], layout.engine));
     }
     let options = options_in(layout.engine, bytes);
     if options > MAX_OPTIONS {

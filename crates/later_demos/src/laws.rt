@@ -1,7 +1,7 @@
 //! Laws over the definitions alone, each the contract of a function that does nothing: a caller gets the law
 //! from a call.
 
-ghost use Rattle.later_demos.specs.Laws.{NeverBoth, OneReading, OneRefusal, ReadOrRefused};
+ghost use Rattle.later_demos.specs.Laws.{DoomIsRead, DoomIsRefused, NeverBoth, OneFooter, OneReading, OneRefusal, ReadOrRefused};
 
 /// Bytes have at most one reading as a demo.
 pub fn one_reading()
@@ -13,4 +13,15 @@ pub fn read_or_refused()
     ensures either { ReadOrRefused }
     ensures never_both { NeverBoth }
     ensures one_refusal { OneRefusal }
+{}
+
+/// A demo of Doom 1.9 that stands in no wrapper has the reading, or the refusal, that `demo_lump` gives it.
+pub fn reads_doom()
+    ensures read { DoomIsRead }
+    ensures refused { DoomIsRefused }
+{}
+
+/// The bytes behind a marker tell one thing.
+pub fn one_footer()
+    ensures { OneFooter }
 {}

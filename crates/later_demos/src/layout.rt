@@ -1,7 +1,8 @@
 //! The table of versions: what the demos of each have.
 
-ghost use Rattle.std.specs.Prelude.{◌≡◌, ◌≤◌, IfSome};
-ghost use Rattle.later_demos.specs.Layout.{layout_of, name_of, row, signature_of};
+ghost use Rattle.std.specs.Prelude.{◌≡◌, ◌≤◌, IfSome, find, length};
+ghost use Rattle.later_demos.specs.FaultText.{signature_digits};
+ghost use Rattle.later_demos.specs.Layout.{covers, layout_of, name_of, signature_of, versions};
 
 /// Whose version a demo has.
 #[derive(Clone, Copy, Debug, PartialEq, Eq)]
@@ -33,52 +34,86 @@ pub struct Layout {
     pub long: bool,
 }
 
+/// A row of the table: the versions from one to another, and what their demos have.
+#[derive(Clone, Copy)]
+pub(crate) struct VersionRow {
+    first: u8,
+    last: u8,
+    layout: Layout,
+}
+
+macro_rules! row {
+    ($first:literal, $last:literal, $engine:expr, $size:literal, $players:literal, $long:literal) => {
+        VersionRow {
+            first: $first,
+            last: $last,
+            layout: Layout {
+                engine: $engine,
+                size: $size,
+                players: $players,
+                long: $long,
+            },
+        }
+    };
+}
+
+/// The table of the versions that are read.
+const VERSIONS: [VersionRow; 9] = [
+    row! { 104, 108, Engine::Early, 13, 9, false },
+    row! { 109, 110, Engine::Doom, 13, 9, false },
+    row! { 111, 111, Engine::Doom, 13, 9, true },
+    row! { 200, 200, Engine::Boom, 301, 269, false },
+    row! { 201, 202, Engine::Boom, 109, 77, false },
+    row! { 203, 203, Engine::Mbf, 109, 77, false },
+    row! { 210, 213, Engine::PrBoom, 109, 77, false },
+    row! { 214, 214, Engine::PrBoom, 109, 77, true },
+    row! { 221, 221, Engine::Mbf21, 65, 33, true },
+];
+
+fn versions() -> &'static [VersionRow]
+    ensures { result.now ≡ versions }
+{
+    &VERSIONS
+}
+
+impl VersionRow {
+    fn covers(self, version: u8) -> bool
+        ensures { result ≡ covers version self }
+    {
+        self.first <= version && version <= self.last
+    }
+}
+
 /// What the demos of a version have, or None where the version isn't read.
-#[tactic(auto, unfolding(crate::specs::Layout::layout_of))]
+#[tactic(auto, unfolding(crate::specs::Layout::layout_of), using(crate::proofs::LayoutLemmas::row_small))]
 pub fn layout_of(version: u8) -> Option<Layout>
     ensures found { result ≡ layout_of version }
     ensures small { IfSome result (λ layout. (layout.size ≤ 301) × (layout.players ≤ 269)) }
 {
-    match version {
-        104..=108 => row(Engine::Early, 13, 9, false),
-        109..=110 => row(Engine::Doom, 13, 9, false),
-        111 => row(Engine::Doom, 13, 9, true),
-        200 => row(Engine::Boom, 301, 269, false),
-        201..=202 => row(Engine::Boom, 109, 77, false),
-        203 => row(Engine::Mbf, 109, 77, false),
-        210..=213 => row(Engine::PrBoom, 109, 77, false),
-        214 => row(Engine::PrBoom, 109, 77, true),
-        221 => row(Engine::Mbf21, 65, 33, true),
-        _ => None,
-    }
+    let row = row_of(version)?;
+    Some(row.layout)
 }
 
-fn row(engine: Engine, size: usize, players: usize, long: bool) -> Option<Layout>
-    requires size { size ≤ 301 }
-    requires players { players ≤ 269 }
-    ensures found { result ≡ row engine size players long }
-    ensures small { IfSome result (λ layout. (layout.size ≤ 301) × (layout.players ≤ 269)) }
+// The row that speaks of a version.
+fn row_of(version: u8) -> Option<VersionRow>
+    ensures { result ≡ find (covers version) versions }
 {
-    Some(Layout {
-        engine,
-        size,
-        players,
-        long,
-    })
+    versions().iter().copied().find(|row| row.covers(version))
 }
 
 impl Engine {
     /// The name that is told; empty of Doom 1.9.
-    pub fn name(self) -> &'static [u8]
-        ensures { result.now ≡ name_of self }
+    pub fn name(self) -> &'static str
+        ensures name { result.now ≡ name_of self }
+        ensures short { length result.now ≤ 10 }
     {
         match self {
-            Engine::Early => b"1.4 to 1.8",
-            Engine::Doom => b"",
-            Engine::Boom => b"Boom",
-            Engine::Mbf => b"MBF",
-            Engine::PrBoom => b"PrBoom",
-            Engine::Mbf21 => b"MBF21",
+            Engine::Early => "1.4 to 1.8",
+            Engine::Doom => "",
+            Engine::Boom => "Boom",
+            Engine::Mbf => "MBF",
+            Engine::PrBoom => "PrBoom",
+            Engine::Mbf21 => "MBF21",
         }
     }
 
@@ -90,6 +125,18 @@ impl Engine {
             Engine::Early | Engine::Doom => b"",
             Engine::Boom => b"\x1dBoom\xe6",
             Engine::Mbf | Engine::PrBoom | Engine::Mbf21 => b"\x1dMBF\xe6\x00",
+        }
+    }
+
+    /// The same bytes in hexadecimal digits.
+    pub fn signature_digits(self) -> &'static str
+        ensures digits { result.now ≡ signature_digits self }
+        ensures short { length result.now ≤ 17 }
+    {
+        match self {
+            Engine::Early | Engine::Doom => "",
+            Engine::Boom => "1d 42 6f 6f 6d e6",
+            Engine::Mbf | Engine::PrBoom | Engine::Mbf21 => "1d 4d 42 46 e6 00",
         }
     }
 }

@@ -3,7 +3,7 @@
 ghost use Rattle.std.specs.Prelude.{◌<◌};
 
 use crate::compare::check_same;
-use later_demos::{Field, LaterDemo, LaterFault};
+use later_demos::{Engine, Field, LaterDemo, LaterFault};
 use std::process::Abort;
 
 fn digit(byte: u8) -> u8
@@ -215,7 +215,7 @@ fn boom_cut_signature(rt: HostRuntime) {
 // A wrong signature, cut.
 #[test]
 fn boom_wrong_signature(rt: HostRuntime) {
-    check_refused(&rt, b"ca1d4d", LaterFault::Signature(202));
+    check_refused(&rt, b"ca1d4d", LaterFault::Signature(202, Engine::Boom));
 }
 
 // A header short by one byte.
@@ -250,7 +250,7 @@ fn mbf_without_compatibility(rt: HostRuntime) {
         b"cb1d426f6f6de604010f000001010001000100000000d618845d00000000000000000000000000000000000000000000\
           000000000000000000000000000000000000000000000000000000000100000000000000000000000000000000000000\
           0000000000000000000000000000000080",
-        LaterFault::Signature(203),
+        LaterFault::Signature(203, Engine::Mbf),
     );
 }
 

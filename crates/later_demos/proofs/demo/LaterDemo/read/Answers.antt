@@ -1,7 +1,7 @@
 use Rattle.std.proofs.Common.{ap, length, sym, ◌∙◌}
 use Rattle.std.proofs.lemmas.Result.{err_from_is_err_and}
 use Rattle.later_demos.specs.Command.{commands_in, left_in}
-use Rattle.later_demos.proofs.DemoLemmas.{cut_demo, first_refuses, found_demo, left_within, no_demo, no_fault, only_demo, only_fault, players_four, players_low, players_there}
+use Rattle.later_demos.proofs.DemoLemmas.{cut_demo, first_refuses, found_demo, left_within, no_demo, no_fault, only_demo, only_fault, options_few, players_four, players_low, players_there}
 use Rattle.later_demos.proofs.demo.LaterDemo.read.Goals as goal
 
 pub returns-in_err-front-clause-ok : goal.returns-in_err-front-clause-ok
@@ -20,6 +20,7 @@ invariant_of-result c =
       players_low c.args.bytes.now _ _ _ _ _ f.allowed f.inner.wrapped f.inner.version f.inner.header f.inner.frame f.inner.commands,
       players_there c.args.bytes.now _ _ _ _ _ f.allowed f.inner.wrapped f.inner.version f.inner.header f.inner.frame f.inner.commands,
       players_four c.args.bytes.now _ _ _ _ _ f.allowed f.inner.wrapped f.inner.version f.inner.header f.inner.frame f.inner.commands,
+      options_few c.args.bytes.now _ _ _ _ _ f.allowed f.inner.wrapped f.inner.version f.inner.header f.inner.frame f.inner.commands,
       c.scan-found.ensures.counted
           ∙ ap (λ form. length (commands_in form c.in_ok-front.front.commands.now)) c.form_of.ensures,
     )

@@ -83,13 +83,13 @@ def of_lens(asked: lens.Asked, held: Files) -> Iterator[Asked]:
 
 def is_question(words: list[str]) -> bool:
     """Words whose question the page can ask: a picture whose numbers are there, in or out
-    of their bounds, and else so many files."""
+    of their bounds, and else so many files, without other options."""
     command, option, numbers = (*words, "", "", "")[:3]
     match command:
         case "picture":
             return numbers.count(",") == {"--cells": 0, "--frame": 3}.get(option)
         case "cut":
-            return option == "--entry" and numbers.isdecimal()
+            return option == "--entry" and numbers.isdecimal() and not any(word.startswith("--") for word in words[3:])
         case _:
             return words == [command] and command in LENS_COMMANDS
 

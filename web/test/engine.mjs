@@ -76,17 +76,22 @@ async function lists(path) {
   same(`the levels of ${path}`, listed, told);
 }
 
-/** The rows that the page shows of the objects of a check are the lines that the program prints. */
+/** A number of a record as the signed reading has it: the page tells it as it is stored. */
+const NEGATIVE = /\b(vertex|sidedef|sector|linedef|from) -(\d+)/gi;
+
+/** The rows that the page shows of the objects of a check are the lines that the program prints, but for negative numbers of records. */
 async function tellsRows(path, reading) {
   const words = ['check', ...reading, '--map', '--max', '2'], page = await run([...words, '--json', path], [names.get(path)]);
   const objects = Buffer.from(page.answer).toString().split('\n').filter((line) => /"(?:code|sound_with_wide)":/.test(line));
-  const rows = objects.map((line) => findingOf(line, {})).map(({ code, where, message, more, wide: isWide }) => {
-    if (isWide) return where;
-    return more ? `${code}: ${where}` : `${code} ${where}: ${message}`;
+  const rows = objects.map((line) => {
+    const { code, more, sound_with_wide: isWide } = JSON.parse(line), { where, message } = findingOf(line, {});
+    if (isWide) return 'sound with --wide';
+    return more ? `${code}: ${more} more` : `${code} ${where}: ${message}`;
   });
   const lines = native(wadlens, [...words, path], '').stdout.toString().split('\n').map((line) => line.replace(/^[^:]*: .*?: (?=[FNW]\d|sound)/, ''));
   const sentences = lines.map((line) => line.replace(/^([FNW]\d+ .+?: )(.)/, (_, lead, first) => `${lead}${first.toUpperCase()}`));
-  same(`the rows of ${words.join(' ')} ${path}`, rows, sentences.filter((line) => /^(?:[FNW]\d+[ :]|sound with)/.test(line)));
+  const wanted = sentences.filter((line) => /^(?:[FNW]\d+[ :]|sound with)/.test(line));
+  same(`the rows of ${words.join(' ')} ${path}`, rows, wanted.map((line) => line.replace(NEGATIVE, (_, what, number) => `${what} ${65536 - number}`)));
 }
 
 /** The numbers of the linedefs of the level alone are those that `show` tells. There is no room for them at first. */

@@ -1,4 +1,4 @@
-// Looks at an atlas' page in headless Chromium, beside what `wadlens survey` says of the same files, with warnings.
+// Looks at an atlas' page in headless Chromium, beside what `wadlens survey` and `wadlens check` say of the same files, with warnings.
 import { spawnSync } from 'node:child_process';
 import { existsSync, mkdirSync, mkdtempSync, readFileSync, readdirSync, rmSync, writeFileSync } from 'node:fs';
 import { tmpdir } from 'node:os';
@@ -69,16 +69,41 @@ function items(one) {
   return [...(one.sound ? ['sound: sound'] : []), ...found.map(([code, count]) => `${kind(code)}: ${code} × ${count}`)];
 }
 
+/** A place as a line tells it. @param {any} place */
+function placeText(place) {
+  const spot = (/** @type {number[]} */ at) => `(${at.join(', ')})`;
+  if (!place) return '';
+  if (place.at) return `, at ${spot(place.at)}`;
+  return place.from ? `, from ${spot(place.from)} to ${spot(place.to)}` : `, of linedef ${place.linedef}`;
+}
+
+/** The part of a picture about a place, 256 map units around; of a place that is a linedef's it isn't known here. @param {any} place */
+function view({ at, from = at, to = at }) {
+  if (!from) return '';
+  const size = [0, 1].map((k) => Math.abs(from[k] - to[k]) + 512);
+  return `#svgView(viewBox(${[Math.min(from[0], to[0]) - 256, -Math.max(from[1], to[1]) - 256, ...size]}))`;
+}
+
+/** A message of a card, by its object of the check: its class, its text, and where its link goes. @param {any} told @param {string} picture */
+function message(told, picture) {
+  const kind = { F: 'fault', N: 'note', W: 'warning' }[/** @type {string} */ (told.code)[0]];
+  if (told.more) return `${kind}: ${told.code}: ${told.more} more`;
+  const index = Array.isArray(told.index) ? ` (${told.index.join(', ')})` : told.index === undefined ? '' : ` ${told.index}`;
+  const link = picture && told.place ? ` > ${picture}${view(told.place)}` : '';
+  return `${kind}: ${told.code} ${told.kind}${index}: ${told.message}${placeText(told.place)}${link}`;
+}
+
 /** What each row of the page shows, its text with single blanks. */
 const ROWS = `[...document.querySelectorAll('main > ol > li')].map((row) => ({
   text: row.innerText.replace(/\\s+/g, ' '),
   items: [...row.querySelectorAll('.found li')].map((item) => item.className + ': ' + item.innerText),
-  href: row.querySelector('a')?.getAttribute('href') ?? '',
+  messages: [...row.querySelectorAll('.messages li')].map((item) => [item.className, item.innerText, item.querySelector('a')?.getAttribute('href') ?? '']),
+  href: row.querySelector('a.map')?.getAttribute('href') ?? '',
   size: Math.max(row.querySelector('img')?.naturalWidth ?? 0, row.querySelector('img')?.naturalHeight ?? 0),
 }))`;
 
-/** @param {Browser} browser @param {any[]} objects @param {string} folder */
-async function look(browser, objects, folder) {
+/** @param {Browser} browser @param {any[]} objects @param {any[]} checked what a check tells of the levels @param {string} folder */
+async function look(browser, objects, checked, folder) {
   const levels = objects.filter((one) => 'level' in one);
   const isFaulty = (/** @type {any} */ one) => (one.format === 'doom' ? !one.sound : 'lump' in one);
   const wanted = [...levels.filter(isFaulty), ...levels.filter((one) => !isFaulty(one))];
@@ -90,6 +115,10 @@ async function look(browser, objects, folder) {
     const missing = texts(one).filter((text) => !rows[k].text.includes(text));
     is(`row ${k + 1}, ${one.file} ${one.level}`, missing, []);
     is(`row ${k + 1}, what was found`, rows[k].items, items(one));
+    const messages = checked.filter(({ file, entry }) => file === one.file && entry === one.entry);
+    const lines = rows[k].messages.map(([kind, text, href], /** @type {number} */ n) =>
+      `${kind}: ${text}${href ? ` > ${messages[n]?.place?.linedef === undefined ? href : href.split('#')[0]}` : ''}`);
+    is(`row ${k + 1}, its messages`, lines, messages.map((each) => message(each, rows[k].href)));
   });
   const shown = rows.map((/** @type {any} */ row) => row.href).filter(Boolean).sort();
   is('a link to each picture', shown, readdirSync(folder).filter((name) => name.endsWith('.svg')).sort());
@@ -167,18 +196,23 @@ async function atlas(given) {
   const survey = run('survey', '--map', ...given), made = run('atlas', '--map', '--out', folder, ...given);
   is('the status of both', made.status, survey.status);
   is('the survey', readFileSync(join(folder, 'survey.jsonl'), 'utf8'), survey.stdout);
-  const objects = survey.stdout.trimEnd().split('\n').map((line) => JSON.parse(line));
+  const objectsOf = (/** @type {string} */ lines) => lines.trimEnd().split('\n').map((line) => JSON.parse(line));
+  const objects = objectsOf(survey.stdout);
+  const checked = objectsOf(run('check', '--map', '--json', '--max', '3', ...given).stdout).filter((one) => 'code' in one);
   const browser = new Browser(chromium(), join(room, `${atlasName}-profile`));
   try {
     await browser.attach();
     await browser.screen(1200, 900, 'light');
     await browser.send('Page.navigate', { url: `file://${folder}/index.html` });
     await browser.until(`document.readyState === 'complete'`);
-    await look(browser, objects, folder);
+    await look(browser, objects, checked, folder);
     for (const width of [1200, 390]) for (const scheme of /** @type {('dark' | 'light')[]} */ (['dark', 'light'])) await fits(browser, width, scheme);
     is('nothing is fetched from elsewhere', browser.requests.filter((url) => !url.startsWith(`file://${folder}/`)), []);
     is('no complaint', browser.complaints, []);
     await follow(browser);
+    await browser.send('Page.navigate', { url: `file://${folder}/index.html` });
+    await browser.until(`document.readyState === 'complete' && document.querySelector('.messages')`);
+    await goTo(browser);
   } finally {
     await browser.close();
   }
@@ -191,6 +225,29 @@ async function follow(browser) {
   await browser.press('a.map');
   await browser.until(`location.pathname.endsWith('/${first}') && document.documentElement.localName === 'svg'`, 'a click shows the picture');
   is('a click on it', true);
+}
+
+/** The messages whose mistakes a picture marks. */
+const MARKED = /^(N3|W1|W2|W3|W6) /;
+
+/** The mark in the middle of what is seen, if there is one. */
+const MIDDLE = `[...document.querySelectorAll('.f, .a')].some((mark) => {
+  const { left, right, top, bottom } = mark.getBoundingClientRect(), { width, height } = document.documentElement;
+  return Math.abs(left + right - width.baseVal.value) < 6 && Math.abs(top + bottom - height.baseVal.value) < 6;
+})`;
+
+/** A click on a message shows its place in the middle of the picture. @param {Browser} browser */
+async function goTo(browser) {
+  const [name, x, y] = await browser.run(`(() => {
+    const link = [...document.querySelectorAll('.messages a')].find((one) => ${MARKED}.test(one.innerText));
+    link.scrollIntoView({ block: 'center' });
+    const line = link.getClientRects()[0];
+    return [link.getAttribute('href'), line.x + line.width / 2, line.y + line.height / 2];
+  })()`);
+  await browser.click(x, y);
+  await browser.until(`location.href.endsWith('/${name}') && document.documentElement.localName === 'svg'`, 'a click on a message shows its picture');
+  is('a click on a message shows its place', await browser.run(MIDDLE));
+  if (pictures) writeFileSync(join(pictures, `${atlasName}-place.png`), await browser.picture());
 }
 
 try {

@@ -221,7 +221,7 @@ const EXPLANATIONS = {
     text: 'no side 0',
     parts: [
       'A linedef has no front sidedef.',
-      "The game counts each linedef in its front sector (P_GroupLines). Without one the game writes to memory that isn't its own, at address 0, as the level is loaded. A crash is likely.",
+      "The game counts each linedef in its front sector (P_GroupLines), here through a sector that isn't there, at address 0, and ends as it loads the level. A sound level with N4 isn't one that the game loads.",
       'Turn the linedef round if it has a back sidedef, otherwise delete it. Then build the nodes.',
     ],
   },

@@ -1,7 +1,7 @@
 // What was found in a level, as a tree: a heading for each code, which folds, hides and is explained, and under it each finding.
 import { explanationOf, meaningOf } from './codes.mjs';
 import { findingOf } from './findings.mjs';
-import { byRank, rankWords, runsOf } from './groups.mjs';
+import { listedIn, rankWords } from './groups.mjs';
 import { Lines } from './lines.mjs';
 import { linked } from './links.mjs';
 import { ListBox } from './list.mjs';
@@ -10,8 +10,7 @@ import { field, get, sentence } from './words.mjs';
 
 /** @typedef {import('./findings.mjs').Finding} Finding @typedef {import('./findings.mjs').Spots} Spots */
 /**
- * @typedef {{ code: string, from: number, to: number, total: number, passed: number[] | null }} Group  the objects of a code, from one on up to another;
- *   how many were found of it, of which not all may be listed; those that the filter passes, where there is one
+ * @typedef {import('./groups.mjs').Listed & { passed: number[] | null }} Group  the findings of a code, and those that the filter passes, where there is one
  * @typedef {{ group: Group, k: number }} Item  a row: a finding, or with -1 the heading of its group
  */
 /**
@@ -65,16 +64,11 @@ export class FoundList {
 
   /**
    * Shows what was found.
-   * @param {Lines} objects of `check`, of which the last has the sums @param {Spots} spots @param {Record<string, number>} counts of each code
-   * @param {Set<string>} hidden codes, of the file
+   * @param {Lines} objects of `check`, of which the last has the sums @param {Spots} spots @param {Set<string>} hidden codes, of the file
    */
-  show(objects, spots, counts, hidden) {
-    const runs = runsOf(objects).filter(({ code }) => code);
+  show(objects, spots, hidden) {
     Object.assign(this, { objects, spots, hidden, made: new Map(), fresh: new Set() });
-    this.groups = byRank(runs, ({ code }) => code).map(({ code, from, to }) => {
-      const total = counts[code] ?? to - from, isWhole = to - from === total;
-      return { code, from, to: isWhole ? to : to - 1, total, passed: null }; // the last one may stand for the others
-    });
+    this.groups = listedIn(objects).map((listed) => ({ ...listed, passed: null }));
     this.count = this.groups.reduce((sum, { from, to }) => sum + to - from, 0);
     this.total = this.groups.reduce((sum, { total }) => sum + total, 0);
     get('found-bar').hidden = this.count < FILTERED;
@@ -87,7 +81,7 @@ export class FoundList {
     this.folded.clear();
     this.explained = '';
     field('found-filter').value = '';
-    this.show(none(), {}, {}, new Set());
+    this.show(none(), {}, new Set());
   }
 
   /** A finding by the place of its object. @param {number} k */

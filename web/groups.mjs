@@ -4,6 +4,7 @@ import { isName } from './entries.mjs';
 
 /** @typedef {import('./lines.mjs').Lines} Lines */
 /** @typedef {{ code: string, from: number, to: number }} Run  of the objects from one on up to another */
+/** @typedef {Run & { total: number }} Listed  a run of findings, and how many were found of its code: not all of them may be listed */
 
 const CODE = ',"code":"'; // no name and no path has such letters: their quotes are escaped
 const QUOTE = 34;
@@ -44,3 +45,15 @@ export const byRank = (all, codeOf) => [...all].sort((a, b) => rankOf(codeOf(a))
 
 /** What kind of finding a code is, in words. @param {string} code */
 export const rankWords = (code) => endsGame(code) ? `ends the game · ${classOf(code)}` : classOf(code);
+
+/**
+ * The findings of each code, what matters most first. The last object of a code stands for those that aren't listed, where there are such.
+ * @param {Lines} objects of `check`, of which the last has the sums @returns {Listed[]}
+ */
+export function listedIn(objects) {
+  const runs = runsOf(objects).filter(({ code }) => code);
+  return byRank(runs, ({ code }) => code).map(({ code, from, to }) => {
+    const { more = 0 } = JSON.parse(objects.at(to - 1)), end = more ? to - 1 : to;
+    return { code, from, to: end, total: end - from + more };
+  });
+}

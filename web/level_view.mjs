@@ -235,7 +235,7 @@ export class LevelView {
   #list(objects, spots) {
     const { level, asked } = this;
     if (!level || !asked) return;
-    this.found.show(objects, spots, { ...level.findings, ...level.warnings }, this.hiddenIn(asked.file.name));
+    this.found.show(objects, spots, this.hiddenIn(asked.file.name));
     const { unbuilt, isWide } = adviceOf(objects);
     get('advice').textContent = [unbuilt, isWide ? 'Read with unsigned indexes, as larger levels for ports use them, its links and its nodes are whole.' : ''].filter(Boolean).join(' ');
     get('advice').hidden = !get('advice').textContent;

@@ -122,7 +122,7 @@ complete -c wadlens -n '__wadlens_is check survey atlas' -l strict -d 'end with 
 complete -c wadlens -n '__wadlens_is check survey atlas' -l base -x -a '(__wadlens_files wad)' -d 'a file on which every file stands, as a game\'s IWAD'
 complete -c wadlens -n '__wadlens_is check survey picture atlas' -l ignore -x -a '(__wadlens_named)' -d 'ignore these notes and warnings, as N2,W7-W8'
 complete -c wadlens -n '__wadlens_is check survey atlas' -l fail -x -a '(__wadlens_named)' -d 'end with status 1 at these, too, as N2,W9-W11 or game'
-complete -c wadlens -n '__wadlens_is check' -l max -x -d 'show at most so many findings or warnings of one code in one level, 0: all'
+complete -c wadlens -n '__wadlens_is check atlas' -l max -x -d 'show at most so many findings or warnings of one code in one level, 0: all'
 complete -c wadlens -n '__wadlens_is picture atlas' -l cells -x -d 'at most so many cells along the longer side of a picture'
 complete -c wadlens -n '__wadlens_is picture' -l frame -x -d 'the cells of this part of the map alone, X0,Y0,X1,Y1'
 complete -c wadlens -n '__wadlens_is atlas' -l out -x -a '(__fish_complete_directories)' -d 'the folder to write into'

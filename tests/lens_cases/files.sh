@@ -84,6 +84,8 @@ cases_of_paths() {
     cp faulty.wad blank.wad
     says 'a path that ends in a blank' 0 "$(sound 'blank.wad ' E1M1 0)" '' survey 'blank.wad '
     says 'a path that ends in a tab' 0 "$(sound 'blank.wad\\u0009' E1M1 0)" '' survey $'blank.wad\t'
+    cp base.wad ' blank.wad'
+    says 'a path that begins with a blank' 0 "$(sound ' blank.wad' E1M1 0)" '' survey ' blank.wad'
     says_on 'a path of a list that ends in a blank' 'blank.wad \n' 0 "$(sound 'blank.wad ' E1M1 0)" '' survey --files-from -
     says 'a path that is not ASCII' 0 "$(sound 'ü.wad' E1M1 0)" '' survey ü.wad
 }

@@ -9,7 +9,7 @@ drawn() {
     across=$(((width * 1024 + longer - 1) / longer)) down=$(((height * 1024 + longer - 1) / longer))
     printf '%s' "<svg xmlns=\"http://www.w3.org/2000/svg\" viewBox=\"$2\" width=\"$across\" height=\"$down\">\\n" \
         "<title>$1</title>\\n" \
-        '<style>path{vector-effect:non-scaling-stroke}.s{shape-rendering:crispEdges}.s path:hover{fill:#fb5}' \
+        '<style>svg{background:#14161a}path{vector-effect:non-scaling-stroke}.s{shape-rendering:crispEdges}.s path:hover{fill:#fb5}' \
         '.w{fill:none;stroke:#eee;stroke-width:1.5}.t{fill:none;stroke:#778;stroke-width:.7}' \
         '.f{fill:none;stroke:#f33;stroke-width:4}.a{fill:none;stroke:#fb3;stroke-width:3}.p{vector-effect:none;stroke:#14161a;stroke-width:5;paint-order:stroke}' \
         '.start{fill:#6f6}.monster{fill:#f7b}.weapon{fill:#5cf}.key{fill:#ff5}.other{fill:#cba}.p:hover{fill:#fff}</style>\n' \
@@ -116,6 +116,10 @@ cases_of_marked_warnings() {
         "$(shaded 1 'M0 0h1v65h-1z' 65)" "$line" '' "$unknown")" '' picture --map --ignore W1 E1M1 unknown.wad
     things=''
     says 'picture --map: none where a reference lacks' 1 "$half" '' picture --map E1M1 faulty.wad
+    level THINGS "$(words 8 8 0 1 7)$(times 1001 "$(words 8 8 0 32000 7)")" >many.wad
+    timeout 60 "$program" picture --map E1M1 many.wad 2>error | grep -c '<title>W11 ' >output
+    printf 0 >status
+    judge 'picture --map: as many marks as warnings' 0 '1001\n' ''
     mistaken 'picture: --ignore of a fault' '--ignore' picture --ignore F3 E1M1 base.wad
 }
 
@@ -260,10 +264,10 @@ cases_of_drawn_games() {
         mv sum output
         judge "picture: $name" 0 "$sum" ''
     done <<'END'
-freedoom1.wad E3M7 3a9693954a23d537f2fe9ff669cda2db68631db29d703dcf9d7bf6f7ceae8cc3
-freedoom2.wad MAP01 dd1df401ebb4f1660bb32a1c9f55a6d065fb4c7509e816244d5bba45ca322994
-freedoom2.wad MAP12 1ae14bae389616b65499434c107e601cd6cafd292236c54c9daa994c7f04e3fb
-freedoom2.wad MAP28 688fa23145e2446baf42f5dd5a07558fb2eb9b796e353130eee01caf5bfb9a90
+freedoom1.wad E3M7 7cd147854d1c1e219f51807ba39127235459db5a07bbde7eea75c3e0623bb8f9
+freedoom2.wad MAP01 472c80cb397039bfaaf2bf68e5e95fa707cd389cc19f6cb42bb5fb97b38c8c7a
+freedoom2.wad MAP12 2d3d0bcdd7ca01aad014c404e9b0f3ef5ec51ab2615d0b817d26445db3619e88
+freedoom2.wad MAP28 7b25c9edf07a05a34e22031fc1872a8d7db9706e010f3546da7b695b61b5a6c1
 END
     # E3M6 has bare sides and a twin: a picture marks those that `check` tells, at the places that it tells.
     timeout 60 "$program" check --map --max 0 "$games/freedoom1.wad" 2>error |
@@ -329,7 +333,7 @@ map() {
     cat <<END
 <svg xmlns="http://www.w3.org/2000/svg" viewBox="-32 -96 64 128" width="512" height="1024">
 <title>${4-E1M1}: faults 0 notes 0</title>
-<style>path{vector-effect:non-scaling-stroke}.s{shape-rendering:crispEdges}.s path:hover{fill:#fb5}.w{fill:none;stroke:#eee;stroke-width:1.5}.t{fill:none;stroke:#778;stroke-width:.7}.f{fill:none;stroke:#f33;stroke-width:4}.a{fill:none;stroke:#fb3;stroke-width:3}.p{vector-effect:none;stroke:#14161a;stroke-width:5;paint-order:stroke}.start{fill:#6f6}.monster{fill:#f7b}.weapon{fill:#5cf}.key{fill:#ff5}.other{fill:#cba}.p:hover{fill:#fff}</style>
+<style>svg{background:#14161a}path{vector-effect:non-scaling-stroke}.s{shape-rendering:crispEdges}.s path:hover{fill:#fb5}.w{fill:none;stroke:#eee;stroke-width:1.5}.t{fill:none;stroke:#778;stroke-width:.7}.f{fill:none;stroke:#f33;stroke-width:4}.a{fill:none;stroke:#fb3;stroke-width:3}.p{vector-effect:none;stroke:#14161a;stroke-width:5;paint-order:stroke}.start{fill:#6f6}.monster{fill:#f7b}.weapon{fill:#5cf}.key{fill:#ff5}.other{fill:#cba}.p:hover{fill:#fff}</style>
 <rect x="-32" y="-96" width="64" height="128" fill="#14161a"/>
 <g class="s" transform="matrix($1 0 0 -$1 0 0)">
 <path fill="#7f7f93" d="$2 floor 0 FLAT1, ceiling 128 FLAT1, light 160, special 0, tag 0, $3 cells</title></path>
@@ -663,7 +667,6 @@ cases_of_words_of_atlas() {
     mistaken 'atlas: a negative number of cells, apart' '-1' atlas --out atlas --cells -1 base.wad
     mistaken 'atlas: a number of cells that is none' 'many' atlas --out atlas --cells many base.wad
     mistaken 'atlas: --null without --files-from' '--files-from' atlas --out atlas --null base.wad
-    mistaken '--max of atlas' "unexpected argument '--max'" atlas --out atlas --max 3 base.wad
     tells '--help of atlas' '--out <FOLDER>' atlas --help
     no_folder 'atlas: mistaken words make no folder'
 }
@@ -718,6 +721,7 @@ cases_of_warned_atlases() {
         '<li class="sound">' "$warned" '<ul class="counts">'
     into_new 'atlas: --map --strict' 1 '' '1-0.svg index.html survey.jsonl' --strict --map base.wad
     has 'atlas: its survey, strictly' survey.jsonl "$(<survey.told)\n"
+    # It fails, and comes first, and no link and no node of it is broken.
     shows 'atlas: its warnings, strictly' index.html '<b>0</b> faults' '<b>6</b> warnings' '<li class="faulty">' "$warned"
     into_new 'atlas: warnings of some levels' 2 '' '1-0.svg 3-0.svg index.html survey.jsonl' --map base.wad udmf.wad base.wad
     timeout 60 "$program" survey --map base.wad udmf.wad base.wad >survey.told

@@ -54,6 +54,8 @@ cases_of_files() {
     cp empty.wad $'base.wad\t'
     prints 'a path that ends in a blank' 'file 1 PWAD 0\n' lumps 'base.wad '
     prints 'a path that ends in a tab' 'file 1 PWAD 0\n' lumps $'base.wad\t'
+    cp empty.wad ' base.wad'
+    prints 'a path that begins with a blank' 'file 1 PWAD 0\n' lumps ' base.wad'
     local size fault said cuts=''
     : >output
     for ((size = 0; size < 409; size++)); do

@@ -2,6 +2,7 @@
 stands on: check, survey, cut and demos."""
 
 import re
+from collections.abc import Iterator
 from typing import NamedTuple
 
 from plain import demos
@@ -400,14 +401,14 @@ class Front(NamedTuple):
         run.out.append(written(members | {"entry": self.entry} | as_members(line)))
 
 
-def check_warned(run: Run, front: Front, warned: dict[str, list[Warned]], most: int) -> None:
+def warned_lines(warned: dict[str, list[Warned]], most: int) -> Iterator[str]:
     """What is told of a level's warnings."""
     for code, all_told in warned.items():
         shown_count = len(all_told) if most == 0 else min(most, len(all_told))
         for one in all_told[:shown_count]:
-            front.tell(run, f"{code} {one.index}: {one.message}{one.place}")
+            yield f"{code} {one.index}: {one.message}{one.place}"
         if shown_count < len(all_told):
-            front.tell(run, f"{code}: {len(all_told) - shown_count} more")
+            yield f"{code}: {len(all_told) - shown_count} more"
 
 
 def check_unlooked(run: Run, front: Front, level: Level, codes: list[str]) -> None:
@@ -449,15 +450,15 @@ def unbuilt_words(level: Level) -> str:
     return f"{told}; build the nodes"
 
 
-def check_level(run: Run, front: Front, level: Level, found: dict[str, list[int]], most: int) -> None:
+def finding_lines(level: Level, found: dict[str, list[int]], most: int) -> Iterator[str]:
     """What is told of a judged level's findings."""
     for code, where in found.items():
         shown_count = len(where) if most == 0 else min(most, len(where))
         for i in where[:shown_count]:
             index, told = index_words(level, code, i), message(level, code, i)
-            front.tell(run, f"{code} {index}: {told}{place(level, code, i)}")
+            yield f"{code} {index}: {told}{place(level, code, i)}"
         if shown_count < len(where):
-            front.tell(run, f"{code}: {len(where) - shown_count} more")
+            yield f"{code}: {len(where) - shown_count} more"
 
 
 class Judged(NamedTuple):
@@ -472,6 +473,11 @@ class Judged(NamedTuple):
     @property
     def notes(self) -> int:
         return sum(len(where) for code, where in self.findings.items() if code[0] == "N")
+
+
+def found_lines(level: Level, found: Judged, most: int) -> list[str]:
+    """What is told of a judged level's findings, and behind them of its warnings."""
+    return [*finding_lines(level, found.findings, most), *warned_lines(found.warned, most)]
 
 
 def judged(asked: Asked, level: Level, listed: list[Entry]) -> Judged:
@@ -527,8 +533,8 @@ def check_file(run: Run, asked: Asked, path: str, listed: list[Entry]) -> None:
         found = judge(run, asked, level, listed)
         if told := unbuilt_words(level):
             front.tell(run, told)
-        check_level(run, front, level, found.findings, asked.most)
-        check_warned(run, front, found.warned, asked.most)
+        for line in found_lines(level, found, asked.most):
+            front.tell(run, line)
         check_unlooked(run, front, level, found.unlooked)
         if level.faults and not Level(listed, g, True).faults:
             front.tell(run, "sound with --wide")

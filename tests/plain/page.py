@@ -4,7 +4,7 @@ with what they show and lead to. How it is laid out isn't compared."""
 from html.parser import HTMLParser
 from typing import NamedTuple
 
-from plain.lens import CLEAN, FAULTY, UNJUDGED, WANTS, Asked, Format, shown_path, unlooked_note
+from plain.lens import CLEAN, FAULTY, UNJUDGED, WANTS, Asked, Format, placed, shown_path, unlooked_note
 from plain.levels import Level
 from plain.wads import USUAL
 
@@ -55,6 +55,10 @@ MEANINGS = {
     "W11": "a thing's type is none of the game's",
 }
 """What the legend says of each code."""
+KINDS = {"F": "fault", "N": "note", "W": "warning"}
+"""What a code is, by its letter."""
+AROUND = 256
+"""How far what a link shows goes beyond its place, in map units."""
 MARKS = {CLEAN: "sound", UNJUDGED: "unread", FAULTY: "faulty"}
 
 
@@ -62,7 +66,8 @@ class Row(NamedTuple):
     """A level, its picture's name where it has one, and where it is judged what it holds and
     what isn't ignored of it, and if warnings are asked for how many of each code it has, and
     which weren't
-    looked for, as no file lists the names."""
+    looked for, as no file lists the names. The messages are what a check tells of it behind its
+    label."""
 
     path: str
     entry: int
@@ -74,6 +79,7 @@ class Row(NamedTuple):
     fails: bool = False
     warned: dict[str, int] | None = None
     unlisted: tuple[str, ...] = ()
+    messages: list[str] | None = None
 
     @property
     def verdict(self) -> int:
@@ -162,17 +168,48 @@ def total_events(rows: list[Row], files: int, mapped: bool) -> list[str]:
     ]
 
 
-def level_events(level: Level, findings: dict[str, list[int]], warned: dict[str, int]) -> list[str]:
-    """The codes that hold, with how often, those of warnings behind them, and how many
-    records there are."""
+def level_events(row: Row, level: Level) -> list[str]:
+    """The codes that hold, with how often, those of warnings behind them, the first messages,
+    and how many records there are."""
     events = [] if level.faults else [tag("li", **{"class": "sound"}), text("sound")]
-    for code, where in findings.items():
-        kind = "fault" if code[0] == "F" else "note"
-        events += [tag("li", **{"class": kind}), text(f"{code} × {len(where)}")]
-    for code, count in warned.items():
-        events += [tag("li", **{"class": "warning"}), text(f"{code} × {count}")]
+    counts = {code: len(where) for code, where in (row.findings or {}).items()} | (row.warned or {})
+    for code, count in counts.items():
+        events += [tag("li", **{"class": KINDS[code[0]]}), text(f"{code} × {count}")]
+    events += message_events(row, level)
     for name, table in zip(USUAL, level.tables):
         events += number(len(table), name.decode().lower())
+    return events
+
+
+def ends_of(level: Level, line: str) -> list[list[int]]:
+    """The two ends of the place that a message names; nothing where they aren't known."""
+    match placed(line)[1].get("place"):
+        case {"at": [int(x), int(y)]}:
+            return [[x, y], [x, y]]
+        case {"from": [int(x0), int(y0)], "to": [int(x1), int(y1)]}:
+            return [[x0, y0], [x1, y1]]
+        case {"linedef": int(n)}:
+            ends = level.vertex(level.linedefs[n].v1), level.vertex(level.linedefs[n].v2)
+            return [[end.x, end.y] for end in ends if end is not None] if None not in ends else []
+    return []
+
+
+def view_of(ends: list[list[int]]) -> str:
+    """The part of a picture about a place."""
+    across, up = ([end[i] for end in ends] for i in (0, 1))
+    corner = min(across) - AROUND, -max(up) - AROUND
+    size = (max(along) - min(along) + 2 * AROUND for along in (across, up))
+    return f"#svgView(viewBox({','.join(map(str, (*corner, *size)))}))"
+
+
+def message_events(row: Row, level: Level) -> list[str]:
+    """Each message, within a link to its place in the picture."""
+    events = []
+    for line in row.messages or []:
+        events.append(tag("li", **{"class": KINDS[line[0]]}))
+        if row.picture and (ends := ends_of(level, line)):
+            events.append(tag("a", href=row.picture + view_of(ends)))
+        events.append(text(line))
     return events
 
 
@@ -188,7 +225,7 @@ def row_events(row: Row) -> list[str]:
     events += [text(shown_path(row.path)), text(f"entry {row.entry}, {row.form.name}")]
     if row.level is None:
         return [*events, text(row.form.words)]
-    return [*events, *level_events(row.level, row.findings or {}, row.warned or {})]
+    return [*events, *level_events(row, row.level)]
 
 
 def is_found(code: str, row: Row) -> bool:
@@ -200,8 +237,7 @@ def legend_events(rows: list[Row]) -> list[str]:
     events = []
     for code, meaning in MEANINGS.items():
         if any(is_found(code, row) for row in rows):
-            kind = {"F": "fault", "N": "note", "W": "warning"}[code[0]]
-            events += [tag("li", **{"class": kind}), text(code), text(meaning)]
+            events += [tag("li", **{"class": KINDS[code[0]]}), text(code), text(meaning)]
     return events
 
 

@@ -15,6 +15,7 @@ CELLS = 512
 LONGEST = 1024
 """How many pixels the longer side of a picture has by itself."""
 STYLE = (
+    "svg{background:#14161a}"
     "path{vector-effect:non-scaling-stroke}"
     ".s{shape-rendering:crispEdges}"
     ".s path:hover{fill:#fb5}"
@@ -39,7 +40,6 @@ MARKED_WARNINGS = {
     "W6": "linedef on another",
     "W11": "thing of no known type",
 }
-MOST_MARKS = 1000
 RING = "m-24 0a24 24 0 1 0 48 0a24 24 0 1 0-48 0"
 DART = "M20 0L-12 14v-28z"
 CLASSES = {
@@ -231,8 +231,8 @@ def warning_line(code: str, told: Warned) -> str:
 
 
 def warning_lines(warned: dict[str, list[Warned]]) -> list[str]:
-    """The first warnings of each code that is marked."""
-    return [warning_line(code, told) for code in MARKED_WARNINGS for told in warned.get(code, [])[:MOST_MARKS]]
+    """The warnings of each code that is marked."""
+    return [warning_line(code, told) for code in MARKED_WARNINGS for told in warned.get(code, [])]
 
 
 def thing_line(index: int, thing: Thing) -> str:

@@ -20,6 +20,8 @@ GROUPS = {
 }
 """The names for many codes."""
 MOST_BASES = 63
+MOST = {"check": 20, "atlas": 3}
+"""How many findings of one code are shown of a level by themselves."""
 FOLDERS = {
     "atlas": [],
     "empty": ["empty"],
@@ -199,12 +201,13 @@ def flags(random: Random, command: str, mapped: bool, bases: list[str]) -> tuple
     with_map = judges and (mapped or random.random() < 0.4)
     strict = with_map and random.random() < 0.5
     json = command in ("check", "demos") and random.random() < 0.5
-    most = random.choice((0, 1, 2, 3, 20)) if command == "check" else 20
+    shown = MOST.get(command, 0)
+    most = random.choice((0, 1, 2, 3, 20)) if shown else 0
     asked = lens.Asked(command, [], wide, most, json, map=with_map, strict=strict)
     named = {"--wide": wide, "--map": with_map, "--strict": strict, "--json": json}
     options = [name for name, is_set in named.items() if is_set]
     random.shuffle(options)
-    if command == "check" and (most != 20 or random.random() < 0.3):
+    if shown and (most != shown or random.random() < 0.3):
         options += value_words(random, "--max", most)
     if judges:
         ignored, failing = code_options(random, with_map)

@@ -10,6 +10,7 @@ import { byWords } from './asked.mjs';
 import { seeded } from './engine_fuzz.mjs';
 import { refusals } from './engine_refusals.mjs';
 import { numbersOf } from './shown_linedefs.mjs';
+import { listedRows, wantedRows } from './shown_rows.mjs';
 import { farLinedef, flats, lostLinedef, oneLost, rooms, textures, twoUnknown, wad, wallsOfRooms } from './wads.mjs';
 import { LINES, OTHERWISE, workedDemos, workedFiles } from './worked_cases.mjs';
 
@@ -19,7 +20,7 @@ globalThis.fetch = async (url) => new Response(readFileSync(new URL(url)), { hea
 /** @param {string} name of a file of the page */
 const part = (name) => import(pathToFileURL(join(folder, name)).href);
 const host = await part('wad_page.mjs'), { contents } = await part('entries.mjs'), { Lines } = await part('lines.mjs');
-const { findingOf } = await part('findings.mjs');
+const parts = Object.assign({}, ...await Promise.all(['lines', 'groups', 'findings', 'words'].map((name) => part(`${name}.mjs`))));
 const run = byWords(host);
 
 const room = mkdtempSync(join(tmpdir(), 'engine-'));
@@ -76,22 +77,43 @@ async function lists(path) {
   same(`the levels of ${path}`, listed, told);
 }
 
-/** A number of a record as the signed reading has it: the page tells it as it is stored. */
-const NEGATIVE = /\b(vertex|sidedef|sector|linedef|from) -(\d+)/gi;
-
-/** The rows that the page shows of the objects of a check are the lines that the program prints, but for negative numbers of records. */
+/** What the page lists of a level, and advises, is what the lines of the program want: at most so many of a code, and how many more. */
 async function tellsRows(path, reading) {
-  const words = ['check', ...reading, '--map', '--max', '2'], page = await run([...words, '--json', path], [names.get(path)]);
-  const objects = Buffer.from(page.answer).toString().split('\n').filter((line) => /"(?:code|sound_with_wide)":/.test(line));
-  const rows = objects.map((line) => {
-    const { code, more, sound_with_wide: isWide } = JSON.parse(line), { where, message } = findingOf(line, {});
-    if (isWide) return 'sound with --wide';
-    return more ? `${code}: ${more} more` : `${code} ${where}: ${message}`;
-  });
-  const lines = native(wadlens, [...words, path], '').stdout.toString().split('\n').map((line) => line.replace(/^[^:]*: .*?: (?=[FNW]\d|sound)/, ''));
-  const sentences = lines.map((line) => line.replace(/^([FNW]\d+ .+?: )(.)/, (_, lead, first) => `${lead}${first.toUpperCase()}`));
-  const wanted = sentences.filter((line) => /^(?:[FNW]\d+[ :]|sound with)/.test(line));
-  same(`the rows of ${words.join(' ')} ${path}`, rows, wanted.map((line) => line.replace(NEGATIVE, (_, what, number) => `${what} ${65536 - number}`)));
+  const words = ['check', ...reading, '--map', '--max', '2'], { answer } = await run([...words, '--json', path], [names.get(path)]);
+  const lines = native(wadlens, [...words, path], '').stdout.toString();
+  same(`the rows of ${words.join(' ')} ${path}`, listedRows(parts, answer), wantedRows(lines, path));
+}
+
+/** The rows of records that aren't there, worked by hand: their numbers are as they are stored, and other numbers below 0 stay so. */
+async function tellsStored() {
+  const turned = ({ LINEDEFS, SIDEDEFS, SEGS, SSECTORS }) => {
+    LINEDEFS.writeUInt16LE(65535, 0);
+    LINEDEFS.writeUInt16LE(60000, 14 + 2);
+    LINEDEFS.writeUInt16LE(32768, 2 * 14 + 10);
+    SIDEDEFS.writeUInt16LE(40000, 3 * 30 + 28);
+    SEGS.writeUInt16LE(50000, 6);
+    SEGS.writeUInt16LE(65531, 12 + 8);
+    SSECTORS.writeUInt16LE(65534, 4 + 2);
+  };
+  const wanted = [
+    ['F3', 'linedef 0', "Start vertex 65535 isn't there (6 vertexes)"],
+    ['F3', 'linedef 1', "End vertex 60000 isn't there (6 vertexes)"],
+    ['F4', 'linedef 2', "Front sidedef 32768 isn't there (8 sidedefs), from (256, 256) to (256, 0)"],
+    ['F5', 'sidedef 3', "Sector 40000 isn't there (2 sectors), of linedef 3"],
+    ['F7', 'seg 0', "Linedef 50000 isn't there (7 linedefs), from (0, 0) to (0, 256)"],
+    ['F8', 'seg 1', 'Side -5 is neither 0 nor 1, from (0, 256) to (256, 256)'],
+    ['F10', 'ssector 1', "Segs from 65534, 4 of them, aren't all there (8 segs)"],
+  ];
+  const { answer } = await run(['check', '--json', 'stored.wad'], [wad(rooms('MAP01', { damage: turned }))]);
+  same('the rows of records that are not there', listedRows(parts, answer).rows, wanted);
+}
+
+/** What `--max` leaves out of each of two codes: one of three, and two of four. */
+async function tellsLeftOut() {
+  const lost = Buffer.concat(Array.from({ length: 3 }, () => lostLinedef));
+  const wrong = ({ SEGS }) => { for (const k of [0, 2, 4, 6]) SEGS.writeUInt16LE(900, 12 * k + 6); };
+  const { answer } = await run(['check', '--json', '--max', '2', 'left.wad'], [wad(rooms('MAP01', { linedefs: lost, damage: wrong }))]);
+  same('what is left out of two codes', listedRows(parts, answer).rows.filter((row) => row.length === 2), [['F3', '1 more'], ['F7', '2 more']]);
 }
 
 /** The numbers of the linedefs of the level alone are those that `show` tells. There is no room for them at first. */
@@ -244,6 +266,8 @@ for (const [name, bytes] of workedDemos()) {
 
 for (const path of ['base.wad', ...Array.from({ length: 40 }, (_, i) => `damaged${i}.wad`)]) await draws(path);
 for (let i = 0; i < 40; i++) for (const reading of [[], ['--wide']]) await tellsRows(`damaged${i}.wad`, reading);
+await tellsStored();
+await tellsLeftOut();
 await drawsOddLabel();
 await listsRooms();
 for (const path of [...names.keys()].filter((name) => name.endsWith('.wad'))) await lists(path);

@@ -74,6 +74,7 @@ async function numbers() {
   check('a sector, by its own record', await facts(), {
     Floor: '24, FLOOR0_1', Ceiling: '128, CEIL1_1', Height: '104', Light: '224', Special: '9: secret', Tag: '7, of linedefs 4',
   });
+  await browser.until("document.querySelector('#map').dataset.view.startsWith('384.000 128.000')", 'the view at the sector');
   await drawnAnew();
   check('its outline is marked', [await hasInk('ink', 256, 60), await hasInk('ink', 512, 60), await hasInk('ink', 0, 60)], [true, true, false]);
   await goTo('linedef 7');

@@ -96,7 +96,12 @@ async function fits() {
   }
 }
 
-/** What is long is read whole: names of files, why one is refused, the counts of a level each in one piece. */
+/** In how many lines the name of the level stands beside that of its file. @returns {Promise<number>} */
+const linesOfName = () => browser.run(`(() => { const range = document.createRange();
+  range.selectNodeContents(document.querySelector('#crumbs .here'));
+  return new Set([...range.getClientRects()].map((box) => box.top)).size; })()`);
+
+/** What is long is read whole: names of files, why one is refused, the counts of a level each in one piece, and its name. */
 async function wraps() {
   const cut = (/** @type {string} */ selector) => browser.run(`[...document.querySelectorAll('${selector}')].filter((e) => e.checkVisibility() && (e.scrollWidth > e.clientWidth + 1 ||
     e.scrollHeight > e.clientHeight + 3)).map((e) => e.textContent)`);
@@ -113,6 +118,13 @@ async function wraps() {
     check(`each count is in one piece, ${width}`, await browser.run("[...document.querySelectorAll('#counts div')].filter((e) => e.getBoundingClientRect().height > 24 || e.getBoundingClientRect().right > innerWidth).length"), 0);
   }
   check('the names', await textsOf('#files .row-name'), [LONG, `not_${LONG}.txt`]);
+  for (const [width, name] of /** @type {[number, string][]} */ ([[320, 'a.wad'], [320, 'halls.wad'], [320, 'hangar_v2.wad'], [320, LONG], [360, 'hangar_v2.wad'], [1024, LONG]])) {
+    await browser.screen(width, 480, 'dark');
+    await fresh();
+    await browser.drop(written(name, full));
+    await drawn('MAP01');
+    check(`the level's name is in one piece, ${width}, ${name}`, await linesOfName(), 1);
+  }
 }
 
 /** What is under way moves nothing that is pressed. */

@@ -1,6 +1,9 @@
 pub mod Text
 pub mod Items
 pub mod Legend
+pub mod PictureName
+pub mod MapView
+pub mod Messages
 pub mod Rows
 pub mod Refused
 pub mod Style

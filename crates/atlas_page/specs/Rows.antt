@@ -1,11 +1,13 @@
 -- The rows of the page (ours): a level, with its picture where it has one.
-use Rattle.std.specs.Prelude.{ℕ, Bool, true, false, not, List, [], ◌∷◌, ◌++◌, codes, filter, fold, map, nat_eq, if◌then◌else◌}
+use Rattle.std.specs.Prelude.{ℕ, Bool, true, false, not, List, [], ◌∷◌, codes, filter, fold, map, nat_eq, if◌then◌else◌}
 use Rattle.std.specs.Fmt.{decimal}
 use Rattle.le_rec.specs.Name.{shown_name}
 use Rattle.level_starts.specs.declared.format.Format.{Format}
 use Rattle.lens_texts.specs.Escape.{escaped}
 use Rattle.lens_texts.specs.Parts.{joined}
 use Rattle.atlas_page.specs.Items.{code_items, table_items}
+use Rattle.atlas_page.specs.Messages.{messages_part}
+use Rattle.atlas_page.specs.PictureName.{picture_name}
 use Rattle.atlas_page.specs.Text.{path_text}
 use Rattle.atlas_page.specs.declared.row.Row.{Row}
 use Rattle.lens_engines.specs.Counts.{fault_total}
@@ -19,10 +21,6 @@ use Rattle.lens_engines.specs.declared.surveyed.Surveyed.TheVariants as surveyed
 use Rattle.lens_engines.specs.declared.totals.Totals.{Totals}
 use Rattle.lens_engines.specs.declared.verdict.Verdict.{Verdict}
 use Rattle.lens_engines.specs.declared.verdict.Verdict.TheVariants.{Clean, Unjudged, Faulty}
-
--- the name of a level's picture: the number of its file, from 1, and that of its entry
-unfoldable pub picture_name : ℕ → ℕ → List ℕ
-picture_name file entry = decimal file ++ (codes "-" ++ (decimal entry ++ codes ".svg"))
 
 -- the totals of all levels
 abbrev pub totals_of_rows : List Row → Totals
@@ -64,26 +62,26 @@ where_parts row =
 abbrev pub sound_item : List ℕ → List ℕ
 sound_item counts = if nat_eq (fault_total counts) 0 then codes "<li class=\"sound\">sound</li>\n" else []
 
--- what was found at a level of Doom's format: the codes of which there are any, and how large its tables are
-abbrev pub judged_parts : LevelCounts → List (List ℕ)
-judged_parts judged =
-    codes "<ul class=\"found\">\n" ∷ sound_item judged.counts ∷ joined (code_items judged.counts)
-    ∷ codes "</ul>\n<ul class=\"counts\">\n" ∷ joined (table_items judged.tables) ∷ codes "</ul>\n" ∷ []
+-- what was found at a level of Doom's format: the codes of which there are any, the first messages by their items, and how large its tables are
+abbrev pub judged_parts : LevelCounts → List ℕ → List (List ℕ)
+judged_parts judged messages =
+    codes "<ul class=\"found\">\n" ∷ sound_item judged.counts ∷ joined (code_items judged.counts) ∷ codes "</ul>\n" ∷ messages_part messages
+    ∷ codes "<ul class=\"counts\">\n" ∷ joined (table_items judged.tables) ∷ codes "</ul>\n" ∷ []
 
 -- why another isn't judged
 abbrev pub unjudged_parts : Format → List (List ℕ)
 unjudged_parts format = codes "<p class=\"told\">" ∷ format_text format ∷ codes "</p>\n" ∷ []
 
 -- what was found at a level
-abbrev pub found_part : Surveyed → List ℕ
-found_part (surveyed.Judged judged) = joined (judged_parts judged)
-found_part (surveyed.Unjudged unjudged) = joined (unjudged_parts unjudged.format)
+abbrev pub found_part : Surveyed → List ℕ → List ℕ
+found_part (surveyed.Judged judged) messages = joined (judged_parts judged messages)
+found_part (surveyed.Unjudged unjudged) messages = joined (unjudged_parts unjudged.format)
 
 -- a row
 abbrev pub row_parts : Row → List (List ℕ)
 row_parts row =
     codes "<li class=\"" ∷ mark (verdict_of_totals (totals_of row.found)) ∷ codes "\">\n" ∷ picture_part row
-    ∷ codes "<div>\n<h2>" ∷ escaped (shown_name row.name) ∷ codes "</h2>\n" ∷ joined (where_parts row) ∷ found_part row.found
+    ∷ codes "<div>\n<h2>" ∷ escaped (shown_name row.name) ∷ codes "</h2>\n" ∷ joined (where_parts row) ∷ found_part row.found row.messages.items.items
     ∷ codes "</div>\n</li>\n" ∷ []
 
 abbrev pub row_text : Row → List ℕ

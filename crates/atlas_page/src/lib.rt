@@ -5,7 +5,10 @@
 mod items;
 mod legend;
 mod levels;
+mod map_view;
+mod messages;
 mod page;
+mod picture_name;
 mod refused;
 mod row;
 mod rows;
@@ -13,7 +16,8 @@ mod style;
 mod text;
 
 pub use levels::{Origin, push_rows};
+pub use messages::Messages;
 pub use page::{Page, PageHead, write_page};
+pub use picture_name::prepend_picture_name;
 pub use refused::RefusedFile;
 pub use row::Row;
-pub use rows::prepend_picture_name;

@@ -3,6 +3,7 @@
 ghost use Rattle.std.specs.Prelude.{◌≡◌};
 ghost use Rattle.atlas_page.specs.Rows.{is_faulty, tells_fault};
 
+use crate::messages::Messages;
 use le_rec::Name8;
 use lens_engines::{Surveyed, Verdict};
 
@@ -18,6 +19,8 @@ pub struct Row<'p> {
     /// The label's name.
     pub name: Name8,
     pub found: Surveyed,
+    /// What a check says of it first: nothing of a level that isn't judged.
+    pub messages: Messages,
 }
 
 impl Row<'_> {

@@ -1,38 +1,19 @@
 //! The rows of the page, each with its level's picture.
 
-ghost use Rattle.std.specs.Prelude.{◌≡◌, [], false};
+ghost use Rattle.std.specs.Prelude.{◌≡◌, false};
 ghost use Rattle.line_io.specs.Writes.{Writes};
-ghost use Rattle.atlas_page.specs.Rows.{faulty_rows, found_part, mark, other_rows, picture_name, picture_part, row_part, sound_item};
+ghost use Rattle.atlas_page.specs.Rows.{faulty_rows, found_part, mark, other_rows, picture_part, row_part, sound_item};
 
 use crate::items::{write_codes, write_tables};
+use crate::messages::write_messages;
+use crate::picture_name::write_picture_name;
 use crate::row::Row;
 use crate::text::{write_name, write_number, write_page_path};
 use le_rec::Sink;
 use lens_engines::{LevelCounts, ReportCounts, Surveyed, Unjudged, Verdict};
 use lens_texts::parts::{TextParts, write_parts};
 use lens_texts::{format_name, write_format_alone};
-use line_io::{IoFault, TextLine, emit};
-
-/// Puts the name of a level's picture before the line: the number of its file, from 1, and that of its entry.
-pub fn prepend_picture_name(line: &mut TextLine, file: u64, entry: u64)
-    requires { line.old ≡ [] }
-    ensures { line.new ≡ picture_name file entry }
-{
-    line.prepend_bytes(b".svg");
-    line.prepend_natural(entry);
-    line.prepend_bytes(b"-");
-    line.prepend_natural(file);
-}
-
-// Writes the name of a row's picture.
-fn write_picture_name<W: Sink>(row: &Row<'_>, out: &mut W) -> Result<(), IoFault>
-    requires { (W.state out.old).failed ≡ false }
-    ensures { Writes (W.state out.old) (W.state out.new) (picture_name row.now.file row.now.entry) result }
-{
-    let mut line = TextLine::new();
-    prepend_picture_name(&mut line, row.file, row.entry);
-    emit(out, line.as_bytes())
-}
+use line_io::{IoFault, emit};
 
 // A picture within a link to it.
 #[derive(Drop)]
@@ -52,9 +33,9 @@ impl TextParts for PictureLink<'_, '_> {
     fn write<W: Sink>(&self, number: usize, out: &mut W) -> Result<(), IoFault> {
         match number {
             0 => emit(out, b"<a class=\"map\" href=\""),
-            1 => write_picture_name(self.row, out),
+            1 => write_picture_name(self.row.file, self.row.entry, out),
             2 => emit(out, b"\"><img loading=\"lazy\" src=\""),
-            3 => write_picture_name(self.row, out),
+            3 => write_picture_name(self.row.file, self.row.entry, out),
             4 => emit(out, b"\" alt=\"map of "),
             5 => write_name(&self.row.name, out),
             _ => emit(out, b"\"></a>\n"),
@@ -114,19 +95,20 @@ fn write_sound<W: Sink>(counts: &ReportCounts, out: &mut W) -> Result<(), IoFaul
     }
 }
 
-// What was found at a level of Doom's format, warnings too, and how large its tables are.
+// What was found at a level of Doom's format, warnings too, with its first messages, and how large its tables are.
 #[derive(Drop)]
 struct JudgedParts<'r> {
     judged: &'r LevelCounts,
+    messages: &'r [u8],
 }
 
 impl TextParts for JudgedParts<'_> {
     ghost use Rattle.atlas_page.specs.Rows.{judged_parts};
 
-    ghost parts = { λ parts. judged_parts parts.judged.now };
+    ghost parts = { λ parts. judged_parts parts.judged.now parts.messages.now };
 
     fn count(&self) -> usize {
-        6
+        8
     }
 
     fn write<W: Sink>(&self, number: usize, out: &mut W) -> Result<(), IoFault> {
@@ -134,8 +116,10 @@ impl TextParts for JudgedParts<'_> {
             0 => emit(out, b"<ul class=\"found\">\n"),
             1 => write_sound(&self.judged.counts, out),
             2 => write_codes(&self.judged.counts, out),
-            3 => emit(out, b"</ul>\n<ul class=\"counts\">\n"),
-            4 => write_tables(&self.judged.tables, out),
+            3 => emit(out, b"</ul>\n"),
+            4 => write_messages(self.messages, out),
+            5 => emit(out, b"<ul class=\"counts\">\n"),
+            6 => write_tables(&self.judged.tables, out),
             _ => emit(out, b"</ul>\n"),
         }
     }
@@ -166,12 +150,12 @@ impl TextParts for UnjudgedParts<'_> {
 }
 
 // Writes what was found at a level.
-fn write_found<W: Sink>(found: &Surveyed, out: &mut W) -> Result<(), IoFault>
+fn write_found<W: Sink>(found: &Surveyed, messages: &[u8], out: &mut W) -> Result<(), IoFault>
     requires { (W.state out.old).failed ≡ false }
-    ensures { Writes (W.state out.old) (W.state out.new) (found_part found.now) result }
+    ensures { Writes (W.state out.old) (W.state out.new) (found_part found.now messages.now) result }
 {
     match found {
-        Surveyed::Judged(judged) => write_parts(&JudgedParts { judged }, out),
+        Surveyed::Judged(judged) => write_parts(&JudgedParts { judged, messages }, out),
         Surveyed::Unjudged(unjudged) => write_parts(&UnjudgedParts { unjudged }, out),
     }
 }
@@ -211,7 +195,7 @@ impl TextParts for RowParts<'_, '_> {
             5 => write_name(&self.row.name, out),
             6 => emit(out, b"</h2>\n"),
             7 => write_parts(&WhereLine { row: self.row }, out),
-            8 => write_found(&self.row.found, out),
+            8 => write_found(&self.row.found, self.row.messages.items(), out),
             _ => emit(out, b"</div>\n</li>\n"),
         }
     }

@@ -46,6 +46,12 @@ pub const STYLE: &[u8] = b"<style>\n\
     .found .fault{background:var(--fault-wash);color:var(--fault)}\n\
     .found .warning{background:var(--warning-wash);color:var(--warning)}\n\
     .found .sound{background:var(--sound-wash);color:var(--sound)}\n\
+    .messages{margin-bottom:13px;max-height:13em;overflow:auto;scrollbar-width:thin;color:var(--soft);font-size:12px;line-height:1.4}\n\
+    .messages li{margin-bottom:5px;padding-left:8px;border-left:3px solid var(--note)}\n\
+    .messages .fault{border-color:var(--fault)}\n\
+    .messages .warning{border-color:var(--warning)}\n\
+    .messages a{color:inherit;text-decoration-color:var(--edge);text-underline-offset:2px}\n\
+    .messages a:hover{text-decoration-color:currentColor}\n\
     .counts{display:grid;grid-template-columns:repeat(4,1fr);gap:7px 8px;margin-top:auto;padding-top:11px;border-top:1px solid var(--rule);color:var(--soft);font-size:12px;line-height:1.3}\n\
     .counts b{display:block;color:var(--ink);font-size:14px}\n\
     .told{margin-top:9px}\n\

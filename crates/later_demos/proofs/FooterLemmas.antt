@@ -1,5 +1,6 @@
 -- Bytes behind a marker tell one thing.
-use Rattle.std.proofs.Common.{◌≡◌, ◌≢◌, ℕ, ◌+◌, ◌≤◌, Option, Some, None, List, subst, sym, refl, ap, ◌∙◌}
+use Rattle.std.proofs.Common.{◌≡◌, ◌≢◌, ℕ, ◌+◌, ◌≤◌, Option, Some, None, List, length, subst, sym, refl, ap, ◌∙◌, arith}
+use Rattle.std.proofs.lemmas.Int.{ints}
 use Rattle.std.proofs.lemmas.Option.{same_Some}
 use Rattle.std.specs.List.{slice_get}
 use Rattle.le_rec.specs.Name.{name_of}
@@ -11,8 +12,9 @@ use Rattle.wad_dir.specs.Slice.{IsSlice}
 use Rattle.wad_dir.specs.Wad.{IsRead, Wad}
 use Rattle.wad_dir.specs.declared.header.Kind.{Kind}
 use Rattle.wad_dir.specs.declared.wad.WadFault.{WadFault}
+use Rattle.wad_dir.specs.declared.wad.WadFault.TheVariants.{Short, Magic, Count, Directory}
 use Rattle.wad_dir.proofs.LumpLemmas.{IsSlice-one}
-use Rattle.wad_dir.proofs.ReadingLemmas.{IsDirectory-not_refused, IsDirectory-one}
+use Rattle.wad_dir.proofs.OneDirectoryLemmas.{IsDirectory-one}
 use Rattle.wad_dir.proofs.WinnerLemmas.{NoneFrom, Wins-one, named_at, wins_here}
 use Rattle.later_demos.specs.Footer.{Footer, HoldsText, IsFooter, IsNamed, IsWadFooter, IsWinner, lines_footer, text_of}
 use Rattle.later_demos.specs.Footer.IsFooter.{of_text, of_wad}
@@ -84,8 +86,14 @@ has_directory : (rest : List ℕ) (file : Wad) → file.bytes ≡ rest → IsRea
 has_directory rest file of_rest read =
     (file.kind, file.entries, subst (λ (b : List ℕ). IsDirectory b file.kind file.entries) of_rest read)
 
+-- a file that has a directory isn't refused
 pub refused_directory : (rest : List ℕ) (fault : WadFault) → RefusesWad rest fault → HasDirectory rest → ⊥
-refused_directory rest fault refused has = IsDirectory-not_refused rest has.0 has.1 fault has.2 refused
+refused_directory rest Short refused has = omega (arith, has.2.header)
+refused_directory rest Magic refused has = refused.1 has.0 has.2.begins
+refused_directory rest Count refused has = omega (arith, ints, has.2.counted, refused.1)
+refused_directory rest Directory refused has =
+    let same : length has.1 ≡ refused.1.0 = omega (arith, ints, has.2.counted, refused.1.2) in
+    refused.1.3 has.1 same (has.2.listed (omega arith))
 
 same_footers : (footer other : Footer) → footer.port ≡ other.port → footer.words ≡ other.words → footer ≡ other
 same_footers footer other port words =

@@ -10,7 +10,7 @@ use Rattle.map_level.specs.Level.{Level}
 use Rattle.map_level.specs.Opening.{IsLevelAt}
 use Rattle.map_level.specs.declared.reading.Reading.{Reading}
 use Rattle.map_picture.specs.Drawing.{HasNothing, IsPicture, TakesWhole}
-use Rattle.atlas_page.specs.Rows.{picture_name}
+use Rattle.atlas_page.specs.PictureName.{picture_name}
 use Rattle.atlas_page.specs.declared.row.Row.{Row}
 use Rattle.lens_engines.specs.LevelCounts.{HasLines}
 use Rattle.lens_engines.specs.Surveyed.{SurveyedAt, is_drawn}

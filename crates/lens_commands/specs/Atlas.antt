@@ -120,6 +120,7 @@ pub record IsAskedOf (job : AtlasJob) (base : List Wad) (asked : AtlasRequest) :
   pub over : IsOver job.job.rules base asked.judging
   pub drawn : asked.drawn ≡ job.drawn
   pub head : asked.head ≡ job.head
+  pub most : asked.most ≡ job.most
 
 -- if a file of the folder can't be written, this was reported
 abbrev pub TellsFault : List ℕ → AtlasFault → SinkState → SinkState → Type 0

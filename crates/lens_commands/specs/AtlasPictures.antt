@@ -6,7 +6,7 @@ use Rattle.map_level.specs.declared.reading.Reading.{Reading}
 use Rattle.map_picture.specs.Drawing.{IsPicture}
 use Rattle.map_picture.specs.declared.draw.DrawFault.{DrawFault}
 use Rattle.map_picture.specs.declared.draw.DrawFault.TheVariants as draw
-use Rattle.atlas_page.specs.Rows.{picture_name}
+use Rattle.atlas_page.specs.PictureName.{picture_name}
 use Rattle.atlas_page.specs.declared.row.Row.{Row}
 use Rattle.wad_dir.specs.Wad.{Wad}
 use Rattle.lens_engines.specs.Surveyed.{is_drawn}

@@ -24,6 +24,7 @@ pub record IsOrigin (asked : AtlasRequest) (number : ℕ) (path : List ℕ) (ori
   pub numbered : origin.file ≡ number
   pub of_path : origin.path.now ≡ path
   pub judged : origin.judging ≡ asked.judging
+  pub cut_at : origin.most ≡ asked.most
 
 -- all levels of these bytes
 pub record AreRowsOf (origin : Origin) (bytes : List ℕ) (file : Wad) (rows : List Row) : Type 0 where

@@ -13,9 +13,9 @@ use Rattle.lens_engines.specs.Counts.{finding_order}
 use Rattle.le_rec.specs.Sink.{SinkState}
 use Rattle.line_io.proofs.WriteProgressLemmas.{SoFar, SoFar-none, SoFar-end}
 use Rattle.line_io.specs.Writes.{Writes}
-use Rattle.map_level.specs.Level.{Level}
+use Rattle.level_codes.specs.declared.code.ReportCode.{ReportCode}
+use Rattle.lens_texts.specs.declared.remark.Remark.{Remark}
 use Rattle.lens_engines.specs.LevelLines.{code_part, findings_part}
-use Rattle.lens_texts.specs.Head.{Head}
 use Rattle.line_io.proofs.RestLemmas.{drop-at}
 
 -- what is told of the codes from a rank on begins with the code there
@@ -26,12 +26,13 @@ codes-drop part i code below is =
     rw at refl
 
 -- of a code that isn't told there is nothing to write
-pub none_told : (head : Head) (most : ℕ) (level : Level) (code : Code) (indexes : List ℕ) → length indexes ≡ 0 → code_part head most level code indexes ≡ []
-none_told head most level code [] none =
+pub none_told : (text : Remark → List ℕ) (left : ReportCode → ℕ → List ℕ) (most : ℕ) (code : Code) (indexes : List ℕ) → length indexes ≡ 0
+    → code_part text left most code indexes ≡ []
+none_told text left most code [] none =
     let taken : take {A = ℕ} most [] ≡ [] = take_all most [] (omega arith) in
-    let left : 0 - most ≡ 0 = omega arith in
-    rw (taken, left) refl
-none_told head most level code (i ∷ indexes) none = absurd (omega (arith, none))
+    let others : 0 - most ≡ 0 = omega arith in
+    rw (taken, others) refl
+none_told text left most code (i ∷ indexes) none = absurd (omega (arith, none))
 
 -- the least of a number and of how many there are is shown
 pub shown-take : (most : ℕ) (xs : List ℕ) → take (min most (length xs)) xs ≡ take most xs
@@ -47,10 +48,10 @@ shown-left most count = elim (cases_lt most count) [
 ]
 
 -- of what is told of all codes nothing was written
-pub codes-none : (head : Head) (most : ℕ) (level : Level) (told : Code → List ℕ) (before : SinkState)
-    → SoFar (findings_part head most level told) before before (flat_map (λ code. code_part head most level code (told code)) (drop 0 finding_order))
+pub codes-none : (text : Remark → List ℕ) (left : ReportCode → ℕ → List ℕ) (most : ℕ) (told : Code → List ℕ) (before : SinkState)
+    → SoFar (findings_part text left most told) before before (flat_map (λ code. code_part text left most code (told code)) (drop 0 finding_order))
 unfolding findings_part
-codes-none head most level told before = SoFar-none (flat_map (λ code. code_part head most level code (told code)) finding_order) before
+codes-none text left most told before = SoFar-none (flat_map (λ code. code_part text left most code (told code)) finding_order) before
 
 -- all of it was written
 pub codes-end : {T : Type 0} {whole : List ℕ} {before after : SinkState} (part : Code → List ℕ) (i : ℕ) (x : T) → SoFar whole before after (flat_map part (drop i finding_order)) → CODE_COUNT ≤ i → after.failed ≡ false

@@ -3,6 +3,7 @@ pub mod CheckLemmas
 pub mod CheckedLemmas
 pub mod CodeLemmas
 pub mod CountLemmas
+pub mod FoundLemmas
 pub mod IndexLemmas
 pub mod LawLemmas
 pub mod LineLemmas

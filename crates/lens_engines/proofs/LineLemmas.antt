@@ -9,16 +9,16 @@ use Rattle.map_audit.specs.Findings.{AuditHolds}
 use Rattle.map_level.proofs.FindingLemmas.{rank_at, rank-below, same_from_rank}
 use Rattle.map_level.proofs.OneListLemmas.{pairs-head, pairs-tail}
 use Rattle.map_level.specs.Findings.{StandsBefore, rank}
-use Rattle.map_level.specs.Level.{Level}
 use Rattle.map_level.specs.declared.finding.Code.{Code}
 use Rattle.map_level.specs.declared.finding.Code.TheVariants.{F1}
 use Rattle.map_level.specs.declared.finding.Finding.{Finding}
 use Rattle.map_level.specs.declared.search.TheConstants.{CODE_COUNT}
 use Rattle.lens_engines.specs.Counts.{finding_order}
-use Rattle.lens_texts.specs.LevelText.{finding_text}
+use Rattle.level_codes.specs.declared.code.ReportCode.{ReportCode}
+use Rattle.lens_texts.specs.LevelText.{finding_text, left_text, remark_text}
+use Rattle.lens_texts.specs.declared.remark.Remark.{Remark}
 use Rattle.lens_engines.specs.Laws.{LinesAreOfTheReport}
 use Rattle.lens_engines.specs.LevelLines.{code_lines, code_part, findings_part}
-use Rattle.lens_texts.specs.Head.{Head}
 use Rattle.lens_engines.proofs.ReportLemmas.{indexes_of_report, pick}
 
 module _ (line : Finding → List ℕ) where
@@ -103,25 +103,27 @@ module _ (line : Finding → List ℕ) where
   lines_of_report found pairs = lines_of_first found pairs CODE_COUNT (omega arith) ∙ lines_of_all found
 
 -- where as many of a code's findings are shown as there are, none is left out
-whole_part : (head : Head) (level : Level) (code : Code) (most : ℕ) (indexes : List ℕ) → length indexes ≤ most
-    → code_part head most level code indexes ≡ code_lines head level code indexes
-whole_part head level code most indexes shown =
+whole_part : (text : Remark → List ℕ) (left : ReportCode → ℕ → List ℕ) (code : Code) (most : ℕ) (indexes : List ℕ) → length indexes ≤ most
+    → code_part text left most code indexes ≡ code_lines text code indexes
+whole_part text left code most indexes shown =
     let all : take most indexes ≡ indexes = take_all most indexes shown in
     let none : length indexes - most ≡ 0 = omega (arith, shown) in
-    rw (all, none) (append-nil (code_lines head level code indexes))
+    rw (all, none) (append-nil (code_lines text code indexes))
 
-whole_parts : (head : Head) (level : Level) (most : ℕ) (told other : Code → List ℕ) → ((code : Code) → length (told code) ≤ most) → ((code : Code) → told code ≡ other code) → (codes : List Code)
-    → flat_map (λ code. code_part head most level code (told code)) codes ≡ flat_map (λ code. code_lines head level code (other code)) codes
-whole_parts head level most told other shown same [] = refl
-whole_parts head level most told other shown same (code ∷ codes) =
-    let part : code_part head most level code (told code) ≡ code_lines head level code (other code) =
-    whole_part head level code most (told code) (shown code) ∙ ap (code_lines head level code) (same code) in
-    ap (λ text. text ++ flat_map (λ code. code_part head most level code (told code)) codes) part
-    ∙ ap (λ text. code_lines head level code (other code) ++ text) (whole_parts head level most told other shown same codes)
+whole_parts : (text : Remark → List ℕ) (left : ReportCode → ℕ → List ℕ) (most : ℕ) (told other : Code → List ℕ) → ((code : Code) → length (told code) ≤ most)
+    → ((code : Code) → told code ≡ other code) → (codes : List Code)
+    → flat_map (λ code. code_part text left most code (told code)) codes ≡ flat_map (λ code. code_lines text code (other code)) codes
+whole_parts text left most told other shown same [] = refl
+whole_parts text left most told other shown same (code ∷ codes) =
+    let part : code_part text left most code (told code) ≡ code_lines text code (other code) =
+    whole_part text left code most (told code) (shown code) ∙ ap (code_lines text code) (same code) in
+    ap (λ t. t ++ flat_map (λ code. code_part text left most code (told code)) codes) part
+    ∙ ap (λ t. code_lines text code (other code) ++ t) (whole_parts text left most told other shown same codes)
 
 pub law_lines_are_of_the_report : LinesAreOfTheReport
 unfolding findings_part
 law_lines_are_of_the_report head level found told are told_are most shown =
     let same : (code : Code) → told code ≡ pick code found =
     λ code. indexes_of_report (AuditHolds level) found code (told code) are (told_are code).ascending (told_are code).exact in
-    whole_parts head level most told (λ code. pick code found) shown same finding_order ∙ lines_of_report (finding_text head level) found are.ascending
+    whole_parts (remark_text head level) (left_text head) most told (λ code. pick code found) shown same finding_order
+    ∙ lines_of_report (finding_text head level) found are.ascending

@@ -1,6 +1,5 @@
 -- Whether the references of a level hold, by the counts of its findings.
-use Rattle.std.proofs.Common.{◌≡◌, ℕ, ◌<◌, ◌≤◌, List, get_or, arith, inl, subst}
-use Rattle.map_audit.proofs.PartLemmas.{by_part}
+use Rattle.std.proofs.Common.{◌≡◌, ℕ, ◌<◌, ◌≤◌, ◌⊎◌, List, get_or, arith, inl, inr, subst}
 use Rattle.map_audit.specs.Findings.{AuditHolds}
 use Rattle.map_level.proofs.FindingLemmas.{rank_at}
 use Rattle.map_level.specs.Findings.{rank}
@@ -10,6 +9,10 @@ use Rattle.map_level.specs.declared.finding.Code.TheVariants.{F1, F3, F4, F5, F6
 use Rattle.map_warnings.specs.References.{HasReferences, HoldsNowhere}
 use Rattle.lens_engines.specs.Counts.{AreCounts, finding_order}
 use Rattle.lens_engines.proofs.LawLemmas.{nothing_holds}
+
+-- what holds is the links' where neither nodes nor tables have the code
+alone : {A : Type 0} → A ⊎ (⊥ ⊎ ⊥) → A
+alone h = elim h [ inl a ↦ a | inr other ↦ elim other [ inl y ↦ absurd y | inr z ↦ absurd z ] ]
 
 module _ (level : Level) (counts : List ℕ) (are : AreCounts (AuditHolds level) counts) where
   -- a code of references that isn't counted holds nowhere
@@ -33,13 +36,13 @@ module _ (level : Level) (counts : List ℕ) (are : AreCounts (AuditHolds level)
 
   -- where they hold, none of these codes holds
   unbroken : (code : Code) → 2 ≤ rank code → rank code < 9 → HasReferences level → (i : ℕ) → ¬ AuditHolds level code i
-  unbroken F3 from to all i holds = all.linedef_vertexes i ((by_part level F3 i).0 holds)
-  unbroken F4 from to all i holds = all.linedef_sides i ((by_part level F4 i).0 holds)
-  unbroken F5 from to all i holds = all.sidedef_sectors i ((by_part level F5 i).0 holds)
-  unbroken F6 from to all i holds = all.seg_vertexes i ((by_part level F6 i).0 holds)
-  unbroken F7 from to all i holds = all.seg_linedefs i ((by_part level F7 i).0 holds)
-  unbroken F8 from to all i holds = all.seg_sides i ((by_part level F8 i).0 holds)
-  unbroken F9 from to all i holds = all.seg_sidedefs i ((by_part level F9 i).0 holds)
+  unbroken F3 from to all i holds = all.linedef_vertexes i (alone holds)
+  unbroken F4 from to all i holds = all.linedef_sides i (alone holds)
+  unbroken F5 from to all i holds = all.sidedef_sectors i (alone holds)
+  unbroken F6 from to all i holds = all.seg_vertexes i (alone holds)
+  unbroken F7 from to all i holds = all.seg_linedefs i (alone holds)
+  unbroken F8 from to all i holds = all.seg_sides i (alone holds)
+  unbroken F9 from to all i holds = all.seg_sidedefs i (alone holds)
   unbroken _ from to all i holds = absurd (omega (arith, from, to))
 
   pub counted : (k : ℕ) → 2 ≤ k → k < 9 → 0 < get_or counts k 0 → ¬ HasReferences level

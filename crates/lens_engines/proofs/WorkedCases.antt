@@ -16,6 +16,7 @@ use Rattle.wad_dir.specs.declared.wad.WadFault.TheVariants as wad
 use Rattle.lens_engines.specs.LevelLines.{code_part, wide_part}
 use Rattle.lens_engines.specs.Objects.{doom_members, refused_object}
 use Rattle.lens_texts.specs.LevelObject.{level_members}
+use Rattle.lens_texts.specs.LevelText.{left_text, remark_text}
 use Rattle.lens_texts.specs.ShownPath.{shown_after}
 use Rattle.lens_engines.specs.Tables.{tables_of}
 use Rattle.lens_engines.specs.Totals.{totals_line}
@@ -31,17 +32,17 @@ use Rattle.lens_engines.specs.declared.totals.Totals.{Totals}
 use Rattle.lens_texts.proofs.CaseLevels.{rows, line, name, sector, level, lines_of}
 
 -- of three findings one is shown, and all are where the number is 0 or as great
-one_of_three : code_part (lines_of (codes "a") (codes "M")) 1 (level Signed) N4 (0 ∷ 1 ∷ 2 ∷ [])
+one_of_three : code_part (remark_text (lines_of (codes "a") (codes "M")) (level Signed)) (left_text (lines_of (codes "a") (codes "M"))) 1 N4 (0 ∷ 1 ∷ 2 ∷ [])
     ≡ codes "a: M: N4 linedef 0: without a front sidedef" ++ (10 ∷ codes "a: M: N4: 2 more" ++ 10 ∷ [])
 unfolding digits code_table shown_after
 one_of_three = refl
 
-two_of_two : code_part (lines_of (codes "a") (codes "M")) 2 (level Signed) N6 (0 ∷ 1 ∷ [])
+two_of_two : code_part (remark_text (lines_of (codes "a") (codes "M")) (level Signed)) (left_text (lines_of (codes "a") (codes "M"))) 2 N6 (0 ∷ 1 ∷ [])
     ≡ codes "a: M: N6 ssector 0: without segs, at (20000, 1)" ++ (10 ∷ codes "a: M: N6 ssector 1: without segs" ++ 10 ∷ [])
 unfolding digits code_table shown_after
 two_of_two = refl
 
-warnings_left_told : more_text (lines_of (codes "a.wad") name) (Warning W2) 5 ≡ codes "a.wad: FLAT: W2: 5 more" ++ 10 ∷ []
+warnings_left_told : more_text (left_text (lines_of (codes "a.wad") name)) (Warning W2) 5 ≡ codes "a.wad: FLAT: W2: 5 more" ++ 10 ∷ []
 unfolding digits code_table shown_after
 warnings_left_told = refl
 

@@ -19,7 +19,7 @@ use Rattle.lens_engines.specs.Check.{CheckAsked, ChecksAll}
 use Rattle.lens_engines.specs.Counts.{AreCounts, fault_total, note_total}
 use Rattle.lens_texts.specs.Head.{Head}
 use Rattle.lens_engines.specs.LevelLines.{AreTold, findings_part}
-use Rattle.lens_texts.specs.LevelText.{finding_text}
+use Rattle.lens_texts.specs.LevelText.{finding_text, left_text, remark_text}
 use Rattle.lens_engines.specs.ObjectValues.{HasSmallNumbers, doom_value, other_value, refused_value}
 use Rattle.lens_texts.specs.Members.{IsLineOf}
 use Rattle.lens_engines.specs.Objects.{doom_members, refused_object}
@@ -49,7 +49,7 @@ abbrev pub LinesAreOfTheReport : Type 0
 LinesAreOfTheReport =
     (head : Head) (level : Level) (found : List Finding) (told : Code → List ℕ) → AreFindings (AuditHolds level) found
     → AreTold (AuditHolds level) told → (most : ℕ) → ((code : Code) → length (told code) ≤ most)
-    → findings_part head most level told ≡ flat_map (finding_text head level) found
+    → findings_part (remark_text head level) (left_text head) most told ≡ flat_map (finding_text head level) found
 
 -- the object of a refused file is read as its members
 abbrev pub RefusedIsRead : Type 0

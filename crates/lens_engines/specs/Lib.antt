@@ -1,6 +1,7 @@
 pub mod Check
 pub mod Counts
 pub mod Failing
+pub mod Found
 pub mod Ignored
 pub mod Laws
 pub mod Warned

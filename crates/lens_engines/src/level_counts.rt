@@ -3,7 +3,7 @@
 ghost use Rattle.std.specs.Prelude.{◌≡◌, ◌↔◌, IfOk, IsTrue};
 ghost use Rattle.level_starts.specs.Format.{IsFormat};
 ghost use Rattle.level_starts.specs.declared.format.Format.TheVariants as format;
-ghost use Rattle.lens_engines.specs.LevelCounts.{HasLines, IsCounted};
+ghost use Rattle.lens_engines.specs.LevelCounts.{CountsJudged, HasLines, IsCounted};
 ghost use Rattle.lens_engines.specs.Survey.{verdict_of_counts};
 ghost use Rattle.lens_engines.specs.Warned.{known_files};
 
@@ -57,15 +57,28 @@ impl LevelCounts {
     {
         let level = level_at(set, g, judging.reading);
         let judged = Judged::of(alloc, &level, resources, 0, judging)?;
-        Ok(LevelCounts {
-            tables: Tables::of(&level),
-            counts: judged.counts().copied(),
+        Ok(LevelCounts::of(&judged, resources, judging))
+    }
+
+    /// Those of a level that was looked over, by the textures and flats and by the rules by which it was.
+    pub fn of<A: Allocator>(
+        judged: &Judged<'_, '_, A>,
+        resources: &Option<Resources<'_, '_, A>>,
+        judging: Judging<'_>,
+    ) -> LevelCounts
+        ensures { CountsJudged judging.entry resources.now judged.now result }
+    {
+        let level = judged.level();
+        let counts = judged.counts();
+        LevelCounts {
+            tables: Tables::of(level),
+            counts: counts.copied(),
             warnings: judging.warnings,
-            fails: has_failing(&judging.failing, judged.counts()),
+            fails: has_failing(&judging.failing, counts),
             unlooked: judged.unlooked(),
             unlisted: Unlisted::of(resources, &judging.ignored),
-            drawn: has_lines(&level),
-        })
+            drawn: has_lines(level),
+        }
     }
 
     /// The verdict by them.

@@ -4,12 +4,11 @@ ghost use Rattle.std.specs.Prelude.{◌≡◌, ◌-◌, ◌<◌, ◌≤◌, ◌+
 ghost use Rattle.line_io.specs.Writes.{EndsWriting, Writes};
 ghost use Rattle.map_audit.specs.Findings.{AuditHolds};
 ghost use Rattle.lens_texts.specs.Head.{head_of};
-ghost use Rattle.lens_engines.specs.LevelLines.{AreCounted, AreIndexes, AreShown, code_lines, code_part, findings_part, judged_text, remarks_text};
+ghost use Rattle.lens_engines.specs.LevelLines.{AreCounted, AreIndexes, AreShown, code_lines, code_part, findings_part, found_text, judged_text, remarks_text};
 ghost use Rattle.lens_engines.specs.LevelLines.{wide_part};
-ghost use Rattle.lens_texts.specs.LevelText.{finding_text};
+ghost use Rattle.lens_texts.specs.declared.remark.Remark.TheVariants as remark;
 ghost use Rattle.lens_texts.specs.Owners.{AreOwners};
 ghost use Rattle.lens_engines.specs.UnlookedText.{unlooked_part};
-ghost use Rattle.lens_engines.specs.WarnedText.{warned_text};
 ghost use Rattle.map_level.specs.declared.finding.Code.{Code};
 
 use crate::counts::code_at;
@@ -18,7 +17,7 @@ use crate::unlooked_text::write_unlooked_part;
 use crate::warned::{write_more, write_warned};
 use le_rec::Sink;
 use lens_texts::{
-    Form, Heading, Remark, write_line, write_remark, write_unbuilt, write_wide_object,
+    Form, Heading, Remark, WriteRemarks, write_line, write_unbuilt, write_wide_object,
 };
 use level_codes::ReportCode;
 use line_io::IoFault;
@@ -47,7 +46,7 @@ pub fn write_judged<A: Allocator, W: Sink>(
     write_remarks(judged, owners, heading, most, sound_wide, out)
 }
 
-// Writes what is found at a level.
+// Writes what is told of a level.
 fn write_remarks<A: Allocator, W: Sink>(
     judged: &Judged<'_, '_, A>,
     owners: &[Option<u32>],
@@ -63,25 +62,41 @@ fn write_remarks<A: Allocator, W: Sink>(
         → Writes (W.state out.old) (W.state out.new)
         (remarks_text (head_of heading.now) most judged.now told sound_wide) result }
 {
-    write_codes(judged, owners, heading, most, out)?;
-    write_rest(judged, owners, heading, sound_wide, out)
+    write_found(judged, owners, heading, most, out)?;
+    write_rest(judged, heading, sound_wide, out)
 }
 
-// Writes what comes after a level's findings.
-fn write_rest<A: Allocator, W: Sink>(
+/// Writes what is found at a level in some form: its findings, at most so many of one code, and then its warnings, as many of one
+/// code as were kept. `owners` has the linedefs of its sidedefs.
+pub fn write_found<A: Allocator, F: WriteRemarks, W: Sink>(
     judged: &Judged<'_, '_, A>,
     owners: &[Option<u32>],
-    heading: &Heading<'_>,
-    sound_wide: bool,
+    form: &F,
+    most: u64,
     out: &mut W,
 ) -> Result<(), IoFault>
     requires owners { AreOwners judged.now.level owners.now }
     requires sound { (W.state out.old).failed ≡ false }
-    ensures { Writes (W.state out.old) (W.state out.new)
-        (warned_text (head_of heading.now) judged.now.level judged.now.warned
-        ++ (unlooked_part (head_of heading.now) judged.now.counts judged.now.unlooked ++ wide_part (head_of heading.now) sound_wide)) result }
+    ensures ends { EndsWriting (W.state out.new) result }
+    ensures text { (told : Code → List ℕ) → AreShown (AuditHolds judged.now.level) told → AreCounted judged.now.counts told
+        → Writes (W.state out.old) (W.state out.new)
+        (found_text (F.text form.now judged.now.level) (F.left form.now) most told judged.now.warned) result }
 {
-    write_warned(heading, judged.level(), owners, judged.warned(), out)?;
+    write_codes(judged, owners, form, most, out)?;
+    write_warned(judged.level(), owners, form, judged.warned(), out)
+}
+
+// Writes what comes after what is found at a level.
+fn write_rest<A: Allocator, W: Sink>(
+    judged: &Judged<'_, '_, A>,
+    heading: &Heading<'_>,
+    sound_wide: bool,
+    out: &mut W,
+) -> Result<(), IoFault>
+    requires { (W.state out.old).failed ≡ false }
+    ensures { Writes (W.state out.old) (W.state out.new)
+        (unlooked_part (head_of heading.now) judged.now.counts judged.now.unlooked ++ wide_part (head_of heading.now) sound_wide) result }
+{
     write_unlooked_part(heading, judged.counts(), &judged.unlooked(), out)?;
     write_wide(heading, sound_wide, out)
 }
@@ -101,11 +116,11 @@ fn write_wide<W: Sink>(heading: &Heading<'_>, sound_wide: bool, out: &mut W) -> 
     }
 }
 
-// Writes the report on all codes.
-fn write_codes<A: Allocator, W: Sink>(
+// Writes the report on all codes of findings.
+fn write_codes<A: Allocator, F: WriteRemarks, W: Sink>(
     judged: &Judged<'_, '_, A>,
     owners: &[Option<u32>],
-    heading: &Heading<'_>,
+    form: &F,
     most: u64,
     out: &mut W,
 ) -> Result<(), IoFault>
@@ -114,22 +129,22 @@ fn write_codes<A: Allocator, W: Sink>(
     ensures ends { EndsWriting (W.state out.new) result }
     ensures text { (told : Code → List ℕ) → AreShown (AuditHolds judged.now.level) told → AreCounted judged.now.counts told
         → Writes (W.state out.old) (W.state out.new)
-        (findings_part (head_of heading.now) most judged.now.level told) result }
+        (findings_part (F.text form.now judged.now.level) (F.left form.now) most told) result }
 {
     let counts = judged.counts();
     'codes: for i in 0..CODE_COUNT {
         let code = code_at(i);
         let count = counts.get(ReportCode::Finding(code));
-        write_code(judged, owners, heading, most, code, count, out)?;
+        write_code(judged, owners, form, most, code, count, out)?;
     }
     Ok(())
 }
 
 // Writes the report on a code that holds `count` times.
-fn write_code<A: Allocator, W: Sink>(
+fn write_code<A: Allocator, F: WriteRemarks, W: Sink>(
     judged: &Judged<'_, '_, A>,
     owners: &[Option<u32>],
-    heading: &Heading<'_>,
+    form: &F,
     most: u64,
     code: Code,
     count: u64,
@@ -140,21 +155,21 @@ fn write_code<A: Allocator, W: Sink>(
     ensures ends { EndsWriting (W.state out.new) result }
     ensures text { (indexes : List ℕ) → (0 < count → AreIndexes (AuditHolds judged.now.level code) indexes) → length indexes ≡ count
         → Writes (W.state out.old) (W.state out.new)
-        (code_part (head_of heading.now) most judged.now.level code indexes) result }
+        (code_part (F.text form.now judged.now.level) (F.left form.now) most code indexes) result }
 {
     if count == 0 {
         return Ok(());
     }
     let shown = most.min(count);
-    write_shown(judged, owners, heading, code, shown, out)?;
-    write_more(heading, ReportCode::Finding(code), count - shown, out)
+    write_shown(judged, owners, form, code, shown, out)?;
+    write_more(form, ReportCode::Finding(code), count - shown, out)
 }
 
-// Writes the lines of a code's first `shown` findings.
-fn write_shown<A: Allocator, W: Sink>(
+// Writes a code's first `shown` findings.
+fn write_shown<A: Allocator, F: WriteRemarks, W: Sink>(
     judged: &Judged<'_, '_, A>,
     owners: &[Option<u32>],
-    heading: &Heading<'_>,
+    form: &F,
     code: Code,
     shown: u64,
     out: &mut W,
@@ -164,7 +179,7 @@ fn write_shown<A: Allocator, W: Sink>(
     ensures ends { EndsWriting (W.state out.new) result }
     ensures text { (indexes : List ℕ) → AreIndexes (AuditHolds judged.now.level code) indexes
         → Writes (W.state out.old) (W.state out.new)
-        (code_lines (head_of heading.now) judged.now.level code (take shown indexes)) result }
+        (code_lines (F.text form.now judged.now.level) code (take shown indexes)) result }
 {
     let mut from = 0;
     let mut left = shown;
@@ -172,7 +187,7 @@ fn write_shown<A: Allocator, W: Sink>(
         let Some(index) = judged.first(code, from) else {
             break;
         };
-        write_finding(judged, owners, heading, Finding { code, index }, out)?;
+        write_finding(judged, owners, form, Finding { code, index }, out)?;
         from = index + 1;
         left -= 1;
     }
@@ -180,23 +195,17 @@ fn write_shown<A: Allocator, W: Sink>(
 }
 
 // Writes a finding.
-fn write_finding<A: Allocator, W: Sink>(
+fn write_finding<A: Allocator, F: WriteRemarks, W: Sink>(
     judged: &Judged<'_, '_, A>,
     owners: &[Option<u32>],
-    heading: &Heading<'_>,
+    form: &F,
     finding: Finding,
     out: &mut W,
 ) -> Result<(), IoFault>
     requires owners { AreOwners judged.now.level owners.now }
     requires sound { (W.state out.old).failed ≡ false }
     ensures { Writes (W.state out.old) (W.state out.new)
-        (finding_text (head_of heading.now) judged.now.level finding) result }
+        (F.text form.now judged.now.level (remark.Finding finding)) result }
 {
-    write_remark(
-        heading,
-        judged.level(),
-        owners,
-        Remark::Finding(finding),
-        out,
-    )
+    form.write_remark(judged.level(), owners, Remark::Finding(finding), out)
 }

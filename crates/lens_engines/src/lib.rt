@@ -32,6 +32,7 @@ pub use cut::{CutFault, Uncut, cut_level, write_cut_fault};
 pub use judged::Judged;
 pub use judging::{Judging, Rules, Warnings};
 pub use level_counts::LevelCounts;
+pub use level_lines::write_found;
 pub use object::{FileRefusal, refused_line};
 pub use report_counts::ReportCounts;
 pub use survey::survey_file;

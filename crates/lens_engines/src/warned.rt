@@ -8,10 +8,9 @@ ghost use Rattle.map_tree.specs.Sound.{IsSound};
 ghost use Rattle.map_warnings.specs.References.{HasReferences};
 ghost use Rattle.map_warnings.specs.Warnings.{Tells};
 ghost use Rattle.lens_engines.specs.Counts.{AreCounts};
-ghost use Rattle.lens_texts.specs.Head.{head_of};
 ghost use Rattle.lens_engines.specs.Ignored.{WarnsUnlessIgnored};
-ghost use Rattle.lens_texts.specs.LevelText.{warning_text};
 ghost use Rattle.lens_texts.specs.Owners.{AreOwners};
+ghost use Rattle.lens_texts.specs.declared.remark.Remark.TheVariants as remark;
 ghost use Rattle.lens_engines.specs.Warned.{AddsWarned, AreAskedFor, AreWarned, where_asked};
 ghost use Rattle.lens_engines.specs.WarnedText.{more_text, warned_part, warned_text};
 
@@ -19,7 +18,7 @@ use crate::counts::CodeCounts;
 use crate::ignored::ignores;
 use crate::judging::{Judging, Warnings};
 use le_rec::Sink;
-use lens_texts::{Heading, Remark, write_left, write_remark};
+use lens_texts::{Remark, WriteRemarks};
 use level_codes::{CodeSet, REPORT_COUNT, ReportCode, WarningCode};
 use line_io::IoFault;
 use map_level::Level;
@@ -208,90 +207,90 @@ fn told_of<A: Allocator + Copy>(
     checks.told(alloc, code, resources, most)
 }
 
-/// Writes the lines of a level's warnings. `owners` has the linedefs of its sidedefs.
-pub fn write_warned<A: Allocator, W: Sink>(
-    heading: &Heading<'_>,
+/// Writes a level's warnings in some form. `owners` has the linedefs of its sidedefs.
+pub(crate) fn write_warned<A: Allocator, F: WriteRemarks, W: Sink>(
     level: &Level<'_>,
     owners: &[Option<u32>],
+    form: &F,
     all: &[Warned<A>],
     out: &mut W,
 ) -> Result<(), IoFault>
     requires owners { AreOwners level.now owners.now }
     requires sound { (W.state out.old).failed ≡ false }
     ensures { Writes (W.state out.old) (W.state out.new)
-        (warned_text (head_of heading.now) level.now all.now) result }
+        (warned_text (F.text form.now level.now) (F.left form.now) all.now) result }
 {
     'codes: for i in 0..all.len() {
-        write_part(heading, level, owners, &all[i], out)?;
+        write_part(level, owners, form, &all[i], out)?;
     }
     Ok(())
 }
 
-// Writes the lines of a code's warnings.
-fn write_part<A: Allocator, W: Sink>(
-    heading: &Heading<'_>,
+// Writes a code's warnings.
+fn write_part<A: Allocator, F: WriteRemarks, W: Sink>(
     level: &Level<'_>,
     owners: &[Option<u32>],
+    form: &F,
     warned: &Warned<A>,
     out: &mut W,
 ) -> Result<(), IoFault>
     requires owners { AreOwners level.now owners.now }
     requires sound { (W.state out.old).failed ≡ false }
     ensures { Writes (W.state out.old) (W.state out.new)
-        (warned_part (head_of heading.now) level.now warned.now) result }
+        (warned_part (F.text form.now level.now) (F.left form.now) warned.now) result }
 {
     let first = warned.told.first();
-    write_first(heading, level, owners, first, out)?;
+    write_first(level, owners, form, first, out)?;
     let left = warned.told.count().saturating_sub(first.len());
-    write_more(heading, ReportCode::Warning(warned.code), left as u64, out)
+    write_more(form, ReportCode::Warning(warned.code), left as u64, out)
 }
 
-// Writes the lines of some warnings.
-fn write_first<W: Sink>(
-    heading: &Heading<'_>,
+// Writes some warnings.
+fn write_first<F: WriteRemarks, W: Sink>(
     level: &Level<'_>,
     owners: &[Option<u32>],
+    form: &F,
     first: &[Warning],
     out: &mut W,
 ) -> Result<(), IoFault>
     requires owners { AreOwners level.now owners.now }
     requires sound { (W.state out.old).failed ≡ false }
     ensures { Writes (W.state out.old) (W.state out.new)
-        (flat_map (warning_text (head_of heading.now) level.now) first.now) result }
+        (flat_map (λ w. F.text form.now level.now (remark.Warning w)) first.now) result }
 {
     'first: for i in 0..first.len() {
-        write_one(heading, level, owners, first[i], out)?;
+        write_one(level, owners, form, first[i], out)?;
     }
     Ok(())
 }
 
 // Writes a warning.
-fn write_one<W: Sink>(
-    heading: &Heading<'_>,
+fn write_one<F: WriteRemarks, W: Sink>(
     level: &Level<'_>,
     owners: &[Option<u32>],
+    form: &F,
     warning: Warning,
     out: &mut W,
 ) -> Result<(), IoFault>
     requires owners { AreOwners level.now owners.now }
     requires sound { (W.state out.old).failed ≡ false }
-    ensures { Writes (W.state out.old) (W.state out.new) (warning_text (head_of heading.now) level.now warning) result }
+    ensures { Writes (W.state out.old) (W.state out.new) (F.text form.now level.now (remark.Warning warning)) result }
 {
-    write_remark(heading, level, owners, Remark::Warning(warning), out)
+    form.write_remark(level, owners, Remark::Warning(warning), out)
 }
 
 /// Writes how many remarks of a code are left out, where some are.
-pub(crate) fn write_more<W: Sink>(
-    heading: &Heading<'_>,
+pub(crate) fn write_more<F: WriteRemarks, W: Sink>(
+    form: &F,
     code: ReportCode,
     left: u64,
     out: &mut W,
 ) -> Result<(), IoFault>
     requires { (W.state out.old).failed ≡ false }
-    ensures { Writes (W.state out.old) (W.state out.new) (more_text (head_of heading.now) code left) result }
+    ensures { Writes (W.state out.old) (W.state out.new) (more_text (F.left form.now) code left) result }
 {
     if left == 0 {
         return Ok(());
     }
-    write_left(heading, code, left, out)
+    form.write_left(code, left, out)
 }

@@ -1,5 +1,5 @@
 -- What is written for bytes is read as these bytes.
-use Rattle.std.proofs.Common.{ℕ, List, [], ◌∷◌, ◌++◌, sym, subst}
+use Rattle.std.proofs.Common.{◌≡◌, ℕ, List, [], ◌∷◌, ◌++◌, refl, sym, ap, ◌∙◌, subst, append_assoc}
 use Rattle.std.specs.Prelude.{◌==◌, codes, if◌then◌else◌}
 use Rattle.std.proofs.lemmas.Bool.{cond_both, eqb-false, eqb-true}
 use Rattle.lens_texts.specs.Escape.{StandsFor, escaped, escaped_byte, nothing, byte, ampersand, less_than, greater_than, quotation_mark}
@@ -24,3 +24,8 @@ byte_stands b text bytes so =
 pub stands_for : (bytes : List ℕ) → StandsFor (escaped bytes) bytes
 stands_for [] = nothing
 stands_for (b ∷ bytes) = byte_stands b (escaped bytes) bytes (stands_for bytes)
+
+-- bytes behind others are written behind them
+pub escaped-both : (a b : List ℕ) → escaped (a ++ b) ≡ escaped a ++ escaped b
+escaped-both [] b = refl
+escaped-both (x ∷ a) b = ap (λ t. escaped_byte x ++ t) (escaped-both a b) ∙ sym (append_assoc (escaped_byte x) (escaped a) (escaped b))

@@ -25,7 +25,7 @@ use Rattle.lens_texts.specs.Label.{label_text}
 use Rattle.lens_texts.specs.Message.{message}
 use Rattle.lens_texts.specs.LevelObject.{level_members, other_members}
 use Rattle.lens_texts.specs.Place.{place_of, place_text}
-use Rattle.lens_texts.specs.RemarkLine.{lead_text, remark_line}
+use Rattle.lens_texts.specs.RemarkLine.{lead_text, remark_line, remark_words}
 use Rattle.lens_texts.specs.declared.remark.Remark.TheVariants as remark
 use Rattle.lens_texts.specs.ShownPath.{shown_after, shown_path}
 use Rattle.lens_texts.specs.WarningMessage.{missing_text, texture_text, unknown_flat_text, unknown_thing_text, warning_message, warning_place}
@@ -50,6 +50,11 @@ start_vertex_wide = refl
 front_sidedef : told Signed F4 1 ≡ codes "front sidedef 9 isn't there (2 sidedefs), from (16, -16) to (20000, 1)"
 unfolding digits code_table
 front_sidedef = refl
+
+front_sidedef_in_words : remark_words (level Signed) (remark.Finding (record { code = F4; index = 1 }))
+    ≡ codes "F4 linedef 1: front sidedef 9 isn't there (2 sidedefs), from (16, -16) to (20000, 1)"
+unfolding digits code_table
+front_sidedef_in_words = refl
 
 sector_named_second : told Signed F5 1 ≡ codes "sector -1 isn't there (0 sectors), of linedef 1"
 unfolding digits code_table

@@ -17,6 +17,7 @@ use Rattle.level_codes.specs.declared.kind.Kind.{Kind}
 use Rattle.level_codes.specs.declared.kind.Kind.TheVariants.{Linedef, Sidedef, Seg, Ssector, Node, Thing}
 use Rattle.lens_texts.specs.declared.place.MapPlace.{MapPlace}
 use Rattle.lens_texts.specs.declared.place.MapPlace.TheVariants.{Nowhere, At, Between, OfLinedef}
+use Rattle.lens_texts.specs.declared.place.PlaceEnds.{PlaceEnds}
 use Rattle.lens_texts.specs.declared.place.Spot.{Spot}
 
 -- a word of a level's record as an index
@@ -78,6 +79,21 @@ place_at level _ i = Nowhere
 -- where a finding lies; the message of F12 has the node's origin itself
 abbrev pub place_of : Level → Code → ℕ → MapPlace
 place_of level code i = if nat_eq (rank code) (rank F12) then Nowhere else place_at level (kind_of (report.Finding code)) i
+
+-- the two ends of a linedef, where both are there
+abbrev pub linedef_ends : Level → ℕ → Option PlaceEnds
+linedef_ends level i = do
+  linedef ← slice_get level.linedefs.records i
+  from ← spot_at level linedef.v1
+  to ← spot_at level linedef.v2
+  Some (record { from = from; to = to })
+
+-- the two ends of a place, if it is known: a lone spot is both
+abbrev pub ends_of : Level → MapPlace → Option PlaceEnds
+ends_of level Nowhere = None
+ends_of level (At spot) = Some (record { from = spot; to = spot })
+ends_of level (Between from to) = Some (record { from = from; to = to })
+ends_of level (OfLinedef linedef) = linedef_ends level linedef
 
 -- `(X, Y)`, before other bytes
 abbrev pub spot_text : ℤ → ℤ → List ℕ → List ℕ

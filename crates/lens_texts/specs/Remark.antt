@@ -1,13 +1,14 @@
 -- A remark of a report (ours): a finding or a warning, with its code, the number of what it is of, what it says, and where it lies.
-use Rattle.std.specs.Prelude.{ℕ, List}
+use Rattle.std.specs.Prelude.{ℕ, List, Option}
 use Rattle.level_codes.specs.declared.code.ReportCode.{ReportCode}
 use Rattle.level_codes.specs.declared.code.ReportCode.TheVariants as report
 use Rattle.map_level.specs.Level.{Level}
 use Rattle.map_warnings.specs.Warnings.{code_of, number_of}
 use Rattle.lens_texts.specs.Message.{message}
-use Rattle.lens_texts.specs.Place.{place_of}
+use Rattle.lens_texts.specs.Place.{ends_of, place_of}
 use Rattle.lens_texts.specs.WarningMessage.{warning_message, warning_place}
 use Rattle.lens_texts.specs.declared.place.MapPlace.{MapPlace}
+use Rattle.lens_texts.specs.declared.place.PlaceEnds.{PlaceEnds}
 use Rattle.lens_texts.specs.declared.remark.Remark.{Remark}
 use Rattle.lens_texts.specs.declared.remark.Remark.TheVariants.{Finding, Warning}
 
@@ -28,3 +29,7 @@ remark_message level (Warning w) rest = warning_message level w rest
 abbrev pub remark_place : Level → Remark → MapPlace
 remark_place level (Finding f) = place_of level f.code f.index
 remark_place level (Warning w) = warning_place level w
+
+-- the two ends of where it lies
+abbrev pub remark_ends : Level → Remark → Option PlaceEnds
+remark_ends level remark = ends_of level (remark_place level remark)

@@ -30,9 +30,17 @@ index_text level _ i rest = codes " " ++ (decimal i ++ rest)
 abbrev pub lead_text : Level → ReportCode → ℕ → List ℕ
 lead_text level code i = code_name code ++ (codes " " ++ (kind_name (kind_of code) ++ index_text level (kind_of code) i (codes ": ")))
 
--- `MESSAGE[, PLACE]`, and the line's end
+-- `MESSAGE[, PLACE]`, before other bytes
+abbrev pub message_text : Level → Remark → List ℕ → List ℕ
+message_text level remark rest = remark_message level remark (place_text (remark_place level remark) rest)
+
+-- that, and the line's end
 abbrev pub body_text : Level → Remark → List ℕ
-body_text level remark = remark_message level remark (place_text (remark_place level remark) (10 ∷ []))
+body_text level remark = message_text level remark (10 ∷ [])
+
+-- `CODE KIND INDEX: MESSAGE[, PLACE]`: what the line says behind the label
+abbrev pub remark_words : Level → Remark → List ℕ
+remark_words level remark = lead_text level (remark_code remark) (remark_index remark) ++ message_text level remark []
 
 -- `PATH: LEVEL: `
 abbrev pub heading_text : List ℕ → LevelLabel → List ℕ

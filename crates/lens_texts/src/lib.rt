@@ -36,13 +36,16 @@ pub use label::{LevelLabel, label_by, label_looked_up, prepend_label, prepend_na
 pub use level_object::{
     format_name, prepend_number, write_file, write_level, write_name, write_number, write_other,
 };
-pub use lines::{Heading, write_both, write_format, write_format_alone, write_heading, write_line};
+pub use lines::{
+    Heading, write_both, write_format, write_format_alone, write_heading, write_line, write_words,
+};
 pub use opened::{label_of, level_at};
 pub use order::write_order;
 pub use owners::owners_of;
 pub use path::{control_text, is_control_at, write_after_path, write_path};
+pub use place::{PlaceEnds, Spot};
 pub use remark::Remark;
 pub use remark_object::{write_front, write_wide_object};
-pub use report::{write_left, write_remark};
+pub use report::{WriteRemarks, write_left, write_remark};
 pub use unbuilt::{EmptyLumps, write_unbuilt};
 pub use watch::{Unwatched, Watch};

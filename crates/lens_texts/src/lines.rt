@@ -3,7 +3,8 @@
 ghost use Rattle.std.specs.Prelude.{◌≡◌, ◌+◌, ◌≤◌, ◌++◌, [], false, length};
 ghost use Rattle.line_io.specs.Writes.{Writes};
 ghost use Rattle.line_io.specs.declared.text_line.TheConstants.{ROOM};
-ghost use Rattle.lens_texts.specs.RemarkLine.{block_text, body_text, heading_text, index_text, lead_text, left_line, level_line, remark_line};
+ghost use Rattle.lens_texts.specs.Escape.{escaped};
+ghost use Rattle.lens_texts.specs.RemarkLine.{block_text, body_text, heading_text, index_text, lead_text, left_line, level_line, message_text, remark_line, remark_words};
 ghost use Rattle.le_rec.specs.Name.{shown_name};
 ghost use Rattle.level_starts.specs.declared.format.Format.TheVariants as format;
 ghost use Rattle.lens_texts.specs.FormatLine.{format_text};
@@ -11,8 +12,10 @@ ghost use Rattle.lens_texts.specs.LevelObject.{NamesLump};
 ghost use Rattle.lens_texts.specs.Owners.{AreOwners};
 
 use crate::digits::{prepend_count, prepend_short};
+use crate::escape::write_escaped;
 use crate::form::Form;
 use crate::label::{LevelLabel, prepend_label, prepend_name};
+use crate::parts::{TextParts, write_parts};
 use crate::path::write_after_path;
 use crate::place::prepend_place;
 use crate::remark::Remark;
@@ -50,6 +53,53 @@ pub fn write_remark_line<W: Sink>(
     prepend_body(&mut body, level, owners, remark);
     write_heading(heading, out)?;
     write_both(lead.as_bytes(), body.as_bytes(), out)
+}
+
+/// Writes what the line of a remark says behind the label, as text within XML: `CODE KIND INDEX: MESSAGE[, PLACE]`.
+pub fn write_words<W: Sink>(
+    level: &Level<'_>,
+    owners: &[Option<u32>],
+    remark: Remark,
+    out: &mut W,
+) -> Result<(), IoFault>
+    requires owners { AreOwners level.now owners.now }
+    requires sound { (W.state out.old).failed ≡ false }
+    ensures { Writes (W.state out.old) (W.state out.new) (escaped (remark_words level.now remark)) result }
+{
+    let mut lead = TextLine::new();
+    prepend_lead(&mut lead, level, remark.code(), remark.index());
+    let mut message = TextLine::new();
+    prepend_message(&mut message, level, owners, remark);
+    let words = Words {
+        lead: lead.as_bytes(),
+        message: message.as_bytes(),
+    };
+    write_parts(&words, out)
+}
+
+// What is told of a remark, in its two parts.
+#[derive(Drop)]
+struct Words<'w> {
+    lead: &'w [u8],
+    message: &'w [u8],
+}
+
+impl TextParts for Words<'_> {
+    ghost use Rattle.std.specs.Prelude.{[], ◌∷◌};
+    ghost use Rattle.lens_texts.specs.Escape.{escaped};
+
+    ghost parts = { λ words. escaped words.lead.now ∷ escaped words.message.now ∷ [] };
+
+    fn count(&self) -> usize {
+        2
+    }
+
+    fn write<W: Sink>(&self, number: usize, out: &mut W) -> Result<(), IoFault> {
+        match number {
+            0 => write_escaped(self.lead, out),
+            _ => write_escaped(self.message, out),
+        }
+    }
 }
 
 /// Writes a line of a level, from a text with the line's end.
@@ -227,13 +277,22 @@ fn prepend_block(line: &mut TextLine, columns: u16, index: u32)
     line.prepend_bytes(b" (");
 }
 
-// `MESSAGE[, PLACE]`
+// `MESSAGE[, PLACE]`, and the line's end.
 fn prepend_body(line: &mut TextLine, level: &Level<'_>, owners: &[Option<u32>], remark: Remark)
     requires owners { AreOwners level.now owners.now }
     requires empty { line.old ≡ [] }
     ensures { line.new ≡ body_text level.now remark }
 {
     line.prepend_bytes(b"\n");
+    prepend_message(line, level, owners, remark);
+}
+
+// `MESSAGE[, PLACE]`
+fn prepend_message(line: &mut TextLine, level: &Level<'_>, owners: &[Option<u32>], remark: Remark)
+    requires owners { AreOwners level.now owners.now }
+    requires room { length line.old ≤ 1 }
+    ensures { line.new ≡ message_text level.now remark line.old }
+{
     prepend_place(line, remark.place(level, owners));
     remark.prepend_message(line, level);
 }

@@ -3,7 +3,7 @@
 ghost use Rattle.std.specs.Prelude.{◌≡◌, ◌+◌, ◌≤◌, length};
 ghost use Rattle.line_io.specs.declared.text_line.TheConstants.{ROOM};
 ghost use Rattle.lens_texts.specs.Owners.{AreOwners};
-ghost use Rattle.lens_texts.specs.Place.{between, owner_of, place_at, place_of, place_text, spot_text};
+ghost use Rattle.lens_texts.specs.Place.{between, ends_of, linedef_ends, owner_of, place_at, place_of, place_text, spot_text};
 
 use crate::digits::{prepend_count, prepend_word};
 use crate::records::{first_spot, spot_at};
@@ -27,6 +27,13 @@ pub enum MapPlace {
     Between(Spot, Spot),
     /// On the linedef of this number.
     OfLinedef(u32),
+}
+
+/// The two ends of a place. Those of a lone spot are the same.
+#[derive(Clone, Copy)]
+pub struct PlaceEnds {
+    pub from: Spot,
+    pub to: Spot,
 }
 
 /// Where a finding lies, by the linedefs of the sidedefs.
@@ -104,6 +111,31 @@ fn owner_of(level: &Level<'_>, owners: &[Option<u32>], i: usize) -> Option<u32>
     // Only the clauses speak of the level.
     let _level = level;
     if i < owners.len() { owners[i] } else { None }
+}
+
+/// The two ends of a place, if it is known.
+pub fn ends_of(level: &Level<'_>, place: MapPlace) -> Option<PlaceEnds>
+    ensures { result ≡ ends_of level.now place }
+{
+    match place {
+        MapPlace::Nowhere => None,
+        MapPlace::At(spot) => Some(PlaceEnds {
+            from: spot,
+            to: spot,
+        }),
+        MapPlace::Between(from, to) => Some(PlaceEnds { from, to }),
+        MapPlace::OfLinedef(linedef) => linedef_ends(level, linedef as usize),
+    }
+}
+
+// The two ends of a linedef.
+fn linedef_ends(level: &Level<'_>, i: usize) -> Option<PlaceEnds>
+    ensures { result ≡ linedef_ends level.now i }
+{
+    let linedef = level.linedefs().get(i)?;
+    let from = spot_at(level, linedef.v1)?;
+    let to = spot_at(level, linedef.v2)?;
+    Some(PlaceEnds { from, to })
 }
 
 /// Puts a place before the line, as it follows a message.

@@ -4,7 +4,7 @@ ghost use Rattle.std.specs.Prelude.{◌≡◌, ◌≤◌, length};
 ghost use Rattle.lens_texts.specs.Owners.{AreOwners};
 
 use crate::message::prepend_message;
-use crate::place::{MapPlace, place_of};
+use crate::place::{MapPlace, PlaceEnds, ends_of, place_of};
 use crate::warning_message::{prepend_warning_message, warning_place};
 use level_codes::ReportCode;
 use line_io::TextLine;
@@ -19,7 +19,7 @@ pub enum Remark {
 }
 
 impl Remark {
-    ghost use Rattle.lens_texts.specs.Remark.{remark_code, remark_index, remark_message, remark_place};
+    ghost use Rattle.lens_texts.specs.Remark.{remark_code, remark_ends, remark_index, remark_message, remark_place};
 
     /// Its code.
     pub fn code(self) -> ReportCode
@@ -39,6 +39,15 @@ impl Remark {
             Remark::Finding(finding) => finding.index,
             Remark::Warning(warning) => warning.number(),
         }
+    }
+
+    /// The two ends of where it lies, by the linedefs of the sidedefs: of a sidedef those of its linedef, and of a lone spot this
+    /// spot twice. None if it isn't known where it lies.
+    pub fn ends(self, level: &Level<'_>, owners: &[Option<u32>]) -> Option<PlaceEnds>
+        requires { AreOwners level.now owners.now }
+        ensures { result ≡ remark_ends level.now self }
+    {
+        ends_of(level, self.place(level, owners))
     }
 
     // Where it lies, by the linedefs of the sidedefs.

@@ -15,6 +15,67 @@ use level_codes::ReportCode;
 use line_io::IoFault;
 use map_level::Level;
 
+/// How a report on a level is written: each of its remarks, and how many of a code are left out.
+pub trait WriteRemarks {
+    ghost use Rattle.std.specs.Prelude.{◌≡◌, ℕ, List, false};
+    ghost use Rattle.level_codes.specs.declared.code.ReportCode.{ReportCode};
+    ghost use Rattle.line_io.specs.Writes.{Writes};
+    ghost use Rattle.map_level.specs.Level.{Level};
+    ghost use Rattle.lens_texts.specs.Owners.{AreOwners};
+    ghost use Rattle.lens_texts.specs.declared.remark.Remark.{Remark};
+
+    /// The text of a remark.
+    ghost text: { Self → Level → Remark → List ℕ };
+
+    /// The text that says how many of a code are left out.
+    ghost left: { Self → ReportCode → ℕ → List ℕ };
+
+    /// Writes a remark. `owners` has the linedefs of the level's sidedefs.
+    fn write_remark<W: Sink>(
+        &self,
+        level: &Level<'_>,
+        owners: &[Option<u32>],
+        remark: Remark,
+        out: &mut W,
+    ) -> Result<(), IoFault>
+        requires owners { AreOwners level.now owners.now }
+        requires sound { (W.state out.old).failed ≡ false }
+        ensures { Writes (W.state out.old) (W.state out.new) (text self.now level.now remark) result };
+
+    /// Writes how many findings, or warnings, of a code are left out.
+    fn write_left<W: Sink>(&self, code: ReportCode, count: u64, out: &mut W) -> Result<(), IoFault>
+        requires { (W.state out.old).failed ≡ false }
+        ensures { Writes (W.state out.old) (W.state out.new) (left self.now code count) result };
+}
+
+impl WriteRemarks for Heading<'_> {
+    ghost use Rattle.lens_texts.specs.Head.{head_of};
+    ghost use Rattle.lens_texts.specs.LevelText.{left_text, remark_text};
+
+    ghost text = { λ heading. remark_text (head_of heading) };
+
+    ghost left = { λ heading. left_text (head_of heading) };
+
+    fn write_remark<W: Sink>(
+        &self,
+        level: &Level<'_>,
+        owners: &[Option<u32>],
+        remark: Remark,
+        out: &mut W,
+    ) -> Result<(), IoFault> {
+        write_remark(self, level, owners, remark, out)
+    }
+
+    fn write_left<W: Sink>(
+        &self,
+        code: ReportCode,
+        count: u64,
+        out: &mut W,
+    ) -> Result<(), IoFault> {
+        write_left(self, code, count, out)
+    }
+}
+
 /// Writes a remark, a line or an object. `owners` has the linedefs of the level's sidedefs.
 pub fn write_remark<W: Sink>(
     heading: &Heading<'_>,

@@ -5,18 +5,17 @@ use Rattle.std.specs.Fmt.{decimal, digits}
 use Rattle.std.specs.Cmp.Lexicographic.{pointwise}
 use Rattle.std.specs.List.{range_with_len}
 use Rattle.std.proofs.lemmas.Bool.{ltb-true}
-use Rattle.std.proofs.lemmas.List.{get_or-map, get_or-replicate, length-map}
+use Rattle.std.proofs.lemmas.List.{get_or-map, get_or-replicate}
 use Rattle.std.proofs.lemmas.List.FromFn.{get_or-range_with_len}
 use Rattle.map_level.specs.Findings.{is_fault, rank}
 use Rattle.map_level.specs.declared.finding.Code.{Code}
 use Rattle.map_level.specs.declared.finding.Code.TheVariants.{F1}
-use Rattle.level_codes.specs.Codes.{CodeRow, class_of, code_at, code_name, code_rank, code_table, no_row, row_at, small, text_of, view_of, warning_rank}
+use Rattle.level_codes.specs.Codes.{CodeRow, class_of, code_at, code_name, code_rank, code_table, no_row, row_at, small, text_of, warning_rank}
 use Rattle.level_codes.specs.declared.code.ReportCode.{ReportCode}
 use Rattle.level_codes.specs.declared.code.ReportCode.TheVariants.{Finding, Warning}
 use Rattle.level_codes.specs.declared.code.WarningCode.{WarningCode}
 use Rattle.level_codes.specs.declared.code.WarningCode.TheVariants.{W1}
 use Rattle.level_codes.specs.declared.kind.Class.TheVariants as class
-use Rattle.level_codes.specs.declared.table.Row.{Row}
 use Rattle.level_codes.specs.declared.table.TheConstants.{REPORT_COUNT}
 
 -- a code stands at its rank
@@ -46,15 +45,6 @@ pub code_rank-at : (k : ℕ) → k < REPORT_COUNT → code_rank (code_at k) ≡ 
 code_rank-at k h =
     sym (get_or-map (λ (row : CodeRow). code_rank row.code) code_table k no_row 0 (rw table_length h))
     ∙ ap (λ numbers. get_or numbers k 0) ranks ∙ get_or-range_with_len 0 REPORT_COUNT k 0 h ∙ zero-add k
-
--- rows that say what is defined are as many, and say it at each rank
-pub view_length : (rows : List Row) → map view_of rows ≡ code_table → length rows ≡ REPORT_COUNT
-view_length rows same = sym (length-map rows view_of) ∙ ap length same ∙ table_length
-
-pub view_at : (rows : List Row) (k : ℕ) (d : Row) → map view_of rows ≡ code_table → k < REPORT_COUNT → view_of (get_or rows k d) ≡ row_at k
-view_at rows k d same h =
-    let all : length rows ≡ REPORT_COUNT = view_length rows same in
-    sym (get_or-map view_of rows k d no_row (rw all h)) ∙ ap (λ table. get_or table k no_row) same
 
 -- names have at most three bytes, and texts at most 32
 names_fit : map (λ (row : CodeRow). nat_lt (length row.name) 4) code_table ≡ replicate REPORT_COUNT true

@@ -113,7 +113,7 @@ explanation_table =
     (codes "Clear the flag, or give the linedef its back sidedef." ∷ [])
     ∷ explained
     (codes "A linedef has no front sidedef." ∷ [])
-    (codes "The game counts each linedef in its front sector (P_GroupLines). Without one the" ∷ codes "game writes to memory that isn't its own, at address 0, as the level is loaded." ∷ codes "A crash is likely." ∷ [])
+    (codes "The game counts each linedef in its front sector (P_GroupLines), here through a" ∷ codes "sector that isn't there, at address 0, and ends as it loads the level. A sound" ∷ codes "level with N4 isn't one that the game loads." ∷ [])
     (codes "Turn the linedef round if it has a back sidedef, otherwise delete it. Then build" ∷ codes "the nodes." ∷ [])
     ∷ explained
     (codes "A linedef begins and ends at the same place." ∷ [])

@@ -198,9 +198,9 @@ const EXPLANATIONS: [Explanation; REPORT_COUNT] = [
     },
     explained! { N4,
         b"A linedef has no front sidedef.\n",
-        b"The game counts each linedef in its front sector (P_GroupLines). Without one the\n\
-          game writes to memory that isn't its own, at address 0, as the level is loaded.\n\
-          A crash is likely.\n",
+        b"The game counts each linedef in its front sector (P_GroupLines), here through a\n\
+          sector that isn't there, at address 0, and ends as it loads the level. A sound\n\
+          level with N4 isn't one that the game loads.\n",
         b"Turn the linedef round if it has a back sidedef, otherwise delete it. Then build\n\
           the nodes.\n",
     },

@@ -16,8 +16,8 @@ fn digit(byte: u8) -> u8
     }
 }
 
-// The bytes of two digits each.
-fn bytes_of(rt: &(impl Abort + AllocGlobal), digits: &[u8]) -> Vec<u8> {
+/// The bytes of two digits each.
+pub(crate) fn bytes_of(rt: &(impl Abort + AllocGlobal), digits: &[u8]) -> Vec<u8> {
     let mut bytes = Vec::new(rt.alloc());
     for pair in digits.chunks_exact(2) {
         bytes

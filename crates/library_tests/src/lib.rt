@@ -20,6 +20,10 @@ mod in_memory;
 #[cfg(test)]
 mod later_engines;
 #[cfg(test)]
+mod later_node_checks;
+#[cfg(test)]
+mod later_nodes;
+#[cfg(test)]
 mod lines;
 #[cfg(test)]
 mod numbers;

@@ -39,20 +39,12 @@ impl<W: Write + Drop> TiedWriter<W> {
             .map_err(|_| io::Error::from(io::ErrorKind::ResourceBusy))
     }
 
-    // Flushes the buffer.
-    fn empty(&self) -> io::Result<()> {
-        let emptied = self.buffer()?.flush();
-        if emptied.is_err() {
-            self.failed.set(true);
-        }
-        emptied
-    }
-
     /// Flushes the buffer. `Write` if that fails, or if it failed before, also before a read.
     pub fn close(&self) -> Result<(), IoFault>
         ensures { IfErr result (λ fault. fault ≡ WriteFault) }
     {
-        if self.failed.get() || self.empty().is_err() {
+        let mut writer = self;
+        if self.failed.get() || writer.flush().is_err() {
             return Err(IoFault::Write);
         }
         Ok(())
@@ -65,7 +57,11 @@ impl<W: Write + Drop> Write for &TiedWriter<W> {
     }
 
     fn flush(&mut self) -> io::Result<()> {
-        self.empty()
+        let flushed = self.buffer()?.flush();
+        if flushed.is_err() {
+            self.failed.set(true);
+        }
+        flushed
     }
 }
 
@@ -93,7 +89,8 @@ impl<'a, R: Read, W: Write + Drop> Read for TiedReader<'a, R, W> {
     ghost remaining = { λ tied. R.remaining (tied_reader_of tied) };
 
     fn read(&mut self, buf: &mut [u8]) -> io::Result<usize> {
-        self.writer.empty()?;
+        let mut writer = self.writer;
+        writer.flush()?;
         self.reader.read(buf)
     }
 }

@@ -1,19 +1,18 @@
 -- The warnings that a picture marks.
-use Rattle.std.proofs.Common.{◌≡◌, Result, Ok, Err, ap, ◌∙◌}
-use Rattle.std.specs.Prelude.{None, IfOk, take}
-use Rattle.level_codes.specs.declared.code.WarningCode.{WarningCode}
-use Rattle.map_level.specs.Level.{Level}
-use Rattle.map_warnings.specs.Holds.{IsWarning}
-use Rattle.map_warnings.specs.Warnings.{Cut, Tells}
-use Rattle.map_picture.specs.WarningMarks.{AreFirst}
-use Rattle.map_picture.specs.declared.warned.TheConstants.{MOST_MARKS}
+use Rattle.std.proofs.Common.{◌≡◌, ◌≢◌, ◌<◌, ◌≤◌, ◌-◌, ◌^◌, inl, inr, length, ap, ◌∙◌, sym, subst, arith}
+use Rattle.std.specs.Prelude.{List, min, take}
+use Rattle.std.proofs.Math.Nat.{min-eq_right}
+use Rattle.std.proofs.lemmas.Bool.{cases_lt}
+use Rattle.std.proofs.lemmas.List.{take_all}
+use Rattle.map_warnings.specs.Warnings.{AreWarnings, Cut, Tells}
+use Rattle.map_warnings.specs.declared.warning.Warning.{Warning}
 
--- the first of a report
-pub first_by : {E : Type 0} (level : Level) (code : WarningCode) (result : Result Cut E) → IfOk result (Tells (IsWarning None level code))
-    → IfOk result (λ told. told.most ≡ MOST_MARKS) → IfOk result (λ told. AreFirst level code told.first)
-first_by level code (Ok cut) told most = record {
-  all = told.all;
-  are = told.are;
-  is = told.is.first ∙ ap (λ n. take n told.all) most;
-}
-first_by level code (Err e) told most = tt
+-- a report whose count didn't stop has all warnings, if as many as can be counted are kept
+pub all_by : (holds : Warning → Type 0) (cut : Cut) → Tells holds cut → cut.most ≡ 2 ^ 64 - 1 → cut.count ≢ 2 ^ 64 - 1 → AreWarnings holds cut.first
+all_by holds cut told most fewer =
+    let within : length told.all ≤ 2 ^ 64 - 1 = elim (cases_lt (2 ^ 64 - 1) (length told.all)) [
+      | inl past ↦ absurd (fewer (told.is.count ∙ min-eq_right (omega (arith, past))))
+      | inr below ↦ below
+    ] in
+    let all = take_all (2 ^ 64 - 1) told.all within in
+    subst (AreWarnings holds) (sym (told.is.first ∙ ap (λ n. take n told.all) most ∙ all)) told.are

@@ -188,7 +188,7 @@ sample_picture : (cells : SectorCells) → cells.number ≡ 1 → cells.blocks.n
     → picture_text sample [] (frame_at (pos 0) (pos 0) (pos 0) (pos 64)) 1 (cells ∷ []) []
     ≡ codes "<svg xmlns=\"http://www.w3.org/2000/svg\" viewBox=\"-32 -96 64 128\" width=\"512\" height=\"1024\">\n"
     ++ (codes "<title>E1M1: faults 0 notes 0</title>\n"
-    ++ (codes "<style>path{vector-effect:non-scaling-stroke}.s{shape-rendering:crispEdges}.s path:hover{fill:#fb5}.w{fill:none;stroke:#eee;stroke-width:1.5}.t{fill:none;stroke:#778;stroke-width:.7}.f{fill:none;stroke:#f33;stroke-width:4}.a{fill:none;stroke:#fb3;stroke-width:3}.p{vector-effect:none;stroke:#14161a;stroke-width:5;paint-order:stroke}.start{fill:#6f6}.monster{fill:#f7b}.weapon{fill:#5cf}.key{fill:#ff5}.other{fill:#cba}.p:hover{fill:#fff}</style>\n"
+    ++ (codes "<style>svg{background:#14161a}path{vector-effect:non-scaling-stroke}.s{shape-rendering:crispEdges}.s path:hover{fill:#fb5}.w{fill:none;stroke:#eee;stroke-width:1.5}.t{fill:none;stroke:#778;stroke-width:.7}.f{fill:none;stroke:#f33;stroke-width:4}.a{fill:none;stroke:#fb3;stroke-width:3}.p{vector-effect:none;stroke:#14161a;stroke-width:5;paint-order:stroke}.start{fill:#6f6}.monster{fill:#f7b}.weapon{fill:#5cf}.key{fill:#ff5}.other{fill:#cba}.p:hover{fill:#fff}</style>\n"
     ++ (codes "<rect x=\"-32\" y=\"-96\" width=\"64\" height=\"128\" fill=\"#14161a\"/>\n"
     ++ (codes "<g class=\"s\" transform=\"matrix(1 0 0 -1 0 0)\">\n"
     ++ (codes "<path fill=\"#7f7f93\" d=\"M0 0h1v65h-1z\"><title>sector 1: floor 0 FLAT1, ceiling 128 FLAT1, light 160, special 0, tag 0, 65 cells</title></path>\n"

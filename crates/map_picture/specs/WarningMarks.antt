@@ -1,5 +1,5 @@
 -- The warnings of a picture (ours): where references allow what no mapper wants, with what the table of codes says of it.
-use Rattle.std.specs.Prelude.{◌≡◌, ℕ, Bool, true, false, List, [], ◌∷◌, ◌++◌, Option, Some, None, codes, map, take}
+use Rattle.std.specs.Prelude.{◌≡◌, ℕ, Bool, true, false, List, [], ◌∷◌, ◌++◌, Option, Some, None, codes, map}
 use Rattle.std.specs.Fmt.{decimal}
 use Rattle.std.specs.List.{slice_get}
 use Rattle.std.specs.Option.{option_map, option_map_or}
@@ -19,24 +19,17 @@ use Rattle.map_picture.specs.Paths.{shape_part}
 use Rattle.map_picture.specs.declared.paths.Shape.{Shape}
 use Rattle.map_picture.specs.declared.paths.Shape.TheVariants.{Line, Ring}
 use Rattle.map_picture.specs.declared.warned.MarkedWarnings.{MarkedWarnings}
-use Rattle.map_picture.specs.declared.warned.TheConstants.{MOST_MARKS}
 
--- the first of the warnings of a code that hold of a level
-pub record AreFirst (level : Level) (code : WarningCode) (first : List Warning) : Type 0 where
-  pub all : List Warning
-  pub are : AreWarnings (IsWarning None level code) all
-  pub is : first ≡ take MOST_MARKS all
-
--- those of a code that is asked for
-abbrev pub AreFirstIf : Bool → Level → WarningCode → List Warning → Type 0
-AreFirstIf true level code first = AreFirst level code first
-AreFirstIf false level code first = first ≡ []
+-- the warnings of a code that hold of a level, if it is asked for
+abbrev pub AreAllIf : Bool → Level → WarningCode → List Warning → Type 0
+AreAllIf true level code all = AreWarnings (IsWarning None level code) all
+AreAllIf false level code all = all ≡ []
 
 -- those of a code were added, if it is asked for
-pub record AddsFirst (asked : Bool) (level : Level) (code : WarningCode) (old new : List Warning) : Type 0 where
-  pub first : List Warning
-  pub are : AreFirstIf asked level code first
-  pub is : new ≡ old ++ first
+pub record AddsAll (asked : Bool) (level : Level) (code : WarningCode) (old new : List Warning) : Type 0 where
+  pub all : List Warning
+  pub are : AreAllIf asked level code all
+  pub is : new ≡ old ++ all
 
 -- the warnings that are marked: those of each code that is asked for, one code after another
 pub record AreMarked (asked : MarkedWarnings) (level : Level) (marked : List Warning) : Type 0 where
@@ -45,11 +38,11 @@ pub record AreMarked (asked : MarkedWarnings) (level : Level) (marked : List War
   pub in_void : List Warning
   pub twins : List Warning
   pub unknown : List Warning
-  pub are_unclosed : AreFirstIf asked.unclosed level W1 unclosed
-  pub are_bare : AreFirstIf asked.bare level W2 bare
-  pub are_in_void : AreFirstIf asked.in_void level W3 in_void
-  pub are_twins : AreFirstIf asked.twins level W6 twins
-  pub are_unknown : AreFirstIf asked.unknown_things level W11 unknown
+  pub are_unclosed : AreAllIf asked.unclosed level W1 unclosed
+  pub are_bare : AreAllIf asked.bare level W2 bare
+  pub are_in_void : AreAllIf asked.in_void level W3 in_void
+  pub are_twins : AreAllIf asked.twins level W6 twins
+  pub are_unknown : AreAllIf asked.unknown_things level W11 unknown
   pub is : marked ≡ unclosed ++ bare ++ in_void ++ twins ++ unknown
 
 -- none, where warnings aren't asked for

@@ -24,4 +24,4 @@ pub use draw::{DrawFault, View, draw_level};
 pub use finding_counts::FindingCounts;
 pub use picture::{Drawn, write_picture};
 pub use sectors::SectorCells;
-pub use warned::{MOST_MARKS, MarkedWarnings};
+pub use warned::MarkedWarnings;

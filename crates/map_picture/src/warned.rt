@@ -1,7 +1,9 @@
 //! The warnings that a picture marks.
 
-ghost use Rattle.std.specs.Prelude.{IfOk, OnOk};
-ghost use Rattle.map_picture.specs.WarningMarks.{AddsFirst, AreFirst, AreMarked, AreMarkedFor};
+ghost use Rattle.std.specs.Prelude.{IfOk, None, OnOk};
+ghost use Rattle.map_picture.specs.WarningMarks.{AddsAll, AreMarked, AreMarkedFor};
+ghost use Rattle.map_warnings.specs.Holds.{IsWarning};
+ghost use Rattle.map_warnings.specs.Warnings.{AreWarnings};
 
 use level_codes::WarningCode;
 use map_level::Level;
@@ -23,11 +25,8 @@ pub struct MarkedWarnings {
     pub unknown_things: bool,
 }
 
-/// How many warnings of one code are marked at most.
-pub const MOST_MARKS: usize = 1000;
-
-/// The warnings of a level that are marked: of each code that is asked for the first ones, one code after another. At most twelve
-/// bytes are kept for each. Besides, a code takes what `map_warnings` says, as long as it is looked for.
+/// The warnings of a level that are marked: all of each code that is asked for, one code after another. Twelve bytes are kept for
+/// each, and twelve more for each of a code, as long as it is looked for. Besides, that takes what `map_warnings` says.
 pub fn marked_warnings<A: Allocator + Copy>(
     alloc: A,
     level: &Level<'_>,
@@ -51,11 +50,11 @@ fn marked_of<A: Allocator + Copy>(
 {
     let checks = Checks::of(alloc, level)?;
     let mut marked = Vec::new(alloc);
-    add_first(alloc, &checks, asked.unclosed, WarningCode::W1, &mut marked)?;
-    add_first(alloc, &checks, asked.bare, WarningCode::W2, &mut marked)?;
-    add_first(alloc, &checks, asked.in_void, WarningCode::W3, &mut marked)?;
-    add_first(alloc, &checks, asked.twins, WarningCode::W6, &mut marked)?;
-    add_first(
+    add_all(alloc, &checks, asked.unclosed, WarningCode::W1, &mut marked)?;
+    add_all(alloc, &checks, asked.bare, WarningCode::W2, &mut marked)?;
+    add_all(alloc, &checks, asked.in_void, WarningCode::W3, &mut marked)?;
+    add_all(alloc, &checks, asked.twins, WarningCode::W6, &mut marked)?;
+    add_all(
         alloc,
         &checks,
         asked.unknown_things,
@@ -65,32 +64,38 @@ fn marked_of<A: Allocator + Copy>(
     Ok(marked)
 }
 
-// Adds the first warnings of a code, if it is asked for.
-fn add_first<A: Allocator + Copy>(
+// Adds the warnings of a code, if it is asked for.
+fn add_all<A: Allocator + Copy>(
     alloc: A,
     checks: &Checks<'_, '_>,
     asked: bool,
     code: WarningCode,
     marked: &mut Vec<Warning, A>,
 ) -> Result<(), AllocError>
-    ensures { OnOk result (AddsFirst asked checks.now code marked.old.items marked.new.items) }
+    ensures { OnOk result (AddsAll asked checks.now code marked.old.items marked.new.items) }
 {
     if asked {
-        let told = first_told(alloc, checks, code)?;
+        let told = all_told(alloc, checks, code)?;
         marked.extend_from_slice(told.first())?;
     }
     Ok(())
 }
 
-// The report on the warnings of a code: the first of them.
-fn first_told<A: Allocator + Copy>(
+// The report on the warnings of a code: all of them.
+fn all_told<A: Allocator + Copy>(
     alloc: A,
     checks: &Checks<'_, '_>,
     code: WarningCode,
 ) -> Result<Told<A>, AllocError>
-    ensures { IfOk result (λ told. AreFirst checks.now code told.first) }
+    ensures { IfOk result (λ told. AreWarnings (IsWarning None checks.now code) told.first) }
 {
     // Only W9 and W10, which aren't marked, ask for textures and flats.
     let resources: Option<Resources<'_, '_, A>> = None;
-    checks.told(alloc, code, &resources, MOST_MARKS)
+    let most = usize::MAX;
+    let told = checks.told(alloc, code, &resources, most)?;
+    if told.count() == most {
+        // There may be more of them than can be counted.
+        return Err(AllocError);
+    }
+    Ok(told)
 }

@@ -54,9 +54,10 @@ fn three_levels(rt: &(impl Abort + AllocGlobal)) -> Vec<u8> {
 // The entries of their labels.
 const ENTRIES: [u64; 3] = [0, 11, 14];
 
-// Adds the rows of a file's levels. All memory is from one heap.
+// Adds the rows of a file's levels, each with one message of a code at most. All memory but that of the messages is from one heap.
 fn add_rows<'h, 'b>(
     heap: &'h Refusing,
+    global: Global,
     base: &'b Base<'b>,
     file: &'b [u8],
     rows: &mut Vec<Row<'static>, &'h Refusing>,
@@ -71,10 +72,11 @@ fn add_rows<'h, 'b>(
         file: 3,
         path: b"a.wad",
         judging: judging(base, Warnings::Told),
+        most: 1,
     };
     let known = over_base(heap, origin.judging.base, &set)?;
     let resources = asked_resources(heap, &known, origin.judging.warnings)?;
-    push_rows(heap, &origin, &set, &resources, rows)
+    push_rows(heap, global, &origin, &set, &resources, rows)
 }
 
 fn check_judged(rt: &impl Abort, judged: &LevelCounts) {
@@ -88,6 +90,23 @@ fn check_judged(rt: &impl Abort, judged: &LevelCounts) {
     assert!(rt; judged.drawn);
 }
 
+// The first open corner is told within a link to it, and three more are left out.
+fn check_messages(rt: &impl Abort, items: &[u8]) {
+    assert!(rt;
+        contains(
+            items,
+            b".svg#svgView(viewBox(-256,-256,512,512))\">W1 sector 0: isn't closed, at (0, 0)</a></li>\n"
+        )
+    );
+    assert!(rt; contains(items, b"<li class=\"warning\">W1: 3 more</li>\n"));
+    assert!(rt;
+        contains(
+            items,
+            b"<li class=\"warning\">W7 level: no player 2 start</li>\n"
+        )
+    );
+}
+
 fn check_row(rt: &impl Abort, row: &Row<'_>, entry: u64) {
     check_same(rt, (row.file, row.entry), (3, entry));
     check_bytes(rt, row.path, b"a.wad");
@@ -95,10 +114,12 @@ fn check_row(rt: &impl Abort, row: &Row<'_>, entry: u64) {
         Surveyed::Judged(judged) => {
             check_same(rt, row.name, Name8::query(b"E1M1"));
             check_judged(rt, judged);
+            check_messages(rt, row.messages.items());
         }
         Surveyed::Unjudged(unjudged) => {
             check_same(rt, (row.name, entry), (Name8::query(b"MAP01"), 11));
             check_same(rt, unjudged.format(), Format::Udmf);
+            check_bytes(rt, row.messages.items(), b"");
         }
     }
 }
@@ -117,7 +138,7 @@ fn rows_before(rt: &(impl Abort + AllocGlobal), file: &[u8], n: u64) -> Option<u
     let heap = Refusing::new(rt.alloc(), n);
     let base = Base::none();
     let mut rows = Vec::new(&heap);
-    let added = add_rows(&heap, &base, file, &mut rows);
+    let added = add_rows(&heap, rt.alloc(), &base, file, &mut rows);
     let count = checked_rows(rt, &rows);
     check_same(rt, added.is_err(), heap.has_refused());
     if added.is_err() {
@@ -163,12 +184,13 @@ fn page_before(rt: &(impl Abort + AllocGlobal), page: &Page<'_, '_>, whole: &[u8
 }
 
 // What a page shows of the three rows and of a refused file, told by its definitions.
-const SHOWN: [&[u8]; 5] = [
+const SHOWN: [&[u8]; 6] = [
     b"<title>Atlas: 3 levels in 2 files</title>\n",
     b"<li><b>b&lt;.wad</b> ",
     b"<a class=\"map\" href=\"3-0.svg\"><img loading=\"lazy\" src=\"3-0.svg\" alt=\"map of E1M1\"></a>\n",
     b"<p class=\"where\">a.wad <span>entry 11, udmf</span></p>\n",
     b"<li class=\"warning\">W1 &times; 4</li>\n",
+    b"<ul class=\"messages\">\n<li class=\"warning\"><a href=\"3-0.svg#svgView(viewBox(-256,-256,512,512))\">W1 sector 0: ",
 ];
 
 // The page, written with memory.
@@ -201,7 +223,7 @@ fn page_refused(rt: HostRuntime) {
     let heap = Refusing::new(rt.alloc(), 0);
     let base = Base::none();
     let mut rows = Vec::new(&heap);
-    let added = add_rows(&heap, &base, &three_levels(&rt), &mut rows);
+    let added = add_rows(&heap, rt.alloc(), &base, &three_levels(&rt), &mut rows);
     check_same(&rt, added, Ok(()));
     let refused = [RefusedFile {
         path: b"b<.wad",

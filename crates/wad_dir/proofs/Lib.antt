@@ -1,5 +1,6 @@
 pub mod StandingLemmas
 pub mod DirectoryLemmas
+pub mod OneDirectoryLemmas
 pub mod ReadingLemmas
 pub mod SetLemmas
 pub mod NameLemmas
@@ -8,3 +9,4 @@ pub mod WinnerLemmas
 pub mod LumpLemmas
 pub mod PackingLemmas
 pub mod PackedLemmas
+pub mod ReadsPackedLemmas

@@ -1,6 +1,6 @@
 -- What a packed file reads as: its directory, the names and the lumps.
-use Rattle.std.proofs.Common.{◌≡◌, ℕ, zero, suc, ◌+◌, ◌<◌, ◌≤◌, pos, List, [], ◌∷◌, ◌++◌, length, map, Some, refl, sym, ap, ◌∙◌, subst, arith}
-use Rattle.std.specs.List.{All, AllZip, flat_map, slice_get}
+use Rattle.std.proofs.Common.{◌≡◌, ℕ, suc, ◌+◌, ◌<◌, ◌≤◌, pos, List, [], ◌∷◌, ◌++◌, length, map, refl, sym, ap, ◌∙◌, arith}
+use Rattle.std.specs.List.{All, AllZip, flat_map}
 use Rattle.std.proofs.lemmas.List.{append-nil, append_assoc, length-append}
 use Rattle.std.proofs.lemmas.List.Elements.{All-head, All-tail}
 use Rattle.le_rec.specs.Name.{name_of, padded}
@@ -12,8 +12,6 @@ use Rattle.le_rec.specs.declared.records.Entry.{Entry}
 use Rattle.wad_dir.specs.Header.{header_bytes}
 use Rattle.wad_dir.specs.declared.header.Kind.TheVariants.{Pwad}
 use Rattle.wad_dir.specs.Directory.{AreRecords, IsDirectory}
-use Rattle.wad_dir.specs.Entries.{Listed, listed_name}
-use Rattle.wad_dir.specs.Laws.{ReadsAsPacked}
 use Rattle.wad_dir.specs.Slice.{IsSlice}
 use Rattle.wad_dir.specs.Packing.{NamedLump, IsName, lump_bytes, entries_from, packed_entries, packed_header, packed}
 use Rattle.wad_dir.proofs.PackingLemmas.{FitsSigned-pos, length-packed}
@@ -133,44 +131,3 @@ pub packed-slices : (lumps : List NamedLump)
 packed-slices lumps =
     slices_from (packed lumps) (header_bytes (packed_header lumps))
     (flat_map entry_bytes (packed_entries lumps)) 12 lumps refl refl
-
--- the entry at a lump's place has its bytes
-entry-at : (file : List ℕ) (entries : List Entry) (lumps : List NamedLump) (k : ℕ)
-    (lump : NamedLump)
-    → AllZip (λ (e : Entry) (l : NamedLump). IsSlice file e l.bytes) entries lumps
-    → slice_get lumps k ≡ Some lump
-    → (e : Entry) × (slice_get entries k ≡ Some e) × IsSlice file e lump.bytes
-entry-at file [] [] k lump zip at = cc
-entry-at file [] (l ∷ lumps) k lump zip at = absurd zip
-entry-at file (e ∷ entries) [] k lump zip at = absurd zip
-entry-at file (e ∷ entries) (l ∷ lumps) zero lump zip at =
-    let same : l ≡ lump = cc in
-    (e, refl, subst (λ (x : NamedLump). IsSlice file e x.bytes) same zip.0)
-entry-at file (e ∷ entries) (l ∷ lumps) (suc k) lump zip at =
-    entry-at file entries lumps k lump zip.1 at
-
--- the entries of one file, and their names
-listed-at : (bytes : List ℕ) (entries : List Entry) (k : ℕ) (e : Entry)
-    → slice_get entries k ≡ Some e
-    → slice_get (map (λ (x : Entry). let l : Listed = record { file = 1; bytes = bytes; entry = x } in l) entries ++ []) k ≡ Some (record { file = 1; bytes = bytes; entry = e })
-listed-at bytes [] k e at = cc
-listed-at bytes (x ∷ entries) zero e at = let same : x ≡ e = cc in rw same refl
-listed-at bytes (x ∷ entries) (suc k) e at = listed-at bytes entries k e at
-
-names-alone : (bytes : List ℕ) (entries : List Entry)
-    → map listed_name (map (λ (x : Entry). let l : Listed = record { file = 1; bytes = bytes; entry = x } in l) entries ++ []) ≡ map (λ (x : Entry). name_of x.name) entries
-names-alone bytes [] = refl
-names-alone bytes (x ∷ entries) =
-    ap (λ rest. name_of x.name ∷ rest) (names-alone bytes entries)
-
-pub reads_as_packed : ReadsAsPacked
-reads_as_packed file lumps named zip = (
-  names-alone file.bytes file.entries ∙ named,
-  λ g lump at.
-      let entry = entry-at file.bytes file.entries lumps g lump zip at in
-      record {
-        listed = record { file = 1; bytes = file.bytes; entry = entry.0 };
-        numbered = listed-at file.bytes file.entries g entry.0 entry.1;
-        slice = entry.2;
-      },
-)

@@ -2,7 +2,7 @@
 
 use crate::arg_row::{ArgRow, Bound, Takes};
 use crate::mistake::Mistake;
-use crate::shared_words::{CELLS, cells_of};
+use crate::shared_words::{CELLS, cells_of, most_of};
 use crate::words::Telling;
 use atlas_page::PageHead;
 use clap::ArgMatches;
@@ -19,6 +19,9 @@ pub struct AtlasWords<'a> {
     pub progress: bool,
 }
 
+// How many messages of one code a card has by default.
+const CARD_SHOWN: u64 = 3;
+
 /// The arguments of `atlas`, without those for its files.
 pub const ATLAS: &[ArgRow] = &[
     ArgRow {
@@ -29,6 +32,13 @@ pub const ATLAS: &[ArgRow] = &[
         help: "The folder to write into, which is made or is empty",
     },
     CELLS,
+    ArgRow {
+        id: "max",
+        value: Some("N"),
+        takes: Takes::Number,
+        bound: Bound::Free,
+        help: "Show at most N findings or warnings of one code on a level's card; 0 shows all [default: 3]",
+    },
     ArgRow {
         id: "title",
         value: Some("TITLE"),
@@ -65,6 +75,7 @@ impl<'a> AtlasWords<'a> {
             job: AtlasJob {
                 job,
                 head,
+                most: most_of(matches, CARD_SHOWN),
                 drawn,
                 folder: folder.as_bytes(),
             },

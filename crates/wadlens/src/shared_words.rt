@@ -43,6 +43,15 @@ pub fn cells_of(matches: &ArgMatches<'_>) -> Result<CellCount, Mistake> {
     CellCount::new(cells).ok_or(Mistake::Told("--cells wants a number from 1 to 1024"))
 }
 
+/// How many findings or warnings of one code are shown of a level at most, by a command's arguments, where 0 asks for all.
+pub fn most_of(matches: &ArgMatches<'_>, default: u64) -> u64 {
+    match matches.get_one::<u64>("max") {
+        Some(0) => u64::MAX,
+        Some(most) => most,
+        None => default,
+    }
+}
+
 /// The texts that a command's arguments have of this name.
 pub fn texts_of<'a>(
     alloc: Global,

@@ -5,7 +5,7 @@ use crate::command_words::{command_named, commands};
 use crate::judging_words::{bases_of, rules_of};
 use crate::mistake::Mistake;
 use crate::picture_words::PictureWords;
-use crate::shared_words::texts_of;
+use crate::shared_words::{most_of, texts_of};
 use clap::{ArgMatches, Command};
 use lens_reports::{CutAsked, ReportJob, ReportKind, SHOWN};
 use lens_texts::Form;
@@ -147,20 +147,11 @@ fn code_of(of_explain: &ArgMatches<'_>) -> Result<Option<ReportCode>, Mistake> {
     }
 }
 
-// How many findings or warnings of one code are shown of a level at most, where 0 asks for all.
-fn most_of(of_check: &ArgMatches<'_>) -> u64 {
-    match of_check.get_one::<u64>("max") {
-        Some(0) => u64::MAX,
-        Some(most) => most,
-        None => SHOWN,
-    }
-}
-
 // Which report the arguments ask for.
 fn job_of<'a>(alloc: Global, matches: &ArgMatches<'a>) -> Result<Telling<'a>, Mistake> {
     match matches.subcommand_matches("check") {
         Some(of_check) => {
-            let word = ReportKind::Check(most_of(of_check), form_of(of_check));
+            let word = ReportKind::Check(most_of(of_check, SHOWN), form_of(of_check));
             job_over(alloc, word, of_check)
         }
         None => match matches.subcommand_matches("demos") {

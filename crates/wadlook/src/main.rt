@@ -3,36 +3,55 @@
 #![tactic(auto)]
 
 mod block_source;
+mod closed_pipe;
 mod files;
 mod program;
 mod refusal;
 
+use closed_pipe::{Watched, is_of_closed_pipe};
 use line_io::Disk;
 use look_engines::RunFault;
 use program::do_words;
 use refusal::{ProgramRefusal, exit_status};
+use std::cell::Cell;
 use std::process::ExitCode;
 use std::rt::{Env, Files};
 use std::{env, io};
 
 fn main(rt: HostRuntime) -> ExitCode {
-    let outcome = run(&rt);
+    let closed = Cell::new(false);
+    let outcome = run(&rt, &closed);
     if let Err(refusal) = &outcome {
-        // If standard error fails too, the message is lost.
-        let _ = rt.eprintln(format_args!("refused: {refusal}"));
+        // Whoever closed the pipe wants no more. If standard error fails too, the message is lost.
+        if !closed.get() {
+            let _ = rt.eprintln(format_args!("refused: {refusal}"));
+        }
     }
     ExitCode::from(exit_status(&outcome))
 }
 
-// Does what the arguments ask for. Without any it prints their form.
-fn run<R: Env + Files + Input + Print + AllocGlobal>(rt: &R) -> Result<bool, ProgramRefusal> {
+// Does what the arguments ask for. Without any it prints their form. `closed` is told if the output is a closed pipe.
+fn run<R: Env + Files + Input + Print + AllocGlobal>(
+    rt: &R,
+    closed: &Cell<bool>,
+) -> Result<bool, ProgramRefusal> {
     let words = read_words(rt)?;
     if words.is_empty() {
-        rt.println("wadlook CMD [NAME] FILE...")
-            .map_err(|_| RunFault::Write)?;
-        return Ok(true);
+        return print_form(rt, closed);
     }
-    do_words(rt.alloc(), &words, &Disk(rt), rt.reader(), io::writer(rt))
+    let writer = Watched::new(io::writer(rt), closed);
+    do_words(rt.alloc(), &words, &Disk(rt), rt.reader(), writer)
+}
+
+// Prints the form of the arguments.
+fn print_form<R: Print>(rt: &R, closed: &Cell<bool>) -> Result<bool, ProgramRefusal> {
+    match rt.println("wadlook CMD [NAME] FILE...") {
+        Ok(()) => Ok(true),
+        Err(error) => {
+            closed.set(is_of_closed_pipe(&error));
+            Err(ProgramRefusal::Run(RunFault::Write))
+        }
+    }
 }
 
 // The arguments after the program's name.

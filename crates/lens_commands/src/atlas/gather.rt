@@ -84,6 +84,7 @@ pub fn gather<'p, S: Storage, F: Folder, E: Sink, P: Watch>(
                 file: i as u64 + 1,
                 path: paths[i],
                 judging: asked.judging,
+                most: asked.most,
             },
             drawn: asked.drawn,
         };
@@ -225,7 +226,7 @@ fn add_rows<'p>(
 {
     let known = over_base(alloc, origin.judging.base, set)?;
     let resources = asked_resources(alloc, &known, origin.judging.warnings)?;
-    push_rows(alloc, origin, set, &resources, rows)
+    push_rows(alloc, alloc, origin, set, &resources, rows)
 }
 
 // Reports that a file is refused, and adds it to the refused ones.

@@ -10,6 +10,8 @@ use map_picture::View;
 pub struct AtlasRequest<'b> {
     pub judging: Judging<'b>,
     pub head: PageHead<'b>,
+    /// How many messages of one code the card of a level has at most.
+    pub most: u64,
     /// What of each level is drawn, and how finely.
     pub drawn: View,
 }
@@ -21,6 +23,8 @@ pub struct AtlasJob<'a> {
     pub job: ReportJob<'a>,
     /// How the page is headed.
     pub head: PageHead<'a>,
+    /// How many messages of one code the card of a level has at most.
+    pub most: u64,
     /// What of each level is drawn, and how finely.
     pub drawn: View,
     /// The folder as messages name it.

@@ -101,6 +101,7 @@ fn run_taken<S: Storage, F: Folder, E: Sink, P: Watch>(
     let asked = AtlasRequest {
         judging: job.job.rules.over(&base),
         head: job.head,
+        most: job.most,
         drawn: job.drawn,
     };
     match write_atlas(alloc, &asked, paths, storage, folder, errors, watch) {

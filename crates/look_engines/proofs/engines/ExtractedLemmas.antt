@@ -13,7 +13,7 @@ use Rattle.wad_dir.specs.Slice.{IsLump}
 use Rattle.wad_dir.specs.Wad.{Wad, IsRead}
 use Rattle.wad_dir.specs.Winner.{Wins}
 use Rattle.wad_dir.specs.declared.header.Kind.TheVariants.{Pwad}
-use Rattle.wad_dir.proofs.PackedLemmas.{reads_as_packed}
+use Rattle.wad_dir.proofs.ReadsPackedLemmas.{reads_as_packed}
 use Rattle.look_engines.proofs.engines.ExtractLemmas.{lump-at}
 use Rattle.look_engines.specs.Engines.Extract.{IsPacked, named_lumps}
 use Rattle.look_engines.specs.Laws.{ExtractedOpens}

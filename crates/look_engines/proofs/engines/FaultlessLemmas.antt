@@ -13,7 +13,7 @@ use Rattle.map_level.specs.declared.level.LevelFault.TheVariants.{Missing, Outsi
 use Rattle.map_level.specs.declared.reading.Reading.{Reading}
 use Rattle.map_level.proofs.LevelLemmas.{IsLevel-one, RefusesLevel-no_level}
 use Rattle.wad_dir.specs.Wad.{Wad, IsRead}
-use Rattle.wad_dir.proofs.ReadingLemmas.{IsDirectory-one}
+use Rattle.wad_dir.proofs.OneDirectoryLemmas.{IsDirectory-one}
 use Rattle.look_engines.specs.Engines.Audit.{AreLevelFindings, IsLumpFinding, fault_count}
 use Rattle.look_engines.specs.Laws.{FaultlessIsNoFault}
 use Rattle.look_engines.specs.Opening.{AreRead, IsOpened}

@@ -2,7 +2,6 @@ use Rattle.std.proofs.Common.{◌≡◌, ◌-◌, length, rules}
 use Rattle.std.proofs.lemmas.Result.{err_from_is_err_and}
 use Rattle.line_io.proofs.WriteLemmas.{Writes-stop, Writes-then}
 use Rattle.level_codes.specs.declared.code.ReportCode.TheVariants.{Warning}
-use Rattle.lens_texts.specs.Head.{head_of}
 use Rattle.lens_engines.specs.WarnedText.{more_text}
 use Rattle.lens_engines.proofs.warned.write_part.Goals as goal
 
@@ -11,7 +10,7 @@ returns-in_err-write_first g c =
     let p = err_from_is_err_and c.from_residual.result c.from_residual.ensures.1 in
     let lines = rw c.first-first.ensures at c.in_err-write_first.ensures in
     rw (p.1, p.2, ← c.warned.view_is)
-    (Writes-stop (more_text (head_of c.args.heading.now) (Warning c.warned.inside.code) (c.warned.inside.told.count - length c.warned.inside.told.first)) lines)
+    (Writes-stop (more_text (g.F.WriteRemarks.left c.args.form.now) (Warning c.warned.inside.code) (c.warned.inside.told.count - length c.warned.inside.told.first)) lines)
 
 pub returns : goal.returns
 returns g c =

@@ -1,5 +1,5 @@
 use Rattle.std.proofs.Common.{arith}
-use Rattle.level_codes.proofs.CodeLemmas.{view_at, view_length}
+use Rattle.level_codes.proofs.RowLemmas.{view_at, view_length}
 use Rattle.level_codes.proofs.table.row_at.Goals as goal
 
 pub bounds-rows-rank : goal.bounds-rows-rank

@@ -24,7 +24,7 @@ returns-in_err-tally-clause-some g c =
     (g.F.Folder.kept c.args.folder.now) (g.F.Folder.kept c.loop-i.folder) (g.F.Folder.kept c.add_path.new.folder)
     (g.F.File.Sink.state c.args.survey.now) (g.F.File.Sink.state c.loop-i.survey) (g.F.File.Sink.state c.add_path.new.survey)
     (g.E.Sink.state c.args.errors.now) (g.E.Sink.state c.loop-i.errors) (g.E.Sink.state c.add_path.new.errors) c.loop-i.gathered.tally
-    c.loop-i.gathered.rows.items c.loop-i.gathered.refused.items (record { numbered = refl; of_path = refl; judged = refl })
+    c.loop-i.gathered.rows.items c.loop-i.gathered.refused.items (record { numbered = refl; of_path = refl; judged = refl; cut_at = refl })
     c.loop-i.invariant.all c.in_err-tally.ensures.front in
     rw p.1 some
 
@@ -47,7 +47,7 @@ loop-i-preserved g c =
     (g.F.Folder.kept c.args.folder.now) (g.F.Folder.kept c.loop-i.folder) (g.F.Folder.kept c.add_path.new.folder)
     (g.F.File.Sink.state c.args.survey.now) (g.F.File.Sink.state c.loop-i.survey) (g.F.File.Sink.state c.add_path.new.survey)
     (g.E.Sink.state c.args.errors.now) (g.E.Sink.state c.loop-i.errors) (g.E.Sink.state c.add_path.new.errors) c.loop-i.gathered.tally
-    c.loop-i.gathered c.add_path.new.gathered c.in_ok-tally.tally (record { numbered = refl; of_path = refl; judged = refl })
+    c.loop-i.gathered c.add_path.new.gathered c.in_ok-tally.tally (record { numbered = refl; of_path = refl; judged = refl; cut_at = refl })
     c.loop-i.invariant.all c.in_ok-tally.ensures.adds in
     record {
       taken = c.in_ok-tally.ensures.taken;

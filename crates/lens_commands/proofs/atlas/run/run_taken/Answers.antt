@@ -17,8 +17,8 @@ returns-in-Ok-write_atlas g c =
       base = c.in-Ok-wads_of.wads.items;
       bases = job_bases (stored (g.S.Storage.held c.args.storage.now)) c.args.job.now.job.bases (map (λ path. path.now) c.deref.result.now) (map bytes_in c.in-Ok-read_bases.held.items)
           c.in-Ok-wads_of.wads.items bases (c.in-Ok-wads_of.ensures.are ∙ ap (map bytes_in) c.deref-2.ensures.value) c.in-Ok-wads_of.ensures.read c.in-Ok-read_bases.ensures.held;
-      asked = record { judging = c.over.result; drawn = c.args.job.now.drawn; head = c.args.job.now.head };
-      is_asked = record { over = subst (λ wads. IsOver c.args.job.now.job.rules wads c.over.result) (base ∙ c.deref-3.ensures.value) c.over.ensures; drawn = refl; head = refl };
+      asked = record { judging = c.over.result; drawn = c.args.job.now.drawn; head = c.args.job.now.head; most = c.args.job.now.most };
+      is_asked = record { over = subst (λ wads. IsOver c.args.job.now.job.rules wads c.over.result) (base ∙ c.deref-3.ensures.value) c.over.ensures; drawn = refl; head = refl; most = refl };
       runs = inl (record { empty = c.requires.empty; verdict = c.in-Ok-write_atlas.verdict; writes = c.in-Ok-write_atlas.ensures.all; ended = refl });
     }))
 
@@ -30,8 +30,8 @@ returns g c =
       base = c.in-Ok-wads_of.wads.items;
       bases = job_bases (stored (g.S.Storage.held c.args.storage.now)) c.args.job.now.job.bases (map (λ path. path.now) c.deref.result.now) (map bytes_in c.in-Ok-read_bases.held.items)
           c.in-Ok-wads_of.wads.items bases (c.in-Ok-wads_of.ensures.are ∙ ap (map bytes_in) c.deref-2.ensures.value) c.in-Ok-wads_of.ensures.read c.in-Ok-read_bases.ensures.held;
-      asked = record { judging = c.over.result; drawn = c.args.job.now.drawn; head = c.args.job.now.head };
-      is_asked = record { over = subst (λ wads. IsOver c.args.job.now.job.rules wads c.over.result) (base ∙ c.deref-3.ensures.value) c.over.ensures; drawn = refl; head = refl };
+      asked = record { judging = c.over.result; drawn = c.args.job.now.drawn; head = c.args.job.now.head; most = c.args.job.now.most };
+      is_asked = record { over = subst (λ wads. IsOver c.args.job.now.job.rules wads c.over.result) (base ∙ c.deref-3.ensures.value) c.over.ensures; drawn = refl; head = refl; most = refl };
       runs = inr (record {
         empty = c.requires.empty;
         between = g.E.Sink.state c.write_atlas.new.errors;

@@ -1,6 +1,6 @@
 use Rattle.std.proofs.Common.{refl}
-use Rattle.atlas_page.specs.Rows.{picture_name}
-use Rattle.atlas_page.proofs.rows.prepend_picture_name.Goals as goal
+use Rattle.atlas_page.specs.PictureName.{picture_name}
+use Rattle.atlas_page.proofs.picture_name.prepend_picture_name.Goals as goal
 
 pub returns : goal.returns
 unfolding picture_name

@@ -1,0 +1,14 @@
+use Rattle.std.proofs.Common.{◌∙◌, Some, ap}
+use Rattle.node_lumps.specs.Records.{deep_ssector}
+use Rattle.node_lumps.proofs.RecordLemmas.{record_found, record_none}
+use Rattle.node_lumps.proofs.ssectors.deep_at.Goals as goal
+
+pub returns-in_err-piece : goal.returns-in_err-piece
+returns-in_err-piece c =
+    c.from_residual.ensures ∙ record_none 6 deep_ssector c.args.ssectors.now c.args.number c.in_err-piece.ensures.none
+
+pub returns : goal.returns
+returns c =
+    ap Some c.deep_ssector.ensures
+    ∙ record_found 6 deep_ssector c.args.ssectors.now c.in_ok-piece.piece.now c.args.number
+    c.in_ok-piece.ensures.within c.in_ok-piece.ensures.is

@@ -492,6 +492,39 @@ static void put_commands(void) {
     }
 }
 
+// ---- Recordings -----------------------------------------------------------------------------------------------------
+
+static struct ticcmd any_ticcmd(void) {
+    static const int16_t angles[] = {127, 128, -128, -129, 32639, 32640, 32767, -32768};
+    unsigned chosen = choice();
+    struct ticcmd command;
+
+    command.forwardmove = signed_byte((uint8_t)(next() & 0xff));
+    command.sidemove = signed_byte((uint8_t)(next() & 0xff));
+    command.angleturn = half();
+    command.buttons = (uint8_t)(next() & 0xff);
+    if (chosen < 2) command.angleturn = angles[choice()];
+    return command;
+}
+
+static void put_recordings(void) {
+    static const uint8_t versions[] = {110, 110, 110, 110, 109, 111, 0, 255};
+    uint8_t bytes[13];
+    int cases, i;
+
+    printf("recordings");
+    for (cases = 0; cases < 8; cases++) {
+        struct ticcmd command = any_ticcmd();
+        released_written(&command, bytes);
+        printf(" %u/%u/%u/%u", bytes[0], bytes[1], bytes[2], bytes[3]);
+    }
+    for (i = 0; i < 13; i++) bytes[i] = (uint8_t)(next() & 0xff);
+    bytes[0] = versions[choice()];
+    if (!released_header(bytes)) printf(" other");
+    else
+        for (i = 1; i < 13; i++) printf(i == 1 ? " %u" : "/%u", bytes[i]);
+}
+
 // ---- Numbers of names -----------------------------------------------------------------------------------------------
 
 enum { MOST_NAMES = 16, MOST_ASKED = 10 };
@@ -572,6 +605,7 @@ static const struct {
     {"blocks", put_blocks},
     {"lists", put_lists},
     {"commands", put_commands},
+    {"recordings", put_recordings},
     {"numbers", put_numbers},
 };
 

@@ -10,7 +10,7 @@ int32_t signed_word(uint32_t word) { return word < 0x80000000U ? (int32_t)word :
 
 int16_t signed_half(uint32_t half) { return (int16_t)(half < 0x8000 ? (int32_t)half : (int32_t)half - 0x10000); }
 
-static int8_t signed_byte(uint8_t byte) { return (int8_t)(byte < 0x80 ? byte : byte - 0x100); }
+int8_t signed_byte(uint8_t byte) { return (int8_t)(byte < 0x80 ? byte : byte - 0x100); }
 
 static int32_t wrapping_add(int32_t a, int32_t b) { return signed_word((uint32_t)a + (uint32_t)b); }
 
@@ -143,6 +143,21 @@ bool released_ticcmd(const uint8_t *bytes, struct ticcmd *command) {
     command->angleturn = signed_half((uint32_t)bytes[2] << 8);
     command->buttons = bytes[3];
     return true;
+}
+
+// G_WriteDemoTiccmd of g_game.c, but that it reads the command back
+void released_written(const struct ticcmd *command, uint8_t *bytes) {
+    bytes[0] = (uint8_t)command->forwardmove;
+    bytes[1] = (uint8_t)command->sidemove;
+    bytes[2] = (uint8_t)shifted(command->angleturn + 128, 8);
+    bytes[3] = command->buttons;
+}
+
+// G_DoPlayDemo of g_game.c: whether the demo is played, with what stands behind the version
+bool released_header(const uint8_t *bytes) {
+    enum { VERSION = 110 };
+
+    return bytes[0] == VERSION;
 }
 
 // What strncpy makes of a text in eight bytes.

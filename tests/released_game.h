@@ -9,6 +9,7 @@
 
 int32_t signed_word(uint32_t word);
 int16_t signed_half(uint32_t half);
+int8_t signed_byte(uint8_t byte);
 int32_t wrapping_sub(int32_t a, int32_t b);
 int32_t wrapping_mul(int32_t a, int32_t b);
 
@@ -80,6 +81,8 @@ struct ticcmd {
 };
 
 bool released_ticcmd(const uint8_t *bytes, struct ticcmd *command);
+void released_written(const struct ticcmd *command, uint8_t *bytes);
+bool released_header(const uint8_t *bytes);
 
 typedef char name8[8];
 

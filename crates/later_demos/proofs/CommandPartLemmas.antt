@@ -7,7 +7,7 @@ use Rattle.demo_lump.specs.Command.{long_command_of, short_command_of}
 use Rattle.demo_lump.specs.Pieces.{NoneBegins}
 use Rattle.later_demos.specs.Command.{AreCommands, IsCommand, actions_at, begins, command_of, command_size, commands_in, left_in, loads, saves, ticcmd_size}
 use Rattle.later_demos.specs.declared.command.Actions.{Actions}
-use Rattle.later_demos.specs.declared.command.Form.{Form}
+use Rattle.later_demos.specs.declared.command.CommandForm.{CommandForm}
 use Rattle.later_demos.specs.declared.command.LaterCommand.{LaterCommand}
 use Rattle.later_demos.proofs.CommandLemmas.{begins_room, commands_end, commands_more, fewer, left_end, left_more, none_begins, size_least}
 use Rattle.later_demos.proofs.FrontLemmas.{chosen_same, left_index}
@@ -43,16 +43,16 @@ actions_same front more at h =
     rw (byte, first, second) refl
 
 -- a command is no shorter than what every command has, and longer where it has actions
-size_at_least : (form : Form) (bytes : List ℕ) → ticcmd_size form ≤ command_size form bytes
+size_at_least : (form : CommandForm) (bytes : List ℕ) → ticcmd_size form ≤ command_size form bytes
 unfolding command_size
 size_at_least form bytes = grind (arith, nat_tests)
 
-size_above : (form : Form) (bytes : List ℕ) → form.actions ≡ true → ticcmd_size form < command_size form bytes
+size_above : (form : CommandForm) (bytes : List ℕ) → form.actions ≡ true → ticcmd_size form < command_size form bytes
 unfolding command_size
 size_above form bytes there = omega (arith, cond-true form.actions (ticcmd_size form + 1 + saves (slice_index bytes (ticcmd_size form)) + loads (slice_index bytes (ticcmd_size form))) (ticcmd_size form) there)
 
 -- a command's length doesn't depend on what follows
-size_same : (form : Form) (front more : List ℕ) → (form.actions ≡ true → ticcmd_size form < length front)
+size_same : (form : CommandForm) (front more : List ℕ) → (form.actions ≡ true → ticcmd_size form < length front)
     → command_size form (front ++ more) ≡ command_size form front
 unfolding command_size
 size_same form front more inside =
@@ -61,7 +61,7 @@ size_same form front more inside =
     (λ _. refl)
 
 -- nor does what it says
-command_same : (form : Form) (front more : List ℕ) → length front ≡ command_size form front
+command_same : (form : CommandForm) (front more : List ℕ) → length front ≡ command_size form front
     → command_of form (front ++ more) ≡ command_of form front
 unfolding command_of command_size
 command_same form front more long =
@@ -79,7 +79,7 @@ command_same form front more long =
     rw (first, second) refl
 
 -- bytes that begin with a command
-module _ (form : Form) (front more : List ℕ) (command : LaterCommand) (is : IsCommand form front command) where
+module _ (form : CommandForm) (front more : List ℕ) (command : LaterCommand) (is : IsCommand form front command) where
   first_size : command_size form (front ++ more) ≡ length front
   first_size =
       size_same form front more (λ there. omega (arith, is.long, size_above form front there)) ∙ sym is.long
@@ -98,16 +98,16 @@ module _ (form : Form) (front more : List ℕ) (command : LaterCommand) (is : Is
   first_left = drop_at front more _ (sym first_size)
 
 -- its first byte isn't the marker
-begins_unmarked : (form : Form) (bytes : List ℕ) → begins form bytes ≡ true → slice_index bytes 0 ≢ 128
+begins_unmarked : (form : CommandForm) (bytes : List ℕ) → begins form bytes ≡ true → slice_index bytes 0 ≢ 128
 unfolding begins
 begins_unmarked form bytes some e = eqb-false _ _ (not-true _ (and_parts _ _ some).1) e
 
 -- where no command stands, none begins
-pub stops_none : (form : Form) (rest : List ℕ) → begins form rest ≡ false → NoneBegins (IsCommand form) rest
+pub stops_none : (form : CommandForm) (rest : List ℕ) → begins form rest ≡ false → NoneBegins (IsCommand form) rest
 stops_none form rest stops command front more same is =
     true≢false (sym (first_begins form front more command is) ∙ ap (begins form) (sym same) ∙ stops)
 
-pub none_stops : (form : Form) (rest : List ℕ) → NoneBegins (IsCommand form) rest → begins form rest ≡ false
+pub none_stops : (form : CommandForm) (rest : List ℕ) → NoneBegins (IsCommand form) rest → begins form rest ≡ false
 none_stops form rest none = elim (cases_Bool (begins form rest)) [
   | inr stops ↦ stops
   | inl some ↦
@@ -129,7 +129,7 @@ none_stops form rest none = elim (cases_Bool (begins form rest)) [
 ]
 
 -- commands and what is no command behind them are the most commands, and what is left
-pub commands_one : (form : Form) (body rest : List ℕ) (commands : List LaterCommand)
+pub commands_one : (form : CommandForm) (body rest : List ℕ) (commands : List LaterCommand)
     → AreCommands form body commands → begins form rest ≡ false
     → (commands_in form (body ++ rest) ≡ commands) × (left_in form (body ++ rest) ≡ rest)
 commands_one form body rest [] h stops =
@@ -150,7 +150,7 @@ commands_one form body rest (c ∷ commands) h stops =
     )
 
 -- bytes are the most commands, and what is left
-pub commands_joined : (n : ℕ) (form : Form) (bytes : List ℕ) → length bytes ≤ n
+pub commands_joined : (n : ℕ) (form : CommandForm) (bytes : List ℕ) → length bytes ≤ n
     → (body : List ℕ) × (bytes ≡ body ++ left_in form bytes) × AreCommands form body (commands_in form bytes)
 commands_joined zero form bytes h =
     let stops = none_begins form bytes h in
@@ -191,7 +191,7 @@ commands_joined (suc n) form bytes h = elim (cases_Bool (begins form bytes)) [
 ]
 
 -- and what is left begins with none
-pub left_stops : (n : ℕ) (form : Form) (bytes : List ℕ) → length bytes ≤ n → begins form (left_in form bytes) ≡ false
+pub left_stops : (n : ℕ) (form : CommandForm) (bytes : List ℕ) → length bytes ≤ n → begins form (left_in form bytes) ≡ false
 left_stops zero form bytes h =
     let stops = none_begins form bytes h in ap (begins form) (left_end form bytes stops) ∙ stops
 left_stops (suc n) form bytes h = elim (cases_Bool (begins form bytes)) [
@@ -202,6 +202,6 @@ left_stops (suc n) form bytes h = elim (cases_Bool (begins form bytes)) [
 ]
 
 -- no command begins at the marker
-pub marker_stops : (form : Form) (more : List ℕ) → begins form (128 ∷ more) ≡ false
+pub marker_stops : (form : CommandForm) (more : List ℕ) → begins form (128 ∷ more) ≡ false
 unfolding begins
 marker_stops form more = and_right _ _ refl

@@ -12,7 +12,7 @@ use Rattle.later_demos.specs.Layout.{layout_of}
 use Rattle.later_demos.specs.Numbers.{or_else}
 use Rattle.later_demos.specs.Refusal.{IsCutAt, RefusesBy, RefusesDemo, behind_frame, behind_front, behind_header, behind_wrapper, first_refusal, form_of, frame_of, header_of, inner_refusal, key_frame_refusal, layout_in}
 use Rattle.later_demos.specs.Wrapper.{size_of, wrapper_of, wrapper_refusal, wrapper_size}
-use Rattle.later_demos.specs.declared.command.Form.{Form}
+use Rattle.later_demos.specs.declared.command.CommandForm.{CommandForm}
 use Rattle.later_demos.specs.declared.command.LaterCommand.{LaterCommand}
 use Rattle.later_demos.specs.declared.fault.LaterFault.{LaterFault}
 use Rattle.later_demos.specs.declared.fault.LaterFault.TheVariants.{NoMarker}
@@ -256,7 +256,7 @@ module _ (bytes : List ℕ) where
       (headed : header ≡ header_of (behind_wrapper bytes))
       (framed : kept ≡ frame_of (wrapper_of bytes) (behind_header (behind_wrapper bytes)))
       (behind : commands ≡ behind_frame (wrapper_of bytes) (behind_header (behind_wrapper bytes))) where
-    abbrev form : Form
+    abbrev form : CommandForm
     form = form_of layout wrapper
 
     parts : (header_refusal (size_of (wrapper_of bytes)) (behind_wrapper bytes) ≡ None)

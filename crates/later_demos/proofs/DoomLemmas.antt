@@ -21,7 +21,7 @@ use Rattle.later_demos.specs.Layout.{layout_of}
 use Rattle.later_demos.specs.Numbers.{or_else}
 use Rattle.later_demos.specs.Refusal.{RefusesBy, RefusesDemo, behind_header, behind_wrapper, first_refusal, form_of, inner_refusal, key_frame_refusal}
 use Rattle.later_demos.specs.Wrapper.{size_of, wrapper_of}
-use Rattle.later_demos.specs.declared.command.Form.{Form}
+use Rattle.later_demos.specs.declared.command.CommandForm.{CommandForm}
 use Rattle.later_demos.specs.declared.command.LaterCommand.{LaterCommand}
 use Rattle.later_demos.specs.declared.fault.LaterFault.{LaterFault}
 use Rattle.later_demos.specs.declared.fault.LaterFault.TheVariants as later
@@ -63,7 +63,7 @@ doom_begins front header is =
     }
 
 -- commands lie as they do alone
-abbrev doom_form : ℕ → Form
+abbrev doom_form : ℕ → CommandForm
 doom_form version = form_of (doom_layout version) None
 
 doom_command : (version : ℕ) (bytes : List ℕ) (c : Command) → IsDoomCommand version bytes c

@@ -1,5 +1,5 @@
 -- Laws over the definitions alone (ours).
-use Rattle.std.specs.Prelude.{◌≡◌, ◌⊎◌, ℕ, List, length, slice_index, take}
+use Rattle.std.specs.Prelude.{◌≡◌, ◌⊎◌, ◌+◌, ◌≤◌, ℕ, Some, List, length, slice_index, take}
 use Rattle.demo_lump.specs.Demo.{IsDemo as IsDoomDemo, RefusesDemo as RefusesDoom}
 use Rattle.demo_lump.specs.Header.{IsVersion}
 use Rattle.demo_lump.specs.declared.command.Command.{Command}
@@ -8,8 +8,10 @@ use Rattle.demo_lump.specs.declared.header.Header.{Header}
 use Rattle.later_demos.specs.Demo.{Demo, IsDemo}
 use Rattle.later_demos.specs.Doom.{bare_demo, doom_fault}
 use Rattle.later_demos.specs.Footer.{Footer, IsFooter}
+use Rattle.later_demos.specs.Layout.{layout_of}
 use Rattle.later_demos.specs.Refusal.{RefusesDemo}
 use Rattle.later_demos.specs.declared.fault.LaterFault.{LaterFault}
+use Rattle.later_demos.specs.declared.layout.Layout.{Layout}
 
 -- bytes have at most one reading as a demo
 abbrev pub OneReading : Type 0
@@ -45,6 +47,11 @@ abbrev pub DoomIsRefused : Type 0
 DoomIsRefused =
     (bytes : List ℕ) (fault : DemoFault) → IsVersion (slice_index bytes 0) → RefusesDoom bytes fault
     → RefusesDemo bytes (doom_fault (length bytes) fault)
+
+-- the headers of a version have room for the players, and are short
+abbrev pub HeadersHavePlayers : Type 0
+HeadersHavePlayers =
+    (version : ℕ) (layout : Layout) → layout_of version ≡ Some layout → (layout.players + 4 ≤ layout.size) × (layout.size ≤ 301)
 
 -- bytes behind a marker tell one thing
 abbrev pub OneFooter : Type 0

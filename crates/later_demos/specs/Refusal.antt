@@ -6,7 +6,7 @@ use Rattle.later_demos.specs.Header.{header_refusal, header_size}
 use Rattle.later_demos.specs.Layout.{layout_of}
 use Rattle.later_demos.specs.Numbers.{little32_at, or_else}
 use Rattle.later_demos.specs.Wrapper.{has_actions, has_key_frame, size_of, wrapper_of, wrapper_refusal, wrapper_size}
-use Rattle.later_demos.specs.declared.command.Form.{Form}
+use Rattle.later_demos.specs.declared.command.CommandForm.{CommandForm}
 use Rattle.later_demos.specs.declared.command.LaterCommand.{LaterCommand}
 use Rattle.later_demos.specs.declared.fault.LaterFault.{LaterFault}
 use Rattle.later_demos.specs.declared.fault.LaterFault.TheVariants.{Empty, Short, KeyFrame, NoMarker}
@@ -66,7 +66,7 @@ unfoldable pub behind_front : List ℕ → List ℕ
 behind_front bytes = behind_frame (wrapper_of bytes) (behind_header (behind_wrapper bytes))
 
 -- how commands lie: by the version, and by the wrapper
-abbrev pub form_of : Layout → Option Wrapper → Form
+abbrev pub form_of : Layout → Option Wrapper → CommandForm
 form_of layout wrapper = record { long = layout.long; actions = has_actions wrapper }
 
 -- behind the most whole commands comes no marker: the place where it should stand

@@ -16,7 +16,7 @@ pub(crate) const MARKER: u8 = 128;
 
 /// How the commands of a demo lie.
 #[derive(Clone, Copy, Debug, PartialEq, Eq)]
-pub struct Form {
+pub struct CommandForm {
     /// A turn has two bytes.
     pub long: bool,
     /// A command has actions behind it.
@@ -46,7 +46,7 @@ pub struct LaterCommand {
 /// The bytes of the command that bytes begin with, or None where they begin with no whole command.
 #[inline]
 #[tactic(auto, unfolding(crate::specs::Command::begins))]
-pub(crate) fn next_size(form: Form, bytes: &[u8]) -> Option<usize>
+pub(crate) fn next_size(form: CommandForm, bytes: &[u8]) -> Option<usize>
     ensures { MatchOption result (begins form bytes.now ≡ false) (λ n. IsNext form bytes.now n) }
 {
     if bytes.is_empty() {
@@ -65,7 +65,7 @@ pub(crate) fn next_size(form: Form, bytes: &[u8]) -> Option<usize>
 // The number of bytes that the command at the front wants.
 #[inline]
 #[tactic(auto, unfolding(crate::specs::Command::command_size))]
-fn command_size(form: Form, bytes: &[u8]) -> usize
+fn command_size(form: CommandForm, bytes: &[u8]) -> usize
     ensures size { result ≡ command_size form bytes.now }
     ensures least { ticcmd_size form ≤ result }
 {
@@ -78,7 +78,7 @@ fn command_size(form: Form, bytes: &[u8]) -> usize
 }
 
 #[inline]
-fn ticcmd_size(form: Form) -> usize
+fn ticcmd_size(form: CommandForm) -> usize
     ensures size { result ≡ ticcmd_size form }
     ensures most { result ≤ 5 }
 {
@@ -104,7 +104,7 @@ fn loads(actions: u8) -> u8
 /// The command that bytes begin with.
 #[inline]
 #[tactic(auto, unfolding(crate::specs::Command::command_of))]
-pub(crate) fn command_from(form: Form, bytes: &[u8]) -> LaterCommand
+pub(crate) fn command_from(form: CommandForm, bytes: &[u8]) -> LaterCommand
     requires { ticcmd_size form ≤ length bytes.now }
     ensures { result ≡ command_of form bytes.now }
 {
@@ -178,7 +178,7 @@ fn short_command(bytes: &[u8]) -> Command
 /// The commands that are left of a demo, in order. A `for` over them takes no memory.
 #[derive(Drop)]
 pub struct Commands<'a> {
-    form: Form,
+    form: CommandForm,
     bytes: &'a [u8],
 }
 
@@ -194,7 +194,7 @@ impl<'a> Model for Commands<'a> {
 
 impl<'a> Commands<'a> {
     /// The most commands that bytes begin with.
-    pub(crate) fn of(form: Form, bytes: &'a [u8]) -> Commands<'a>
+    pub(crate) fn of(form: CommandForm, bytes: &'a [u8]) -> Commands<'a>
         ensures { result ≡ commands_in form bytes.now }
     {
         Commands { form, bytes }
@@ -218,7 +218,7 @@ impl<'a> Iterator for Commands<'a> {
 }
 
 /// How many commands bytes begin with, and the bytes behind these.
-pub(crate) fn scan(form: Form, bytes: &[u8]) -> Scanned<'_>
+pub(crate) fn scan(form: CommandForm, bytes: &[u8]) -> Scanned<'_>
     ensures counted { result.count ≡ length (commands_in form bytes.now) }
     ensures left { result.left.now ≡ left_in form bytes.now }
 {

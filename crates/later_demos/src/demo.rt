@@ -9,7 +9,7 @@ ghost use Rattle.later_demos.specs.Header.{players_of};
 ghost use Rattle.later_demos.specs.Part.{part_of};
 ghost use Rattle.later_demos.specs.Refusal.{RefusesDemo, form_of};
 
-use crate::command::{Commands, Form, MARKER, scan};
+use crate::command::{CommandForm, Commands, MARKER, scan};
 use crate::fault::LaterFault;
 use crate::field::{Field, comp_of};
 use crate::footer::Footer;
@@ -240,10 +240,10 @@ impl<'a> LaterDemo<'a> {
 }
 
 // How the commands of a demo lie.
-fn form_of(layout: &Layout, wrapper: Option<Wrapper>) -> Form
+fn form_of(layout: &Layout, wrapper: Option<Wrapper>) -> CommandForm
     ensures { result ≡ form_of layout.now wrapper }
 {
-    Form {
+    CommandForm {
         long: layout.long,
         actions: has_actions(wrapper),
     }

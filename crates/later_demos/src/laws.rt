@@ -1,7 +1,7 @@
 //! Laws over the definitions alone, each the contract of a function that does nothing: a caller gets the law
 //! from a call.
 
-ghost use Rattle.later_demos.specs.Laws.{DoomIsRead, DoomIsRefused, NeverBoth, OneFooter, OneReading, OneRefusal, ReadOrRefused};
+ghost use Rattle.later_demos.specs.Laws.{DoomIsRead, DoomIsRefused, HeadersHavePlayers, NeverBoth, OneFooter, OneReading, OneRefusal, ReadOrRefused};
 
 /// Bytes have at most one reading as a demo.
 pub fn one_reading()
@@ -19,6 +19,11 @@ pub fn read_or_refused()
 pub fn reads_doom()
     ensures read { DoomIsRead }
     ensures refused { DoomIsRefused }
+{}
+
+/// The headers of each version have room for the players' bytes, and at most 301 bytes without compatibility options.
+pub fn headers_have_players()
+    ensures { HeadersHavePlayers }
 {}
 
 /// The bytes behind a marker tell one thing.

@@ -15,7 +15,7 @@ mod numbers;
 mod part;
 mod wrapper;
 
-pub use command::{Actions, Commands, Form, LaterCommand};
+pub use command::{Actions, CommandForm, Commands, LaterCommand};
 pub use demo::LaterDemo;
 pub use fault::LaterFault;
 pub use field::{FIELDS, Field};

@@ -6,7 +6,7 @@ use std::alloc::{Allocator, Global};
 use std::process::Abort;
 use std::test::Fail;
 use test_refusals::Refusing;
-use wad_dir::{LumpFault, MAX_FILES, PackFault, Packer, Set, SetFault};
+use wad_dir::{AsBytes, LumpFault, MAX_FILES, PackFault, Packer, Set, SetFault};
 
 // A name, and a lump under it.
 type Lump = (&'static [u8], &'static [u8]);
@@ -92,9 +92,9 @@ const THREE_LABELS: &[u8] = b"PWAD\x03\0\0\0\x0c\0\0\0\
 \0\0\0\0\0\0\0\0e1m1\0\0\0\0";
 
 // The entry that wins a name in these files.
-fn winner<A: Allocator>(
+fn winner<A: Allocator, F: AsBytes>(
     alloc: A,
-    files: &[Vec<u8>],
+    files: &[F],
     name: &[u8],
 ) -> Result<Option<usize>, SetFault> {
     if files.len() > MAX_FILES {
@@ -109,6 +109,14 @@ fn last_label_wins(rt: HostRuntime) -> Result<(), Fail> {
     let files = vec![in rt.alloc(); first, THREE_LABELS.to_vec(rt.alloc())?]?;
     check_same(&rt, winner(rt.alloc(), &files, b"e1m1"), Ok(Some(2)));
     Ok(())
+}
+
+// The same of files that are lent.
+#[test]
+fn last_label_of_lent_files_wins(rt: HostRuntime) {
+    let files: [&[u8]; 2] = [ONE_LABEL, THREE_LABELS];
+    check_same(&rt, winner(rt.alloc(), &files, b"e1m1"), Ok(Some(2)));
+    check_same(&rt, winner(rt.alloc(), &files, b"E1M2"), Ok(None));
 }
 
 // How many entries the file of one label and, behind it, that of three have together, and which of them wins their name.

@@ -3,8 +3,12 @@ use Rattle.std.proofs.Common.{◌≡◌, ℕ, ◌+◌, ◌-◌, ◌<◌, ◌≤�
 use Rattle.std.specs.Io.KnownBytes.{Keeps}
 use Rattle.std.proofs.lemmas.Bool.{ltb-false, ltb-true}
 use Rattle.std.proofs.lemmas.List.Sums.{sum_by_push}
+use Rattle.std.proofs.lemmas.Option.{slice_get-get_or, slice_get-map}
+use Rattle.std.specs.List.{slice_get}
+use Rattle.std.specs.Option.{option_map}
+use Rattle.std.specs.Prelude.{IfErr, Result, Ok, Err}
 use Rattle.std.proofs.lemmas.List.{take_more, drop_more, take-append-drop, map_push, map-append, length-map, length-take-le}
-use Rattle.line_io.specs.Storage.{AreHeld, IsHeld, IsReached, RefusesFile, RefusesFiles, RefusesNext, total_length}
+use Rattle.line_io.specs.Storage.{AreHeld, IsAnswered, IsHeld, IsOpenedFault, IsReached, RefusesFile, RefusesFiles, RefusesNext, total_length}
 use Rattle.line_io.specs.declared.input.TheConstants.{MAX_READ}
 use Rattle.line_io.specs.declared.storage.StorageFault.{StorageFault}
 use Rattle.line_io.specs.declared.storage.StorageFault.TheVariants.{Unopened, Unread, TooLong, Memory}
@@ -67,3 +71,20 @@ module _ {P : Type 0} (held : List ℕ → Option (List ℕ)) (path_of : P → L
   pub refused_at : (most : ℕ) (files : List (List ℕ)) (fault : StorageFault) → AreHeld held (map path_of (take i paths)) files → total_length files ≤ most
       → RefusesNext most files (held (path_of path)) fault → RefusesFiles most held (map path_of paths) (record { place = i; fault = fault })
   refused_at most files fault so_far fits why = record { reached = reached most files so_far fits; why = why }
+
+-- an opened file is what was answered where it isn't read
+pub opened_first : {File V : Type 0} (remaining : File → Option (List ℕ)) (held : Option (List ℕ)) (refused : Type 0) (result : Result V StorageFault) (file : File)
+    → Keeps held (remaining file) → IfErr result IsOpenedFault → IfErr result (IsAnswered remaining held refused)
+opened_first remaining held refused (Ok v) file keeps opened = tt
+opened_first remaining held refused (Err Unopened) file keeps opened = absurd opened
+opened_first remaining held refused (Err Unread) file keeps opened = (file, keeps)
+opened_first remaining held refused (Err TooLong) file keeps opened = (file, keeps)
+opened_first remaining held refused (Err Memory) file keeps opened = tt
+
+-- what holds of the path at a place, by its bytes
+pub holds_at : {P : Type 0} (path_of : P → List ℕ) (paths : List P) (path : P) (i : ℕ) → i < length paths → path ≡ get_or paths i path → (holds : List ℕ → Type 0)
+    → holds (path_of path) → IfSome (slice_get (map path_of paths) i) holds
+holds_at path_of paths path i within at holds told =
+    let found : slice_get (map path_of paths) i ≡ Some (path_of path) =
+    slice_get-map path_of paths i ∙ ap (option_map path_of) (slice_get-get_or paths i path within) ∙ ap (λ p. Some (path_of p)) (sym at) in
+    subst (λ o. IfSome o holds) (sym found) told

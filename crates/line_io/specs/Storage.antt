@@ -23,6 +23,17 @@ RefusesFile limit held Unread = ⊤
 RefusesFile limit held TooLong = IfSome held (λ file. limit < length file)
 RefusesFile limit held Memory = ⊤
 
+-- the faults of a file that was opened
+abbrev pub IsOpenedFault : StorageFault → Type 0
+IsOpenedFault Unopened = ⊥
+IsOpenedFault _ = ⊤
+
+-- what a storage answered where a file isn't read: no file, or one with the bytes that are held; without memory it may not have been asked
+abbrev pub IsAnswered : {File : Type 0} → (File → Option (List ℕ)) → Option (List ℕ) → Type 0 → StorageFault → Type 0
+IsAnswered {File} remaining held refused Unopened = refused
+IsAnswered {File} remaining held refused Memory = ⊤
+IsAnswered {File} remaining held refused _ = (file : File) × Keeps held (remaining file)
+
 -- how many bytes files have together
 abbrev pub total_length : List (List ℕ) → ℕ
 total_length files = sum_by length files

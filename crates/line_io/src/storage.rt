@@ -1,7 +1,8 @@
 //! Files by their paths, read whole.
-ghost use Rattle.std.specs.Prelude.{◌≡◌, ◌<◌, ◌≤◌, map, vec_len, IfErr, IfOk, length};
+ghost use Rattle.std.specs.Prelude.{◌≡◌, ◌<◌, ◌≤◌, map, vec_len, IfErr, IfOk, IfSome, length};
+ghost use Rattle.std.specs.List.{slice_get};
 ghost use Rattle.std.specs.Io.KnownBytes.{Keeps};
-ghost use Rattle.line_io.specs.Storage.{AreHeld, IsHeld, RefusesFile, RefusesFiles, bytes_of, total_length};
+ghost use Rattle.line_io.specs.Storage.{AreHeld, IsAnswered, IsHeld, IsOpenedFault, RefusesFile, RefusesFiles, bytes_of, total_length};
 
 use super::fault::IoFault;
 use super::input::{MAX_READ, read_again};
@@ -15,7 +16,7 @@ use thiserror::Error;
 
 /// A place where files are opened by their paths.
 pub trait Storage {
-    ghost use Rattle.std.specs.Prelude.{ℕ, List, Option, IfOk};
+    ghost use Rattle.std.specs.Prelude.{ℕ, List, Option, IfErr, IfOk};
     ghost use Rattle.std.specs.Io.KnownBytes.{Keeps};
 
     type File: Read + Drop;
@@ -23,12 +24,16 @@ pub trait Storage {
     /// The bytes of the file under a path, where they are known.
     ghost held: { Self → List ℕ → Option (List ℕ) };
 
+    /// What holds where the file under a path isn't opened.
+    ghost refuses: { Self → List ℕ → Type 0 };
+
     /// The file under `path`, from its first byte on.
     fn open(&self, path: &[u8]) -> Result<Self::File, EndFault>
-        ensures { IfOk result (λ file. Keeps (held self.now path.now) (Self.File.remaining file)) };
+        ensures held { IfOk result (λ file. Keeps (held self.now path.now) (Self.File.remaining file)) }
+        ensures refused { IfErr result (λ _. refuses self.now path.now) };
 }
 
-/// The files of the machine. No clause knows what they hold.
+/// The files of the machine. No clause knows what they hold, nor why one isn't opened.
 #[derive(Drop)]
 pub struct Disk<'a, R: Files>(pub &'a R);
 
@@ -38,6 +43,8 @@ impl<R: Files> Storage for Disk<'_, R> {
     type File = R::File;
 
     ghost held = { λ _ _. None };
+
+    ghost refuses = { λ _ _. Unit {0} };
 
     // The library opens paths that are UTF-8, and no others.
     fn open(&self, path: &[u8]) -> Result<R::File, EndFault> {
@@ -78,6 +85,7 @@ pub fn read_file<S: Storage>(
     requires { limit ≤ MAX_READ }
     ensures held { IfOk result (λ file. IsHeld limit (S.held storage.now path.now) file.items) }
     ensures refused { IfErr result (RefusesFile limit (S.held storage.now path.now)) }
+    ensures answered { IfErr result (IsAnswered S.File.remaining (S.held storage.now path.now) (S.refuses storage.now path.now)) }
 {
     match storage.open(path) {
         Ok(file) => read_whole(room, file, limit),
@@ -94,6 +102,7 @@ pub fn read_whole<R: Read + Drop>(
     requires { limit ≤ MAX_READ }
     ensures held { IfOk result (λ file. IsHeld limit (R.remaining input) file.items) }
     ensures refused { IfErr result (RefusesFile limit (R.remaining input)) }
+    ensures opened { IfErr result IsOpenedFault }
 {
     match read_again(room, &mut FromRead::new(input), limit) {
         Ok(bytes) => Ok(bytes),
@@ -151,6 +160,8 @@ pub fn read_files<S: Storage, P: FilePath>(
     ensures few { IfOk result (λ files. total_length (bytes_of files.items) ≤ most) }
     ensures refused { IfErr result (RefusesFiles most (S.held storage.now) (map P.spelled paths.now)) }
     ensures among { IfErr result (λ first. first.place < length paths.now) }
+    ensures answered { IfErr result (λ first. IfSome (slice_get (map P.spelled paths.now) first.place) (λ path.
+        IsAnswered S.File.remaining (S.held storage.now path) (S.refuses storage.now path) first.fault)) }
 {
     let mut files = Vec::new(alloc);
     let mut left = most;

@@ -21,7 +21,8 @@ pub struct TiedWriter<W: Write + Drop> {
 }
 
 impl<W: Write + Drop> TiedWriter<W> {
-    /// A writer that gathers its bytes in a buffer, where there is memory for one.
+    /// A writer that gathers its bytes in a buffer, where there is memory for one. No clause speaks of what
+    /// lies in a cell: tests tell that the buffer is empty and that no flush has failed.
     pub fn new(alloc: Global, writer: W) -> Result<Self, AllocError> {
         match BufWriter::with_capacity(alloc, BUFFER, writer) {
             Ok(buffer) => Ok(TiedWriter {

@@ -15,7 +15,6 @@ pub mod sight;
 ghost use Rattle.std.specs.Prelude.{◌≡◌, ◌≤◌, false, length, map, string_bytes};
 ghost use Rattle.wad_dir.specs.declared.set.TheConstants.{MAX_FILES};
 ghost use Rattle.look_engines.specs.RunsJob.{RunsJob};
-ghost use Rattle.look_engines.specs.Opening.{bytes_of};
 ghost use Rattle.look_engines.specs.Runs.{done};
 
 use crate::command::{Cmd, Job};
@@ -34,24 +33,25 @@ use points::points;
 use show::show;
 use sight::sight;
 use std::alloc::Allocator;
+use wad_dir::AsBytes;
 
 /// The most bytes of line input.
 pub const MAX_INPUT: u64 = 16_777_216;
 
 /// Runs the command of the words' job over the bytes of its files. The result is true if no fault was found. For `lmp` its file
 /// is the input, and `files` isn't looked at.
-pub fn run<A: Allocator + Copy, F: Allocator, S: Source, W: Sink>(
+pub fn run<A: Allocator + Copy, F: Allocator, B: AsBytes, S: Source, W: Sink>(
     alloc: A,
     words: &[String<F>],
     job: Job,
-    files: &[Vec<u8, F>],
+    files: &[B],
     input: &mut S,
     out: &mut W,
 ) -> Result<bool, RunFault>
     requires few { length files.now ≤ MAX_FILES }
     requires input { (S.state input.old).failed ≡ false }
     requires out { (W.state out.old).failed ≡ false }
-    ensures { RunsJob S.state W.state (map string_bytes words.now) job (bytes_of files.now) input.old input.new out.old out.new result }
+    ensures { RunsJob S.state W.state (map string_bytes words.now) job (map B.bytes files.now) input.old input.new out.old out.new result }
 {
     let name = job.name(words);
     let reading = job.reading();

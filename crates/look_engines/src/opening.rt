@@ -1,10 +1,10 @@
 //! Opens what a command works on. What takes memory is the set, the audit of a level, the list of its ssectors'
 //! sectors and the counters of a census.
 
-ghost use Rattle.std.specs.Prelude.{◌≡◌, ◌≤◌, Err, IfErr, IfOk, length};
+ghost use Rattle.std.specs.Prelude.{◌≡◌, ◌≤◌, Err, IfErr, IfOk, length, map};
 ghost use Rattle.map_tree.specs.Sound.{IsSound};
 ghost use Rattle.wad_dir.specs.declared.set.TheConstants.{MAX_FILES};
-ghost use Rattle.look_engines.specs.Opening.{AreRead, IsOpened, RefusesAudit, RefusesFiles, RefusesName, bytes_of};
+ghost use Rattle.look_engines.specs.Opening.{AreRead, IsOpened, RefusesAudit, RefusesFiles, RefusesName};
 ghost use Rattle.look_engines.specs.declared.fault.RunFault.TheVariants as fault;
 
 use crate::fault::RunFault;
@@ -13,16 +13,16 @@ use map_audit::sound_tree;
 use map_level::{Level, Reading};
 use map_tree::{SectorTree, Tally};
 use std::alloc::Allocator;
-use wad_dir::{Set, SetFault};
+use wad_dir::{AsBytes, Set, SetFault};
 
 /// The set of the files, by their directories.
-pub fn open_set<'a, A: Allocator, F: Allocator>(
+pub fn open_set<'a, A: Allocator, F: AsBytes>(
     alloc: A,
-    files: &'a [Vec<u8, F>],
+    files: &'a [F],
 ) -> Result<Set<'a, A>, RunFault>
     requires { length files.now ≤ MAX_FILES }
-    ensures ok { IfOk result (AreRead (bytes_of files.now)) }
-    ensures err { IfErr result (RefusesFiles (bytes_of files.now)) }
+    ensures ok { IfOk result (AreRead (map F.bytes files.now)) }
+    ensures err { IfErr result (RefusesFiles (map F.bytes files.now)) }
 {
     match Set::new(alloc, files) {
         Ok(set) => Ok(set),
@@ -32,15 +32,15 @@ pub fn open_set<'a, A: Allocator, F: Allocator>(
 }
 
 /// The level of a name, of the files.
-pub fn open_level<'a, A: Allocator, F: Allocator>(
+pub fn open_level<'a, A: Allocator, F: AsBytes>(
     alloc: A,
-    files: &'a [Vec<u8, F>],
+    files: &'a [F],
     name: &[u8],
     reading: Reading,
 ) -> Result<Level<'a>, RunFault>
     requires { length files.now ≤ MAX_FILES }
-    ensures ok { IfOk result (IsOpened (bytes_of files.now) name.now reading) }
-    ensures err { IfErr result (RefusesName (bytes_of files.now) name.now) }
+    ensures ok { IfOk result (IsOpened (map F.bytes files.now) name.now reading) }
+    ensures err { IfErr result (RefusesName (map F.bytes files.now) name.now) }
 {
     let set = open_set(alloc, files)?;
     match Level::open(&set, Name8::query(name), reading) {

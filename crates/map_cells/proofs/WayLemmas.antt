@@ -25,7 +25,7 @@ use Rattle.map_tree.proofs.SectorListLemmas.{listed_sector}
 use Rattle.map_tree.proofs.SoundLemmas.{some_ssector, tree_from_sound}
 use Rattle.map_cells.specs.Row.{Row, point_of}
 use Rattle.map_cells.specs.Way.{AllCome, ArePending, ComesTo, IsParted, SidesLead}
-use Rattle.map_cells.specs.declared.way.Part.{Part}
+use Rattle.map_cells.specs.declared.way.Stretch.{Stretch}
 use Rattle.map_cells.specs.declared.way.Parted.{Parted}
 
 -- a step more
@@ -171,7 +171,7 @@ come_listed level row from end word at sectors sound past some come lists is =
     )
 
 -- ---- what is pending
-pub pending_push : (level : Level) (row : Row) (from mid end word : ℕ) (parts : List Part) → from < mid → AllCome level row from mid word
+pub pending_push : (level : Level) (row : Row) (from mid end word : ℕ) (parts : List Stretch) → from < mid → AllCome level row from mid word
     → ArePending level row mid end parts → ArePending level row from end (parts ++ record { word = word; end = mid } ∷ [])
 pending_push level row from mid end word [] h come e = (
   e,
@@ -183,7 +183,7 @@ pending_push level row from mid end word [] h come e = (
 pending_push level row from mid end word (part ∷ parts) h come lead =
     (lead.0, lead.1, lead.2, lead.3, pending_push level row from mid lead.1 word parts h come lead.4)
 
-pub pending_few : (level : Level) (row : Row) (from end : ℕ) (parts : List Part) → ArePending level row from end parts
+pub pending_few : (level : Level) (row : Row) (from end : ℕ) (parts : List Stretch) → ArePending level row from end parts
     → length parts + from ≤ end
 pending_few level row from end [] e = omega (arith, e)
 pending_few level row from end (part ∷ parts) lead =
@@ -191,12 +191,12 @@ pending_few level row from end (part ∷ parts) lead =
     omega (arith, fewer, lead.2)
 
 -- where nothing is pending no column is left
-pub pending_none : (level : Level) (row : Row) (from end : ℕ) (parts : List Part) → (0 < length parts → ⊥) → ArePending level row from end parts
+pub pending_none : (level : Level) (row : Row) (from end : ℕ) (parts : List Stretch) → (0 < length parts → ⊥) → ArePending level row from end parts
     → from ≡ end
 pending_none level row from end [] none e = e
 pending_none level row from end (part ∷ parts) none lead = absurd (none (omega arith))
 
-pub pending_pop : (level : Level) (row : Row) (from end : ℕ) (parts : List Part) (part : Part)
+pub pending_pop : (level : Level) (row : Row) (from end : ℕ) (parts : List Stretch) (part : Stretch)
     → ArePending level row from end (parts ++ part ∷ [])
     → (from < part.end) × (part.end ≤ end) × AllCome level row from part.end part.word × ArePending level row part.end end parts
 pending_pop level row from end [] part lead =

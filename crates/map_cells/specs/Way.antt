@@ -8,7 +8,7 @@ use Rattle.map_geo.specs.Side.{other, side_of}
 use Rattle.map_level.specs.Level.{Level}
 use Rattle.map_tree.specs.Child.{child, place_of, root, side_at, word_at}
 use Rattle.map_tree.specs.Paths.{Place, node, ssector}
-use Rattle.map_cells.specs.declared.way.Part.{Part}
+use Rattle.map_cells.specs.declared.way.Stretch.{Stretch}
 use Rattle.map_cells.specs.declared.way.Parted.{Parted}
 use Rattle.map_cells.specs.Row.{Row, point_of}
 
@@ -28,7 +28,7 @@ abbrev pub AllCome : Level → Row → ℕ → ℕ → ℕ → Type 0
 AllCome level row from end word = (i : ℕ) → from ≤ i → i < end → (steps : ℕ) × ComesTo level (point_of row i) steps word
 
 -- the parts that are pending, of which each begins where the next one ends: they go from a column up to another
-abbrev pub ArePending : Level → Row → ℕ → ℕ → List Part → Type 0
+abbrev pub ArePending : Level → Row → ℕ → ℕ → List Stretch → Type 0
 ArePending level row from end [] = from ≡ end
 ArePending level row from end (part ∷ parts) =
     (part.end ≡ end) × (begin : ℕ) × (begin < end) × AllCome level row begin end part.word × ArePending level row from begin parts

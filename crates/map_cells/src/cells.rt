@@ -16,7 +16,7 @@ use crate::grid::Grid;
 use crate::row::Row;
 use crate::seen::Seen;
 use crate::shown::Shown;
-use crate::way::{Part, Pending, go_down, start};
+use crate::way::{Pending, Stretch, go_down, start};
 use map_level::Level;
 use map_tree::NF_SUBSECTOR;
 use std::alloc::{AllocError, Allocator, Global};
@@ -291,7 +291,7 @@ fn push_run<A: Allocator>(
     ends: &[Option<Ends>],
     row: Row,
     from: u16,
-    run: Part,
+    run: Stretch,
     seen: &mut Seen<A>,
 ) -> Result<(), AllocError>
     requires sound { IsSound level.now }

@@ -21,29 +21,35 @@ use map_tree::{NF_SUBSECTOR, root_word, word_at};
 
 /// Columns of a row, up to an end that isn't one of them, and the child word of the place that their points have reached.
 #[derive(Clone, Copy, Default)]
-pub struct Part {
+pub struct Stretch {
     pub word: u16,
     pub end: u16,
 }
 
 /// The parts of a row that haven't reached an ssector yet, the first part last. There are at most as many as the row has
 /// cells.
-pub type Pending = ArrayVec<Part, 1024>;
+pub type Pending = ArrayVec<Stretch, 1024>;
 
 /// The whole row at the root.
-pub fn start(level: &Level<'_>, row: Row) -> Part
+pub fn start(level: &Level<'_>, row: Row) -> Stretch
     requires { IsSound level.now }
     ensures word { place_of result.word ≡ root level.now }
     ensures end { result.end ≡ columns_of row.grid }
 {
-    Part {
+    Stretch {
         word: root_word(level.nodes().len()),
         end: row.columns(),
     }
 }
 
 /// Takes the first of the columns in hand down to an ssector. Those that part from it are left pending.
-pub fn go_down(level: &Level<'_>, row: Row, from: u16, hand: Part, pending: &mut Pending) -> Part
+pub fn go_down(
+    level: &Level<'_>,
+    row: Row,
+    from: u16,
+    hand: Stretch,
+    pending: &mut Pending,
+) -> Stretch
     requires sound { IsSound level.now }
     requires some { from < hand.end }
     requires within { hand.end ≤ columns_of row.grid }
@@ -64,7 +70,7 @@ pub fn go_down(level: &Level<'_>, row: Row, from: u16, hand: Part, pending: &mut
         }
         let parted = part_at(&nodes.at(usize::from(hand.word)), row, from, hand.end);
         if parted.near.end < hand.end {
-            pending.push(Part {
+            pending.push(Stretch {
                 word: parted.far,
                 end: hand.end,
             });
@@ -77,7 +83,7 @@ pub fn go_down(level: &Level<'_>, row: Row, from: u16, hand: Part, pending: &mut
 /// The first columns, and the word to which the others go, if there are some.
 #[derive(Clone, Copy)]
 pub struct Parted {
-    pub near: Part,
+    pub near: Stretch,
     pub far: u16,
 }
 
@@ -122,7 +128,7 @@ fn part_at(node: &Node, row: Row, from: u16, end: u16) -> Parted
         side: first,
     };
     Parted {
-        near: Part {
+        near: Stretch {
             word: word_at(node, first),
             end: near_end(&test, from, end),
         },

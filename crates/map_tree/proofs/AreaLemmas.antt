@@ -12,11 +12,11 @@ use Rattle.map_geo.specs.Rect.{Rect, IsRect, IsWholeSide, rows_of, point_count}
 use Rattle.map_level.specs.Level.{Level}
 use Rattle.map_level.specs.SectorOf.{sector_of}
 use Rattle.map_tree.specs.Areas.{AreCounted}
-use Rattle.map_tree.specs.declared.parts.Parts.{Parts}
+use Rattle.map_tree.specs.declared.parts.Split.{Split}
 use Rattle.map_tree.specs.declared.pieces.Piece.{Piece}
 use Rattle.map_tree.specs.Child.{node_count, place_of, word_at, root}
 use Rattle.map_tree.specs.Cuts.{IsMiddleRow, rows_to, rows_above, columns_to, columns_right}
-use Rattle.map_tree.specs.Parts.{AreColumnParts, AreRowParts}
+use Rattle.map_tree.specs.Parts.{AreParts}
 use Rattle.map_tree.specs.Paths.{Place}
 use Rattle.map_tree.specs.PlainCount.{TellsSectors, plain_count}
 use Rattle.map_tree.specs.Steps.{IsDown}
@@ -142,12 +142,12 @@ module _ (level : Level) (size : Place → ℕ) (rect : Rect) (sized : IsSized l
         less-columns : measure size (record { rect = columns_right p.rect c; word = word_at found (other s) } ∷ (record { rect = columns_to p.rect c; word = word_at found s } ∷ rest)) < measure size (p ∷ rest)
         less-columns = measure_apart _ _ _ 1 _ _ (omega arith) (potential-columns level size sized p held.good.0 found below is s c)
 
-      apart_at : (parts : Parts) → AreRowParts p parts ⊎ AreColumnParts found p parts → HeldAreas level size rect (parts.second ∷ (parts.first ∷ rest)) counts
-      apart_at parts (inl r) = rw (r.first, r.second) (rows_parted held.room.0.0 held.room.0.1 r.y r.middle)
+      apart_at : (parts : Split) → AreParts found p parts → HeldAreas level size rect (parts.second ∷ (parts.first ∷ rest)) counts
+      apart_at parts (inl (apart, r)) = rw (r.first, r.second) (rows_parted held.room.0.0 held.room.0.1 r.y r.middle)
       apart_at parts (inr r) = rw (r.first, r.second) (columns_parted r.s r.c r.from r.below r.near r.far)
 
-      fewer_at : (parts : Parts) → AreRowParts p parts ⊎ AreColumnParts found p parts → measure size (parts.second ∷ (parts.first ∷ rest)) < measure size (p ∷ rest)
-      fewer_at parts (inl r) = rw (r.first, r.second) (measure_apart _ _ _ 1 _ _ (omega arith) (potential-rows level size sized p held.good.0 found below is r.y r.middle))
+      fewer_at : (parts : Split) → AreParts found p parts → measure size (parts.second ∷ (parts.first ∷ rest)) < measure size (p ∷ rest)
+      fewer_at parts (inl (apart, r)) = rw (r.first, r.second) (measure_apart _ _ _ 1 _ _ (omega arith) (potential-rows level size sized p held.good.0 found below is r.y r.middle))
       fewer_at parts (inr r) = rw (r.first, r.second) (less-columns r.s r.c r.from r.below r.near r.far)
 
     pub turn-down : (next : Piece) → (p.word < 32768) × IsSomeAnd (slice_get level.nodes.records p.word) (λ found. IsDown found p next) → HeldAreas level size rect (next ∷ rest) counts
@@ -160,12 +160,12 @@ module _ (level : Level) (size : Place → ℕ) (rect : Rect) (sized : IsSized l
         let at = some_and (slice_get level.nodes.records p.word) (λ found. IsDown found p next) h.1 in
         rw at.2.next_is (measure_down _ _ _ _ (potential-down level size sized p held.good.0 at.0 h.0 at.1 at.2.s))
 
-    pub turn-apart : (parts : Parts) → (p.word < 32768) × IsSomeAnd (slice_get level.nodes.records p.word) (λ found. AreRowParts p parts ⊎ AreColumnParts found p parts) → HeldAreas level size rect (parts.second ∷ (parts.first ∷ rest)) counts
+    pub turn-apart : (parts : Split) → (p.word < 32768) × IsSomeAnd (slice_get level.nodes.records p.word) (λ found. AreParts found p parts) → HeldAreas level size rect (parts.second ∷ (parts.first ∷ rest)) counts
     turn-apart parts h =
-        let at = some_and (slice_get level.nodes.records p.word) (λ found. AreRowParts p parts ⊎ AreColumnParts found p parts) h.1 in
+        let at = some_and (slice_get level.nodes.records p.word) (λ found. AreParts found p parts) h.1 in
         apart_at at.0 h.0 at.1 parts at.2
 
-    pub fewer-apart : (parts : Parts) → (p.word < 32768) × IsSomeAnd (slice_get level.nodes.records p.word) (λ found. AreRowParts p parts ⊎ AreColumnParts found p parts) → measure size (parts.second ∷ (parts.first ∷ rest)) < measure size (p ∷ rest)
+    pub fewer-apart : (parts : Split) → (p.word < 32768) × IsSomeAnd (slice_get level.nodes.records p.word) (λ found. AreParts found p parts) → measure size (parts.second ∷ (parts.first ∷ rest)) < measure size (p ∷ rest)
     fewer-apart parts h =
-        let at = some_and (slice_get level.nodes.records p.word) (λ found. AreRowParts p parts ⊎ AreColumnParts found p parts) h.1 in
+        let at = some_and (slice_get level.nodes.records p.word) (λ found. AreParts found p parts) h.1 in
         fewer_at at.0 h.0 at.1 parts at.2

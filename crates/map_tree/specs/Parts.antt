@@ -7,7 +7,7 @@ use Rattle.map_geo.specs.Partition.{partition_of}
 use Rattle.map_geo.specs.Side.{other}
 use Rattle.map_geo.specs.Rect.{Rect, IsWholeSide, point_count}
 use Rattle.map_tree.specs.declared.pieces.Piece.{Piece}
-use Rattle.map_tree.specs.declared.parts.Parts.{Parts}
+use Rattle.map_tree.specs.declared.parts.Split.{Split}
 use Rattle.map_tree.specs.declared.parts.Turn.{Turn}
 use Rattle.map_tree.specs.declared.parts.Turn.TheVariants.{AtSsector, Down, Apart}
 use Rattle.map_tree.specs.Child.{word_at}
@@ -19,14 +19,14 @@ abbrev pub ChangeTogether : Node → Rect → Type 0
 ChangeTogether found rect = (rect.y0 ≡ rect.y1) ⊎ (found.dx ≡ pos 0)
 
 -- the lowest half of the rows and the others, both where the piece is
-pub record AreRowParts (piece : Piece) (parts : Parts) : Type 0 where
+pub record AreRowParts (piece : Piece) (parts : Split) : Type 0 where
   pub y : ℤ
   pub middle : IsMiddleRow piece.rect y
   pub first : parts.first ≡ record { rect = rows_to piece.rect y; word = piece.word }
   pub second : parts.second ≡ record { rect = rows_above piece.rect y; word = piece.word }
 
 -- the columns with one side and those with the other, each at its side's child
-pub record AreColumnParts (found : Node) (piece : Piece) (parts : Parts) : Type 0 where
+pub record AreColumnParts (found : Node) (piece : Piece) (parts : Split) : Type 0 where
   pub s : Side
   pub c : ℤ
   pub from : piece.rect.x0 ≤ℤ c
@@ -36,11 +36,16 @@ pub record AreColumnParts (found : Node) (piece : Piece) (parts : Parts) : Type 
   pub first : parts.first ≡ record { rect = columns_to piece.rect c; word = word_at found s }
   pub second : parts.second ≡ record { rect = columns_right piece.rect c; word = word_at found (other s) }
 
+-- it is cut by its rows only where these don't change in the same columns
+abbrev pub AreParts : Node → Piece → Split → Type 0
+AreParts found piece parts =
+    ((¬ ChangeTogether found piece.rect) × AreRowParts piece parts) ⊎ AreColumnParts found piece parts
+
 -- what happens to a piece at a node
 abbrev pub IsTurnAt : Node → Piece → Turn → Type 0
 IsTurnAt found piece (AtSsector t n) = ⊥
 IsTurnAt found piece (Down next) = IsDown found piece next
-IsTurnAt found piece (Apart parts) = AreRowParts piece parts ⊎ AreColumnParts found piece parts
+IsTurnAt found piece (Apart parts) = AreParts found piece parts
 
 -- what happens to a piece, by the place that it has reached
 abbrev pub IsTurn : List Node → Piece → Turn → Type 0

@@ -49,6 +49,7 @@ impl<B: Allocator> SectorTree<'_, '_, B> {
 pub(crate) fn sector_count(level: &Level<'_>) -> usize
     ensures within { (t k : ℕ) → sector_of level.now t ≡ Some k → k < 65536 → k < result }
     ensures few { result ≤ 65536 }
+    ensures own { result ≤ length level.now.sectors.records }
 {
     level.sectors().len().min(SECTOR_NUMBERS)
 }

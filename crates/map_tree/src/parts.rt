@@ -16,7 +16,7 @@ use map_geo::{Partition, Point, Rect, side, whole_side};
 
 /// A piece in two. The second is taken first.
 #[derive(Clone, Copy)]
-pub struct Parts {
+pub struct Split {
     pub first: Piece,
     pub second: Piece,
 }
@@ -29,7 +29,7 @@ pub enum Turn {
     /// It goes whole to a child.
     Down(Piece),
     /// It is cut.
-    Apart(Parts),
+    Apart(Split),
 }
 
 /// What happens to a piece. At an ssector its points are counted. At a node it goes whole to the child of its side, or
@@ -71,6 +71,7 @@ fn turn_at(node: &Node, piece: Piece) -> Turn
 #[inline]
 fn change_together(node: &Node, rect: Rect) -> bool
     ensures together { result ≡ true → ChangeTogether node.now rect }
+    ensures apart { result ≡ false → ¬ ChangeTogether node.now rect }
     ensures more { result ≡ false → rect.y0 <ℤ rect.y1 }
 {
     (node.dx == 0) | (rect.y0() == rect.y1())
@@ -78,12 +79,12 @@ fn change_together(node: &Node, rect: Rect) -> bool
 
 // Cuts a piece of more than one row in two: its lower half, rounded down, and the other rows.
 #[inline]
-fn row_parts(piece: Piece) -> Parts
+fn row_parts(piece: Piece) -> Split
     requires { piece.rect.y0 <ℤ piece.rect.y1 }
     ensures { AreRowParts piece result }
 {
     let halves = cut_rows(piece);
-    Parts {
+    Split {
         first: halves.first,
         second: halves.second,
     }
@@ -91,7 +92,7 @@ fn row_parts(piece: Piece) -> Parts
 
 // A piece in two at the column where the side of each row changes: each part goes to the child of its side.
 #[inline]
-fn column_parts(node: &Node, piece: Piece) -> Parts
+fn column_parts(node: &Node, piece: Piece) -> Split
     requires x_in { IsInRange node.now.x }
     requires y_in { IsInRange node.now.y }
     requires together { ChangeTogether node.now piece.rect }
@@ -104,7 +105,7 @@ fn column_parts(node: &Node, piece: Piece) -> Parts
     let y = rect.y0();
     let s = side(Point::at(left, y), Partition::at(node));
     let column = last_column(node, y, s, left, right);
-    Parts {
+    Split {
         first: Piece {
             rect: rect.columns_to(column),
             word: word_at(node, s),

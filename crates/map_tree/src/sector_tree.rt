@@ -96,7 +96,8 @@ impl<'l, 'a, A: Allocator> SectorTree<'l, 'a, A> {
         self.tree.level()
     }
 
-    /// The allocator of the list of sectors, for what else is kept as long.
+    /// The allocator of the list of sectors, for what else is kept as long. No clause says which it is:
+    /// contracts see of a tree its level alone.
     pub fn allocator(&self) -> &A {
         self.sectors.allocator()
     }

@@ -4,7 +4,7 @@ use Rattle.std.proofs.lemmas.Bool.Decides.{nat_tests}
 use Rattle.std.proofs.lemmas.Int.{ints, wrapping_sub_is}
 use Rattle.std.specs.Int.{int_shr, int_wrap, int_wrapping_sub}
 use lib.Signed.{shr_z}
-use Rattle.released.specs.Laws.{ReleasedIsBlock, ReleasedIsNoBlock, BlockWraps}
+use Rattle.released.specs.Laws.{ReleasedIsBlock, ReleasedIsNoBlock, BlockWraps, BlockWrapsBelow}
 use Rattle.released.specs.PointOnSide.{fixed}
 use Rattle.released.proofs.WordLemmas.{difference_of_fixed, fixed_difference, fixed_fits}
 
@@ -68,5 +68,11 @@ released_is_no_block origin z origin_fits z_fits far =
 pub block_wraps : BlockWraps
 block_wraps = record {
   defined = record { first = omega (arith, ints); last = omega (arith, ints) };
+  released = refl;
+}
+
+pub block_wraps_below : BlockWrapsBelow
+block_wraps_below = record {
+  undefined = λ k along. omega (arith, ints, along.first);
   released = refl;
 }

@@ -9,4 +9,5 @@ pub mod SightLemmas
 pub mod BlockLemmas
 pub mod ListLemmas
 pub mod TiccmdLemmas
+pub mod RecordingLemmas
 pub mod NameLemmas

@@ -17,7 +17,7 @@ unfolding int_wrap
 signed_char_is byte h =
     let e : byte % 256 ≡ byte = omega arith in ap (to_z w8) e
 
-shifted : (byte : ℕ) → byte < 256 → int_shl w32 (pos byte) 8 ≡ pos (byte * 256)
+pub shifted : (byte : ℕ) → byte < 256 → int_shl w32 (pos byte) 8 ≡ pos (byte * 256)
 shifted byte h =
     let e : byte * 2 ^ 8 % 2 ^ 32 ≡ byte * 256 = omega arith in
     ap (to_z w32) e ∙ to_z_pos w32 (byte * 256) (omega arith)
@@ -64,17 +64,17 @@ read_of bytes are =
 
 -- under the versions whose commands have four bytes
 module _ (version : ℕ) (other : version ≢ 111) where
-  short_size : command_size version ≡ 4
+  pub short_size : command_size version ≡ 4
   unfolding command_size
   short_size = cond-false (version == 111) 5 4 (ne_eqb version 111 other)
 
-  short_command : (bytes : List ℕ) → command_of version bytes ≡ short_command_of bytes
+  pub short_command : (bytes : List ℕ) → command_of version bytes ≡ short_command_of bytes
   unfolding command_of
   short_command bytes =
       cond-false (version == 111) (long_command_of bytes) (short_command_of bytes)
       (ne_eqb version 111 other)
 
-abbrev read_ticcmd : List ℕ → Ticcmd
+abbrev pub read_ticcmd : List ℕ → Ticcmd
 read_ticcmd bytes = record {
   forwardmove = signed_char (slice_index bytes 0);
   sidemove = signed_char (slice_index bytes 1);
@@ -82,7 +82,7 @@ read_ticcmd bytes = record {
   buttons = slice_index bytes 3;
 }
 
-unmarked_is : (bytes : List ℕ) → slice_index bytes 0 ≢ 128
+pub unmarked_is : (bytes : List ℕ) → slice_index bytes 0 ≢ 128
     → released_ticcmd bytes ≡ Some (read_ticcmd bytes)
 unmarked_is bytes unmarked =
     cond-false (slice_index bytes 0 == 128) None (Some (read_ticcmd bytes))

@@ -1,6 +1,6 @@
 -- What the released game computes on numbers of 32 bits is what is defined.
-use Rattle.std.specs.Prelude.{◌≡◌, ◌≢◌, ◌↔◌, ◌⊎◌, ◌<◌, ◌≤◌, ◌+◌, ◌*◌, ◌^◌, ℕ, ℤ, pos, negsuc, neg_ℤ, ◌-ℤ◌, ◌≤ℤ◌, ◌<ℤ◌, FitsSigned, List, length, map, take, slice_index, Some, None}
-use Rattle.std.specs.Int.{w16, int_wrap}
+use Rattle.std.specs.Prelude.{◌≡◌, ◌≢◌, ◌↔◌, ◌⊎◌, ◌<◌, ◌≤◌, ◌+◌, ◌*◌, ◌^◌, ℕ, ℤ, pos, negsuc, neg_ℤ, ◌+ℤ◌, ◌-ℤ◌, ◌*ℤ◌, ◌≤ℤ◌, ◌<ℤ◌, FitsSigned, List, [], length, map, take, slice_index, Some, None}
+use Rattle.std.specs.Int.{w8, w16, int_wrap}
 use Rattle.std.specs.List.{All, slice_get}
 use Rattle.le_rec.specs.Bytes.{AreBytes}
 use Rattle.le_rec.specs.Name.{name_of, query_of}
@@ -17,8 +17,11 @@ use Rattle.map_level.specs.declared.reading.Reading.{Reading}
 use Rattle.map_level.specs.SectorOf.{sector_of, IsLinked}
 use Rattle.map_level.specs.LinkFaults.{TwoSidedWithoutSide, NoSide0}
 use Rattle.map_level.specs.declared.reading.Reading.TheVariants.{Signed}
-use Rattle.demo_lump.specs.Command.{IsCommand}
+use Rattle.demo_lump.specs.Command.{IsCommand, short_command_of}
+use Rattle.demo_lump.specs.Demo.{IsDemo}
+use Rattle.demo_lump.specs.Header.{IsHeader, players_in}
 use Rattle.demo_lump.specs.declared.command.Command.{Command}
+use Rattle.demo_lump.specs.declared.header.Header.{Header}
 use Rattle.map_tables.specs.BlockMap.{IsBlockAlong, block_map_of, block_number, count_of, head}
 use Rattle.map_tables.specs.Words.{numbers_of, words_under, IsBlockList}
 use Rattle.map_tables.specs.Reject.{bits_of, sight_bit}
@@ -33,7 +36,9 @@ use Rattle.released.specs.ThingPosition.{released_block}
 use Rattle.released.specs.BlockLines.{released_list}
 use Rattle.released.specs.GroupLines.{released_sector}
 use Rattle.released.specs.LoadLinks.{IsInside, IsLoadedInside, IsSegLoadedInside, FollowsBack}
+use Rattle.released.specs.PlayDemo.{released_header, game_version}
 use Rattle.released.specs.ReadTiccmd.{released_ticcmd}
+use Rattle.released.specs.WriteTiccmd.{recorded, released_written}
 use Rattle.released.specs.declared.ticcmd.Ticcmd.{Ticcmd}
 use Rattle.released.specs.CheckSight.{released_sight_bit}
 use Rattle.released.specs.CheckName.{released_number, raw_names}
@@ -120,6 +125,11 @@ pub record BlockWraps : Type 0 where
   pub defined : IsBlockAlong (neg_ℤ (pos 32768)) (pos 0) 256
   pub released : released_block (neg_ℤ (pos 32768)) (pos 0) ≡ neg_ℤ (pos 256)
 
+-- more than 32768 units below the origin it wraps, too: there the game can have a block, and none is defined
+pub record BlockWrapsBelow : Type 0 where
+  pub undefined : (k : ℕ) → ¬ IsBlockAlong (pos 32767) (neg_ℤ (pos 16384)) k
+  pub released : released_block (pos 32767) (neg_ℤ (pos 16384)) ≡ pos 128
+
 -- the list that the released game walks is the block's list as defined
 abbrev pub ReleasedListIsBlockList : Type 0
 ReleasedListIsBlockList =
@@ -185,6 +195,57 @@ pub record ReleasedTiccmdIsCommand : Type 0 where
 abbrev pub ReleasedEndsAtMarker : Type 0
 ReleasedEndsAtMarker =
     (bytes : List ℕ) → (released_ticcmd bytes ≡ None) ↔ (slice_index bytes 0 ≡ 128)
+
+-- a command whose numbers are in the ranges of their types
+pub record IsTiccmd (ticcmd : Ticcmd) : Type 0 where
+  pub forward : FitsSigned w8 ticcmd.forwardmove
+  pub side : FitsSigned w8 ticcmd.sidemove
+  pub angle : FitsSigned w16 ticcmd.angleturn
+
+-- the multiple of 256 that is nearest to an angle, the greater of two, as 16 bits hold it
+pub record IsRounded (angle rounded : ℤ) : Type 0 where
+  pub k : ℤ
+  pub is : rounded ≡ int_wrap w16 (k *ℤ pos 256)
+  pub from : (k *ℤ pos 256) ≤ℤ (angle +ℤ pos 128)
+  pub below : (angle +ℤ pos 128) <ℤ (k *ℤ pos 256 +ℤ pos 256)
+
+-- what the released game writes of a command is read as the same, but for its angle
+abbrev pub WrittenIsRead : Type 0
+WrittenIsRead =
+    (ticcmd : Ticcmd) → IsTiccmd ticcmd → ticcmd.forwardmove ≢ negsuc 127
+    → (angle : ℤ) × IsRounded ticcmd.angleturn angle
+    × (released_ticcmd (released_written ticcmd) ≡ Some (record ticcmd { angleturn = angle }))
+
+-- and as the marker if it begins with that byte
+abbrev pub WrittenAsMarker : Type 0
+WrittenAsMarker =
+    (ticcmd : Ticcmd) → ticcmd.forwardmove ≡ negsuc 127
+    → released_ticcmd (released_written ticcmd) ≡ None
+
+-- a command that stands in a demo when it was written
+pub record IsKept (ticcmd : Ticcmd) : Type 0 where
+  pub is : IsTiccmd ticcmd
+  pub unmarked : ticcmd.forwardmove ≢ negsuc 127
+
+-- what the released game records is a demo: the header and the commands that are read of what was written
+abbrev pub RecordedIsDemo : Type 0
+RecordedIsDemo =
+    (header : Header) (ticcmds : List Ticcmd) → header.version ≡ game_version → length header.players ≡ 4
+    → 0 < players_in header.players → All IsKept ticcmds
+    → IsDemo (recorded header ticcmds) header
+    (map (λ ticcmd. short_command_of (released_written ticcmd)) ticcmds) []
+
+-- the header with which the released game plays a demo is the one as defined, of its own version
+abbrev pub PlayedIsHeader : Type 0
+PlayedIsHeader =
+    (bytes : List ℕ) (header : Header) → 13 ≤ length bytes → 0 < players_in header.players
+    → (released_header bytes ≡ Some header)
+    ↔ (IsHeader (take 13 bytes) header × (header.version ≡ game_version))
+
+-- and no other version is played
+abbrev pub PlaysOneVersion : Type 0
+PlaysOneVersion =
+    (bytes : List ℕ) → (released_header bytes ≡ None) ↔ (slice_index bytes 0 ≢ game_version)
 
 -- ---- names
 

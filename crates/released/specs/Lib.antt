@@ -7,4 +7,6 @@ pub mod ThingPosition
 pub mod BlockLines
 pub mod CheckName
 pub mod ReadTiccmd
+pub mod WriteTiccmd
+pub mod PlayDemo
 pub mod Laws

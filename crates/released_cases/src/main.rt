@@ -14,6 +14,8 @@
 //!   the BLOCKMAP, and `outside` if the point isn't in range;
 //! - of `lists`: the words of eight blocks of a BLOCKMAP, by `released_list`;
 //! - of `commands`: eight commands of a demo, by `released_ticcmd`, or `end` at the marker;
+//! - of `recordings`: eight commands as they are written into a demo, by `released_written`, and the header of one that is played,
+//!   by `released_header`, or `other` of another version;
 //! - of `numbers`: the numbers of eight names in a list of names, by `released_number`.
 #![tactic(auto)]
 
@@ -26,6 +28,7 @@ mod lists;
 mod lumps;
 mod numbers;
 mod random;
+mod recordings;
 mod sides;
 mod sights;
 mod tables;
@@ -38,6 +41,7 @@ use links::add_links;
 use lists::add_lists;
 use numbers::add_numbers;
 use random::Random;
+use recordings::add_recordings;
 use sides::add_sides;
 use sights::add_sights;
 use std::alloc::Global;
@@ -55,10 +59,11 @@ enum Routine {
     Blocks,
     Lists,
     Commands,
+    Recordings,
     Numbers,
 }
 
-const ALL: [Routine; 8] = [
+const ALL: [Routine; 9] = [
     Routine::Sides,
     Routine::Levels,
     Routine::Links,
@@ -66,6 +71,7 @@ const ALL: [Routine; 8] = [
     Routine::Blocks,
     Routine::Lists,
     Routine::Commands,
+    Routine::Recordings,
     Routine::Numbers,
 ];
 
@@ -114,6 +120,7 @@ fn routine_named(word: &str) -> Option<Routine> {
         b"blocks" => Some(Routine::Blocks),
         b"lists" => Some(Routine::Lists),
         b"commands" => Some(Routine::Commands),
+        b"recordings" => Some(Routine::Recordings),
         b"numbers" => Some(Routine::Numbers),
         _ => None,
     }
@@ -144,6 +151,7 @@ fn line_of(alloc: Global, routine: Routine, random: &mut Random) -> Result<Strin
         Routine::Blocks => add_blocks(&mut line, random)?,
         Routine::Lists => add_lists(&mut line, random)?,
         Routine::Commands => add_commands(&mut line, random)?,
+        Routine::Recordings => add_recordings(&mut line, random)?,
         Routine::Numbers => add_numbers(&mut line, random)?,
     }
     Ok(line)

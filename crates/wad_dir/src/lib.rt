@@ -2,6 +2,7 @@
 //! packing of lumps into a new file (`w_wad.c` of linuxdoom 1.10).
 #![tactic(auto)]
 
+mod file_bytes;
 mod header;
 pub mod laws;
 mod lump;
@@ -10,6 +11,7 @@ mod set;
 mod standing;
 mod wad;
 
+pub use file_bytes::AsBytes;
 pub use header::Kind;
 pub use lump::LumpFault;
 pub use packer::{MAX_BYTES, PackFault, Packer};

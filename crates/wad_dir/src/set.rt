@@ -7,6 +7,7 @@ ghost use Rattle.std.specs.Option.{option_map};
 ghost use Rattle.wad_dir.specs.Wad.{IsRead};
 ghost use Rattle.wad_dir.specs.Refusal.{IsFirstRefused, RefusesWad};
 
+use crate::file_bytes::AsBytes;
 use crate::lump::{Found, LumpFault, lump_of};
 use crate::wad::{Wad, WadFault};
 use le_rec::Name8;
@@ -63,15 +64,15 @@ impl<'a, A: Allocator> Set<'a, A> {
     ghost use Rattle.wad_dir.specs.Slice.{IsLump};
     ghost use Rattle.wad_dir.specs.Place.{place_of};
 
-    /// The set of the files, at most 64 of them. It first makes room for its list; only this step
-    /// returns `Memory`. Then it reads one file after another, and the first that is refused ends it.
-    pub fn new<F: Allocator>(alloc: A, files: &'a [Vec<u8, F>]) -> Result<Set<'a, A>, SetFault>
+    /// The set of the files, at most 64 of them, each a vector or a slice. It borrows their bytes. It
+    /// first makes room for its list; only this step returns `Memory`. Then it reads one file after
+    /// another, and the first that is refused ends it.
+    pub fn new<F: AsBytes>(alloc: A, files: &'a [F]) -> Result<Set<'a, A>, SetFault>
         requires { length files.now ≤ MAX_FILES }
-        ensures bytes { IfOk result (λ set.
-            map (λ file. file.bytes) set ≡ map (λ file. file.items) files.now) }
+        ensures bytes { IfOk result (λ set. map (λ file. file.bytes) set ≡ map F.bytes files.now) }
         ensures read { IfOk result (All IsRead) }
         ensures refused { (n : ℕ) (fault : _) → result ≡ Err (SetFault.File n fault)
-            → IsFirstRefused (map (λ file. file.items) files.now) n fault }
+            → IsFirstRefused (map F.bytes files.now) n fault }
         ensures no_files { files.now ≡ [] → IsOk result }
     {
         let Ok(room) = Vec::with_capacity(alloc, files.len()) else {
@@ -233,22 +234,21 @@ fn push_again<'a, A: Allocator>(wads: &mut Vec<Wad<'a>, A>, files: &[Wad<'a>])
 
 // The files' directories in order, put into a list that has room for them; or the number, counted
 // from 1, of the first file that has none, and why.
-fn read_files<'a, A: Allocator, F: Allocator>(
+fn read_files<'a, A: Allocator, F: AsBytes>(
     room: Vec<Wad<'a>, A>,
-    files: &'a [Vec<u8, F>],
+    files: &'a [F],
 ) -> Result<Vec<Wad<'a>, A>, (u32, WadFault)>
     requires empty { room.items ≡ [] }
     requires enough { length files.now ≤ vec_capacity room }
     requires few { length files.now ≤ MAX_FILES }
     ensures bytes { IfOk result (λ wads.
-        map (λ file. file.bytes) wads.items ≡ map (λ file. file.items) files.now) }
+        map (λ file. file.bytes) wads.items ≡ map F.bytes files.now) }
     ensures read { IfOk result (λ wads. All IsRead wads.items) }
-    ensures refused { IfErr result (λ e.
-        IsFirstRefused (map (λ file. file.items) files.now) e.0 e.1) }
+    ensures refused { IfErr result (λ e. IsFirstRefused (map F.bytes files.now) e.0 e.1) }
 {
     let mut wads = room;
     for (i, file) in files.iter().enumerate() {
-        match Wad::read(file.as_slice()) {
+        match Wad::read(file.as_bytes()) {
             Ok(wad) => wads.push_reserved(wad),
             Err(fault) => return Err((i as u32 + 1, fault)),
         }

@@ -82,7 +82,8 @@ fn list_file<D: Storage, O: Write + Drop>(
         return Err(ProgramRefusal::Run(RunFault::Memory));
     };
     let mut listing = ToWrite::new(&output);
-    let ended = run(alloc, words, job, &[], &mut demo, &mut listing);
+    let no_files: &[Vec<u8>] = &[];
+    let ended = run(alloc, words, job, no_files, &mut demo, &mut listing);
     program_end(closed(&output, ended))
 }
 

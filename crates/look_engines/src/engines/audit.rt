@@ -1,12 +1,11 @@
 //! The command `audit`: the faults and notes of a level.
 
-ghost use Rattle.std.specs.Prelude.{◌≡◌, ◌≤◌, ◌++◌, [], false, length, IfOk, IfErr};
+ghost use Rattle.std.specs.Prelude.{◌≡◌, ◌≤◌, ◌++◌, [], false, length, map, IfOk, IfErr};
 ghost use Rattle.std.specs.List.{flat_map};
 ghost use Rattle.line_io.specs.Writes.{Writes};
 ghost use Rattle.wad_dir.specs.declared.set.TheConstants.{MAX_FILES};
 ghost use Rattle.look_engines.specs.Engines.Audit.{AreAuditFindings, RefusesAuditing, RunsAudit, TellsFindings};
 ghost use Rattle.look_engines.specs.Engines.Audit.{code_name, finding_line, findings_of, meaning, totals_line};
-ghost use Rattle.look_engines.specs.Opening.{bytes_of};
 
 use crate::fault::{RunFault, ended};
 use crate::opening::open_set;
@@ -15,6 +14,7 @@ use line_io::{IoFault, TextLine, emit};
 use map_audit::{Report, audit};
 use map_level::{Code, Finding, Level, LevelFault, Reading};
 use std::alloc::Allocator;
+use wad_dir::AsBytes;
 
 /// The report on the level of a name, or which of its lumps isn't there or isn't inside its file.
 #[derive(Drop)]
@@ -29,31 +29,31 @@ enum Audited<A: Allocator> {
 /// or `F2`.
 ///
 /// `Set`, `Memory`, and `Level` if no entry has the name, come before anything is written.
-pub fn audit_text<A: Allocator + Copy, F: Allocator, W: Sink>(
+pub fn audit_text<A: Allocator + Copy, F: AsBytes, W: Sink>(
     alloc: A,
-    files: &[Vec<u8, F>],
+    files: &[F],
     name: &[u8],
     reading: Reading,
     out: &mut W,
 ) -> Result<bool, RunFault>
     requires few { length files.now ≤ MAX_FILES }
     requires sound { (W.state out.old).failed ≡ false }
-    ensures { RunsAudit W.state (bytes_of files.now) name.now reading out.old out.new result }
+    ensures { RunsAudit W.state (map F.bytes files.now) name.now reading out.old out.new result }
 {
     let audited = findings_on_name(alloc, files, name, reading)?;
     ended(write_audited(&audited, out))
 }
 
 // The findings on the level of the name.
-fn findings_on_name<A: Allocator + Copy, F: Allocator>(
+fn findings_on_name<A: Allocator + Copy, F: AsBytes>(
     alloc: A,
-    files: &[Vec<u8, F>],
+    files: &[F],
     name: &[u8],
     reading: Reading,
 ) -> Result<Audited<A>, RunFault>
     requires { length files.now ≤ MAX_FILES }
-    ensures ok { IfOk result (λ found. AreAuditFindings (bytes_of files.now) name.now reading (findings_of found)) }
-    ensures err { IfErr result (RefusesAuditing (bytes_of files.now) name.now) }
+    ensures ok { IfOk result (λ found. AreAuditFindings (map F.bytes files.now) name.now reading (findings_of found)) }
+    ensures err { IfErr result (RefusesAuditing (map F.bytes files.now) name.now) }
 {
     let set = open_set(alloc, files)?;
     match Level::open(&set, Name8::query(name), reading) {

@@ -1,13 +1,12 @@
 //! The command `blocks`: the block of each point of the input, and the block's list.
 
-ghost use Rattle.std.specs.Prelude.{◌≡◌, ◌≤◌, ◌+◌, ◌-◌, ◌*◌, ◌++◌, ◌∷◌, [], ℕ, List, false, length, take, drop, codes, IfErr, IfOk};
+ghost use Rattle.std.specs.Prelude.{◌≡◌, ◌≤◌, ◌+◌, ◌-◌, ◌*◌, ◌++◌, ◌∷◌, [], ℕ, List, false, length, map, take, drop, codes, IfErr, IfOk};
 ghost use Rattle.line_io.specs.Writes.{EndsWriting, TakesText, Writes};
 ghost use Rattle.map_geo.specs.Point.{point_at};
 ghost use Rattle.wad_dir.specs.declared.set.TheConstants.{MAX_FILES};
 ghost use Rattle.look_engines.specs.Engines.Blocks.{AnswersBlock, AnswersBlocks, HasBlockMap, RefusesBlocks, RunsBlocks, block_text};
 ghost use Rattle.look_engines.specs.Engines.Blocks.{fault_text, lines_text, no_block_text};
 ghost use Rattle.look_engines.specs.Engines.Show.{numbers_text};
-ghost use Rattle.look_engines.specs.Opening.{bytes_of};
 
 use crate::contents::{Pair, read_point};
 use crate::fault::{RunFault, ended};
@@ -18,6 +17,7 @@ use map_geo::Point;
 use map_level::Reading;
 use map_tables::{BlockFault, BlockLines, BlockMap};
 use std::alloc::Allocator;
+use wad_dir::AsBytes;
 
 /// How many numbers are put into a line of text at once.
 const NUMBERS: usize = 11;
@@ -190,9 +190,9 @@ fn prepend_numbers(line: &mut TextLine, lines: &BlockLines<'_>, from: usize, to:
 ///
 /// `Set`, `Memory`, `Level`, and `NoBlockMap` if the lump has fewer than 8 bytes, come before anything is read or
 /// written; then `Read`, `Write` and `TooLong`.
-pub fn blocks<A: Allocator, F: Allocator, S: Source, W: Sink>(
+pub fn blocks<A: Allocator, F: AsBytes, S: Source, W: Sink>(
     alloc: A,
-    files: &[Vec<u8, F>],
+    files: &[F],
     name: &[u8],
     reading: Reading,
     input: &mut S,
@@ -203,22 +203,22 @@ pub fn blocks<A: Allocator, F: Allocator, S: Source, W: Sink>(
     requires limit { limit ≤ MAX_READ }
     requires input { (S.state input.old).failed ≡ false }
     requires out { (W.state out.old).failed ≡ false }
-    ensures { RunsBlocks S.state W.state (bytes_of files.now) name.now reading limit input.old input.new out.old out.new result }
+    ensures { RunsBlocks S.state W.state (map F.bytes files.now) name.now reading limit input.old input.new out.old out.new result }
 {
     let map = open_block_map(alloc, files, name, reading)?;
     ended(answer_lines(&mut BlockCommand { map }, input, limit, out))
 }
 
 // The blockmap of the level of the name.
-fn open_block_map<'a, A: Allocator, F: Allocator>(
+fn open_block_map<'a, A: Allocator, F: AsBytes>(
     alloc: A,
-    files: &'a [Vec<u8, F>],
+    files: &'a [F],
     name: &[u8],
     reading: Reading,
 ) -> Result<BlockMap<'a>, RunFault>
     requires { length files.now ≤ MAX_FILES }
-    ensures ok { IfOk result (HasBlockMap (bytes_of files.now) name.now reading) }
-    ensures err { IfErr result (RefusesBlocks (bytes_of files.now) name.now reading) }
+    ensures ok { IfOk result (HasBlockMap (map F.bytes files.now) name.now reading) }
+    ensures err { IfErr result (RefusesBlocks (map F.bytes files.now) name.now reading) }
 {
     let level = open_level(alloc, files, name, reading)?;
     match BlockMap::of(level.blockmap(), reading) {

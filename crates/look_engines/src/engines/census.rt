@@ -1,6 +1,6 @@
 //! The command `census`: how many points of each rectangle of its input lie in each sector.
 
-ghost use Rattle.std.specs.Prelude.{◌≡◌, ◌≤◌, ◌∷◌, [], false, true, length, IfErr, IfOk};
+ghost use Rattle.std.specs.Prelude.{◌≡◌, ◌≤◌, ◌∷◌, [], false, true, length, map, IfErr, IfOk};
 ghost use Rattle.std.specs.List.{flat_map};
 ghost use Rattle.line_io.specs.NumberAnswers.{RefusesContent};
 ghost use Rattle.line_io.specs.Numbers.{HasForm};
@@ -9,7 +9,6 @@ ghost use Rattle.line_io.specs.declared.lines.TheConstants.{MAX_CONTENT};
 ghost use Rattle.map_geo.specs.Rect.{IsRect};
 ghost use Rattle.wad_dir.specs.declared.set.TheConstants.{MAX_FILES};
 ghost use Rattle.look_engines.specs.Engines.Census.{AreRect, RunsCensus, TellsCensus, count_text, counts_text, rect_text};
-ghost use Rattle.look_engines.specs.Opening.{bytes_of};
 
 use crate::fault::{RunFault, ended};
 use crate::opening::{open_level, sector_tree, tally_of};
@@ -21,6 +20,7 @@ use map_geo::Rect;
 use map_level::Reading;
 use map_tree::{Areas, Tally};
 use std::alloc::Allocator;
+use wad_dir::AsBytes;
 
 /// Answers rectangles.
 #[derive(Drop)]
@@ -127,9 +127,9 @@ fn write_count<W: Sink>(sector: u16, count: u32, out: &mut W) -> Result<(), IoFa
 ///
 /// `Set`, `Memory`, `Level` and `Audit` come before anything is read or written; then `Read`, `Write`, `TooLong`, and
 /// `Memory` if a census is refused a growth.
-pub fn census_text<A: Allocator + Copy, F: Allocator, S: Source, W: Sink>(
+pub fn census_text<A: Allocator + Copy, F: AsBytes, S: Source, W: Sink>(
     alloc: A,
-    files: &[Vec<u8, F>],
+    files: &[F],
     name: &[u8],
     reading: Reading,
     input: &mut S,
@@ -140,7 +140,7 @@ pub fn census_text<A: Allocator + Copy, F: Allocator, S: Source, W: Sink>(
     requires limit { limit ≤ MAX_READ }
     requires input { (S.state input.old).failed ≡ false }
     requires out { (W.state out.old).failed ≡ false }
-    ensures { RunsCensus S.state W.state (bytes_of files.now) name.now reading limit input.old input.new out.old out.new result }
+    ensures { RunsCensus S.state W.state (map F.bytes files.now) name.now reading limit input.old input.new out.old out.new result }
 {
     let level = open_level(alloc, files, name, reading)?;
     let tree = sector_tree(alloc, &level)?;

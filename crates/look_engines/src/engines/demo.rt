@@ -1,11 +1,10 @@
 //! The command `demo`: the listing of a demo in a lump.
 
-ghost use Rattle.std.specs.Prelude.{◌≡◌, ◌≤◌, false, length, IfOk, IfErr};
+ghost use Rattle.std.specs.Prelude.{◌≡◌, ◌≤◌, false, length, map, IfOk, IfErr};
 ghost use Rattle.line_io.specs.Writes.{Writes};
 ghost use Rattle.wad_dir.specs.declared.set.TheConstants.{MAX_FILES};
 ghost use Rattle.look_engines.specs.Listing.{listing};
 ghost use Rattle.look_engines.specs.Engines.Demo.{IsNamedDemo, RefusesNamedDemo, RunsDemo};
-ghost use Rattle.look_engines.specs.Opening.{bytes_of};
 
 use crate::fault::{RunFault, ended};
 use crate::listing::{prepend_header, prepend_ticcmd, prepend_totals};
@@ -15,33 +14,33 @@ use demo_lump::Demo;
 use le_rec::{Name8, Sink};
 use line_io::{IoFault, TextLine, emit};
 use std::alloc::Allocator;
-use wad_dir::LumpFault;
+use wad_dir::{AsBytes, LumpFault};
 
 /// Writes the listing of the demo in the lump of the name: the header, a line for each tic command and the totals. `Set`,
 /// `Memory`, `Lump` (`NoSuch` where no entry has the name) and `Demo` come before anything is written.
-pub fn demo_text<A: Allocator, F: Allocator, W: Sink>(
+pub fn demo_text<A: Allocator, F: AsBytes, W: Sink>(
     alloc: A,
-    files: &[Vec<u8, F>],
+    files: &[F],
     name: &[u8],
     out: &mut W,
 ) -> Result<(), RunFault>
     requires few { length files.now ≤ MAX_FILES }
     requires sound { (W.state out.old).failed ≡ false }
-    ensures { RunsDemo W.state (bytes_of files.now) name.now out.old out.new result }
+    ensures { RunsDemo W.state (map F.bytes files.now) name.now out.old out.new result }
 {
     let demo = named_demo(alloc, files, name)?;
     ended(write_demo(&demo, out))
 }
 
 // The demo in the lump of the name.
-fn named_demo<'a, A: Allocator, F: Allocator>(
+fn named_demo<'a, A: Allocator, F: AsBytes>(
     alloc: A,
-    files: &'a [Vec<u8, F>],
+    files: &'a [F],
     name: &[u8],
 ) -> Result<Demo<'a>, RunFault>
     requires { length files.now ≤ MAX_FILES }
-    ensures ok { IfOk result (IsNamedDemo (bytes_of files.now) name.now) }
-    ensures err { IfErr result (RefusesNamedDemo (bytes_of files.now) name.now) }
+    ensures ok { IfOk result (IsNamedDemo (map F.bytes files.now) name.now) }
+    ensures err { IfErr result (RefusesNamedDemo (map F.bytes files.now) name.now) }
 {
     let set = open_set(alloc, files)?;
     let Some(g) = set.find(Name8::query(name)) else {

@@ -1,13 +1,12 @@
 //! The command `extract`: a level as a file of its own.
 
-ghost use Rattle.std.specs.Prelude.{◌≡◌, ◌<◌, ◌≤◌, ℕ, List, IfErr, IfOk, IsOkUnless, Err, false, length};
+ghost use Rattle.std.specs.Prelude.{◌≡◌, ◌<◌, ◌≤◌, ℕ, List, IfErr, IfOk, IsOkUnless, Err, false, length, map};
 ghost use Rattle.level_starts.specs.LevelFile.{HoldsLumps};
 ghost use Rattle.map_level.specs.Opening.{AreLumps, AreNames};
 ghost use Rattle.wad_dir.specs.Packing.{packed};
 ghost use Rattle.wad_dir.specs.declared.packer.TheConstants.{MAX_BYTES};
 ghost use Rattle.wad_dir.specs.declared.set.TheConstants.{MAX_FILES};
 ghost use Rattle.look_engines.specs.Engines.Extract.{IsPacked, RefusesExtract, RunsExtract, extracted};
-ghost use Rattle.look_engines.specs.Opening.{bytes_of};
 
 use crate::fault::{RunFault, ended};
 use crate::opening::open_set;
@@ -15,33 +14,33 @@ use le_rec::{Name8, Sink};
 use line_io::emit;
 use map_level::{Level, Reading};
 use std::alloc::Allocator;
-use wad_dir::{PackFault, Packer, Set};
+use wad_dir::{AsBytes, PackFault, Packer, Set};
 
 /// Writes a PWAD of eleven lumps: the level's label, which has no bytes, and the ten behind it, each with its entry's
 /// name. `Set`, `Memory`, `Level` and `Pack` come before anything is written.
-pub fn extract<A: Allocator + Copy, F: Allocator, W: Sink>(
+pub fn extract<A: Allocator + Copy, F: AsBytes, W: Sink>(
     alloc: A,
-    files: &[Vec<u8, F>],
+    files: &[F],
     name: &[u8],
     out: &mut W,
 ) -> Result<(), RunFault>
     requires few { length files.now ≤ MAX_FILES }
     requires sound { (W.state out.old).failed ≡ false }
-    ensures { RunsExtract W.state (bytes_of files.now) name.now out.old out.new result }
+    ensures { RunsExtract W.state (map F.bytes files.now) name.now out.old out.new result }
 {
     let file = packed_level(alloc, files, name)?;
     ended(emit(out, file.as_slice()))
 }
 
 // The file of the level of the name.
-fn packed_level<A: Allocator + Copy, F: Allocator>(
+fn packed_level<A: Allocator + Copy, F: AsBytes>(
     alloc: A,
-    files: &[Vec<u8, F>],
+    files: &[F],
     name: &[u8],
 ) -> Result<Vec<u8, A>, RunFault>
     requires { length files.now ≤ MAX_FILES }
-    ensures ok { IfOk result (λ file. IsPacked (bytes_of files.now) name.now file.items) }
-    ensures err { IfErr result (RefusesExtract (bytes_of files.now) name.now) }
+    ensures ok { IfOk result (λ file. IsPacked (map F.bytes files.now) name.now file.items) }
+    ensures err { IfErr result (RefusesExtract (map F.bytes files.now) name.now) }
 {
     let set = open_set(alloc, files)?;
     let level = match Level::open(&set, Name8::query(name), Reading::Signed) {

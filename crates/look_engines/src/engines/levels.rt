@@ -1,6 +1,6 @@
 //! The command `levels`: the labels of levels.
 
-ghost use Rattle.std.specs.Prelude.{◌≡◌, ◌≤◌, ◌<◌, ◌^◌, ◌+◌, ◌-◌, ◌↔◌, ℕ, List, [], false, length};
+ghost use Rattle.std.specs.Prelude.{◌≡◌, ◌≤◌, ◌<◌, ◌^◌, ◌+◌, ◌-◌, ◌↔◌, ℕ, List, [], false, length, map};
 ghost use Rattle.std.specs.Prelude.{IfOk, IsSome, IsTrue, None, Some};
 ghost use Rattle.std.specs.List.{slice_get};
 ghost use Rattle.level_starts.specs.Holders.{AreLabelHolders};
@@ -10,7 +10,6 @@ ghost use Rattle.wad_dir.specs.Entries.{joined, names};
 ghost use Rattle.wad_dir.specs.declared.set.TheConstants.{MAX_FILES};
 ghost use Rattle.look_engines.specs.Engines.Levels.{AreLabels, AreListed, IsLabel};
 ghost use Rattle.look_engines.specs.Engines.Levels.{RunsLevels, level_line, levels_text};
-ghost use Rattle.look_engines.specs.Opening.{bytes_of};
 
 use crate::fault::{RunFault, ended};
 use crate::names::prepend_name;
@@ -20,7 +19,7 @@ use level_starts::Holders;
 use line_io::{IoFault, TextLine, emit};
 use map_level::usual_name;
 use std::alloc::{AllocError, Allocator};
-use wad_dir::Set;
+use wad_dir::{AsBytes, Set};
 
 /// A level as it is listed.
 #[derive(Clone, Copy, Debug, PartialEq, Eq)]
@@ -34,14 +33,14 @@ pub struct Listed {
 
 /// Writes a line for each label that ten entries of the usual names follow: its number, its name, and `hidden` where
 /// looking the name up gives another entry or none. `Set` and `Memory` come before anything is written.
-pub fn levels<A: Allocator + Copy, F: Allocator, W: Sink>(
+pub fn levels<A: Allocator + Copy, F: AsBytes, W: Sink>(
     alloc: A,
-    files: &[Vec<u8, F>],
+    files: &[F],
     out: &mut W,
 ) -> Result<(), RunFault>
     requires few { length files.now ≤ MAX_FILES }
     requires sound { (W.state out.old).failed ≡ false }
-    ensures { RunsLevels W.state (bytes_of files.now) out.old out.new result }
+    ensures { RunsLevels W.state (map F.bytes files.now) out.old out.new result }
 {
     let set = open_set(alloc, files)?;
     let found = match listed_levels(alloc, &set) {

@@ -1,11 +1,10 @@
 //! The command `lumps`: the files and their entries.
 
-ghost use Rattle.std.specs.Prelude.{◌≡◌, ◌≤◌, ◌<◌, ◌^◌, [], false, length};
+ghost use Rattle.std.specs.Prelude.{◌≡◌, ◌≤◌, ◌<◌, ◌^◌, [], false, length, map};
 ghost use Rattle.le_rec.specs.Name.{name_of};
 ghost use Rattle.line_io.specs.Writes.{Writes};
 ghost use Rattle.wad_dir.specs.declared.set.TheConstants.{MAX_FILES};
 ghost use Rattle.look_engines.specs.Engines.Lumps.{RunsLumps, entry_line, file_line, file_text, lumps_text};
-ghost use Rattle.look_engines.specs.Opening.{bytes_of};
 
 use crate::fault::{RunFault, ended};
 use crate::names::prepend_name;
@@ -13,18 +12,18 @@ use crate::opening::open_set;
 use le_rec::{Entry, Name8, Sink};
 use line_io::{IoFault, TextLine, emit};
 use std::alloc::Allocator;
-use wad_dir::{Kind, Set, Wad};
+use wad_dir::{AsBytes, Kind, Set, Wad};
 
 /// Writes the files, each with its kind and number of entries, and their entries, each with its number, place, size and
 /// name. `Set` and `Memory` come before anything is written.
-pub fn lumps<A: Allocator, F: Allocator, W: Sink>(
+pub fn lumps<A: Allocator, F: AsBytes, W: Sink>(
     alloc: A,
-    files: &[Vec<u8, F>],
+    files: &[F],
     out: &mut W,
 ) -> Result<(), RunFault>
     requires few { length files.now ≤ MAX_FILES }
     requires sound { (W.state out.old).failed ≡ false }
-    ensures { RunsLumps W.state (bytes_of files.now) out.old out.new result }
+    ensures { RunsLumps W.state (map F.bytes files.now) out.old out.new result }
 {
     let set = open_set(alloc, files)?;
     ended(write_files(&set, out))

@@ -1,13 +1,12 @@
 //! The command `points`: the sector and the ssector of each point of its input.
 
-ghost use Rattle.std.specs.Prelude.{◌≡◌, ◌≤◌, [], ◌∷◌, IfSome, false, length};
+ghost use Rattle.std.specs.Prelude.{◌≡◌, ◌≤◌, [], ◌∷◌, IfSome, false, length, map};
 ghost use Rattle.std.specs.List.{flat_map};
 ghost use Rattle.line_io.specs.Writes.{EndsWriting, TakesText, Writes};
 ghost use Rattle.map_geo.specs.Point as geo;
 ghost use Rattle.wad_dir.specs.declared.set.TheConstants.{MAX_FILES};
 ghost use Rattle.look_engines.specs.Engines.Points.{AreLeaves, RunsPoints, leaf_text, point_text};
 ghost use Rattle.look_engines.specs.NamedPoints.{NamesPoints, told_point};
-ghost use Rattle.look_engines.specs.Opening.{bytes_of};
 ghost use Rattle.look_engines.specs.declared.engines.points.Leaf as found;
 
 use crate::contents::{NamedPoint, Pair, read_point};
@@ -19,6 +18,7 @@ use map_geo::Point;
 use map_level::Reading;
 use map_tree::SectorTree;
 use std::alloc::Allocator;
+use wad_dir::AsBytes;
 
 /// Where a point lies: an ssector and its sector.
 #[derive(Clone, Copy, Debug, PartialEq, Eq)]
@@ -171,9 +171,9 @@ fn prepend_leaf(line: &mut TextLine, leaf: Leaf)
 ///
 /// In the order in which they are tested, `Set`, `Level` and `Audit` come before anything is read or written, as does
 /// `Memory`; then `Read`, `Write` and `TooLong`.
-pub fn points<A: Allocator + Copy, F: Allocator, S: Source, W: Sink>(
+pub fn points<A: Allocator + Copy, F: AsBytes, S: Source, W: Sink>(
     alloc: A,
-    files: &[Vec<u8, F>],
+    files: &[F],
     name: &[u8],
     reading: Reading,
     input: &mut S,
@@ -184,7 +184,7 @@ pub fn points<A: Allocator + Copy, F: Allocator, S: Source, W: Sink>(
     requires limit { limit ≤ MAX_READ }
     requires input { (S.state input.old).failed ≡ false }
     requires out { (W.state out.old).failed ≡ false }
-    ensures { RunsPoints S.state W.state (bytes_of files.now) name.now reading limit input.old input.new out.old out.new result }
+    ensures { RunsPoints S.state W.state (map F.bytes files.now) name.now reading limit input.old input.new out.old out.new result }
 {
     let level = open_level(alloc, files, name, reading)?;
     let tree = sector_tree(alloc, &level)?;

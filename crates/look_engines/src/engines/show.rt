@@ -8,7 +8,6 @@ ghost use Rattle.map_level.specs.Reading.{number_of};
 ghost use Rattle.wad_dir.specs.declared.set.TheConstants.{MAX_FILES};
 ghost use Rattle.look_engines.specs.Engines.Show.{RunsShow, bytes_line, level_line, lump_texts, name_text, number_text, numbers_text};
 ghost use Rattle.look_engines.specs.Engines.Show.{record_line, show_text, table_line, table_text};
-ghost use Rattle.look_engines.specs.Opening.{bytes_of};
 
 use crate::fault::{RunFault, ended};
 use crate::names::prepend_name;
@@ -19,20 +18,21 @@ use le_rec::{
 use line_io::{IoFault, TextLine, emit};
 use map_level::{Level, Reading, number};
 use std::alloc::Allocator;
+use wad_dir::AsBytes;
 
 /// Writes the level's label and place. Then it writes for each of the level's lumps the number of records, the number of
 /// bytes left over, and the records; or the number of bytes. `Set`, `Memory` and `Level` come before anything is written.
 /// Links aren't tested.
-pub fn show<A: Allocator, F: Allocator, W: Sink>(
+pub fn show<A: Allocator, F: AsBytes, W: Sink>(
     alloc: A,
-    files: &[Vec<u8, F>],
+    files: &[F],
     name: &[u8],
     reading: Reading,
     out: &mut W,
 ) -> Result<(), RunFault>
     requires few { length files.now ≤ MAX_FILES }
     requires sound { (W.state out.old).failed ≡ false }
-    ensures { RunsShow W.state (bytes_of files.now) name.now reading out.old out.new result }
+    ensures { RunsShow W.state (map F.bytes files.now) name.now reading out.old out.new result }
 {
     let level = open_level(alloc, files, name, reading)?;
     ended(write_level(&level, out))

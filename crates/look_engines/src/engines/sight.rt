@@ -1,9 +1,8 @@
 //! The command `sight`: whether a level's REJECT refuses sight between sectors.
 
-ghost use Rattle.std.specs.Prelude.{◌≡◌, ◌<◌, ◌≤◌, ◌^◌, ◌++◌, [], ◌∷◌, false, length, codes};
+ghost use Rattle.std.specs.Prelude.{◌≡◌, ◌<◌, ◌≤◌, ◌^◌, ◌++◌, [], ◌∷◌, false, length, map, codes};
 ghost use Rattle.wad_dir.specs.declared.set.TheConstants.{MAX_FILES};
 ghost use Rattle.look_engines.specs.Engines.Sight.{AnswersSight, RunsSight, reject_of, bit_text};
-ghost use Rattle.look_engines.specs.Opening.{bytes_of};
 
 use crate::contents::read_sectors;
 use crate::fault::{RunFault, ended};
@@ -13,6 +12,7 @@ use line_io::{IoFault, LineCommand, MAX_READ, TextLine, answer_lines, emit};
 use map_level::{Level, Reading};
 use map_tables::Reject;
 use std::alloc::Allocator;
+use wad_dir::AsBytes;
 
 /// Answers pairs of sectors.
 #[derive(Drop)]
@@ -58,9 +58,9 @@ fn prepend_sight(line: &mut TextLine, bit: Option<bool>)
 /// REJECT ends before their bit. The level may have faults.
 ///
 /// `Set`, `Memory` and `Level` come before anything is read or written; then `Read`, `Write` and `TooLong`.
-pub fn sight<A: Allocator, F: Allocator, S: Source, W: Sink>(
+pub fn sight<A: Allocator, F: AsBytes, S: Source, W: Sink>(
     alloc: A,
-    files: &[Vec<u8, F>],
+    files: &[F],
     name: &[u8],
     input: &mut S,
     limit: u64,
@@ -70,7 +70,7 @@ pub fn sight<A: Allocator, F: Allocator, S: Source, W: Sink>(
     requires limit { limit ≤ MAX_READ }
     requires input { (S.state input.old).failed ≡ false }
     requires out { (W.state out.old).failed ≡ false }
-    ensures { RunsSight S.state W.state (bytes_of files.now) name.now limit input.old input.new out.old out.new result }
+    ensures { RunsSight S.state W.state (map F.bytes files.now) name.now limit input.old input.new out.old out.new result }
 {
     let level = open_level(alloc, files, name, Reading::Signed)?;
     ended(answer_lines(&mut command_of(&level), input, limit, out))

@@ -1,9 +1,9 @@
-use Rattle.std.proofs.Common.{rules, ℕ, ◌≡◌, ◌≤◌, [], ◌∷◌, ◌++◌, length, vec_len, map, arith, ap, ◌∙◌, Vec, Global, sym, subst}
+use Rattle.std.proofs.Common.{rules, ℕ, List, ◌≡◌, ◌≤◌, [], ◌∷◌, ◌++◌, length, vec_len, map, arith, ap, ◌∙◌, Vec, Global, sym, subst}
 use Rattle.std.proofs.lemmas.List.{map_push, take_all}
-use Rattle.line_io.specs.Storage.{AreHeld, IsHeld, RefusesFile, bytes_of, total_length}
+use Rattle.line_io.specs.Storage.{AreHeld, IsAnswered, IsHeld, RefusesFile, bytes_of, total_length}
 use Rattle.line_io.specs.declared.input.TheConstants.{MAX_READ}
 use Rattle.line_io.specs.declared.storage.StorageFault.TheVariants.{Memory}
-use Rattle.line_io.proofs.StorageLemmas.{held_more, held_within, next_refused, refused_at, total_length-push}
+use Rattle.line_io.proofs.StorageLemmas.{holds_at, held_more, held_within, next_refused, refused_at, total_length-push}
 use Rattle.line_io.proofs.storage.read_files.Goals as goal
 
 pub returns-in-Err-clause-refused : goal.returns-in-Err-clause-refused
@@ -48,3 +48,15 @@ returns-in-Err-clause-among g c = omega (arith, c.loop-place-test.true)
 
 pub returns-in_default-clause-among : goal.returns-in_default-clause-among
 returns-in_default-clause-among g c = omega (arith, c.loop-place-test.true)
+
+pub returns-in-Err-clause-answered : goal.returns-in-Err-clause-answered
+returns-in-Err-clause-answered g c =
+    let held = g.S.Storage.held c.args.storage.now in
+    let refuses = g.S.Storage.refuses c.args.storage.now in
+    let answered = λ (p : List ℕ). IsAnswered g.S.File.Read.remaining (held p) (refuses p) c.in-Err.fault in
+    holds_at g.P.FilePath.spelled c.args.paths.now c.index-paths-place.result c.loop-place.place (omega (arith, c.loop-place-test.true)) c.index-paths-place.is answered
+    (subst answered c.path_bytes.ensures c.in-Err.ensures.answered)
+
+pub returns-in_default-clause-answered : goal.returns-in_default-clause-answered
+returns-in_default-clause-answered g c =
+    holds_at g.P.FilePath.spelled c.args.paths.now c.index-paths-place.result c.loop-place.place (omega (arith, c.loop-place-test.true)) c.index-paths-place.is _ tt

@@ -4,7 +4,7 @@ use Rattle.map_level.specs.Level.{Level}
 use Rattle.map_cells.specs.Cells.{AddsRow, GoesOn}
 use Rattle.map_cells.specs.Grid.{columns_of}
 use Rattle.map_cells.specs.Way.{AllCome, ArePending}
-use Rattle.map_cells.specs.declared.way.Part.{Part}
+use Rattle.map_cells.specs.declared.way.Stretch.{Stretch}
 use Rattle.map_cells.proofs.CellLemmas.{AddsRow-none}
 use Rattle.map_cells.proofs.WayLemmas.{come_start, pending_none, pending_pop}
 use Rattle.map_cells.proofs.cells.push_together.Goals as goal
@@ -36,7 +36,7 @@ loop-from-preserved-in-Some g c =
     let columns = columns_of c.args.row.grid in
     let run = c.go_down-run.result in
     let left : ArePending c.args.shown.now c.args.row run.end columns (c.pop.new.self.items ++ c.in-Some.next ∷ []) =
-    subst (λ (parts : List Part). ArePending c.args.shown.now c.args.row run.end columns parts) c.in-Some.ensures.items
+    subst (λ (parts : List Stretch). ArePending c.args.shown.now c.args.row run.end columns parts) c.in-Some.ensures.items
     (subst (λ (level : Level). ArePending level c.args.row run.end columns c.go_down-run.new.pending.items)
     c.level-level.ensures.is c.go_down-run.ensures.pending) in
     let next = pending_pop c.args.shown.now c.args.row run.end columns c.pop.new.self.items c.in-Some.next left in

@@ -13,6 +13,10 @@ second_false : (a b : Bool) → (a || b) ≡ false → b ≡ false
 second_false true b e = cc
 second_false false b e = e
 
+first_false : (a b : Bool) → (a || b) ≡ false → a ≡ false
+first_false true b e = cc
+first_false false b e = refl
+
 -- what is told of numbers by their words
 zero_read : (z : ℤ) → FitsSigned w16 z → nat_eq (of_z w16 z) 0 ≡ true → z ≡ pos 0
 zero_read z h e = sym (to_z-of_z w16 z h) ∙ ap (to_z w16) (eqb-true _ _ e)
@@ -33,6 +37,13 @@ returns-clause-together c =
     λ e. elim (one_of _ _ e) [
       | inl upright ↦ inr (zero_read _ dx upright)
       | inr flat ↦ inl (same_read _ _ (in_fits _ rows.first_in) (in_fits _ rows.last_in) (rw (c.y0.ensures.value, c.y1.ensures.value) at flat))
+    ]
+
+pub returns-clause-apart : goal.returns-clause-apart
+returns-clause-apart c = λ e changes.
+    elim changes [
+      | inl flat ↦ eqb-false _ _ (second_false _ _ e) (ap (of_z w32) (c.y0.ensures.value ∙ flat ∙ sym c.y1.ensures.value))
+      | inr upright ↦ eqb-false _ _ (first_false _ _ e) (ap (of_z w16) upright)
     ]
 
 pub returns-clause-more : goal.returns-clause-more

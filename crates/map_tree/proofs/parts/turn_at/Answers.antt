@@ -11,4 +11,4 @@ pub returns-then-change_together : goal.returns-then-change_together
 returns-then-change_together c = inr c.column_parts.ensures
 
 pub returns-else-change_together : goal.returns-else-change_together
-returns-else-change_together c = inl c.row_parts.ensures
+returns-else-change_together c = inl (c.change_together.ensures.apart c.if-change_together.false, c.row_parts.ensures)

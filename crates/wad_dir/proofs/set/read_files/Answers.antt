@@ -7,12 +7,12 @@ use Rattle.wad_dir.proofs.set.read_files.Goals as goal
 
 pub returns-in-Err-clause-refused : goal.returns-in-Err-clause-refused
 returns-in-Err-clause-refused g c =
-    let refused : RefusesWad c.as_slice.result.now c.in-Err.fault =
+    let refused : RefusesWad c.as_bytes.result.now c.in-Err.fault =
     (c.in-Err.ensures.refused c.in-Err.fault).0 refl in
-    first_refused (λ file. file.items) c.args.files.now c.index-files-i.result c.loop-i.i
+    first_refused g.F.AsBytes.bytes c.args.files.now c.index-files-i.result c.loop-i.i
     (omega arith) c.index-files-i.is
     c.loop-i.wads.items c.in-Err.fault c.loop-i.invariant.bytes_are c.loop-i.invariant.are_read
-    (subst (λ (b : List ℕ). RefusesWad b c.in-Err.fault) c.as_slice.ensures.value refused)
+    (subst (λ (b : List ℕ). RefusesWad b c.in-Err.fault) c.as_bytes.ensures refused)
 
 pub loop-i-preserved : goal.loop-i-preserved
 loop-i-preserved g c =
@@ -23,9 +23,9 @@ loop-i-preserved g c =
     c.push_reserved.ensures.items in
     record {
       bytes_are = ap (map (λ (f : Wad). f.bytes)) items
-          ∙ files_push (λ file. file.items) c.args.files.now file c.loop-i.i
+          ∙ files_push g.F.AsBytes.bytes c.args.files.now file c.loop-i.i
           (omega arith) c.index-files-i.is c.loop-i.wads.items wad c.loop-i.invariant.bytes_are
-          (read.0 ∙ c.as_slice.ensures.value);
+          (read.0 ∙ c.as_bytes.ensures);
       are_read =
           rw items (All-push IsRead c.loop-i.wads.items wad c.loop-i.invariant.are_read read.1);
       counted = omega arith;

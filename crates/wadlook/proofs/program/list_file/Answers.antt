@@ -22,7 +22,7 @@ returns g c =
     let remaining = g.D.File.Read.remaining in
     let left : (file_source _ remaining c.in-Ok-new.demo).left ≡ remaining c.in-Ok.file = c.in-Ok-new.ensures.left in
     let opened : Keeps (held (string_bytes {Z = Global} c.index-paths-0.result)) (remaining c.in-Ok.file) =
-    subst (λ (p : List ℕ). Keeps (held p) (remaining c.in-Ok.file)) c.path_bytes.ensures c.in-Ok.ensures in
+    subst (λ (p : List ℕ). Keeps (held p) (remaining c.in-Ok.file)) c.path_bytes.ensures c.in-Ok.ensures.held in
     let some = c.requires.some_file in
     let counted = ap length (sym c.paths-paths.ensures) ∙ length-map c.paths-paths.result.now (string_bytes {Z = Global}) in
     let named : slice_index_or (paths_of (map (string_bytes {Z = Global}) c.args.words.now) c.args.job) 0 [] ≡ string_bytes {Z = Global} c.index-paths-0.result =

@@ -3,6 +3,16 @@ pub mod RankLemmas
 pub mod SpecialLemmas
 pub mod TagLemmas
 pub mod CountLemmas
+pub mod FirstLemmas
+pub mod SideLemmas
+pub mod AroundLemmas
+pub mod SearchLemmas
+pub mod DonutLemmas
+pub mod HarmLemmas
+pub mod FoundLemmas
+pub mod WinnerLemmas
+pub mod PatchLemmas
+pub mod AloneLemmas
 pub mod PerpetualLemmas
 pub mod SaveLemmas
 pub mod DestinationLemmas

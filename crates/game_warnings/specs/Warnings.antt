@@ -6,9 +6,14 @@ use Rattle.map_level.specs.Findings.{AreAllInOrder}
 use Rattle.game_warnings.specs.declared.warning.Barrier.{Barrier}
 use Rattle.game_warnings.specs.declared.warning.Barrier.TheVariants.{NoBack, LetsNone}
 use Rattle.game_warnings.specs.declared.warning.GameWarning.{GameWarning}
-use Rattle.game_warnings.specs.declared.warning.GameWarning.TheVariants.{UnknownSpecial, ZeroTag, NeverCrossed, NoDestination, OneSidedDoor, ManyPlatforms, ManyCeilings, DeadlyFloor, NoExit, Locked, EndsThings, InNoSkill, NoTarget, ManyTargets, ManyScrolling, ManyPerpetual, ManyStarts, LongSave}
+use Rattle.game_warnings.specs.declared.warning.GameWarning.TheVariants.{UnknownSpecial, ZeroTag, NeverCrossed, NoDestination, OneSidedDoor, ManyPlatforms, ManyCeilings, Harmful, DeadlyFloor, NoExit, Locked, EndsThings, InNoSkill, NoTarget, ManyTargets, ManyScrolling, ManyPerpetual, ManyStarts, LongSave, LacksPatch, MisplacedFlat}
+use Rattle.game_warnings.specs.Harm.{effect_of}
+use Rattle.game_warnings.specs.declared.warning.Effect.{Effect}
+use Rattle.game_warnings.specs.declared.warning.Effect.TheVariants.{Donut, Nearest, Change}
+use Rattle.game_warnings.specs.declared.warning.Surface.{Surface}
+use Rattle.game_warnings.specs.declared.warning.Surface.TheVariants.{Floor, Ceiling}
 use Rattle.game_warnings.specs.declared.code.GameCode.{GameCode}
-use Rattle.game_warnings.specs.declared.code.GameCode.TheVariants.{W14, W15, W16, W17, W18, W19, W21, W22}
+use Rattle.game_warnings.specs.declared.code.GameCode.TheVariants.{W14, W15, W16, W17, W18, W19, W21, W22, W25}
 
 -- the code of a warning
 abbrev pub code_of : GameWarning → GameCode
@@ -19,6 +24,7 @@ code_of (NoDestination linedef) = W16
 code_of (OneSidedDoor linedef) = W17
 code_of (ManyPlatforms linedef platforms) = W17
 code_of (ManyCeilings linedef ceilings) = W17
+code_of (Harmful linedef harm) = W17
 code_of (DeadlyFloor sector) = W18
 code_of NoExit = W19
 code_of (Locked key linedefs skills) = W19
@@ -30,6 +36,8 @@ code_of (ManyScrolling linedefs) = W22
 code_of (ManyPerpetual sectors) = W22
 code_of (ManyStarts starts) = W22
 code_of (LongSave bytes) = W22
+code_of (LacksPatch texture) = W22
+code_of (MisplacedFlat sector surface) = W25
 
 -- the number of the record that a warning is of; 0 for what is of the level
 abbrev pub number_of : GameWarning → ℕ
@@ -40,6 +48,7 @@ number_of (NoDestination linedef) = linedef
 number_of (OneSidedDoor linedef) = linedef
 number_of (ManyPlatforms linedef platforms) = linedef
 number_of (ManyCeilings linedef ceilings) = linedef
+number_of (Harmful linedef harm) = linedef
 number_of (DeadlyFloor sector) = sector
 number_of NoExit = 0
 number_of (Locked key linedefs skills) = 0
@@ -51,6 +60,8 @@ number_of (ManyScrolling linedefs) = 0
 number_of (ManyPerpetual sectors) = 0
 number_of (ManyStarts starts) = 0
 number_of (LongSave bytes) = 0
+number_of (LacksPatch texture) = 0
+number_of (MisplacedFlat sector surface) = sector
 
 -- a missing back before flags
 abbrev pub barrier_number : Barrier → ℕ
@@ -63,15 +74,27 @@ key_number Blue = 0
 key_number Yellow = 1
 key_number Red = 2
 
+-- a donut before platforms and ceilings, the two others behind these
+abbrev pub effect_number : Effect → ℕ
+effect_number Donut = 1
+effect_number Nearest = 4
+effect_number Change = 5
+
+-- a floor before a ceiling
+abbrev pub surface_number : Surface → ℕ
+surface_number Floor = 0
+surface_number Ceiling = 1
+
 -- where a warning is among those of its code: by the record, and then in this order
 abbrev pub rank : GameWarning → ℕ
 rank (UnknownSpecial linedef) = linedef
 rank (ZeroTag linedef sectors) = linedef
 rank (NeverCrossed linedef barrier) = linedef * 3 + barrier_number barrier
 rank (NoDestination linedef) = linedef * 3 + 2
-rank (OneSidedDoor linedef) = linedef * 3
-rank (ManyPlatforms linedef platforms) = linedef * 3 + 1
-rank (ManyCeilings linedef ceilings) = linedef * 3 + 2
+rank (OneSidedDoor linedef) = linedef * 6
+rank (ManyPlatforms linedef platforms) = linedef * 6 + 2
+rank (ManyCeilings linedef ceilings) = linedef * 6 + 3
+rank (Harmful linedef harm) = linedef * 6 + effect_number (effect_of harm)
 rank (DeadlyFloor sector) = sector
 rank NoExit = 0
 rank (Locked key linedefs skills) = 1 + key_number key
@@ -83,6 +106,8 @@ rank (ManyScrolling linedefs) = 0
 rank (ManyPerpetual sectors) = 1
 rank (ManyStarts starts) = 2
 rank (LongSave bytes) = 3
+rank (LacksPatch texture) = 4
+rank (MisplacedFlat sector surface) = sector * 2 + surface_number surface
 
 -- the warnings that hold
 abbrev pub AreWarnings : (GameWarning → Type 0) → List GameWarning → Type 0

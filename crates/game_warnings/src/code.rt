@@ -19,4 +19,6 @@ pub enum GameCode {
     W21,
     /// The level has more of something than the game has room for.
     W22,
+    /// A sector's flat isn't between the ends of the flats.
+    W25,
 }

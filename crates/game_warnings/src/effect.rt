@@ -8,14 +8,16 @@ ghost use Rattle.game_numbers.specs.Number.{is_one_of};
 ghost use Rattle.game_numbers.specs.Specials.{ceiling, door, platform};
 ghost use Rattle.game_warnings.specs.Crossing.{HasNoBack};
 ghost use Rattle.game_warnings.specs.Effect.{answer_count, AreAnswers, IsOneSidedDoor};
-ghost use Rattle.game_warnings.specs.Warnings.{Tells, TellsBelow};
+ghost use Rattle.game_warnings.specs.Harm.{has_effect, AreHarmsWhere};
+ghost use Rattle.game_warnings.specs.Warnings.{effect_number, Tells, TellsBelow};
 ghost use Rattle.game_warnings.specs.Holds.{HoldsOf};
 
 use crate::answer::{answers_at, answers_of};
 use crate::code::GameCode;
+use crate::harm::{harm_of, harms_where, has_effect};
 use crate::special::has_special;
 use crate::told::{Told, tell_where};
-use crate::warning::GameWarning;
+use crate::warning::{Effect, GameWarning, Harm};
 use game_numbers::{is_ceiling, is_door, is_platform};
 use le_rec::LineDef;
 use map_level::Level;
@@ -25,8 +27,9 @@ use std::alloc::{AllocError, Allocator};
 // So many platforms are the most, and so many ceilings.
 const MOST: u32 = 30;
 
-/// W17 of a level: its doors without a back sidedef, and the linedefs that start more platforms or ceilings than the game has
-/// room for. It takes 256 KiB.
+/// W17 of a level: its doors without a back sidedef, the linedefs that start more platforms or ceilings than the game has room for,
+/// and those that harm a sector of their tag. It takes 256 KiB; where a
+/// linedef may harm by what lies around a sector, 1 MiB for each way and up to 52 bytes a sector besides.
 pub fn effects<A: Allocator + Copy>(
     alloc: A,
     level: &Level<'_>,
@@ -36,22 +39,31 @@ pub fn effects<A: Allocator + Copy>(
     ensures most { IfOk result (λ told. told.most ≡ most) }
 {
     let counts = answers_of(alloc, level)?;
-    tell_effects(alloc, level, &counts, most)
+    let donut = harms_where(alloc, level, Effect::Donut)?;
+    let nearest = harms_where(alloc, level, Effect::Nearest)?;
+    let change = harms_where(alloc, level, Effect::Change)?;
+    tell_effects(alloc, level, &counts, &donut, &nearest, &change, most)
 }
 
 fn tell_effects<A: Allocator>(
     alloc: A,
     level: &Level<'_>,
     counts: &[u32],
+    donut: &[Option<Harm>],
+    nearest: &[Option<Harm>],
+    change: &[Option<Harm>],
     most: usize,
 ) -> Result<Told<A>, AllocError>
-    requires { AreAnswers level.now counts.now }
+    requires counts { AreAnswers level.now counts.now }
+    requires donut { AreHarmsWhere level.now Effect.Donut donut.now }
+    requires nearest { AreHarmsWhere level.now Effect.Nearest nearest.now }
+    requires change { AreHarmsWhere level.now Effect.Change change.now }
     ensures told { IfOk result (λ told. Tells (HoldsOf level.now GameCode.W17) told) }
     ensures most { IfOk result (λ told. told.most ≡ most) }
 {
     let mut told = Told::new(alloc, most);
     for i in 0..level.linedefs().len() {
-        tell_linedef(&mut told, level, counts, i as u32)?;
+        tell_linedef(&mut told, level, counts, donut, nearest, change, i as u32)?;
     }
     Ok(told)
 }
@@ -61,21 +73,107 @@ fn tell_linedef<A: Allocator>(
     told: &mut Told<A>,
     level: &Level<'_>,
     counts: &[u32],
+    donut: &[Option<Harm>],
+    nearest: &[Option<Harm>],
+    change: &[Option<Harm>],
     i: u32,
 ) -> Result<(), AllocError>
     requires counts { AreAnswers level.now counts.now }
+    requires donut { AreHarmsWhere level.now Effect.Donut donut.now }
+    requires nearest { AreHarmsWhere level.now Effect.Nearest nearest.now }
+    requires change { AreHarmsWhere level.now Effect.Change change.now }
     requires there { i < length level.now.linedefs.records }
-    requires below { TellsBelow (HoldsOf level.now GameCode.W17) (i * 3) told.old }
-    ensures told { OnOk result (TellsBelow (HoldsOf level.now GameCode.W17) (i * 3 + 2 + 1) told.new) }
+    requires below { TellsBelow (HoldsOf level.now GameCode.W17) (i * 6) told.old }
+    ensures told { OnOk result (TellsBelow (HoldsOf level.now GameCode.W17) (i * 6 + 6) told.new) }
     ensures most { OnOk result (told.new.most ≡ told.old.most) }
 {
     if !has_special(level, i) {
         return Ok(());
     }
+    tell_by_hand(told, level, donut, i)?;
+    tell_counted(told, level, counts, i)?;
+    tell_around(told, level, nearest, change, i)
+}
+
+// Adds a door, or a donut that does harm.
+fn tell_by_hand<A: Allocator>(
+    told: &mut Told<A>,
+    level: &Level<'_>,
+    donut: &[Option<Harm>],
+    i: u32,
+) -> Result<(), AllocError>
+    requires donut { AreHarmsWhere level.now Effect.Donut donut.now }
+    requires there { i < length level.now.linedefs.records }
+    requires below { TellsBelow (HoldsOf level.now GameCode.W17) (i * 6) told.old }
+    ensures told { OnOk result (TellsBelow (HoldsOf level.now GameCode.W17) (i * 6 + 2) told.new) }
+    ensures most { OnOk result (told.new.most ≡ told.old.most) }
+{
     tell_door(told, level, i)?;
+    let linedef = level.linedefs().at(i as usize);
+    tell_harm(told, level, donut, Effect::Donut, i, &linedef)
+}
+
+// Adds too many platforms and ceilings.
+fn tell_counted<A: Allocator>(
+    told: &mut Told<A>,
+    level: &Level<'_>,
+    counts: &[u32],
+    i: u32,
+) -> Result<(), AllocError>
+    requires counts { AreAnswers level.now counts.now }
+    requires there { i < length level.now.linedefs.records }
+    requires below { TellsBelow (HoldsOf level.now GameCode.W17) (i * 6 + 2) told.old }
+    ensures told { OnOk result (TellsBelow (HoldsOf level.now GameCode.W17) (i * 6 + 4) told.new) }
+    ensures most { OnOk result (told.new.most ≡ told.old.most) }
+{
     let linedef = level.linedefs().at(i as usize);
     tell_platforms(told, level, counts, i, &linedef)?;
     tell_ceilings(told, level, counts, i, &linedef)
+}
+
+// Adds the harms by what lies around a sector.
+fn tell_around<A: Allocator>(
+    told: &mut Told<A>,
+    level: &Level<'_>,
+    nearest: &[Option<Harm>],
+    change: &[Option<Harm>],
+    i: u32,
+) -> Result<(), AllocError>
+    requires nearest { AreHarmsWhere level.now Effect.Nearest nearest.now }
+    requires change { AreHarmsWhere level.now Effect.Change change.now }
+    requires there { i < length level.now.linedefs.records }
+    requires below { TellsBelow (HoldsOf level.now GameCode.W17) (i * 6 + 4) told.old }
+    ensures told { OnOk result (TellsBelow (HoldsOf level.now GameCode.W17) (i * 6 + 6) told.new) }
+    ensures most { OnOk result (told.new.most ≡ told.old.most) }
+{
+    let linedef = level.linedefs().at(i as usize);
+    tell_harm(told, level, nearest, Effect::Nearest, i, &linedef)?;
+    tell_harm(told, level, change, Effect::Change, i, &linedef)
+}
+
+// Adds how an effect harms the first sector of a linedef's tag that it harms, if the linedef's special has the effect.
+fn tell_harm<A: Allocator>(
+    told: &mut Told<A>,
+    level: &Level<'_>,
+    harms: &[Option<Harm>],
+    effect: Effect,
+    i: u32,
+    linedef: &LineDef,
+) -> Result<(), AllocError>
+    requires harms { AreHarmsWhere level.now effect harms.now }
+    requires there { slice_get (linedefs_of level.now) i ≡ Some (linedef_under level.now.reading linedef.now) }
+    requires below { TellsBelow (HoldsOf level.now GameCode.W17) (i * 6 + effect_number effect) told.old }
+    ensures told { OnOk result (TellsBelow (HoldsOf level.now GameCode.W17) (i * 6 + effect_number effect + 1) told.new) }
+    ensures most { OnOk result (told.new.most ≡ told.old.most) }
+{
+    if !has_effect(linedef, effect) {
+        return Ok(());
+    }
+    let Some(harm) = harm_of(level, harms, effect, linedef.tag) else {
+        return Ok(());
+    };
+    let warning = GameWarning::Harmful { linedef: i, harm };
+    tell_where(told, level, GameCode::W17, warning, true)
 }
 
 fn tell_door<A: Allocator>(
@@ -83,8 +181,8 @@ fn tell_door<A: Allocator>(
     level: &Level<'_>,
     linedef: u32,
 ) -> Result<(), AllocError>
-    requires { TellsBelow (HoldsOf level.now GameCode.W17) (linedef * 3) told.old }
-    ensures told { OnOk result (TellsBelow (HoldsOf level.now GameCode.W17) (linedef * 3 + 1) told.new) }
+    requires { TellsBelow (HoldsOf level.now GameCode.W17) (linedef * 6) told.old }
+    ensures told { OnOk result (TellsBelow (HoldsOf level.now GameCode.W17) (linedef * 6 + 1) told.new) }
     ensures most { OnOk result (told.new.most ≡ told.old.most) }
 {
     let warning = GameWarning::OneSidedDoor { linedef };
@@ -118,8 +216,8 @@ fn tell_platforms<A: Allocator>(
 ) -> Result<(), AllocError>
     requires counts { AreAnswers level.now counts.now }
     requires there { slice_get (linedefs_of level.now) i ≡ Some (linedef_under level.now.reading linedef.now) }
-    requires below { TellsBelow (HoldsOf level.now GameCode.W17) (i * 3 + 1) told.old }
-    ensures told { OnOk result (TellsBelow (HoldsOf level.now GameCode.W17) (i * 3 + 1 + 1) told.new) }
+    requires below { TellsBelow (HoldsOf level.now GameCode.W17) (i * 6 + 2) told.old }
+    ensures told { OnOk result (TellsBelow (HoldsOf level.now GameCode.W17) (i * 6 + 2 + 1) told.new) }
     ensures most { OnOk result (told.new.most ≡ told.old.most) }
 {
     let platforms = answering(level, counts, linedef);
@@ -140,8 +238,8 @@ fn tell_ceilings<A: Allocator>(
 ) -> Result<(), AllocError>
     requires counts { AreAnswers level.now counts.now }
     requires there { slice_get (linedefs_of level.now) i ≡ Some (linedef_under level.now.reading linedef.now) }
-    requires below { TellsBelow (HoldsOf level.now GameCode.W17) (i * 3 + 2) told.old }
-    ensures told { OnOk result (TellsBelow (HoldsOf level.now GameCode.W17) (i * 3 + 2 + 1) told.new) }
+    requires below { TellsBelow (HoldsOf level.now GameCode.W17) (i * 6 + 3) told.old }
+    ensures told { OnOk result (TellsBelow (HoldsOf level.now GameCode.W17) (i * 6 + 3 + 1) told.new) }
     ensures most { OnOk result (told.new.most ≡ told.old.most) }
 {
     let ceilings = answering(level, counts, linedef);

@@ -2,19 +2,29 @@
 #![tactic(auto)]
 
 mod answer;
+mod around;
 mod checks;
 mod code;
 mod count;
 mod crossing;
 mod deadly_floor;
 mod destination;
+mod donut;
 mod effect;
 mod ending;
 mod exit;
+mod flats;
+mod found;
+mod graphics;
+mod harm;
 pub mod laws;
 mod limit;
 mod lock;
+mod misplaced;
+mod patches;
 mod save;
+mod search;
+mod sides;
 mod skill;
 mod special;
 mod tags;
@@ -22,10 +32,12 @@ mod thing;
 mod told;
 mod unknown_special;
 mod warning;
+mod winners;
 mod zero_tag;
 
-pub use checks::told_of;
+pub use checks::{told_among, told_of};
 pub use code::GameCode;
+pub use graphics::Graphics;
 pub use skill::{Skill, Skills};
 pub use told::Told;
-pub use warning::{Barrier, GameWarning};
+pub use warning::{Barrier, GameWarning, Harm, Surface};

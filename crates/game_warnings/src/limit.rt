@@ -1,19 +1,20 @@
 //! W22: limits of the game's arrays, and of its savegames.
 
-ghost use Rattle.std.specs.Prelude.{◌≡◌, ◌↔◌, ◌+◌, ◌<◌, ◌^◌, ℕ, ℤ, false, length, pos, slice_index_or, IfOk, IsTrue, OnOk};
+ghost use Rattle.std.specs.Prelude.{◌≡◌, ◌↔◌, Some, ◌+◌, ◌<◌, ◌^◌, ℕ, ℤ, false, length, pos, slice_index_or, IfOk, IsTrue, OnOk};
 ghost use Rattle.std.specs.Ordering.{int_eq};
 ghost use Rattle.game_numbers.specs.Number.{is_one_of};
 ghost use Rattle.game_numbers.specs.Specials.{scrolling};
 ghost use Rattle.game_warnings.specs.Limit.{deathmatch_count, is_perpetual_tag, perpetual_count, scrolling_count, is_perpetual_at, IsPerpetual};
 ghost use Rattle.game_warnings.specs.Tags.{mark_of, AddsTags, AreTags};
 ghost use Rattle.game_warnings.specs.Warnings.{Tells, TellsBelow};
-ghost use Rattle.game_warnings.specs.Holds.{HoldsOf};
+ghost use Rattle.game_warnings.specs.Holds.{HoldsIn, HoldsOf};
 
 use crate::code::GameCode;
 use crate::count::counted;
+use crate::graphics::Graphics;
 use crate::save::saved;
 use crate::tags::{TAG_COUNT, is_marked, mark, unmarked};
-use crate::told::{Told, tell_where};
+use crate::told::{Told, tell_among, tell_where};
 use crate::warning::GameWarning;
 use game_numbers::{is_perpetual, is_scrolling};
 use le_rec::{LineDef, Sector, Thing};
@@ -43,6 +44,37 @@ pub fn limits<A: Allocator + Copy>(
 {
     let platforms = perpetual_count(alloc, level)?;
     tell_limits(alloc, level, platforms, most)
+}
+
+/// The same of a level whose textures are those of some files: the first that lacks a patch is told, too.
+pub fn limits_among<A: Allocator + Copy>(
+    alloc: A,
+    level: &Level<'_>,
+    graphics: &Graphics<'_, '_, A>,
+    most: usize,
+) -> Result<Told<A>, AllocError>
+    ensures told { IfOk result (λ told. Tells (HoldsIn (Some graphics.now) level.now GameCode.W22) told) }
+    ensures most { IfOk result (λ told. told.most ≡ most) }
+{
+    let mut told = limits(alloc, level, most)?;
+    tell_patch(&mut told, level, graphics)?;
+    Ok(told)
+}
+
+fn tell_patch<A: Allocator>(
+    told: &mut Told<A>,
+    level: &Level<'_>,
+    graphics: &Graphics<'_, '_, A>,
+) -> Result<(), AllocError>
+    requires { TellsBelow (HoldsIn (Some graphics.now) level.now GameCode.W22) 4 told.old }
+    ensures told { OnOk result (TellsBelow (HoldsIn (Some graphics.now) level.now GameCode.W22) 5 told.new) }
+    ensures most { OnOk result (told.new.most ≡ told.old.most) }
+{
+    let Some(texture) = graphics.lacking() else {
+        return Ok(());
+    };
+    let warning = GameWarning::LacksPatch { texture };
+    tell_among(told, level, graphics, GameCode::W22, warning, true)
 }
 
 fn tell_limits<A: Allocator>(

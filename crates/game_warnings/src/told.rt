@@ -1,10 +1,11 @@
 //! The report on warnings: the first of them, and how many there are.
 
-ghost use Rattle.std.specs.Prelude.{◌≡◌, ◌+◌, ◌↔◌, ◌<◌, [], IfNone, IfOk, IfSome, IsTrue, OnOk};
+ghost use Rattle.std.specs.Prelude.{◌≡◌, ◌+◌, ◌↔◌, ◌<◌, [], Some, IfNone, IfOk, IfSome, IsTrue, OnOk};
 ghost use Rattle.game_warnings.specs.Warnings.{Cut, cut_with, rank, Tells, TellsBelow};
-ghost use Rattle.game_warnings.specs.Holds.{HoldsOf};
+ghost use Rattle.game_warnings.specs.Holds.{HoldsIn, HoldsOf};
 
 use crate::code::GameCode;
+use crate::graphics::Graphics;
 use crate::warning::GameWarning;
 use map_level::Level;
 use std::alloc::{AllocError, Allocator, Global};
@@ -80,6 +81,29 @@ pub fn tell_where<A: Allocator>(
 {
     // Only the clauses speak of the level and the code.
     let (_level, _code) = (level, code);
+    if holds {
+        told.add(warning)?;
+    }
+    Ok(())
+}
+
+/// The same for a warning that needs flats or textures.
+pub fn tell_among<A: Allocator>(
+    told: &mut Told<A>,
+    level: &Level<'_>,
+    graphics: &Graphics<'_, '_, A>,
+    code: GameCode,
+    warning: GameWarning,
+    holds: bool,
+) -> Result<(), AllocError>
+    requires below { TellsBelow (HoldsIn (Some graphics.now) level.now code) (rank warning) told.old }
+    requires tells { IsTrue holds ↔ HoldsIn (Some graphics.now) level.now code warning }
+    requires alone { (w : GameWarning) → HoldsIn (Some graphics.now) level.now code w → rank w ≡ rank warning → w ≡ warning }
+    ensures told { OnOk result (TellsBelow (HoldsIn (Some graphics.now) level.now code) (rank warning + 1) told.new) }
+    ensures most { OnOk result (told.new.most ≡ told.old.most) }
+{
+    // Only the clauses speak of the level, its files and the code.
+    let (_level, _graphics, _code) = (level, graphics, code);
     if holds {
         told.add(warning)?;
     }

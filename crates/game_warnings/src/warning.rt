@@ -16,6 +16,39 @@ pub enum Barrier {
     LetsNone,
 }
 
+/// An effect that harms a sector by what lies around it.
+#[derive(Clone, Copy, Debug, PartialEq, Eq)]
+pub enum Effect {
+    /// A donut: the sector is its pillar.
+    Donut,
+    /// The sector moves to the next higher floor beside it.
+    Nearest,
+    /// It moves to the lowest floor, and takes over what lies there.
+    Change,
+}
+
+/// How a special harms a sector of its tag.
+#[derive(Clone, Copy, Debug, PartialEq, Eq)]
+pub enum Harm {
+    /// The pillar of a donut has no linedef.
+    NoLine { sector: u32 },
+    /// The first linedef of a donut's pillar has no other side.
+    NoRing { linedef: u32, sector: u32 },
+    /// A linedef of a donut's ring has no back.
+    OpenRing { linedef: u32, ring: u32 },
+    /// So many neighbours of a sector are higher, more than 20.
+    ManyNeighbours { sector: u32, neighbours: u32 },
+    /// A sector finds no neighbour at a height. Its new special is what memory held.
+    NoNeighbour { sector: u32, height: i16 },
+}
+
+/// The floor or the ceiling of a sector.
+#[derive(Clone, Copy, Debug, PartialEq, Eq)]
+pub enum Surface {
+    Floor,
+    Ceiling,
+}
+
 /// A warning, with the numbers of its records.
 #[derive(Clone, Copy, Debug, PartialEq, Eq)]
 pub enum GameWarning {
@@ -50,6 +83,11 @@ pub enum GameWarning {
     ManyCeilings {
         linedef: u32,
         ceilings: u32,
+    },
+    /// W17: a linedef harms a sector of its tag. Its use ends or spoils the game.
+    Harmful {
+        linedef: u32,
+        harm: Harm,
     },
     /// W18: the game ends when a player stands on the floor of a sector.
     DeadlyFloor {
@@ -98,6 +136,15 @@ pub enum GameWarning {
     LongSave {
         bytes: u64,
     },
+    /// W22: the first texture of the set that lacks a patch, by the eight bytes of its name. The game doesn't start.
+    LacksPatch {
+        texture: [u8; 8],
+    },
+    /// W25: the flat of a sector's floor or ceiling isn't between F_START and F_END.
+    MisplacedFlat {
+        sector: u32,
+        surface: Surface,
+    },
 }
 
 impl GameWarning {
@@ -111,7 +158,8 @@ impl GameWarning {
             GameWarning::NeverCrossed { .. } | GameWarning::NoDestination { .. } => GameCode::W16,
             GameWarning::OneSidedDoor { .. }
             | GameWarning::ManyPlatforms { .. }
-            | GameWarning::ManyCeilings { .. } => GameCode::W17,
+            | GameWarning::ManyCeilings { .. }
+            | GameWarning::Harmful { .. } => GameCode::W17,
             GameWarning::DeadlyFloor { .. } => GameCode::W18,
             GameWarning::NoExit | GameWarning::Locked { .. } => GameCode::W19,
             GameWarning::EndsThings { .. }
@@ -121,7 +169,9 @@ impl GameWarning {
             GameWarning::ManyScrolling { .. }
             | GameWarning::ManyPerpetual { .. }
             | GameWarning::ManyStarts { .. }
-            | GameWarning::LongSave { .. } => GameCode::W22,
+            | GameWarning::LongSave { .. }
+            | GameWarning::LacksPatch { .. } => GameCode::W22,
+            GameWarning::MisplacedFlat { .. } => GameCode::W25,
         }
     }
 
@@ -136,8 +186,10 @@ impl GameWarning {
             | GameWarning::NoDestination { linedef }
             | GameWarning::OneSidedDoor { linedef }
             | GameWarning::ManyPlatforms { linedef, .. }
-            | GameWarning::ManyCeilings { linedef, .. } => linedef,
-            GameWarning::DeadlyFloor { sector } => sector,
+            | GameWarning::ManyCeilings { linedef, .. }
+            | GameWarning::Harmful { linedef, .. } => linedef,
+            GameWarning::DeadlyFloor { sector } | GameWarning::MisplacedFlat { sector, .. } =>
+                sector,
             GameWarning::EndsThings { thing, .. }
             | GameWarning::InNoSkill { thing }
             | GameWarning::NoTarget { thing, .. }
@@ -147,7 +199,8 @@ impl GameWarning {
             | GameWarning::ManyScrolling { .. }
             | GameWarning::ManyPerpetual { .. }
             | GameWarning::ManyStarts { .. }
-            | GameWarning::LongSave { .. } => 0,
+            | GameWarning::LongSave { .. }
+            | GameWarning::LacksPatch { .. } => 0,
         }
     }
 }

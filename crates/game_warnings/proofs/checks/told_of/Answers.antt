@@ -1,3 +1,7 @@
+use Rattle.game_warnings.specs.Holds.{HoldsOf}
+use Rattle.game_warnings.specs.declared.code.GameCode.TheVariants.{W25}
+use Rattle.game_warnings.proofs.RankLemmas.{none_misplaced}
+use Rattle.game_warnings.proofs.ToldLemmas.{told_nothing}
 use Rattle.game_warnings.proofs.checks.told_of.Goals as goal
 
 pub returns-in-W14-clause-told : goal.returns-in-W14-clause-told
@@ -23,3 +27,7 @@ returns-in-W21-clause-told g c = rw c.in-W21.is c.things.ensures.told
 
 pub returns-in-W22-clause-told : goal.returns-in-W22-clause-told
 returns-in-W22-clause-told g c = rw c.in-W22.is c.limits.ensures.told
+
+pub returns-in-W25-clause-told : goal.returns-in-W25-clause-told
+returns-in-W25-clause-told g c =
+    rw (c.in-W25.is, c.new.ensures) (told_nothing (HoldsOf c.args.level.now W25) c.args.most (none_misplaced c.args.level.now))

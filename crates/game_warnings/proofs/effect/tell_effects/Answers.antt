@@ -10,7 +10,7 @@ loop-i-init g c = rw c.new-told.ensures (record { below = told_none (HoldsOf c.a
 
 pub loop-i-preserved : goal.loop-i-preserved
 loop-i-preserved g c =
-    let next : (c.loop-i.i + 1) * 3 ≡ c.loop-i.i * 3 + 2 + 1 = omega arith in
+    let next : (c.loop-i.i + 1) * 6 ≡ c.loop-i.i * 6 + 6 = omega arith in
     record {
       below = rw next c.in_ok-tell_linedef.ensures.told;
       most = c.in_ok-tell_linedef.ensures.most ∙ c.loop-i.invariant.most;
@@ -18,7 +18,7 @@ loop-i-preserved g c =
 
 pub returns-clause-told : goal.returns-clause-told
 returns-clause-told g c =
-    told_all (HoldsOf c.args.level.now W17) c.loop-i.told (c.loop-i.i * 3) c.loop-i.invariant.below (λ v h.
+    told_all (HoldsOf c.args.level.now W17) c.loop-i.told (c.loop-i.i * 6) c.loop-i.invariant.below (λ v h.
     let within = effect_within c.args.level.now v h in
     let all = rw (← c.linedefs.ensures.is, ← c.len-i-end.ensures) at within in
     omega (arith, all, c.loop-i-test.false))

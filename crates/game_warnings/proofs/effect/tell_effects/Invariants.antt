@@ -6,6 +6,6 @@ use Rattle.game_warnings.proofs.effect.tell_effects.Given as goal
 
 abbrev pub invariant-loop-i : goal.invariant-loop-i
 invariant-loop-i g l = record {
-  below : TellsBelow (HoldsOf l.level W17) (l.i * 3) l.told;
+  below : TellsBelow (HoldsOf l.level W17) (l.i * 6) l.told;
   most : l.told.most ≡ l.most;
 }

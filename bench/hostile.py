@@ -208,6 +208,49 @@ def demo(version, players):
     return make
 
 
+# A header of MBF21 with 25 options, and a wrapper of DSDA-Doom with a key frame or without.
+MBF21 = b"\xdd\x1dMBF\xe6\0" + bytes(25) + b"\x19" + bytes(25) + b"\x01" + bytes(31)
+DSDA, KEYED = (b"\xff\x1dDSDA\xe6\x02" + bytes(8) + flags for flags in (b"\0", b"\x01"))
+
+
+def later_demo(front, command):
+    """a demo of these bytes, and as many commands as fit"""
+
+    def make(out, part):
+        out.write(front)
+        again(out, command, (int(FILES * part) - len(front) - 1) // len(command) * len(command))
+        out.write(b"\x80")
+
+    return make
+
+
+def keyed_demo(size):
+    """a demo whose key frame says so many bytes, or has all there are"""
+
+    def make(out, part):
+        left = int(FILES * part) - len(KEYED) - len(MBF21) - 5
+        out.write(KEYED + MBF21 + struct.pack("<I", size or left))
+        again(out, b"\x80", left + 1)
+
+    return make
+
+
+def prefixes(out, part):
+    """as many demos as fit, which are all prefixes of one demo"""
+    body = KEYED + MBF21 + struct.pack("<I", 3) + b"abc" + bytes(6) + b"\x80"
+    n = int((FILES - 12 - len(body)) // 16 * part)
+    out.write(head(n, 12 + len(body)) + body)
+    again(out, b"".join(entry(12, 1 + i % len(body), b"DEMO1") for i in range(4096)), 16 * n)
+
+
+def footer(out, part):
+    """a demo with the longest directory behind its marker, in which no entry has a name that is looked up"""
+    front = MBF21 + b"\x80"
+    n = (int(FILES * part) - len(front) - 12) // 16
+    out.write(front + head(n, 12))
+    again(out, entry(12, 0, b"PORTNAMF"), 16 * n)
+
+
 def demo_lumps(count):
     """so many demos over the same bytes, which take the whole room"""
 
@@ -520,7 +563,7 @@ def udmf(last):
     return make
 
 
-LENS = ("check", "survey", "picture", "atlas", "demos", "compare", "assemble", "cut")
+LENS = ("check", "survey", "picture", "atlas", "demos", "compare", "listing", "assemble", "cut")
 one_byte = of_bytes(b"\xff")
 for word in ("check", "survey") if o.wadlens else ():
     job(word + ": 16,777,215 entries of one name", word + " F", one_name)
@@ -611,6 +654,19 @@ if o.wadlens:
     job("demos: a demo of 67 million commands", "demos D", demo(109, [1, 0, 0, 0]))
     job("demos: 8 demos over the same 67 million commands", "demos F", demo_lumps(8))
     job("compare: 67 million commands with themselves", "compare D D", demo(109, [1, 0, 0, 0]))
+    mbf21 = later_demo(MBF21, bytes([25, 206, 7, 9, 1]))
+    with_slots = later_demo(DSDA + MBF21, bytes([25, 206, 7, 9, 1, 6, 1, 2]))
+    job("demos: 53 million commands of MBF21", "demos D", mbf21)
+    job("demos: 33 million commands with actions and slots", "demos D", with_slots)
+    job("demos: 16,777,204 prefixes of a demo", "demos F", prefixes, ends=2)
+    job("demos: 255 options", "demos D", later_demo(MBF21[:32] + b"\xff", b"\0"), ends=2)
+    job("demos: a key frame of 4 GB", "demos D", keyed_demo(4294967295), ends=2)
+    job("demos: a key frame of 268 MB", "demos D", keyed_demo(0))
+    job("demos: 16 million entries behind a marker", "demos --json D", footer)
+    job("listing: 53 million commands of MBF21", "listing D", mbf21)
+    job("listing: 33 million commands with actions and slots", "listing D", with_slots)
+    job("compare: 33 million commands with actions and slots", "compare D D", with_slots)
+    job("compare: the same, their commands alone", "compare --commands D D", with_slots)
     job("assemble: the longest listing", "assemble", None, listing(0))
     job("assemble: the same, with a last line that is wrong", "assemble", None, listing(1), ends=2)
     job("assemble: 268 MB of one line", "assemble", None, lambda out, part: again(out, b"1", int(FILES * part)), ends=2)

@@ -10,7 +10,8 @@ declare -gA _wadlens_options=(
     [cut]='--entry --level --help'
     [explain]='--help'
     [demos]='--json --files-from --null --progress --help'
-    [compare]='--help'
+    [compare]='--commands --help'
+    [listing]='--help'
     [assemble]='--help'
 )
 
@@ -55,7 +56,7 @@ _wadlens() {
     local ending endings=(wad WAD)
     case ${COMP_WORDS[1]} in
         demos) endings+=(lmp LMP) ;;
-        compare) endings=(lmp LMP) ;;
+        compare | listing) endings=(lmp LMP) ;;
         explain)
             # Small letters are taken, too.
             mapfile -t COMPREPLY < <(compgen -W "$_wadlens_explained" -- "${current^^}")

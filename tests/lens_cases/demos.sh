@@ -38,8 +38,8 @@ demo_files() {
     demo 25 0 52 18 0 206 128 255 255 128 128 >long.lmp
     header[0]=109 header[2]=1 header[3]=1
     more=$(bytes "${header[@]}" "${two_commands[@]}" 128)
-    pack E1M1 '\x01' DEMO1 "$more" DEMO2 '' DEMONS "$(bytes 203 1)" DEMO "$(bytes "${header[@]}" 1)" demo3 "$more" XDEMO1 "$more" >demos.wad
-    pack DEMO1 "$(bytes 203)" DEMO2 "$more" DEMO3 "$(bytes 109)" DEMO4 "$more" >mixed.wad
+    pack E1M1 '\x01' DEMO1 "$more" DEMO2 '' DEMONS "$(bytes 204 1)" DEMO "$(bytes "${header[@]}" 1)" demo3 "$more" XDEMO1 "$more" >demos.wad
+    pack DEMO1 "$(bytes 204)" DEMO2 "$more" DEMO3 "$(bytes 109)" DEMO4 "$more" >mixed.wad
     pack DEMO1 "$more" DEMO2 "$more" >gone.wad
     printf '\xff\xff\xff\x7f' | dd of=gone.wad bs=1 seek=$((12 + 44 + 16)) conv=notrunc status=none
 }
@@ -60,15 +60,15 @@ cases_of_demos() {
     mark='no end marker: the bytes from place 13 on make no whole command'
     # The game finds no lump of small letters, so demo3 is none.
     says 'the demos of a WAD file' 2 "demos.wad: DEMO1: $game, 1 player, 2 tics, 0:00.05\n" \
-        "wadlens: demos.wad: DEMONS: version 203 (MBF): not read\nwadlens: demos.wad: DEMO: $mark\n" demos demos.wad
+        "wadlens: demos.wad: DEMONS: version 204: not read\nwadlens: demos.wad: DEMO: $mark\n" demos demos.wad
     says 'a demo outside its file' 2 "gone.wad: DEMO1: $game, 1 player, 2 tics, 0:00.05\n" \
         'wadlens: gone.wad: DEMO2: outside its file\n' demos gone.wad
     says 'a WAD file without a demo' 0 '' '' demos base.wad
     says 'demos: the objects' 2 "$(listed two.lmp '"players":1,"tics":2,"odd":0,"after":1')$(
         printf '{"file":"demos.wad","lump":"DEMO1","version":109,"skill":3,"episode":1,"map":1,"players":1,"tics":2,"odd":0,"after":0}\\n'
-    )$(unlisted demos.wad DEMONS 'version 203 (MBF): not read')$(unlisted demos.wad DEMO "$mark")$(
+    )$(unlisted demos.wad DEMONS 'version 204: not read')$(unlisted demos.wad DEMO "$mark")$(
         listed odd.lmp '"players":2,"tics":1,"odd":1,"after":1')" \
-        "wadlens: demos.wad: DEMONS: version 203 (MBF): not read\nwadlens: demos.wad: DEMO: $mark\n" demos --json two.lmp demos.wad odd.lmp
+        "wadlens: demos.wad: DEMONS: version 204: not read\nwadlens: demos.wad: DEMO: $mark\n" demos --json two.lmp demos.wad odd.lmp
     says 'demos: the object of one outside its file' 2 "$(printf '{"file":"gone.wad","lump":"DEMO1","version":109,"skill":3,"episode":1,"map":1,')$(
         printf '"players":1,"tics":2,"odd":0,"after":0}\\n')$(unlisted gone.wad DEMO2 'outside its file')" \
         'wadlens: gone.wad: DEMO2: outside its file\n' demos --json gone.wad
@@ -85,24 +85,24 @@ cases_of_demos() {
 
 # Three demos of a WAD file, of which the second is refused.
 cases_of_demos_in_order() {
-    local two sound="$game, 1 player, 2 tics, 0:00.05, after 1" message='wadlens: three.wad: DEMO2: version 203 (MBF): not read\n'
+    local two sound="$game, 1 player, 2 tics, 0:00.05, after 1" message='wadlens: three.wad: DEMO2: version 204: not read\n'
     local members='"version":109,"skill":3,"episode":1,"map":1,"players":1,"tics":2,"odd":0,"after":1}\n'
     two=$(bytes "${header[@]}" "${two_commands[@]}" 128 7)
-    pack DEMO1 "$two" DEMO2 "$(bytes 203)" DEMO3 "$two" >three.wad
+    pack DEMO1 "$two" DEMO2 "$(bytes 204)" DEMO3 "$two" >three.wad
     says demos_in_order 2 "three.wad: DEMO1: $sound\nthree.wad: DEMO3: $sound\n" "$message" demos three.wad
     says 'demos_in_order: the objects' 2 "{\"file\":\"three.wad\",\"lump\":\"DEMO1\",$members$(
-        unlisted three.wad DEMO2 'version 203 (MBF): not read'){\"file\":\"three.wad\",\"lump\":\"DEMO3\",$members" "$message" \
+        unlisted three.wad DEMO2 'version 204: not read'){\"file\":\"three.wad\",\"lump\":\"DEMO3\",$members" "$message" \
         demos --json three.wad
 }
 
 # The message about a demo or a file that is refused stands behind what was answered before, and before its object.
 cases_of_logged_demos() {
     local sound="$game, 1 player, 2 tics, 0:00.05" object first third
-    first='wadlens: mixed.wad: DEMO1: version 203 (MBF): not read\n' third="wadlens: mixed.wad: DEMO3: 1 bytes of a header's 13\n"
+    first='wadlens: mixed.wad: DEMO1: version 204: not read\n' third="wadlens: mixed.wad: DEMO3: 1 bytes of a header's 13\n"
     logged 'demos: one log' 2 "still.lmp: $game, 1 player, 0 tics, 0:00.00\n${first}mixed.wad: DEMO2: $sound\n${third}mixed.wad: DEMO4: $sound\n$(
         told no.lmp "$missing")still.lmp: $game, 1 player, 0 tics, 0:00.00\n" demos still.lmp mixed.wad no.lmp still.lmp
     object='"version":109,"skill":3,"episode":1,"map":1,"players":1,"tics":2,"odd":0,"after":0}\n'
-    logged 'demos: one log of objects' 2 "$first$(unlisted mixed.wad DEMO1 'version 203 (MBF): not read'){\"file\":\"mixed.wad\",\"lump\":\"DEMO2\",$object$third$(
+    logged 'demos: one log of objects' 2 "$first$(unlisted mixed.wad DEMO1 'version 204: not read'){\"file\":\"mixed.wad\",\"lump\":\"DEMO2\",$object$third$(
         unlisted mixed.wad DEMO3 "1 bytes of a header's 13"){\"file\":\"mixed.wad\",\"lump\":\"DEMO4\",$object$(
         told no.lmp "$missing")$(refused_object no.lmp "$missing")" demos --json mixed.wad no.lmp
     logged 'survey: one log' 2 "$(told no.wad "$missing")$(refused_object no.wad "$missing")$(told folder "$unread")$(refused_object folder "$unread")" \
@@ -181,19 +181,20 @@ cases_of_refused_demos() {
     refused_demo 'version 5: not read' 5
     refused_demo 'version 77: not read' 77
     refused_demo 'version 103: not read' 103
-    refused_demo 'version 104 (1.4 to 1.8): not read' 104
-    refused_demo 'version 108 (1.4 to 1.8): not read' 108
+    refused_demo '1 bytes of a header'"'"'s 13' 104
     refused_demo 'version 112: not read' 112
-    refused_demo 'version 201: not read' 201
-    refused_demo 'version 202 (Boom): not read' 202
-    refused_demo 'version 203 (MBF): not read' 203
+    refused_demo 'version 199: not read' 199
+    refused_demo '1 bytes of a header'"'"'s 301' 200
+    refused_demo '1 bytes of a header'"'"'s 109' 201
+    refused_demo 'version 202 (Boom): its signature isn'"'"'t 1d 42 6f 6f 6d e6' 202 30
+    refused_demo 'version 203 (MBF): its signature isn'"'"'t 1d 4d 42 46 e6 00' 203 29 66
     refused_demo 'version 204: not read' 204
     refused_demo 'version 209: not read' 209
-    refused_demo 'version 210 (PrBoom): not read' 210
-    refused_demo 'version 214 (PrBoom): not read' 214
+    refused_demo 'version 210 (PrBoom): its signature isn'"'"'t 1d 4d 42 46 e6 00' 210 29 77 66 70 230 1
+    refused_demo '2 bytes of a header'"'"'s 109' 214 29
     refused_demo 'version 215: not read' 215
     refused_demo 'version 220: not read' 220
-    refused_demo 'version 221 (MBF21): not read' 221
+    refused_demo 'version 221 (MBF21): its signature isn'"'"'t 1d 4d 42 46 e6 00' 221 0
     refused_demo 'version 222: not read' 222
     refused_demo 'version 255: not read' 255
     : >one.lmp
@@ -251,7 +252,7 @@ cases_of_compare() {
     mistaken '--files-from of compare' "unexpected argument '--files-from'" compare --files-from - two.lmp two.lmp
     cp two.lmp -- -y.lmp
     says 'compare: a path that begins with -' 0 '' '' compare -- -y.lmp two.lmp
-    tells '--help of compare' 'Usage: wadlens compare <A> <B>' compare --help
+    tells '--help of compare' 'Usage: wadlens compare [OPTIONS] <A> <B>' compare --help
 }
 
 cases_of_compared_commands() {

@@ -14,6 +14,7 @@ from plain.runs import (
     cut_run,
     given,
     lens_run,
+    listing_run,
     look_runs,
     named_cut_run,
     no_text,
@@ -284,6 +285,25 @@ def of_demos(random: Random) -> Case:
     return Case(files, runs + [compare_run(random, paths) for _ in "ab"])
 
 
+def of_later_demos(random: Random) -> Case:
+    """Demos of all engines as files and as lumps, whole and damaged, and the same demo with little else."""
+    files: Files = {}
+    lumps: make.Lumps = []
+    for i in range(random.randrange(1, 5)):
+        data = make.later_demo(random)
+        for _ in range(random.choice((0, 0, 0, 1, 2))):
+            data = harm.later_demo(random, data)
+        files[f"demo{i}.lmp"] = data
+        lumps.append((b"DEMO%d" % i, data))
+    files["other.lmp"] = harm.later_sibling(random, files["demo0.lmp"] or b"")
+    files["demos.wad"] = make.file(random, lumps)
+    paths = list(files)
+    runs = [lens_run(random, "demos", paths) for _ in "ab"]
+    runs += [listing_run(path) for path in random.sample(paths, min(len(paths), 3))]
+    runs += [compare_run(random, ["demo0.lmp", "other.lmp"]) for _ in "ab"]
+    return Case(files, [*runs, compare_run(random, paths)])
+
+
 def of_pairs(random: Random) -> Case:
     """Demos that differ in few places, whole and damaged."""
     data = make.demo(random)
@@ -402,6 +422,7 @@ KINDS = (
     + [of_many] * 4
     + [of_set] * 6
     + [of_demos] * 3
+    + [of_later_demos] * 4
     + [of_pairs] * 2
     + [of_listings] * 2
     + [of_formats] * 3

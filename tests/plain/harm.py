@@ -277,14 +277,36 @@ def demo(random: Random, data: bytes) -> bytes:
         case 0:
             return data[: random.randrange(len(data) + 1)]
         case 1:
-            versions = (0, 4, 5, 104, 108, 112, 202, 203, 210, 214, 221, 255)
+            versions = (0, 4, 5, 104, 108, 112, 200, 202, 203, 204, 210, 214, 215, 221, 255)
             return bytes([random.choice(versions)]) + data[1:]
         case 2:
             return data[:9] + b"\0\0\0\0" + data[13:]
     return turned(random, data)
 
 
+def later_demo(random: Random, data: bytes) -> bytes:
+    """A demo of any engine cut, or with another byte where headers and wrappers have theirs."""
+    if random.random() < 0.3 or not data:
+        return data[: random.randrange(min(len(data), 340) + 1)]
+    at = random.randrange(min(len(data), random.choice((8, 20, 130, 340, 340))))
+    byte = random.choice((0, 1, 2, 3, 25, 26, 128, 255))
+    return data[:at] + bytes([byte]) + data[at + 1 :]
+
+
 # ---- Demos ---------------------------------------------------------------------------
+
+
+def later_sibling(random: Random, data: bytes) -> bytes:
+    """A demo of any engine that is like another but for a byte or an end."""
+    at = random.randrange(len(data)) if data else 0
+    match random.randrange(5):
+        case 0:
+            return data[:at] + b"\x80"
+        case 1:
+            return data + b"more"
+        case 2:
+            at = min(at, random.choice((20, 110, 310)))
+    return data[:at] + bytes([data[at] ^ random.choice((1, 2, 4))]) + data[at + 1 :] if data else data
 
 
 def sibling(random: Random, data: bytes) -> bytes:

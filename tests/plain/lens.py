@@ -5,7 +5,7 @@ import re
 from collections.abc import Iterator
 from typing import NamedTuple
 
-from plain import demos
+from plain import later
 from plain.levels import Level, LineDef, Seg
 from plain.look import Answer
 from plain.picture import CELLS, Frame
@@ -90,6 +90,7 @@ class Asked(NamedTuple):
     folder: str = ""
     title: str = "Atlas"
     day: str = ""
+    commands_alone: bool = False
 
 
 class Run:
@@ -679,61 +680,9 @@ def cut(run: Run, asked: Asked, path: str, listed: list[Entry]) -> None:
 # ---- demos ---------------------------------------------------------------------------
 
 
-def engine(version: int) -> str:
-    """Who writes a version that isn't read."""
-    if version < 5:
-        return " (1.2 and before)"
-    if 104 <= version <= 108:
-        return " (1.4 to 1.8)"
-    if 210 <= version <= 214:
-        return " (PrBoom)"
-    return {202: " (Boom)", 203: " (MBF)", 221: " (MBF21)"}.get(version, "")
-
-
-def refusal_of(data: bytes) -> str:
-    """Why bytes are no demo; nothing where they are one."""
-    match demos.refusal(data):
-        case 1:
-            return "empty"
-        case 2:
-            return f"version {data[0]}{engine(data[0])}: not read"
-        case 3:
-            return f"{len(data)} bytes of a header's 13"
-        case 4:
-            return "no player in the game"
-    at = demos.read(data).unended
-    if at is None:
-        return ""
-    return f"no end marker: the bytes from place {at} on make no whole command"
-
-
-def demo_line(front: str, demo: demos.Demo) -> str:
-    players, tics = len(demo.players), demo.tics
-    minutes, seconds = divmod(tics // 35, 60)
-    time = f"{minutes}:{seconds:02}.{tics % 35 * 100 // 35:02}"
-    version, skill, episode, number = demo.header[:4]
-    parts = [
-        f"{front}: version {version}",
-        f"skill {skill}",
-        f"episode {episode}",
-        f"map {number}",
-        f"{players} player" if players == 1 else f"{players} players",
-        f"{tics} tics",
-        time,
-    ]
-    parts += [f"odd {demo.odd}"] if demo.odd else []
-    parts += [f"after {demo.after}"] if demo.after else []
-    return ", ".join(parts)
-
-
-def demo_object(path: str, name: bytes | None, demo: demos.Demo) -> str:
-    members: dict[str, object] = {"file": path}
-    if name is not None:
-        members["lump"] = shown(name)
-    members |= zip(("version", "skill", "episode", "map"), demo.header)
-    members |= {"players": len(demo.players), "tics": demo.tics}
-    members |= {"odd": demo.odd, "after": demo.after}
-    return written(members)
+def demo_object(path: str, name: bytes | None, demo: later.LaterDemo) -> str:
+    lump_member = {} if name is None else {"lump": shown(name)}
+    return written({"file": path, **lump_member, **later.members(demo)})
 
 
 def refuse_demo(run: Run, asked: Asked, path: str, name: bytes | None, why: str) -> None:
@@ -745,12 +694,12 @@ def refuse_demo(run: Run, asked: Asked, path: str, name: bytes | None, why: str)
 
 def tell_demo(run: Run, asked: Asked, path: str, name: bytes | None, data: bytes) -> None:
     front = shown_path(path) if name is None else f"{shown_path(path)}: {shown(name)}"
-    if why := refusal_of(data):
+    if why := later.refusal_of(data):
         refuse_demo(run, asked, path, name, why)
     elif asked.json:
-        run.out.append(demo_object(path, name, demos.read(data)))
+        run.out.append(demo_object(path, name, later.read(data)))
     else:
-        run.out.append(demo_line(front, demos.read(data)))
+        run.out.append(f"{front}: {later.line(later.read(data))}")
 
 
 def tell_demos(run: Run, asked: Asked, path: str, listed: list[Entry]) -> None:

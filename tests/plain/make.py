@@ -297,6 +297,82 @@ def demo(random: Random) -> bytes:
     return bytes(head) + body + b"\x80" + after
 
 
+# ---- Demos of later engines ----------------------------------------------------------
+
+PLAYERS = ([1, 0, 0, 0], [1, 1, 0, 0], [0, 0, 7, 0], [1, 1, 1, 1])
+BOOM_VERSIONS = (200, 201, 202)
+SHORT_VERSIONS = (104, 106, 108, 109, 110)
+MBF_VERSIONS = (203, 210, 211, 212, 213, 214)
+
+
+def mostly_zero(random: Random, count: int) -> bytes:
+    return bytes(random.choice((0, 0, 0, 0, 1, 7, 255)) for _ in range(count))
+
+
+def later_header(random: Random, version: int) -> bytes:
+    """A header of a version: what stands before the players, these, and what is reserved."""
+    players = bytes(random.choice(PLAYERS))
+    if version < 200:
+        return bytes([version]) + mostly_zero(random, 8) + players
+    reserved = random.choice((bytes(28), mostly_zero(random, 28)))
+    if version == 221:
+        options = random.choice((0, 1, 24, 25, 25))
+        front = b"\x1dMBF\xe6\0" + mostly_zero(random, 25) + bytes([options]) + mostly_zero(random, options)
+    else:
+        size = 262 if version == 200 else 70
+        front = (b"\x1dBoom\xe6" if version in BOOM_VERSIONS else b"\x1dMBF\xe6\0") + mostly_zero(random, size)
+    return bytes([version]) + front + players + reserved
+
+
+def footer(random: Random) -> bytes:
+    """What engines leave behind a marker, and what is almost that."""
+    port = random.choice((b"dsda-doom 0.25.6", b"dsda-doom 0.25.6\n", b"", b"a\xc3", b"port  \n"))
+    words = random.choice((b'-iwad "freedoom2.wad" ', b"-iwad x \n\n", b"  ", b"w\xc3\xa9" * 1400, b"w" * 4095 + b"\xc3\xa9"))
+    match random.randrange(6):
+        case 0:
+            lumps = [(b"FEATURES", b"\0"), (b"PORTNAME", port), (b"CMDLINE", words)]
+            return file(random, random.sample(lumps, random.randrange(4)))
+        case 1:
+            return file(random, [(b"CMDLINE", b"first"), (b"CMDLINE", words), (b"portname", port), (b"PORTNAME", port)])
+        case 2:
+            return b"Woof 10.5.1" + random.choice((b"", b"\n", b"\n" + words, b"\n" + words + b"\n", b"\n\n" + words))
+        case 3:
+            return random.choice((b"Woof", b"woof 1", b"PWAD", b"IWAD" + bytes(8), b"\x80", port))
+    return b""
+
+
+def wrapper(random: Random) -> tuple[bytes, bool, bool]:
+    """What stands before a demo, whether commands have actions, and whether a key frame follows the header."""
+    place = random.choice((bytes(4), b"\0\0\0\x8d", b"\xff" * 4))
+    match random.randrange(6):
+        case 0:
+            return b"\xff\x1dDSDA\xe6\x01" + place + bytes(4), True, False
+        case 1 | 2:
+            flags = random.choice((0, 0, 1, 2, 3))
+            return b"\xff\x1dDSDA\xe6\x02" + place + b"\0\0\0\x03" + bytes([flags]), True, bool(flags & 1)
+        case 3:
+            name = random.choice((b"MAP05", b"", b"E1M\\", b"LONGNAME", b"a\0b"))
+            return b"\xffPR+UM\0\x01\x01\0\x08UMAPINFO" + name.ljust(8, b"\0"), False, False
+    return b"", False, False
+
+
+def later_demo(random: Random) -> bytes:
+    """A demo of any engine, in a wrapper or in none."""
+    long = (111, 214, 221)
+    version = random.choice((*SHORT_VERSIONS, *BOOM_VERSIONS, *MBF_VERSIONS, *long))
+    front, has_actions, has_frame = wrapper(random)
+    body = later_header(random, version)
+    if has_frame:
+        frame = random.randbytes(random.choice((0, 1, 3, 40)))
+        body += len(frame).to_bytes(4, "little") + frame
+    for _ in range(random.choice((0, 1, 2, 3, 7, 40))):
+        body += bytes([random.choice((0, 25, 50, 127, 129, 206, 255))]) + random.randbytes(4 if version in long else 3)
+        if has_actions:
+            actions = random.choice((0, 0, 1, 2, 4, 6, 8, 16, 25, 255))
+            body += bytes([actions]) + random.randbytes((actions >> 1 & 1) + (actions >> 2 & 1))
+    return front + body + b"\x80" + footer(random)
+
+
 # ---- Files ---------------------------------------------------------------------------
 
 

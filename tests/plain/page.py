@@ -171,7 +171,7 @@ def total_events(rows: list[Row], files: int, mapped: bool) -> list[str]:
 def level_events(row: Row, level: Level) -> list[str]:
     """The codes that hold, with how often, those of warnings behind them, the first messages,
     and how many records there are."""
-    events = [] if level.faults else [tag("li", **{"class": "sound"}), text("sound")]
+    events = [] if row.verdict == FAULTY else [tag("li", **{"class": "sound"}), text("sound")]
     counts = {code: len(where) for code, where in (row.findings or {}).items()} | (row.warned or {})
     for code, count in counts.items():
         events += [tag("li", **{"class": KINDS[code[0]]}), text(f"{code} × {count}")]

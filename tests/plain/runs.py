@@ -355,7 +355,13 @@ def atlas_run(random: Random, paths: list[str], files: Files) -> Run:
 
 def compare_run(random: Random, paths: list[str]) -> Run:
     both = [random.choice(paths), random.choice(paths)]
-    return Run("wadlens", ["compare", *both], b"", lens.Asked("compare", both))
+    alone = random.random() < 0.3
+    words = random.choice((["--commands", *both], [*both, "--commands"])) if alone else both
+    return Run("wadlens", ["compare", *words], b"", lens.Asked("compare", both, commands_alone=alone))
+
+
+def listing_run(path: str) -> Run:
+    return Run("wadlens", ["listing", path], b"", lens.Asked("listing", [path]))
 
 
 def assemble_run(listing: bytes) -> Run:

@@ -1,9 +1,9 @@
-"""What `wadlens` does for what is asked, by docs/wadlens.1: picture, compare, assemble and
-atlas here, and what it tells of files one after another in lens.py."""
+"""What `wadlens` does for what is asked, by docs/wadlens.1: picture, compare, listing, assemble
+and atlas here, and what it tells of files one after another in lens.py."""
 
 from os.path import dirname
 
-from plain import demos, lens, page
+from plain import demos, later, lens, page
 from plain.lens import Asked, Format, Run
 from plain.levels import Level
 from plain.look import Answer
@@ -70,16 +70,26 @@ def draw(run: Run, asked: Asked, listed: list[Entry]) -> None:
 # ---- compare and assemble ------------------------------------------------------------
 
 
-def compare(run: Run, asked: Asked, held: Files) -> None:
+def read_demos(run: Run, asked: Asked, held: Files) -> list[later.LaterDemo]:
+    """The demos of files; none where one of them is refused."""
     for path in asked.paths:
-        if why := lens.unread(path, held) or lens.refusal_of(held[path] or b""):
+        if why := lens.unread(path, held) or later.refusal_of(held[path] or b""):
             run.refuses(path, why)
-    if run.errors:
-        return
-    a, b = (demos.read(held[path] or b"") for path in asked.paths)
-    if told := demos.difference(a, b):
-        run.out.append(told)
-        run.finds(lens.FAULTY)
+    return [] if run.errors else [later.read(held[path] or b"") for path in asked.paths]
+
+
+def compare(run: Run, asked: Asked, held: Files) -> None:
+    if both := read_demos(run, asked, held):
+        if told := later.difference(*both, asked.commands_alone):
+            run.out.append(told)
+            run.finds(lens.FAULTY)
+
+
+def listing(run: Run, asked: Asked, held: Files) -> None:
+    for demo in read_demos(run, asked, held):
+        run.out += later.listing(demo)
+        # A listing gives back the header.
+        assert demo.wrapper or demo.version < 200 or later.header_told(run.out) == demo.header
 
 
 def assemble(run: Run, given: bytes) -> None:
@@ -186,6 +196,8 @@ def run(asked: Asked, held: Files, given: bytes) -> Answer:
                 told.errors.append(NAME_FIRST)
         case "compare":
             compare(told, asked, held)
+        case "listing":
+            listing(told, asked, held)
         case "assemble":
             assemble(told, given)
         case "atlas":

@@ -5,7 +5,8 @@ use borrow.Author.Tests.{eqb-true}
 use Rattle.std.specs.Io.KnownBytes.{Appends, Keeps}
 use Rattle.std.specs.List.{slice_get}
 use Rattle.std.proofs.KnownBytes.{Appends-nil, Appends-trans}
-use Rattle.demo_lump.specs.Demo.{Demo, IsRead as IsReadDemo}
+use Rattle.later_demos.specs.Demo.{Demo, IsDemo}
+use Rattle.later_demos.specs.Footer.{Footer, IsFooter}
 use Rattle.le_rec.specs.Sink.{SinkState}
 use Rattle.lens_texts.proofs.HandingLemmas.{appends_kept, front_kept}
 use Rattle.line_io.specs.Writes.{TakesFront}
@@ -43,17 +44,18 @@ told_nothing Is out errors answers refusals is = record {
 }
 
 -- a demo that is read is told on the output alone
-pub told_read : (asked : DemosAsked) (lump : Option (List ℕ)) (bytes : List ℕ) (demo : Demo) (out out' errors : SinkState) (result : Result Bool DemosFault)
-    → IsReadDemo bytes demo → errors.failed ≡ false → Answers (read_text asked.form asked.path lump demo) true out out' result
+pub told_read : (asked : DemosAsked) (lump : Option (List ℕ)) (bytes : List ℕ) (demo : Demo) (footer : Footer) (out out' errors : SinkState) (result : Result Bool DemosFault)
+    → IsDemo bytes demo → IsFooter demo.rest footer → errors.failed ≡ false
+    → Answers (read_text asked.form asked.path lump demo footer) true out out' result
     → WritesTold (IsDemoTold asked lump bytes) out out' errors errors result
-told_read asked lump bytes demo out out' errors result is refusals answered = record {
-  texts = read_texts asked lump demo;
+told_read asked lump bytes demo footer out out' errors result is tells refusals answered = record {
+  texts = read_texts asked lump demo footer;
   is_read = true;
-  is = read demo is;
+  is = read demo footer is tells;
   tells = go result answered;
 }
   where
-    go : (r : Result Bool DemosFault) → Answers (read_text asked.form asked.path lump demo) true out out' r → TellsDemo (read_texts asked lump demo) true out out' errors errors r
+    go : (r : Result Bool DemosFault) → Answers (read_text asked.form asked.path lump demo footer) true out out' r → TellsDemo (read_texts asked lump demo footer) true out out' errors errors r
     go (Ok all_read) a = (a.0, record { answered = a.1; told = Appends-nil errors.taken; answers = a.2; refusals = refusals })
     go (Err (fault.Write all_read)) a = (a.0, inl (record { told = Appends-nil errors.taken; front = a.1; failed = a.2; refusals = refusals }))
     go (Err fault.Errors) a = absurd a

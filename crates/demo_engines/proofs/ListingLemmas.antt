@@ -7,7 +7,7 @@ use Rattle.demo_lump.proofs.WritingLemmas.{same_command}
 use Rattle.demo_lump.specs.declared.command.Command.{Command}
 use Rattle.le_rec.specs.Name.{hex_digit}
 use Rattle.line_io.specs.Numbers.{IsDigit}
-use Rattle.demo_engines.specs.Differences.{command_text}
+use Rattle.demo_listings.specs.CommandText.{ticcmd_text}
 use Rattle.demo_engines.specs.Parts.{FitsCommand, Stops, command_fields, front_of, totals_front}
 use Rattle.demo_engines.specs.Parts.Stops.{other}
 use Rattle.look_engines.specs.Listing.{hex_byte, ticcmd_line, totals_line}
@@ -61,7 +61,7 @@ same_line tic player c d x y of_c of_d same =
     (is.0, cc)
 
 -- the fields as they are printed
-pub printed_fields : (c : Command) (rest : List ℕ) → (command_text c ++ 10 ∷ []) ++ rest ≡ command_fields c (10 ∷ rest)
+pub printed_fields : (c : Command) (rest : List ℕ) → (ticcmd_text c ++ 10 ∷ []) ++ rest ≡ command_fields c (10 ∷ rest)
 printed_fields c rest = simp append_assoc
 
 pub line_from_front : (tic player : ℕ) (c : Command) (rest : List ℕ) → ticcmd_line tic player c ++ rest ≡ front_of tic player ++ command_fields c (10 ∷ rest)

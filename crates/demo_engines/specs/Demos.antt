@@ -2,8 +2,11 @@
 use Rattle.std.specs.Prelude.{◌≡◌, ◌⊎◌, ℕ, ◌+◌, ◌<◌, Bool, true, false, ◌&&◌, ◌||◌, List, [], ◌∷◌, ◌++◌, length, codes, nat_eq, Option, Some, None, Result, Ok, Err, IfErr, IfOk, MatchBool}
 use Rattle.std.specs.Io.KnownBytes.{Appends, Keeps}
 use Rattle.std.specs.List.{slice_get, starts_with}
-use Rattle.demo_lump.specs.Demo.{Demo, IsRead as IsReadDemo, RefusesDemo}
-use Rattle.demo_lump.specs.declared.fault.DemoFault.{DemoFault}
+use Rattle.later_demos.specs.Demo.{Demo, IsDemo}
+use Rattle.later_demos.specs.FaultText.{fault_text}
+use Rattle.later_demos.specs.Footer.{Footer, IsFooter}
+use Rattle.later_demos.specs.Refusal.{RefusesDemo}
+use Rattle.later_demos.specs.declared.fault.LaterFault.{LaterFault}
 use Rattle.le_rec.specs.Sink.{SinkState}
 use Rattle.line_io.specs.Writes.{TakesFront}
 use Rattle.wad_dir.specs.Entries.{joined, names}
@@ -11,7 +14,7 @@ use Rattle.wad_dir.specs.Refusal.{RefusesWad}
 use Rattle.wad_dir.specs.Slice.{IsLump}
 use Rattle.wad_dir.specs.Wad.{IsRead, Wad}
 use Rattle.demo_engines.specs.Objects.{demo_object, refused_object}
-use Rattle.demo_engines.specs.RefusalText.{fault_text, outside_text, refusal_line}
+use Rattle.demo_engines.specs.RefusalText.{outside_text, refusal_line}
 use Rattle.demo_engines.specs.Summary.{demo_line}
 use Rattle.lens_texts.specs.declared.form.Form.{Form}
 use Rattle.lens_texts.specs.declared.form.Form.TheVariants.{Lines, Objects}
@@ -42,9 +45,9 @@ abbrev pub texts_with : Texts → Texts → Texts
 texts_with a b = record { answer = a.answer ++ b.answer; messages = a.messages ++ b.messages }
 
 -- what is answered of a demo that is read
-abbrev pub read_text : Form → List ℕ → Option (List ℕ) → Demo → List ℕ
-read_text Lines path lump demo = demo_line path lump demo
-read_text Objects path lump demo = demo_object path lump demo
+abbrev pub read_text : Form → List ℕ → Option (List ℕ) → Demo → Footer → List ℕ
+read_text Lines path lump demo footer = demo_line path lump demo
+read_text Objects path lump demo footer = demo_object path lump demo footer
 
 -- of one that is refused, for a reason in words: its object, where objects are asked for
 abbrev pub unread_text : Form → List ℕ → Option (List ℕ) → List ℕ → List ℕ
@@ -52,8 +55,8 @@ unread_text Lines path lump why = []
 unread_text Objects path lump why = refused_object path lump why
 
 -- what is told of a demo that is read
-abbrev pub read_texts : DemosAsked → Option (List ℕ) → Demo → Texts
-read_texts asked lump demo = record { answer = read_text asked.form asked.path lump demo; messages = [] }
+abbrev pub read_texts : DemosAsked → Option (List ℕ) → Demo → Footer → Texts
+read_texts asked lump demo footer = record { answer = read_text asked.form asked.path lump demo footer; messages = [] }
 
 -- of one that is refused: its message goes to standard error in any case
 abbrev pub unread_texts : DemosAsked → Option (List ℕ) → List ℕ → Texts
@@ -61,8 +64,9 @@ unread_texts asked lump why = record { answer = unread_text asked.form asked.pat
 
 -- the texts for bytes that should be a demo, and whether they are one
 pub data IsDemoTold (asked : DemosAsked) (lump : Option (List ℕ)) (bytes : List ℕ) : Texts → Bool → Type 0 where
-  read : (demo : Demo) → IsReadDemo bytes demo → IsDemoTold asked lump bytes (read_texts asked lump demo) true
-  refused : (fault : DemoFault) → RefusesDemo bytes fault → IsDemoTold asked lump bytes (unread_texts asked lump (fault_text (length bytes) fault)) false
+  read : (demo : Demo) (footer : Footer) → IsDemo bytes demo → IsFooter demo.rest footer
+      → IsDemoTold asked lump bytes (read_texts asked lump demo footer) true
+  refused : (fault : LaterFault) → RefusesDemo bytes fault → IsDemoTold asked lump bytes (unread_texts asked lump (fault_text fault)) false
 
 -- the name of a demo's lump begins so
 abbrev pub is_demo_name : List ℕ → Bool

@@ -1,6 +1,6 @@
 pub mod Assembly
 pub mod Demos
-pub mod Differences
+pub mod DoomLine
 pub mod Laws
 pub mod ObjectValues
 pub mod Objects

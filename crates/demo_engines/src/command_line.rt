@@ -6,8 +6,8 @@ ghost use Rattle.demo_lump.specs.declared.command.Command.{Command};
 ghost use Rattle.look_engines.specs.Listing.{ticcmd_line};
 ghost use Rattle.look_engines.specs.Turn.{player_of, tic_of};
 
-use crate::compare::prepend_command;
 use crate::numbers::{behind_first, guess_hex, guess_signed, guess_word, take_label};
+use demo_listings::prepend_ticcmd;
 use demo_lump::Command;
 use line_io::TextLine;
 use look_engines::PlayerTurn;
@@ -65,7 +65,7 @@ fn take_fields(version: u8, text: &[u8]) -> Option<(Command, &[u8])>
     }
     let mut line = TextLine::new();
     line.prepend_bytes(b"\n");
-    prepend_command(&mut line, &command);
+    prepend_ticcmd(&mut line, &command);
     match take_label(text, line.as_bytes()) {
         Some(rest) => Some((command, rest)),
         None => None,

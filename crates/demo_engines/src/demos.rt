@@ -11,7 +11,7 @@ ghost use Rattle.demo_engines.specs.RefusalText.{reason_text};
 use crate::object::{write_object, write_refused_object};
 use crate::refusal::{DemoRefusal, write_refused};
 use crate::summary::{Heading, write_summary};
-use demo_lump::Demo;
+use later_demos::{Footer, LaterDemo};
 use le_rec::{Name8, Sink};
 use lens_texts::{Form, HandOn, Watch};
 use line_io::{IoFault, emit};
@@ -191,12 +191,12 @@ fn tell_demo<W: HandOn, E: Sink, P: Watch>(
         (W.state out.old) (W.state out.new) (E.state errors.old) (E.state errors.new) result }
     ensures handed { OnErrors result (W.held out.new ≡ []) }
 {
-    match Demo::read(bytes) {
-        Ok(demo) => tell_read(question, lump, &demo, out),
+    match LaterDemo::read(bytes) {
+        Ok(demo) => tell_read(question, lump, &demo, &demo.footer(), out),
         Err(fault) => tell_refused(
             question,
             lump,
-            DemoRefusal::Unread(bytes.len() as u64, fault),
+            DemoRefusal::Unread(fault),
             out,
             errors,
             watch,
@@ -208,17 +208,18 @@ fn tell_demo<W: HandOn, E: Sink, P: Watch>(
 fn tell_read<W: Sink>(
     question: &DemoQuestion<'_>,
     lump: Option<Name8>,
-    demo: &Demo<'_>,
+    demo: &LaterDemo<'_>,
+    footer: &Footer<'_>,
     out: &mut W,
 ) -> Result<bool, DemosFault>
     requires { (W.state out.old).failed ≡ false }
-    ensures { Answers (read_text question.now.form question.now.path.now lump demo.now) true (W.state out.old) (W.state out.new) result }
+    ensures { Answers (read_text question.now.form question.now.path.now lump demo.now footer.now) true (W.state out.old) (W.state out.new) result }
 {
     let heading = Heading {
         path: question.path,
         lump,
     };
-    match write_read(question.form, &heading, demo, out) {
+    match write_read(question.form, &heading, demo, footer, out) {
         Ok(()) => Ok(true),
         Err(_) => Err(DemosFault::Write(true)),
     }
@@ -227,15 +228,16 @@ fn tell_read<W: Sink>(
 fn write_read<W: Sink>(
     form: Form,
     heading: &Heading<'_>,
-    demo: &Demo<'_>,
+    demo: &LaterDemo<'_>,
+    footer: &Footer<'_>,
     out: &mut W,
 ) -> Result<(), IoFault>
     requires { (W.state out.old).failed ≡ false }
-    ensures { Writes (W.state out.old) (W.state out.new) (read_text form heading.now.path.now heading.now.lump demo.now) result }
+    ensures { Writes (W.state out.old) (W.state out.new) (read_text form heading.now.path.now heading.now.lump demo.now footer.now) result }
 {
     match form {
         Form::Lines => write_summary(heading, demo, out),
-        Form::Objects => write_object(heading, demo, out),
+        Form::Objects => write_object(heading, demo, footer, out),
     }
 }
 

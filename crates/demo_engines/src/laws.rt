@@ -1,11 +1,21 @@
 //! Laws over the definitions alone, each the contract of a function that does nothing: a caller gets the law from a call.
 
-ghost use Rattle.demo_engines.specs.Laws.{AssembledIsDemo, AssembledListsAgain, ObjectIsRead, OneListing, RefusedIsRead, SameOrDiffer};
+ghost use Rattle.demo_engines.specs.Laws.{AssembledIsDemo, AssembledListsAgain, DoomIsTold, FrontTellsHeader, ObjectIsRead, OneListing, RefusedIsRead};
 
-/// A difference is reported only if the headers or the commands differ.
-pub fn told_demos_differ()
-    ensures { SameOrDiffer }
+use later_demos::laws::headers_have_players;
+
+/// Of a demo of version 109, 110 or 111 that stands in no wrapper the line is that of its numbers alone.
+pub fn doom_is_told_as_before()
+    ensures { DoomIsTold }
 {}
+
+/// The lines before the commands of a listing give back the whole header of a demo that stands in no wrapper, whatever engine recorded
+/// it.
+pub fn listings_tell_headers()
+    ensures { FrontTellsHeader }
+{
+    headers_have_players();
+}
 
 /// A text is the listing of one demo at most.
 pub fn one_listing()

@@ -2,13 +2,14 @@
 
 ghost use Rattle.std.specs.Prelude.{◌≡◌, ◌+◌, ◌≤◌, ◌++◌, codes, false, length, None};
 ghost use Rattle.line_io.specs.Writes.{Writes};
-ghost use Rattle.demo_engines.specs.RefusalText.{engine_text, fault_text, reason_text, refusal_line};
+ghost use Rattle.demo_engines.specs.RefusalText.{reason_text, refusal_line};
 ghost use Rattle.lens_texts.specs.ShownPath.{shown_path};
 ghost use Rattle.demo_engines.specs.Summary.{lump_text};
-ghost use Rattle.demo_lump.specs.declared.fault.DemoFault.TheVariants as fault;
+ghost use Rattle.later_demos.specs.FaultText.{early_text, fault_text};
+ghost use Rattle.later_demos.specs.declared.fault.LaterFault.TheVariants as fault;
 
 use crate::summary::{Heading, prepend_lump};
-use demo_lump::DemoFault;
+use later_demos::{Engine, LaterFault};
 use le_rec::Sink;
 use lens_texts::write_path;
 use line_io::{IoFault, TextLine, emit};
@@ -18,22 +19,21 @@ use line_io::{IoFault, TextLine, emit};
 pub enum DemoRefusal {
     /// Its lump leaves the file.
     Outside,
-    /// So many bytes are no demo.
-    Unread(u64, DemoFault),
+    /// Its bytes are no demo.
+    Unread(LaterFault),
 }
 
-/// Writes why a demo file of so many bytes is refused: `wadlens: PATH: empty`.
+/// Writes why a demo file is refused: `wadlens: PATH: empty`.
 pub fn write_demo_refusal<W: Sink>(
     path: &[u8],
-    size: usize,
-    fault: DemoFault,
+    fault: LaterFault,
     err: &mut W,
 ) -> Result<(), IoFault>
     requires { (W.state err.old).failed ≡ false }
-    ensures { Writes (W.state err.old) (W.state err.new) (refusal_line path.now None (fault_text size fault)) result }
+    ensures { Writes (W.state err.old) (W.state err.new) (refusal_line path.now None (fault_text fault)) result }
 {
     let heading = Heading { path, lump: None };
-    write_refused(&heading, DemoRefusal::Unread(size as u64, fault), err)
+    write_refused(&heading, DemoRefusal::Unread(fault), err)
 }
 
 /// Writes the message about a demo that isn't read.
@@ -78,25 +78,38 @@ pub fn prepend_reason(line: &mut TextLine, why: DemoRefusal)
 {
     match why {
         DemoRefusal::Outside => line.prepend_bytes(b"outside its file"),
-        DemoRefusal::Unread(size, fault) => prepend_fault(line, size, fault),
+        DemoRefusal::Unread(fault) => prepend_fault(line, fault),
     }
 }
 
-// Puts why so many bytes are no demo before the line.
-fn prepend_fault(line: &mut TextLine, size: u64, fault: DemoFault)
+// Puts why bytes are no demo before the line.
+fn prepend_fault(line: &mut TextLine, fault: LaterFault)
     requires { length line.old ≤ 1 }
-    ensures text { line.new ≡ fault_text size fault ++ line.old }
+    ensures text { line.new ≡ fault_text fault ++ line.old }
     ensures length { length line.new ≤ length line.old + 90 }
 {
     match fault {
-        DemoFault::Empty => line.prepend_bytes(b"empty"),
-        DemoFault::Version(version) => prepend_version(line, version),
-        DemoFault::ShortHeader => {
-            line.prepend_bytes(b" bytes of a header's 13");
+        LaterFault::Empty => line.prepend_bytes(b"empty"),
+        LaterFault::Version(version) => prepend_version(line, version),
+        LaterFault::Dsda(version) => {
+            line.prepend_bytes(b"): not read");
+            line.prepend_small(version);
+            line.prepend_bytes(b"version 255 (DSDA ");
+        }
+        LaterFault::PrUm => line.prepend_bytes(b"version 255 (PR+UM): not read"),
+        LaterFault::Short(size, wanted) => {
+            line.prepend_natural(wanted);
+            line.prepend_bytes(b" bytes of a header's ");
             line.prepend_natural(size);
         }
-        DemoFault::NoPlayers => line.prepend_bytes(b"no player in the game"),
-        DemoFault::NoMarker(place) => {
+        LaterFault::Signature(version, engine) => prepend_signature(line, version, engine),
+        LaterFault::Options(count) => {
+            line.prepend_bytes(b" compatibility options, 25 are the most");
+            line.prepend_small(count);
+        }
+        LaterFault::NoPlayers => line.prepend_bytes(b"no player in the game"),
+        LaterFault::KeyFrame => line.prepend_bytes(b"its key frame isn't whole"),
+        LaterFault::NoMarker(place) => {
             line.prepend_bytes(b" on make no whole command");
             line.prepend_natural(place);
             line.prepend_bytes(b"no end marker: the bytes from place ");
@@ -106,27 +119,35 @@ fn prepend_fault(line: &mut TextLine, size: u64, fault: DemoFault)
 
 fn prepend_version(line: &mut TextLine, version: u8)
     requires { length line.old ≤ 1 }
-    ensures text { line.new ≡ fault_text 0 (fault.Version version) ++ line.old }
+    ensures text { line.new ≡ fault_text (fault.Version version) ++ line.old }
     ensures length { length line.new ≤ length line.old + 40 }
 {
     line.prepend_bytes(b": not read");
-    line.prepend_bytes(engine_name(version));
+    prepend_early(line, version);
     line.prepend_small(version);
     line.prepend_bytes(b"version ");
 }
 
-// The engine that writes this version, if it is known.
-fn engine_name(version: u8) -> &'static [u8]
-    ensures name { result.now ≡ engine_text version }
-    ensures short { length result.now ≤ 17 }
+// ` (1.2 and before)`, where the byte is a skill.
+fn prepend_early(line: &mut TextLine, version: u8)
+    requires { length line.old ≤ 20 }
+    ensures text { line.new ≡ early_text version ++ line.old }
+    ensures length { length line.new ≤ length line.old + 17 }
 {
-    match version {
-        0..=4 => b" (1.2 and before)",
-        104..=108 => b" (1.4 to 1.8)",
-        202 => b" (Boom)",
-        203 => b" (MBF)",
-        210..=214 => b" (PrBoom)",
-        221 => b" (MBF21)",
-        _ => b"",
+    if version < 5 {
+        line.prepend_bytes(b" (1.2 and before)");
     }
+}
+
+fn prepend_signature(line: &mut TextLine, version: u8, engine: Engine)
+    requires { length line.old ≤ 1 }
+    ensures text { line.new ≡ fault_text (fault.Signature version engine) ++ line.old }
+    ensures length { length line.new ≤ length line.old + 70 }
+{
+    line.prepend_bytes(engine.signature_digits().as_bytes());
+    line.prepend_bytes(b"): its signature isn't ");
+    line.prepend_bytes(engine.name().as_bytes());
+    line.prepend_bytes(b" (");
+    line.prepend_small(version);
+    line.prepend_bytes(b"version ");
 }

@@ -6,6 +6,8 @@ pub mod AtlasTold
 pub mod CompareJob
 pub mod Folder
 pub mod Gathered
+pub mod GivenDemo
+pub mod ListingJob
 pub mod Picture
 pub mod PictureFiles
 pub mod PictureFormat

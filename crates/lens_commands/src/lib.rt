@@ -1,9 +1,11 @@
-//! The commands `picture`, `atlas`, `compare` and `assemble` of `wadlens`, over any files, readers, writers and folders.
+//! The commands `picture`, `atlas`, `compare`, `listing` and `assemble` of `wadlens`, over any files, readers, writers and folders.
 #![tactic(auto)]
 
 mod assemble;
 mod atlas;
 mod compare;
+mod given;
+mod listing;
 mod picture;
 
 pub use assemble::run_assemble;
@@ -12,4 +14,5 @@ pub use atlas::{
     write_atlas,
 };
 pub use compare::run_compare;
+pub use listing::run_listing;
 pub use picture::{PictureQuestion, marks_by, run_picture};

@@ -14,11 +14,11 @@ const LINES: &[u8] =
     b"a.wad: DEMO1: version 109, skill 3, episode 1, map 1, 1 player, 2 tics, 0:00.05, after 1\n\
 a.wad: DEMO3: version 109, skill 3, episode 1, map 1, 1 player, 2 tics, 0:00.05, after 1\n";
 
-const MESSAGE: &[u8] = b"wadlens: a.wad: DEMO2: version 203 (MBF): not read\n";
+const MESSAGE: &[u8] = b"wadlens: a.wad: DEMO2: version 204: not read\n";
 
 const OBJECTS: &[u8] =
     b"{\"file\":\"a.wad\",\"lump\":\"DEMO1\",\"version\":109,\"skill\":3,\"episode\":1,\"map\":1,\"players\":1,\"tics\":2,\"odd\":0,\"after\":1}\n\
-{\"file\":\"a.wad\",\"lump\":\"DEMO2\",\"refused\":\"version 203 (MBF): not read\"}\n\
+{\"file\":\"a.wad\",\"lump\":\"DEMO2\",\"refused\":\"version 204: not read\"}\n\
 {\"file\":\"a.wad\",\"lump\":\"DEMO3\",\"version\":109,\"skill\":3,\"episode\":1,\"map\":1,\"players\":1,\"tics\":2,\"odd\":0,\"after\":1}\n";
 
 // The length of a line, and of the first object.
@@ -38,7 +38,7 @@ fn check_ends(
     assert!(rt; room.0 <= 1024 && room.1 <= 1024);
     let file = pack(
         rt,
-        &[(b"DEMO1", &TWO), (b"DEMO2", &[203]), (b"DEMO3", &TWO)],
+        &[(b"DEMO1", &TWO), (b"DEMO2", &[204]), (b"DEMO3", &TWO)],
     );
     let mut answered = [0; 1024];
     let mut out = AtOnce(SliceSink::new(&mut answered[..room.0]));

@@ -30,6 +30,8 @@ mod findings;
 #[cfg(test)]
 mod growth_end;
 #[cfg(test)]
+mod later_listings;
+#[cfg(test)]
 mod lens_check;
 #[cfg(test)]
 mod lens_growths;
@@ -51,6 +53,8 @@ mod picture_cases;
 mod refusal_words;
 #[cfg(test)]
 mod sample;
+#[cfg(test)]
+mod sketch_cases;
 #[cfg(test)]
 mod starts_cases;
 #[cfg(test)]

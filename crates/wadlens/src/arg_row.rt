@@ -54,7 +54,7 @@ pub enum Bound {
 }
 
 impl ArgRow {
-    /// The argument.
+    /// The argument. No clause speaks of what `clap` keeps of it: the cases of `tests/wadlens` show that.
     pub fn arg<'a>(&self, alloc: Global) -> Result<Arg<'a>, AllocError> {
         bind(self.taking(self.named(alloc)), self.bound)
     }

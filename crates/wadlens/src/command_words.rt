@@ -9,7 +9,8 @@ use std::alloc::{AllocError, Global};
 
 // The commands, in the order in which help shows them.
 const COMMANDS: &[&str] = &[
-    "check", "survey", "atlas", "explain", "demos", "picture", "cut", "compare", "assemble",
+    "check", "survey", "atlas", "explain", "demos", "picture", "cut", "compare", "listing",
+    "assemble",
 ];
 
 /// All commands with their arguments.
@@ -66,6 +67,12 @@ pub fn command_named<'a>(alloc: Global, name: &str) -> Result<Command<'a>, Alloc
             "compare",
             "Report where two demo files first differ, in one line",
             &[COMPARE],
+        ),
+        "listing" => command_of(
+            alloc,
+            "listing",
+            "List a demo of any engine: its header, its options and its commands",
+            &[LISTING],
         ),
         _ => command_of(
             alloc,
@@ -170,6 +177,13 @@ const DEMOS: &[ArgRow] = &[ArgRow {
 // The arguments of `compare`.
 const COMPARE: &[ArgRow] = &[
     ArgRow {
+        id: "commands",
+        value: None,
+        takes: Takes::Flag,
+        bound: Bound::Free,
+        help: "Compare how many players there are and what their commands do, and no header",
+    },
+    ArgRow {
         id: "a",
         value: Some("A"),
         takes: Takes::Place,
@@ -184,6 +198,15 @@ const COMPARE: &[ArgRow] = &[
         help: "Another one",
     },
 ];
+
+// The arguments of `listing`.
+const LISTING: &[ArgRow] = &[ArgRow {
+    id: "file",
+    value: Some("DEMO"),
+    takes: Takes::Place,
+    bound: Bound::Required,
+    help: "A demo file",
+}];
 
 // The arguments of `cut`.
 const CUT: &[ArgRow] = &[

@@ -17,7 +17,7 @@ use atlas_words::AtlasWords;
 use clap::error::ErrorKind;
 use disk_folder::DiskFolder;
 use le_rec::{Sink, ToWrite};
-use lens_commands::{run_assemble, run_atlas, run_compare, run_picture};
+use lens_commands::{run_assemble, run_atlas, run_compare, run_listing, run_picture};
 use lens_engines::Verdict;
 use lens_reports::{End, Output, exit_status, run_cut, run_explain, run_job};
 use level_codes::ReportCode;
@@ -97,6 +97,7 @@ fn do_task<R: Files + Input + Print + AllocGlobal, E: Write + Drop>(
         Task::Cut(words) => cut(rt, words, errors),
         Task::Draw(words) => draw(rt, words, errors),
         Task::Compare(words) => compare(rt, words, errors),
+        Task::List(path) => list(rt, path, errors),
         Task::Assemble => assemble(rt, errors),
     }
 }
@@ -198,8 +199,26 @@ fn compare<R: Files + Print + AllocGlobal, E: Write + Drop>(
     let mut told = ToWrite::new(errors);
     run_compare(
         rt.alloc(),
+        words.what,
         words.path_a.as_bytes(),
         words.path_b.as_bytes(),
+        &Disk(rt),
+        &mut output,
+        &mut told,
+    )
+}
+
+// Lists a demo file.
+fn list<R: Files + Print + AllocGlobal, E: Write + Drop>(
+    rt: &R,
+    path: &str,
+    errors: E,
+) -> Result<Verdict, End> {
+    let mut output = Output::new(rt.alloc(), io::writer(rt))?;
+    let mut told = ToWrite::new(errors);
+    run_listing(
+        rt.alloc(),
+        path.as_bytes(),
         &Disk(rt),
         &mut output,
         &mut told,

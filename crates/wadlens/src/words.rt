@@ -7,6 +7,7 @@ use crate::mistake::Mistake;
 use crate::picture_words::PictureWords;
 use crate::shared_words::{most_of, texts_of};
 use clap::{ArgMatches, Command};
+use demo_listings::Compared;
 use lens_reports::{CutAsked, ReportJob, ReportKind, SHOWN};
 use lens_texts::Form;
 use level_codes::ReportCode;
@@ -25,6 +26,8 @@ pub enum Task<'a> {
     Draw(PictureWords<'a>),
     /// Two demo files are compared.
     Compare(CompareWords<'a>),
+    /// The demo file under this path is listed.
+    List(&'a str),
     /// A demo is put together from its listing.
     Assemble,
     /// An atlas is made.
@@ -38,9 +41,10 @@ pub struct CutWords<'a> {
     pub path: &'a str,
 }
 
-/// Which demo files are compared.
+/// Which demo files are compared, and what of them.
 #[derive(Drop)]
 pub struct CompareWords<'a> {
+    pub what: Compared,
     pub path_a: &'a str,
     pub path_b: &'a str,
 }
@@ -118,9 +122,13 @@ fn task_of<'a>(alloc: Global, matches: &ArgMatches<'a>) -> Result<Task<'a>, Mist
     }
     if let Some(of_compare) = matches.subcommand_matches("compare") {
         return Ok(Task::Compare(CompareWords {
+            what: compared_of(of_compare),
             path_a: of_compare.get_str("a").unwrap_or(""),
             path_b: of_compare.get_str("b").unwrap_or(""),
         }));
+    }
+    if let Some(of_listing) = matches.subcommand_matches("listing") {
+        return Ok(Task::List(of_listing.get_str("file").unwrap_or("")));
     }
     if matches.subcommand_matches("assemble").is_some() {
         return Ok(Task::Assemble);
@@ -133,6 +141,15 @@ fn level_of<'a>(of_cut: &ArgMatches<'a>) -> CutAsked<'a> {
     match of_cut.get_str("level") {
         Some(name) => CutAsked::Named(name.as_bytes()),
         None => CutAsked::Entry(of_cut.get_one::<u64>("entry").unwrap_or(0)),
+    }
+}
+
+// What of two demos the arguments ask to compare.
+fn compared_of(of_compare: &ArgMatches<'_>) -> Compared {
+    if of_compare.get_flag("commands") {
+        Compared::Commands
+    } else {
+        Compared::Everything
     }
 }
 

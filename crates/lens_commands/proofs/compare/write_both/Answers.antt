@@ -8,7 +8,7 @@ pub returns-in_err-write_given : goal.returns-in_err-write_given
 returns-in_err-write_given g c =
     let p = err_from_is_err_and c.from_residual.result c.from_residual.ensures.1 in
     let first = c.in_err-write_given.ensures in
-    let second = told_some c.args.path_b.now c.args.b.now in
+    let second = told_some c.read_or_refused.ensures.either c.args.path_b.now c.args.b.now in
     rw (p.1, p.2) (record { text_a = first.0; text_b = second.0; of_a = first.1; of_b = second.1; told = Writes-stop second.0 first.2 })
 
 pub returns : goal.returns

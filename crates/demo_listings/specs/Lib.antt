@@ -1,0 +1,4 @@
+pub mod CommandText
+pub mod Listing
+pub mod Differences
+pub mod Laws

@@ -1,8 +1,0 @@
-use Rattle.std.proofs.Common.{[], inl, refl, subst}
-use Rattle.demo_lump.specs.Demo.{IsRead}
-use Rattle.lens_commands.proofs.compare.write_given.Goals as goal
-
-pub returns-in-Ok : goal.returns-in-Ok
-returns-in-Ok g c =
-    let read = subst (λ bytes. IsRead bytes c.in-Ok.field-0) c.deref.ensures.value ((c.in-Ok.ensures.ok c.in-Ok.field-0).0 refl) in
-    rw c.in-Read.is ([], inl (c.in-Ok.field-0, read, refl), c.emit.ensures)

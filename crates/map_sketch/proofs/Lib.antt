@@ -1,0 +1,3 @@
+pub mod OwnLemmas
+pub mod RowLemmas
+mod WorkedCases

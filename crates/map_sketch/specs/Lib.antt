@@ -1,0 +1,4 @@
+pub mod Own
+pub mod Records
+pub mod Sketch
+pub mod Numbers

@@ -1,10 +1,11 @@
 // A demo's commands as a table.
-import { buttonsOf, turnOf } from './demo_words.mjs';
+import { actionsOf, buttonsOf, turnOf } from './demo_words.mjs';
 import { make, Rows } from './rows.mjs';
 
 /** The columns, and what a sign means in them. */
 const COLUMNS = [['tic', ''], ['player', ''], ['forward', '+ forward, - back'], ['side', '+ right, - left'], ['turn', '+ left, - right'], ['buttons', '']];
-const TURN = 4, BUTTONS = 5;
+const TURN = 4, BUTTONS = 5, ACTIONS = 6;
+const MOST_BEFORE = 4; // lines that may stand before the commands
 
 /** @param {string} tag @param {string} role @param {string} text @param {string} [name] */
 function cell(tag, role, text, name) {
@@ -31,19 +32,24 @@ export class DemoTable {
     /** @type {import('./lines.mjs').Lines | null} */
     this.lines = null;
     this.version = 0;
+    this.before = 1; // lines before the commands
     this.rows = new Rows(viewport, body, (k) => this.#row(k));
   }
 
   /**
-   * Shows a listing: a line of the header, the commands, a line of what they add up to. None with null.
+   * Shows a listing: lines of the header and of what stands around it, the commands, a line of what they add up to. None with null. The
+   * lines behind the first one and before the commands are given back.
    * @param {import('./lines.mjs').Lines | null} lines
    */
   show(lines) {
     this.lines = lines;
     this.version = Number(/ version (\d+)/.exec(lines?.at(0) ?? '')?.[1] ?? 0);
-    const count = lines ? Math.max(0, lines.count - 2) : 0;
+    this.before = 1;
+    while (lines && this.before < MOST_BEFORE && /^[wou]/.test(lines.at(this.before))) this.before++;
+    const count = lines ? Math.max(0, lines.count - this.before - 1) : 0;
     this.viewport.setAttribute('aria-rowcount', String(count + 1));
     this.rows.show(count);
+    return Array.from({ length: this.before - 1 }, (_, k) => lines?.at(k + 1) ?? '');
   }
 
   /**
@@ -61,14 +67,15 @@ export class DemoTable {
 
   /** @param {number} k */
   #line(k) {
-    return this.lines?.at(k + 1) ?? '';
+    return this.lines?.at(k + this.before) ?? '';
   }
 
   /** @param {number} k */
   #row(k) {
-    const row = make('div', 'cells-row');
-    this.#line(k).split(' ').forEach((word, column) => {
-      const told = column === TURN ? turnOf(Number(word), this.version) : column === BUTTONS ? buttonsOf(parseInt(word, 16)) || '–' : word;
+    const row = make('div', 'cells-row'), words = this.#line(k).split(' '), actions = words.length > ACTIONS ? actionsOf(words.slice(ACTIONS)) : '';
+    words.slice(0, ACTIONS).forEach((word, column) => {
+      const held = column === BUTTONS ? [buttonsOf(parseInt(word, 16)), actions].filter(Boolean).join(', ') : '';
+      const told = column === TURN ? turnOf(Number(word), this.version) : column === BUTTONS ? held || '–' : word;
       row.append(cell('span', 'cell', told, column > 1 && /^(0|–)$/.test(told) ? 'nil' : ''));
     });
     row.setAttribute('role', 'row');

@@ -5,11 +5,14 @@ const WEAPONS = ['fist', 'pistol', 'shotgun', 'chaingun', 'rocket launcher', 'pl
 
 /** Bits of a command's buttons. */
 const ATTACK = 1, USE = 2, CHANGE = 4, WEAPON_SHIFT = 3, SPECIAL = 128, PAUSE = 1, SAVE = 2, SLOT_SHIFT = 2;
-const LONG_TURNS = 111; // the version whose turns have two bytes
+const LONG_TURNS = [111, 214, 221]; // the versions whose turns have two bytes
+
+/** Bits of what DSDA-Doom writes behind a command. */
+const ACTIONS = [[1, 'jump'], [2, 'save'], [4, 'load'], [8, 'god mode'], [16, 'noclip']];
 
 /** A turn with its sign: more than none is to the left. @param {number} turn without a sign @param {number} version of the demo */
 export function turnOf(turn, version) {
-  const all = version === LONG_TURNS ? 65536 : 256, signed = turn >= all / 2 && turn < all ? turn - all : turn;
+  const all = LONG_TURNS.includes(version) ? 65536 : 256, signed = turn >= all / 2 && turn < all ? turn - all : turn;
   return signed > 0 ? `+${signed}` : String(signed);
 }
 
@@ -21,6 +24,32 @@ export function buttonsOf(buttons) {
   }
   const held = [buttons & ATTACK && 'attack', buttons & USE && 'use', buttons & CHANGE && WEAPONS[(buttons >> WEAPON_SHIFT) & 7], buttons & 64 && 'bit 6'];
   return held.filter(Boolean).join(', ');
+}
+
+/**
+ * What DSDA-Doom writes behind a command: the actions, and the slots of a saved and of a loaded game.
+ * @param {string[]} words of a listing: the bits as two digits, and then the slots
+ */
+export function actionsOf([bits, ...slots]) {
+  const set = parseInt(bits, 16), rest = slots.values();
+  const told = ACTIONS.filter(([bit]) => set & Number(bit)).map(([bit, name]) => bit === 2 || bit === 4 ? `${name}${bit === 2 ? ' to' : ''} slot ${rest.next().value}` : String(name));
+  return [...told, ...(set >> 5 ? [`bits ${(set & 0xe0).toString(16)}`] : [])].join(', ');
+}
+
+/** Words that stand in pairs of a name and a value. @param {string[]} words @returns {[string, string][]} */
+function pairsOf(words) {
+  return words.length < 2 ? [] : [[words[0].replaceAll('_', ' '), words[1]], ...pairsOf(words.slice(2))];
+}
+
+/**
+ * What a line before a listing's commands tells of the wrapper, of the options, or of the header's other bytes: names and values.
+ * @param {string} line @returns {[string, string][]}
+ */
+export function optionsIn(line) {
+  const [what, ...words] = line.split(' '), comp = words.indexOf('comp');
+  if (what === 'wrapper') return [['wrapper', words.slice(0, 2).join(' ')], ...pairsOf(words.slice(2))];
+  if (what !== 'options') return [[what, words.join(' ')]];
+  return comp < 0 ? pairsOf(words) : [...pairsOf(words.slice(0, comp)), ['comp', words.slice(comp + 1).join(' ')]];
 }
 
 /**

@@ -44,29 +44,44 @@ function sideFact(records, k) {
 /** How long a linedef is, to a tenth. @param {number[]} at */
 const lengthOf = ([ax, ay, bx, by]) => String(Math.round(10 * Math.hypot(bx - ax, by - ay)) / 10);
 
+/** A special of Hexen's by its numbers alone: what it does isn't known here. @param {number} special @param {number[]} args @returns {Fact} */
+const actionFact = (special, args) => ['Special', special ? `${special}, arguments ${args.join(' ')}` : 'none'];
+
 /** @type {Record<string, (records: Records, k: number) => Fact[]>} */
 const FACTS = {
   linedef(records, k) {
-    const { from, to, flags, special, tag, front, back } = records.linedef(k), at = records.lineOf(k);
+    const { from, to, flags, special, args, tag, front, back } = records.linedef(k), at = records.lineOf(k);
     /** @type {Fact[]} */
     const length = at.length ? [['Length', lengthOf(at)]] : [];
+    /** @type {Fact[]} */
+    const action = records.form === 'hexen' ? [actionFact(special, args)]
+      : [['Special', `${special}: ${linedefSpecial(special)}`], ['Tag', ...tagFact(records, special, tag)]];
     return [
-      ['Special', `${special}: ${linedefSpecial(special)}`], ['Tag', ...tagFact(records, special, tag)], ['Flags', flagWords(flags)],
-      ['Front', ...sideFact(records, front)], ['Back', ...sideFact(records, back)],
+      ...action, ['Flags', flagWords(flags)], ['Front', ...sideFact(records, front)], ['Back', ...sideFact(records, back)],
       ['Ends', linkTo(records, 'vertex', from), ' to ', linkTo(records, 'vertex', to)], ...length,
     ];
   },
   thing(records, k) {
-    const { x, y, angle, kind, flags } = records.thing(k), { group } = kindOf(kind);
+    const { x, y, z, angle, kind, flags, id, special, args } = records.thing(k), { group } = kindOf(kind);
+    if (records.form === 'hexen') {
+      return [
+        ['Type', String(kind)], ['Place', `${spot({ x, y })}, ${z} above the floor`], ['Faces', `${windOf(angle)}, ${angle}°`], ['Skills', skillWords(flags)],
+        ['Flags', String(flags)], ['Identifier', String(id)], actionFact(special, args),
+      ];
+    }
     return [
       ['Type', `${kind}${group ? `, ${group}` : ''}`], ['Place', spot({ x, y })], ['Faces', `${windOf(angle)}, ${angle}°`], ['Skills', skillWords(flags)],
       ['Flags', [flags & DEAF && 'waits until it sees or is hit', flags & MULTIPLAYER && 'not in a single game'].filter(Boolean).join(', ') || 'none'],
     ];
   },
   sector(records, k) {
-    const { floor, ceiling, floorFlat, ceilingFlat, light, special, tag } = records.sector(k), tagged = tag ? records.linedefsOf(tag) : [];
+    const { floor, ceiling, floorFlat, ceilingFlat, light, special, tag } = records.sector(k), isHexen = records.form === 'hexen';
+    const tagged = tag && !isHexen ? records.linedefsOf(tag) : [];
+    /** @type {Fact[]} */
+    const planes = [['Floor', `${floor}, ${floorFlat}`], ['Ceiling', `${ceiling}, ${ceilingFlat}`], ['Height', String(ceiling - floor)], ['Light', String(light)]];
+    if (isHexen) return [...planes, ['Special', String(special)], ['Tag', String(tag)]];
     return [
-      ['Floor', `${floor}, ${floorFlat}`], ['Ceiling', `${ceiling}, ${ceilingFlat}`], ['Height', String(ceiling - floor)], ['Light', String(light)],
+      ...planes,
       ['Special', `${special}: ${sectorSpecial(special)}`],
       ['Tag', ...(tagged.length ? [`${tag}, of linedefs `, numbers('linedef', tagged)] : [`${tag}${tag ? ', which no linedef has' : ''}`])],
     ];
@@ -80,15 +95,17 @@ const FACTS = {
 /** What is told of a record. @param {Records} records @param {string} kind @param {number} k @returns {Fact[]} */
 export const factsOf = (records, kind, k) => FACTS[kind](records, k);
 
-/** A record's name. @param {Records} records @param {string} kind @param {number} k */
-export const titleOf = (records, kind, k) => `${sentence(kind)} ${k}${kind === 'thing' ? `: ${kindOf(records.thing(k).kind).name}` : ''}`;
+/** A record's name; what Hexen's things are called isn't known here. @param {Records} records @param {string} kind @param {number} k */
+export const titleOf = (records, kind, k) =>
+  `${sentence(kind)} ${k}${kind === 'thing' && records.form === 'doom' ? `: ${kindOf(records.thing(k).kind).name}` : ''}`;
 
 /** A record in few words, for the line under the map. @param {Records} records @param {string} kind @param {number} k */
 export function inFewWords(records, kind, k) {
+  const isHexen = records.form === 'hexen';
   if (kind === 'thing') {
-    const { angle, kind: type, flags } = records.thing(k), { name, group } = kindOf(type);
+    const { angle, kind: type, flags } = records.thing(k), { name, group } = isHexen ? { name: `type ${type}`, group: '' } : kindOf(type);
     return `thing ${k}: ${[name, group, `faces ${windOf(angle)}`, `in ${skillWords(flags)}`].filter(Boolean).join(' · ')}`;
   }
   const { special, tag, back } = records.linedef(k);
-  return `linedef ${k}: ${[back === NO_SIDE ? 'one-sided' : 'two-sided', special && linedefSpecial(special), tag && `tag ${tag}`].filter(Boolean).join(' · ')}`;
+  return `linedef ${k}: ${[back === NO_SIDE ? 'one-sided' : 'two-sided', special && (isHexen ? `special ${special}` : linedefSpecial(special)), tag && `tag ${tag}`].filter(Boolean).join(' · ')}`;
 }

@@ -10,7 +10,8 @@ import { tell } from './notices.mjs';
 import { Stopped } from './questions.mjs';
 import { RecordView, askedBy } from './record_view.mjs';
 import { make } from './rows.mjs';
-import { adviceOf, get, field, inShort, isFatal, isNarrow, notJudged, pane, say, unlookedWords, verdict, wordsOf } from './words.mjs';
+import { partWords, textOf, whatIsThere, whatNext } from './sketch.mjs';
+import { adviceOf, get, field, inShort, isFatal, isNarrow, notJudged, pane, say, sentence, unlookedWords, verdict, wordsOf } from './words.mjs';
 
 /** @typedef {import('./words.mjs').Level} Level */
 /** @typedef {import('./findings.mjs').Finding} Finding @typedef {import('./findings.mjs').Spots} Spots */
@@ -28,6 +29,13 @@ const COARSE = 2.5; // pixels to a cell from which on a part is asked for in sma
 const SLICE = 20; // ms of marking, after which the page answers
 const MARKED_LINES = 20000; // of the places of findings that are marked while none is chosen; of a sector, which may have many, no more either
 const COUNTS = /** @type {const} */ (['things', 'linedefs', 'sidedefs', 'vertexes', 'segs', 'ssectors', 'nodes', 'sectors']);
+
+/** What is counted of a level that isn't judged. */
+const SKETCHED = /** @type {const} */ ([['things', 'thing'], ['linedefs', 'linedef'], ['sidedefs', 'sidedef'], ['vertexes', 'vertex'], ['sectors', 'sector']]);
+const SAVES_PWAD = 'This level alone, as a WAD file';
+
+/** @param {string} name @param {number | undefined} count */
+const countOf = (name, count) => make('div', '', make('dt', '', name), make('dd', '', String(count)));
 
 /** Where each of REJECT's answers is listed. */
 const SIGHTS = [['point-clear', 'clear'], ['point-blocked', 'blocked'], ['point-unknown', 'unknown']];
@@ -108,22 +116,22 @@ export class LevelView {
   }
 
   /**
-   * Shows a level: what was found first, and then its picture; or why it isn't judged. One that was shown last keeps its view and its point.
-   * @param {Asked} asked @param {string} why
+   * Shows a level: what was found first, and then its picture; of one that isn't judged what can be read. One that was shown last keeps its view
+   * and its point.
+   * @param {Asked} asked
    */
-  async show(asked, why) {
-    const again = this.last && isSame(this.last, asked);
+  async show(asked) {
+    const again = this.last && isSame(this.last, asked), { known } = asked;
     this.before = this.last?.file; // which isn't another saving where only the reading is
     this.last = this.asked = asked;
     this.finer.stop();
-    this.clear(why);
+    this.clear('');
     if (!again) this.kept = null;
     get('title').textContent = asked.name;
-    if (why) return;
     try {
       await this.drawing.catch(() => {}); // one at a time, so that a held arrow key draws only where it ends
       if (this.asked !== asked) return;
-      this.drawing = this.#look(asked);
+      this.drawing = known && known.format !== 'doom' ? this.#sketch(asked, known) : this.#look(asked);
       await this.drawing;
     } catch (error) {
       if (this.asked === asked) this.clear(whyNot(error));
@@ -157,7 +165,7 @@ export class LevelView {
     this.unpin();
     this.#legend('found', false);
     this.map.show(null);
-    for (const name of ['drawn', 'fine', 'paths']) delete get('map').dataset[name];
+    for (const name of ['drawn', 'sketched', 'fine', 'paths']) delete get('map').dataset[name];
     get('map').setAttribute('aria-label', 'Map');
     this.#none(why);
     get('counts').replaceChildren();
@@ -170,6 +178,7 @@ export class LevelView {
     get('findings-none').textContent = why;
     get('unlooked').hidden = true;
     for (const id of ['save-pwad', 'save-svg', 'pin']) get(id).toggleAttribute('disabled', true);
+    get('save-pwad').title = SAVES_PWAD;
     this.#rest();
   }
 
@@ -184,13 +193,9 @@ export class LevelView {
     const began = performance.now();
     const { level, findings, spots } = await this.desk.ask('look', asked, `Judging ${asked.name}`);
     if (this.asked !== asked) return;
+    if (level.format !== 'doom') return this.#sketch(asked, level);
     this.level = level;
     get('save-pwad').removeAttribute('disabled');
-    if (level.format !== 'doom') {
-      this.#none(notJudged(level));
-      get('findings-none').textContent = notJudged(level);
-      return;
-    }
     this.#tell();
     this.#list(new Lines(findings), spots);
     if (this.kept) this.#compare(this.kept, asked);
@@ -217,6 +222,36 @@ export class LevelView {
     this.#mark();
   }
 
+  /** Shows what can be read of a level that isn't judged, and what to do next. @param {Asked} asked @param {Level} level */
+  async #sketch(asked, level) {
+    const why = notJudged(level), { sketch, lumps, parts, uncut, ...bounds } = await this.desk.ask('sketch', { ...asked, format: level.format }, `Reading ${asked.name}`);
+    if (this.asked !== asked) return;
+    const { picture, form, linedefs } = sketch, isText = level.format === 'udmf', there = isText ? partWords(parts) : whatIsThere(sketch);
+    this.level = level;
+    this.ends = Promise.resolve({ linedefs, ...bounds });
+    get('told').textContent = why;
+    get('counts').replaceChildren(...SKETCHED.flatMap(([name, kind]) => sketch.lumps[kind].count < 0 ? [] : [countOf(name, sketch.lumps[kind].count)]));
+    get('findings-none').textContent = `Not judged. ${there}`;
+    get('advice').textContent = whatNext(level, sketch, parts);
+    get('advice').hidden = false;
+    get('save-pwad').toggleAttribute('disabled', !!uncut);
+    get('save-pwad').title = uncut || SAVES_PWAD;
+    if (uncut) get('findings-none').textContent += ` ${sentence(uncut)}.`;
+    this.svg = picture && new TextEncoder().encode(textOf(`${asked.name}: ${why}`, picture));
+    for (const id of ['save-svg', 'pin']) get(id).toggleAttribute('disabled', !picture);
+    this.#none(picture ? '' : `${sentence(why)}. ${there} ${whatNext(level, sketch, parts)}`);
+    this.map.linedefs = linedefs;
+    this.record.take(lumps, form);
+    this.map.show(picture, this.kept?.view);
+    const pinned = this.kept?.pinned;
+    this.kept = null;
+    if (picture && pinned) this.pin(pinned.x, pinned.y);
+    if (picture) get('map').setAttribute('aria-label', `Map of ${asked.name}, which isn't judged`);
+    Object.assign(get('map').dataset, { sketched: asked.name, paths: picture?.paths ?? 0 });
+    this.#rest();
+    say(`${asked.name}${picture ? ' drawn' : ''}, ${why}`);
+  }
+
   /** What was found in the level, without what is hidden. */
   #verdict() {
     return this.level ? verdict(this.level, this.hiddenIn(this.asked?.file.name ?? ''), true) : '';
@@ -228,7 +263,7 @@ export class LevelView {
     if (!level || !asked) return;
     get('told').textContent = this.#verdict();
     get('told').className = level.sound && !isFatal(level, this.hiddenIn(asked.file.name)) ? '' : 'fault';
-    get('counts').replaceChildren(...COUNTS.map((name) => make('div', '', make('dt', '', name), make('dd', '', String(level[name])))));
+    get('counts').replaceChildren(...COUNTS.map((name) => countOf(name, level[name])));
   }
 
   /** @param {Lines} objects of `check`, of which the last has the sums @param {Spots} spots */
@@ -405,8 +440,9 @@ export class LevelView {
   /** @param {number} x @param {number} y */
   async pin(x, y) {
     const { asked, level } = this, mine = ++this.pins, began = performance.now();
-    if (!asked || !level || level.format !== 'doom') return;
+    if (!asked || !level) return;
     this.map.pin({ x, y });
+    if (level.format !== 'doom') return this.#pinUnjudged(x, y);
     const [point, block] = ['points', 'blocks'].map((word) => this.desk.ask('pin', { ...asked, word, x, y }).catch(wordsOf));
     const line = await point, sector = /^-?\d+ -?\d+ sector (\d+) /.exec(line)?.[1];
     if (mine !== this.pins) return;
@@ -420,6 +456,15 @@ export class LevelView {
     if (sector === undefined) this.#tellSight(-1, []); else this.#sight(Number(sector), mine);
     const told = await block, { linedefs } = await this.#linedefs();
     if (mine === this.pins) this.map.showBlock(this.#tellBlock(told).flatMap((k) => lineOf(linedefs, k)));
+  }
+
+  /** Marks a point of a level of which no sector and no block is told. @param {number} x @param {number} y */
+  #pinUnjudged(x, y) {
+    get('point').hidden = get('unpin').hidden = false;
+    get('point').classList.add('unjudged');
+    get('point-none').hidden = true;
+    get('point-line').textContent = `${x} ${y}: what lies there is told once the level is judged`;
+    this.#rest();
   }
 
   /** Tells what only the picture knows of the pinned point's sector. */
@@ -471,6 +516,7 @@ export class LevelView {
     this.sector = -1;
     this.map.pin(null);
     get('point').hidden = get('unpin').hidden = true;
+    get('point').classList.remove('unjudged');
     this.#legend('pinned', false);
     get('point-none').hidden = false;
     this.#rest();

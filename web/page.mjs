@@ -1,7 +1,7 @@
 // The page: which files are open, which level or demo is shown, and how the parts tell one another.
 import { meaningOf } from './codes.mjs';
 import { DemoTable } from './demo_table.mjs';
-import { demoLine } from './demo_words.mjs';
+import { demoLine, optionsIn } from './demo_words.mjs';
 import { Follower, stampOf } from './follow.mjs';
 import { apart, gameOf } from './games.mjs';
 import { byRank } from './groups.mjs';
@@ -316,7 +316,7 @@ async function survey(f) {
     if (f.failed) tell({ about: f.file.name, words: f.failed, help: helpOf(f.failed) });
   }
   if (f === state.file) showLevels(true);
-  if (f === state.of && state.shown >= 0 && f.survey && levelOf(f, state.shown).format !== 'doom') showLevel(); // now it can say why
+  if (f === state.of && state.shown >= 0 && f.survey && !view.level && levelOf(f, state.shown).format !== 'doom') showLevel(); // now it can say why
 }
 
 /** @param {OpenFile} f */
@@ -429,9 +429,9 @@ function chooseLevel(k) {
 function showLevel() {
   const f = state.of;
   if (!f) return;
-  const level = levelOf(f, state.shown), { level: name, entry, format } = level;
+  const level = levelOf(f, state.shown), { level: name, entry } = level;
   stage('map', f, name);
-  view.show({ ...asking(f), entry, name, known: f.survey && level, wantsGame: f.kind === 'PWAD' && !f.game }, format && format !== 'doom' ? notJudged(level) : '');
+  view.show({ ...asking(f), entry, name, known: f.survey && level, wantsGame: f.kind === 'PWAD' && !f.game });
 }
 
 /** @param {'map' | 'demo'} which @param {OpenFile | null} f none where all are closed @param {string} name */
@@ -482,12 +482,20 @@ async function chooseDemo(k) {
   showDemos();
   stage('demo', f, name);
   get('title').textContent = name;
+  showOptions([]);
   table.show(null);
   const told = await desk.ask('demo', { ...asking(f), at: Number(at), size: Number(size) }, `Reading ${name}`).catch((error) => ({ refused: wordsOf(error) }));
   if (state.of !== f || state.shown >= 0 || demoShown !== k) return;
   get('told').textContent = told.refused ? `refused: ${told.refused}` : demoLine(told.line, f.heads.count ? f.heads.at(0).split(' ')[3] : '');
   get('told').className = told.refused ? 'fault' : '';
-  table.show(told.listing ? new Lines(told.listing) : null);
+  showOptions(table.show(told.listing ? new Lines(told.listing) : null));
+}
+
+/** The options of a demo of a later engine, and what stands around it. @param {string[]} lines of its listing, before the commands */
+function showOptions(lines) {
+  const pairs = lines.flatMap(optionsIn);
+  get('options-part').hidden = !pairs.length;
+  get('options').replaceChildren(...pairs.map(([name, value]) => make('div', '', make('dt', '', name), make('dd', '', value))));
 }
 
 get('tic-form').addEventListener('submit', (event) => {

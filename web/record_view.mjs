@@ -33,9 +33,9 @@ export class RecordView {
     });
   }
 
-  /** Takes the records of a level; none with null. @param {import('./records.mjs').Lumps | null} lumps */
-  take(lumps) {
-    this.records = lumps && new Records(lumps);
+  /** Takes the records of a level; none with null. @param {import('./records.mjs').Lumps | null} lumps @param {import('./records.mjs').Form} [form] */
+  take(lumps, form) {
+    this.records = lumps && new Records(lumps, form);
     if (!lumps) this.hide();
   }
 

@@ -2,10 +2,12 @@
 
 /** @typedef {{ thing: Uint8Array, linedef: Uint8Array, sidedef: Uint8Array, vertex: Uint8Array, sector: Uint8Array }} Lumps */
 /** @typedef {keyof Lumps} Kind */
+/** @typedef {'doom' | 'hexen'} Form  whose records things and linedefs are */
 
 /** The number of each lump behind the level's label, and how many bytes a record of it has. */
 export const TABLES = /** @type {[Kind, number, number][]} */ ([['thing', 1, 10], ['linedef', 2, 14], ['sidedef', 3, 30], ['vertex', 4, 4], ['sector', 8, 26]]);
-const SIZES = /** @type {Record<Kind, number>} */ (Object.fromEntries(TABLES.map(([kind, , size]) => [kind, size])));
+const DOOM_SIZES = /** @type {Record<Kind, number>} */ (Object.fromEntries(TABLES.map(([kind, , size]) => [kind, size])));
+const SIZES = { doom: DOOM_SIZES, hexen: { ...DOOM_SIZES, thing: 20, linedef: 16 } };
 /** The number of a side that isn't there. */
 export const NO_SIDE = 65535;
 
@@ -28,9 +30,11 @@ class Index {
 }
 
 export class Records {
-  /** @param {Lumps} lumps */
-  constructor(lumps) {
+  /** @param {Lumps} lumps @param {Form} [form] */
+  constructor(lumps, form = 'doom') {
     this.lumps = lumps;
+    this.form = form;
+    this.sizes = SIZES[form];
     const viewOf = (/** @type {Uint8Array} */ { buffer, byteOffset }) => new DataView(buffer, byteOffset);
     this.views = /** @type {Record<Kind, DataView>} */ (Object.fromEntries(TABLES.map(([kind]) => [kind, viewOf(lumps[kind])])));
     /** @type {Map<string, Index>} made once they are asked for */
@@ -39,7 +43,7 @@ export class Records {
 
   /** How many records there are. @param {Kind} kind */
   count(kind) {
-    return Math.floor(this.lumps[kind].length / SIZES[kind]);
+    return Math.floor(this.lumps[kind].length / this.sizes[kind]);
   }
 
   /** Whether there is such a record. @param {Kind} kind @param {number} k */
@@ -49,24 +53,34 @@ export class Records {
 
   /** The unsigned words of a record. @param {Kind} kind @param {number} k @param {...number} places in it */
   #words(kind, k, ...places) {
-    return places.map((place) => this.views[kind].getUint16(SIZES[kind] * k + place, true));
+    return places.map((place) => this.views[kind].getUint16(this.sizes[kind] * k + place, true));
   }
 
   /** The signed words of a record. @param {Kind} kind @param {number} k @param {...number} places in it */
   #signed(kind, k, ...places) {
-    return places.map((place) => this.views[kind].getInt16(SIZES[kind] * k + place, true));
+    return places.map((place) => this.views[kind].getInt16(this.sizes[kind] * k + place, true));
   }
 
   /** A name of eight bytes, up to the first NUL. @param {Kind} kind @param {number} k @param {number} place */
   #name(kind, k, place) {
-    const at = SIZES[kind] * k + place;
+    const at = this.sizes[kind] * k + place;
     return [...this.lumps[kind].subarray(at, at + 8)].map((byte) => String.fromCharCode(byte)).join('').split('\0')[0];
+  }
+
+  /** A special and its five arguments, a byte each. @param {Kind} kind @param {number} k @param {number} place in it */
+  #action(kind, k, place) {
+    const at = this.sizes[kind] * k + place, [special, ...args] = this.lumps[kind].subarray(at, at + 6);
+    return { special, args };
   }
 
   /** @param {number} k */
   linedef(k) {
+    if (this.form === 'hexen') {
+      const [from, to, flags, front, back] = this.#words('linedef', k, 0, 2, 4, 12, 14);
+      return { from, to, flags, ...this.#action('linedef', k, 6), tag: 0, front, back };
+    }
     const [from, to, flags, special, tag, front, back] = this.#words('linedef', k, 0, 2, 4, 6, 8, 10, 12);
-    return { from, to, flags, special, tag, front, back };
+    return { from, to, flags, special, args: /** @type {number[]} */ ([]), tag, front, back };
   }
 
   /** @param {number} k */
@@ -87,10 +101,14 @@ export class Records {
     return { floor, ceiling, floorFlat: this.#name('sector', k, 4), ceilingFlat: this.#name('sector', k, 12), light, special, tag };
   }
 
-  /** @param {number} k */
+  /** Height, identifier, special and arguments are Hexen's. @param {number} k */
   thing(k) {
+    if (this.form === 'hexen') {
+      const [id, kind, flags] = this.#words('thing', k, 0, 10, 12), [x, y, z, angle] = this.#signed('thing', k, 2, 4, 6, 8);
+      return { x, y, z, angle, kind, flags, id, ...this.#action('thing', k, 14) };
+    }
     const [x, y, angle] = this.#signed('thing', k, 0, 2, 4), [kind, flags] = this.#words('thing', k, 6, 8);
-    return { x, y, angle, kind, flags };
+    return { x, y, z: 0, angle, kind, flags, id: 0, special: 0, args: /** @type {number[]} */ ([]) };
   }
 
   /** @param {string} name @param {Kind} kind @param {(k: number) => number[]} keys @param {number} key */
@@ -112,7 +130,8 @@ export class Records {
 
   /** The linedefs that have a sidedef. @param {number} sidedef */
   linedefsOfSide(sidedef) {
-    return this.#listed('sides', 'linedef', (k) => this.#words('linedef', k, 10, 12), sidedef);
+    const places = this.form === 'hexen' ? [12, 14] : [10, 12];
+    return this.#listed('sides', 'linedef', (k) => this.#words('linedef', k, ...places), sidedef);
   }
 
   /** The linedefs that begin or end at a vertex. @param {number} vertex */

@@ -18,7 +18,7 @@ const ALL = 0xffffffffffffffffn;
  * @typedef {{ wide?: boolean, warnings?: 'told' | 'strict', bases?: number }} Judging  `--wide`; `--map`, or `--map --strict`; how many of
  *   the files, from the first on, are those of `--base`, 63 at most: of `check` and `survey`
  * @typedef {{ command: 'check', max: number | bigint, json?: boolean } | { command: 'survey' } | { command: 'demos', json?: boolean } |
- *   { command: 'cut', entry: number | bigint }} Command  `max` is 0 for all findings
+ *   { command: 'listing' } | { command: 'cut', entry: number | bigint }} Command  `max` is 0 for all findings
  * @typedef {Command & Judging} LensQuestion  what is asked of files
  * @typedef {{ cells: number, wide?: boolean, frame?: number[] }} DrawQuestion  `frame` is x0 y0 x1 y1
  */
@@ -161,7 +161,7 @@ export class Call {
  */
 async function withRoom(given, first, run) {
   const module = await load();
-  for (let room = first, heap = 2 * given + 2 * room + ROOM; ; room *= 4, heap = 2 * heap + 2 * room) {
+  for (let room = first, heap = given + 2 * room + ROOM; ; room *= 4, heap = 2 * heap + 2 * room) {
     let ended;
     try {
       ended = run(new Call(module, heap), room);
@@ -233,6 +233,20 @@ export async function listLinedefs({ wide = false }, file, room = ANSWER) {
   });
 }
 
+/**
+ * What can be read of the level whose label is an entry, whatever its format, as numbers of 32 bits: `sketch.mjs` has their meaning. With
+ * status 2 the file has no directory, or no such entry.
+ * @param {{ entry: number }} question @param {Uint8Array} file @param {number} [room] a first guess of the answer's
+ */
+export async function sketchLevel({ entry }, file, room = ANSWER) {
+  const asked = bytesOf([entry]);
+  return withRoom(file.length, room, (call, size) => {
+    call.slice(file);
+    call.reference(asked);
+    return call.run('sketch_level', call.room(size));
+  });
+}
+
 /** A command's number, and what number goes with it. @param {LensQuestion} question @returns {[number, number | bigint]} */
 function commandOf(question) {
   switch (question.command) {
@@ -240,6 +254,7 @@ function commandOf(question) {
     case 'survey': return [1, 0];
     case 'demos': return [question.json ? 3 : 2, 0];
     case 'cut': return [4, question.entry];
+    case 'listing': return [6, 0];
   }
 }
 

@@ -5,7 +5,8 @@ import { boundsOf } from './linedefs.mjs';
 import { Lines, linesOf } from './lines.mjs';
 import { read } from './picture.mjs';
 import { TABLES } from './records.mjs';
-import { drawPicture, listLinedefs, load, runWadlens, runWadlook } from './wad_page.mjs';
+import { sketchOf } from './sketch.mjs';
+import { drawPicture, listLinedefs, load, runWadlens, runWadlook, sketchLevel } from './wad_page.mjs';
 import { filesIn } from './zip.mjs';
 
 /** @typedef {import('./wad_page.mjs').Ended} Ended */
@@ -127,6 +128,7 @@ async function other(bytes, name) {
 // Levels -----------------------------------------------------------------------------------------------------------------------
 
 const USUAL = /^(THINGS|LINEDEFS|SIDEDEFS|VERTEXES|SEGS|SSECTORS|NODES|SECTORS|REJECT|BLOCKMAP|TEXTMAP|BEHAVIOR)$/;
+const MOST_PARTS = 40; // lumps of a level that are told of
 
 /**
  * The level as a file of its own, cut out once: it is small, so each question about it is quick, and nothing in it hides the level.
@@ -156,12 +158,33 @@ function labelled(file, label) {
 }
 
 /**
- * A lump of a level.
- * @param {Uint8Array} file a level's own @param {number} lump its number behind the label
+ * A lump of a file.
+ * @param {Uint8Array} file @param {number} lump its number; of a level's own file that behind the label
  */
 function lumpOf(file, lump) {
   const view = new DataView(file.buffer, file.byteOffset), entry = view.getInt32(8, true) + 16 * lump, at = view.getInt32(entry, true);
   return file.subarray(at, at + view.getInt32(entry + 4, true));
+}
+
+/** Room for the lines of `lumps`. @param {Uint8Array} bytes of a file */
+function roomForLumps(bytes) {
+  const entries = bytes.length < 12 ? 0 : new DataView(bytes.buffer, bytes.byteOffset).getUint32(4, true);
+  return 65536 + 40 * Math.min(entries, bytes.length >> 4);
+}
+
+/**
+ * The lumps that follow a level's label as its own, as `lumps` tells them: of a UDMF level all up to ENDMAP.
+ * @param {Uint8Array} bytes @param {number} entry @param {boolean} isText
+ */
+async function partsOf(bytes, entry, isText) {
+  const lines = new Lines(linesOf((await askLook(['lumps'], bytes, undefined, roomForLumps(bytes))).answer)), parts = [];
+  for (let k = entry + 2; k < Math.min(lines.count, entry + MOST_PARTS); k++) { // behind the file's line and the label's
+    const [, , size, name] = lines.at(k).split(' ');
+    if (!isText && !USUAL.test(name) && name !== 'SCRIPTS') break;
+    parts.push({ name, size: Number(size) });
+    if (isText && name === 'ENDMAP') break;
+  }
+  return parts;
 }
 
 /**
@@ -204,8 +227,7 @@ const jobs = {
 
   /** What a file is: its kind, its levels and demos as lines of `lumps`; or why it is refused. @param {Asked} asked */
   async open(asked) {
-    const { bytes } = await hold(asked), entries = bytes.length < 12 ? 0 : new DataView(bytes.buffer).getUint32(4, true); // room for so many lines
-    const lumps = await askLook(['lumps'], bytes, undefined, 65536 + 40 * Math.min(entries, bytes.length >> 4));
+    const { bytes } = await hold(asked), lumps = await askLook(['lumps'], bytes, undefined, roomForLumps(bytes));
     if (lumps.status !== 0) return other(bytes, asked.file.name);
     return { kind: firstLine(lumps).split(' ')[2], ...contents(lumps.answer) };
   },
@@ -245,6 +267,23 @@ const jobs = {
     const check = await judge(asked, { command: 'check', json: true, max: isWhole ? 0 : FEW }, bases, file, room);
     const spots = { vertex: counts.N12 && spotsOf(file, 4, 4), node: counts.F12 && spotsOf(file, 7, 28) };
     return { level, findings: findingsIn(check.answer), spots };
+  },
+
+  /**
+   * What can be read of a level that isn't judged: its picture, the lumps of its records, all that follows its label, and why it can't be cut
+   * out, if it can't.
+   * @param {AskedLevel & { format: string }} asked
+   */
+  async sketch(asked) {
+    const { bytes } = await hold(asked), { entry } = asked, ended = await answered(sketchLevel(asked, bytes));
+    if (ended.status === 2) throw new Error(`there is no entry ${entry}`);
+    const sketch = sketchOf(new Int32Array(ended.answer.buffer)), parts = await partsOf(bytes, entry, asked.format === 'udmf');
+    const lumps = Object.fromEntries(TABLES.map(([kind]) => {
+      const { place, count } = sketch.lumps[kind];
+      return [kind, count < 0 ? new Uint8Array() : lumpOf(bytes, entry + place).slice()];
+    }));
+    const uncut = await alone(asked).then(() => '', (error) => String(error.message));
+    return { sketch, lumps, parts, uncut, ...boundsOf(sketch.linedefs) };
   },
 
   /** The picture as numbers and as text, or why there is none. @param {AskedLevel & { cells: number, frame?: number[] }} asked */
@@ -291,9 +330,9 @@ const jobs = {
     const { bytes } = await hold(asked);
     if (asked.at < 0 || asked.at + asked.size > bytes.length) return { refused: 'outside its file' };
     const demo = bytes.slice(asked.at, asked.at + asked.size);
-    const listing = await askLook(['lmp'], demo, undefined, 65536 + 8 * demo.length);
+    const listing = await askLens({ command: 'listing' }, demo, 65536 + 8 * demo.length);
+    if (listing.status !== 0) return { refused: reason(listing) };
     const told = await askLens({ command: 'demos' }, demo);
-    if (listing.status !== 0) return { refused: reason(told) || listing.refused }; // bytes that begin as a WAD file's are told as one
     return { line: firstLine(told).slice(`${PATH}: `.length), listing: linesOf(listing.answer) };
   },
 };

@@ -7,7 +7,7 @@
 /** @typedef {typeof import('../wad_page.mjs')} Page */
 /** @typedef {(words: string[], files: Uint8Array[], input?: Uint8Array, room?: number) => Promise<Ended>} Run  the paths of the files are `pathsOf` */
 
-const LENS = ['check', 'survey', 'demos', 'cut', 'picture'];
+const LENS = ['check', 'survey', 'demos', 'listing', 'cut', 'picture'];
 /** How many findings of one code are shown, and how many cells a picture has, where the words don't say. */
 const SHOWN = '20', CELLS = '512';
 
@@ -42,6 +42,7 @@ function lensQuestion(words) {
     case 'check': return { command: 'check', json: words.includes('--json'), max: BigInt(valueOf(words, '--max', SHOWN)), ...judgingOf(words) };
     case 'survey': return { command: 'survey', ...judgingOf(words) };
     case 'demos': return { command: 'demos', json: words.includes('--json') };
+    case 'listing': return { command: 'listing' };
     case 'cut': return { command: 'cut', entry: BigInt(valueOf(words, '--entry')) };
     default: throw new Error(`${words[0]} is asked nothing`);
   }

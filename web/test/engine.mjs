@@ -1,17 +1,18 @@
 // engine.mjs FOLDER WADLOOK WADLENS SAMPLE: runs each command in the module of FOLDER and in the native programs, and compares them; then
 // what asks for nothing, and the seeded cases on standard input, beside what they tell is wanted.
-import { readFileSync, mkdtempSync, rmSync, writeFileSync } from 'node:fs';
+import { readFileSync, readdirSync, mkdtempSync, rmSync, writeFileSync } from 'node:fs';
 import { spawnSync } from 'node:child_process';
 import { tmpdir } from 'node:os';
 import { join } from 'node:path';
 import { pathToFileURL } from 'node:url';
-import { addUp, check as same, count, fail } from '../../tests/harness.mjs';
+import { addUp, check as same, count, fail, root } from '../../tests/harness.mjs';
 import { byWords } from './asked.mjs';
 import { seeded } from './engine_fuzz.mjs';
 import { refusals } from './engine_refusals.mjs';
 import { numbersOf } from './shown_linedefs.mjs';
 import { listedRows, wantedRows } from './shown_rows.mjs';
-import { farLinedef, flats, lostLinedef, oneLost, rooms, textures, twoUnknown, wad, wallsOfRooms } from './wads.mjs';
+import { sketchedNumbers } from './sketched.mjs';
+import { BUILT, farLinedef, flats, inHexen, lostLinedef, oneLost, rooms, textures, twoUnknown, wad, wallsOfRooms, without as lacking } from './wads.mjs';
 import { LINES, OTHERWISE, workedDemos, workedFiles } from './worked_cases.mjs';
 
 const [folder, wadlook, wadlens, sample] = process.argv.slice(2);
@@ -41,6 +42,8 @@ const demo = Buffer.from([109, 2, 1, 1, 0, 0, 0, 0, 0, 1, 0, 0, 0, 50, 0, 0, 0, 
 keep('base.wad', base);
 keep('demo.lmp', demo);
 keep('cut.lmp', demo.subarray(0, 19));
+const recorded = join(root, 'tests', 'recorded_demos'), later = readdirSync(recorded).filter((name) => name.endsWith('.lmp'));
+for (const name of later) keep(name, readFileSync(join(recorded, name)));
 keep('short.wad', Buffer.from('PWAD'));
 keep('empty.wad', wad([]));
 keep('demo.wad', wad([['DEMO1', demo], ['BROKEN', demo.subarray(0, 5)]]));
@@ -121,6 +124,27 @@ async function listsAs(isWide) {
   const words = ['show', ...isWide ? ['--wide'] : [], 'E1M1', 'alone.wad'], shown = native(wadlook, words, '').stdout.toString();
   const { status, answer } = await host.listLinedefs({ wide: isWide }, names.get('alone.wad'), 16);
   same(`the linedefs of ${words.join(' ')}`, [status, Buffer.from(answer).toString('hex')], [0, Buffer.from(numbersOf(shown, isWide)).toString('hex')]);
+}
+
+/** What can be read of a level whatever its format: the numbers of a second reading of the files, and some worked by hand. */
+async function sketches() {
+  const none = -2147483648, west = [64, 64, 90, 1], far = wad(rooms('MAP01', { linedefs: lostLinedef, damage: (all) => { all.SIDEDEFS = Buffer.concat([all.SIDEDEFS, Buffer.alloc(7)]); } }));
+  const outside = Buffer.from(wad(rooms('MAP01')));
+  outside.writeInt32LE(outside.length, outside.readInt32LE(8) + 16 * 8);
+  for (const [what, file, entry] of /** @type {[string, Buffer, number][]} */ ([
+    ['two rooms', wad(rooms('MAP01')), 0], ['rooms without nodes', wad([...lacking(rooms('MAP01'), ...BUILT), ...rooms('MAP02')]), 0],
+    ['the level behind them', wad([...lacking(rooms('MAP01'), ...BUILT), ...rooms('MAP02')]), 6], ['rooms of Hexen', wad(inHexen(rooms('MAP01'))), 0],
+    ['rooms of Hexen without nodes', wad(lacking(inHexen(rooms('MAP01')), ...BUILT)), 0], ['lumps the other way round', wad([...rooms('MAP01').slice(0, 1), ...rooms('MAP01').slice(1).reverse()]), 0],
+    ['records that are cut short', far, 0], ['a lump outside the file', outside, 0], ['what is no label', far, 4], ['the last entry', far, 10],
+  ])) {
+    const { status, answer } = await host.sketchLevel({ entry }, file, 16);
+    same(`what can be read of ${what}`, [status, [...new Int32Array(answer.buffer)]], [0, [...sketchedNumbers(file, entry)]]);
+  }
+  const head = [1, 1, 9, 0, 2, 7, 0, 3, 8, 0, 4, 6, 0, 8, 2, 0], numbers = new Int32Array((await host.sketchLevel({ entry: 0 }, wad(inHexen(rooms('MAP01'))))).answer.buffer);
+  same('the first of them, of Hexen', [...numbers.subarray(0, 22)], [...head, 0, 0, 0, 256, 0, none]);
+  same('and its first thing', [...numbers.subarray(16 + 6 * 7, 16 + 6 * 7 + 4)], west);
+  same('no such entry', (await host.sketchLevel({ entry: 11 }, far)).status, 2);
+  same('no file', (await host.sketchLevel({ entry: 0 }, Buffer.from('PWAD'))).status, 2);
 }
 
 /** The numbers of the linedefs of the two rooms, worked by hand. */
@@ -207,8 +231,9 @@ const told = [['check'], ['check', '--wide'], ['check', '--max', '0'], ['check',
   ['check', '--json'], ['check', '--wide', '--json', '--max', '1'], ['check', '--json', '--map', '--max', '0'], ['check', '--json', '--map', '--strict']];
 for (const words of told) for (const paths of files) await checkLens(words, paths);
 for (const words of [['demos'], ['demos', '--json']]) {
-  for (const paths of [...files, ['demo.lmp'], ['cut.lmp', 'demo.lmp'], ['demo.wad', 'cut.lmp', 'demo.wad']]) await checkLens(words, paths);
+  for (const paths of [...files, ['demo.lmp'], ['cut.lmp', 'demo.lmp'], ['demo.wad', 'cut.lmp', 'demo.wad'], later]) await checkLens(words, paths);
 }
+for (const path of ['demo.lmp', 'cut.lmp', 'demo.wad', 'short.wad', ...later]) await checkLens(['listing'], [path]);
 for (let i = 0; i < 40; i++) {
   for (const words of [['check'], ['check', '--json'], ['survey', '--wide', '--map'], ['cut', '--entry', '0']]) await checkLens(words, [`damaged${i}.wad`]);
 }
@@ -234,7 +259,8 @@ await checkLens(['check', '--wide', '--map', '--strict', '--max', '1'], ['room.w
 for (const path of ['room.wad', 'walled.wad', 'game.wad']) await checkLens(['check', '--map'], [path]);
 
 await refuses(['cut', '--entry', '0'], ['base.wad', 'base.wad']);
-for (const words of [['check'], ['survey'], ['demos'], ['demos', '--json'], ['cut', '--entry', '0']]) await refuses(words, []);
+await refuses(['listing'], ['demo.lmp', 'demo.lmp']);
+for (const words of [['check'], ['survey'], ['demos'], ['demos', '--json'], ['listing'], ['cut', '--entry', '0']]) await refuses(words, []);
 refusals(await WebAssembly.compile(readFileSync(join(folder, 'wad_page.wasm'))), host.Call, base, same);
 
 // The worked cases: each file under each command that takes one, and its level's pictures; and each demo.
@@ -262,6 +288,7 @@ for (const [name, bytes] of workedDemos()) {
   await check(['lmp'], [path]);
   await check(['demo', 'demo1'], [packed]);
   await checkLens(['demos'], [path, packed]);
+  await checkLens(['listing'], [path]);
 }
 
 for (const path of ['base.wad', ...Array.from({ length: 40 }, (_, i) => `damaged${i}.wad`)]) await draws(path);
@@ -270,6 +297,7 @@ await tellsStored();
 await tellsLeftOut();
 await drawsOddLabel();
 await listsRooms();
+await sketches();
 for (const path of [...names.keys()].filter((name) => name.endsWith('.wad'))) await lists(path);
 await seeded(process.stdin, run);
 process.exitCode = addUp();

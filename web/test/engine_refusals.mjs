@@ -9,8 +9,8 @@ import { wad } from './wads.mjs';
 /** @typedef {{ parts: Buffer[], sizes?: (number | bigint)[] }} Parts  with sizes where these aren't those of the parts */
 
 const HEAP = 1 << 24, ROOM = 1 << 18, LAST = 2n ** 64n - 1n;
-const [CHECK, SURVEY, DEMOS, DEMO_OBJECTS, CUT, CHECK_OBJECTS] = [0, 1, 2, 3, 4, 5], TOLD = 1, STRICT = 2;
-const JUDGING = [CHECK, SURVEY, CHECK_OBJECTS], ALL = [...JUDGING, DEMOS, DEMO_OBJECTS, CUT];
+const [CHECK, SURVEY, DEMOS, DEMO_OBJECTS, CUT, CHECK_OBJECTS, LISTING] = [0, 1, 2, 3, 4, 5, 6], TOLD = 1, STRICT = 2;
+const JUDGING = [CHECK, SURVEY, CHECK_OBJECTS], OF_ONE_FILE = [CUT, LISTING], ALL = [...JUDGING, DEMOS, DEMO_OBJECTS, ...OF_ONE_FILE];
 /** What a check with warnings tells besides of the file, which has neither textures nor flats. */
 const UNLOOKED = "wadlens: W9, W10 weren't looked for: no file has TEXTURE1, F_START; name the game's with --base\n";
 
@@ -107,15 +107,18 @@ export function refusals(module, Call, file, check) {
     for (const bases of [1, 2, 255]) refuses(`command ${command} over ${bases}, of which one is there`, lens({ command, warnings: TOLD, bases }));
     for (const bases of [64, 255]) refuses(`command ${command} over ${bases}`, lens({ command, warnings: TOLD, bases }, ...many(bases + 1)));
   }
-  for (const [bases, count] of [[1, 1], [1, 2], [255, 1]]) refuses(`a cut of ${count} over ${bases}`, lens({ command: CUT, bases }, ...many(count)));
+  for (const command of OF_ONE_FILE) {
+    for (const [bases, count] of [[1, 1], [1, 2], [255, 1]]) refuses(`command ${command} of ${count} over ${bases}`, lens({ command, bases }, ...many(count)));
+    refuses(`command ${command} of two files`, lens({ command }, two, file2));
+  }
   answers('a cut', lens({ command: CUT }));
+  check('a listing of no demo', toldOf(lens({ command: LISTING })), [2, false, 'wadlens: a.wad: version 80: not read\n']);
   answers('a path that is no UTF-8', lens({}, { parts: [Buffer.from([0xff])] }));
-  for (const command of [6, 9, 255]) refuses(`command ${command}`, lens({ command }));
+  for (const command of [7, 9, 255]) refuses(`command ${command}`, lens({ command }));
   for (const warnings of [3, 7, 255]) {
     for (const command of ALL) refuses(`command ${command}, warnings ${warnings}`, lens({ command, warnings }));
   }
   for (const command of ALL) refuses(`command ${command} of no file`, lens({ command }, none, none));
-  refuses('a cut of two files', lens({ command: CUT }, two, file2));
   for (const command of [CHECK, CUT]) {
     refuses(`command ${command}, more paths than files`, lens({ command }, two, file1));
     refuses(`command ${command}, fewer paths than files`, lens({ command }, one, file2));

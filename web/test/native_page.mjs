@@ -1,5 +1,6 @@
 // For tests without the module: stands in the place of wad_page.mjs and asks the server, which runs the programs on words.
 import { numbersOf } from './shown_linedefs.mjs';
+import { sketchedNumbers } from './sketched.mjs';
 
 /** @typedef {import('../wad_page.mjs').Ended} Ended */
 /** @typedef {import('../wad_page.mjs').LensQuestion} LensQuestion */
@@ -39,6 +40,11 @@ export async function listLinedefs({ wide = false }, file) {
   return { ...shown, answer: numbersOf(new TextDecoder().decode(shown.answer), wide) };
 }
 
+/** @param {{ entry: number }} question @param {Uint8Array} file @returns {Promise<Ended>} */
+export async function sketchLevel({ entry }, file) {
+  return { status: 0, answer: new Uint8Array(sketchedNumbers(file, entry).buffer), refused: '' };
+}
+
 /** @param {LensQuestion} question */
 function wordsOf(question) {
   const wide = question.wide ? ['--wide'] : [], warnings = { told: ['--map'], strict: ['--map', '--strict'] };
@@ -47,6 +53,7 @@ function wordsOf(question) {
     case 'check': return ['check', ...judging, ...(question.json ? ['--json'] : []), '--max', String(question.max)];
     case 'survey': return ['survey', ...judging];
     case 'demos': return ['demos', ...(question.json ? ['--json'] : [])];
+    case 'listing': return ['listing'];
     case 'cut': return ['cut', '--entry', String(question.entry)];
   }
 }

@@ -1,5 +1,5 @@
 // The cases of the page: see `page`, which runs this.
-import { rmSync, writeFileSync } from 'node:fs';
+import { readFileSync, rmSync, writeFileSync } from 'node:fs';
 import { join } from 'node:path';
 import { wait } from './browser.mjs';
 import { measure } from './measure.mjs';
@@ -13,6 +13,7 @@ import { layout } from './page_layout.mjs';
 import { mapper } from './page_mapper.mjs';
 import { offlines, unserved } from './page_offline.mjs';
 import { savedPictures } from './page_saved.mjs';
+import { unjudged } from './page_unjudged.mjs';
 import {
   FINDING, browser, built, check, codes, drawn, drawnAnew, dropRooms, filterBy, found, fresh, hasInk, isHidden, isNative, judged, legend, options,
   pick, pictures, pinAt, pinBy, placeOf, pointTold, printed, programs, room, roomsFile, root, saved, server, textOf, textsOf, twoRooms, valueOf,
@@ -418,6 +419,24 @@ async function spoken() {
   await drawn('MAP01');
 }
 
+/** A demo of a later engine in a wrapper: what stands around it, its options, and what is added to its commands. */
+async function laterDemos() {
+  const pairs = () => browser.run("[...document.querySelectorAll('#options div')].map((pair) => [...pair.children].map((part) => part.textContent).join(' '))");
+  await fresh();
+  await browser.drop(written('later.lmp', readFileSync(join(root, 'tests', 'recorded_demos', 's255ex.lmp'))));
+  await browser.until("document.querySelector('#options div') && document.querySelector('.cells-row')", 'a demo of a later engine');
+  check('a later engine and a wrapper in one line', await textOf('#told'),
+    'version 221 (MBF21) in DSDA 2, Ultra-Violence (skill 4), E1M1 or MAP01, 1 player, 43 tics, 0:01.22, after 177');
+  check('the wrapper and the first options', (await pairs()).slice(0, 8),
+    ['wrapper DSDA 2', 'marker 367', 'tics 43', 'flags 0', 'monsters remember 1', 'weapon recoil 0', 'player bobbing 1', 'rngseed 3591932331']);
+  check('the compatibility options', (await pairs()).at(-1), 'comp 0 0 0 0 0 0 0 0 0 0 0 0 1 0 0 1 0 0 0 0 0 1 1 0 1');
+  check('the commands alone are rows', await browser.run("document.querySelector('#commands').getAttribute('aria-rowcount')"), '44');
+  check('what DSDA-Doom adds to one', await browser.run("[...document.querySelectorAll('.cells-row')].find((row) => row.firstChild.textContent === '7').lastChild.textContent"), 'jump');
+  await browser.drop(written('doom.lmp', demo(35)));
+  await browser.until("document.querySelector('#title').textContent === 'doom.lmp' && document.querySelector('.cells-row')", "a demo of Doom's");
+  check("Doom's own has no options", await isHidden('#options-part'), true);
+}
+
 async function saves() {
   await dropRooms();
   await judged();
@@ -677,8 +696,8 @@ let at = 'the start';
 try {
   if (isThere) await withoutHandles();
   const all = [drops, follows, files, levels, picture, point, moves, finer, findings, reading, early, late, edge, unknown, warnings, games, judgings, asks,
-    mapper, faults, undrawn, demos, saves, savedPictures, markup, hostile, manyFindings, large, stop, stopAll, refusals, wide, contrast, labels, keys,
-    phone, layout, unable, unserved, offline, engineless, anyHost, alone, policy];
+    mapper, faults, unjudged, undrawn, demos, laterDemos, saves, savedPictures, markup, hostile, manyFindings, large, stop, stopAll, refusals, wide,
+    contrast, labels, keys, phone, layout, unable, unserved, offline, engineless, anyHost, alone, policy];
   const only = valueOf('--only').split(',');
   for (const one of all.filter(({ name }) => isThere && (!only[0] || only.includes(name)))) {
     at = one.name;

@@ -10,7 +10,9 @@ const TYPES = /** @type {Record<string, string>} */ ({
 });
 
 /** What stands beside the page's files in the engine's place. */
-const NATIVE = /** @type {Record<string, string>} */ ({ 'wad_page.mjs': 'native_page.mjs', 'shown_linedefs.mjs': 'shown_linedefs.mjs' });
+const NATIVE = /** @type {Record<string, string>} */ ({
+  'wad_page.mjs': 'native_page.mjs', 'shown_linedefs.mjs': 'shown_linedefs.mjs', 'sketched.mjs': 'sketched.mjs',
+});
 
 /** @typedef {{ wadlook: string, wadlens: string }} Programs */
 /** @typedef {{ status: number, answer: Buffer, refused: string }} Ended */

@@ -55,6 +55,26 @@ export function rooms(label, { flat = 'FLOOR0_1', damage, linedefs = Buffer.allo
   return [[label, Buffer.alloc(0)], .../** @type {[string, Buffer][]} */ (Object.entries(lumps))];
 }
 
+/** The lumps of a level without those of these names. @param {[string, Buffer][]} lumps @param {...string} names */
+export const without = (lumps, ...names) => lumps.filter(([name]) => !names.includes(name));
+/** What a node builder makes. */
+export const BUILT = ['SEGS', 'SSECTORS', 'NODES', 'REJECT', 'BLOCKMAP'];
+
+/**
+ * A level's things and linedefs as Hexen's, with scripts: things stand 16 above the floor and have identifier 7, and each linedef has special 12
+ * with the arguments 1 to 5.
+ * @param {[string, Buffer][]} lumps @returns {[string, Buffer][]}
+ */
+export function inHexen(lumps) {
+  const each = (/** @type {Buffer} */ body, /** @type {number} */ size) =>
+    Array.from({ length: body.length / size }, (_, k) => body.subarray(k * size, k * size + size));
+  const thing = (/** @type {Buffer} */ one) => Buffer.concat([words(7), one.subarray(0, 4), words(16), one.subarray(4, 10), Buffer.alloc(6)]);
+  const linedef = (/** @type {Buffer} */ one) => Buffer.concat([one.subarray(0, 6), Buffer.from([12, 1, 2, 3, 4, 5]), one.subarray(10, 14)]);
+  return [...lumps.map(([name, body]) => /** @type {[string, Buffer]} */ ([name,
+    name === 'THINGS' ? Buffer.concat(each(body, 10).map(thing)) : name === 'LINEDEFS' ? Buffer.concat(each(body, 14).map(linedef)) : body])),
+  ['BEHAVIOR', Buffer.alloc(4)]];
+}
+
 /** A lump of textures of these names, of which there may be very many. @param {string[]} names */
 export function textures(names) {
   const head = Buffer.alloc(4 + 4 * names.length);

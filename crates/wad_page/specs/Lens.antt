@@ -1,6 +1,12 @@
 -- Commands of `wadlens` over files in memory (ours): each file is reported on in order, and a check ends with its totals.
-use Rattle.std.specs.Prelude.{◌≡◌, ◌≢◌, ◌⊎◌, ℕ, ◌==◌, ◌<◌, ◌≤◌, List, [], codes, drop, length, slice_index_or, take, Some, Result, Ok, Err, if◌then◌else◌}
+use Rattle.std.specs.Prelude.{◌≡◌, ◌≢◌, ◌⊎◌, ℕ, ◌==◌, ◌<◌, ◌≤◌, List, [], codes, drop, length, slice_index_or, take, None, Some, Result, Ok, Err, false, if◌then◌else◌}
 use Rattle.std.specs.Io.KnownBytes.{Appends}
+use Rattle.demo_engines.specs.RefusalText.{refusal_line as demo_refusal_line}
+use Rattle.demo_listings.specs.Listing.{listing}
+use Rattle.later_demos.specs.Demo.{Demo, IsDemo}
+use Rattle.later_demos.specs.FaultText.{fault_text}
+use Rattle.later_demos.specs.Refusal.{RefusesDemo}
+use Rattle.later_demos.specs.declared.fault.LaterFault.{LaterFault}
 use Rattle.le_rec.specs.Sink.{SinkState}
 use Rattle.lens_reports.specs.CutJob.{IsOfFile, cut_fault_line}
 use Rattle.lens_reports.specs.Files.{lent}
@@ -45,17 +51,20 @@ use Rattle.wad_page.specs.declared.lens.LensFault.TheVariants.{Usage, Full}
 use Rattle.wad_page.specs.declared.lens.LensQuestion.{LensQuestion}
 use Rattle.wad_page.specs.declared.lens.LensRequest.{LensRequest}
 use Rattle.wad_page.specs.declared.lens.LensWord.{LensWord}
-use Rattle.wad_page.specs.declared.lens.LensWord.TheVariants.{Tell, Cut}
+use Rattle.wad_page.specs.declared.lens.LensWord.TheVariants as lens
+use Rattle.wad_page.specs.declared.lens.OneWord.{OneWord}
+use Rattle.wad_page.specs.declared.lens.OneWord.TheVariants as one
 use Rattle.wad_page.specs.declared.parts.SizedBytes.{SizedBytes}
 
 -- a command's number, and what number goes with it
 abbrev pub AsksWord : ℕ → ℕ → LensWord → Type 0
-AsksWord command number (Tell (Check most Lines)) = (command ≡ 0) × (most ≡ number)
-AsksWord command number (Tell (Check most Objects)) = (command ≡ 5) × (most ≡ number)
-AsksWord command number (Tell Survey) = command ≡ 1
-AsksWord command number (Tell (Demos Lines)) = command ≡ 2
-AsksWord command number (Tell (Demos Objects)) = command ≡ 3
-AsksWord command number (Cut entry) = (command ≡ 4) × (entry ≡ number)
+AsksWord command number (lens.Tell (Check most Lines)) = (command ≡ 0) × (most ≡ number)
+AsksWord command number (lens.Tell (Check most Objects)) = (command ≡ 5) × (most ≡ number)
+AsksWord command number (lens.Tell Survey) = command ≡ 1
+AsksWord command number (lens.Tell (Demos Lines)) = command ≡ 2
+AsksWord command number (lens.Tell (Demos Objects)) = command ≡ 3
+AsksWord command number (lens.One (one.Cut entry)) = (command ≡ 4) × (entry ≡ number)
+AsksWord command number (lens.One one.List) = command ≡ 6
 
 -- how warnings are asked for
 abbrev pub AsksWarnings : ℕ → Warnings → Type 0
@@ -79,8 +88,8 @@ pub record Asks (question : LensQuestion) (asked : LensRequest) : Type 0 where
 
 -- whether it can be asked of `count` files, of which the first `bases` are base files
 abbrev pub Takes : LensWord → ℕ → ℕ → Type 0
-Takes (Tell word) bases count = (bases < count) × (bases < 64)
-Takes (Cut entry) bases count = (bases ≡ 0) × (count ≡ 1)
+Takes (lens.Tell report) bases count = (bases < count) × (bases < 64)
+Takes (lens.One word) bases count = (bases ≡ 0) × (count ≡ 1)
 
 -- all files were reported on, and then which warnings weren't looked for
 pub record TellsAll (asked : Request) (paths files : List (List ℕ)) (out out' errors errors' : SinkState) (verdict : Verdict) : Type 0 where
@@ -151,30 +160,56 @@ abbrev pub CutsBytes : ℕ → List ℕ → List ℕ → SinkState → SinkState
 CutsBytes entry path bytes out out' errors errors' verdict =
     CutsOut entry bytes out out' errors errors' verdict ⊎ CutsNone entry path bytes out out' errors errors' verdict
 
--- the file was cut
-pub record CutsRead (entry : ℕ) (path bytes : List ℕ) (out out' errors errors' : SinkState) (verdict : Verdict) : Type 0 where
-  pub few : length bytes ≤ MAX_READ
-  pub cuts : CutsBytes entry path bytes out out' errors errors' verdict
-
--- the file is larger than what is read, and this was reported
-pub record CutsTooLarge (path bytes : List ℕ) (out out' errors errors' : SinkState) (verdict : Verdict) : Type 0 where
+-- a file is larger than what is read, and this was reported
+pub record TellsTooLarge (path bytes : List ℕ) (out out' errors errors' : SinkState) (verdict : Verdict) : Type 0 where
   pub large : MAX_READ < length bytes
   pub untouched : out' ≡ out
   pub message : Appends errors.taken errors'.taken (refusal_line path refusal.TooLarge)
   pub says : verdict ≡ Unjudged
 
--- a level was cut out of the first file, or the reason why not was reported
-abbrev pub CutsFile : ℕ → List ℕ → List (List ℕ) → SinkState → SinkState → SinkState → SinkState → Verdict → Type 0
-CutsFile entry path files out out' errors errors' verdict =
-    CutsTooLarge path (slice_index_or files 0 []) out out' errors errors' verdict
-    ⊎ CutsRead entry path (slice_index_or files 0 []) out out' errors errors' verdict
+-- the file's demo was listed
+pub record ListsDemo (bytes : List ℕ) (out out' errors errors' : SinkState) (verdict : Verdict) : Type 0 where
+  pub demo : Demo
+  pub is : IsDemo bytes demo
+  pub took : Appends out.taken out'.taken (listing demo)
+  pub silent : errors' ≡ errors
+  pub says : verdict ≡ Clean
+
+-- it holds none, and the reason was reported
+pub record ListsNone (path bytes : List ℕ) (out out' errors errors' : SinkState) (verdict : Verdict) : Type 0 where
+  pub why : LaterFault
+  pub holds : RefusesDemo bytes why
+  pub untouched : out' ≡ out
+  pub message : Appends errors.taken errors'.taken (demo_refusal_line path None (fault_text why))
+  pub says : verdict ≡ Unjudged
+
+-- one of the two
+abbrev pub ListsBytes : List ℕ → List ℕ → SinkState → SinkState → SinkState → SinkState → Verdict → Type 0
+ListsBytes path bytes out out' errors errors' verdict =
+    ListsDemo bytes out out' errors errors' verdict ⊎ ListsNone path bytes out out' errors errors' verdict
+
+-- what is asked of the only file was answered from its bytes
+abbrev pub AnswersBytes : OneWord → List ℕ → List ℕ → SinkState → SinkState → SinkState → SinkState → Verdict → Type 0
+AnswersBytes (one.Cut entry) path bytes out out' errors errors' verdict = CutsBytes entry path bytes out out' errors errors' verdict
+AnswersBytes one.List path bytes out out' errors errors' verdict = ListsBytes path bytes out out' errors errors' verdict
+
+-- the file was read
+pub record AnswersRead (word : OneWord) (path bytes : List ℕ) (out out' errors errors' : SinkState) (verdict : Verdict) : Type 0 where
+  pub few : length bytes ≤ MAX_READ
+  pub answers : AnswersBytes word path bytes out out' errors errors' verdict
+
+-- it was answered from the first file, or the reason why not was reported
+abbrev pub AnswersFile : OneWord → List ℕ → List (List ℕ) → SinkState → SinkState → SinkState → SinkState → Verdict → Type 0
+AnswersFile word path files out out' errors errors' verdict =
+    TellsTooLarge path (slice_index_or files 0 []) out out' errors errors' verdict
+    ⊎ AnswersRead word path (slice_index_or files 0 []) out out' errors errors' verdict
 
 -- what is asked of files was answered
 abbrev pub Answers : LensWord → Rules → ℕ → List (List ℕ) → List (List ℕ) → SinkState → SinkState → SinkState → SinkState → Verdict → Type 0
-Answers (Tell word) rules bases paths files out out' errors errors' verdict =
-    TellsOver word rules bases paths files out out' errors errors' verdict
-Answers (Cut entry) rules bases paths files out out' errors errors' verdict =
-    CutsFile entry (slice_index_or paths 0 []) files out out' errors errors' verdict
+Answers (lens.Tell report) rules bases paths files out out' errors errors' verdict =
+    TellsOver report rules bases paths files out out' errors errors' verdict
+Answers (lens.One word) rules bases paths files out out' errors errors' verdict =
+    AnswersFile word (slice_index_or paths 0 []) files out out' errors errors' verdict
 
 -- the question asks for this of these files, one for each path
 pub record AsksFiles (question : LensQuestion) (named given : SizedBytes) (asked : LensRequest) (paths files : List (List ℕ)) : Type 0 where

@@ -7,3 +7,5 @@ pub mod Draw
 pub mod DrawEnded
 pub mod Linedefs
 pub mod LinedefsEnded
+pub mod Sketched
+pub mod SketchEnded

@@ -2,7 +2,7 @@
 
 ghost use Rattle.std.specs.Prelude.{◌≡◌, ◌↔◌, ◌<◌, ◌≤◌, [], false, Some, length, map, slice_index_or, IfErr, IfOk};
 ghost use Rattle.lens_reports.specs.Run.{AreSound};
-ghost use Rattle.wad_page.specs.Lens.{Asks, AsksWarnings, AsksWord, CutsBytes, CutsFile, DoesLens, TellsAll, TellsOver, TellsRefused, failing_of, lens_message, lens_status, reading_of, verdict_of_cut, verdict_of_uncut};
+ghost use Rattle.wad_page.specs.Lens.{Asks, AsksWarnings, AsksWord, AnswersBytes, AnswersFile, CutsBytes, DoesLens, ListsBytes, TellsAll, TellsOver, TellsRefused, failing_of, lens_message, lens_status, reading_of, verdict_of_cut, verdict_of_uncut};
 ghost use Rattle.lens_engines.specs.declared.judging.Warnings.{Warnings};
 ghost use Rattle.memory_streams.specs.ToVec.{state_of as vec_state};
 ghost use Rattle.wad_page.specs.declared.lens.LensFault.TheVariants.{Full};
@@ -10,6 +10,9 @@ ghost use Rattle.wad_page.specs.declared.lens.LensRequest.{LensRequest};
 ghost use Rattle.wad_page.specs.declared.lens.LensWord.{LensWord};
 
 use crate::parts::{SizedBytes, slices};
+use demo_engines::write_demo_refusal;
+use demo_listings::write_listing;
+use later_demos::LaterDemo;
 use le_rec::Sink;
 use lens_engines::{Base, CutFault, Rules, Uncut, Verdict, Warnings, cut_level};
 use lens_reports::{
@@ -29,13 +32,13 @@ use std::alloc::{AllocError, Allocator};
 pub struct LensQuestion {
     /// Of `check` how many findings or warnings of one code in one level are shown at most. Of `cut` the entry of the level's label.
     pub number: u64,
-    /// 0 `check`, 1 `survey`, 2 `demos`, 3 `demos --json`, 4 `cut`, 5 `check --json`.
+    /// 0 `check`, 1 `survey`, 2 `demos`, 3 `demos --json`, 4 `cut`, 5 `check --json`, 6 `listing`.
     pub command: u8,
-    /// 0 to read indexes as signed numbers, else they are read as numbers from 0 to 65535. Demos and `cut` ignore it.
+    /// 0 to read indexes as signed numbers, else they are read as numbers from 0 to 65535. Demos, `cut` and `listing` ignore it.
     pub wide: u8,
-    /// 0 no warnings, 1 `--map`, 2 `--map --strict`. Demos and `cut` ignore it.
+    /// 0 no warnings, 1 `--map`, 2 `--map --strict`. Demos, `cut` and `listing` ignore it.
     pub warnings: u8,
-    /// How many of the files are base files: the first ones, 63 at most. They aren't reported on. It is 0 for `cut`.
+    /// How many of the files are base files: the first ones, 63 at most. They aren't reported on. It is 0 for `cut` and `listing`.
     pub bases: u8,
 }
 
@@ -44,8 +47,17 @@ pub struct LensQuestion {
 pub enum LensWord {
     /// A report on each of them.
     Tell(ReportKind),
-    /// One level of the only file is cut out: the one whose label is the entry of this number.
+    /// An answer from the only one.
+    One(OneWord),
+}
+
+/// What is asked of the only file.
+#[derive(Clone, Copy)]
+pub enum OneWord {
+    /// One level is cut out: the one whose label is the entry of this number.
     Cut(u64),
+    /// The demo in it is listed.
+    List,
 }
 
 /// What is asked of files, and how their levels are judged.
@@ -65,7 +77,7 @@ impl LensWord {
     {
         match self {
             LensWord::Tell(_) => bases < count && bases < 64,
-            LensWord::Cut(_) => bases == 0 && count == 1,
+            LensWord::One(_) => bases == 0 && count == 1,
         }
     }
 }
@@ -121,7 +133,7 @@ pub fn do_lens<A: Allocator + Copy, W: HandOn, E: Sink>(
         LensWord::Tell(word) => {
             tell_over(alloc, word, asked.rules, bases, &names, &bytes, out, errors)
         }
-        LensWord::Cut(entry) => cut_file(alloc, entry, &names, &bytes, out, errors),
+        LensWord::One(word) => answer_file(alloc, word, &names, &bytes, out, errors),
     }
 }
 
@@ -165,8 +177,9 @@ fn word_of(command: u8, number: u64) -> Option<LensWord>
         1 => Some(LensWord::Tell(ReportKind::Survey)),
         2 => Some(LensWord::Tell(ReportKind::Demos(Form::Lines))),
         3 => Some(LensWord::Tell(ReportKind::Demos(Form::Objects))),
-        4 => Some(LensWord::Cut(number)),
+        4 => Some(LensWord::One(OneWord::Cut(number))),
         5 => Some(LensWord::Tell(ReportKind::Check(number, Form::Objects))),
+        6 => Some(LensWord::One(OneWord::List)),
         _ => None,
     }
 }
@@ -294,10 +307,10 @@ fn tell_all<A: Allocator + Copy, W: HandOn, E: Sink>(
     }
 }
 
-// Writes the level whose label is an entry of the first file, or reports why not.
-fn cut_file<A: Allocator + Copy, W: Sink, E: Sink>(
+// Answers from the first file, or reports why it can't.
+fn answer_file<A: Allocator + Copy, W: Sink, E: Sink>(
     alloc: A,
-    entry: u64,
+    word: OneWord,
     paths: &[&[u8]],
     files: &[&[u8]],
     out: &mut W,
@@ -306,19 +319,38 @@ fn cut_file<A: Allocator + Copy, W: Sink, E: Sink>(
     requires named { 0 < length paths.now }
     requires some { 0 < length files.now }
     requires sound { AreSound (W.state out.old) (E.state errors.old) }
-    ensures cut { IfOk result (CutsFile entry (slice_index_or (map (λ path. path.now) paths.now) 0 [])
+    ensures answered { IfOk result (AnswersFile word (slice_index_or (map (λ path. path.now) paths.now) 0 [])
         (map (λ file. file.now) files.now) (W.state out.old) (W.state out.new) (E.state errors.old) (E.state errors.new)) }
     ensures full { IfErr result (λ fault. fault ≡ Full) }
 {
     let path = paths[0];
     let held = Held(files);
     match held.read(0, path, Vec::new(alloc)) {
-        Ok(bytes) => cut_bytes(alloc, entry, path, bytes.as_slice(), out, errors),
+        Ok(bytes) => answer_bytes(alloc, word, path, bytes.as_slice(), out, errors),
         Err(ReadFault::Refused(refusal)) => match write_refusal(path, refusal, errors) {
             Ok(()) => Ok(Verdict::Unjudged),
             Err(_) => Err(LensFault::Full),
         },
         Err(ReadFault::Memory) => Err(LensFault::Full),
+    }
+}
+
+// Answers from a file's bytes, or reports why they can't be answered from.
+fn answer_bytes<A: Allocator + Copy, W: Sink, E: Sink>(
+    alloc: A,
+    word: OneWord,
+    path: &[u8],
+    bytes: &[u8],
+    out: &mut W,
+    errors: &mut E,
+) -> Result<Verdict, LensFault>
+    requires { AreSound (W.state out.old) (E.state errors.old) }
+    ensures answered { IfOk result (AnswersBytes word path.now bytes.now (W.state out.old) (W.state out.new) (E.state errors.old) (E.state errors.new)) }
+    ensures full { IfErr result (λ fault. fault ≡ Full) }
+{
+    match word {
+        OneWord::Cut(entry) => cut_bytes(alloc, entry, path, bytes, out, errors),
+        OneWord::List => list_bytes(path, bytes, out, errors),
     }
 }
 
@@ -340,6 +372,29 @@ fn cut_bytes<A: Allocator + Copy, W: Sink, E: Sink>(
         Err(CutFault::Memory | CutFault::Write) => Err(LensFault::Full),
         Err(fault) => match write_cut_line(path, &fault, errors) {
             Ok(()) => Ok(verdict_of_cut(&fault)),
+            Err(_) => Err(LensFault::Full),
+        },
+    }
+}
+
+// Lists the demo in a file's bytes, or reports why they hold none.
+fn list_bytes<W: Sink, E: Sink>(
+    path: &[u8],
+    bytes: &[u8],
+    out: &mut W,
+    errors: &mut E,
+) -> Result<Verdict, LensFault>
+    requires { AreSound (W.state out.old) (E.state errors.old) }
+    ensures listed { IfOk result (ListsBytes path.now bytes.now (W.state out.old) (W.state out.new) (E.state errors.old) (E.state errors.new)) }
+    ensures full { IfErr result (λ fault. fault ≡ Full) }
+{
+    match LaterDemo::read(bytes) {
+        Ok(demo) => match write_listing(&demo, out) {
+            Ok(()) => Ok(Verdict::Clean),
+            Err(_) => Err(LensFault::Full),
+        },
+        Err(fault) => match write_demo_refusal(path, fault, errors) {
+            Ok(()) => Ok(Verdict::Unjudged),
             Err(_) => Err(LensFault::Full),
         },
     }

@@ -7,6 +7,7 @@ ghost use Rattle.wad_page.specs.DrawEnded.{DrawEnds};
 ghost use Rattle.wad_page.specs.Lens.{LensEnds, Lensed};
 ghost use Rattle.wad_page.specs.LinedefsEnded.{LinedefsEnd};
 ghost use Rattle.wad_page.specs.Look.{LookEnds, Looked};
+ghost use Rattle.wad_page.specs.SketchEnded.{SketchEnds};
 
 mod draw;
 mod lens;
@@ -14,6 +15,7 @@ mod linedefs;
 mod look;
 mod parts;
 mod refusal;
+mod sketch;
 
 use block_alloc::{HostBlock, arena};
 use draw::{DrawQuestion, draw};
@@ -24,6 +26,7 @@ use look::do_words;
 use memory_streams::{ToVec, hand_out};
 use parts::SizedBytes;
 use refusal::{exit_status, tell};
+use sketch::{SketchQuestion, sketch_out};
 
 /// How a run ended, as the host reads it.
 #[repr(C)]
@@ -140,6 +143,23 @@ pub extern "C" fn list_linedefs(
     ensures { LinedefsEnd file.now question.now.wide out.old out.new ended.new }
 {
     *ended = list_out(heap, file, question, out).unwrap_or(NO_ROOM);
+}
+
+/// Tells what can be read of the level whose label is an entry of a file, whatever its format, into `out`: numbers of four bytes, the
+/// lowest first, as `sketch_numbers` of `map_sketch` has them. Status 0, or 2 where there is no such entry.
+///
+/// What the host keeps is as for `run_wadlook`.
+#[unsafe(no_mangle)]
+pub extern "C" fn sketch_level(
+    heap: HostBlock,
+    file: &[u8],
+    question: &SketchQuestion,
+    out: &mut [u8],
+    ended: &mut Ended,
+)
+    ensures { SketchEnds file.now question.now.entry out.old out.new ended.new }
+{
+    *ended = sketch_out(heap, file, question, out).unwrap_or(NO_ROOM);
 }
 
 // What `run_wadlook` answers, where there is room.

@@ -1,10 +1,9 @@
 //! Commands of `wadlook` over files in memory.
 ghost use Rattle.std.specs.Prelude.{◌≡◌, ◌<◌, ◌≤◌, false, length, map, string_bytes};
 ghost use Rattle.wad_dir.specs.declared.set.TheConstants.{MAX_FILES};
-ghost use Rattle.look_engines.specs.Opening.{bytes_of};
 ghost use Rattle.wad_page.specs.Look.{DoesLook, RunsFiles};
 
-use crate::parts::{SizedBytes, copies, read_words, slices};
+use crate::parts::{SizedBytes, read_words, slices};
 use crate::refusal::{PageRefusal, page_end};
 use le_rec::Sink;
 use look_engines::{Cmd, Job, RunFault, job, run};
@@ -32,8 +31,7 @@ pub fn do_words<A: Allocator + Copy, W: Sink>(
     if lent.len() != job.paths(&texts).len() {
         return Err(PageRefusal::Usage);
     }
-    let bytes = copies(alloc, &lent)?;
-    page_end(run_files(alloc, &texts, job, &bytes, input, out))
+    page_end(run_files(alloc, &texts, job, &lent, input, out))
 }
 
 // Runs the job's command over its files. `lmp` reads its file as the input.
@@ -41,17 +39,17 @@ fn run_files<A: Allocator + Copy, W: Sink>(
     alloc: A,
     words: &[String<A>],
     job: Job,
-    files: &[Vec<u8, A>],
+    files: &[&[u8]],
     input: &[u8],
     out: &mut W,
 ) -> Result<bool, RunFault>
     requires few { length files.now ≤ MAX_FILES }
     requires some { 0 < length files.now }
     requires out { (W.state out.old).failed ≡ false }
-    ensures { RunsFiles W.state (map string_bytes words.now) job (bytes_of files.now) input.now out.old out.new result }
+    ensures { RunsFiles W.state (map string_bytes words.now) job (map (λ file. file.now) files.now) input.now out.old out.new result }
 {
     let given = if job.command == Cmd::Lmp {
-        files[0].as_slice()
+        files[0]
     } else {
         input
     };

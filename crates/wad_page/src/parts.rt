@@ -1,7 +1,6 @@
 //! Bytes that are handed in as one run, with the size of each part.
 ghost use Rattle.std.specs.Prelude.{◌≡◌, map, string_bytes, IfErr, IfOk};
 ghost use Rattle.std.specs.Option.{option_map};
-ghost use Rattle.look_engines.specs.Opening.{bytes_of};
 ghost use Rattle.wad_page.specs.Parts.{AreWords, RefusesWords, cut};
 
 use crate::refusal::PageRefusal;
@@ -40,23 +39,6 @@ pub fn slices<'a, A: Allocator + Copy>(
     } else {
         Ok(None)
     }
-}
-
-/// A copy of each of some slices.
-pub fn copies<A: Allocator + Copy>(
-    alloc: A,
-    slices: &[&[u8]],
-) -> Result<Vec<Vec<u8, A>, A>, AllocError>
-    ensures { IfOk result (λ copies. bytes_of copies.items ≡ map (λ slice. slice.now) slices.now) }
-{
-    let mut copies = Vec::new(alloc);
-    for i in 0..slices.len() {
-        let copy = Vec::from_slice(alloc, slices[i])?;
-        let Ok(()) = copies.push(copy) else {
-            return Err(AllocError);
-        };
-    }
-    Ok(copies)
 }
 
 /// The parts as words, which are UTF-8.

@@ -73,9 +73,9 @@ returns g c =
     let held = length-map bytes (λ (s : Bor (List ℕ)). s.now) in
     let takes = rw c.from-bases.ensures at (c.takes.ensures.0 (search rules)) in
     let n : c.len-3.result ≡ length (map (λ (s : Bor (List ℕ)). s.now) bytes) = omega (arith, c.len-3.ensures, held) in
-    let cut = rw (c.deref-in-Cut.ensures.value, c.deref-in-Cut-2.ensures.value) at c.cut_file.ensures.cut in
-    answered g.W.Sink.state g.E.Sink.state c.args.question.now c.args.paths c.args.files c.args.out.now c.cut_file.new.out c.args.errors.now c.cut_file.new.errors
-    c.in-Some.asked (map (λ s. s.now) names) (map (λ s. s.now) bytes) c.cut_file.result
+    let told = rw (c.deref-in-One.ensures.value, c.deref-in-One-2.ensures.value) at c.answer_file.ensures.answered in
+    answered g.W.Sink.state g.E.Sink.state c.args.question.now c.args.paths c.args.files c.args.out.now c.answer_file.new.out c.args.errors.now c.answer_file.new.errors
+    c.in-Some.asked (map (λ s. s.now) names) (map (λ s. s.now) bytes) c.answer_file.result
     (record {
       asks = (c.asked_by.ensures c.in-Some.asked).0 c.in-Some.is;
       paths_are = parts_are (λ v. map (λ s. s.now) v.items) c.in_ok-names.field-0 c.in-Some-2.names _ c.in_ok-names.ensures c.in-Some-2.is;
@@ -83,4 +83,4 @@ returns g c =
       as_many = omega (arith, counted, held, c.len.ensures, c.len-2.ensures, c.if-len.false);
       takes = subst (Takes c.in-Some.asked.word c.args.question.now.bases) n takes;
     })
-    (rw c.in-Cut.is cut) c.cut_file.ensures.full
+    (rw c.in-One.is told) c.answer_file.ensures.full

@@ -142,10 +142,12 @@ cases_of_fail() {
     says 'fail: surveyed' 1 '{"file":"frontless.wad","level":"E1M1","entry":0,"format":"doom",'"${counts/\"linedefs\":1/\"linedefs\":2}"',"sound":true,"faults":0,"notes":1,"findings":{"N4":1}}\n' \
         '' survey --fail N4 frontless.wad
     into_new 'atlas: a note that fails' 1 '' '1-0.svg index.html survey.jsonl' --fail N4 frontless.wad
-    shows 'atlas: .. on its page' index.html '<li class="faulty">'
+    shows 'atlas: .. on its page' index.html '<li class="faulty">' $'<ul class="found">\n<li class="note">N4 &times; 1</li>\n</ul>'
+    lacks 'atlas: .. and it is not called sound' index.html '<li class="sound">'
     rm -rf atlas
     into_new 'atlas: a note that is ignored' 0 '' '1-0.svg index.html survey.jsonl' --fail N5 --ignore N4 frontless.wad
     has 'atlas: .. in its survey' survey.jsonl '{"file":"frontless.wad","level":"E1M1","entry":0,"format":"doom",'"${counts/\"linedefs\":1/\"linedefs\":2}"',"sound":true,"faults":0,"notes":0,"findings":{}}\n'
+    shows 'atlas: .. and it is called sound' index.html $'<ul class="found">\n<li class="sound">sound</li>\n</ul>'
     rm -rf atlas
 }
 

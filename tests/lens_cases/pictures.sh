@@ -721,8 +721,9 @@ cases_of_warned_atlases() {
         '<li class="sound">' "$warned" '<ul class="counts">'
     into_new 'atlas: --map --strict' 1 '' '1-0.svg index.html survey.jsonl' --strict --map base.wad
     has 'atlas: its survey, strictly' survey.jsonl "$(<survey.told)\n"
-    # It fails, and comes first, and no link and no node of it is broken.
-    shows 'atlas: its warnings, strictly' index.html '<b>0</b> faults' '<b>6</b> warnings' '<li class="faulty">' "$warned"
+    # It fails, and comes first. No link and no node of it is broken, and still it isn't called sound.
+    shows 'atlas: its warnings, strictly' index.html '<b>0</b> faults' '<b>6</b> warnings' '<li class="faulty">' "${warned#*$'\n'}"
+    lacks 'atlas: .. and it is not called sound, strictly' index.html '<li class="sound">'
     into_new 'atlas: warnings of some levels' 2 '' '1-0.svg 3-0.svg index.html survey.jsonl' --map base.wad udmf.wad base.wad
     timeout 60 "$program" survey --map base.wad udmf.wad base.wad >survey.told
     has 'atlas: their survey' survey.jsonl "$(<survey.told)\n"

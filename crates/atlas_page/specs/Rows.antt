@@ -10,9 +10,9 @@ use Rattle.atlas_page.specs.Messages.{messages_part}
 use Rattle.atlas_page.specs.PictureName.{picture_name}
 use Rattle.atlas_page.specs.Text.{path_text}
 use Rattle.atlas_page.specs.declared.row.Row.{Row}
-use Rattle.lens_engines.specs.Counts.{fault_total}
 use Rattle.lens_texts.specs.FormatLine.{format_text}
 use Rattle.lens_texts.specs.LevelObject.{format_name}
+use Rattle.lens_engines.specs.Survey.{verdict_of_level}
 use Rattle.lens_engines.specs.Surveyed.{format_of, is_drawn}
 use Rattle.lens_engines.specs.Totals.{no_totals, totals_of, totals_with, verdict_of_totals}
 use Rattle.lens_engines.specs.declared.level_counts.LevelCounts.{LevelCounts}
@@ -58,14 +58,14 @@ where_parts row =
     codes "<p class=\"where\">" ∷ path_text row.path.now ∷ codes " <span>entry " ∷ decimal row.entry ∷ codes ", "
     ∷ format_name (format_of row.found) ∷ codes "</span></p>\n" ∷ []
 
--- `sound` where there is no fault
-abbrev pub sound_item : List ℕ → List ℕ
-sound_item counts = if nat_eq (fault_total counts) 0 then codes "<li class=\"sound\">sound</li>\n" else []
+-- `sound` where nothing fails
+abbrev pub sound_item : LevelCounts → List ℕ
+sound_item judged = if tells_fault (verdict_of_level judged) then [] else codes "<li class=\"sound\">sound</li>\n"
 
 -- what was found at a level of Doom's format: the codes of which there are any, the first messages by their items, and how large its tables are
 abbrev pub judged_parts : LevelCounts → List ℕ → List (List ℕ)
 judged_parts judged messages =
-    codes "<ul class=\"found\">\n" ∷ sound_item judged.counts ∷ joined (code_items judged.counts) ∷ codes "</ul>\n" ∷ messages_part messages
+    codes "<ul class=\"found\">\n" ∷ sound_item judged ∷ joined (code_items judged.counts) ∷ codes "</ul>\n" ∷ messages_part messages
     ∷ codes "<ul class=\"counts\">\n" ∷ joined (table_items judged.tables) ∷ codes "</ul>\n" ∷ []
 
 -- why another isn't judged

@@ -10,7 +10,7 @@ use crate::picture_name::write_picture_name;
 use crate::row::Row;
 use crate::text::{write_name, write_number, write_page_path};
 use le_rec::Sink;
-use lens_engines::{LevelCounts, ReportCounts, Surveyed, Unjudged, Verdict};
+use lens_engines::{LevelCounts, Surveyed, Unjudged, Verdict};
 use lens_texts::parts::{TextParts, write_parts};
 use lens_texts::{format_name, write_format_alone};
 use line_io::{IoFault, emit};
@@ -83,15 +83,14 @@ impl TextParts for WhereLine<'_, '_> {
     }
 }
 
-// Writes `sound`, where there is no fault.
-fn write_sound<W: Sink>(counts: &ReportCounts, out: &mut W) -> Result<(), IoFault>
+// Writes `sound`, where nothing fails.
+fn write_sound<W: Sink>(judged: &LevelCounts, out: &mut W) -> Result<(), IoFault>
     requires { (W.state out.old).failed ≡ false }
-    ensures { Writes (W.state out.old) (W.state out.new) (sound_item counts.now) result }
+    ensures { Writes (W.state out.old) (W.state out.new) (sound_item judged.now) result }
 {
-    if counts.faults() == 0 {
-        emit(out, b"<li class=\"sound\">sound</li>\n")
-    } else {
-        emit(out, b"")
+    match judged.verdict() {
+        Verdict::Faulty => emit(out, b""),
+        Verdict::Clean | Verdict::Unjudged => emit(out, b"<li class=\"sound\">sound</li>\n"),
     }
 }
 
@@ -114,7 +113,7 @@ impl TextParts for JudgedParts<'_> {
     fn write<W: Sink>(&self, number: usize, out: &mut W) -> Result<(), IoFault> {
         match number {
             0 => emit(out, b"<ul class=\"found\">\n"),
-            1 => write_sound(&self.judged.counts, out),
+            1 => write_sound(self.judged, out),
             2 => write_codes(&self.judged.counts, out),
             3 => emit(out, b"</ul>\n"),
             4 => write_messages(self.messages, out),

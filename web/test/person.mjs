@@ -125,6 +125,7 @@ export const withhold = (job, name = '') => browser.run(`{ const send = Worker.p
 /** Saves by a button, and reads what was saved under a name. @param {string} id @param {string} name */
 export async function saved(id, name) {
   await browser.send('Browser.setDownloadBehavior', { behavior: 'allow', downloadPath: room });
+  rmSync(join(room, name), { force: true }); // so that no file of an earlier case is read
   await browser.run("document.querySelector('#said').textContent = ''");
   await browser.press(`#save-${id}`);
   await browser.until("/ saved$/.test(document.querySelector('#said').textContent)", `${name} saved`);

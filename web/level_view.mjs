@@ -8,6 +8,7 @@ import { link, numbers } from './links.mjs';
 import { MapView } from './map_view.mjs';
 import { tell } from './notices.mjs';
 import { Stopped } from './questions.mjs';
+import { Readout } from './readout.mjs';
 import { RecordView, askedBy } from './record_view.mjs';
 import { make } from './rows.mjs';
 import { partWords, textOf, whatIsThere, whatNext } from './sketch.mjs';
@@ -84,6 +85,7 @@ export class LevelView {
     this.kept = null; // what a level that is shown again will have in view
     /** @type {Promise<unknown>} */
     this.drawing = Promise.resolve();
+    this.readout = new Readout(get('under'));
     this.map = new MapView(get('map'), {
       hover: (x, y, under) => this.#hover(x, y, under),
       leave: () => this.#rest(),
@@ -321,7 +323,7 @@ export class LevelView {
     this.map.mark(place, stays);
     await this.#showOf(finding);
     this.#rest();
-    if (!place) get('under').textContent = `${finding.code} ${finding.where} has no place on the map.`.trim();
+    if (!place) this.readout.tell(`${finding.code} ${finding.where} has no place on the map.`.trim());
   }
 
   /** Shows the record that a finding is about, where that is one that can be asked for. @param {Finding} finding */
@@ -530,14 +532,14 @@ export class LevelView {
     if (!this.map.picture) return;
     get('where').textContent = `${x} ${y}`;
     const told = [inShort(found?.title ?? ''), few('thing', thing), few('linedef', linedef), inShort(sector)];
-    get('under').textContent = told.filter(Boolean).join('  –  ') || 'nothing is shown here';
+    this.readout.tell(...(told.some(Boolean) ? told : ['nothing is shown here']));
   }
 
   /** What the readout says while nothing is under the pointer. */
   #rest() {
-    const point = get('point').hidden ? '' : get('point-line').textContent, told = [this.record?.told, point].filter(Boolean).join('  –  ');
+    const point = get('point').hidden ? '' : get('point-line').textContent ?? '', told = [this.record?.told ?? '', point];
     get('where').textContent = '';
-    get('under').textContent = told || (this.map?.picture ? 'Click or tap the map to pin a point.' : '');
+    this.readout.tell(...(told.some(Boolean) ? told : [this.map?.picture ? 'Click or tap the map to pin a point.' : '']));
   }
 
   /** @param {View} view */

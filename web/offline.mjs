@@ -5,7 +5,7 @@ const KEPT = 'wadlook';
 /** All that the page consists of. */
 const FILES = ['./', 'index.html', 'page.css', 'icon.svg', 'manifest.json', 'served.mjs', 'wad_page.wasm',
   ...['changes', 'codes', 'demo_table', 'demo_words', 'entries', 'facts', 'findings', 'follow', 'found_list', 'games', 'groups', 'inks',
-    'level_view', 'linedefs', 'lines', 'links', 'list', 'map_view', 'notices', 'page', 'picture', 'questions', 'record_view', 'records', 'rows',
+    'level_view', 'linedefs', 'lines', 'links', 'list', 'map_view', 'notices', 'page', 'picture', 'questions', 'readout', 'record_view', 'records', 'rows',
     'saved_picture', 'sketch', 'sources', 'specials', 'thing_kinds', 'wad_page', 'words', 'worker', 'zip'].map((name) => `${name}.mjs`)];
 const own = new Set(FILES.map((file) => new URL(file, location.href).href));
 

@@ -10,6 +10,9 @@ const KEYS = /** @type {Record<string, number>} */ ({
   ArrowDown: 40, ArrowUp: 38, ArrowLeft: 37, ArrowRight: 39, Enter: 13, Escape: 27, Tab: 9, End: 35, Home: 36, Delete: 46,
 });
 
+/** The machine may have no mouse, and the page is used with one. */
+const WITH_MOUSE = '--blink-settings=primaryHoverType=2,availableHoverTypes=2,primaryPointerType=4,availablePointerTypes=4';
+
 // What an expression ends with whose page is left while it is computed.
 const LEFT = /navigated or closed|context was destroyed|Cannot find .*context/;
 
@@ -17,7 +20,7 @@ export class Browser {
   /** @param {string} program @param {string} profile a folder of its own */
   constructor(program, profile) {
     const words = ['--headless=new', '--no-sandbox', '--disable-gpu', '--disable-dev-shm-usage', '--hide-scrollbars', '--no-first-run', '--disable-background-networking',
-      '--disable-component-update', '--remote-debugging-pipe', `--user-data-dir=${profile}`, 'about:blank'];
+      '--disable-component-update', WITH_MOUSE, '--remote-debugging-pipe', `--user-data-dir=${profile}`, 'about:blank'];
     this.process = spawn(program, words, { stdio: ['ignore', 'ignore', 'ignore', 'pipe', 'pipe'] });
     this.input = /** @type {import('node:stream').Writable} */ (this.process.stdio[3]);
     this.waiting = new Map();

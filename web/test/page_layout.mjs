@@ -1,6 +1,6 @@
 // The cases of the page at sizes of windows, from a phone's to a desk's, and zoomed.
 import {
-  browser, check, drawn, drawnAnew, fresh, isHidden, judged, legend, pinBy, pointTold, textsOf, viewOf, withhold, written,
+  browser, check, drawn, drawnAnew, fresh, isHidden, judged, legend, pinBy, placeOf, pointTold, textOf, textsOf, viewOf, withhold, written,
 } from './person.mjs';
 import { demo, oneLost, oneMistaken, rooms, twoOverlooked, twoUnknown, wad } from './wads.mjs';
 
@@ -144,6 +144,77 @@ async function steady() {
   }
 }
 
+/** The east wall lacks its texture and lowers a lift, and a thing stands before it: all of that lies under one place. @param {Record<string, Buffer>} lumps */
+function crowded(lumps) {
+  twoOverlooked(lumps);
+  const { LINEDEFS, SECTORS, THINGS } = lumps;
+  THINGS.writeInt16LE(506, 10);
+  LINEDEFS.writeUInt16LE(62, 5 * 14 + 6);
+  LINEDEFS.writeUInt16LE(7, 5 * 14 + 8);
+  SECTORS.writeUInt16LE(7, 26 + 24);
+}
+const CROWD = /** @type {[number, number]} */ ([511, 128]);
+
+/** Shows the crowded level's map, in letters that stand so far apart. @param {string} file @param {string} apart */
+async function showCrowd(file, apart) {
+  await fresh();
+  await browser.run(`{ document.body.style.letterSpacing = '${apart}'; }`);
+  await browser.drop(file);
+  await drawn('MAP01');
+  await browser.until("document.querySelector('#map').dataset.asked === 'MAP01' && document.querySelector('#legend').classList.contains('found')", 'a level that can be asked');
+  await browser.run("document.querySelector('.tabs [data-to=map]').click()");
+  await browser.middle('#map'); // which brings it into view
+  await drawnAnew();
+}
+
+/** Where the map stands in the window. @returns {Promise<number[]>} */
+const mapBox = () => browser.run("(() => { const { x, y, width, height } = document.querySelector('#map').getBoundingClientRect(); return [x, y, width, height]; })()");
+/** The things that are told below the map, which have to have room there. */
+const toldBelow = async () => {
+  check('what is told has room', await browser.run("(() => { const e = document.querySelector('#under'); return [e.scrollHeight <= e.clientHeight, e.scrollWidth <= e.clientWidth]; })()"), [true, true]);
+  return (await textOf('#under')).split('  –  ');
+};
+
+/** Whatever the pointer is over, the map stays where it is, in wide letters, too; what has no room is told in fewer words. */
+async function stays() {
+  const file = written('crowded.wad', wad(rooms('MAP01', { damage: crowded })));
+  /** @type {string[]} */
+  let all = [];
+  for (const [width, height] of [[2560, 1440], [1920, 1080], [1440, 900], [1280, 800], [1240, 700], [1024, 768], [881, 481], [1280, 480], [768, 1024],
+    [640, 400], [480, 320], [390, 844], [320, 480]]) {
+    for (const apart of ['normal', '.12em']) {
+      const at = `${width} by ${height}, ${apart}`;
+      await browser.screen(width, height, 'dark');
+      await showCrowd(file, apart);
+      const box = await mapBox(), view = await viewOf();
+      for (const place of /** @type {[number, number][]} */ ([[130, 100], CROWD, [-8, 100], [400, 254]])) {
+        await browser.mouse('mouseMoved', ...await placeOf(...place));
+        await drawnAnew();
+        check(`the map stays, ${at}, over ${place}`, [await mapBox(), await viewOf()], [box, view]);
+        const came = await toldBelow();
+        if (place !== CROWD) continue;
+        if (!all.length) all = came;
+        check(`what lies there is told from its first on, ${at}`, came.map((one, k) => all[k].startsWith(one.replace(/ …$/, ''))), came.map(() => true));
+      }
+      await browser.mouse('mouseWheel', ...await placeOf(...CROWD), { deltaX: 0, deltaY: -100 });
+      await drawnAnew();
+      check(`nor does the scale move it, ${at}`, await mapBox(), box);
+    }
+  }
+  check('where there is room all of it is told', [all.length, /linedef 5/.test(all[0]), ...all.slice(1).map((one) => one.split(/[: ·]+/).slice(0, 2).join(' ')), all.join().includes('…')],
+    [4, true, 'thing 1', 'linedef 5', 'sector 1', false]);
+  for (const [width, height] of [[390, 844], [844, 390], [640, 360], [480, 320], [320, 480]]) {
+    await browser.screen(width, height, 'dark', true);
+    await showCrowd(file, 'normal');
+    const box = await mapBox(), at = await placeOf(384, 100);
+    await browser.touch('touchStart', at);
+    await browser.touch('touchEnd');
+    await pointTold('38');
+    await drawnAnew();
+    check(`nor does a tap move it, ${width} by ${height}`, [await mapBox(), /sector 1/.test((await toldBelow()).join())], [box, true]);
+  }
+}
+
 /** Forced colours take no colour of the legend, and leave the shown part told. */
 async function forced() {
   await browser.screen(390, 844, 'dark', true);
@@ -162,6 +233,6 @@ async function forced() {
 }
 
 export async function layout() {
-  for (const one of [sizes, fits, wraps, steady, forced]) await one();
+  for (const one of [sizes, fits, wraps, steady, stays, forced]) await one();
   await browser.screen(1440, 900, 'dark');
 }

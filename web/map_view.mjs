@@ -328,10 +328,14 @@ export class MapView {
   }
 
   #redraw() {
-    this.waiting ??= requestAnimationFrame(() => {
-      this.waiting = undefined;
-      this.#draw();
-    });
+    this.waiting ??= requestAnimationFrame(() => this.#drawNow());
+  }
+
+  /** Draws what waits for the next frame. */
+  #drawNow() {
+    if (this.waiting) cancelAnimationFrame(this.waiting);
+    this.waiting = undefined;
+    this.#draw();
   }
 
   // Colours ----------------------------------------------------------------------------------------------------------------------
@@ -525,6 +529,7 @@ export class MapView {
     }
     this.took = 0;
     if (this.fitted) this.fit(); else this.#set(this.view);
+    this.#drawNow(); // the canvases are empty, and black
   }
 
   // Pointer and keys -------------------------------------------------------------------------------------------------------------

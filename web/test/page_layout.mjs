@@ -144,6 +144,20 @@ async function steady() {
   }
 }
 
+/** A map whose place changes is drawn anew before it's seen there: its emptied canvas is black. */
+async function redrawn() {
+  await browser.screen(1280, 800, 'light');
+  await fresh();
+  await browser.drop(written('full.wad', full));
+  await drawn('MAP01');
+  const corners = await browser.run(`new Promise((go) => { const seen = [], map = document.querySelector('#map'), canvas = map.querySelector('canvas');
+    new ResizeObserver(() => {
+      seen.push([...canvas.getContext('2d').getImageData(4, 4, 1, 1).data].join());
+      if (seen.length === 1) document.querySelector('.readout').style.minHeight = '200px'; else go([seen[0] === seen[1], seen[0] !== '0,0,0,255', canvas.height === map.clientHeight]);
+    }).observe(map); })`);
+  check('a map that is made lower is drawn at once', corners, [true, true, true]);
+}
+
 /** The east wall lacks its texture and lowers a lift, and a thing stands before it: all of that lies under one place. @param {Record<string, Buffer>} lumps */
 function crowded(lumps) {
   twoOverlooked(lumps);
@@ -233,6 +247,6 @@ async function forced() {
 }
 
 export async function layout() {
-  for (const one of [sizes, fits, wraps, steady, stays, forced]) await one();
+  for (const one of [sizes, fits, wraps, steady, redrawn, stays, forced]) await one();
   await browser.screen(1440, 900, 'dark');
 }

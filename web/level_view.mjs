@@ -319,11 +319,17 @@ export class LevelView {
   async #choose(finding, stays = false) {
     const { asked } = this, mine = ++this.choices, place = await this.#placeOf(finding);
     if (this.asked !== asked || mine !== this.choices) return;
-    if (place && this.map.picture && isNarrow()) pane('map');
+    if (place && this.map.picture && isNarrow()) this.#toMap();
     this.map.mark(place, stays);
     await this.#showOf(finding);
     this.#rest();
     if (!place) this.readout.tell(`${finding.code} ${finding.where} has no place on the map.`.trim());
+  }
+
+  /** Shows the map, where one pane is shown at a time. */
+  #toMap() {
+    pane('map');
+    get('map').scrollIntoView({ block: 'nearest' });
   }
 
   /** Shows the record that a finding is about, where that is one that can be asked for. @param {Finding} finding */
@@ -422,7 +428,7 @@ export class LevelView {
   /** Shows a record, and on a phone the map, where it has a place. @param {string} kind @param {number} index */
   async #go(kind, index) {
     const isThere = await this.record.show(kind, index);
-    if (isThere && this.map.asked && isNarrow()) pane('map');
+    if (isThere && this.map.asked && isNarrow()) this.#toMap();
     if (isThere) say(this.record.told);
     this.#rest();
     return isThere;

@@ -436,8 +436,10 @@ function showLevel() {
 
 /** @param {'map' | 'demo'} which @param {OpenFile | null} f none where all are closed @param {string} name */
 function stage(which, f, name) {
+  const isOther = get('demo').hidden === (which === 'demo');
   get('demo').hidden = which !== 'demo';
   document.body.classList.toggle('at-demo', which === 'demo');
+  if (isOther) get('demo').parentElement?.scrollTo(0, 0); // where it's too low for the one, it may not be for the other
   get('crumbs').replaceChildren(...(f ? [make('span', '', f.file.name)] : []), ...(!f || f.kind === 'demo' || !name ? [] : [make('span', 'here', name)]));
   document.title = `${name || (f ? f.file.name : 'level inspector')} – wadlook`;
 }

@@ -27,9 +27,11 @@ export const plural = (/** @type {number} */ n, /** @type {string} */ word) => `
 export const sizeOf = (/** @type {number} */ bytes) => bytes < 1e6 ? `${Math.max(1, Math.round(bytes / 1e3))} kB` : `${(bytes / 1e6).toFixed(1)} MB`;
 export const wordsOf = (/** @type {unknown} */ error) => error instanceof Error ? error.message : String(error);
 
-/** Shows a pane; where there is room for more than one, all are shown. @param {string} name */
+/** Shows a pane from its top; where there is room for more than one, all are shown. @param {string} name */
 export function pane(name) {
+  const isOther = document.body.dataset.pane !== name;
   document.body.dataset.pane = name;
+  if (isOther) document.documentElement.scrollTo(0, 0); // where the page scrolls as a whole
   for (const tab of /** @type {NodeListOf<HTMLElement>} */ (document.querySelectorAll('.tabs button'))) {
     if (tab.dataset.to === name) tab.setAttribute('aria-current', 'true'); else tab.removeAttribute('aria-current');
   }

@@ -1,6 +1,6 @@
 // The cases of the page at sizes of windows, from a phone's to a desk's, and zoomed.
 import {
-  browser, check, drawn, drawnAnew, fresh, isHidden, judged, legend, pinBy, placeOf, pointTold, textOf, textsOf, viewOf, withhold, written,
+  FINDING, browser, check, drawn, drawnAnew, fresh, isHidden, judged, legend, pinBy, placeOf, pointTold, textOf, textsOf, viewOf, withhold, written,
 } from './person.mjs';
 import { demo, oneLost, oneMistaken, rooms, twoOverlooked, twoUnknown, wad } from './wads.mjs';
 
@@ -72,7 +72,7 @@ async function sizes() {
 
 /** All of the map is beside the legend and the buttons, and those don't lie on each other. */
 async function fits() {
-  const screens = /** @type {[number, number, boolean][]} */ ([[1440, 900, false], [390, 844, true], [844, 390, true], [640, 400, false]]);
+  const screens = /** @type {[number, number, boolean][]} */ ([[1440, 900, false], [390, 844, true], [320, 480, true], [844, 390, true], [640, 400, false]]);
   for (const [width, height, isTouched] of screens) {
     await browser.screen(width, height, 'dark', isTouched);
     await fresh();
@@ -112,6 +112,7 @@ async function wraps() {
     await browser.drop(written(LONG, full), notes);
     await drawn('MAP01');
     await browser.run("document.querySelector('.tabs [data-to=files]').click()");
+    check(`the buttons of a file stand in a line, ${width}`, await browser.run("new Set([...document.querySelectorAll('.files .saves button')].map((e) => e.offsetTop)).size"), 1);
     check(`a long name is read whole, ${width}`, await cut('#crumbs, #files .row, #files .row-name, #files .row-more'), []);
     await browser.run("document.querySelector('.tabs [data-to=map]').click()");
     await drawnAnew();
@@ -229,6 +230,46 @@ async function stays() {
   }
 }
 
+/** What is shown next is shown from its top, and the tabs and the map are in view where the page scrolls as a whole. */
+async function tops() {
+  const many = wad(rooms('MAP01', { damage: (lumps) => {
+    lumps.SECTORS = Buffer.concat(Array.from({ length: 400 }, () => lumps.SECTORS));
+    lumps.REJECT = Buffer.alloc(0);
+    oneMistaken(lumps);
+  } }));
+  const toEnd = () => browser.run('document.documentElement.scrollTo(0, 1e6)'), top = () => browser.run('document.documentElement.scrollTop');
+  const inView = (/** @type {string} */ selector) => browser.run(`[...document.querySelectorAll('${selector}')].every((e) => { const { top, bottom } = e.getBoundingClientRect(); return top >= 0 && bottom <= innerHeight + 1; })`);
+  for (const [width, height] of [[480, 320], [320, 256]]) {
+    await browser.screen(width, height, 'dark');
+    await fresh();
+    await browser.drop(written('many.wad', many));
+    await drawn('MAP01');
+    await browser.run("document.querySelector('.tabs [data-to=notes]').click()");
+    await pinBy('100 100');
+    await pointTold('100 100');
+    check(`a long list of numbers scrolls by itself, ${width}`, await browser.run("[...document.querySelectorAll('.numbers')].every((e) => e.offsetHeight <= 108)"), true);
+    await toEnd();
+    check(`the tabs are at hand at the end of the page, ${width}`, [await top() > 100, await inView('.tabs button')], [true, true]);
+    await browser.run("document.querySelector('.tabs [data-to=levels]').click()");
+    check(`and lead to the top of a part, ${width}`, await top(), 0);
+    await browser.run("document.querySelector('.tabs [data-to=notes]').click()");
+    await browser.press(FINDING);
+    await browser.until("document.body.dataset.pane === 'map'", 'the map');
+    check(`a finding leads to where the map is in view, ${width}`, await inView('#map'), true);
+  }
+  await browser.screen(640, 360, 'dark');
+  await fresh();
+  await browser.drop(written('full.wad', full), written(`not_${LONG}.txt`, 'notes about the rooms'));
+  await drawn('MAP01');
+  await browser.run("document.querySelector('.tabs [data-to=map]').click()");
+  const scrolled = () => browser.run("document.querySelector('.stage').scrollTop");
+  await browser.run("document.querySelector('.stage').scrollTo(0, 1000)");
+  check('a low part is scrolled', await scrolled() > 0, true);
+  await browser.run("document.querySelector('#demos .row').click()");
+  await browser.until("document.querySelectorAll('.cells-row').length", 'a demo');
+  check('and a demo is shown from its top, though it is low, too', [await scrolled(), await browser.run("{ const { scrollHeight, clientHeight } = document.querySelector('.stage'); scrollHeight > clientHeight; }")], [0, true]);
+}
+
 /** Forced colours take no colour of the legend, and leave the shown part told. */
 async function forced() {
   await browser.screen(390, 844, 'dark', true);
@@ -247,6 +288,6 @@ async function forced() {
 }
 
 export async function layout() {
-  for (const one of [sizes, fits, wraps, steady, redrawn, stays, forced]) await one();
+  for (const one of [sizes, fits, wraps, steady, redrawn, stays, tops, forced]) await one();
   await browser.screen(1440, 900, 'dark');
 }

@@ -14,7 +14,8 @@ import { field, get, sentence } from './words.mjs';
  * @typedef {{ group: Group, k: number }} Item  a row: a finding, or with -1 the heading of its group
  */
 /**
- * @typedef {{ choose: (finding: Finding, k: number) => void, listAll: (code: string, place: number) => void, changed: () => void, hid: () => void }} Tell
+ * @typedef {{ choose: (finding: Finding, isPassed: boolean) => void, listAll: (code: string, place: number) => void, changed: () => void,
+ *   hid: () => void }} Tell
  *   what is called where a finding is chosen, where all of a code are asked for, where other findings are shown, and where a code is hidden or shown
  */
 
@@ -46,7 +47,7 @@ export class FoundList {
     /** @type {Map<number, Finding>} */
     this.made = new Map();
     this.filtering = 0; // counts filters, so that an earlier one ends where a later one began
-    this.list = new ListBox(get('findings'), (/** @type {Item} */ item) => this.#draw(item), (item, row) => this.#chosen(item, row), {
+    this.list = new ListBox(get('findings'), (/** @type {Item} */ item) => this.#draw(item), (item, _, isPassed) => this.#chosen(item, isPassed), {
       isButton: ({ k, group }) => k < 0 || k === group.to, describe: ({ group }) => meaningOf(group.code), branch: (item) => this.#branch(item),
       fold: ({ group }, isOpen) => this.#fold(group, isOpen),
     });
@@ -113,7 +114,7 @@ export class FoundList {
     if (!group) return;
     this.folded.set(group.code, true);
     this.#list(false, group, k);
-    if (!isQuiet) this.tell.choose(this.finding(k), k);
+    if (!isQuiet) this.tell.choose(this.finding(k), false);
   }
 
   /** The place of the object of a finding that `all` has. @param {Finding} finding */
@@ -262,11 +263,11 @@ export class FoundList {
 
   // What is done ---------------------------------------------------------------------------------------------------------------------
 
-  /** @param {Item} item @param {number} row */
-  #chosen({ group, k }, row) {
+  /** @param {Item} item @param {boolean} isPassed whether the keys are on their way */
+  #chosen({ group, k }, isPassed) {
     if (k < 0) this.#fold(group, !this.#isOpen(group));
     else if (k === group.to) this.tell.listAll(group.code, group.to - group.from);
-    else this.tell.choose(this.finding(k), row);
+    else this.tell.choose(this.finding(k), isPassed);
   }
 
   /** @param {Group} group @param {boolean} isOpen */

@@ -12,7 +12,7 @@ import { Readout } from './readout.mjs';
 import { RecordView, askedBy } from './record_view.mjs';
 import { make } from './rows.mjs';
 import { partWords, textOf, whatIsThere, whatNext } from './sketch.mjs';
-import { adviceOf, get, field, inShort, isFatal, isNarrow, notJudged, pane, say, sentence, unlookedWords, verdict, wordsOf } from './words.mjs';
+import { adviceOf, get, field, inShort, isFatal, isNarrow, notJudged, say, sentence, toMap, unlookedWords, verdict, wordsOf } from './words.mjs';
 
 /** @typedef {import('./words.mjs').Level} Level */
 /** @typedef {import('./findings.mjs').Finding} Finding @typedef {import('./findings.mjs').Spots} Spots */
@@ -96,7 +96,7 @@ export class LevelView {
     });
     this.record = new RecordView(this.map, () => this.#linedefs(), () => this.#rest());
     this.found = new FoundList({
-      choose: (finding) => this.#choose(finding),
+      choose: (finding, isPassed) => this.#choose(finding, false, isPassed),
       listAll: (code, place) => this.#listAll(code, place),
       changed: () => this.#mark(),
       hid: () => {
@@ -315,11 +315,11 @@ export class LevelView {
     } catch (error) { if (!(error instanceof Stopped)) tell({ about: asked.name, words: wordsOf(error) }); }
   }
 
-  /** @param {Finding} finding @param {boolean} [stays] whether the view stays as it is */
-  async #choose(finding, stays = false) {
+  /** @param {Finding} finding @param {boolean} [stays] whether the view stays as it is @param {boolean} [isPassed] whether the list stays in view, too */
+  async #choose(finding, stays = false, isPassed = false) {
     const { asked } = this, mine = ++this.choices, place = await this.#placeOf(finding);
     if (this.asked !== asked || mine !== this.choices) return;
-    if (place && this.map.picture && isNarrow()) this.#toMap();
+    if (place && this.map.picture && isNarrow() && !isPassed) this.#toMap();
     this.map.mark(place, stays);
     await this.#showOf(finding);
     this.#rest();
@@ -328,7 +328,7 @@ export class LevelView {
 
   /** Shows the map, where one pane is shown at a time. */
   #toMap() {
-    pane('map');
+    toMap();
     get('map').scrollIntoView({ block: 'nearest' });
   }
 

@@ -14,7 +14,7 @@ import { make, Rows, WholeRows } from './rows.mjs';
 export class ListBox {
   /**
    * @param {HTMLElement} element @param {(item: T, k: number) => (Node | string)[]} draw what stands in a row
-   * @param {(item: T, k: number) => void} choose @param {Manner<T>} [manner]
+   * @param {(item: T, k: number, isPassed: boolean) => void} choose `isPassed` where the keys are on their way @param {Manner<T>} [manner]
    */
   constructor(element, draw, choose, { isButton = () => false, describe = () => '', isShort = false, branch, fold = () => {} } = {}) {
     this.element = element;
@@ -63,7 +63,7 @@ export class ListBox {
     this.at = k;
     this.rows.reveal(k);
     this.#mark();
-    if (!isPassed || !this.isButton(item)) this.choose(item, k);
+    if (!isPassed || !this.isButton(item)) this.choose(item, k, isPassed);
   }
 
   /** @param {number} k */

@@ -15,7 +15,7 @@ import { make } from './rows.mjs';
 import { savedPicture } from './saved_picture.mjs';
 import { droppedFiles, pickedOf, refusal, takeApart } from './sources.mjs';
 import { canRun } from './wad_page.mjs';
-import { field, get, helpOf, isFatal, isNarrow, notJudged, pane, plural, say, sizeOf, verdict, wordsOf } from './words.mjs';
+import { field, get, helpOf, isFatal, isNarrow, notJudged, pane, plural, say, sizeOf, toMap, verdict, wordsOf } from './words.mjs';
 
 /** @typedef {import('./words.mjs').Level} Level @typedef {import('./sources.mjs').Source} Source */
 /** @typedef {import('./sources.mjs').Handle} Handle */
@@ -356,9 +356,9 @@ const levels = new ListBox(get('levels'), ({ level }) => {
   const more = doom ? `${level.linedefs} linedefs · ${level.sectors} sectors · ${level.things} things` : format ? notJudged(level) : `entry ${level.entry}`;
   const name = make('span', 'row-name level-name', make('span', '', level.level), ...(format ? [' ', make('span', 'format', format)] : []));
   return [make('span', 'row-head', name, found), make('span', 'row-more', more)];
-}, ({ k }) => {
+}, ({ k }, _, isPassed) => {
   chooseLevel(k);
-  if (isNarrow()) pane('map');
+  if (isNarrow() && !isPassed) toMap();
 });
 
 /** Whether the level is among those asked for. @param {Level} level @param {string[]} words @param {boolean} only */
@@ -459,9 +459,9 @@ function readAnew() {
 // Demos ------------------------------------------------------------------------------------------------------------------------
 
 /** @type {ListBox<string>} */
-const demos = new ListBox(get('demos'), (line) => [make('span', 'row-name', state.file?.kind === 'demo' ? state.file.file.name : line.split(' ')[3])], (_, k) => {
+const demos = new ListBox(get('demos'), (line) => [make('span', 'row-name', state.file?.kind === 'demo' ? state.file.file.name : line.split(' ')[3])], (_, k, isPassed) => {
   chooseDemo(k);
-  if (isNarrow()) pane('map');
+  if (isNarrow() && !isPassed) toMap();
 });
 let demoShown = -1;
 function showDemos() {
@@ -558,7 +558,7 @@ field('filter').addEventListener('keydown', (event) => {
   if (event.key !== 'ArrowDown' && event.key !== 'Enter') return;
   event.preventDefault();
   get('levels').focus();
-  levels.pick(Math.max(0, levels.at));
+  levels.pick(Math.max(0, levels.at), event.key === 'ArrowDown');
 });
 field('wide').addEventListener('input', readAnew);
 get('reload-file').addEventListener('click', () => {
@@ -572,8 +572,10 @@ get('stop').addEventListener('click', () => [desk, judge].forEach((questions) =>
 addEventListener('keydown', (event) => {
   if (event.key !== '/' || /** @type {Element} */ (event.target).matches('input')) return;
   event.preventDefault();
+  if (isNarrow()) pane('levels');
   field('filter').focus();
 });
+/** @type {HTMLElement} */ (document.querySelector('.skip')).addEventListener('click', () => pane('map'));
 
 let over = 0; // how many elements the dragged files are over
 const dragged = (/** @type {number} */ now) => {

@@ -37,6 +37,12 @@ export function pane(name) {
   }
 }
 
+/** Shows the part of the map or of a demo, also to the keys, where it takes the place of what they were at. */
+export function toMap() {
+  pane('map');
+  if (!document.activeElement?.checkVisibility()) get(get('demo').hidden ? 'map' : 'commands').focus({ preventScroll: true });
+}
+
 /** Why a level isn't judged. @param {Level} level */
 export function notJudged({ format, tag, lump }) {
   switch (format) {

@@ -3,7 +3,7 @@ import { readFileSync, rmSync, writeFileSync } from 'node:fs';
 import { join } from 'node:path';
 import { wait } from './browser.mjs';
 import { measure } from './measure.mjs';
-import { contrast, keys, labels, phone } from './page_access.mjs';
+import { contrast, keys, keysAlone, labels, phone } from './page_access.mjs';
 import { asks } from './page_asked.mjs';
 import { drops } from './page_drops.mjs';
 import { follows } from './page_follow.mjs';
@@ -718,7 +718,7 @@ try {
   if (isThere) await withoutHandles();
   const all = [drops, follows, files, levels, picture, point, moves, finer, findings, reading, early, late, edge, unknown, warnings, games, judgings, asks,
     mapper, faults, unjudged, undrawn, demos, laterDemos, saves, savedPictures, markup, hostile, manyFindings, large, stop, stopAll, refusals, wide,
-    contrast, labels, keys, phone, layout, unable, unserved, offline, engineless, anyHost, alone, policy];
+    contrast, labels, keys, keysAlone, phone, layout, unable, unserved, offline, engineless, anyHost, alone, policy];
   const only = valueOf('--only').split(',');
   for (const one of all.filter(({ name }) => isThere && (!only[0] || only.includes(name)))) {
     at = one.name;

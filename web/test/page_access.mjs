@@ -83,6 +83,47 @@ export async function phone() {
   check('a finding leads to the map', await browser.run('document.body.dataset.pane'), 'map');
 }
 
+/** Where one part is shown at a time arrows stay in their list, and Enter leads on; what leads elsewhere shows it. */
+export async function keysAlone() {
+  const at = () => browser.run('[document.body.dataset.pane, document.activeElement.id]');
+  const show = (/** @type {string} */ name) => browser.run(`document.querySelector('.tabs [data-to=${name}]').click()`);
+  await browser.screen(640, 400, 'dark');
+  await dropRooms();
+  await judged();
+  await browser.run("document.querySelector('#levels').focus()");
+  await browser.key('ArrowDown');
+  await drawn('MAP02');
+  check('an arrow shows the next level, and the list of them stays', await at(), ['levels', 'levels']);
+  await browser.key('Enter');
+  check('Enter leads to the map', await at(), ['map', 'map']);
+  await show('notes');
+  await browser.run("document.querySelector('#findings').focus()");
+  for (let k = 0; k < 2; k++) await browser.key('ArrowDown'); // past a heading
+  await browser.until("document.querySelector('#asked-title').textContent === 'Linedef 4'", 'what a finding is about');
+  check('an arrow chooses the next finding, and the list of them stays', [await at(), await textOf('#findings [aria-selected=true] .row-name')], [['notes', 'findings'], 'linedef 4']);
+  await browser.key('Enter');
+  await browser.until("document.querySelector('#map').dataset.view.startsWith('384.000 256.000')", 'the finding');
+  check('and Enter leads to its place', await at(), ['map', 'map']);
+  await show('notes');
+  await browser.run("document.querySelector('#at').focus()");
+  await browser.send('Input.insertText', { text: 'thing 1' });
+  await browser.key('Enter');
+  await browser.until("document.body.dataset.pane === 'map'", 'the thing');
+  check('and so does what is gone to', await at(), ['map', 'map']);
+  await show('files');
+  await browser.key('/');
+  check('a key leads to the filter of levels', await at(), ['levels', 'filter']);
+  await browser.run("document.querySelector('.skip').focus()");
+  await browser.key('Enter');
+  check('and a link to the map', await at(), ['map', 'map']);
+  await show('levels');
+  await browser.run("document.querySelector('#demos').focus()");
+  await browser.key('ArrowDown');
+  check('an arrow shows a demo, and the list of them stays', await at(), ['levels', 'demos']);
+  await browser.key('Enter');
+  check('Enter leads to its commands', await at(), ['map', 'commands']);
+}
+
 /** All is reached by Tab and seen there, and the way to a finding needs no pointer. */
 export async function keys() {
   await dropRooms();

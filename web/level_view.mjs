@@ -241,7 +241,7 @@ export class LevelView {
     if (uncut) get('findings-none').textContent += ` ${sentence(uncut)}.`;
     this.svg = picture && new TextEncoder().encode(textOf(`${asked.name}: ${why}`, picture));
     for (const id of ['save-svg', 'pin']) get(id).toggleAttribute('disabled', !picture);
-    this.#none(picture ? '' : `${sentence(why)}. ${there} ${whatNext(level, sketch, parts)}`);
+    this.#none(picture ? '' : `${sentence(why).replace(/^Udmf/, 'UDMF')}. ${there} ${whatNext(level, sketch, parts)}`);
     this.map.linedefs = linedefs;
     this.record.take(lumps, form);
     this.map.show(picture, this.kept?.view);

@@ -561,6 +561,7 @@ export class MapView {
 
   /** @param {WheelEvent} event */
   #wheel(event) {
+    if (!this.picture) return; // what is told in its place may be scrolled
     event.preventDefault();
     const box = this.frame.getBoundingClientRect(), step = event.deltaY * (event.deltaMode === 1 ? 30 : 1) * (event.ctrlKey ? 0.01 : 0.0018);
     this.zoom(Math.exp(-Math.max(-0.6, Math.min(0.6, step))), event.clientX - box.left, event.clientY - box.top);

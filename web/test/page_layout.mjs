@@ -268,6 +268,24 @@ async function tops() {
   await browser.run("document.querySelector('#demos .row').click()");
   await browser.until("document.querySelectorAll('.cells-row').length", 'a demo');
   check('and a demo is shown from its top, though it is low, too', [await scrolled(), await browser.run("{ const { scrollHeight, clientHeight } = document.querySelector('.stage'); scrollHeight > clientHeight; }")], [0, true]);
+  check('in the place of a map', await browser.run("['#map', '#demo'].map((part) => document.querySelector(part).checkVisibility())"), [false, true]);
+}
+
+/** What is told in a map's place is told whole. */
+async function untold() {
+  const file = written('text.wad', wad([['MAP01', Buffer.alloc(0)], ['TEXTMAP', Buffer.from('namespace = "zdoom";')], ['ENDMAP', Buffer.alloc(0)]]));
+  for (const [width, height] of [[1280, 800], [320, 480], [640, 360], [320, 256]]) {
+    await browser.screen(width, height, 'dark', width < 640);
+    await fresh();
+    await browser.drop(file);
+    await browser.until("document.querySelector('#map-none').textContent", 'what is told in the place of the map');
+    await browser.run("document.querySelector('.tabs [data-to=map]').click()");
+    check(`what is told in the place of a map is told whole, ${width} by ${height}`, await browser.run(`(() => { const frame = document.querySelector('#map'), range = document.createRange(), stage = frame.parentElement;
+      range.selectNodeContents(document.querySelector('#map-none'));
+      stage.scrollTo(0, 1e6);
+      const words = range.getBoundingClientRect(), box = frame.getBoundingClientRect(), below = stage.getBoundingClientRect().bottom;
+      return [words.top >= box.top, words.bottom <= box.bottom, box.bottom <= below + 1, document.querySelector('.readout').checkVisibility()]; })()`), [true, true, true, false]);
+  }
 }
 
 /** Forced colours take no colour of the legend, and leave the shown part told. */
@@ -288,6 +306,6 @@ async function forced() {
 }
 
 export async function layout() {
-  for (const one of [sizes, fits, wraps, steady, redrawn, stays, tops, forced]) await one();
+  for (const one of [sizes, fits, wraps, steady, redrawn, stays, tops, untold, forced]) await one();
   await browser.screen(1440, 900, 'dark');
 }

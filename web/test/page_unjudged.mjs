@@ -89,7 +89,7 @@ async function others() {
   /** @type {[string, Buffer][]} */
   const text = [['MAP01', Buffer.alloc(0)], ['TEXTMAP', Buffer.from('namespace = "zdoom";')], ['ZNODES', Buffer.alloc(3)], ['ENDMAP', Buffer.alloc(0)]];
   await open('text.wad', wad(text), 'MAP01');
-  check('a level in text says what is there', (await textOf('#map-none')).split('. ').slice(0, 2), ['Udmf: not read', 'There: TEXTMAP 20 bytes, ZNODES 3 bytes, ENDMAP 0 bytes']);
+  check('a level in text says what is there', (await textOf('#map-none')).split('. ').slice(0, 2), ['UDMF: not read', 'There: TEXTMAP 20 bytes, ZNODES 3 bytes, ENDMAP 0 bytes']);
   await keep('text');
   rm('MAP01.wad');
   check('and is saved alone', [await isOff('save-svg'), await saved('pwad', 'MAP01.wad')], [true, printed(['cut', '--entry', '0', 'f'], wad(text)).toString('latin1')]);

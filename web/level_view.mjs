@@ -81,6 +81,8 @@ export class LevelView {
     this.choices = 0; // so is the late place of an earlier finding
     this.marking = 0; // and so are marks of earlier findings
     this.sector = -1; // of the pinned point
+    /** @type {Finding | null} */
+    this.unshown = null; // a finding that was chosen before the records were there
     /** @type {Kept | null} */
     this.kept = null; // what a level that is shown again will have in view
     /** @type {Promise<unknown>} */
@@ -162,6 +164,7 @@ export class LevelView {
     this.level = null;
     this.svg = null;
     this.ends = undefined;
+    this.unshown = null;
     this.map.linedefs = new Int32Array();
     this.record.take(null);
     this.unpin();
@@ -333,7 +336,9 @@ export class LevelView {
   }
 
   /** Shows the record that a finding is about, where that is one that can be asked for. @param {Finding} finding */
-  async #showOf({ kind, index, linedef }) {
+  async #showOf(finding) {
+    const { kind, index, linedef } = finding;
+    this.unshown = this.record.records ? null : finding;
     const isThere = await (linedef >= 0 ? this.record.show('linedef', linedef, 'unmarked') : this.record.show(kind, index, 'unmarked'));
     if (!isThere) this.record.hide();
     this.found.reveal();
@@ -393,6 +398,9 @@ export class LevelView {
     this.map.linedefs = linedefs;
     this.record.take(lumps);
     get('map').dataset.asked = asked.name; // for the tests
+    if (!this.unshown) return;
+    await this.#showOf(this.unshown);
+    if (this.record.told) this.#rest();
   }
 
   // What is asked of the map -----------------------------------------------------------------------------------------------------

@@ -136,7 +136,7 @@ async function shown(given) {
     await browser.run("document.querySelector('.tabs [data-to=levels]').click()");
     await level(given, 'MAP12');
     await browser.press('#levels .row');
-    await browser.until("document.querySelector('#map').dataset.drawn === 'MAP12'");
+    await browser.until("document.querySelector('#map').dataset.asked === 'MAP12'");
     await browser.run("{ const e = document.querySelector('#filter'); e.value = ''; e.dispatchEvent(new Event('input')); }");
     await browser.run("document.querySelector('.tabs [data-to=notes]').click()");
     await browser.run(`[...document.querySelectorAll('#findings .row')].find((row) => row.textContent.includes('${FINDING}')).click()`);

@@ -244,6 +244,8 @@ async function early() {
   await drawnAnew();
   check('a finding that was chosen before the picture is marked', await isMarked(384, 256), true);
   check('and so is the point', await hasInk('ink', 300, 100), true);
+  await browser.until("document.querySelector('#asked-title').textContent === 'Linedef 4' && !document.querySelector('#asked-part').hidden", 'what the finding is about');
+  check('and told is what the finding is about', (await textOf('#under')).split('  –  ')[0], 'Linedef 4');
   check('what the picture tells of it', await textOf('#point-sector'), '1 · floor 24 FLOOR0_1 · ceiling 128 CEIL1_1 · light 224 · special 0 · tag 0');
   check('and the legend', [await isHidden('#sector-row'), await legend()], [false, ['pinned sector', 'REJECT lets it see', 'linedefs of its block', 'findings']]);
 

@@ -45,6 +45,7 @@ cases_of_later_demos() {
     cases_of_footers
     cases_of_compared_commands_alone
     cases_of_ends_of_listings
+    cases_of_hostile_demos
 }
 
 cases_of_later_objects() {
@@ -195,4 +196,37 @@ cases_of_ends_of_listings() {
     wait $!
     ends 'listing: a closed pipe' 0 '' listing D >&"$one"
     exec {one}>&-
+}
+
+# last_line NAME LINE WORD...: the last line of an answer that is too long to be kept, within so much memory as `memory` says.
+last_line() {
+    timeout 60 bash -c "$limited" "$memory" "$program" "${@:3}" 2>error | tail -n 1 >output
+    printf '%s' "${PIPESTATUS[0]}" >status
+    judge "$1" 0 "$2\n" ''
+}
+
+# Numbers in a demo that are above what is there take no memory, and 64 MB of commands no more than their files.
+cases_of_hostile_demos() {
+    local number row column memory=20000 front
+    while read -r row; do
+        columns "$row"
+        number=${column[0]}
+        [[ " 24 25 27 44 45 " == *" $number "* ]] || continue
+        raw "${column[1]}" >D
+        says "hostile demo $number, in little memory" 2 '' "wadlens: D: ${column[2]#refused: }\n" demos D
+        says "hostile demo $number, in little memory, the listing" 2 '' "wadlens: D: ${column[2]#refused: }\n" listing D
+    done <"$crafted/lines.tsv"
+    memory=80000 front=$(digits 45)
+    { raw "${front%%aabbcc*}"; head -c 67108800 /dev/zero; } >D
+    says 'a key frame of 4 GB, of which 64 MB are there' 2 '' "wadlens: D: its key frame isn't whole\n" demos D
+    front=$(digits 22)
+    { raw "${front:0:180}"; head -c $((5 * 13421754)) /dev/zero; printf '\200'; } >D
+    says '64 MB of commands' 0 'D: version 221 (MBF21), skill 3, episode 1, map 30, 1 player, 13421754 tics, 6391:18.68\n' '' demos D
+    last_line '64 MB of commands, the listing' 'tics 13421754 odd 0 after 0' listing D
+    cp D E
+    printf '\1' | dd of=E bs=1 seek=$((90 + 5 * 13421754 - 1)) conv=notrunc status=none
+    memory=150000
+    says '64 MB of commands, compared' 1 'tic 13421753 player 1: 0 0 0 00, 0 0 0 01\n' '' compare D E
+    says '64 MB of commands, their commands alone' 1 'tic 13421753 player 1: 0 0 0 00, 0 0 0 01\n' '' compare --commands D E
+    rm E
 }

@@ -304,6 +304,17 @@ def of_later_demos(random: Random) -> Case:
     return Case(files, [*runs, compare_run(random, paths)])
 
 
+def of_engines(random: Random) -> Case:
+    """A demo of each version in each wrapper, some of them damaged."""
+    demos = list(make.each_later_demo(random))
+    demos = [harm.later_demo(random, data) if random.random() < 0.3 else data + make.footer(random) for data in demos]
+    files: Files = {f"demo{i}.lmp": data for i, data in random.sample([*enumerate(demos)], 6)}
+    runs = [listing_run(path) for path in files]
+    runs += [compare_run(random, [*files]) for _ in "ab"]
+    files["demos.wad"] = make.file(random, [(b"DEMO%d" % i, data) for i, data in enumerate(demos)])
+    return Case(files, runs + [lens_run(random, "demos", ["demos.wad"]) for _ in "ab"])
+
+
 def of_pairs(random: Random) -> Case:
     """Demos that differ in few places, whole and damaged."""
     data = make.demo(random)
@@ -422,7 +433,8 @@ KINDS = (
     + [of_many] * 4
     + [of_set] * 6
     + [of_demos] * 3
-    + [of_later_demos] * 4
+    + [of_later_demos] * 3
+    + [of_engines]
     + [of_pairs] * 2
     + [of_listings] * 2
     + [of_formats] * 3

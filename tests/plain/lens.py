@@ -694,12 +694,12 @@ def refuse_demo(run: Run, asked: Asked, path: str, name: bytes | None, why: str)
 
 def tell_demo(run: Run, asked: Asked, path: str, name: bytes | None, data: bytes) -> None:
     front = shown_path(path) if name is None else f"{shown_path(path)}: {shown(name)}"
-    if why := later.refusal_of(data):
-        refuse_demo(run, asked, path, name, why)
-    elif asked.json:
-        run.out.append(demo_object(path, name, later.read(data)))
+    try:
+        demo = later.read(data)
+    except later.NoDemo as why:
+        refuse_demo(run, asked, path, name, str(why))
     else:
-        run.out.append(f"{front}: {later.line(later.read(data))}")
+        run.out.append(demo_object(path, name, demo) if asked.json else f"{front}: {later.line(demo)}")
 
 
 def tell_demos(run: Run, asked: Asked, path: str, listed: list[Entry]) -> None:

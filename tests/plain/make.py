@@ -1,6 +1,7 @@
 """Whole small levels, WAD files and demos, made up from a seed: rooms that partitions
 cut out of a polygon, with the lines, segs, ssectors and nodes that fit."""
 
+from collections.abc import Iterator
 from math import gcd
 from random import Random
 from typing import Any
@@ -301,8 +302,10 @@ def demo(random: Random) -> bytes:
 
 PLAYERS = ([1, 0, 0, 0], [1, 1, 0, 0], [0, 0, 7, 0], [1, 1, 1, 1])
 BOOM_VERSIONS = (200, 201, 202)
-SHORT_VERSIONS = (104, 106, 108, 109, 110)
-MBF_VERSIONS = (203, 210, 211, 212, 213, 214)
+VERSIONS = (*range(104, 112), *BOOM_VERSIONS, 203, *range(210, 215), 221)
+LONG_VERSIONS = (111, 214, 221)
+WRAPPERS = ("none", "DSDA 1", "DSDA 2", "key frame", "PR+UM")
+"""What stands around a demo; a key frame is in a wrapper of DSDA 2."""
 
 
 def mostly_zero(random: Random, count: int) -> bytes:
@@ -341,36 +344,50 @@ def footer(random: Random) -> bytes:
     return b""
 
 
-def wrapper(random: Random) -> tuple[bytes, bool, bool]:
-    """What stands before a demo, whether commands have actions, and whether a key frame follows the header."""
+def wrapper(random: Random, kind: str) -> bytes:
+    """What stands before a demo."""
+    if kind == "none":
+        return b""
+    if kind == "PR+UM":
+        name = random.choice((b"MAP05", b"", b"E1M\\", b"LONGNAME", b"a\0b"))
+        return b"\xffPR+UM\0\x01\x01\0\x08UMAPINFO" + name.ljust(8, b"\0")
     place = random.choice((bytes(4), b"\0\0\0\x8d", b"\xff" * 4))
-    match random.randrange(6):
-        case 0:
-            return b"\xff\x1dDSDA\xe6\x01" + place + bytes(4), True, False
-        case 1 | 2:
-            flags = random.choice((0, 0, 1, 2, 3))
-            return b"\xff\x1dDSDA\xe6\x02" + place + b"\0\0\0\x03" + bytes([flags]), True, bool(flags & 1)
-        case 3:
-            name = random.choice((b"MAP05", b"", b"E1M\\", b"LONGNAME", b"a\0b"))
-            return b"\xffPR+UM\0\x01\x01\0\x08UMAPINFO" + name.ljust(8, b"\0"), False, False
-    return b"", False, False
+    if kind == "DSDA 1":
+        return b"\xff\x1dDSDA\xe6\x01" + place + bytes(4)
+    flags = random.choice((1, 1, 3) if kind == "key frame" else (0, 0, 2))
+    return b"\xff\x1dDSDA\xe6\x02" + place + b"\0\0\0\x03" + bytes([flags])
 
 
-def later_demo(random: Random) -> bytes:
-    """A demo of any engine, in a wrapper or in none."""
-    long = (111, 214, 221)
-    version = random.choice((*SHORT_VERSIONS, *BOOM_VERSIONS, *MBF_VERSIONS, *long))
-    front, has_actions, has_frame = wrapper(random)
-    body = later_header(random, version)
-    if has_frame:
-        frame = random.randbytes(random.choice((0, 1, 3, 40)))
-        body += len(frame).to_bytes(4, "little") + frame
+def later_commands(random: Random, version: int, has_actions: bool) -> bytes:
+    """Commands of a version, with what a wrapper of DSDA-Doom adds or without."""
+    body = b""
     for _ in range(random.choice((0, 1, 2, 3, 7, 40))):
-        body += bytes([random.choice((0, 25, 50, 127, 129, 206, 255))]) + random.randbytes(4 if version in long else 3)
+        body += bytes([random.choice((0, 25, 50, 127, 129, 206, 255))]) + random.randbytes(4 if version in LONG_VERSIONS else 3)
         if has_actions:
             actions = random.choice((0, 0, 1, 2, 4, 6, 8, 16, 25, 255))
             body += bytes([actions]) + random.randbytes((actions >> 1 & 1) + (actions >> 2 & 1))
-    return front + body + b"\x80" + footer(random)
+    return body
+
+
+def demo_of(random: Random, version: int, kind: str) -> bytes:
+    """A demo of a version in a wrapper, or in none, and nothing behind its marker."""
+    front = wrapper(random, kind) + later_header(random, version)
+    if kind == "key frame":
+        frame = random.randbytes(random.choice((0, 1, 3, 40)))
+        front += len(frame).to_bytes(4, "little") + frame
+    return front + later_commands(random, version, kind not in ("none", "PR+UM")) + b"\x80"
+
+
+def later_demo(random: Random) -> bytes:
+    """A demo of any version in any wrapper, more often in none."""
+    return demo_of(random, random.choice(VERSIONS), random.choice(("none", *WRAPPERS))) + footer(random)
+
+
+def each_later_demo(random: Random) -> Iterator[bytes]:
+    """A demo of each version in each wrapper."""
+    for version in VERSIONS:
+        for kind in WRAPPERS:
+            yield demo_of(random, version, kind)
 
 
 # ---- Files ---------------------------------------------------------------------------

@@ -7,6 +7,7 @@ import { join } from 'node:path';
 import { pathToFileURL } from 'node:url';
 import { addUp, check as same, count, fail, root } from '../../tests/harness.mjs';
 import { byWords } from './asked.mjs';
+import { craftedDemos, damagedDemos } from './engine_demos.mjs';
 import { seeded } from './engine_fuzz.mjs';
 import { refusals } from './engine_refusals.mjs';
 import { numbersOf } from './shown_linedefs.mjs';
@@ -263,7 +264,8 @@ await refuses(['listing'], ['demo.lmp', 'demo.lmp']);
 for (const words of [['check'], ['survey'], ['demos'], ['demos', '--json'], ['listing'], ['cut', '--entry', '0']]) await refuses(words, []);
 refusals(await WebAssembly.compile(readFileSync(join(folder, 'wad_page.wasm'))), host.Call, base, same);
 
-// The worked cases: each file under each command that takes one, and its level's pictures; and each demo.
+// The worked cases: each file under each command that takes one, and its level's pictures; and each demo. Then those of later engines, and
+// the recorded ones, damaged.
 const readings = (command) => [[command, 'E1M1'], ...['points', 'census', 'blocks', 'show', 'audit'].includes(command) ? [[command, '--wide', 'e1m1']] : []];
 for (const [name, bytes] of workedFiles(base)) {
   const path = `${name}.wad`;
@@ -289,6 +291,16 @@ for (const [name, bytes] of workedDemos()) {
   await check(['demo', 'demo1'], [packed]);
   await checkLens(['demos'], [path, packed]);
   await checkLens(['listing'], [path]);
+}
+
+await craftedDemos(run);
+for (const name of later) {
+  const path = `damaged ${name}`;
+  for (const file of damagedDemos(names.get(name))) {
+    keep(path, file);
+    await checkLens(['demos'], [path]);
+    await checkLens(['demos', '--json'], [path]);
+  }
 }
 
 for (const path of ['base.wad', ...Array.from({ length: 40 }, (_, i) => `damaged${i}.wad`)]) await draws(path);

@@ -1,4 +1,6 @@
 // The worked cases of levels, files and demos, each under its name, and the lines of input that they are asked with.
+import { readFileSync } from 'node:fs';
+import { join } from 'node:path';
 import { wad, words } from './wads.mjs';
 
 const USUAL = ['THINGS', 'LINEDEFS', 'SIDEDEFS', 'VERTEXES', 'SEGS', 'SSECTORS', 'NODES', 'SECTORS', 'REJECT', 'BLOCKMAP'];
@@ -114,3 +116,13 @@ export function workedDemos() {
   ];
   return demos.map(([name, bytes]) => [name, Buffer.from(Uint8Array.from(bytes))]);
 }
+
+/** The rows of a table, without its last line feed. @param {string} folder @param {string} name */
+const rowsOf = (folder, name) => readFileSync(join(folder, name), 'utf8').trimEnd().split('\n').map((row) => row.split('\t'));
+
+/** Demos of later engines: their bytes, and their lines, or why they are refused. @param {string} folder @returns {[string, Buffer, string][]} */
+export const workedLaterDemos = (folder) => rowsOf(folder, 'lines.tsv')
+  .map(([number, digits, line]) => [`later demo ${number}`, Buffer.from(digits, 'hex'), line]);
+
+/** Of some the lump that holds it, if it is in a WAD file, and its object. @param {string} folder @returns {[string, string, string][]} */
+export const workedObjects = (folder) => rowsOf(folder, 'objects.tsv').map(([number, lump, object]) => [`later demo ${number}`, lump, object]);

@@ -14,6 +14,11 @@ import subprocess
 import sys
 import tempfile
 
+sys.dont_write_bytecode = True
+
+import hostile_demos as demos  # noqa: E402
+from hostile_files import FILES, INPUT, again, entry, head, w  # noqa: E402
+
 A = argparse.ArgumentParser()
 A.add_argument("--wadlook", required=True)
 A.add_argument("--wadlens", default="", help="the program of the jobs from check on; they are left out without it")
@@ -37,33 +42,11 @@ def p(n):
 RUN = p("runner")
 subprocess.check_call(["gcc", "-O2", "-o", RUN, HERE + "/runner.c"])
 
-FILES, INPUT = 268435456, 16777216
-
-
-def w(*v):
-    return b"".join(struct.pack("<H", x & 65535) for x in v)
-
-
-def entry(at, size, name):
-    return struct.pack("<ii8s", at, size, name)
-
-
-def head(count, at):
-    return b"PWAD" + struct.pack("<ii", count, at)
-
-
 NAMES = [b"THINGS", b"LINEDEFS", b"SIDEDEFS", b"VERTEXES", b"SEGS", b"SSECTORS", b"NODES", b"SECTORS", b"REJECT", b"BLOCKMAP"]
 
 
 # -------------------------------------------------------------------- inputs
 # Each is written piece by piece, so that this process stays small.
-def again(out, piece, size):
-    """size bytes of the piece again and again"""
-    many = piece * max(1, 1048576 // len(piece))
-    while size > 0:
-        size -= out.write(many[:size])
-
-
 def own():
     """the sample's lumps by name"""
     b = open(SAMPLE, "rb").read()
@@ -197,72 +180,6 @@ def text(piece):
     return make
 
 
-def demo(version, players):
-    def make(out, part):
-        k = 5 if version == 111 else 4
-        n = (int(FILES * part) - 14) // k
-        out.write(bytes([version, 3, 1, 1, 0, 0, 0, 0, 0] + players))
-        again(out, bytes([25, 206, 7, 9, 1][:k]), n * k)
-        out.write(b"\x80")
-
-    return make
-
-
-# A header of MBF21 with 25 options, and a wrapper of DSDA-Doom with a key frame or without.
-MBF21 = b"\xdd\x1dMBF\xe6\0" + bytes(25) + b"\x19" + bytes(25) + b"\x01" + bytes(31)
-DSDA, KEYED = (b"\xff\x1dDSDA\xe6\x02" + bytes(8) + flags for flags in (b"\0", b"\x01"))
-
-
-def later_demo(front, command):
-    """a demo of these bytes, and as many commands as fit"""
-
-    def make(out, part):
-        out.write(front)
-        again(out, command, (int(FILES * part) - len(front) - 1) // len(command) * len(command))
-        out.write(b"\x80")
-
-    return make
-
-
-def keyed_demo(size):
-    """a demo whose key frame says so many bytes, or has all there are"""
-
-    def make(out, part):
-        left = int(FILES * part) - len(KEYED) - len(MBF21) - 5
-        out.write(KEYED + MBF21 + struct.pack("<I", size or left))
-        again(out, b"\x80", left + 1)
-
-    return make
-
-
-def prefixes(out, part):
-    """as many demos as fit, which are all prefixes of one demo"""
-    body = KEYED + MBF21 + struct.pack("<I", 3) + b"abc" + bytes(6) + b"\x80"
-    n = int((FILES - 12 - len(body)) // 16 * part)
-    out.write(head(n, 12 + len(body)) + body)
-    again(out, b"".join(entry(12, 1 + i % len(body), b"DEMO1") for i in range(4096)), 16 * n)
-
-
-def footer(out, part):
-    """a demo with the longest directory behind its marker, in which no entry has a name that is looked up"""
-    front = MBF21 + b"\x80"
-    n = (int(FILES * part) - len(front) - 12) // 16
-    out.write(front + head(n, 12))
-    again(out, entry(12, 0, b"PORTNAMF"), 16 * n)
-
-
-def demo_lumps(count):
-    """so many demos over the same bytes, which take the whole room"""
-
-    def make(out, part):
-        n = (int(FILES * part) - 12 - 16 * count - 14) // 4 * 4 + 14
-        out.write(head(count, 12) + entry(12 + 16 * count, n, b"DEMO1") * count + bytes([109, 3, 1, 1, 0, 0, 0, 0, 0, 1, 0, 0, 0]))
-        again(out, bytes([25, 206, 7, 9]), n - 14)
-        out.write(b"\x80")
-
-    return make
-
-
 def chain(lumps, ssector=w(1, 0), direction=(0, 64)):
     """a level with these lumps and 32767 nodes in a chain, all along one line: the last ssector has the points on its right"""
 
@@ -284,11 +201,6 @@ def ring(out, part):
 def hole(out, part):
     """a demo, or an empty directory, and one byte more than may be read"""
     out.write(head(0, 0))
-    out.truncate(int(FILES * part) + (part == 1))
-
-
-def demo_hole(out, part):
-    out.write(bytes([109, 3, 1, 1, 0, 0, 0, 0, 0, 1, 0, 0, 0, 128]))
     out.truncate(int(FILES * part) + (part == 1))
 
 
@@ -364,11 +276,11 @@ for name, direction in (("", (0, 64)), (", slanted", (1, 64))):
         chain({}, direction=direction),
         lambda out, part: out.write(b"-512 -512 511 511\n"),
     )
-job("lmp: 67 million commands", "lmp D", demo(109, [1, 0, 0, 0]))
-job("lmp: 53 million commands of the long form", "lmp D", demo(111, [1, 1, 1, 1]))
-job("demo: 67 million commands in a lump", "demo DEMO1 F", demo_lumps(1))
+job("lmp: 67 million commands", "lmp D", demos.demo(109, [1, 0, 0, 0]))
+job("lmp: 53 million commands of the long form", "lmp D", demos.demo(111, [1, 1, 1, 1]))
+job("demo: 67 million commands in a lump", "demo DEMO1 F", demos.demo_lumps(1))
 job("lumps: a byte more than may be read", "lumps F", hole, ends=2)
-job("lmp: a byte more than may be read", "lmp D", demo_hole, ends=2)
+job("lmp: a byte more than may be read", "lmp D", demos.demo_hole, ends=2)
 
 # ------------------------------------------------------- inputs for wadlens
 SIDE, SEG, THING = OWN[b"SIDEDEFS"][:30], OWN[b"SEGS"][:12], OWN[b"THINGS"]
@@ -480,34 +392,6 @@ def slanted(out, part):
             b"VERTEXES": w(0, 0, 1023, 33 * bands - 1),
         },
     )
-
-
-def many_demos(body):
-    """as many demos as fit, all over the same few bytes"""
-
-    def make(out, part):
-        n = int((FILES - 12 - len(body)) // 16 * part)
-        out.write(head(n, 12 + len(body)) + body)
-        again(out, entry(12, len(body), b"DEMO1"), 16 * n)
-
-    return make
-
-
-def listing(more):
-    """the longest listing, whose last line tells of so many tics more than there are"""
-
-    def make(out, part):
-        left, n, block = int(FILES * part) - 200, -4096, b""
-        out.write(
-            b"demo version 109 skill 3 episode 1 map 1 deathmatch 0 respawn 0 fast 0 nomonsters 0 viewpoint 0 players 1 0 0 0\n"
-        )
-        while len(block) <= left:
-            left -= out.write(block)
-            n += 4096
-            block = "".join("%d 1 0 0 0 00\n" % i for i in range(n, n + 4096)).encode()
-        out.write(b"tics %d odd 0 after 0\n" % (n + more))
-
-    return make
 
 
 def listed(offsets):
@@ -648,27 +532,33 @@ if o.wadlens:
     job(
         "demos: 16,777,214 demos over the same 14 bytes",
         "demos F",
-        many_demos(bytes([109, 3, 1, 1, 0, 0, 0, 0, 0, 1, 0, 0, 0, 128])),
+        demos.many_demos(bytes([109, 3, 1, 1, 0, 0, 0, 0, 0, 1, 0, 0, 0, 128])),
     )
-    job("demos: 16,777,215 refused demos", "demos F", many_demos(b"\xff"), ends=2)
-    job("demos: a demo of 67 million commands", "demos D", demo(109, [1, 0, 0, 0]))
-    job("demos: 8 demos over the same 67 million commands", "demos F", demo_lumps(8))
-    job("compare: 67 million commands with themselves", "compare D D", demo(109, [1, 0, 0, 0]))
-    mbf21 = later_demo(MBF21, bytes([25, 206, 7, 9, 1]))
-    with_slots = later_demo(DSDA + MBF21, bytes([25, 206, 7, 9, 1, 6, 1, 2]))
+    job("demos: 16,777,215 refused demos", "demos F", demos.many_demos(b"\xff"), ends=2)
+    job("demos: a demo of 67 million commands", "demos D", demos.demo(109, [1, 0, 0, 0]))
+    job("demos: 8 demos over the same 67 million commands", "demos F", demos.demo_lumps(8))
+    job("compare: 67 million commands with themselves", "compare D D", demos.demo(109, [1, 0, 0, 0]))
+    mbf21 = demos.later_demo(demos.MBF21, bytes([25, 206, 7, 9, 1]))
+    with_slots = demos.later_demo(demos.DSDA + demos.MBF21, bytes([25, 206, 7, 9, 1, 6, 1, 2]))
     job("demos: 53 million commands of MBF21", "demos D", mbf21)
     job("demos: 33 million commands with actions and slots", "demos D", with_slots)
-    job("demos: 16,777,204 prefixes of a demo", "demos F", prefixes, ends=2)
-    job("demos: 255 options", "demos D", later_demo(MBF21[:32] + b"\xff", b"\0"), ends=2)
-    job("demos: a key frame of 4 GB", "demos D", keyed_demo(4294967295), ends=2)
-    job("demos: a key frame of 268 MB", "demos D", keyed_demo(0))
-    job("demos: 16 million entries behind a marker", "demos --json D", footer)
+    job("demos: 16,777,204 prefixes of a demo", "demos F", demos.prefixes, ends=2)
+    job("demos: 2,064,888 headers, each with a byte turned", "demos F", demos.turned_headers, ends=2)
+    job("demos: 255 options", "demos D", demos.later_demo(demos.MBF21[:32] + b"\xff", b"\0"), ends=2)
+    job("demos: a key frame of 4 GB", "demos D", demos.keyed_demo(4294967295), ends=2)
+    job("demos: a key frame of 268 MB", "demos D", demos.keyed_demo(0))
+    job("compare: a key frame of 268 MB with itself", "compare D D", demos.keyed_demo(0))
+    job("listing: a key frame of 4 GB", "listing D", demos.keyed_demo(4294967295), ends=2)
+    job("demos: 16 million entries behind a marker", "demos --json D", demos.footer)
+    job("demos: 268 MB of spaces in CMDLINE", "demos --json D", demos.spaces_in_a_lump)
+    job("demos: 268 MB of one line of Woof's", "demos --json D", demos.line_of_woof(b"w"))
+    job("demos: the same of spaces, behind another line", "demos --json D", demos.line_of_woof(b" "))
     job("listing: 53 million commands of MBF21", "listing D", mbf21)
     job("listing: 33 million commands with actions and slots", "listing D", with_slots)
     job("compare: 33 million commands with actions and slots", "compare D D", with_slots)
     job("compare: the same, their commands alone", "compare --commands D D", with_slots)
-    job("assemble: the longest listing", "assemble", None, listing(0))
-    job("assemble: the same, with a last line that is wrong", "assemble", None, listing(1), ends=2)
+    job("assemble: the longest listing", "assemble", None, demos.listing(0))
+    job("assemble: the same, with a last line that is wrong", "assemble", None, demos.listing(1), ends=2)
     job("assemble: 268 MB of one line", "assemble", None, lambda out, part: again(out, b"1", int(FILES * part)), ends=2)
 
 # A call ends with its status: 1 where the level isn't sound, 8 where no entry has the name.
@@ -689,7 +579,7 @@ for word, name, make, ends in (
         ("find", "1,525,201 levels of one label", directory(None, [b"E1M1"] + NAMES), 0),
         ("sight", "1,048,576 bits of a REJECT of 268 MB", of_bytes(b"\x55", [b"REJECT"]), 0),
         ("extract", "a level of 268 MB", of_bytes(b"\0", b), 0),
-        ("demo", "67 million commands", demo(109, [1, 0, 0, 0]), 0),
+        ("demo", "67 million commands", demos.demo(109, [1, 0, 0, 0]), 0),
         ("block", "one list of 134 million words", big_level({}, b, whole(2), one_list), 0),
     )
     if o.library

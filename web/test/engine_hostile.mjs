@@ -55,6 +55,15 @@ const chain = (count) => level({
 });
 const header = [109, 3, 1, 1, 0, 0, 0, 0, 0, 1, 0, 0, 0];
 const commands = (size) => Buffer.concat([Buffer.from(header), Buffer.alloc(size - size % 4, Buffer.from([25, 206, 7, 9])), Buffer.from([128])]);
+/** A demo of MBF21 whose header counts so many options: as many commands as fit. */
+const mbf21 = (options) => (size) => Buffer.concat([Buffer.from('\xdd\x1dMBF\xe6\0', 'latin1'), Buffer.alloc(25), Buffer.from([options]), Buffer.alloc(25),
+  Buffer.from([1]), Buffer.alloc(31), Buffer.alloc(size - size % 5, Buffer.from([25, 206, 7, 9, 1])), Buffer.from([128])]);
+/** One in a wrapper, with a key frame that says so many bytes. */
+const keyed = (says) => (size) => {
+  const wrapper = Buffer.from('\xff\x1dDSDA\xe6\x02\0\0\0\0\0\0\0\0\x01', 'latin1'), front = mbf21(25)(0).subarray(0, 90), told = Buffer.alloc(4);
+  told.writeUInt32LE(says);
+  return Buffer.concat([wrapper, front, told, Buffer.alloc(size)]);
+};
 const demos = (size) => {
   const body = commands(0), count = Math.floor(size / 16);
   return Buffer.concat([head(count), Buffer.alloc(16 * count, entry(12 + 16 * count, body.length, 'DEMO1')), body]);
@@ -92,6 +101,10 @@ const rows = [
   ['`picture`: 1,600,000 things', ['picture', '--cells', '1024', 'MAP01'], SMALL, filled('THINGS', words(64, 64, 90, 1, 7)), () => 1 << 22],
   ['`demos`: 1,000,000 demos over the same 14 bytes', ['demos'], SMALL, demos, (file) => 6 * file.length],
   ['`demos`: a demo of 16 million commands', ['demos'], FILE, commands, () => 1 << 20],
+  ['`demos`: 12,800,000 commands of MBF21', ['demos'], FILE, mbf21(25), () => 1 << 20],
+  ['`demos`: 255 options', ['demos'], FILE, mbf21(255), () => 1 << 20],
+  ['`demos`: a key frame of 4 GB', ['demos'], FILE, keyed(4294967295), () => 1 << 20],
+  ['`listing`: 3,200,000 commands of MBF21', ['listing'], SMALL, mbf21(25), (file) => 65536 + 8 * file.length],
   ['`lmp`: 4,000,000 commands', ['lmp'], SMALL, commands, (file) => 65536 + 8 * file.length],
 ];
 

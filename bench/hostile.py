@@ -358,7 +358,7 @@ def leaf_row(out, part):
 def slanted(out, part):
     """1024 columns and up to 1023 rows, in bands of 33 rows, each of them in stripes from corner to corner. Each stripe of a band is a sector: 33 cells,
     of which no two are beside one another, so each is a block. Sectors of even numbers show nowhere"""
-    bands, lines = int(31 * part), []
+    bands, lines = max(1, int(31 * part)), []
 
     def node(x, y, dx, dy, front, back):
         lines.append(w(x, y, dx, dy, 64, 0, 0, 0, 64, 0, 0, 0, front, back))

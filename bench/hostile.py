@@ -435,6 +435,45 @@ def unknown_flats(out, part):
     again(out, b"".join(entry(12, 0, b"%08d" % (40503 * i % 65536)) for i in range(65536)), 16 * others)
 
 
+def changed(special, flags):
+    """10,000 linedefs with a special that goes by the tag of all of 10,000 sectors, each between a sector and the next"""
+
+    def make(out, part):
+        n = int(10000 * part)
+        sectors = b"".join(w(i, 128) + b"FLOOR4_8CEIL3_5\0" + w(160, 0, 7) for i in range(n))
+        sidedefs = b"".join(SIDE[:28] + w(i) for i in range(n))
+        lines = b"".join(w(0, 1, flags, special, 7, i, (i + 1) % n) for i in range(n))
+        level(out, {b"SECTORS": sectors, b"SIDEDEFS": sidedefs, b"LINEDEFS": lines})
+
+    return make
+
+
+def rings(out, part):
+    """10,000 pillars of one tag that a linedef makes donuts of, and one ring of all of them, gone through from its first linedef"""
+    n = int(10000 * part)
+    sectors = b"".join(w(i, 128) + b"FLOOR4_8CEIL3_5\0" + w(160, 0, 7) for i in range(n)) + OWN[b"SECTORS"][:26]
+    sidedefs = b"".join(SIDE[:28] + w(i) for i in range(n)) + SIDE[:28] + w(n)
+    lines = b"".join(w(0, 1, 4, 0, 0, n, i) for i in range(n)) + w(0, 1, 0, 9, 7, 0, -1)
+    level(out, {b"SECTORS": sectors, b"SIDEDEFS": sidedefs, b"LINEDEFS": lines})
+
+
+def shooters(out, part):
+    """65,536 things, one after another a shooter and a target"""
+    pair = b"".join(THING[:6] + w(kind, 7) for kind in (89, 87))
+    level(out, {b"THINGS": pair * int(32768 * part)})
+
+
+def patches(count):
+    """a PNAMES of the whole room, whose count is this one, and names again and again"""
+
+    def fill(out, size):
+        out.write(struct.pack("<i", count))
+        again(out, b"".join(b"P%07d" % (40503 * k % 65536) for k in range(65536)), size - 4)
+
+    record = b"WALL".ljust(8, b"\0") + w(0, 0, 1, 1, 0, 0, 1) + w(0, 0, 0, 1, 0)
+    return big_level({b"TEXTURE1": struct.pack("<ii", 1, 8) + record}, [b"PNAMES"], whole(1), fill)
+
+
 def udmf(last):
     """a level of UDMF with as many lumps as there is room for, of which the last has this name"""
 
@@ -494,6 +533,11 @@ for word in ("check", "survey") if o.wadlens else ():
         fill = listed(list(offsets))
         base = big_level({}, [b"TEXTURE1"], lambda n: n // 4 * 4, fill)
         job("%s --base: 67 million textures of %s" % (word, told), word + " --base F S", base)
+    job(word + ": 10,000 linedefs of special 37 on 10,000 sectors of one tag", word + " F", changed(37, 4))
+    job(word + ": 10,000 linedefs of special 20 on the same", word + " F", changed(20, 4))
+    job(word + ": 10,000 donuts with one ring", word + " F", rings)
+    job(word + ": 32,768 shooters and as many targets", word + " F", shooters)
+    job(word + ": a PNAMES that lists 2,147,483,647 names", word + " --base F S", patches(2147483647))
     job(word + " --base: 16,777,215 entries of one name", word + " --base F S", one_name)
     job(word + " --base: 63 files of 65,536 entries", word + 63 * " --base F" + " S", entries(65536))
 if o.wadlens:

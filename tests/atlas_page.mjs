@@ -41,8 +41,8 @@ function smallFiles() {
 
 /** The files of Freedoom 0.12.1 in a folder. @param {string} folder */
 const gamesIn = (folder) => ['freedoom1.wad', 'freedoom2.wad', 'freedm.wad'].map((name) => join(folder, name));
-/** What the page says of them. Of the warnings 1288 are W2, 17 W4, 33 W5, 1 W6, and 1 W8. */
-const GAMES = '100 levels 3 files 0 faults 1 notes 1340 warnings 0 not judged';
+/** What the page says of them. Of the warnings 1288 are W2, 17 W4, 33 W5, 1 W6, 1 W8, 44 W14, 22 W16, 4 W17, 3 W18, 1 W21 and 28 W22. */
+const GAMES = '100 levels 3 files 0 faults 1 notes 1442 warnings 0 not judged';
 
 /** The atlases that are looked at: their names, and the files that they are made of. @returns {[string, string[]][]} */
 function atlases() {
@@ -228,7 +228,7 @@ async function follow(browser) {
 }
 
 /** The messages whose mistakes a picture marks. */
-const MARKED = /^(N3|W1|W2|W3|W6) /;
+const MARKED = /^(N3|W1|W2|W3|W6|W11|W14|W15|W16|W17|W21) /;
 
 /** The mark in the middle of what is seen, if there is one. */
 const MIDDLE = `[...document.querySelectorAll('.f, .a')].some((mark) => {

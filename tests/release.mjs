@@ -25,7 +25,7 @@ async function look() {
   await browser.run(`{ document.querySelector('#at').value = ${JSON.stringify(line.split(' ').slice(0, 2).join(' '))}; }`);
   await browser.press('#pin');
   await browser.until("!document.querySelector('#point').hidden && document.querySelector('#point-clear').textContent !== ''", 'a pinned point');
-  const told = [await textOf('#levels .row-name'), await textOf('#levels .row-state'), await textOf('#point-line')], wanted = ['E1M1 doom', '6 warnings · W1 W7 W8', line];
+  const told = [await textOf('#levels .row-name'), await textOf('#levels .row-state'), await textOf('#point-line')], wanted = ['E1M1 doom', '7 warnings · W1 W7 W8 W19', line];
   if (JSON.stringify(told) !== JSON.stringify(wanted)) throw new Error(`wanted ${wanted}\ncame ${told}`);
   const { address } = host, elsewhere = browser.requests.filter((url) => !url.startsWith(address) && !/^(blob|data):/.test(url));
   if (browser.complaints.length || elsewhere.length) throw new Error([...browser.complaints, ...elsewhere].join('\n'));

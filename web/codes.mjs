@@ -44,9 +44,23 @@ const MEANINGS = {
   W9: "a texture isn't there: neither TEXTURE1 nor TEXTURE2 lists it",
   W10: "a flat isn't there: no entry has its name",
   W11: "a thing's type is none of the game's",
+  W12: 'this number is kept for a later version',
+  W13: 'this number is kept for a later version',
+  W14: "a linedef's special is none of the game's",
+  W15: "a linedef's special goes by the tag, and the tag is 0",
+  W16: "a linedef's special can't be crossed, or has no destination",
+  W17: "a linedef's use ends or spoils the game",
+  W18: "a player on a sector's floor ends the game",
+  W19: "the level has no exit, or a key isn't there",
+  W20: 'this number is kept for a later version',
+  W21: 'a thing ends the reading of things, is in no skill, or ends the game',
+  W22: 'the level passes a limit of the game, or a texture lacks a patch',
+  W23: 'this number is kept for a later version',
+  W24: 'this number is kept for a later version',
+  W25: "a flat isn't between F_START and F_END",
 };
 const KINDS = /** @type {Record<string, string>} */ ({ F: 'Fault', N: 'Note', W: 'Warning' });
-const ENDING = ['N4', 'N11', 'W9', 'W10', 'W11'];
+const ENDING = ['N4', 'N11', 'W9', 'W10', 'W11', 'W17', 'W18', 'W22'];
 /** @type {Record<string, { text: string, parts: string[] }>} */
 const EXPLANATIONS = {
   F1: {
@@ -377,6 +391,118 @@ const EXPLANATIONS = {
       'Change the type, or delete the thing. Ignore W11 if the level is for a port that knows the type.',
     ],
   },
+  W12: {
+    text: 'reserved',
+    parts: [
+      'This number is kept for a later version, and no level is looked at for it.',
+      'Nothing is told under it.',
+      'Nothing has to be done.',
+    ],
+  },
+  W13: {
+    text: 'reserved',
+    parts: [
+      'This number is kept for a later version, and no level is looked at for it.',
+      'Nothing is told under it.',
+      'Nothing has to be done.',
+    ],
+  },
+  W14: {
+    text: 'unknown special',
+    parts: [
+      "A linedef's special is none of the game's.",
+      'Nothing happens when something crosses, uses or shoots at the linedef (P_CrossSpecialLine, P_UseSpecialLine, P_ShootSpecialLine). Other engines have specials of their own.',
+      "Choose one of the game's specials, or ignore W14 if the level is for a port that knows this one.",
+    ],
+  },
+  W15: {
+    text: 'special with tag 0',
+    parts: [
+      "A linedef's special goes by its tag, and the tag is 0.",
+      'The game compares 0 like any other tag (P_FindSectorFromLineTag): the special moves every sector without a tag, or changes its light.',
+      'Give the linedef a tag, and the sectors that are meant the same one.',
+    ],
+  },
+  W16: {
+    text: 'special that acts on nothing',
+    parts: [
+      "A linedef's special acts when something crosses it, and nothing can; or it takes to a tag, and no sector with the tag has a destination.",
+      "What a linedef stops doesn't cross it (PIT_CheckLine, P_TryMove). A teleporter looks for a thing of type 14 in the sectors of its tag (EV_Teleport), and does nothing without one.",
+      'Give the linedef a back sidedef, or clear the flag that blocks. Place a thing of type 14 in the sector.',
+    ],
+  },
+  W17: {
+    text: 'use ends or spoils the game',
+    parts: [
+      "The use of a linedef's special ends the game, or spoils a sector.",
+      "A door in a wall ends it (EV_VerticalDoor), and so does a 31st platform (P_AddActivePlat). A donut may read what isn't there (EV_DoDonut). A floor that changes may find no neighbour, and gets a special out of memory (EV_DoFloor).",
+      "Put the special on a linedef with two sides, give fewer sectors the tag, or draw the sector's linedefs in another order.",
+    ],
+  },
+  W18: {
+    text: 'floor that ends the game',
+    parts: [
+      "A sector's special is none of the game's.",
+      "Once a player stands on the sector's floor, the game ends with an error (P_PlayerInSpecialSector).",
+      'Choose another special. Ignore W18 where no player gets to.',
+    ],
+  },
+  W19: {
+    text: 'no exit, or a key missing',
+    parts: [
+      "Nothing ends the level, or a linedef wants a key that isn't there in some skill.",
+      "Without an exit the level goes on for ever. What is locked stays shut (EV_VerticalDoor, EV_DoLockedDoor); keys don't last from level to level. Things for several players aren't there for one.",
+      'Place an exit, or the key in each skill. Ignore W19 in a level for deathmatch, where players have all keys.',
+    ],
+  },
+  W20: {
+    text: 'reserved',
+    parts: [
+      'This number is kept for a later version, and no level is looked at for it.',
+      'Nothing is told under it.',
+      'Nothing has to be done.',
+    ],
+  },
+  W21: {
+    text: 'thing unread, unplaced or deadly',
+    parts: [
+      'A thing ends the reading of things, appears in no skill, or ends the game as it shoots.',
+      'In a level of the first game reading ends at the first thing of the second (P_LoadThings). Without a target the shot of a shooter of cubes divides by 0 (A_BrainSpit), and the game has room for 32 targets.',
+      'Delete the thing, or give it a skill. Place a thing of type 87 in each skill of the shooter.',
+    ],
+  },
+  W22: {
+    text: 'limit of the game passed',
+    parts: [
+      'The level has more of something than the game has room for, or a texture of its files lacks a patch.',
+      "The game writes where nothing of its own is (P_SpawnSpecials), ends with an error (P_AddActivePlat, G_DoSaveGame), doesn't use what is too much (P_SpawnMapThing), or doesn't start (R_InitTextures).",
+      'Take away what is too much, or put it into another level.',
+    ],
+  },
+  W23: {
+    text: 'reserved',
+    parts: [
+      'This number is kept for a later version, and no level is looked at for it.',
+      'Nothing is told under it.',
+      'Nothing has to be done.',
+    ],
+  },
+  W24: {
+    text: 'reserved',
+    parts: [
+      'This number is kept for a later version, and no level is looked at for it.',
+      'Nothing is told under it.',
+      'Nothing has to be done.',
+    ],
+  },
+  W25: {
+    text: 'flat not between its ends',
+    parts: [
+      "A sector's flat isn't between F_START and F_END, the last of each.",
+      'The game gives numbers to the flats between these two (R_InitFlats). The number of another one is outside its table, and the game writes there as it loads the level (R_PrecacheLevel).',
+      'Put the flats that are needed between one F_START and one F_END.',
+    ],
+  },
 };
 // tools/tables writes up to here
 
@@ -388,6 +514,9 @@ export const classOf = (code) => KINDS[code[0]]?.toLowerCase() ?? '';
 
 /** Whether the released game ends at what has this code. @param {string} code */
 export const endsGame = (code) => ENDING.includes(code);
+
+/** Whether it doesn't at all that has this code: it goes on with more deathmatch starts than it uses. @param {string} code */
+export const isMixed = (code) => code === 'W22';
 
 /** What a code means to a mapper: what it says, what it is, what the game does with it, and what to do; nothing where it is none. @param {string} code */
 export const explanationOf = (code) => Object.hasOwn(EXPLANATIONS, code) ? EXPLANATIONS[code] : null;

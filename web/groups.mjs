@@ -1,5 +1,5 @@
 // What `check` found, by code: the runs of one code among its objects, in the order in which they matter.
-import { classOf, endsGame } from './codes.mjs';
+import { classOf, endsGame, isMixed } from './codes.mjs';
 import { isName } from './entries.mjs';
 
 /** @typedef {import('./lines.mjs').Lines} Lines */
@@ -44,7 +44,7 @@ const rankOf = (code) => endsGame(code) ? 0 : 1 + RANKS.indexOf(code[0]);
 export const byRank = (all, codeOf) => [...all].sort((a, b) => rankOf(codeOf(a)) - rankOf(codeOf(b)));
 
 /** What kind of finding a code is, in words. @param {string} code */
-export const rankWords = (code) => endsGame(code) ? `ends the game · ${classOf(code)}` : classOf(code);
+export const rankWords = (code) => endsGame(code) ? `${isMixed(code) ? 'may end' : 'ends'} the game · ${classOf(code)}` : classOf(code);
 
 /**
  * The findings of each code, what matters most first. The last object of a code stands for those that aren't listed, where there are such.

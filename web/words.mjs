@@ -1,5 +1,5 @@
 // What the engine tells, in the page's words; and the parts of the page.
-import { endsGame } from './codes.mjs';
+import { endsGame, isMixed } from './codes.mjs';
 import { runsOf } from './groups.mjs';
 
 /**
@@ -60,8 +60,14 @@ function countsOf({ findings, warnings }, hidden) {
   return counts;
 }
 
-/** Whether the game ends at something in a level that isn't hidden. @param {Level} level @param {Set<string>} hidden */
-export const isFatal = ({ findings, warnings }, hidden) => Object.keys({ ...findings, ...warnings }).some((code) => endsGame(code) && !hidden.has(code));
+/**
+ * Whether the game surely ends at something in a level that isn't hidden. It doesn't at one thing alone under a code of many: deathmatch starts that
+ * are too many are never used.
+ * @param {Level} level @param {Set<string>} hidden
+ */
+export function isFatal({ findings, warnings }, hidden) {
+  return Object.entries({ ...findings, ...warnings }).some(([code, n]) => endsGame(code) && (n > 1 || !isMixed(code)) && !hidden.has(code));
+}
 
 /**
  * What was found in a level, what is worst first: it is sound alone where nothing was.
@@ -89,8 +95,8 @@ export function adviceOf(objects) {
 
 const SILENCING = /^F[3-9]$/; // with one of these no warning is looked for
 
-/** Of what is looked for only with it, the lump that lists the names. */
-const LISTED_IN = /** @type {Record<string, string>} */ ({ W9: 'TEXTURE1', W10: 'F_START' });
+/** Of what is looked for only with it, the lump that lists the names; W25 lacks the end of the flats where W10 has their start. */
+const LISTED_IN = /** @type {Record<string, string>} */ ({ W9: 'TEXTURE1', W10: 'F_START', W25: 'F_END' });
 
 /**
  * What wasn't looked for in a level, as the program tells it, and what helps: here that is a game's file, dropped too, and for the program
@@ -99,7 +105,8 @@ const LISTED_IN = /** @type {Record<string, string>} */ ({ W9: 'TEXTURE1', W10: 
  */
 export function unlookedWords({ sound, findings = {}, unlooked = [] }, wantsGame) {
   if (Object.keys(findings).some((code) => SILENCING.test(code))) return "Warnings aren't looked for until F3 to F9 are mended.";
-  const unlisted = unlooked.filter((code) => LISTED_IN[code]), lumps = unlisted.map((code) => LISTED_IN[code]);
+  const unlisted = unlooked.filter((code) => LISTED_IN[code]);
+  const lumps = unlisted.filter((code) => code !== 'W25' || !unlisted.includes('W10')).map((code) => LISTED_IN[code]);
   const help = wantsGame ? "; drop the game's file, too." : '.';
   const names = unlisted.length ? `${unlisted.join(', ')} weren't looked for: no file has ${lumps.join(', ')}${help}` : '';
   return [sound ? '' : "W3 and W5 aren't looked for until all faults are mended.", names].filter(Boolean).join(' ');

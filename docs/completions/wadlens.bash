@@ -17,8 +17,8 @@ declare -gA _wadlens_options=(
 
 # What --ignore and --fail take, beside ranges, and the codes that explain takes.
 # tools/tables writes from here
-_wadlens_codes='game notes warnings N1 N2 N3 N4 N5 N6 N7 N8 N9 N10 N11 N12 W1 W2 W3 W4 W5 W6 W7 W8 W9 W10 W11'
-_wadlens_explained='F1 F2 F3 F4 F5 F6 F7 F8 F9 F10 F11 F12 F13 F14 F15 F16 F17 F18 N1 N2 N3 N4 N5 N6 N7 N8 N9 N10 N11 N12 W1 W2 W3 W4 W5 W6 W7 W8 W9 W10 W11'
+_wadlens_codes='game notes warnings N1 N2 N3 N4 N5 N6 N7 N8 N9 N10 N11 N12 W1 W2 W3 W4 W5 W6 W7 W8 W9 W10 W11 W12 W13 W14 W15 W16 W17 W18 W19 W20 W21 W22 W23 W24 W25'
+_wadlens_explained='F1 F2 F3 F4 F5 F6 F7 F8 F9 F10 F11 F12 F13 F14 F15 F16 F17 F18 N1 N2 N3 N4 N5 N6 N7 N8 N9 N10 N11 N12 W1 W2 W3 W4 W5 W6 W7 W8 W9 W10 W11 W12 W13 W14 W15 W16 W17 W18 W19 W20 W21 W22 W23 W24 W25'
 # tools/tables writes up to here
 
 _wadlens() {

@@ -34,7 +34,21 @@ set -g __wadlens_codes \
     W8 'fewer than 4 deathmatch starts' \
     W9 'texture not there' \
     W10 'flat not there' \
-    W11 'thing of no known type'
+    W11 'thing of no known type' \
+    W12 'reserved' \
+    W13 'reserved' \
+    W14 'unknown special' \
+    W15 'special with tag 0' \
+    W16 'special that acts on nothing' \
+    W17 'use ends or spoils the game' \
+    W18 'floor that ends the game' \
+    W19 'no exit, or a key missing' \
+    W20 'reserved' \
+    W21 'thing unread, unplaced or deadly' \
+    W22 'limit of the game passed' \
+    W23 'reserved' \
+    W24 'reserved' \
+    W25 'flat not between its ends'
 set -g __wadlens_explained \
     F1 'lump missing after the label' \
     F2 'lump outside its file' \
@@ -76,7 +90,21 @@ set -g __wadlens_explained \
     W8 'fewer than 4 deathmatch starts' \
     W9 'texture not there' \
     W10 'flat not there' \
-    W11 'thing of no known type'
+    W11 'thing of no known type' \
+    W12 'reserved' \
+    W13 'reserved' \
+    W14 'unknown special' \
+    W15 'special with tag 0' \
+    W16 'special that acts on nothing' \
+    W17 'use ends or spoils the game' \
+    W18 'floor that ends the game' \
+    W19 'no exit, or a key missing' \
+    W20 'reserved' \
+    W21 'thing unread, unplaced or deadly' \
+    W22 'limit of the game passed' \
+    W23 'reserved' \
+    W24 'reserved' \
+    W25 'flat not between its ends'
 # tools/tables writes up to here
 
 # Prints these behind those that stand there, with commas between.

@@ -17,20 +17,29 @@ told_in() {
     for line in "${@:2}"; do printf '%s: E1M1: %s\\n' "$1" "$line"; done
 }
 
-# The wads that these cases use. room.wad has a closed room, whose walls are WALL and whose flats are FLAT1: nothing but W9 and W10 can
-# be told of it.
+# The wads that these cases use. room.wad has a closed room, whose walls are WALL and whose flats are FLAT1: nothing but W9, W10 and
+# W25 can be told of it.
 level "${closed[@]}" >room.wad
 pack TEXTURE1 "$(textures WALL)" F_START '' FLAT1 '' F_END '' >game.wad
 pack TEXTURE1 "$(textures DOOR)" F_START '' FLAT2 '' F_END '' >doors.wad
 pack TEXTURE1 "$(textures DOOR)" TEXTURE2 "$(textures WALL)" >second.wad
-pack F_START '' FLAT1 '' >flats.wad
+pack F_START '' FLAT1 '' F_END '' >flats.wad
+pack F_START '' FLAT1 '' >endless.wad
 behind=(TEXTURE1 "$(textures DOOR)")
 level "${closed[@]}" >walled.wad
-behind=(TEXTURE1 "$(textures WALL)" F_START '' FLAT1 '')
+behind=(TEXTURE1 "$(textures WALL)" F_START '' FLAT1 '' F_END '')
 level "${closed[@]}" >whole.wad
-behind=(F_START '' FLAT1 '')
+behind=(F_START '' FLAT1 '' F_END '')
 level "${closed[@]}" SECTORS "$(sector_of 0 128 FLAT2)" THINGS "$starts$(words 32 32 0 90 7)" >stranger.wad
 behind=()
+
+level "${closed[@]}" LINEDEFS "$(words 0 1 1 26 0 0 -1 1 2 1 0 0 1 -1 2 3 1 11 0 2 -1 3 0 1 0 0 3 -1)" >doored.wad
+level "${closed[@]}" SECTORS "$(words 0 128)$(name8 FLAT1)$(name8 FLAT1)$(words 160 6 0)" >deadly.wad
+crowd=$starts$(for _ in {1..7}; do words 32 32 0 11 7; done)
+scrolling=$(for _ in {1..65}; do words 3 0 1 48 0 3 -1; done)
+level "${closed[@]}" LINEDEFS "$walls$scrolling" >scrolling.wad
+level "${closed[@]}" THINGS "$crowd" >crowded.wad
+level "${closed[@]}" THINGS "$crowd" LINEDEFS "$walls$scrolling" >both.wad
 
 # What is told of stranger.wad.
 no_flat2="W10 sector 0: ceiling flat FLAT2 isn't there" strange="W11 thing 8: type 90 is none of the game's, at (32, 32)"
@@ -65,22 +74,22 @@ cases_of_ignore() {
     cases_of_ignored_words
 }
 
-# The sample has W1 four times, W7 and W8.
+# The sample has W1 four times, W7, W8 and W19.
 cases_of_ignored_warnings() {
-    local seven='W7 level: no player 2 start' eight='W8 level: 0 deathmatch starts' all outside='N12 vertex 2: (16384, 0) is outside -16384 to 16383'
+    local seven='W7 level: no player 2 start' eight='W8 level: 0 deathmatch starts' none='W19 level: no exit' all outside='N12 vertex 2: (16384, 0) is outside -16384 to 16383'
     says 'a warning that is ignored, without --map' 1 "$faults_of_faulty$(found 1 1)" '' check --ignore W7 faulty.wad
-    says 'a warning that is ignored' 0 "$(told_in base.wad "$seven" "$eight")$(in_part 2)" "$neither" check --map --ignore W1 base.wad
-    says 'of a warning, what --max leaves out' 0 "$(told_in base.wad "$seven" "$eight")$(in_part 2)" "$neither" \
+    says 'a warning that is ignored' 0 "$(told_in base.wad "$seven" "$eight" "$none")$(in_part 3)" "$neither" check --map --ignore W1 base.wad
+    says 'of a warning, what --max leaves out' 0 "$(told_in base.wad "$seven" "$eight" "$none")$(in_part 3)" "$neither" \
         check --map --max 2 --ignore W1 base.wad
-    says 'one is left, strictly' 1 "$(told_in base.wad "$eight")$(in_part 1)" "$neither" check --map --strict --ignore W7,W1 base.wad
-    says 'none is left, strictly' 0 "$(in_part 0)" "$neither" check --ignore W1 --map --ignore W7,W1 --strict --ignore=W8 base.wad
+    says 'one is left, strictly' 1 "$(told_in base.wad "$eight")$(in_part 1)" "$neither" check --map --strict --ignore W7,W1,W19 base.wad
+    says 'none is left, strictly' 0 "$(in_part 0)" "$neither" check --ignore W1 --map --ignore W7,W1 --strict --ignore=W8,W19 base.wad
     says 'none is left, surveyed strictly' 0 \
-        '{"file":"base.wad","level":"E1M1","entry":0,"format":"doom",'"$counts"',"sound":true,"faults":0,"notes":0,"findings":{},"warnings":{},"unlooked":["W9","W10"]}\n' \
-        '' survey --map --strict --ignore W1,W7,W8 base.wad
-    says 'none is left, quietly' 0 '' "$neither" check --quiet --map --strict --ignore W1,W7,W8 base.wad
+        '{"file":"base.wad","level":"E1M1","entry":0,"format":"doom",'"$counts"',"sound":true,"faults":0,"notes":0,"findings":{},"warnings":{},"unlooked":["W9","W10","W25"]}\n' \
+        '' survey --map --strict --ignore W1,W7,W8,W19 base.wad
+    says 'none is left, quietly' 0 '' "$neither" check --quiet --map --strict --ignore W1,W7,W8,W19 base.wad
     says 'W1 is neither W10 nor W11' 0 "$(told_in stranger.wad "$no_flat2" "$strange")$(in_part 2)" "$no_textures" \
         check --map --ignore W1 stranger.wad
-    all=$(printf ',N%s' {1..12})$(printf ',W%s' {1..11})
+    all=$(printf ',N%s' {1..12})$(printf ',W%s' {1..25})
     says 'all codes' 0 "$(warned 0)" '' check --map --strict --ignore "${all#,}" noted.wad
     says 'all codes, as objects' 0 '{"levels":1,"files":1,"faults":0,"notes":0,"warnings":0,"not_judged":0}\n' '' \
         check --json --map --strict --ignore "${all#,}" noted.wad
@@ -96,13 +105,13 @@ cases_of_ignored_warnings() {
 
 cases_of_ignored_words() {
     local codes command
-    for codes in F3 F18 N0 N13 W0 W12 N02 N 2 X1 '' ',' 'N2,' ',W7' 'N2,,W7' 'N2, W7' 'N2,F3,W7' \
+    for codes in F3 F18 N0 N13 W0 W26 N02 N 2 X1 '' ',' 'N2,' ',W7' 'N2,,W7' 'N2, W7' 'N2,F3,W7' \
         N9-N2 N12-W1 N2- -N2 N2-N3-N4 F3-F9 F18-N2 'N2 -N3' faults gam; do
         mistaken "--ignore '$codes'" 'Usage: wadlens check' check "--ignore=$codes" base.wad
     done
     mistaken '--ignore of an empty list, with =' 'Usage: wadlens check' check --ignore= base.wad
-    mistaken '--ignore: the second list is wrong' 'Usage: wadlens check' check --ignore N2 --ignore W12 base.wad
-    mistaken '--ignore of a survey: an unknown code' 'Usage: wadlens survey' survey --ignore W12 base.wad
+    mistaken '--ignore: the second list is wrong' 'Usage: wadlens check' check --ignore N2 --ignore W26 base.wad
+    mistaken '--ignore of a survey: an unknown code' 'Usage: wadlens survey' survey --ignore W26 base.wad
     mistaken '--ignore without codes' '--ignore' check base.wad --ignore
     for command in demos 'cut --entry 0'; do
         # shellcheck disable=SC2086  # words
@@ -151,7 +160,7 @@ cases_of_fail() {
     rm -rf atlas
 }
 
-# The sample has W1 four times, W7 and W8; stranger.wad has W10 and W11, and with doors.wad W9 besides.
+# The sample has W1 four times, W7, W8 and W19; stranger.wad has W10 and W11, and with doors.wad W9 besides.
 cases_of_failing_warnings() {
     ends_quietly 'a warning' 1 "$neither" --map --fail W7 base.wad
     ends_quietly 'other warnings' 0 "$neither" --map --fail W2-W6 base.wad
@@ -163,6 +172,13 @@ cases_of_failing_warnings() {
     ends_quietly 'game: a texture' 1 '' --map --fail Game --base game.wad --base doors.wad room.wad
     ends_quietly 'game: a flat' 1 '' --map --fail game --base second.wad --base game.wad --ignore W9,W11 stranger.wad
     ends_quietly 'game: a thing' 1 '' --map --fail game --base second.wad --base game.wad --ignore W9-W10 stranger.wad
+    ends_quietly 'game: a door in a wall' 1 "$neither" --map --fail game doored.wad
+    ends_quietly 'game: a floor that ends it' 1 "$neither" --map --fail game deadly.wad
+    ends_quietly 'game: too many scrolling linedefs' 1 "$neither" --map --fail game scrolling.wad
+    ends_quietly 'game: deathmatch starts that are too many end nothing' 0 "$neither" --map --fail game crowded.wad
+    ends_quietly 'W22, of such starts' 1 "$neither" --map --fail W22 crowded.wad
+    ends_quietly 'game: such starts, and too many scrolling linedefs' 1 "$neither" --map --fail game both.wad
+    ends_quietly 'game: what ends it is ignored' 0 "$neither" --map --fail game --ignore W22 both.wad
     ends_quietly 'game: nothing of it' 0 "$neither" --map --fail game base.wad
     ends_quietly 'game: nothing of it, with notes' 0 "$neither" --map --fail game --ignore N11 noted.wad
 }
@@ -171,13 +187,13 @@ cases_of_failing_and_ignored() {
     ends_quietly 'all that fails is ignored' 0 '' --fail notes --ignore N5,N11-N12 noted.wad
     ends_quietly 'one is left' 1 '' --fail notes --ignore N5,N11 noted.wad
     ends_quietly 'a code whose class is ignored' 0 '' --fail N11 --ignore notes noted.wad
-    ends_quietly 'a code that ends the game, and is ignored so' 0 '' --map --fail N11 --ignore game noted.wad
+    ends_quietly 'a code that ends the game, and is ignored so' 0 '' --map --fail N11 --ignore game,W25 noted.wad
     ends_quietly 'a fault stays' 1 '' --fail N1 --ignore notes faulty.wad
 }
 
 cases_of_failing_words() {
     local codes command
-    for codes in F3 N0 W12 N 2 '' ',' 'N2,' N9-N2 N12-W1 F18-N2 faults; do
+    for codes in F3 N0 W26 N 2 '' ',' 'N2,' N9-N2 N12-W1 F18-N2 faults; do
         mistaken "--fail '$codes'" '--fail wants notes and warnings' check --map "--fail=$codes" base.wad
     done
     for codes in W7 game warnings N2,w9-w11 Game; do
@@ -208,6 +224,11 @@ walls_of() {
 
 floors_of() { told_in "$1" "W10 sector 0: floor flat FLAT1 isn't there" "W10 sector 0: ceiling flat FLAT1 isn't there"; }
 
+# beside_ends_of PATH: where FLAT1 isn't between the last F_START and F_END.
+beside_ends_of() {
+    told_in "$1" "W25 sector 0: floor flat FLAT1 isn't between F_START and F_END" "W25 sector 0: ceiling flat FLAT1 isn't between F_START and F_END"
+}
+
 # room_of PATH MEMBERS: the object of the closed room, behind its findings.
 room_of() {
     printf '{"file":"%s","level":"E1M1","entry":0,"format":"doom","things":8,"linedefs":4,"sidedefs":4,"vertexes":4,"segs":4,"ssectors":1' "$1"
@@ -223,11 +244,12 @@ cases_of_bases() {
     says 'a base: the TEXTURE1 of the file wins' 0 "$(walls_of walled.wad)$(warned 4)" '' check --map --base game.wad walled.wad
     says 'a base: its TEXTURE2' 0 "$(warned 0)" '' check --map --base flats.wad --base second.wad room.wad
     says 'a base: its TEXTURE2, beside the TEXTURE1 of the file' 0 "$(in_part 0)" "$no_flats" check --map --base second.wad walled.wad
-    says 'a base: a flat of it, and one of the file' 0 "$(told_in stranger.wad "$strange")$(warned 1)" '' \
+    says 'a base: a flat of it, which isn'"'"'t between the ends of the file, and one of the file' 0 \
+        "$(told_in stranger.wad "$strange" "W25 sector 0: ceiling flat FLAT2 isn't between F_START and F_END")$(warned 2)" '' \
         check --map --ignore W9 --base doors.wad stranger.wad
     says 'a base: flats alone' 0 "$(in_part 0)" "$no_textures" check --map --base flats.wad room.wad
     says 'a base: a file without entries' 0 "$(in_part 0)" "$neither" check --map --base empty.wad room.wad
-    says 'two bases: the later one wins' 0 "$(walls_of room.wad)$(warned 4)" '' check --map --base game.wad --base doors.wad room.wad
+    says 'two bases: the later one wins' 0 "$(walls_of room.wad)$(beside_ends_of room.wad)$(warned 6)" '' check --map --base game.wad --base doors.wad room.wad
     says 'two bases: the other way round' 0 "$(warned 0)" '' check --map --base doors.wad --base game.wad room.wad
     says 'two files: each stands on the base alone' 0 \
         "$(walls_of walled.wad)$(warned_of_two 4)" '' check --map --base game.wad walled.wad room.wad
@@ -328,8 +350,8 @@ cases_of_unlooked() {
     says 'neither textures nor flats' 0 "$(in_part 0)" "$neither" check --map room.wad
     says 'neither, strictly' 0 "$(in_part 0)" "$neither" check --map --strict room.wad
     says 'neither, quietly' 0 '' "$neither" check --map --quiet room.wad
-    says 'neither, as objects' 0 "$(ended 0 ',"unlooked_levels":1,"unlooked":["W9","W10"]')" "$neither" check --map --json room.wad
-    says 'neither, surveyed' 0 "$(room_of room.wad '"warnings":{},"unlooked":["W9","W10"]')" '' survey --map room.wad
+    says 'neither, as objects' 0 "$(ended 0 ',"unlooked_levels":1,"unlooked":["W9","W10","W25"]')" "$neither" check --map --json room.wad
+    says 'neither, surveyed' 0 "$(room_of room.wad '"warnings":{},"unlooked":["W9","W10","W25"]')" '' survey --map room.wad
     says 'no textures' 0 "$(told_in stranger.wad "$no_flat2" "$strange")$(in_part 2)" "$no_textures" check --map stranger.wad
     says 'no textures, surveyed' 0 "$(room_of stranger.wad '"warnings":{"W10":1,"W11":1},"unlooked":["W9"]' | sed 's/"things":8/"things":9/')" '' \
         survey --map stranger.wad
@@ -338,7 +360,7 @@ cases_of_unlooked() {
     says 'no flats, as objects' 0 "$(
         told_of walled.wad E1M1 '"code":"W9","kind":"sidedef","index":0,"message":"middle texture WALL isn'\''t there","place":{"linedef":0}'
         told_of walled.wad E1M1 '"code":"W9","more":3'
-        ended 4 ',"unlooked_levels":1,"unlooked":["W10"]'
+        ended 4 ',"unlooked_levels":1,"unlooked":["W10","W25"]'
     )" "$no_flats" check --json --max 1 --map walled.wad
     says 'both are there' 0 "$(warned 0)" '' check --map whole.wad
     says 'both are there, as objects' 0 "$(ended 0 '')" '' check --map --json whole.wad
@@ -350,7 +372,7 @@ cases_of_unlooked() {
     cases_of_silencing_faults
     cases_of_unlooked_and_ignored
     into_new 'atlas: neither textures nor flats' 0 '' '1-0.svg index.html survey.jsonl' --map room.wad
-    has 'atlas: .. in its survey' survey.jsonl "$(room_of room.wad '"warnings":{},"unlooked":["W9","W10"]')"
+    has 'atlas: .. in its survey' survey.jsonl "$(room_of room.wad '"warnings":{},"unlooked":["W9","W10","W25"]')"
     shows 'atlas: .. on its page' index.html "<p class=\"unlooked\">$(note_of "$neither")</p>"
     rm -rf atlas
     into_new 'atlas: no textures' 0 '' '1-0.svg index.html survey.jsonl' --map stranger.wad
@@ -363,17 +385,17 @@ cases_of_unlooked() {
 
 # A lump of TEXTURE1 that isn't in its file, the winner of the set.
 cases_of_refused_textures() {
-    local behind=(TEXTURE1 "$(textures WALL)" F_START '' FLAT1 '')
+    local behind=(TEXTURE1 "$(textures WALL)" F_START '' FLAT1 '' F_END '')
     level "${closed[@]}" >format.wad
     entry_outside 11
     says 'TEXTURE1 is refused' 0 "$(in_part 0)" "$no_textures" check --map format.wad
     says 'TEXTURE1 is refused, and hides that of a base' 0 "$(room_of format.wad '"warnings":{},"unlooked":["W9"]')" '' \
         survey --map --base game.wad format.wad
-    behind=(TEXTURE1 "$(textures WALL)" TEXTURE2 "$(textures DOOR)" F_START '' FLAT1 '')
+    behind=(TEXTURE1 "$(textures WALL)" TEXTURE2 "$(textures DOOR)" F_START '' FLAT1 '' F_END '')
     level "${closed[@]}" >format.wad
     entry_outside 12
     says 'TEXTURE2 is refused, and lists nothing' 0 "$(warned 0)" '' check --map format.wad
-    behind=(F_START '\x01' FLAT1 '')
+    behind=(F_START '\x01' FLAT1 '' F_END '')
     level "${closed[@]}" >format.wad
     entry_outside 11
     says 'F_START is an entry, whatever its lump' 0 "$(in_part 0)" "$no_textures" check --map format.wad
@@ -387,7 +409,7 @@ cases_of_unlooked_levels() {
     says 'a level with a fault that warnings are not looked for in' 1 \
         "$faults_of_faulty$unlooked_in_faulty" "$no_textures" check --map --base flats.wad faulty.wad
     says 'a level with such a fault, surveyed' 1 \
-        '{"file":"faulty.wad","level":"E1M1","entry":0,"format":"doom",'"$counts"',"sound":false,"faults":1,"notes":1,"findings":{"F9":1,"N3":1},"warnings":{},"unlooked":['"$(names_of W 1 11)"']}\n' \
+        '{"file":"faulty.wad","level":"E1M1","entry":0,"format":"doom",'"$counts"',"sound":false,"faults":1,"notes":1,"findings":{"F9":1,"N3":1},"warnings":{},"unlooked":['"$(unlooked_names)"']}\n' \
         '' survey --map --base flats.wad faulty.wad
     says 'a level that is not judged' 2 'udmf.wad: MAP03: udmf: not read\n1 levels in 1 files: 0 faults, 0 notes, 0 warnings, 1 not judged\n' '' \
         check --map udmf.wad
@@ -416,30 +438,34 @@ names_of() {
     done
 }
 
+# unlooked_names: the warnings that a fault keeps from being looked for.
+unlooked_names() { printf '%s,%s,%s,%s' "$(names_of W 1 11)" "$(names_of W 14 19)" "$(names_of W 21 22)" "$(names_of W 25 25)"; }
+
 # Levels whose faults keep warnings from being looked for: lost.wad has F4, F5 and F10, and apart.wad F10 alone.
 cases_of_silencing_faults() {
     level LINEDEFS "$(words 0 1 4 0 0 0 9)" SIDEDEFS "$(sidedef 7)" SEGS "$(words 0 1 16384 0 0 0 0 1 16384 0 0 0)" SSECTORS "$(words 1 0 1 7)" >lost.wad
     level SSECTORS "$(words 1 0 1 7)" >apart.wad
     local few="W1 sector 0: isn't closed, at (0, 0)" more='W1: 3 more' seven='W7 level: no player 2 start' eight='W8 level: 0 deathmatch starts'
-    local fault="F10 ssector 1: segs from 7, 1 of them, aren't all there (2 segs)" both
-    both=$(told_in apart.wad "$fault" "$few" "$more" "$seven" "$eight")
-    says 'a fault of the nodes' 1 "$both$(told_in apart.wad 'warnings W3, W5 not looked for: F10')$(faulty_with 1 6 1)" "$neither" \
+    local none='W19 level: no exit' fault="F10 ssector 1: segs from 7, 1 of them, aren't all there (2 segs)" both
+    both=$(told_in apart.wad "$fault" "$few" "$more" "$seven" "$eight" "$none")
+    says 'a fault of the nodes' 1 "$both$(told_in apart.wad 'warnings W3, W5 not looked for: F10')$(faulty_with 1 7 1)" "$neither" \
         check --map --max 1 apart.wad
-    says 'a fault of the nodes, W3 is ignored' 1 "$both$(told_in apart.wad 'warnings W5 not looked for: F10')$(faulty_with 1 6 1)" "$neither" \
+    says 'a fault of the nodes, W3 is ignored' 1 "$both$(told_in apart.wad 'warnings W5 not looked for: F10')$(faulty_with 1 7 1)" "$neither" \
         check --map --max 1 --ignore W3 apart.wad
-    says 'a fault of the nodes, both are ignored' 1 "$both$(faulty_with 1 6 1)" "$neither" check --map --max 1 --ignore W3,W5 apart.wad
-    says 'a fault of the nodes, all that lacks is ignored' 1 "$both$(faulty_with 1 6 '')" '' \
-        check --map --max 1 --ignore W3,W5,W9,W10 apart.wad
+    says 'a fault of the nodes, both are ignored' 1 "$both$(faulty_with 1 7 1)" "$neither" check --map --max 1 --ignore W3,W5 apart.wad
+    says 'a fault of the nodes, all that lacks is ignored' 1 "$both$(faulty_with 1 7 '')" '' \
+        check --map --max 1 --ignore W3,W5,W9,W10,W25 apart.wad
     says 'a fault of the nodes, as objects' 1 "$(
         told_of apart.wad E1M1 '"code":"F10","kind":"ssector","index":1,"message":"segs from 7, 1 of them, aren'\''t all there (2 segs)"'
-        told_of apart.wad E1M1 '"unlooked":["W3","W5","W9","W10"]'
-        printf '{"levels":1,"files":1,"faults":1,"notes":0,"warnings":0,"not_judged":0,"unlooked_levels":1,"unlooked":["W3","W5","W9","W10"]}\\n'
-    )" "$neither" check --json --map --ignore W1,W7,W8 apart.wad
+        told_of apart.wad E1M1 '"unlooked":["W3","W5","W9","W10","W25"]'
+        printf '{"levels":1,"files":1,"faults":1,"notes":0,"warnings":0,"not_judged":0,"unlooked_levels":1,"unlooked":["W3","W5","W9","W10","W25"]}\\n'
+    )" "$neither" check --json --map --ignore W1,W7,W8,W19 apart.wad
     says 'a fault of the nodes, surveyed' 1 \
-        '{"file":"apart.wad","level":"E1M1","entry":0,"format":"doom",'"$counts"',"sound":false,"faults":1,"notes":0,"findings":{"F10":1},"warnings":{"W1":4,"W7":1,"W8":1},"unlooked":["W3","W5","W9","W10"]}\n' \
+        '{"file":"apart.wad","level":"E1M1","entry":0,"format":"doom",'"$counts"',"sound":false,"faults":1,"notes":0,"findings":{"F10":1},"warnings":{"W1":4,"W7":1,"W8":1,"W19":1},"unlooked":["W3","W5","W9","W10","W25"]}\n' \
         '' survey --map apart.wad
     has_line 'no references' 'lost.wad: E1M1: warnings not looked for: F4, F5' check --map --ignore W1-W8 lost.wad
-    has_line 'no references, as objects' "$(told_of lost.wad E1M1 "\"unlooked\":[$(names_of W 9 11)]")" check --json --map --ignore W1-W8 lost.wad
+    has_line 'no references, as objects' "$(told_of lost.wad E1M1 "\"unlooked\":[$(names_of W 9 11),$(names_of W 14 19)]")" \
+        check --json --map --ignore W1-W8,W20-W25 lost.wad
     says 'a fault of the nodes, warnings are not asked for' 1 "$(told_in apart.wad "$fault")$(found 1 0)" '' check apart.wad
 }
 
@@ -448,11 +474,15 @@ faulty_with() { printf '1 levels in 1 files: %s faults, 0 notes, %s warnings, 0 
 
 cases_of_unlooked_and_ignored() {
     says 'W9 is ignored' 0 "$(in_part 0)" "$no_flats" check --map --ignore W9 room.wad
-    says 'W10 is ignored' 0 "$(in_part 0)" "$no_textures" check --map --ignore W10 room.wad
-    says 'both are ignored' 0 "$(warned 0)" '' check --map --ignore W10,W9 room.wad
-    says 'W9 is ignored, as objects' 0 "$(ended 0 ',"unlooked_levels":1,"unlooked":["W10"]')" "$no_flats" check --json --map --ignore W9 room.wad
-    says 'both are ignored, as objects' 0 "$(ended 0 '')" '' check --json --map --ignore W9 --ignore W10 room.wad
-    says 'W10 is ignored, surveyed' 0 "$(room_of room.wad '"warnings":{},"unlooked":["W9"]')" '' survey --map --ignore W10 room.wad
-    says 'both are ignored, surveyed' 0 "$(room_of room.wad '"warnings":{}')" '' survey --map --ignore W10,W9 room.wad
+    says 'W10 is ignored' 0 "$(in_part 0)" "wadlens: W9, W25 weren't looked for: no file has TEXTURE1, F_START, F_END; name the game's with --base\\n" \
+        check --map --ignore W10 room.wad
+    says 'W10 and W25 are ignored' 0 "$(in_part 0)" "$no_textures" check --map --ignore W10,W25 room.wad
+    says 'an end of the flats alone lacks' 0 "$(in_part 0)" "wadlens: W25 weren't looked for: no file has F_END; name the game's with --base\\n" \
+        check --map --ignore W9 --base endless.wad room.wad
+    says 'all are ignored' 0 "$(warned 0)" '' check --map --ignore W10,W9,W25 room.wad
+    says 'W9 is ignored, as objects' 0 "$(ended 0 ',"unlooked_levels":1,"unlooked":["W10","W25"]')" "$no_flats" check --json --map --ignore W9 room.wad
+    says 'all are ignored, as objects' 0 "$(ended 0 '')" '' check --json --map --ignore W9 --ignore W10,W25 room.wad
+    says 'two are ignored, surveyed' 0 "$(room_of room.wad '"warnings":{},"unlooked":["W9"]')" '' survey --map --ignore W10,W25 room.wad
+    says 'all are ignored, surveyed' 0 "$(room_of room.wad '"warnings":{}')" '' survey --map --ignore W10,W9,W25 room.wad
     says 'what is looked for is ignored' 0 "$(in_part 0)" "$no_flats" check --map --ignore W9 walled.wad
 }

@@ -21,9 +21,10 @@ corners() {
 }
 
 # The messages that follow.
-start_messages=$(
+no_starts=$(
     card_of warning 'W7 level: no player 2 start'
     card_of warning 'W8 level: 0 deathmatch starts'
+    card_of warning 'W19 level: no exit'
 )
 
 # list_of MESSAGES: the list of a card, and what follows it.
@@ -49,18 +50,18 @@ cases_of_cards() {
 # Three of a code are told by themselves, and how many more there are.
 cases_of_cut_cards() {
     local left
-    left=$(corners 1-0.svg | head -n 3)$'\n'$(card_of warning 'W1: 1 more')$'\n'$start_messages
+    left=$(corners 1-0.svg | head -n 3)$'\n'$(card_of warning 'W1: 1 more')$'\n'$no_starts
     into_new 'card: --map' 0 '' '1-0.svg index.html survey.jsonl' --map base.wad
     shows 'card: .. three of a code' index.html "$(list_of "$left")"
     into_new 'card: --max 3' 0 '' '1-0.svg index.html survey.jsonl' --max 3 --map base.wad
     shows 'card: .. the same three' index.html "$(list_of "$left")"
-    left=$(corners 1-0.svg | head -n 1)$'\n'$(card_of warning 'W1: 3 more')$'\n'$start_messages
+    left=$(corners 1-0.svg | head -n 1)$'\n'$(card_of warning 'W1: 3 more')$'\n'$no_starts
     into_new 'card: --max 1' 0 '' '1-0.svg index.html survey.jsonl' --max=1 --map base.wad
     shows 'card: .. one of a code' index.html "$(list_of "$left")"
     into_new 'card: --max 0' 0 '' '1-0.svg index.html survey.jsonl' --map base.wad --max 0
-    shows 'card: .. all of a code' index.html "$(list_of "$(corners 1-0.svg)"$'\n'"$start_messages")"
+    shows 'card: .. all of a code' index.html "$(list_of "$(corners 1-0.svg)"$'\n'"$no_starts")"
     into_new 'card: --max 4' 0 '' '1-0.svg index.html survey.jsonl' --map base.wad --max 4
-    shows 'card: .. as many as there are' index.html "$(list_of "$(corners 1-0.svg)"$'\n'"$start_messages")"
+    shows 'card: .. as many as there are' index.html "$(list_of "$(corners 1-0.svg)"$'\n'"$no_starts")"
 }
 
 # A link goes to the level's own picture, if it has one, and to no other part of the page.

@@ -32,7 +32,7 @@ cases_of_words() {
     tells '--version' 'wadlens 0.1.0' --version
     tells '--help of survey' 'Usage: wadlens survey' survey --help
     tells '--help of check' '--max <N>' check --help
-    tells '--help of check names the codes' 'F1 to F18 are faults, N1 to N12 notes, and W1 to W11 warnings' check --help
+    tells '--help of check names the codes' 'F1 to F18 are faults, N1 to N12 notes, and W1 to W25 warnings' check --help
     tells '--help of check names the statuses' 'and 3 if memory ran out.' check --help
     tells '--help of cut' '--entry <G>' cut --help
     tells '--help of atlas' '--out <FOLDER>' atlas --help

@@ -149,7 +149,8 @@ cases_of_json() {
         told_of base.wad E1M1 '"code":"W1","more":3'
         told_of base.wad E1M1 '"code":"W7","kind":"level","message":"no player 2 start"'
         told_of base.wad E1M1 '"code":"W8","kind":"level","message":"0 deathmatch starts"'
-        printf '%s' '{"levels":1,"files":1,"faults":0,"notes":0,"warnings":6,"not_judged":0,"unlooked_levels":1,"unlooked":["W9","W10"]}\n'
+        told_of base.wad E1M1 '"code":"W19","kind":"level","message":"no exit"'
+        printf '%s' '{"levels":1,"files":1,"faults":0,"notes":0,"warnings":7,"not_judged":0,"unlooked_levels":1,"unlooked":["W9","W10","W25"]}\n'
     )" "$neither" check --json --map --max 1 base.wad
     cp base.wad $'a"b\\c\x1f.wad'
     says 'json: a path with what JSON escapes' 2 "$(refused 'no\\"b' "$missing")$(totals_of 0 1 0 0 0)" "$(told 'no"b' "$missing")" check --json 'no"b'
@@ -298,9 +299,9 @@ cases_of_notes() {
     finds 'N12, of y' 'N12 vertex 2: (0, -16385) is outside -16384 to 16383' 0 1 VERTEXES "$(words 0 0 0 64 0 -16385)"
 }
 
-# A closed room, of which nothing is told: a square of one-sided linedefs, all starts in its middle.
+# A closed room, of which nothing is told: a square of one-sided linedefs, one of which ends the level, all starts in its middle.
 starts=$(for kind in 1 2 3 4 11 11 11 11; do words 32 32 0 $kind 7; done)
-walls=$(words 0 1 1 0 0 0 -1 1 2 1 0 0 1 -1 2 3 1 0 0 2 -1)
+walls=$(words 0 1 1 0 0 0 -1 1 2 1 0 0 1 -1 2 3 1 11 0 2 -1)
 room_sides=$(for side in 0 1 2 3; do printf '%s' "$(words 0 0)$(name8 -)$(name8 -)$(name8 WALL)$(words 0)"; done)
 closed=(THINGS "$starts" LINEDEFS "$walls$(words 3 0 1 0 0 3 -1)" SIDEDEFS "$room_sides"
     VERTEXES "$(words 0 0 0 64 64 64 64 0)" SEGS "$(words 0 1 16384 0 0 0 1 2 0 1 0 0 2 3 -16384 2 0 0 3 0 -32768 3 0 0)"
@@ -314,7 +315,7 @@ rooms_sides=$(
     for sector in 0 0 0 1 1 1; do printf '%s' "$(words 0 0)$(name8 -)$(name8 -)$(name8 WALL)$(words "$sector")"; done
 )
 rooms=(THINGS "$starts" VERTEXES "$(words 0 0 0 64 64 64 64 0 128 64 128 0)" SECTORS "$(sector)$(sector)"
-    LINEDEFS "$(words 0 1 1 0 0 0 -1 1 2 1 0 0 1 -1 2 3 4 0 0 6 7 3 0 1 0 0 2 -1 2 4 1 0 0 3 -1 4 5 1 0 0 4 -1 5 3 1 0 0 5 -1)"
+    LINEDEFS "$(words 0 1 1 0 0 0 -1 1 2 1 0 0 1 -1 2 3 4 0 0 6 7 3 0 1 0 0 2 -1 2 4 1 11 0 3 -1 4 5 1 0 0 4 -1 5 3 1 0 0 5 -1)"
     SIDEDEFS "$rooms_sides$(wall_side WALL WALL 0)$(wall_side WALL WALL 1)"
     SEGS "$(words 0 1 16384 0 0 0 1 2 0 1 0 0 2 3 -16384 2 0 0 3 0 -32768 3 0 0)$(
         words 2 4 0 4 0 0 4 5 -16384 5 0 0 5 3 -32768 6 0 0 3 2 16384 2 1 0)"
@@ -325,9 +326,9 @@ rooms=(THINGS "$starts" VERTEXES "$(words 0 0 0 64 64 64 64 0 128 64 128 0)" SEC
 # aren't looked for without is told at last.
 notes=()
 warns() {
-    local line text='' status=0 codes='' code lacking=$neither member=',"unlooked":["W9","W10"]'
+    local line text='' status=0 codes='' code lacking=$neither member=',"unlooked":["W9","W10","W25"]'
     case " ${behind[*]} " in
-        *' TEXTURE1 '*) lacking=$no_flats member=',"unlooked":["W10"]' ;;
+        *' TEXTURE1 '*) lacking=$no_flats member=',"unlooked":["W10","W25"]' ;;
         *' F_START '*) lacking=$no_textures member=',"unlooked":["W9"]' ;;
     esac
     for line in "${notes[@]}"; do text+="warned.wad: E1M1: $line\\n"; done
@@ -337,7 +338,7 @@ warns() {
     says "$1" 0 "$text" "$lacking" check --map --max 0 warned.wad
     (($3 == 0)) || status=1
     says "$1, strict" "$status" "$text" "$lacking" check --strict --max 0 --map warned.wad
-    for code in W1 W2 W3 W4 W5 W6 W7 W8 W9 W10 W11; do
+    for code in W{1..25}; do
         line=$(grep -c "^$code " <<<"$2")
         ((line == 0)) || codes+=",\"$code\":$line"
     done
@@ -354,9 +355,10 @@ cases_of_warnings() {
     w1=$(two "W1 sector 0: isn't closed, at (0, 0)" "W1 sector 0: isn't closed, at (0, 64)" \
         "W1 sector 1: isn't closed, at (0, 0)" "W1 sector 1: isn't closed, at (0, 64)")
     warns 'a closed room' '' 0 "${closed[@]}"
-    warns 'W1, W7 and W8 of the sample' "$(two "$w1" 'W7 level: no player 2 start' 'W8 level: 0 deathmatch starts')" 6
+    warns 'W1, W7, W8 and W19 of the sample' \
+        "$(two "$w1" 'W7 level: no player 2 start' 'W8 level: 0 deathmatch starts' 'W19 level: no exit')" 7
     warns 'W1, of a linedef turned round' "$(two "W1 sector 0: isn't closed, at (0, 64)" "W1 sector 0: isn't closed, at (64, 64)")" 2 \
-        "${closed[@]}" LINEDEFS "$(words 0 1 1 0 0 0 -1 2 1 1 0 0 1 -1 2 3 1 0 0 2 -1 3 0 1 0 0 3 -1)"
+        "${closed[@]}" LINEDEFS "$(words 0 1 1 0 0 0 -1 2 1 1 0 0 1 -1 2 3 1 11 0 2 -1 3 0 1 0 0 3 -1)"
     notes=('N5 linedef 4: without length, from (64, 64) to (64, 64)')
     warns 'W1, of a linedef from a vertex to itself: none' '' 0 "${closed[@]}" \
         LINEDEFS "$walls$(words 3 0 1 0 0 3 -1)$(words 2 2 4 0 0 0 0)"
@@ -367,16 +369,23 @@ cases_of_warnings() {
     warns 'W3, on the wall: none' '' 0 "${closed[@]}" THINGS "$starts$(words 64 32 0 3001 7)"
     warns 'W3, past the range: none' '' 0 "${closed[@]}" THINGS "$starts$(words 16384 32 0 3001 7)"
     warns W4 "W4 linedef 0: no sector has tag 7, $front" 1 "${closed[@]}" \
-        LINEDEFS "$(words 0 1 1 18 7 0 -1 1 2 1 0 0 1 -1 2 3 1 0 0 2 -1 3 0 1 0 0 3 -1)"
-    warns 'W4, of a teleporter' "W4 linedef 0: no sector has tag 7, $front" 1 "${closed[@]}" \
-        LINEDEFS "$(words 0 1 1 97 7 0 -1 1 2 1 0 0 1 -1 2 3 1 0 0 2 -1 3 0 1 0 0 3 -1)"
-    for special in 1 11 48 85 142; do
+        LINEDEFS "$(words 0 1 1 18 7 0 -1 1 2 1 0 0 1 -1 2 3 1 11 0 2 -1 3 0 1 0 0 3 -1)"
+    warns 'W4, of a teleporter' "$(two "W4 linedef 0: no sector has tag 7, $front" \
+        "W16 linedef 0: special 97 can't be crossed: it has no back sidedef, $front")" 2 "${closed[@]}" \
+        LINEDEFS "$(words 0 1 1 97 7 0 -1 1 2 1 0 0 1 -1 2 3 1 11 0 2 -1 3 0 1 0 0 3 -1)"
+    for special in 11 48; do
         warns "W4, of special $special, which goes without a tag: none" '' 0 "${closed[@]}" \
-            LINEDEFS "$(words 0 1 1 $special 7 0 -1 1 2 1 0 0 1 -1 2 3 1 0 0 2 -1 3 0 1 0 0 3 -1)"
+            LINEDEFS "$(words 0 1 1 $special 7 0 -1 1 2 1 0 0 1 -1 2 3 1 11 0 2 -1 3 0 1 0 0 3 -1)"
     done
+    for special in 85 142; do
+        warns "W14, of special $special" "W14 linedef 0: special $special is none of the game's, $front" 1 "${closed[@]}" \
+            LINEDEFS "$(words 0 1 1 $special 7 0 -1 1 2 1 0 0 1 -1 2 3 1 11 0 2 -1 3 0 1 0 0 3 -1)"
+    done
+    warns 'W17, of a door in a wall' "W17 linedef 0: special 1 without a back sidedef: its use ends the game, $front" 1 "${closed[@]}" \
+        LINEDEFS "$(words 0 1 1 1 7 0 -1 1 2 1 0 0 1 -1 2 3 1 11 0 2 -1 3 0 1 0 0 3 -1)"
     warns 'W4, without a special: none' '' 0 "${closed[@]}" \
-        LINEDEFS "$(words 0 1 1 0 7 0 -1 1 2 1 0 0 1 -1 2 3 1 0 0 2 -1 3 0 1 0 0 3 -1)"
-    warns W5 "$(two "$w1" 'W5 ssector 0: its segs face sectors 0 and 1, at (0, 0)')" 5 SSECTORS "$(words 2 0)" NODES '' \
+        LINEDEFS "$(words 0 1 1 0 7 0 -1 1 2 1 0 0 1 -1 2 3 1 11 0 2 -1 3 0 1 0 0 3 -1)"
+    warns W5 "$(two "$w1" 'W5 ssector 0: its segs face sectors 0 and 1, at (0, 0)' 'W19 level: no exit')" 6 SSECTORS "$(words 2 0)" NODES '' \
         THINGS "$(for kind in 1 2 3 4 11 11 11 11; do words 0 8 0 $kind 7; done)"
     # The right room's seg on the wall says that it is of the wall's front.
     warns 'W5, alone' 'W5 ssector 1: its segs face sectors 1 and 0, at (64, 64)' 1 "${rooms[@]}" \
@@ -395,21 +404,21 @@ cases_of_warnings() {
 
 # Walls without textures.
 cases_of_bare_walls() {
-    local front='from (0, 0) to (0, 64)' w1 all
+    local front='from (0, 0) to (0, 64)' none='W19 level: no exit' w1 all
     w1=$(two "W1 sector 0: isn't closed, at (0, 0)" "W1 sector 0: isn't closed, at (0, 64)" \
         "W1 sector 1: isn't closed, at (0, 0)" "W1 sector 1: isn't closed, at (0, 64)")
     all=(THINGS "$(for kind in 1 2 3 4 11 11 11 11; do words 8 8 0 $kind 7; done)")
     warns 'W2, middle' "W2 linedef 0: no middle texture in front, $front" 1 "${closed[@]}" \
         SIDEDEFS "$(sidedef 0)${room_sides:120}"
     warns 'W2, upper and lower in front' "$(two "$w1" "W2 linedef 0: no upper texture in front, $front" \
-        "W2 linedef 0: no lower texture in front, $front")" 6 "${all[@]}" SECTORS "$(sector_of 0 128 FLAT1)$(sector_of 8 120 FLAT1)"
+        "W2 linedef 0: no lower texture in front, $front" "$none")" 7 "${all[@]}" SECTORS "$(sector_of 0 128 FLAT1)$(sector_of 8 120 FLAT1)"
     warns 'W2, upper and lower at the back' "$(two "$w1" "W2 linedef 0: no upper texture at the back, $front" \
-        "W2 linedef 0: no lower texture at the back, $front")" 6 "${all[@]}" SECTORS "$(sector_of 8 120 FLAT1)$(sector_of 0 128 FLAT1)"
+        "W2 linedef 0: no lower texture at the back, $front" "$none")" 7 "${all[@]}" SECTORS "$(sector_of 8 120 FLAT1)$(sector_of 0 128 FLAT1)"
     warns 'W2, front before back' "$(two "$w1" "W2 linedef 0: no upper texture in front, $front" \
-        "W2 linedef 0: no lower texture at the back, $front")" 6 "${all[@]}" SECTORS "$(sector_of 8 128 FLAT1)$(sector_of 0 120 FLAT1)"
-    warns 'W2, of the sky: none above' "$(two "$w1" "W2 linedef 0: no lower texture in front, $front")" 5 "${all[@]}" \
+        "W2 linedef 0: no lower texture at the back, $front" "$none")" 7 "${all[@]}" SECTORS "$(sector_of 8 128 FLAT1)$(sector_of 0 120 FLAT1)"
+    warns 'W2, of the sky: none above' "$(two "$w1" "W2 linedef 0: no lower texture in front, $front" "$none")" 6 "${all[@]}" \
         SECTORS "$(sector_of 0 128 F_SKY1)$(sector_of 8 120 F_SKY1)"
-    warns 'W2, of one sky' "$(two "$w1" "W2 linedef 0: no upper texture in front, $front")" 5 "${all[@]}" \
+    warns 'W2, of one sky' "$(two "$w1" "W2 linedef 0: no upper texture in front, $front" "$none")" 6 "${all[@]}" \
         SECTORS "$(sector_of 0 128 F_SKY1)$(sector_of 0 120 FLAT1)"
 }
 
@@ -483,12 +492,12 @@ cases_of_unknown_textures() {
 # Flats of the closed room, whose floor and ceiling are FLAT1.
 cases_of_unknown_flats() {
     local behind
-    behind=(F_START '' FLAT1 '')
+    behind=(F_START '' FLAT1 '' F_END '')
     warns 'W10, all flats are there: none' '' 0 "${closed[@]}"
     warns 'W10, a flat without case: none' '' 0 "${closed[@]}" SECTORS "$(sector_of 0 128 flat1)"
     warns W10 "W10 sector 0: ceiling flat FLAT2 isn't there" 1 "${closed[@]}" SECTORS "$(sector_of 0 128 FLAT2)"
     warns 'W10, of an empty name' "W10 sector 0: ceiling flat (empty) isn't there" 1 "${closed[@]}" SECTORS "$(sector_of 0 128 '')"
-    behind=(F_START '' flat1 '')
+    behind=(F_START '' flat1 '' F_END '')
     warns 'W10, entries as they stand' "$(two "W10 sector 0: floor flat FLAT1 isn't there" \
         "W10 sector 0: ceiling flat FLAT1 isn't there")" 2 "${closed[@]}"
     behind=(FLAT2 '')
@@ -502,9 +511,12 @@ cases_of_unknown_things() {
         warns "W11, $kind" "W11 thing 8: type $kind is none of the game's, at (32, 32)" 1 "${closed[@]}" \
             THINGS "$starts$(words 32 32 0 "$kind" 4)"
     done
-    for kind in -1 0 4 5 89 2008 2028 3006; do
+    for kind in -1 0 4 5 2008 2028 3006; do
         warns "W11, $kind: none" '' 0 "${closed[@]}" THINGS "$starts$(words 32 32 0 "$kind" 7)"
     done
+    warns 'W11, 89: none, but W21' "$(two 'W21 thing 8: type 89 ends the reading of things, 0 follow, at (32, 32)' \
+        'W21 thing 8: has no target (type 87) in easy, medium, hard: its shot ends the game, at (32, 32)')" 2 "${closed[@]}" \
+        THINGS "$starts$(words 32 32 0 89 7)"
     warns 'W11, in no skill: none' '' 0 "${closed[@]}" THINGS "$starts$(words 32 32 0 32000 24)"
 }
 
@@ -514,22 +526,22 @@ cases_of_warned_levels() {
     few=$(
         for i in 0 64; do printf '%s' "base.wad: E1M1: W1 sector 0: isn't closed, at (0, $i)\\n"; done
         printf '%s' 'base.wad: E1M1: W1: 2 more\n' 'base.wad: E1M1: W7 level: no player 2 start\n' \
-            'base.wad: E1M1: W8 level: 0 deathmatch starts\n'
+            'base.wad: E1M1: W8 level: 0 deathmatch starts\n' 'base.wad: E1M1: W19 level: no exit\n'
     )
-    says '--max of warnings' 0 "${few}1 levels in 1 files: 0 faults, 0 notes, 6 warnings, 0 not judged, 1 with warnings not looked for\\n" "$neither" check --map --max 2 base.wad
+    says '--max of warnings' 0 "${few}1 levels in 1 files: 0 faults, 0 notes, 7 warnings, 0 not judged, 1 with warnings not looked for\\n" "$neither" check --map --max 2 base.wad
     says 'not looked for' 1 "$faults_of_faulty$unlooked_in_faulty" "$neither" check --map faulty.wad
     two_levels="${few//base.wad/.\/base.wad}udmf.wad: MAP03: udmf: not read\\n"
-    two_levels+='2 levels in 2 files: 0 faults, 0 notes, 6 warnings, 1 not judged, 1 with warnings not looked for\n'
+    two_levels+='2 levels in 2 files: 0 faults, 0 notes, 7 warnings, 1 not judged, 1 with warnings not looked for\n'
     says 'a level that is not judged, too' 2 "$two_levels" "$neither" check --map --max 2 ./base.wad udmf.wad
     says '1 goes before 2, of a warning' 1 "$two_levels" "$neither" check --map --strict --max 2 ./base.wad udmf.wad
     many_segs
     says 'before what the wide reading finds' 1 "$(
         printf '%s' "wide.wad: E1M1: F10 ssector 1: segs from -32768, 1 of them, aren't all there (32769 segs)\\n" \
             "${few//base.wad/wide.wad}" 'wide.wad: E1M1: warnings W3, W5 not looked for: F10\n' 'wide.wad: E1M1: sound with --wide\n' \
-            '1 levels in 1 files: 1 faults, 0 notes, 6 warnings, 0 not judged, 1 with warnings not looked for\n'
+            '1 levels in 1 files: 1 faults, 0 notes, 7 warnings, 0 not judged, 1 with warnings not looked for\n'
     )" "$neither" check --map --max 2 wide.wad
     says 'surveyed, where they are not looked for' 1 \
-        '{"file":"faulty.wad","level":"E1M1","entry":0,"format":"doom",'"$counts"',"sound":false,"faults":1,"notes":1,"findings":{"F9":1,"N3":1},"warnings":{},"unlooked":["W1","W2","W3","W4","W5","W6","W7","W8","W9","W10","W11"]}\n' \
+        '{"file":"faulty.wad","level":"E1M1","entry":0,"format":"doom",'"$counts"',"sound":false,"faults":1,"notes":1,"findings":{"F9":1,"N3":1},"warnings":{},"unlooked":['"$(unlooked_names)"']}\n' \
         '' survey --map faulty.wad
     says 'surveyed, of another format' 2 '{"file":"udmf.wad","level":"MAP03","entry":0,"format":"udmf"}\n' '' survey --map udmf.wad
     cases_of_warned_sample
@@ -540,15 +552,16 @@ cases_of_warned_sample() {
     local text object
     text=$(
         printf 'base.wad: E1M1: %s\\n' "W1 sector 0: isn't closed, at (0, 0)" "W1 sector 0: isn't closed, at (0, 64)" \
-            "W1 sector 1: isn't closed, at (0, 0)" 'W1: 1 more' 'W7 level: no player 2 start' 'W8 level: 0 deathmatch starts'
-        printf '%s' '1 levels in 1 files: 0 faults, 0 notes, 6 warnings, 0 not judged, 1 with warnings not looked for\n'
+            "W1 sector 1: isn't closed, at (0, 0)" 'W1: 1 more' 'W7 level: no player 2 start' 'W8 level: 0 deathmatch starts' \
+            'W19 level: no exit'
+        printf '%s' '1 levels in 1 files: 0 faults, 0 notes, 7 warnings, 0 not judged, 1 with warnings not looked for\n'
     )
     says warnings 0 "$text" "$neither" check --map --max 3 base.wad
     says 'warnings, strict' 1 "$text" "$neither" check --map --strict --max 3 base.wad
     says no_warnings 1 "$faults_of_faulty$unlooked_in_faulty" "$neither" \
         check --map --strict --max 20 faulty.wad
     object='{"file":"base.wad","level":"E1M1","entry":0,"format":"doom",'$counts',"sound":true,"faults":0,"notes":0,"findings":{}'
-    object+=',"warnings":{"W1":4,"W7":1,"W8":1},"unlooked":["W9","W10"]}\n'
+    object+=',"warnings":{"W1":4,"W7":1,"W8":1,"W19":1},"unlooked":["W9","W10","W25"]}\n'
     says 'warnings, surveyed' 0 "$object" '' survey --map base.wad
     says 'warnings, surveyed strictly' 1 "$object" '' survey --map --strict base.wad
 }
@@ -567,7 +580,7 @@ cases_of_warned_games() {
     run_on '' survey --map "${files[@]}"
     mv output surveyed
     wc -l <surveyed >output
-    for code in W1 W2 W3 W4 W5 W6 W7 W8 W9 W10 W11; do
+    for code in W{1..25}; do
         mapfile -t counts < <(grep -o "\"$code\":[0-9]*" surveyed | cut -d : -f 2)
         sum=0
         for count in "${counts[@]}"; do sum=$((sum + count)); done
@@ -576,6 +589,8 @@ cases_of_warned_games() {
     grep '"W6"' surveyed | grep -o '"level":"[^"]*"' >>output
     judge 'warnings of 100 levels' 0 "$(
         printf '%s\\n' 100 'W1 0 0' 'W2 1288 52' 'W3 0 0' 'W4 17 8' 'W5 33 10' 'W6 1 1' 'W7 0 0' 'W8 1 1' 'W9 0 0' 'W10 0 0' 'W11 0 0' \
+            'W12 0 0' 'W13 0 0' 'W14 44 8' 'W15 0 0' 'W16 22 5' 'W17 4 3' 'W18 3 1' 'W19 0 0' 'W20 0 0' 'W21 1 1' 'W22 28 25' 'W23 0 0' \
+            'W24 0 0' 'W25 0 0' \
             '"level":"E3M6"'
     )" ''
 }

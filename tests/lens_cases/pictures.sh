@@ -115,6 +115,10 @@ cases_of_marked_warnings() {
     says 'picture --map: a thing of no known type' 0 "$(drawn 'E1M1: faults 0 notes 0' "$usual_view" "$usual_matrix" \
         "$(shaded 1 'M0 0h1v65h-1z' 65)" "$line" '' "$unknown")" '' picture --map --ignore W1 E1M1 unknown.wad
     things=''
+    level LINEDEFS "$(words 0 1 4 142 0 0 1)" >special.wad
+    says 'picture --map: a special that the game does not know' 0 "$(drawn 'E1M1: faults 0 notes 0' "$usual_view" "$usual_matrix" \
+        "$(shaded 1 'M0 0h1v65h-1z' 65)" "$line" '' "$(warning_mark 'M0 0L0 64' 'W14 0 unknown special')")" '' \
+        picture --map --ignore W1 E1M1 special.wad
     says 'picture --map: none where a reference lacks' 1 "$half" '' picture --map E1M1 faulty.wad
     level THINGS "$(words 8 8 0 1 7)$(times 1001 "$(words 8 8 0 32000 7)")" >many.wad
     timeout 60 "$program" picture --map E1M1 many.wad 2>error | grep -c '<title>W11 ' >output
@@ -711,23 +715,22 @@ cases_of_warned_atlases() {
     local warned
     warned=$(
         printf '<li class="sound">sound</li>\n'
-        printf '<li class="warning">%s</li>\n' 'W1 &times; 4' 'W7 &times; 1' 'W8 &times; 1'
+        printf '<li class="warning">%s</li>\n' 'W1 &times; 4' 'W7 &times; 1' 'W8 &times; 1' 'W19 &times; 1'
         printf '</ul>'
     )
     into_new 'atlas: --map' 0 '' '1-0.svg index.html survey.jsonl' --map base.wad
     timeout 60 "$program" survey --map base.wad >survey.told
     has 'atlas: its survey with warnings' survey.jsonl "$(<survey.told)\n"
-    shows 'atlas: its warnings' index.html '<b>0</b> faults' '<b>0</b> notes' '<b>6</b> warnings' '<b>0</b> not judged' \
+    shows 'atlas: its warnings' index.html '<b>0</b> faults' '<b>0</b> notes' '<b>7</b> warnings' '<b>0</b> not judged' \
         '<li class="sound">' "$warned" '<ul class="counts">'
     into_new 'atlas: --map --strict' 1 '' '1-0.svg index.html survey.jsonl' --strict --map base.wad
     has 'atlas: its survey, strictly' survey.jsonl "$(<survey.told)\n"
-    # It fails, and comes first. No link and no node of it is broken, and still it isn't called sound.
-    shows 'atlas: its warnings, strictly' index.html '<b>0</b> faults' '<b>6</b> warnings' '<li class="faulty">' "${warned#*$'\n'}"
-    lacks 'atlas: .. and it is not called sound, strictly' index.html '<li class="sound">'
+    shows 'atlas: its warnings, strictly' index.html '<b>0</b> faults' '<b>7</b> warnings' '<li class="faulty">' "${warned#*$'\n'}"
+    lacks 'atlas: .. and it is not called sound' index.html '<li class="sound">sound</li>'
     into_new 'atlas: warnings of some levels' 2 '' '1-0.svg 3-0.svg index.html survey.jsonl' --map base.wad udmf.wad base.wad
     timeout 60 "$program" survey --map base.wad udmf.wad base.wad >survey.told
     has 'atlas: their survey' survey.jsonl "$(<survey.told)\n"
-    shows 'atlas: their warnings' index.html '<b>12</b> warnings' '<b>1</b> not judged' "$warned" 'udmf: not read' "$warned"
+    shows 'atlas: their warnings' index.html '<b>14</b> warnings' '<b>1</b> not judged' "$warned" 'udmf: not read' "$warned"
     into_new 'atlas: warnings are not looked for' 1 '' '1-0.svg index.html survey.jsonl' --map faulty.wad
     shows 'atlas: no warnings' index.html '<b>1</b> faults' '<b>1</b> notes' '<b>0</b> warnings' \
         $'<ul class="found">\n<li class="fault">F9 &times; 1</li>\n<li class="note">N3 &times; 1</li>\n</ul>'

@@ -4,7 +4,7 @@ from collections.abc import Callable
 from random import Random
 from typing import NamedTuple
 
-from plain import demos, harm, lens, look, make, wadlens
+from plain import demos, harm, lens, look, make, trick, wadlens
 from plain.runs import (
     MISSING,
     Run,
@@ -88,12 +88,13 @@ MISTAKEN = (
     "check --ignore N2 --ignore W0 a.wad",
     "check --ignore N2",
     "check a.wad --ignore",
-    "survey --ignore W12 a.wad",
+    "survey --ignore W26 a.wad",
     "survey --ignore N2, a.wad",
     "survey --ignore N2,F18,W7 a.wad",
     "demos --ignore N2 a.wad",
     "check --ignore N9-N2 a.wad",
     "check --ignore N12-W1 a.wad",
+    "check --ignore W25-W26 a.wad",
     "check --ignore N2- a.wad",
     "check --ignore -N2 a.wad",
     "check --ignore N2-N3-N4 a.wad",
@@ -111,7 +112,7 @@ MISTAKEN = (
     "check --fail N2 --ignore N1-N3 a.wad",
     "check --fail n1-n4 --ignore notes,N4 a.wad",
     "survey --fail W7 a.wad",
-    "survey --map --fail W12 a.wad",
+    "survey --map --fail W26 a.wad",
     "demos --fail N2 a.wad",
     "picture --fail N2 E1M1 a.wad",
     "cut --entry 0 --fail N2 a.wad",
@@ -203,6 +204,23 @@ def of_oversights(random: Random) -> Case:
     files |= {FOLDER: None} if FOLDER in bases else {}
     runs = [lens_run(random, command, [path], mapped=True, bases=bases) for command in ("check", "survey") for _ in "ab"]
     return Case(files, [*runs, picture_run(random, draft, "E1M1", [path], files)])
+
+
+def of_game(random: Random) -> Case:
+    """A level in which every reference holds, with what the released game stumbles over."""
+    draft = make.neat(random)
+    for _ in range(random.choice((1, 1, 2, 4))):
+        trick.play(random, draft)
+    if random.random() < 0.2:
+        harm.level(random, draft)
+    lumps = make.named(draft, random.choice((b"E1M1", b"E2M8", b"E3M8", b"MAP07")))
+    files: Files = {"game.wad": make.file(random, trick.graphics(random, make.FLATS))}
+    if random.random() < 0.5:
+        lumps += trick.graphics(random, make.FLATS)
+    path = random.choice(PATHS)
+    files = {path: make.file(random, lumps)} | files
+    runs = [lens_run(random, command, [path], mapped=True, bases=[*files]) for command in ("check", "survey") for _ in "ab"]
+    return Case(files, runs)
 
 
 def of_many(random: Random) -> Case:
@@ -430,6 +448,7 @@ def of_formats(random: Random) -> Case:
 KINDS = (
     [of_level] * 8
     + [of_oversights] * 4
+    + [of_game] * 4
     + [of_many] * 4
     + [of_set] * 6
     + [of_demos] * 3

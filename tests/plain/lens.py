@@ -9,7 +9,8 @@ from plain import later
 from plain.levels import Level, LineDef, Seg
 from plain.look import Answer
 from plain.picture import CELLS, Frame
-from plain.warnings import REFERENCES, WANT_SOUND, Warned, lacks_references, unlisted, unlooked, warnings
+from plain.warned import ENDING, REFERENCES, WANT_SOUND, WANTS, lacks_references, unlisted, unlooked, warnings
+from plain.warnings import Warned
 from plain.wads import (
     USUAL,
     Entry,
@@ -47,9 +48,6 @@ KIND_OF = {code: kind for kind, codes in KINDS.items() for code in codes}
 NODE_TAGS = (b"XNOD", b"ZNOD", b"xNd4\0\0\0\0")
 SSECTOR_TAGS = (b"XGLN", b"ZGLN", b"XGL2", b"ZGL2", b"XGL3", b"ZGL3")
 
-WANTS = {"W9": "TEXTURE1", "W10": "F_START"}
-"""What has to be in a file, or these warnings aren't looked for."""
-
 CLEAN, FAULTY, UNJUDGED = 0, 1, 2
 
 
@@ -82,6 +80,7 @@ class Asked(NamedTuple):
     strict: bool = False
     ignored: frozenset[str] = frozenset()
     failing: frozenset[str] = frozenset()
+    game: bool = False
     bases: tuple[str, ...] = ()
     lost: str = ""
     name: str = ""
@@ -106,7 +105,7 @@ class Run:
         self.partly = 0
         self.unlooked: set[str] = set()
         self.is_refused = False
-        self.unlisted: set[str] = set()
+        self.unlisted: dict[str, list[str]] = {}
 
     def finds(self, verdict: int) -> None:
         self.verdict = graver(self.verdict, verdict)
@@ -469,7 +468,7 @@ class Judged(NamedTuple):
     findings: dict[str, list[int]]
     warned: dict[str, list[Warned]]
     unlooked: list[str]
-    unlisted: list[str]
+    unlisted: dict[str, list[str]]
 
     @property
     def notes(self) -> int:
@@ -486,16 +485,23 @@ def judged(asked: Asked, level: Level, listed: list[Entry]) -> Judged:
     textures and flats."""
     findings = {code: where for code, where in level.findings.items() if code not in asked.ignored}
     if not asked.map:
-        return Judged(findings, {}, [], [])
+        return Judged(findings, {}, [], {})
     warned = {code: told for code, told in warnings(level, listed).items() if code not in asked.ignored}
-    kept = [[code for code in codes if code not in asked.ignored] for codes in (unlooked(level, listed), unlisted(listed))]
-    return Judged(findings, warned, *kept)
+    codes = [code for code in unlooked(level, listed) if code not in asked.ignored]
+    lacking = {code: names for code, names in unlisted(listed).items() if code not in asked.ignored}
+    return Judged(findings, warned, codes, lacking)
 
 
 def fails(asked: Asked, found: Judged) -> bool:
     """Whether something that is told is as grave as a fault."""
     told = [code for part in (found.findings, found.warned) for code, where in part.items() if where]
-    return any(code in asked.failing or asked.strict and code[0] == "W" for code in told)
+    return any(code in asked.failing or asked.strict and code[0] == "W" for code in told) or (asked.game and ends_game(found))
+
+
+def ends_game(found: Judged) -> bool:
+    """Whether the game ends at something that is told. It never uses the deathmatch starts that are too many."""
+    limits = [warned for warned in found.warned.get("W22", ()) if "deathmatch starts" not in warned.message]
+    return bool(limits) or any(code in found.findings or code in found.warned for code in ENDING)
 
 
 def judge(run: Run, asked: Asked, level: Level, listed: list[Entry]) -> Judged:
@@ -507,7 +513,7 @@ def judge(run: Run, asked: Asked, level: Level, listed: list[Entry]) -> Judged:
     run.warnings += warned
     run.partly += bool(found.unlooked)
     run.unlooked |= {*found.unlooked}
-    run.unlisted |= {*found.unlisted}
+    run.unlisted = merged(run.unlisted, found.unlisted)
     run.finds(FAULTY if level.faults or fails(asked, found) else CLEAN)
     return found
 
@@ -541,18 +547,20 @@ def check_file(run: Run, asked: Asked, path: str, listed: list[Entry]) -> None:
             front.tell(run, "sound with --wide")
 
 
-def unlisted_codes(run: Run) -> list[str]:
-    """The codes for which one level at least wasn't looked at, as no file lists the names."""
-    return [code for code in WANTS if code in run.unlisted]
+def merged(one: dict[str, list[str]], other: dict[str, list[str]]) -> dict[str, list[str]]:
+    """What lacks for the codes of the one, or of the other, in their order."""
+    together = {code: {*one.get(code, ()), *other.get(code, ())} for code in WANTS}
+    return {code: [name for name in WANTS[code] if name in together[code]] for code in WANTS if together[code]}
 
 
-def unlooked_note(codes: list[str]) -> str:
-    lacking = ", ".join(WANTS[code] for code in codes)
-    return f"{', '.join(codes)} weren't looked for: no file has {lacking}; name the game's with --base"
+def unlooked_note(unlisted: dict[str, list[str]]) -> str:
+    """Which codes weren't looked for, and what no file has, each name once."""
+    lacking = ", ".join(dict.fromkeys(name for names in unlisted.values() for name in names))
+    return f"{', '.join(unlisted)} weren't looked for: no file has {lacking}; name the game's with --base"
 
 
-def unlooked_line(codes: list[str]) -> str:
-    return f"wadlens: {unlooked_note(codes)}"
+def unlooked_line(unlisted: dict[str, list[str]]) -> str:
+    return f"wadlens: {unlooked_note(unlisted)}"
 
 
 def totals(run: Run, asked: Asked, files: int) -> str:
@@ -762,5 +770,5 @@ def run(asked: Asked, held: Files) -> Answer:
             TELLS[asked.command](told, asked, path, entries(file))
     if asked.command == "check":
         told.out.append(totals(told, asked, len(asked.paths)))
-        told.errors += [unlooked_line(codes)] if (codes := unlisted_codes(told)) else []
+        told.errors += [unlooked_line(told.unlisted)] if told.unlisted else []
     return told.answer()

@@ -4,7 +4,7 @@ with what they show and lead to. How it is laid out isn't compared."""
 from html.parser import HTMLParser
 from typing import NamedTuple
 
-from plain.lens import CLEAN, FAULTY, UNJUDGED, WANTS, Asked, Format, placed, shown_path, unlooked_note
+from plain.lens import CLEAN, FAULTY, UNJUDGED, Asked, Format, merged, placed, shown_path, unlooked_note
 from plain.levels import Level
 from plain.wads import USUAL
 
@@ -53,6 +53,15 @@ MEANINGS = {
     "W9": "a texture isn't there: neither TEXTURE1 nor TEXTURE2 lists it",
     "W10": "a flat isn't there: no entry has its name",
     "W11": "a thing's type is none of the game's",
+    "W14": "a linedef's special is none of the game's",
+    "W15": "a linedef's special goes by the tag, and the tag is 0",
+    "W16": "a linedef's special can't be crossed, or has no destination",
+    "W17": "a linedef's use ends or spoils the game",
+    "W18": "a player on a sector's floor ends the game",
+    "W19": "the level has no exit, or a key isn't there",
+    "W21": "a thing ends the reading of things, is in no skill, or ends the game",
+    "W22": "the level passes a limit of the game, or a texture lacks a patch",
+    "W25": "a flat isn't between F_START and F_END",
 }
 """What the legend says of each code."""
 KINDS = {"F": "fault", "N": "note", "W": "warning"}
@@ -78,7 +87,7 @@ class Row(NamedTuple):
     findings: dict[str, list[int]] | None = None
     fails: bool = False
     warned: dict[str, int] | None = None
-    unlisted: tuple[str, ...] = ()
+    unlisted: dict[str, list[str]] = {}
     messages: list[str] | None = None
 
     @property
@@ -248,8 +257,11 @@ def wanted(asked: Asked, rows: list[Row], refused: list[tuple[str, str]]) -> byt
     events = [tag("title"), text(f"{title}: {len(rows)} levels in {len(asked.paths)} files")]
     events += [text(shown) for shown in (title, shown_path(asked.day)) if shown]
     events += total_events(rows, len(asked.paths), asked.map)
-    if codes := [code for code in WANTS if any(code in row.unlisted for row in rows)]:
-        events.append(text(unlooked_note(codes)))
+    unlisted: dict[str, list[str]] = {}
+    for row in rows:
+        unlisted = merged(unlisted, row.unlisted)
+    if unlisted:
+        events.append(text(unlooked_note(unlisted)))
     events += legend_events(rows)
     for path, why in refused:
         events += [tag("li"), text(shown_path(path)), text(why)]

@@ -39,6 +39,11 @@ MARKED_WARNINGS = {
     "W3": "thing in the void",
     "W6": "linedef on another",
     "W11": "thing of no known type",
+    "W14": "unknown special",
+    "W15": "special with tag 0",
+    "W16": "special that acts on nothing",
+    "W17": "use ends or spoils the game",
+    "W21": "thing unread, unplaced or deadly",
 }
 RING = "m-24 0a24 24 0 1 0 48 0a24 24 0 1 0-48 0"
 DART = "M20 0L-12 14v-28z"

@@ -11,10 +11,10 @@ CELLS = 40
 """So many cells along a side at most: a plain reading of more takes long."""
 CELL_COUNTS = (1, 2, 7, 16, 32, CELLS)
 MISSING = "missing.wad"
-CODES = [*(f"N{n}" for n in range(1, 13)), *(f"W{n}" for n in range(1, 12))]
+CODES = [*(f"N{n}" for n in range(1, 13)), *(f"W{n}" for n in range(1, 26))]
 """The codes that can be ignored, or be as grave as a fault."""
 GROUPS = {
-    "game": ["N4", "N11", "W9", "W10", "W11"],
+    "game": ["N4", "N11", "W9", "W10", "W11", "W17", "W18", "W22"],
     "notes": [code for code in CODES if code[0] == "N"],
     "warnings": [code for code in CODES if code[0] == "W"],
 }
@@ -140,11 +140,17 @@ def value_words(random: Random, option: str, value: int | str) -> list[str]:
 
 
 class CodeWords(NamedTuple):
-    """Options that name codes, the codes, and those of them that the words write out."""
+    """Options that name codes, the codes, those of them that the words write out, and those that they don't bring by `game` alone."""
 
     words: list[str]
     codes: frozenset[str] = frozenset()
     written: frozenset[str] = frozenset()
+    whole: frozenset[str] = frozenset()
+
+    @property
+    def is_game(self) -> bool:
+        """Whether they name `game`."""
+        return any("game" in word.lower().replace("=", ",").split(",") for word in self.words)
 
 
 def code_word(random: Random, allowed: list[str]) -> tuple[str, list[str], bool]:
@@ -172,6 +178,7 @@ def code_words(random: Random, option: str, allowed: list[str]) -> CodeWords:
         [word for words in lists for word in value_words(random, option, ",".join(name for name, _, _ in words))],
         frozenset(code for _, codes, _ in told for code in codes),
         frozenset(code for _, codes, is_written in told for code in codes if is_written),
+        frozenset(code for name, codes, _ in told for code in codes if name.lower() != "game"),
     )
 
 
@@ -212,7 +219,7 @@ def flags(random: Random, command: str, mapped: bool, bases: list[str]) -> tuple
     if judges:
         ignored, failing = code_options(random, with_map)
         options += random.choice((ignored.words + failing.words, failing.words + ignored.words))
-        asked = asked._replace(ignored=ignored.codes, failing=failing.codes)
+        asked = asked._replace(ignored=ignored.codes, failing=failing.whole, game=failing.is_game)
     if with_map and bases and random.random() < 0.5:
         words, named = base_files(random, bases)
         options, asked = words + options, asked._replace(bases=named)

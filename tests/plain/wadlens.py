@@ -137,7 +137,7 @@ def file_rows(asked: Asked, n: int, base: list[Entry], listed: list[Entry], made
             found = lens.judged(asked, level, base + listed)
             counts = {code: len(all_told) for code, all_told in found.warned.items()}
             row = row._replace(level=level, findings=found.findings, fails=lens.fails(asked, found))
-            row = row._replace(warned=counts, unlisted=tuple(found.unlisted))
+            row = row._replace(warned=counts, unlisted=found.unlisted)
             row = row._replace(messages=lens.found_lines(level, found, asked.most))
             if drawn := picture(level, asked.cells, None, found.warned):
                 row = row._replace(picture=f"{n}-{g}.svg")

@@ -7,9 +7,6 @@ from typing import NamedTuple
 from plain.levels import Level, LineDef, is_in_range
 from plain.wads import Entry, lump, number, query, shown, winner
 
-REFERENCES = [f"F{n}" for n in range(3, 10)]
-WANT_SOUND = ("W3", "W5")
-
 GAME_KINDS = {
     *range(5, 11),
     *range(12, 90),
@@ -185,51 +182,3 @@ def unknown_things(level: Level) -> Iterator[Warned]:
     for i, thing in enumerate(level.things):
         if thing.kind > 4 and thing.kind != 11 and thing.kind not in GAME_KINDS and thing.options & 7:
             yield Warned(f"thing {i}", f"type {thing.kind} is none of the game's", at(thing.x, thing.y))
-
-
-LOOKED_FOR = {
-    "W1": unclosed,
-    "W2": bare,
-    "W3": in_void,
-    "W4": untagged,
-    "W5": mismatched,
-    "W6": twins,
-    "W7": without_start,
-    "W8": few_starts,
-}
-
-LOOKED_FOR_IN = {
-    "W9": unknown_textures,
-    "W10": unknown_flats,
-}
-
-
-def unlisted(listed: list[Entry]) -> list[str]:
-    """The codes that aren't looked for, as no file has the lump of TEXTURE1, or the entry F_START."""
-    there = {"W9": named_lump(listed, b"TEXTURE1") is not None, "W10": winner(listed, b"F_START") is not None}
-    return [code for code, is_there in there.items() if not is_there]
-
-
-def lacks_references(level: Level) -> bool:
-    return any(code in level.findings for code in REFERENCES)
-
-
-def unlooked(level: Level, listed: list[Entry]) -> list[str]:
-    """The codes of warnings that aren't looked for at a level, in their order."""
-    codes = [*LOOKED_FOR, *LOOKED_FOR_IN, "W11"]
-    if lacks_references(level):
-        return codes
-    skipped = [*unlisted(listed), *(WANT_SOUND if level.faults else ())]
-    return [code for code in codes if code in skipped]
-
-
-def warnings(level: Level, listed: list[Entry]) -> dict[str, list[Warned]]:
-    """The warnings of each code of which there are some, in their order. The entries are those of
-    the files in which the game finds textures and flats."""
-    if lacks_references(level):
-        return {}
-    found = {code: list(look(level)) for code, look in LOOKED_FOR.items() if not level.faults or code not in WANT_SOUND}
-    skipped = unlisted(listed)
-    found |= {code: list(look(level, listed)) for code, look in LOOKED_FOR_IN.items() if code not in skipped}
-    found["W11"] = list(unknown_things(level))
-    return {code: told for code, told in found.items() if told}

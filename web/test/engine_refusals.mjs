@@ -12,7 +12,7 @@ const HEAP = 1 << 24, ROOM = 1 << 18, LAST = 2n ** 64n - 1n;
 const [CHECK, SURVEY, DEMOS, DEMO_OBJECTS, CUT, CHECK_OBJECTS, LISTING] = [0, 1, 2, 3, 4, 5, 6], TOLD = 1, STRICT = 2;
 const JUDGING = [CHECK, SURVEY, CHECK_OBJECTS], OF_ONE_FILE = [CUT, LISTING], ALL = [...JUDGING, DEMOS, DEMO_OBJECTS, ...OF_ONE_FILE];
 /** What a check with warnings tells besides of the file, which has neither textures nor flats. */
-const UNLOOKED = "wadlens: W9, W10 weren't looked for: no file has TEXTURE1, F_START; name the game's with --base\n";
+const UNLOOKED = "wadlens: W9, W10, W25 weren't looked for: no file has TEXTURE1, F_START, F_END; name the game's with --base\n";
 
 /** Files whose first entry is no level's label. @type {Record<string, Buffer>} */
 const NO_LEVELS = { 'no WAD file': Buffer.from('PWAD'), 'no entry': wad([]), 'one entry': wad([['MAP01', Buffer.alloc(0)]]) };

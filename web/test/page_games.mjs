@@ -11,7 +11,7 @@ const mineFile = written('mine.wad', mine), gameFile = written('game.wad', game)
 
 /** What a note adds where the game's file is wanted, in the place of what the program adds. */
 const HELPS = "; drop the game's file, too.", PROGRAM_HELPS = "; name the game's with --base";
-const NEITHER = `W9, W10 weren't looked for: no file has TEXTURE1, F_START${HELPS}`;
+const NEITHER = `W9, W10, W25 weren't looked for: no file has TEXTURE1, F_START${HELPS}`;
 const W9 = "Middle texture NOWALL isn't there, of linedef 5", W10 = "Floor flat NOFLAT isn't there";
 
 /** The note of what wasn't looked for; nothing where there is none. @returns {Promise<string>} */
@@ -103,12 +103,12 @@ async function own() {
   await drawn('MAP01');
   await judged();
   check('textures of its own', [await textsOf('#levels .row-state'), await codes()], [['ends the game: 1 warning · W9'], 'W9 1']);
-  check('flats of none', await note(), `W10 weren't looked for: no file has F_START${HELPS}`);
+  check('flats of none', await note(), `W10, W25 weren't looked for: no file has F_START${HELPS}`);
   await fresh();
   await browser.drop(written('label.wad', wad([...rooms('TEXTURE1', { damage: twoUnknown }), ...rooms('NOFLAT', { flat: 'LEVEL' }), ...wallsOfRooms()])));
   await drawn('TEXTURE1');
   await judged();
-  check('a label is a flat, too, and hides no later textures', [await textsOf('#levels .row-state'), await codes()], [['ends the game: 1 warning · W9', 'ends the game: 2 warnings · W10'], 'W9 1']);
+  check('a label is a flat, too, and hides no later textures', [await textsOf('#levels .row-state'), await codes()], [['ends the game: 2 warnings · W9 W25', 'ends the game: 2 warnings · W10'], 'W9 1 · W25 1']);
   await pick('levels', 'NOFLAT');
   await drawn('NOFLAT');
   check('the copy that is asked has a label that is no flat', await codes(), 'W10 2');

@@ -408,7 +408,7 @@ async function explanations() {
   await browser.key('?');
   check('and so does a key, of the chosen row', (await folded())[0], 'N3');
   const each = await browser.run(`(async () => { const { explanationOf } = await import(new URL('codes.mjs', document.baseURI));
-    return ['F1', 'F18', 'N12', 'W11', 'X1', 'toString'].map((code) => explanationOf(code)?.parts.length ?? 0); })()`);
+    return ['F1', 'F18', 'N12', 'W25', 'X1', 'toString'].map((code) => explanationOf(code)?.parts.length ?? 0); })()`);
   check('each code is explained, and no other word', each, [3, 3, 3, 3, 0, 0]);
 }
 

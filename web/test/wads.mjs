@@ -24,14 +24,15 @@ export function wad(lumps, kind = 'PWAD') {
 
 /**
  * Two rooms side by side, from (0, 0) to (256, 256) and from (256, 0) to (512, 256): sector 0 in the west, 1 in the east, and a step
- * between them. Player 1 starts in the west; REJECT hides the east from there, and nothing from the east. There is nothing to warn of.
+ * between them. Player 1 starts in the west; REJECT hides the east from there, and nothing from the east. The last linedef is a switch
+ * that ends the level. There is nothing to warn of.
  * @param {string} label @param {{ flat?: string, damage?: (lumps: Record<string, Buffer>) => void, linedefs?: Buffer, vertexes?: number }} [more]
  * @returns {[string, Buffer][]}
  */
 export function rooms(label, { flat = 'FLOOR0_1', damage, linedefs = Buffer.alloc(0), vertexes = 6 } = {}) {
   const west = [0, 1, 2, 3], corners = [[0, 0], [0, 256], [256, 256], [256, 0], [512, 256], [512, 0]];
   const lines = [[0, 1, -1], [1, 2, -1], [2, 3, 1], [3, 0, -1], [2, 4, -1], [4, 5, -1], [5, 3, -1]];
-  const line = ([from, to, back], k) => words(from, to, back < 0 ? 1 : 4, 0, 0, k, back < 0 ? -1 : 7);
+  const line = ([from, to, back], k) => words(from, to, back < 0 ? 1 : 4, k === 6 ? 11 : 0, 0, k, back < 0 ? -1 : 7);
   const side = (sector) => Buffer.concat([words(0, 0), eight('-'), eight('STEP1'), eight('STONE2'), words(sector)]);
   const seg = ([from, to, linedef, back]) => words(from, to, 0, linedef, back, 0);
   const sector = (floor, light) => Buffer.concat([words(floor, 128), eight(flat), eight('CEIL1_1'), words(light, 0, 0)]);

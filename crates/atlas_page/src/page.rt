@@ -162,7 +162,7 @@ fn write_unlooked<W: Sink>(unlisted: Unlisted, out: &mut W) -> Result<(), IoFaul
         return emit(out, b"");
     }
     emit(out, b"<p class=\"unlooked\">")?;
-    emit(out, unlisted.note())?;
+    unlisted.write_note(out)?;
     emit(out, b"</p>\n")
 }
 

@@ -130,7 +130,7 @@ wide_alone files g reading level wide (Err e) signed unsound there is = tt
 pub judged_written : {W : Type 0} (state : W → SinkState) (asked : CheckAsked) (files : List Wad) (g : ℕ) (label : LevelLabel) (level : Level) (judged : JudgedLevel) (fails : Bool) (unlisted : Unlisted) (sound_wide : Bool) (out out' : W)
     (wrote : Result (Unit {0}) IoFault) (result : Result Totals LevelsFault)
     → IsLevelAt files g asked.judging.reading level → Judges asked.judging (known_files asked.judging files) level asked.most judged
-    → (IsTrue fails ↔ HasFailing asked.judging.failing judged.counts) → AreUnlisted asked.judging.ignored (known_files asked.judging files) unlisted
+    → (IsTrue fails ↔ HasFailing asked.judging judged.counts judged.warned) → AreUnlisted asked.judging.ignored (known_files asked.judging files) unlisted
     → (IsTrue sound_wide ↔ IsSoundWideAlone files g asked.judging.reading level)
     → ((told : Code → List ℕ) → AreShown (AuditHolds judged.level) told → AreCounted judged.counts told
     → Writes (state out) (state out') (judged_text (head_in asked label) asked.most judged told sound_wide) wrote)

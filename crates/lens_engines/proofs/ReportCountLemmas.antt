@@ -83,5 +83,5 @@ notes-uncapped counts fit =
     omega (arith, front, there, fit.few (18 + k) (omega (arith, inside))))
 
 -- the numbers behind those of findings are all that are left
-pub warnings-behind : (counts : List ℕ) → FitReport counts → take 11 (drop CODE_COUNT counts) ≡ drop CODE_COUNT counts
-warnings-behind counts fit = take_all 11 (drop CODE_COUNT counts) (omega (arith, fit.all, length-drop CODE_COUNT counts))
+pub warnings-behind : (counts : List ℕ) → FitReport counts → take 25 (drop CODE_COUNT counts) ≡ drop CODE_COUNT counts
+warnings-behind counts fit = take_all 25 (drop CODE_COUNT counts) (omega (arith, fit.all, length-drop CODE_COUNT counts))

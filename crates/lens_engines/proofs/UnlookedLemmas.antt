@@ -5,6 +5,7 @@ use Rattle.std.specs.List.{slice_get}
 use Rattle.std.proofs.lemmas.Bool.{and_from, and_parts, eqb-true, true≢false}
 use Rattle.std.proofs.lemmas.List.{drop_all}
 use Rattle.std.proofs.lemmas.Option.{same_Some, slice_get-get_or}
+use Rattle.game_warnings.specs.Misplaced.{HasFlatEnds}
 use Rattle.level_codes.proofs.CodeLemmas.{code_at-rank, code_rank-below}
 use Rattle.level_codes.proofs.SetLemmas.{has-set_of}
 use Rattle.level_codes.specs.Codes.{code_at, code_rank, code_table, no_row, report_order, wants_of}
@@ -15,7 +16,7 @@ use Rattle.level_codes.specs.declared.code.ReportCode.TheVariants as report
 use Rattle.level_codes.specs.declared.code.WarningCode.{WarningCode}
 use Rattle.level_codes.specs.declared.kind.Offer.{Offer}
 use Rattle.level_codes.specs.declared.kind.Wants.{Wants}
-use Rattle.level_codes.specs.declared.kind.Wants.TheVariants.{Lumps, References, Soundness, Textures, Flats}
+use Rattle.level_codes.specs.declared.kind.Wants.TheVariants.{Lumps, References, Soundness, Textures, Flats, FlatEnds}
 use Rattle.level_codes.specs.declared.set.CodeSet.{CodeSet}
 use Rattle.map_level.specs.Level.{Level}
 use Rattle.map_level.specs.declared.finding.Code.{Code}
@@ -34,6 +35,7 @@ pub record IsOffer (files : Option (List Wad)) (level : Level) (offer : Offer) :
   pub soundness : IsTrue offer.soundness ↔ IsSound level
   pub textures : IsTrue offer.textures ↔ IsSomeAnd files HasTextures
   pub flats : IsTrue offer.flats ↔ IsSomeAnd files HasFlats
+  pub flat_ends : IsTrue offer.flat_ends ↔ IsSomeAnd files HasFlatEnds
 
 met_is_had : (files : Option (List Wad)) (level : Level) (offer : Offer) (wants : Wants) → IsOffer files level offer
     → (are_met offer wants ≡ true) ↔ Has files level wants
@@ -47,6 +49,10 @@ met_is_had files level offer Textures is = (
 met_is_had files level offer Flats is = (
   (λ met. let both = and_parts offer.references offer.flats met in (is.references.0 both.0, is.flats.0 both.1)),
   (λ had. and_from offer.references offer.flats (is.references.1 had.0) (is.flats.1 had.1)),
+)
+met_is_had files level offer FlatEnds is = (
+  (λ met. let both = and_parts offer.references offer.flat_ends met in (is.references.0 both.0, is.flat_ends.0 both.1)),
+  (λ had. and_from offer.references offer.flat_ends (is.references.1 had.0) (is.flat_ends.1 had.1)),
 )
 
 -- a finding wants no more than the ten lumps

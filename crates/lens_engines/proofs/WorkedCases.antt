@@ -24,7 +24,7 @@ use Rattle.lens_engines.specs.TotalsObject.{totals_object}
 use Rattle.level_codes.specs.Sets.{group_codes, is_between, is_unmet, no_codes, set_of}
 use Rattle.level_codes.specs.declared.set.Group.TheVariants.{Warnings}
 use Rattle.lens_engines.specs.UnlookedText.{all_but_soundness, unlooked_part}
-use Rattle.lens_engines.specs.Unlisted.{none_unlisted}
+use Rattle.lens_engines.specs.Unlisted.{none_unlisted, unlisted_note}
 use Rattle.lens_engines.specs.WarnedText.{more_text}
 use Rattle.lens_engines.specs.declared.judging.Warnings.TheVariants.{Unasked, Told}
 use Rattle.lens_engines.specs.declared.object.FileRefusal.TheVariants.{TooLarge, NoWad}
@@ -77,7 +77,7 @@ totals_partly_told = refl
 
 -- F4 and F9 hold, so no warning is looked for; F11 alone, so those that want a sound level aren't
 abbrev counts_with : ℕ → ℕ → List ℕ
-counts_with f4 f11 = replicate 3 0 ++ (f4 ∷ replicate 4 0 ++ (f4 ∷ 0 ∷ f11 ∷ replicate 30 0))
+counts_with f4 f11 = replicate 3 0 ++ (f4 ∷ replicate 4 0 ++ (f4 ∷ 0 ∷ f11 ∷ replicate 44 0))
 
 no_references_told : unlooked_part (lines_of (codes "a.wad") (codes "E1M1")) (counts_with 2 1) (group_codes Warnings)
     ≡ codes "a.wad: E1M1: warnings not looked for: F4, F9\n"
@@ -98,6 +98,14 @@ totals_object_told : totals_object 1 Told (record totals { partly = 2; unlooked 
     ≡ codes "{\"levels\":12,\"files\":1,\"faults\":3,\"notes\":45,\"warnings\":1,\"not_judged\":3,\"unlooked_levels\":2,\"unlooked\":[\"W9\",\"W10\"]}\n"
 unfolding digits code_table
 totals_object_told = refl
+
+-- what no file lists, told with the codes that go by it: W25 by both ends of the flats
+note_told : unlisted_note (record { textures = true; flats = true; flat_start = true; flat_end = true })
+    ≡ codes "W9, W10, W25 weren't looked for: no file has TEXTURE1, F_START, F_END; name the game's with --base"
+note_told = refl
+
+note_of_an_end_told : unlisted_note (record none_unlisted { flat_end = true }) ≡ codes "W25 weren't looked for: no file has F_END; name the game's with --base"
+note_of_an_end_told = refl
 
 -- one name to unfold for strings and numbers
 unfoldable strings : Unit {0}
@@ -134,7 +142,7 @@ sample = record {
 }
 
 sample_object : level_members (codes "a.wad") (codes "E1M1") 0 Doom
-    ++ doom_members (record { tables = tables_of sample; counts = replicate 41 0; warnings = Unasked; fails = false; unlooked = no_codes; unlisted = none_unlisted; drawn = true })
+    ++ doom_members (record { tables = tables_of sample; counts = replicate 55 0; warnings = Unasked; fails = false; unlooked = no_codes; unlisted = none_unlisted; drawn = true })
     ≡ codes "{\"file\":\"a.wad\",\"level\":\"E1M1\",\"entry\":0,\"format\":\"doom\",\"things\":1,\"linedefs\":1,\"sidedefs\":2,\"vertexes\":2,\"segs\":2,\"ssectors\":2,\"nodes\":1,\"sectors\":2,"
     ++ codes "\"reject\":1,\"blockmap\":16,\"sound\":true,\"faults\":0,\"notes\":0,\"findings\":{}}\n"
 unfolding strings

@@ -78,7 +78,7 @@ pub record IsJudged (asked : CheckAsked) (files : List Wad) (g : ℕ) (label : L
   pub are_counts : AreReportCounts asked.judging.ignored level warned counts
   pub counted : AreCounted counts told
   pub fails : Bool
-  pub failing : IsTrue fails ↔ HasFailing asked.judging.failing counts
+  pub failing : IsTrue fails ↔ HasFailing asked.judging counts warned
   pub unlooked : CodeSet
   pub are_unlooked : AreUnlookedFor asked.judging (known_files asked.judging files) level unlooked
   pub unlisted : Unlisted

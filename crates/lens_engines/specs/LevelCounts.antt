@@ -24,7 +24,7 @@ pub record CountsJudged (judging : Judging) (files : Option (List Wad)) (judged 
   pub tables : counted.tables ≡ tables_of judged.level
   pub counts : counted.counts ≡ judged.counts
   pub asked : counted.warnings ≡ judging.warnings
-  pub failing : IsTrue counted.fails ↔ HasFailing judging.failing judged.counts
+  pub failing : IsTrue counted.fails ↔ HasFailing judging judged.counts judged.warned
   pub unlooked : counted.unlooked ≡ judged.unlooked
   pub unlisted : AreUnlisted judging.ignored files counted.unlisted
   pub drawn : IsTrue counted.drawn ↔ HasLines judged.level
@@ -39,7 +39,7 @@ pub record IsCounted (files : List Wad) (judging : Judging) (g : ℕ) (counted :
   pub are_warned : AreAskedFor judging (known_files judging files) level most warned
   pub counts : AreReportCounts judging.ignored level warned counted.counts
   pub asked : counted.warnings ≡ judging.warnings
-  pub failing : IsTrue counted.fails ↔ HasFailing judging.failing counted.counts
+  pub failing : IsTrue counted.fails ↔ HasFailing judging counted.counts warned
   pub unlooked : AreUnlookedFor judging (known_files judging files) level counted.unlooked
   pub unlisted : AreUnlisted judging.ignored (known_files judging files) counted.unlisted
   pub drawn : IsTrue counted.drawn ↔ HasLines level

@@ -10,4 +10,5 @@ pub record IsOver (rules : Rules) (base : List Wad) (judging : Judging) : Type 0
   pub warnings : judging.warnings ≡ rules.warnings
   pub ignored : judging.ignored ≡ rules.ignored
   pub failing : judging.failing ≡ rules.failing
+  pub game_ends : judging.game_ends ≡ rules.game_ends
   pub over : judging.base.now ≡ base

@@ -17,7 +17,7 @@ held first last counts = common_codes (counted_codes counts) (codes_between (rep
 
 -- those codes that want a sound level, of some that weren't looked for
 abbrev pub all_but_soundness : Offer
-all_but_soundness = record { references = true; soundness = false; textures = true; flats = true }
+all_but_soundness = record { references = true; soundness = false; textures = true; flats = true; flat_ends = true }
 
 abbrev pub unsound_codes : CodeSet → CodeSet
 unsound_codes unlooked = common_codes (unmet_codes all_but_soundness) unlooked

@@ -1,6 +1,7 @@
 -- The report on a level's warnings (ours).
-use Rattle.std.specs.Prelude.{◌≡◌, ℕ, Bool, true, false, List, [], ◌∷◌, ◌++◌, Option, Some, None, All, map}
-use Rattle.map_warnings.specs.Warnings.{Cut, Tells}
+use Rattle.std.specs.Prelude.{◌≡◌, ◌↔◌, ℕ, Bool, true, false, List, [], ◌∷◌, ◌++◌, Option, Some, None, All, IsTrue, map}
+use Rattle.map_warnings.specs.Warnings.{Cut, ends_game, Tells}
+use Rattle.map_warnings.specs.declared.warning.Warning.{Warning}
 use Rattle.level_codes.specs.declared.code.WarningCode.{WarningCode}
 use Rattle.level_codes.specs.Codes.{warning_codes}
 use Rattle.level_codes.specs.declared.code.ReportCode.TheVariants as report
@@ -12,15 +13,22 @@ use Rattle.lens_engines.specs.declared.judging.Judging.{Judging}
 use Rattle.lens_engines.specs.declared.judging.Warnings.{Warnings}
 use Rattle.lens_engines.specs.declared.judging.Warnings.TheVariants.{Unasked, Told}
 
--- the report on a code: the first of its warnings, and how many there are
+-- the report on a code: the first of its warnings, how many there are, and whether the released game ends at one
 pub record Warned : Type 0 where
   pub code : WarningCode
   pub cut : Cut
+  pub ends : Bool
+
+-- a warning of a code is told of a level, and the released game ends at it
+pub record EndsUnlessIgnored (ignored : CodeSet) (files : Option (List Wad)) (level : Level) (code : WarningCode) (w : Warning) : Type 0 where
+  pub warns : WarnsUnlessIgnored ignored files level code w
+  pub ends : ends_game w ≡ true
 
 -- that of a level, with at most so many warnings, and none of an ignored code; the level's textures and flats are those of some files, if these are known
 pub record IsWarned (ignored : CodeSet) (files : Option (List Wad)) (level : Level) (most : ℕ) (warned : Warned) : Type 0 where
   pub tells : Tells (WarnsUnlessIgnored ignored files level warned.code) warned.cut
   pub cut_at : warned.cut.most ≡ most
+  pub ends : IsTrue warned.ends ↔ ((w : Warning) × EndsUnlessIgnored ignored files level warned.code w)
 
 -- the report on all codes
 pub record AreWarned (ignored : CodeSet) (files : Option (List Wad)) (level : Level) (most : ℕ) (all : List Warned) : Type 0 where

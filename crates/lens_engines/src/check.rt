@@ -237,7 +237,7 @@ fn check_doom<A: Allocator + Copy, W: Sink>(
         return Err(LevelsFault::Memory);
     };
     let wrote = write_judged(&judged, &owners, heading, question.most, sound_wide, out);
-    let fails = has_failing(&judging.failing, counts);
+    let fails = has_failing(&judging, counts, judged.warned());
     let unlisted = Unlisted::of(resources, &judging.ignored);
     let totals = judged_totals(counts, fails, judged.unlooked(), unlisted);
     text_end(totals, wrote)

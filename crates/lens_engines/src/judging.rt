@@ -23,6 +23,8 @@ pub struct Rules {
     pub ignored: CodeSet,
     /// A finding or a warning of these that isn't ignored is as grave as a fault.
     pub failing: CodeSet,
+    /// One at which the released game ends is, too.
+    pub game_ends: bool,
 }
 
 impl Rules {
@@ -37,12 +39,13 @@ impl Rules {
             warnings: self.warnings,
             ignored: self.ignored,
             failing: self.failing,
+            game_ends: self.game_ends,
             base,
         }
     }
 }
 
-/// How the levels of a file are judged: the rules, and the base files. Only W9 and W10 look at base files.
+/// How the levels of a file are judged: the rules, and the base files. Only W9, W10, W22 and W25 look at base files.
 #[derive(Clone, Copy)]
 pub struct Judging<'b> {
     pub reading: Reading,
@@ -51,5 +54,7 @@ pub struct Judging<'b> {
     pub ignored: CodeSet,
     /// A finding or a warning of these that isn't ignored is as grave as a fault.
     pub failing: CodeSet,
+    /// One at which the released game ends is, too.
+    pub game_ends: bool,
     pub base: &'b Base<'b>,
 }

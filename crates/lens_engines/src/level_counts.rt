@@ -74,7 +74,7 @@ impl LevelCounts {
             tables: Tables::of(level),
             counts: counts.copied(),
             warnings: judging.warnings,
-            fails: has_failing(&judging.failing, counts),
+            fails: has_failing(&judging, counts, judged.warned()),
             unlooked: judged.unlooked(),
             unlisted: Unlisted::of(resources, &judging.ignored),
             drawn: has_lines(level),

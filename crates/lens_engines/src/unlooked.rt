@@ -2,6 +2,7 @@
 
 ghost use Rattle.std.specs.Prelude.{◌≡◌, ◌↔◌, ◌≤◌, ◌++◌, IsSomeAnd, IsTrue, false, length};
 ghost use Rattle.line_io.specs.Writes.{Writes};
+ghost use Rattle.game_warnings.specs.Misplaced.{HasFlatEnds};
 ghost use Rattle.map_audit.specs.Findings.{AuditHolds};
 ghost use Rattle.map_warnings.specs.Listed.{HasFlats, HasTextures};
 ghost use Rattle.level_codes.specs.Codes.{code_name};
@@ -50,6 +51,7 @@ fn asked_unlooked<A: Allocator>(
         soundness: is_faultless(level, counts),
         textures: list_textures(resources),
         flats: list_flats(resources),
+        flat_ends: list_flat_ends(resources),
     };
     CodeSet::unmet(offer).without(ignored)
 }
@@ -70,6 +72,16 @@ fn list_flats<A: Allocator>(resources: &Option<Resources<'_, '_, A>>) -> bool
 {
     match resources {
         Some(known) => known.has_flats(),
+        None => false,
+    }
+}
+
+// Whether some files are known, and have both ends of the flats.
+fn list_flat_ends<A: Allocator>(resources: &Option<Resources<'_, '_, A>>) -> bool
+    ensures { IsTrue result ↔ IsSomeAnd resources.now HasFlatEnds }
+{
+    match resources {
+        Some(known) => known.has_flat_ends(),
         None => false,
     }
 }

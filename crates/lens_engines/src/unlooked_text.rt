@@ -57,6 +57,7 @@ fn unsound_codes(unlooked: &CodeSet) -> CodeSet
         soundness: false,
         textures: true,
         flats: true,
+        flat_ends: true,
     });
     unsound.common(*unlooked)
 }

@@ -1,6 +1,6 @@
 //! The report on a level's warnings.
 
-ghost use Rattle.std.specs.Prelude.{◌≡◌, ◌↔◌, ◌-◌, IfOk, IsTrue, OnOk, false, length};
+ghost use Rattle.std.specs.Prelude.{◌≡◌, ◌↔◌, ◌-◌, ◌<◌, IfOk, IsTrue, OnOk, false, length};
 ghost use Rattle.std.specs.List.{flat_map};
 ghost use Rattle.line_io.specs.Writes.{Writes};
 ghost use Rattle.map_audit.specs.Findings.{AuditHolds};
@@ -11,7 +11,7 @@ ghost use Rattle.lens_engines.specs.Counts.{AreCounts};
 ghost use Rattle.lens_engines.specs.Ignored.{WarnsUnlessIgnored};
 ghost use Rattle.lens_texts.specs.Owners.{AreOwners};
 ghost use Rattle.lens_texts.specs.declared.remark.Remark.TheVariants as remark;
-ghost use Rattle.lens_engines.specs.Warned.{AddsWarned, AreAskedFor, AreWarned, where_asked};
+ghost use Rattle.lens_engines.specs.Warned.{AddsWarned, AreAskedFor, AreWarned, EndsUnlessIgnored, where_asked};
 ghost use Rattle.lens_engines.specs.WarnedText.{more_text, warned_part, warned_text};
 
 use crate::counts::CodeCounts;
@@ -28,11 +28,12 @@ use std::alloc::{AllocError, Allocator, Global};
 use std::marker::Model;
 use wad_dir::Set;
 
-/// The report on one code of warnings: the first of them, and how many there are.
+/// The report on one code of warnings: the first of them, how many there are, and whether the released game ends at one.
 #[derive(Debug, Drop)]
 pub struct Warned<A: Allocator = Global> {
     code: WarningCode,
     told: Told<A>,
+    ends: bool,
 }
 
 impl<A: Allocator> Model for Warned<A> {
@@ -40,7 +41,7 @@ impl<A: Allocator> Model for Warned<A> {
 
     ghost Value = { warned.Warned };
 
-    ghost view = { λ w. record { code = w.code; cut = w.told } };
+    ghost view = { λ w. record { code = w.code; cut = w.told; ends = w.ends } };
 }
 
 impl<A: Allocator> Warned<A> {
@@ -58,6 +59,13 @@ impl<A: Allocator> Warned<A> {
         ensures { result ≡ self.now.cut.count }
     {
         self.told.count()
+    }
+
+    /// Whether the released game ends at one of them.
+    pub fn ends_game(&self) -> bool
+        ensures { result ≡ self.now.ends }
+    {
+        self.ends
     }
 }
 
@@ -185,8 +193,33 @@ fn push_code<A: Allocator + Copy>(
     ensures { OnOk result (AddsWarned ignored.now resources.now checks.now most code all.old.items all.new.items) }
 {
     let told = told_of(alloc, checks, resources, ignored, code, most)?;
-    all.push(Warned { code, told })?;
+    let ends = ends_at(alloc, checks, resources, ignored, code, told.count())?;
+    all.push(Warned { code, told, ends })?;
     Ok(())
+}
+
+// Whether the game ends at a warning of a code, of which so many are told.
+fn ends_at<A: Allocator + Copy>(
+    alloc: A,
+    checks: &Checks<'_, '_>,
+    resources: &Option<Resources<'_, '_, A>>,
+    ignored: &CodeSet,
+    code: WarningCode,
+    count: usize,
+) -> Result<bool, AllocError>
+    requires { (0 < count) ↔ ((w : Warning) × WarnsUnlessIgnored ignored.now resources.now checks.now code w) }
+    ensures { IfOk result (λ ends. IsTrue ends ↔ ((w : Warning) × EndsUnlessIgnored ignored.now resources.now checks.now code w)) }
+{
+    // Only the clauses speak of what is ignored.
+    let _ignored = ignored;
+    if count == 0 {
+        return Ok(false);
+    }
+    match code {
+        // It ends at some of W22 alone.
+        WarningCode::W22 => checks.ends_game(alloc, code, resources),
+        _ => Ok(ReportCode::Warning(code).ends_game()),
+    }
 }
 
 // The warnings of a code, at most so many; none if it is ignored.

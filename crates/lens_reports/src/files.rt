@@ -93,7 +93,7 @@ impl<A: Allocator> FileBytes<'_, A> {
         }
     }
 
-    /// Their memory, for the next file's bytes.
+    /// Their memory, for the next file's bytes. Who takes it drops what is left in it, so no clause speaks of that.
     pub fn into_room(self, alloc: A) -> Vec<u8, A> {
         match self {
             FileBytes::Read(bytes) => bytes,

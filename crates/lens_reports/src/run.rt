@@ -147,7 +147,7 @@ pub fn write_unlooked<E: Sink>(unlisted: Unlisted, errors: &mut E) -> Result<(),
         return emit(errors, b"");
     }
     emit(errors, b"wadlens: ")?;
-    emit(errors, unlisted.note())?;
+    unlisted.write_note(errors)?;
     emit(errors, b"\n")
 }
 

@@ -1,13 +1,21 @@
 -- The texts of findings, warnings, formats, labels and paths, computed on small levels: each is what stands here.
-use Rattle.std.proofs.Common.{◌≡◌, ℕ, true, List, [], ◌∷◌, ◌++◌, replicate, refl}
+use Rattle.std.proofs.Common.{◌≡◌, ℕ, ℤ, pos, negsuc, Bool, true, false, List, [], ◌∷◌, ◌++◌, replicate, refl}
 use lib.Utf8.{encode}
 use Rattle.std.specs.Fmt.{digits}
 use Rattle.std.specs.Prelude.{codes}
 use Rattle.std.specs.Str.{chars, is_utf8}
 use Rattle.std.specs.Str.Lossy.{utf8_error_len, utf8_lossy, utf8_valid_len}
 use Rattle.level_starts.specs.declared.format.Format.TheVariants.{Udmf, Incomplete, Hexen, Outside, Extended}
+use Rattle.game_numbers.specs.declared.key.Key.TheVariants.{Blue}
+use Rattle.game_warnings.specs.declared.skill.Skills.{Skills}
+use Rattle.game_warnings.specs.declared.warning.Barrier.TheVariants.{NoBack, LetsNone}
+use Rattle.game_warnings.specs.declared.warning.GameWarning.{GameWarning}
+use Rattle.game_warnings.specs.declared.warning.GameWarning.TheVariants as game
+use Rattle.game_warnings.specs.declared.warning.Harm.TheVariants.{NoLine, NoRing, OpenRing, ManyNeighbours, NoNeighbour}
+use Rattle.game_warnings.specs.declared.warning.Surface.TheVariants.{Floor}
+use Rattle.le_rec.specs.Name.{padded}
 use Rattle.le_rec.specs.Number.{signed16, unsigned16}
-use Rattle.map_warnings.specs.declared.warning.Part.TheVariants.{Middle, Upper, Lower}
+use Rattle.map_warnings.specs.declared.warning.SidePart.TheVariants.{Middle, Upper, Lower}
 use Rattle.map_warnings.specs.declared.warning.Plane.TheVariants.{Ceiling}
 use Rattle.map_warnings.specs.declared.warning.Side.TheVariants.{Front, Back}
 use Rattle.map_warnings.specs.declared.warning.Warning.{Warning}
@@ -15,11 +23,13 @@ use Rattle.map_warnings.specs.declared.warning.Warning.TheVariants as warning
 use Rattle.level_codes.specs.Codes.{code_table}
 use Rattle.level_codes.specs.declared.code.ReportCode.TheVariants as report
 use Rattle.map_warnings.specs.Warnings.{code_of, number_of}
+use Rattle.map_level.specs.Level.{Level}
 use Rattle.map_level.specs.declared.finding.Code.{Code}
 use Rattle.map_level.specs.declared.finding.Code.TheVariants.{F3, F4, F5, F6, F7, F8, F9, F10, F11, F12, F13, F14, F15, F16, F17, F18, N2, N3, N4, N5, N6, N7, N8, N9, N10, N11, N12}
 use Rattle.map_level.specs.declared.reading.Reading.{Reading}
 use Rattle.map_level.specs.declared.reading.Reading.TheVariants.{Signed, Wide}
 use Rattle.lens_texts.specs.FormatLine.{format_text}
+use Rattle.lens_texts.specs.GameMessage.{skills_text}
 use Rattle.lens_texts.specs.JsonString.{json_string}
 use Rattle.lens_texts.specs.Label.{label_text}
 use Rattle.lens_texts.specs.Message.{message}
@@ -260,6 +270,144 @@ unknown_flat_told = refl
 unknown_thing_told : unknown_thing_text (record (level Signed) { things = rows (thing ∷ []) }) 0 [] ≡ codes "type 32000 is none of the game's"
 unfolding digits code_table
 unknown_thing_told = refl
+
+-- what is told of what the game does: of a linedef with a special and a tag, of a sector with that special, and of a thing of that kind
+abbrev acting : ℤ → ℤ → Level
+acting special tag = record (level Signed) {
+  linedefs = rows (record { v1 = pos 0; v2 = pos 1; flags = pos 1; special = special; tag = tag; side0 = pos 0; side1 = negsuc 0 } ∷ []);
+  sectors = rows (record sector { special = special } ∷ []);
+  things = rows (record thing { kind = special } ∷ []);
+}
+
+abbrev does : ℤ → ℤ → GameWarning → List ℕ
+does special tag w =
+    let acts = acting special tag in
+    lead_text acts (report.Warning (code_of (warning.Game w))) (number_of (warning.Game w))
+    ++ warning_message acts (warning.Game w) (place_text (warning_place acts (warning.Game w)) [])
+
+abbrev in_skills : Bool → Bool → Bool → Skills
+in_skills easy medium hard = record { easy = easy; medium = medium; hard = hard }
+
+abbrev line_place : List ℕ
+line_place = codes ", from (16, -16) to (20000, 1)"
+
+unknown_special_told : does (pos 142) (pos 0) (game.UnknownSpecial 0) ≡ codes "W14 linedef 0: special 142 is none of the game's" ++ line_place
+unfolding digits code_table
+unknown_special_told = refl
+
+unknown_special_below_told : does (negsuc 0) (pos 0) (game.UnknownSpecial 0) ≡ codes "W14 linedef 0: special -1 is none of the game's" ++ line_place
+unfolding digits code_table
+unknown_special_below_told = refl
+
+zero_tag_told : does (pos 23) (pos 0) (game.ZeroTag 0 1) ≡ codes "W15 linedef 0: special 23 with tag 0, which 1 sectors have" ++ line_place
+unfolding digits code_table
+zero_tag_told = refl
+
+no_back_told : does (pos 36) (pos 3) (game.NeverCrossed 0 NoBack) ≡ codes "W16 linedef 0: special 36 can't be crossed: it has no back sidedef" ++ line_place
+unfolding digits code_table
+no_back_told = refl
+
+lets_none_told : does (pos 36) (pos 3) (game.NeverCrossed 0 LetsNone) ≡ codes "W16 linedef 0: special 36 can't be crossed: it lets none through" ++ line_place
+unfolding digits code_table
+lets_none_told = refl
+
+no_destination_told : does (pos 97) (pos 3) (game.NoDestination 0) ≡ codes "W16 linedef 0: special 97 has no destination: no sector with tag 3 has a thing of type 14" ++ line_place
+unfolding digits code_table
+no_destination_told = refl
+
+one_sided_door_told : does (pos 27) (pos 0) (game.OneSidedDoor 0) ≡ codes "W17 linedef 0: special 27 without a back sidedef: its use ends the game" ++ line_place
+unfolding digits code_table
+one_sided_door_told = refl
+
+platforms_told : does (pos 21) (pos 5) (game.ManyPlatforms 0 31) ≡ codes "W17 linedef 0: special 21 starts 31 platforms, 30 are the most: it ends the game" ++ line_place
+unfolding digits code_table
+platforms_told = refl
+
+ceilings_told : does (pos 41) (pos 5) (game.ManyCeilings 0 31) ≡ codes "W17 linedef 0: special 41 starts 31 ceilings, 30 are the most" ++ line_place
+unfolding digits code_table
+ceilings_told = refl
+
+no_line_told : does (pos 9) (pos 6) (game.Harmful 0 (NoLine 1)) ≡ codes "W17 linedef 0: special 9: sector 1 has no linedef: its use ends the game" ++ line_place
+unfolding digits code_table
+no_line_told = refl
+
+no_ring_told : does (pos 9) (pos 6) (game.Harmful 0 (NoRing 5 1)) ≡ codes "W17 linedef 0: special 9: linedef 5, the first of sector 1, has no other side: its use ends the game" ++ line_place
+unfolding digits code_table
+no_ring_told = refl
+
+open_ring_told : does (pos 9) (pos 6) (game.Harmful 0 (OpenRing 5 2)) ≡ codes "W17 linedef 0: special 9: linedef 5 of sector 2 has no back sidedef: its use ends the game" ++ line_place
+unfolding digits code_table
+open_ring_told = refl
+
+neighbours_told : does (pos 18) (pos 6) (game.Harmful 0 (ManyNeighbours 1 21)) ≡ codes "W17 linedef 0: special 18: sector 1 has 21 higher neighbours, 20 are the most" ++ line_place
+unfolding digits code_table
+neighbours_told = refl
+
+no_neighbour_told : does (pos 37) (pos 9) (game.Harmful 0 (NoNeighbour 1 (negsuc 7))) ≡ codes "W17 linedef 0: special 37: sector 1 finds no neighbour at -8, its new special is what memory held" ++ line_place
+unfolding digits code_table
+no_neighbour_told = refl
+
+deadly_floor_told : does (pos 15) (pos 0) (game.DeadlyFloor 0) ≡ codes "W18 sector 0: special 15: a player on its floor ends the game"
+unfolding digits code_table
+deadly_floor_told = refl
+
+no_exit_told : does (pos 0) (pos 0) (game.NoExit) ≡ codes "W19 level: no exit"
+unfolding digits code_table
+no_exit_told = refl
+
+locked_told : does (pos 0) (pos 0) (game.Locked Blue 2 (in_skills true true false)) ≡ codes "W19 level: 2 linedefs want a blue key, which isn't there in easy, medium"
+unfolding digits code_table
+locked_told = refl
+
+ends_things_told : does (pos 64) (pos 0) (game.EndsThings 0 2) ≡ codes "W21 thing 0: type 64 ends the reading of things, 2 follow, at (8, 8)"
+unfolding digits code_table
+ends_things_told = refl
+
+in_no_skill_told : does (pos 2001) (pos 0) (game.InNoSkill 0) ≡ codes "W21 thing 0: appears in no skill, at (8, 8)"
+unfolding digits code_table
+in_no_skill_told = refl
+
+no_target_told : does (pos 89) (pos 0) (game.NoTarget 0 (in_skills false true false)) ≡ codes "W21 thing 0: has no target (type 87) in medium: its shot ends the game, at (8, 8)"
+unfolding digits code_table
+no_target_told = refl
+
+targets_told : does (pos 89) (pos 0) (game.ManyTargets 0 (in_skills true false false)) ≡ codes "W21 thing 0: has more than 32 targets in easy: its shot ends the game, at (8, 8)"
+unfolding digits code_table
+targets_told = refl
+
+scrolling_told : does (pos 0) (pos 0) (game.ManyScrolling 65) ≡ codes "W22 level: 65 scrolling linedefs, 64 are the most"
+unfolding digits code_table
+scrolling_told = refl
+
+perpetual_told : does (pos 0) (pos 0) (game.ManyPerpetual 31) ≡ codes "W22 level: 31 perpetual platforms, 30 are the most"
+unfolding digits code_table
+perpetual_told = refl
+
+starts_told : does (pos 0) (pos 0) (game.ManyStarts 11) ≡ codes "W22 level: 11 deathmatch starts, 10 are the most"
+unfolding digits code_table
+starts_told = refl
+
+save_told : does (pos 0) (pos 0) (game.LongSave 180281) ≡ codes "W22 level: 180281 bytes to save at its start, 180224 are the most"
+unfolding digits code_table
+save_told = refl
+
+lacking_told : does (pos 0) (pos 0) (game.LacksPatch (padded (codes "BIGDOOR"))) ≡ codes "W22 level: texture BIGDOOR lacks a patch: the game doesn't start"
+unfolding digits code_table
+lacking_told = refl
+
+misplaced_told : does (pos 0) (pos 0) (game.MisplacedFlat 0 Floor) ≡ codes "W25 sector 0: floor flat FLAT isn't between F_START and F_END"
+unfolding digits code_table
+misplaced_told = refl
+
+-- the skills in which something holds
+skills_told : skills_text (in_skills true true true) [] ≡ codes "easy, medium, hard"
+skills_told = refl
+
+other_skills_told : skills_text (in_skills true false true) [] ≡ codes "easy, hard"
+other_skills_told = refl
+
+last_skills_told : skills_text (in_skills false true true) [] ≡ codes "medium, hard"
+last_skills_told = refl
 
 -- what tells a level that isn't judged
 udmf_told : format_text Udmf ≡ codes "udmf: not read\n"

@@ -1,8 +1,8 @@
--- A level's label as lines show it (ours).
-use Rattle.std.specs.Prelude.{◌≡◌, ◌↔◌, ℕ, List, ◌++◌, codes, IsTrue, Some, if◌then◌else◌}
+-- A level's label, and names, as lines show them (ours).
+use Rattle.std.specs.Prelude.{◌≡◌, ◌↔◌, ℕ, List, ◌++◌, codes, length, nat_eq, IsTrue, Some, if◌then◌else◌}
 use Rattle.std.specs.Fmt.{decimal}
 use Rattle.std.specs.List.{slice_get}
-use Rattle.le_rec.specs.Name.{query_of, shown_name}
+use Rattle.le_rec.specs.Name.{name_of, query_of, shown_name}
 use Rattle.wad_dir.specs.Entries.{names}
 use Rattle.wad_dir.specs.Wad.{Wad}
 use Rattle.wad_dir.specs.Winner.{Wins}
@@ -21,3 +21,7 @@ entry_text label rest = if label.hidden then codes " (entry " ++ (decimal label.
 -- its name as it is shown, and its entry, where it is hidden
 abbrev pub label_text : LevelLabel → List ℕ → List ℕ
 label_text label rest = shown_name label.name ++ entry_text label rest
+
+-- the name of eight bytes as it is shown, or that it is empty
+abbrev pub named_text : List ℕ → List ℕ → List ℕ
+named_text bytes rest = if nat_eq (length (name_of bytes)) 0 then codes "(empty)" ++ rest else shown_name (name_of bytes) ++ rest

@@ -1,6 +1,7 @@
 pub mod Escape
 pub mod Explain
 pub mod FormatLine
+pub mod GameMessage
 pub mod Handing
 pub mod Head
 pub mod JsonString

@@ -32,7 +32,7 @@ lead_text level code i = code_name code ++ (codes " " ++ (kind_name (kind_of cod
 
 -- `MESSAGE[, PLACE]`, before other bytes
 abbrev pub message_text : Level → Remark → List ℕ → List ℕ
-message_text level remark rest = remark_message level remark (place_text (remark_place level remark) rest)
+message_text level remark rest = remark_message level remark [] ++ place_text (remark_place level remark) rest
 
 -- that, and the line's end
 abbrev pub body_text : Level → Remark → List ℕ

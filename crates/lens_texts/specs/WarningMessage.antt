@@ -1,13 +1,12 @@
 -- What a warning says, and where it lies (ours).
-use Rattle.std.specs.Prelude.{ℕ, List, ◌++◌, codes, length, nat_eq, if◌then◌else◌}
+use Rattle.std.specs.Prelude.{ℕ, List, ◌++◌, codes}
 use Rattle.std.specs.Fmt.{decimal, signed_decimal}
 use Rattle.std.specs.List.{slice_get}
 use Rattle.std.specs.Option.{option_map_or}
-use Rattle.le_rec.specs.Name.{name_of, shown_name}
 use Rattle.map_warnings.specs.UnknownFlat.{flat_of}
 use Rattle.map_warnings.specs.UnknownTexture.{texture_of}
-use Rattle.map_warnings.specs.declared.warning.Part.{Part}
-use Rattle.map_warnings.specs.declared.warning.Part.TheVariants.{Middle, Upper, Lower}
+use Rattle.map_warnings.specs.declared.warning.SidePart.{SidePart}
+use Rattle.map_warnings.specs.declared.warning.SidePart.TheVariants.{Middle, Upper, Lower}
 use Rattle.map_warnings.specs.declared.warning.Plane.{Plane}
 use Rattle.map_warnings.specs.declared.warning.Plane.TheVariants.{Floor, Ceiling}
 use Rattle.map_warnings.specs.declared.warning.Side.{Side}
@@ -18,12 +17,14 @@ use Rattle.level_codes.specs.Codes.{kind_of}
 use Rattle.level_codes.specs.declared.code.ReportCode.TheVariants as report
 use Rattle.map_level.specs.Level.{Level}
 use Rattle.map_warnings.specs.Warnings.{code_of, number_of}
+use Rattle.lens_texts.specs.GameMessage.{game_message}
+use Rattle.lens_texts.specs.Label.{named_text}
 use Rattle.lens_texts.specs.Place.{place_at}
 use Rattle.lens_texts.specs.declared.place.MapPlace.{MapPlace}
 use Rattle.lens_texts.specs.declared.place.MapPlace.TheVariants.{Nowhere, At}
 
 -- a part of a wall that has no texture
-abbrev pub part_text : Part → List ℕ → List ℕ
+abbrev pub part_text : SidePart → List ℕ → List ℕ
 part_text Middle rest = codes "no middle texture " ++ rest
 part_text Upper rest = codes "no upper texture " ++ rest
 part_text Lower rest = codes "no lower texture " ++ rest
@@ -38,16 +39,12 @@ abbrev pub tag_text : Level → ℕ → List ℕ → List ℕ
 tag_text level linedef rest =
     option_map_or (λ found. codes "no sector has tag " ++ (signed_decimal found.tag ++ rest)) (slice_get level.linedefs.records linedef) rest
 
--- the name of eight bytes as it is shown, or that it is empty
-abbrev pub named_text : List ℕ → List ℕ → List ℕ
-named_text bytes rest = if nat_eq (length (name_of bytes)) 0 then codes "(empty)" ++ rest else shown_name (name_of bytes) ++ rest
-
 -- that the game finds nothing under a name
 abbrev pub missing_text : List ℕ → List ℕ → List ℕ
 missing_text bytes rest = named_text bytes (codes " isn't there" ++ rest)
 
 -- of which part of a sidedef, or of which plane of a sector
-abbrev pub texture_text : Part → List ℕ → List ℕ
+abbrev pub texture_text : SidePart → List ℕ → List ℕ
 texture_text Upper rest = codes "upper texture " ++ rest
 texture_text Lower rest = codes "lower texture " ++ rest
 texture_text Middle rest = codes "middle texture " ++ rest
@@ -57,7 +54,7 @@ flat_text Floor rest = codes "floor flat " ++ rest
 flat_text Ceiling rest = codes "ceiling flat " ++ rest
 
 -- that a texture isn't there
-abbrev pub unknown_texture_text : Level → ℕ → Part → List ℕ → List ℕ
+abbrev pub unknown_texture_text : Level → ℕ → SidePart → List ℕ → List ℕ
 unknown_texture_text level sidedef part rest =
     option_map_or (λ found. texture_text part (missing_text (texture_of part found) rest)) (slice_get level.sidedefs.records sidedef) rest
 
@@ -86,6 +83,7 @@ warning_message level (warning.FewStarts starts) rest = decimal starts ++ (codes
 warning_message level (warning.UnknownTexture sidedef part) rest = unknown_texture_text level sidedef part rest
 warning_message level (warning.UnknownFlat sector plane) rest = unknown_flat_text level sector plane rest
 warning_message level (warning.UnknownThing thing) rest = unknown_thing_text level thing rest
+warning_message level (warning.Game w) rest = game_message level w rest
 
 -- where a vertex is
 abbrev pub vertex_place : Level → ℕ → MapPlace

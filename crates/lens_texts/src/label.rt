@@ -1,4 +1,4 @@
-//! The labels of levels, as lines show them.
+//! The labels of levels, and names, as lines show them.
 
 ghost use Rattle.std.specs.Prelude.{◌≡◌, ◌+◌, ◌≤◌, ◌++◌, length};
 ghost use Rattle.le_rec.specs.Name.{shown_name};
@@ -6,7 +6,7 @@ ghost use Rattle.level_starts.specs.Holders.{AreLabelHolders};
 ghost use Rattle.level_starts.specs.Starts.{LevelStartsAt};
 ghost use Rattle.line_io.specs.declared.text_line.TheConstants.{ROOM};
 ghost use Rattle.wad_dir.specs.Entries.{names};
-ghost use Rattle.lens_texts.specs.Label.{IsLabelOf, entry_text, label_text};
+ghost use Rattle.lens_texts.specs.Label.{IsLabelOf, entry_text, label_text, named_text};
 
 use crate::opened::label_of;
 use le_rec::Name8;
@@ -88,4 +88,17 @@ pub fn prepend_name(line: &mut TextLine, name: Name8)
     let mut shown = [0; 32];
     let len = name.shown(&mut shown);
     line.prepend_bytes(&shown[..len]);
+}
+
+/// Puts the name of eight bytes as it is shown before the line, or that it is empty.
+pub fn prepend_named(line: &mut TextLine, bytes: [u8; 8])
+    requires { length line.old ≤ 56 }
+    ensures text { line.new ≡ named_text bytes line.old }
+    ensures length { length line.new ≤ length line.old + 32 }
+{
+    if bytes[0] == 0 {
+        line.prepend_bytes(b"(empty)");
+    } else {
+        prepend_name(line, Name8::stored(bytes));
+    }
 }

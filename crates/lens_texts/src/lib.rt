@@ -7,6 +7,7 @@ mod digits;
 pub mod escape;
 mod explain;
 mod form;
+mod game_message;
 mod hand_on;
 mod json_string;
 mod label;

@@ -4,7 +4,7 @@ ghost use Rattle.std.specs.Prelude.{◌≡◌, ◌+◌, ◌≤◌, ◌++◌, [],
 ghost use Rattle.line_io.specs.Writes.{Writes};
 ghost use Rattle.line_io.specs.declared.text_line.TheConstants.{ROOM};
 ghost use Rattle.lens_texts.specs.Escape.{escaped};
-ghost use Rattle.lens_texts.specs.RemarkLine.{block_text, body_text, heading_text, index_text, lead_text, left_line, level_line, message_text, remark_line, remark_words};
+ghost use Rattle.lens_texts.specs.RemarkLine.{block_text, body_text, heading_text, index_text, lead_text, left_line, level_line, remark_line, remark_words};
 ghost use Rattle.le_rec.specs.Name.{shown_name};
 ghost use Rattle.level_starts.specs.declared.format.Format.TheVariants as format;
 ghost use Rattle.lens_texts.specs.FormatLine.{format_text};
@@ -49,10 +49,28 @@ pub fn write_remark_line<W: Sink>(
 {
     let mut lead = TextLine::new();
     prepend_lead(&mut lead, level, remark.code(), remark.index());
-    let mut body = TextLine::new();
-    prepend_body(&mut body, level, owners, remark);
     write_heading(heading, out)?;
-    write_both(lead.as_bytes(), body.as_bytes(), out)
+    emit(out, lead.as_bytes())?;
+    write_body(level, owners, remark, out)
+}
+
+// Writes `MESSAGE[, PLACE]`, and the line's end.
+fn write_body<W: Sink>(
+    level: &Level<'_>,
+    owners: &[Option<u32>],
+    remark: Remark,
+    out: &mut W,
+) -> Result<(), IoFault>
+    requires owners { AreOwners level.now owners.now }
+    requires sound { (W.state out.old).failed ≡ false }
+    ensures { Writes (W.state out.old) (W.state out.new) (body_text level.now remark) result }
+{
+    let mut message = TextLine::new();
+    remark.prepend_message(&mut message, level);
+    let mut place = TextLine::new();
+    place.prepend_bytes(b"\n");
+    prepend_place(&mut place, remark.place(level, owners));
+    write_both(message.as_bytes(), place.as_bytes(), out)
 }
 
 /// Writes what the line of a remark says behind the label, as text within XML: `CODE KIND INDEX: MESSAGE[, PLACE]`.
@@ -69,35 +87,40 @@ pub fn write_words<W: Sink>(
     let mut lead = TextLine::new();
     prepend_lead(&mut lead, level, remark.code(), remark.index());
     let mut message = TextLine::new();
-    prepend_message(&mut message, level, owners, remark);
+    remark.prepend_message(&mut message, level);
+    let mut place = TextLine::new();
+    prepend_place(&mut place, remark.place(level, owners));
     let words = Words {
         lead: lead.as_bytes(),
         message: message.as_bytes(),
+        place: place.as_bytes(),
     };
     write_parts(&words, out)
 }
 
-// What is told of a remark, in its two parts.
+// What is told of a remark, in its three parts.
 #[derive(Drop)]
 struct Words<'w> {
     lead: &'w [u8],
     message: &'w [u8],
+    place: &'w [u8],
 }
 
 impl TextParts for Words<'_> {
     ghost use Rattle.std.specs.Prelude.{[], ◌∷◌};
     ghost use Rattle.lens_texts.specs.Escape.{escaped};
 
-    ghost parts = { λ words. escaped words.lead.now ∷ escaped words.message.now ∷ [] };
+    ghost parts = { λ words. escaped words.lead.now ∷ escaped words.message.now ∷ escaped words.place.now ∷ [] };
 
     fn count(&self) -> usize {
-        2
+        3
     }
 
     fn write<W: Sink>(&self, number: usize, out: &mut W) -> Result<(), IoFault> {
         match number {
             0 => write_escaped(self.lead, out),
-            _ => write_escaped(self.message, out),
+            1 => write_escaped(self.message, out),
+            _ => write_escaped(self.place, out),
         }
     }
 }
@@ -275,24 +298,4 @@ fn prepend_block(line: &mut TextLine, columns: u16, index: u32)
     line.prepend_bytes(b", ");
     prepend_short(line, (index % columns) as u16);
     line.prepend_bytes(b" (");
-}
-
-// `MESSAGE[, PLACE]`, and the line's end.
-fn prepend_body(line: &mut TextLine, level: &Level<'_>, owners: &[Option<u32>], remark: Remark)
-    requires owners { AreOwners level.now owners.now }
-    requires empty { line.old ≡ [] }
-    ensures { line.new ≡ body_text level.now remark }
-{
-    line.prepend_bytes(b"\n");
-    prepend_message(line, level, owners, remark);
-}
-
-// `MESSAGE[, PLACE]`
-fn prepend_message(line: &mut TextLine, level: &Level<'_>, owners: &[Option<u32>], remark: Remark)
-    requires owners { AreOwners level.now owners.now }
-    requires room { length line.old ≤ 1 }
-    ensures { line.new ≡ message_text level.now remark line.old }
-{
-    prepend_place(line, remark.place(level, owners));
-    remark.prepend_message(line, level);
 }

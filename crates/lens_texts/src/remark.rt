@@ -1,6 +1,6 @@
 //! A remark of a report: a finding or a warning.
 
-ghost use Rattle.std.specs.Prelude.{◌≡◌, ◌≤◌, length};
+ghost use Rattle.std.specs.Prelude.{◌≡◌, []};
 ghost use Rattle.lens_texts.specs.Owners.{AreOwners};
 
 use crate::message::prepend_message;
@@ -61,9 +61,9 @@ impl Remark {
         }
     }
 
-    // Puts what it says before the line.
+    // Puts what it says into the line.
     pub(crate) fn prepend_message(self, line: &mut TextLine, level: &Level<'_>)
-        requires { length line.old ≤ 44 }
+        requires { line.old ≡ [] }
         ensures { line.new ≡ remark_message level.now self line.old }
     {
         match self {

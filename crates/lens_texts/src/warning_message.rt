@@ -1,25 +1,26 @@
 //! What a warning says, and where it lies.
 
-ghost use Rattle.std.specs.Prelude.{◌≡◌, ◌+◌, ◌≤◌, ◌++◌, length};
+ghost use Rattle.std.specs.Prelude.{◌≡◌, ◌+◌, ◌≤◌, [], ◌++◌, length};
 ghost use Rattle.std.specs.Fmt.{decimal};
 ghost use Rattle.map_warnings.specs.UnknownFlat.{flat_of};
 ghost use Rattle.lens_texts.specs.Owners.{AreOwners};
-ghost use Rattle.lens_texts.specs.WarningMessage.{flat_text, missing_text, named_text, part_text, side_text, tag_text, texture_text};
+ghost use Rattle.lens_texts.specs.WarningMessage.{flat_text, missing_text, part_text, side_text, tag_text, texture_text};
 ghost use Rattle.lens_texts.specs.WarningMessage.{unknown_flat_text, unknown_texture_text, unknown_thing_text};
 ghost use Rattle.lens_texts.specs.WarningMessage.{vertex_place, warning_message, warning_place};
 
 use crate::digits::{prepend_count, prepend_word};
-use crate::label::prepend_name;
+use crate::game_message::prepend_game_message;
+use crate::label::prepend_named;
 use crate::place::{MapPlace, Spot, place_at};
-use le_rec::{Name8, Sector};
+use le_rec::Sector;
 use level_codes::ReportCode;
 use line_io::TextLine;
 use map_level::Level;
-use map_warnings::{Part, Plane, Side, Warning};
+use map_warnings::{Plane, Side, SidePart, Warning};
 
-/// Puts what a warning says before the line.
+/// Puts what a warning says into the line.
 pub fn prepend_warning_message(line: &mut TextLine, level: &Level<'_>, warning: Warning)
-    requires { length line.old ≤ 44 }
+    requires { line.old ≡ [] }
     ensures { line.new ≡ warning_message level.now warning line.old }
 {
     match warning {
@@ -48,6 +49,7 @@ pub fn prepend_warning_message(line: &mut TextLine, level: &Level<'_>, warning: 
         }
         Warning::UnknownFlat { sector, plane } => prepend_unknown_flat(line, level, sector, plane),
         Warning::UnknownThing { thing } => prepend_unknown_thing(line, level, thing),
+        Warning::Game(told) => prepend_game_message(line, level, told),
     }
 }
 
@@ -64,14 +66,14 @@ fn prepend_side(line: &mut TextLine, side: Side)
 }
 
 // A part of a wall that has no texture.
-fn prepend_part(line: &mut TextLine, part: Part)
+fn prepend_part(line: &mut TextLine, part: SidePart)
     requires { length line.old ≤ 55 }
     ensures { line.new ≡ part_text part line.old }
 {
     match part {
-        Part::Middle => line.prepend_bytes(b"no middle texture "),
-        Part::Upper => line.prepend_bytes(b"no upper texture "),
-        Part::Lower => line.prepend_bytes(b"no lower texture "),
+        SidePart::Middle => line.prepend_bytes(b"no middle texture "),
+        SidePart::Upper => line.prepend_bytes(b"no upper texture "),
+        SidePart::Lower => line.prepend_bytes(b"no lower texture "),
     }
 }
 
@@ -87,15 +89,15 @@ fn prepend_tag(line: &mut TextLine, level: &Level<'_>, linedef: u32)
 }
 
 // That a texture isn't there.
-fn prepend_unknown_texture(line: &mut TextLine, level: &Level<'_>, sidedef: u32, part: Part)
+fn prepend_unknown_texture(line: &mut TextLine, level: &Level<'_>, sidedef: u32, part: SidePart)
     requires { length line.old ≤ 44 }
     ensures { line.new ≡ unknown_texture_text level.now sidedef part line.old }
 {
     if let Some(found) = level.sidedefs().get(sidedef as usize) {
         match part {
-            Part::Upper => prepend_missing(line, b"upper texture ", found.top),
-            Part::Lower => prepend_missing(line, b"lower texture ", found.bottom),
-            Part::Middle => prepend_missing(line, b"middle texture ", found.middle),
+            SidePart::Upper => prepend_missing(line, b"upper texture ", found.top),
+            SidePart::Lower => prepend_missing(line, b"lower texture ", found.bottom),
+            SidePart::Middle => prepend_missing(line, b"middle texture ", found.middle),
         }
     }
 }
@@ -129,19 +131,6 @@ fn prepend_missing(line: &mut TextLine, words: &[u8], bytes: [u8; 8])
     line.prepend_bytes(b" isn't there");
     prepend_named(line, bytes);
     line.prepend_bytes(words);
-}
-
-// The name of eight bytes as it is shown, or that it is empty.
-fn prepend_named(line: &mut TextLine, bytes: [u8; 8])
-    requires { length line.old ≤ 56 }
-    ensures text { line.new ≡ named_text bytes line.old }
-    ensures length { length line.new ≤ length line.old + 32 }
-{
-    if bytes[0] == 0 {
-        line.prepend_bytes(b"(empty)");
-    } else {
-        prepend_name(line, Name8::stored(bytes));
-    }
 }
 
 // Says that the game knows no thing of a kind.

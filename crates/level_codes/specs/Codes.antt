@@ -7,13 +7,13 @@ use Rattle.map_level.specs.declared.finding.Code.TheVariants.{F1, F2, F3, F4, F5
 use Rattle.level_codes.specs.declared.code.ReportCode.{ReportCode}
 use Rattle.level_codes.specs.declared.code.ReportCode.TheVariants as code
 use Rattle.level_codes.specs.declared.code.WarningCode.{WarningCode}
-use Rattle.level_codes.specs.declared.code.WarningCode.TheVariants.{W1, W2, W3, W4, W5, W6, W7, W8, W9, W10, W11}
+use Rattle.level_codes.specs.declared.code.WarningCode.TheVariants.{W1, W2, W3, W4, W5, W6, W7, W8, W9, W10, W11, W12, W13, W14, W15, W16, W17, W18, W19, W20, W21, W22, W23, W24, W25}
 use Rattle.level_codes.specs.declared.kind.Class.{Class}
 use Rattle.level_codes.specs.declared.kind.Class.TheVariants as class
 use Rattle.level_codes.specs.declared.kind.Kind.{Kind}
 use Rattle.level_codes.specs.declared.kind.Kind.TheVariants.{Linedef, Sidedef, Vertex, Seg, Ssector, Node, Sector, Thing, Lump, Block, Whole}
 use Rattle.level_codes.specs.declared.kind.Wants.{Wants}
-use Rattle.level_codes.specs.declared.kind.Wants.TheVariants.{Lumps, References, Soundness, Textures, Flats}
+use Rattle.level_codes.specs.declared.kind.Wants.TheVariants.{Lumps, References, Soundness, Textures, Flats, FlatEnds}
 use Rattle.level_codes.specs.declared.table.Row.{Row}
 
 -- a row of the table
@@ -55,8 +55,9 @@ abbrev pub ends : CodeRow → CodeRow
 ends row = record row { ends_game = true }
 
 -- all codes, in the order of a report; the released game ends where a linedef has no front sidedef (P_GroupLines of p_setup.c), where player 1 has no start
--- (P_PlayerThink of p_user.c), at a texture or a flat that isn't there (R_TextureNumForName, R_FlatNumForName of r_data.c), and at a thing of no known type
--- (P_SpawnMapThing of p_mobj.c)
+-- (P_PlayerThink of p_user.c), at a texture or a flat that isn't there (R_TextureNumForName, R_FlatNumForName of r_data.c), at a thing of no known type
+-- (P_SpawnMapThing of p_mobj.c), at the use of some specials (EV_VerticalDoor of p_doors.c, P_AddActivePlat of p_plats.c), on some floors
+-- (P_PlayerInSpecialSector of p_spec.c), and past limits (P_SpawnSpecials of p_spec.c, G_DoSaveGame of g_game.c)
 unfoldable pub code_table : List CodeRow
 code_table =
     fault F1 (codes "F1") Lump (codes "lump missing after the label") (codes "a lump isn't there behind the label")
@@ -100,6 +101,20 @@ code_table =
     ∷ ends (warning W9 (codes "W9") Sidedef Textures (codes "texture not there") (codes "a texture isn't there: neither TEXTURE1 nor TEXTURE2 lists it"))
     ∷ ends (warning W10 (codes "W10") Sector Flats (codes "flat not there") (codes "a flat isn't there: no entry has its name"))
     ∷ ends (warning W11 (codes "W11") Thing References (codes "thing of no known type") (codes "a thing's type is none of the game's"))
+    ∷ warning W12 (codes "W12") Whole Lumps (codes "reserved") (codes "this number is kept for a later version")
+    ∷ warning W13 (codes "W13") Whole Lumps (codes "reserved") (codes "this number is kept for a later version")
+    ∷ warning W14 (codes "W14") Linedef References (codes "unknown special") (codes "a linedef's special is none of the game's")
+    ∷ warning W15 (codes "W15") Linedef References (codes "special with tag 0") (codes "a linedef's special goes by the tag, and the tag is 0")
+    ∷ warning W16 (codes "W16") Linedef References (codes "special that acts on nothing") (codes "a linedef's special can't be crossed, or has no destination")
+    ∷ ends (warning W17 (codes "W17") Linedef References (codes "use ends or spoils the game") (codes "a linedef's use ends or spoils the game"))
+    ∷ ends (warning W18 (codes "W18") Sector References (codes "floor that ends the game") (codes "a player on a sector's floor ends the game"))
+    ∷ warning W19 (codes "W19") Whole References (codes "no exit, or a key missing") (codes "the level has no exit, or a key isn't there")
+    ∷ warning W20 (codes "W20") Whole Lumps (codes "reserved") (codes "this number is kept for a later version")
+    ∷ warning W21 (codes "W21") Thing References (codes "thing unread, unplaced or deadly") (codes "a thing ends the reading of things, is in no skill, or ends the game")
+    ∷ ends (warning W22 (codes "W22") Whole References (codes "limit of the game passed") (codes "the level passes a limit of the game, or a texture lacks a patch"))
+    ∷ warning W23 (codes "W23") Whole Lumps (codes "reserved") (codes "this number is kept for a later version")
+    ∷ warning W24 (codes "W24") Whole Lumps (codes "reserved") (codes "this number is kept for a later version")
+    ∷ warning W25 (codes "W25") Sector FlatEnds (codes "flat not between its ends") (codes "a flat isn't between F_START and F_END")
     ∷ []
 
 -- all codes in their order, those of findings, and those of warnings
@@ -125,6 +140,20 @@ warning_rank W8 = 7
 warning_rank W9 = 8
 warning_rank W10 = 9
 warning_rank W11 = 10
+warning_rank W12 = 11
+warning_rank W13 = 12
+warning_rank W14 = 13
+warning_rank W15 = 14
+warning_rank W16 = 15
+warning_rank W17 = 16
+warning_rank W18 = 17
+warning_rank W19 = 18
+warning_rank W20 = 19
+warning_rank W21 = 20
+warning_rank W22 = 21
+warning_rank W23 = 22
+warning_rank W24 = 23
+warning_rank W25 = 24
 
 -- its rank among all: findings stand before warnings
 abbrev pub code_rank : ReportCode → ℕ

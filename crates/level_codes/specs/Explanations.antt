@@ -191,6 +191,62 @@ explanation_table =
     (codes "A thing's type is none of the game's, and the thing appears in some skill." ∷ [])
     (codes "In such a skill the game ends with an error as it loads the level" ∷ codes "(P_SpawnMapThing)." ∷ [])
     (codes "Change the type, or delete the thing. Ignore W11 if the level is for a port that" ∷ codes "knows the type." ∷ [])
+    ∷ explained
+    (codes "This number is kept for a later version, and no level is looked at for it." ∷ [])
+    (codes "Nothing is told under it." ∷ [])
+    (codes "Nothing has to be done." ∷ [])
+    ∷ explained
+    (codes "This number is kept for a later version, and no level is looked at for it." ∷ [])
+    (codes "Nothing is told under it." ∷ [])
+    (codes "Nothing has to be done." ∷ [])
+    ∷ explained
+    (codes "A linedef's special is none of the game's." ∷ [])
+    (codes "Nothing happens when something crosses, uses or shoots at the linedef" ∷ codes "(P_CrossSpecialLine, P_UseSpecialLine, P_ShootSpecialLine). Other engines have" ∷ codes "specials of their own." ∷ [])
+    (codes "Choose one of the game's specials, or ignore W14 if the level is for a port that" ∷ codes "knows this one." ∷ [])
+    ∷ explained
+    (codes "A linedef's special goes by its tag, and the tag is 0." ∷ [])
+    (codes "The game compares 0 like any other tag (P_FindSectorFromLineTag): the special" ∷ codes "moves every sector without a tag, or changes its light." ∷ [])
+    (codes "Give the linedef a tag, and the sectors that are meant the same one." ∷ [])
+    ∷ explained
+    (codes "A linedef's special acts when something crosses it, and nothing can; or it takes" ∷ codes "to a tag, and no sector with the tag has a destination." ∷ [])
+    (codes "What a linedef stops doesn't cross it (PIT_CheckLine, P_TryMove). A teleporter" ∷ codes "looks for a thing of type 14 in the sectors of its tag (EV_Teleport), and does" ∷ codes "nothing without one." ∷ [])
+    (codes "Give the linedef a back sidedef, or clear the flag that blocks. Place a thing of" ∷ codes "type 14 in the sector." ∷ [])
+    ∷ explained
+    (codes "The use of a linedef's special ends the game, or spoils a sector." ∷ [])
+    (codes "A door in a wall ends it (EV_VerticalDoor), and so does a 31st platform" ∷ codes "(P_AddActivePlat). A donut may read what isn't there (EV_DoDonut). A floor that" ∷ codes "changes may find no neighbour, and gets a special out of memory (EV_DoFloor)." ∷ [])
+    (codes "Put the special on a linedef with two sides, give fewer sectors the tag, or draw" ∷ codes "the sector's linedefs in another order." ∷ [])
+    ∷ explained
+    (codes "A sector's special is none of the game's." ∷ [])
+    (codes "Once a player stands on the sector's floor, the game ends with an error" ∷ codes "(P_PlayerInSpecialSector)." ∷ [])
+    (codes "Choose another special. Ignore W18 where no player gets to." ∷ [])
+    ∷ explained
+    (codes "Nothing ends the level, or a linedef wants a key that isn't there in some skill." ∷ [])
+    (codes "Without an exit the level goes on for ever. What is locked stays shut" ∷ codes "(EV_VerticalDoor, EV_DoLockedDoor); keys don't last from level to level. Things" ∷ codes "for several players aren't there for one." ∷ [])
+    (codes "Place an exit, or the key in each skill. Ignore W19 in a level for deathmatch," ∷ codes "where players have all keys." ∷ [])
+    ∷ explained
+    (codes "This number is kept for a later version, and no level is looked at for it." ∷ [])
+    (codes "Nothing is told under it." ∷ [])
+    (codes "Nothing has to be done." ∷ [])
+    ∷ explained
+    (codes "A thing ends the reading of things, appears in no skill, or ends the game as it" ∷ codes "shoots." ∷ [])
+    (codes "In a level of the first game reading ends at the first thing of the second" ∷ codes "(P_LoadThings). Without a target the shot of a shooter of cubes divides by 0" ∷ codes "(A_BrainSpit), and the game has room for 32 targets." ∷ [])
+    (codes "Delete the thing, or give it a skill. Place a thing of type 87 in each skill of" ∷ codes "the shooter." ∷ [])
+    ∷ explained
+    (codes "The level has more of something than the game has room for, or a texture of its" ∷ codes "files lacks a patch." ∷ [])
+    (codes "The game writes where nothing of its own is (P_SpawnSpecials), ends with an" ∷ codes "error (P_AddActivePlat, G_DoSaveGame), doesn't use what is too much" ∷ codes "(P_SpawnMapThing), or doesn't start (R_InitTextures)." ∷ [])
+    (codes "Take away what is too much, or put it into another level." ∷ [])
+    ∷ explained
+    (codes "This number is kept for a later version, and no level is looked at for it." ∷ [])
+    (codes "Nothing is told under it." ∷ [])
+    (codes "Nothing has to be done." ∷ [])
+    ∷ explained
+    (codes "This number is kept for a later version, and no level is looked at for it." ∷ [])
+    (codes "Nothing is told under it." ∷ [])
+    (codes "Nothing has to be done." ∷ [])
+    ∷ explained
+    (codes "A sector's flat isn't between F_START and F_END, the last of each." ∷ [])
+    (codes "The game gives numbers to the flats between these two (R_InitFlats). The number" ∷ codes "of another one is outside its table, and the game writes there as it loads the" ∷ codes "level (R_PrecacheLevel)." ∷ [])
+    (codes "Put the flats that are needed between one F_START and one F_END." ∷ [])
     ∷ []
 
 -- that of a rank; an empty one where there is none

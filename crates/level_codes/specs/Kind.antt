@@ -4,7 +4,7 @@ use Rattle.level_codes.specs.declared.kind.Class.{Class}
 use Rattle.level_codes.specs.declared.kind.Class.TheVariants.{Fault, Note, Warning}
 use Rattle.level_codes.specs.declared.kind.Offer.{Offer}
 use Rattle.level_codes.specs.declared.kind.Wants.{Wants}
-use Rattle.level_codes.specs.declared.kind.Wants.TheVariants.{Lumps, References, Soundness, Textures, Flats}
+use Rattle.level_codes.specs.declared.kind.Wants.TheVariants.{Lumps, References, Soundness, Textures, Flats, FlatEnds}
 use Rattle.level_codes.specs.declared.kind.Kind.{Kind}
 use Rattle.level_codes.specs.declared.kind.Kind.TheVariants.{Linedef, Sidedef, Vertex, Seg, Ssector, Node, Sector, Thing, Lump, Block, Whole}
 
@@ -35,3 +35,4 @@ are_met offer References = offer.references
 are_met offer Soundness = offer.soundness
 are_met offer Textures = offer.references && offer.textures
 are_met offer Flats = offer.references && offer.flats
+are_met offer FlatEnds = offer.references && offer.flat_ends

@@ -36,13 +36,41 @@ pub enum WarningCode {
     W10,
     /// The game doesn't know a thing's kind.
     W11,
+    /// Kept for a later version.
+    W12,
+    /// Kept for a later version.
+    W13,
+    /// A linedef's special is none of the game's.
+    W14,
+    /// A linedef's special goes by the tag, and the tag is 0.
+    W15,
+    /// A linedef's special can't be crossed, or has no destination.
+    W16,
+    /// A linedef's use ends or spoils the game.
+    W17,
+    /// A player on a sector's floor ends the game.
+    W18,
+    /// The level has no exit, or a key isn't there.
+    W19,
+    /// Kept for a later version.
+    W20,
+    /// A thing ends the reading of things, is in no skill, or ends the game.
+    W21,
+    /// The level passes a limit of the game, or a texture lacks a patch.
+    W22,
+    /// Kept for a later version.
+    W23,
+    /// Kept for a later version.
+    W24,
+    /// A sector's flat isn't between the ends of the flats.
+    W25,
 }
 
 impl WarningCode {
     /// The code's rank among those of warnings, from 0.
     pub fn rank(self) -> usize
         ensures rank { result ≡ warning_rank self }
-        ensures few { result < 11 }
+        ensures few { result < 25 }
     {
         self as usize
     }

@@ -346,6 +346,100 @@ const EXPLANATIONS: [Explanation; REPORT_COUNT] = [
         b"Change the type, or delete the thing. Ignore W11 if the level is for a port that\n\
           knows the type.\n",
     },
+    explained! { W12,
+        b"This number is kept for a later version, and no level is looked at for it.\n",
+        b"Nothing is told under it.\n",
+        b"Nothing has to be done.\n",
+    },
+    explained! { W13,
+        b"This number is kept for a later version, and no level is looked at for it.\n",
+        b"Nothing is told under it.\n",
+        b"Nothing has to be done.\n",
+    },
+    explained! { W14,
+        b"A linedef's special is none of the game's.\n",
+        b"Nothing happens when something crosses, uses or shoots at the linedef\n\
+          (P_CrossSpecialLine, P_UseSpecialLine, P_ShootSpecialLine). Other engines have\n\
+          specials of their own.\n",
+        b"Choose one of the game's specials, or ignore W14 if the level is for a port that\n\
+          knows this one.\n",
+    },
+    explained! { W15,
+        b"A linedef's special goes by its tag, and the tag is 0.\n",
+        b"The game compares 0 like any other tag (P_FindSectorFromLineTag): the special\n\
+          moves every sector without a tag, or changes its light.\n",
+        b"Give the linedef a tag, and the sectors that are meant the same one.\n",
+    },
+    explained! { W16,
+        b"A linedef's special acts when something crosses it, and nothing can; or it takes\n\
+          to a tag, and no sector with the tag has a destination.\n",
+        b"What a linedef stops doesn't cross it (PIT_CheckLine, P_TryMove). A teleporter\n\
+          looks for a thing of type 14 in the sectors of its tag (EV_Teleport), and does\n\
+          nothing without one.\n",
+        b"Give the linedef a back sidedef, or clear the flag that blocks. Place a thing of\n\
+          type 14 in the sector.\n",
+    },
+    explained! { W17,
+        b"The use of a linedef's special ends the game, or spoils a sector.\n",
+        b"A door in a wall ends it (EV_VerticalDoor), and so does a 31st platform\n\
+          (P_AddActivePlat). A donut may read what isn't there (EV_DoDonut). A floor that\n\
+          changes may find no neighbour, and gets a special out of memory (EV_DoFloor).\n",
+        b"Put the special on a linedef with two sides, give fewer sectors the tag, or draw\n\
+          the sector's linedefs in another order.\n",
+    },
+    explained! { W18,
+        b"A sector's special is none of the game's.\n",
+        b"Once a player stands on the sector's floor, the game ends with an error\n\
+          (P_PlayerInSpecialSector).\n",
+        b"Choose another special. Ignore W18 where no player gets to.\n",
+    },
+    explained! { W19,
+        b"Nothing ends the level, or a linedef wants a key that isn't there in some skill.\n",
+        b"Without an exit the level goes on for ever. What is locked stays shut\n\
+          (EV_VerticalDoor, EV_DoLockedDoor); keys don't last from level to level. Things\n\
+          for several players aren't there for one.\n",
+        b"Place an exit, or the key in each skill. Ignore W19 in a level for deathmatch,\n\
+          where players have all keys.\n",
+    },
+    explained! { W20,
+        b"This number is kept for a later version, and no level is looked at for it.\n",
+        b"Nothing is told under it.\n",
+        b"Nothing has to be done.\n",
+    },
+    explained! { W21,
+        b"A thing ends the reading of things, appears in no skill, or ends the game as it\n\
+          shoots.\n",
+        b"In a level of the first game reading ends at the first thing of the second\n\
+          (P_LoadThings). Without a target the shot of a shooter of cubes divides by 0\n\
+          (A_BrainSpit), and the game has room for 32 targets.\n",
+        b"Delete the thing, or give it a skill. Place a thing of type 87 in each skill of\n\
+          the shooter.\n",
+    },
+    explained! { W22,
+        b"The level has more of something than the game has room for, or a texture of its\n\
+          files lacks a patch.\n",
+        b"The game writes where nothing of its own is (P_SpawnSpecials), ends with an\n\
+          error (P_AddActivePlat, G_DoSaveGame), doesn't use what is too much\n\
+          (P_SpawnMapThing), or doesn't start (R_InitTextures).\n",
+        b"Take away what is too much, or put it into another level.\n",
+    },
+    explained! { W23,
+        b"This number is kept for a later version, and no level is looked at for it.\n",
+        b"Nothing is told under it.\n",
+        b"Nothing has to be done.\n",
+    },
+    explained! { W24,
+        b"This number is kept for a later version, and no level is looked at for it.\n",
+        b"Nothing is told under it.\n",
+        b"Nothing has to be done.\n",
+    },
+    explained! { W25,
+        b"A sector's flat isn't between F_START and F_END, the last of each.\n",
+        b"The game gives numbers to the flats between these two (R_InitFlats). The number\n\
+          of another one is outside its table, and the game writes there as it loads the\n\
+          level (R_PrecacheLevel).\n",
+        b"Put the flats that are needed between one F_START and one F_END.\n",
+    },
 ];
 
 // The explanations.

@@ -82,6 +82,8 @@ pub enum Wants {
     Textures,
     /// References that hold, in files that list flats.
     Flats,
+    /// References that hold, in files that have both ends of the flats.
+    FlatEnds,
 }
 
 /// What a level has of all that codes want.
@@ -93,6 +95,8 @@ pub struct Offer {
     pub textures: bool,
     /// Its files list flats.
     pub flats: bool,
+    /// Its files have both ends of the flats.
+    pub flat_ends: bool,
 }
 
 impl Wants {
@@ -106,6 +110,7 @@ impl Wants {
             Wants::Soundness => offer.soundness,
             Wants::Textures => offer.references && offer.textures,
             Wants::Flats => offer.references && offer.flats,
+            Wants::FlatEnds => offer.references && offer.flat_ends,
         }
     }
 }

@@ -8,7 +8,7 @@ use crate::kind::{Class, Kind, Wants};
 use map_level::Code;
 
 /// How many codes there are.
-pub const REPORT_COUNT: usize = 41;
+pub const REPORT_COUNT: usize = 55;
 
 /// A row of the table.
 #[derive(Clone, Copy)]
@@ -127,6 +127,20 @@ const TABLE: [Row; REPORT_COUNT] = [
     ends_game! { warning! { W9, b"W9", Sidedef, Textures, b"texture not there", b"a texture isn't there: neither TEXTURE1 nor TEXTURE2 lists it" } },
     ends_game! { warning! { W10, b"W10", Sector, Flats, b"flat not there", b"a flat isn't there: no entry has its name" } },
     ends_game! { warning! { W11, b"W11", Thing, References, b"thing of no known type", b"a thing's type is none of the game's" } },
+    warning! { W12, b"W12", Whole, Lumps, b"reserved", b"this number is kept for a later version" },
+    warning! { W13, b"W13", Whole, Lumps, b"reserved", b"this number is kept for a later version" },
+    warning! { W14, b"W14", Linedef, References, b"unknown special", b"a linedef's special is none of the game's" },
+    warning! { W15, b"W15", Linedef, References, b"special with tag 0", b"a linedef's special goes by the tag, and the tag is 0" },
+    warning! { W16, b"W16", Linedef, References, b"special that acts on nothing", b"a linedef's special can't be crossed, or has no destination" },
+    ends_game! { warning! { W17, b"W17", Linedef, References, b"use ends or spoils the game", b"a linedef's use ends or spoils the game" } },
+    ends_game! { warning! { W18, b"W18", Sector, References, b"floor that ends the game", b"a player on a sector's floor ends the game" } },
+    warning! { W19, b"W19", Whole, References, b"no exit, or a key missing", b"the level has no exit, or a key isn't there" },
+    warning! { W20, b"W20", Whole, Lumps, b"reserved", b"this number is kept for a later version" },
+    warning! { W21, b"W21", Thing, References, b"thing unread, unplaced or deadly", b"a thing ends the reading of things, is in no skill, or ends the game" },
+    ends_game! { warning! { W22, b"W22", Whole, References, b"limit of the game passed", b"the level passes a limit of the game, or a texture lacks a patch" } },
+    warning! { W23, b"W23", Whole, Lumps, b"reserved", b"this number is kept for a later version" },
+    warning! { W24, b"W24", Whole, Lumps, b"reserved", b"this number is kept for a later version" },
+    warning! { W25, b"W25", Sector, FlatEnds, b"flat not between its ends", b"a flat isn't between F_START and F_END" },
 ];
 
 // The rows.

@@ -24,9 +24,10 @@ use Rattle.map_picture.specs.Sectors.{sector_line}
 use Rattle.map_picture.specs.Things.{things_lines, turn_of}
 use Rattle.map_picture.specs.WarningMarks.{warning_marks}
 use Rattle.map_picture.specs.Window.{window_of}
-use Rattle.map_warnings.specs.declared.warning.Part.TheVariants.{Upper}
+use Rattle.map_warnings.specs.declared.warning.SidePart.TheVariants.{Upper}
 use Rattle.map_warnings.specs.declared.warning.Side.TheVariants.{Back}
-use Rattle.map_warnings.specs.declared.warning.Warning.TheVariants.{Unclosed, Bare, InVoid, Untagged, Twin, UnknownThing}
+use Rattle.game_warnings.specs.declared.warning.GameWarning.TheVariants.{UnknownSpecial, OneSidedDoor, DeadlyFloor, NoExit, InNoSkill}
+use Rattle.map_warnings.specs.declared.warning.Warning.TheVariants.{Unclosed, Bare, InVoid, Untagged, Twin, UnknownThing, Game}
 use Rattle.map_picture.specs.declared.sectors.SectorCells.{SectorCells}
 
 abbrev rows : {R : Type 0} → List R → Rows R
@@ -161,6 +162,15 @@ some_warnings :
     ++ codes "<path class=\"a\" d=\"M-32768 5m-24 0a24 24 0 1 0 48 0a24 24 0 1 0-48 0\"><title>W11 1 thing of no known type</title></path>\n")))
 unfolding digits code_table
 some_warnings = refl
+
+-- linedef 0 for what the game does there, and thing 1; what it does at a sector is left out
+some_game_warnings :
+    warning_marks (walls Signed) (Game (UnknownSpecial 0) ∷ Game (OneSidedDoor 0) ∷ Game (DeadlyFloor 0) ∷ Game (InNoSkill 1) ∷ Game NoExit ∷ [])
+    ≡ codes "<path class=\"a\" d=\"M0 0L0 64\"><title>W14 0 unknown special</title></path>\n"
+    ++ (codes "<path class=\"a\" d=\"M0 0L0 64\"><title>W17 0 use ends or spoils the game</title></path>\n"
+    ++ codes "<path class=\"a\" d=\"M-32768 5m-24 0a24 24 0 1 0 48 0a24 24 0 1 0-48 0\"><title>W21 1 thing unread, unplaced or deadly</title></path>\n")
+unfolding digits code_table
+some_game_warnings = refl
 
 some_things : things_lines (walls Signed)
     ≡ codes "<path class=\"p start\" transform=\"translate(8 8)rotate(0)\" d=\"M20 0L-12 14v-28z\"><title>thing 0: type 1, angle 0, flags 7</title></path>\n"

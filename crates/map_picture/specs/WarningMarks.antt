@@ -4,10 +4,12 @@ use Rattle.std.specs.Fmt.{decimal}
 use Rattle.std.specs.List.{slice_get}
 use Rattle.std.specs.Option.{option_map, option_map_or}
 use Rattle.le_rec.specs.declared.records.Vertex.{Vertex}
+use Rattle.game_warnings.specs.declared.warning.GameWarning.{GameWarning}
+use Rattle.game_warnings.specs.declared.warning.GameWarning.TheVariants as game
 use Rattle.level_codes.specs.Codes.{code_name, text_of}
 use Rattle.level_codes.specs.declared.code.ReportCode.TheVariants as report
 use Rattle.level_codes.specs.declared.code.WarningCode.{WarningCode}
-use Rattle.level_codes.specs.declared.code.WarningCode.TheVariants.{W1, W2, W3, W6, W11}
+use Rattle.level_codes.specs.declared.code.WarningCode.TheVariants.{W1, W2, W3, W6, W11, W14, W15, W16, W17, W21}
 use Rattle.map_cells.specs.Ends.{linedef_ends}
 use Rattle.map_level.specs.Level.{Level}
 use Rattle.map_warnings.specs.Holds.{IsWarning}
@@ -31,6 +33,20 @@ pub record AddsAll (asked : Bool) (level : Level) (code : WarningCode) (old new 
   pub are : AreAllIf asked level code all
   pub is : new ≡ old ++ all
 
+-- what the released game does at linedefs and things was added, of each code that is asked for
+pub record AddsGame (asked : MarkedWarnings) (level : Level) (old new : List Warning) : Type 0 where
+  pub specials : List Warning
+  pub tags : List Warning
+  pub crossings : List Warning
+  pub effects : List Warning
+  pub things : List Warning
+  pub are_specials : AreAllIf asked.unknown_specials level W14 specials
+  pub are_tags : AreAllIf asked.zero_tags level W15 tags
+  pub are_crossings : AreAllIf asked.crossings level W16 crossings
+  pub are_effects : AreAllIf asked.effects level W17 effects
+  pub are_things : AreAllIf asked.odd_things level W21 things
+  pub is : new ≡ old ++ specials ++ tags ++ crossings ++ effects ++ things
+
 -- the warnings that are marked: those of each code that is asked for, one code after another
 pub record AreMarked (asked : MarkedWarnings) (level : Level) (marked : List Warning) : Type 0 where
   pub unclosed : List Warning
@@ -43,7 +59,7 @@ pub record AreMarked (asked : MarkedWarnings) (level : Level) (marked : List War
   pub are_in_void : AreAllIf asked.in_void level W3 in_void
   pub are_twins : AreAllIf asked.twins level W6 twins
   pub are_unknown : AreAllIf asked.unknown_things level W11 unknown
-  pub is : marked ≡ unclosed ++ bare ++ in_void ++ twins ++ unknown
+  pub game : AddsGame asked level (unclosed ++ bare ++ in_void ++ twins ++ unknown) marked
 
 -- none, where warnings aren't asked for
 abbrev pub AreMarkedFor : Option MarkedWarnings → Level → List Warning → Type 0
@@ -61,13 +77,30 @@ thing_ring level i =
 abbrev pub linedef_line : Level → ℕ → Option Shape
 linedef_line level i = option_map (λ ends. Line ends) (linedef_ends level i)
 
--- what is drawn at a warning: at an open corner, a bare side, a thing in the void, a twin, an unknown thing
+-- what is drawn at what the game does: at its linedef or its thing
+abbrev pub game_shape : Level → GameWarning → Option Shape
+game_shape level (game.UnknownSpecial linedef) = linedef_line level linedef
+game_shape level (game.ZeroTag linedef sectors) = linedef_line level linedef
+game_shape level (game.NeverCrossed linedef barrier) = linedef_line level linedef
+game_shape level (game.NoDestination linedef) = linedef_line level linedef
+game_shape level (game.OneSidedDoor linedef) = linedef_line level linedef
+game_shape level (game.ManyPlatforms linedef platforms) = linedef_line level linedef
+game_shape level (game.ManyCeilings linedef ceilings) = linedef_line level linedef
+game_shape level (game.Harmful linedef harm) = linedef_line level linedef
+game_shape level (game.EndsThings thing follow) = thing_ring level thing
+game_shape level (game.InNoSkill thing) = thing_ring level thing
+game_shape level (game.NoTarget thing skills) = thing_ring level thing
+game_shape level (game.ManyTargets thing skills) = thing_ring level thing
+game_shape level _ = None
+
+-- what is drawn at a warning: at an open corner, a bare side, a thing in the void, a twin, an unknown thing, and where the game does something
 abbrev pub warning_shape : Level → Warning → Option Shape
 warning_shape level (warning.Unclosed sector vertex) = vertex_ring level vertex
 warning_shape level (warning.Bare linedef side part) = linedef_line level linedef
 warning_shape level (warning.InVoid thing) = thing_ring level thing
 warning_shape level (warning.Twin linedef earlier) = linedef_line level linedef
 warning_shape level (warning.UnknownThing thing) = thing_ring level thing
+warning_shape level (warning.Game w) = game_shape level w
 warning_shape level _ = None
 
 -- what the table of codes says of a warning: `{code} {number} {text}`, as the audit's line of a finding

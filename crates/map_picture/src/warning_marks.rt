@@ -2,10 +2,11 @@
 
 ghost use Rattle.std.specs.Prelude.{◌≡◌, [], false};
 ghost use Rattle.line_io.specs.Writes.{Writes};
-ghost use Rattle.map_picture.specs.WarningMarks.{linedef_line, thing_ring, vertex_ring, warning_line, warning_marks, warning_part};
+ghost use Rattle.map_picture.specs.WarningMarks.{game_shape, linedef_line, thing_ring, vertex_ring, warning_line, warning_marks, warning_part};
 ghost use Rattle.map_picture.specs.WarningMarks.{warning_shape, warning_title};
 
 use crate::paths::{Shape, write_shape};
+use game_warnings::GameWarning;
 use le_rec::{Sink, Vertex};
 use lens_texts::parts::{TextParts, write_parts};
 use level_codes::ReportCode;
@@ -68,12 +69,42 @@ fn warning_shape(level: &Level<'_>, warning: Warning) -> Option<Shape>
             linedef_line(level, linedef)
         }
         Warning::InVoid { thing } | Warning::UnknownThing { thing } => thing_ring(level, thing),
+        Warning::Game(told) => game_shape(level, told),
         Warning::Untagged { .. }
         | Warning::Mismatched { .. }
         | Warning::NoStart { .. }
         | Warning::FewStarts { .. }
         | Warning::UnknownTexture { .. }
         | Warning::UnknownFlat { .. } => None,
+    }
+}
+
+// What is drawn at what the game does.
+fn game_shape(level: &Level<'_>, told: GameWarning) -> Option<Shape>
+    ensures { result ≡ game_shape level.now told }
+{
+    match told {
+        GameWarning::UnknownSpecial { linedef }
+        | GameWarning::ZeroTag { linedef, .. }
+        | GameWarning::NeverCrossed { linedef, .. }
+        | GameWarning::NoDestination { linedef }
+        | GameWarning::OneSidedDoor { linedef }
+        | GameWarning::ManyPlatforms { linedef, .. }
+        | GameWarning::ManyCeilings { linedef, .. }
+        | GameWarning::Harmful { linedef, .. } => linedef_line(level, linedef),
+        GameWarning::EndsThings { thing, .. }
+        | GameWarning::InNoSkill { thing }
+        | GameWarning::NoTarget { thing, .. }
+        | GameWarning::ManyTargets { thing, .. } => thing_ring(level, thing),
+        GameWarning::DeadlyFloor { .. }
+        | GameWarning::NoExit
+        | GameWarning::Locked { .. }
+        | GameWarning::ManyScrolling { .. }
+        | GameWarning::ManyPerpetual { .. }
+        | GameWarning::ManyStarts { .. }
+        | GameWarning::LongSave { .. }
+        | GameWarning::LacksPatch { .. }
+        | GameWarning::MisplacedFlat { .. } => None,
     }
 }
 

@@ -15,7 +15,7 @@ use Rattle.map_level.specs.Level.{Level}
 use Rattle.map_level.specs.Reading.{linedef_under}
 use Rattle.map_warnings.specs.declared.closing.SideRun.{SideRun}
 use Rattle.map_warnings.specs.declared.warning.Warning.{Warning}
-use Rattle.map_warnings.specs.declared.warning.Warning.TheVariants.{Unclosed}
+use Rattle.map_warnings.specs.declared.warning.Warning.TheVariants.{Unclosed, Game}
 use Rattle.level_codes.specs.declared.code.WarningCode.TheVariants.{W1}
 use Rattle.map_warnings.specs.Closing.{run_of, runs_of, runs_of_linedef, leaving, reaching, IsUnclosed}
 use Rattle.map_warnings.specs.Balance.{AreBalanced, end_in, sector_in}
@@ -25,6 +25,7 @@ use Rattle.map_warnings.specs.RunNumbers.{pair_number, numbers_of, IsShortRun, A
 use Rattle.map_warnings.specs.Warnings.{rank}
 use Rattle.map_warnings.specs.Holds.{HoldsOf}
 use Rattle.map_warnings.specs.Laws.{ClosedIsBalanced}
+use Rattle.map_warnings.proofs.GameLemmas.{game_only}
 
 -- where a test passes from one place to another alone, so many pass
 module _ (p : ℕ → Bool) (xs : List ℕ) (a b : ℕ) (order : a ≤ b) (within : b ≤ length xs)
@@ -231,6 +232,7 @@ module _ (level : Level) (numbers : List ℕ) (are : AreRunNumbers level numbers
       let one : x ≡ s = omega (arith, hv, hy, e) in
       let two : y ≡ v = omega (arith, hv, hy, e) in
       rw (one, two) refl
+  unclosed_alone s v hv (Game w) h e = absurd (game_only None level W1 w refl h)
   unclosed_alone s v hv w h e = absurd (let other = h.0 in cc)
 
   -- a pair of which there is no number is closed
@@ -240,6 +242,7 @@ module _ (level : Level) (numbers : List ℕ) (are : AreRunNumbers level numbers
       let even = count_nowhere numbers (pair_number s v * 2) (λ j below is. none j below (omega (arith, is, e))) in
       let odd = count_nowhere numbers (pair_number s v * 2 + 1) (λ j below is. none j below (omega (arith, is, e))) in
       h.1 (leaving_is s v hv ∙ odd ∙ sym even ∙ sym (reaching_is s v hv))
+  unclosed_there n none (Game w) h e = game_only None level W1 w refl h
   unclosed_there n none w h e = let other = h.0 in cc
 
   -- none holds between the pair before and the one of the k-th number
@@ -384,6 +387,7 @@ balanced_closed level numbers adds balanced (Unclosed s v) h =
     let hv = unclosed_short level short s v h.1 in
     let even = rw adds.is at (balanced (pair_number s v)) in
     h.1 (sym (leave_counted (runs_of level) s v hv short) ∙ sym even ∙ reach_counted (runs_of level) s v hv short)
+balanced_closed level numbers adds balanced (Game w) h = game_only None level W1 w refl h
 balanced_closed level numbers adds balanced w h = let other = h.0 in cc
 
 -- numbers of sides that stand one behind the other

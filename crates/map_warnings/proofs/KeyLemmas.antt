@@ -22,10 +22,11 @@ use Rattle.map_warnings.specs.declared.twins.Ends.{Ends}
 use Rattle.map_warnings.specs.Twin.{ends_of_linedef, AreSamePlaces}
 use Rattle.map_warnings.specs.EndsKey.{AreApart, ends_key, keys_of, keys_of_linedef}
 use Rattle.map_warnings.specs.declared.warning.Warning.{Warning}
-use Rattle.map_warnings.specs.declared.warning.Warning.TheVariants.{Twin}
+use Rattle.map_warnings.specs.declared.warning.Warning.TheVariants.{Twin, Game}
 use Rattle.level_codes.specs.declared.code.WarningCode.TheVariants.{W6}
 use Rattle.map_warnings.specs.Holds.{HoldsOf}
 use Rattle.map_warnings.proofs.TwinLemmas.{key_of_same}
+use Rattle.map_warnings.proofs.GameLemmas.{game_only}
 
 flips : (a b : ℕ) → (a == b) ≡ (b == a)
 flips a b = same_from_decides {P = a ≡ b} (a == b) (b == a) (Decides-eqb a b) (Decides-like (b == a) sym sym (Decides-eqb b a))
@@ -106,6 +107,7 @@ apart_no_twin level apart (Twin i j) h =
     let inside = slice_get_within linedefs i b both.4 in
     not_twice (keys_of_linedef level) linedefs j i both.0 a apart h.1.before inside
     (ap (keys_of_linedef level) at_j ∙ both.5) (ap (keys_of_linedef level) at_i ∙ both.6)
+apart_no_twin level apart (Game w) h = game_only None level W6 w refl h
 apart_no_twin level apart w h = let other = h.0 in cc
 
 -- the numbers of the linedefs below a number

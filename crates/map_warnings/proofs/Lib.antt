@@ -1,6 +1,7 @@
 pub mod ToldLemmas
 pub mod RankLemmas
 pub mod AloneLemmas
+pub mod GameLemmas
 pub mod NumberLemmas
 pub mod ListedLemmas
 pub mod ClosingLemmas

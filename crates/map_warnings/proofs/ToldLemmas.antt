@@ -1,13 +1,15 @@
 -- Facts about what is told, as a search goes on.
-use Rattle.std.proofs.Common.{◌≡◌, ℕ, ◌+◌, ◌<◌, ◌≤◌, inl, inr, List, [], ◌∷◌, ◌++◌, length, get_or, take, refl, sym, ap, subst, arith}
+use Rattle.std.proofs.Common.{◌≡◌, ◌≢◌, ◌↔◌, ℕ, ◌+◌, ◌-◌, ◌^◌, ◌<◌, ◌≤◌, inl, inr, List, [], ◌∷◌, ◌++◌, length, get_or, take, refl, sym, ap, ◌∙◌, subst, arith}
 use Rattle.std.specs.Prelude.{Contains, nat_lt, if◌then◌else◌}
+use Rattle.std.proofs.Math.Nat.{min-eq_right}
 use Rattle.std.proofs.lemmas.Bool.{cases_eq, cases_lt}
 use Rattle.std.proofs.lemmas.Bool.Decides.{nat_tests}
 use Rattle.std.proofs.lemmas.List.{length-append, length-take, take_all, take-append-le}
 use Rattle.std.proofs.lemmas.List.Quantifiers.{all_pairs_push}
 use Rattle.std.proofs.lemmas.List.Elements.{Contains-push, Contains-push_cases, Contains-append_left, Contains-get_or}
 use Rattle.map_warnings.specs.declared.warning.Warning.{Warning}
-use Rattle.map_warnings.specs.Warnings.{rank, Cut, IsCut, Tells, TellsBelow, cut_with}
+use Rattle.map_warnings.specs.declared.warning.Warning.TheVariants.{NoStart}
+use Rattle.map_warnings.specs.Warnings.{AreWarnings, rank, Cut, IsCut, Tells, TellsBelow, cut_with}
 
 -- a cut with one warning more is a cut of the list with one more
 first-more : (all first : List Warning) (most : ℕ) (w : Warning) → first ≡ take most all
@@ -116,3 +118,22 @@ told_given given holds cut here told = record {
   };
   is = told.is;
 }
+
+-- some are told exactly where one holds
+pub told_some : (holds : Warning → Type 0) (cut : Cut) → Tells holds cut → (0 < cut.count) ↔ ((w : Warning) × holds w)
+told_some holds cut told = (
+  (λ some.
+      let within : 0 < length told.all = omega (arith, told.is.count, some) in
+      (get_or told.all 0 (NoStart 0), (told.are.exact (get_or told.all 0 (NoStart 0))).0 (Contains-get_or told.all 0 (NoStart 0) within))),
+  (λ some. let there = (told.are.exact some.0).1 some.1 in omega (arith, told.is.count, there.1)),
+)
+
+-- a report whose count didn't stop has all warnings, if as many as can be counted are kept
+pub told_whole : (holds : Warning → Type 0) (cut : Cut) → Tells holds cut → cut.most ≡ 2 ^ 64 - 1 → cut.count ≢ 2 ^ 64 - 1 → AreWarnings holds cut.first
+told_whole holds cut told most fewer =
+    let within : length told.all ≤ 2 ^ 64 - 1 = elim (cases_lt (2 ^ 64 - 1) (length told.all)) [
+      | inl past ↦ absurd (fewer (told.is.count ∙ min-eq_right (omega (arith, past))))
+      | inr below ↦ below
+    ] in
+    let all = take_all (2 ^ 64 - 1) told.all within in
+    subst (AreWarnings holds) (sym (told.is.first ∙ ap (λ n. take n told.all) most ∙ all)) told.are

@@ -13,10 +13,11 @@ use Rattle.map_warnings.specs.declared.twins.Ends.{Ends}
 use Rattle.map_warnings.specs.Twin.{ends_of, IsOnePlace, AreSamePlaces, HaveSameEnds, IsTwin}
 use Rattle.map_warnings.specs.EndsKey.{place_number, ends_key, IsShort, AreShortEnds, IsFirstOf, AreFirsts}
 use Rattle.map_warnings.specs.declared.warning.Warning.{Warning}
-use Rattle.map_warnings.specs.declared.warning.Warning.TheVariants.{Twin}
+use Rattle.map_warnings.specs.declared.warning.Warning.TheVariants.{Twin, Game}
 use Rattle.level_codes.specs.declared.code.WarningCode.TheVariants.{W6}
 use Rattle.map_warnings.specs.Warnings.{rank}
 use Rattle.map_warnings.specs.Holds.{HoldsOf}
+use Rattle.map_warnings.proofs.GameLemmas.{game_only}
 
 -- a word without its sign
 pub word-below : (z : ℤ) → FitsSigned w16 z → cast_unsigned w16 z < 65536
@@ -100,6 +101,7 @@ module _ (level : Level) (i e : ℕ) (ends : Ends) (at : ends_of level i ≡ Som
         ]
       ] in
       rw (same, is) refl
+  twin_alone (Game w) h same = absurd (game_only None level W6 w refl h)
   twin_alone v h same = absurd (let other = h.0 in cc)
 
 -- an Option that two facts want
@@ -111,6 +113,7 @@ both_some None p P h none = h
 -- none is a twin whose ends aren't there
 pub no_twin : (level : Level) (i : ℕ) → ends_of level i ≡ None → (w : Warning) → HoldsOf level W6 w → rank w ≡ i → ⊥
 no_twin level i none (Twin k j) h same = both_some (ends_of level j) (ends_of level k) AreSamePlaces h.1.same (ap (ends_of level) same ∙ none)
+no_twin level i none (Game w) h same = game_only None level W6 w refl h
 no_twin level i none v h same = let other = h.0 in cc
 
 -- no linedef is the first of its ends yet

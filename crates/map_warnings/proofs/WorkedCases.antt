@@ -30,7 +30,7 @@ use Rattle.map_warnings.specs.Holds.{Holds}
 use Rattle.map_warnings.specs.Listed.{HasEntry, IsFound, IsNameAt, IsTexture, ListsTexture}
 use Rattle.map_warnings.specs.Starts.{HasNone}
 use Rattle.map_warnings.specs.Tag.{IsSectorTag}
-use Rattle.map_warnings.specs.declared.warning.Part.TheVariants.{Middle, Upper, Lower}
+use Rattle.map_warnings.specs.declared.warning.SidePart.TheVariants.{Middle, Upper, Lower}
 use Rattle.map_warnings.specs.declared.warning.Plane.TheVariants.{Ceiling}
 use Rattle.map_warnings.specs.declared.warning.Side.TheVariants.{Front, Back}
 use Rattle.map_warnings.specs.declared.warning.Warning.TheVariants.{Unclosed, Bare, InVoid, Untagged, Mismatched, Twin, NoStart, FewStarts, UnknownTexture, UnknownFlat, UnknownThing}

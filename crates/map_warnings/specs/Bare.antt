@@ -12,8 +12,8 @@ use Rattle.map_level.specs.Reading.{sidedef_under}
 use Rattle.map_warnings.specs.declared.bare.Wall.{Wall}
 use Rattle.map_warnings.specs.declared.warning.Side.{Side}
 use Rattle.map_warnings.specs.declared.warning.Side.TheVariants.{Front, Back}
-use Rattle.map_warnings.specs.declared.warning.Part.{Part}
-use Rattle.map_warnings.specs.declared.warning.Part.TheVariants.{Middle, Upper, Lower}
+use Rattle.map_warnings.specs.declared.warning.SidePart.{SidePart}
+use Rattle.map_warnings.specs.declared.warning.SidePart.TheVariants.{Middle, Upper, Lower}
 
 -- a texture's eight bytes say that there is none: up to the first NUL they are `-` (R_CheckTextureNumForName of r_data.c)
 abbrev pub IsNoTexture : List ℕ → Type 0
@@ -52,7 +52,7 @@ behind Front = Back
 behind Back = Front
 
 -- a part of this sidedef can be seen, with what stands behind it, and has no texture
-abbrev pub IsBarePart : Level → Side → SideDef → Option SideDef → Part → Type 0
+abbrev pub IsBarePart : Level → Side → SideDef → Option SideDef → SidePart → Type 0
 IsBarePart level Front this other Middle = IsNone other × IsNoTexture this.middle
 IsBarePart level Back this other Middle = ⊥
 IsBarePart level side this other Upper =
@@ -61,14 +61,14 @@ IsBarePart level side this other Lower =
     IsNoTexture this.bottom × IsSomeAnd other (λ back. BetweenSectors level ShowsLower this back)
 
 -- a part of this linedef's side can be seen and has no texture
-abbrev pub IsBareOf : Level → LineDef → Side → Part → Type 0
+abbrev pub IsBareOf : Level → LineDef → Side → SidePart → Type 0
 IsBareOf level linedef side part =
     IsSomeAnd (sidedef_at_side level linedef side)
     (λ this. IsBarePart level side this (sidedef_at_side level linedef (behind side)) part)
 
 -- a part of a linedef's side can be seen and has no texture: the middle in front where there is no side behind, the upper where
 -- the ceiling behind is lower, the lower where the floor behind is higher
-abbrev pub IsBare : Level → ℕ → Side → Part → Type 0
+abbrev pub IsBare : Level → ℕ → Side → SidePart → Type 0
 IsBare level i side part =
     IsSomeAnd (slice_get (linedefs_of level) i)
     (λ linedef. IsSomeAnd (sidedef_at_side level linedef side)

@@ -1,3 +1,4 @@
+pub mod Game
 pub mod Warnings
 pub mod References
 pub mod Closing

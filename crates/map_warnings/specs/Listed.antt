@@ -51,3 +51,7 @@ HasEntry files name = (g : ℕ) × (slice_get (names files) g ≡ Some name)
 -- there are flats where an entry is their start
 abbrev pub HasFlats : List Wad → Type 0
 HasFlats files = HasEntry files (codes "F_START")
+
+-- and an end where an entry is that
+abbrev pub HasFlatEnd : List Wad → Type 0
+HasFlatEnd files = HasEntry files (codes "F_END")

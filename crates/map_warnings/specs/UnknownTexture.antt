@@ -7,11 +7,11 @@ use Rattle.map_level.specs.Level.{Level}
 use Rattle.map_level.specs.Links.{sidedefs_of}
 use Rattle.wad_dir.specs.Wad.{Wad}
 use Rattle.map_warnings.specs.Listed.{IsTexture}
-use Rattle.map_warnings.specs.declared.warning.Part.{Part}
-use Rattle.map_warnings.specs.declared.warning.Part.TheVariants.{Middle, Upper, Lower}
+use Rattle.map_warnings.specs.declared.warning.SidePart.{SidePart}
+use Rattle.map_warnings.specs.declared.warning.SidePart.TheVariants.{Middle, Upper, Lower}
 
 -- the eight bytes of a part's texture
-abbrev pub texture_of : Part → SideDef → List ℕ
+abbrev pub texture_of : SidePart → SideDef → List ℕ
 texture_of Upper sidedef = sidedef.top
 texture_of Lower sidedef = sidedef.bottom
 texture_of Middle sidedef = sidedef.middle
@@ -22,6 +22,6 @@ pub record NamesNoTexture (files : List Wad) (bytes : List ℕ) : Type 0 where
   pub none : ¬ IsTexture files (query_of bytes)
 
 -- the texture at a part of sidedef i is none of the set's
-abbrev pub IsUnknownTexture : List Wad → Level → ℕ → Part → Type 0
+abbrev pub IsUnknownTexture : List Wad → Level → ℕ → SidePart → Type 0
 IsUnknownTexture files level i part =
     IsSomeAnd (slice_get (sidedefs_of level) i) (λ sidedef. NamesNoTexture files (texture_of part sidedef))

@@ -8,13 +8,13 @@ ghost use Rattle.map_level.specs.Links.{named, sectors_of};
 ghost use Rattle.map_level.specs.SectorOf.{sidedef_named};
 ghost use Rattle.map_warnings.specs.Bare.{BetweenSectors, HasSector, IsBare, IsBareOf, IsBarePart, IsNoTexture, IsSky, ShowsLower, ShowsUpper};
 ghost use Rattle.map_warnings.specs.Warnings.{part_number, side_number, Tells, TellsBelow};
-ghost use Rattle.map_warnings.specs.declared.warning.Part.TheVariants as part;
+ghost use Rattle.map_warnings.specs.declared.warning.SidePart.TheVariants as part;
 ghost use Rattle.map_warnings.specs.declared.warning.Side.TheVariants as side;
 ghost use Rattle.map_warnings.specs.Holds.{HoldsOf};
 
 use crate::records::sidedef;
 use crate::told::{Told, tell_where};
-use crate::warning::{Part, Side, Warning};
+use crate::warning::{Side, SidePart, Warning};
 use le_rec::{LineDef, Name8, Sector, SideDef};
 use level_codes::WarningCode;
 use map_level::links::{linedef_at, named};
@@ -69,9 +69,9 @@ fn tell_side<A: Allocator>(
         (TellsBelow (HoldsOf level.now WarningCode.W2) (i * 6 + side_number side * 3 + 3) told.new) }
     ensures most { OnOk result (told.new.most ≡ told.old.most) }
 {
-    tell_part(told, level, i, side, Part::Middle, bare.middle)?;
-    tell_part(told, level, i, side, Part::Upper, bare.upper)?;
-    tell_part(told, level, i, side, Part::Lower, bare.lower)
+    tell_part(told, level, i, side, SidePart::Middle, bare.middle)?;
+    tell_part(told, level, i, side, SidePart::Upper, bare.upper)?;
+    tell_part(told, level, i, side, SidePart::Lower, bare.lower)
 }
 
 // Adds a part of a linedef's side, if it is bare.
@@ -80,7 +80,7 @@ fn tell_part<A: Allocator>(
     level: &Level<'_>,
     i: u32,
     side: Side,
-    part: Part,
+    part: SidePart,
     is_bare: bool,
 ) -> Result<(), AllocError>
     requires below { TellsBelow (HoldsOf level.now WarningCode.W2)
@@ -199,9 +199,9 @@ fn bare_parts(level: &Level<'_>, side: Side, this: &Option<Wall>, other: &Option
         return NO_PARTS;
     };
     BareParts {
-        middle: is_bare_part(level, side, this, other, Part::Middle),
-        upper: is_bare_part(level, side, this, other, Part::Upper),
-        lower: is_bare_part(level, side, this, other, Part::Lower),
+        middle: is_bare_part(level, side, this, other, SidePart::Middle),
+        upper: is_bare_part(level, side, this, other, SidePart::Upper),
+        lower: is_bare_part(level, side, this, other, SidePart::Lower),
     }
 }
 
@@ -212,7 +212,7 @@ fn is_bare_part(
     side: Side,
     wall: &Wall,
     other: &Option<Wall>,
-    part: Part,
+    part: SidePart,
 ) -> bool
     requires wall { HasSector level.now wall.now }
     requires other { IfSome other.now (HasSector level.now) }
@@ -221,9 +221,9 @@ fn is_bare_part(
 {
     let this = &wall.sidedef;
     match part {
-        Part::Middle => side == Side::Front && other.is_none() && is_no_texture(this.middle),
-        Part::Upper => is_no_texture(this.top) && is_upper_shown(level, wall, other),
-        Part::Lower => is_no_texture(this.bottom) && is_lower_shown(level, wall, other),
+        SidePart::Middle => side == Side::Front && other.is_none() && is_no_texture(this.middle),
+        SidePart::Upper => is_no_texture(this.top) && is_upper_shown(level, wall, other),
+        SidePart::Lower => is_no_texture(this.bottom) && is_lower_shown(level, wall, other),
     }
 }
 

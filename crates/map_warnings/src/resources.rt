@@ -5,29 +5,32 @@ ghost use Rattle.std.specs.Prelude.{List, ℕ, codes};
 ghost use Rattle.std.specs.List.{slice_get};
 ghost use Rattle.le_rec.specs.Name.{query_of};
 ghost use Rattle.wad_dir.specs.Entries.{names};
-ghost use Rattle.map_warnings.specs.Listed.{HasEntry, HasFlats, HasTextures, IsFound, IsListedUnder, IsTexture};
+ghost use Rattle.map_warnings.specs.Listed.{HasEntry, HasFlatEnd, HasFlats, HasTextures, IsFound, IsListedUnder, IsTexture};
 ghost use Rattle.map_warnings.specs.NameNumber.{AddsNames, AreKnown, AreNumbers};
 
 use crate::listed::push_textures;
 use crate::names::{Names, push_name};
+use game_warnings::Graphics;
 use le_rec::Name8;
 use std::alloc::{AllocError, Allocator, Global};
 use std::marker::Model;
 use wad_dir::Set;
 
 /// The textures and the flats of a set of files. It borrows the set, and takes eight bytes for each listed texture and for
-/// each entry.
+/// each entry. Besides, it takes what `Graphics` of `game_warnings` says.
 #[derive(Drop)]
 pub struct Resources<'s, 'a, A: Allocator = Global> {
     set: &'s Set<'a, A>,
     textures: Option<Names<A>>,
     flats: Option<Names<A>>,
+    has_flat_end: bool,
+    graphics: Graphics<'s, 'a, A>,
 }
 
 impl<'s, 'a, A: Allocator> Model for Resources<'s, 'a, A> {
-    ghost use Rattle.std.specs.Prelude.{List};
+    ghost use Rattle.std.specs.Prelude.{◌≡◌, ◌↔◌, IsTrue, List};
     ghost use Rattle.wad_dir.specs.Wad.{Wad};
-    ghost use Rattle.map_warnings.specs.Listed.{HasEntry, HasFlats, HasTextures, IsTexture};
+    ghost use Rattle.map_warnings.specs.Listed.{HasEntry, HasFlatEnd, HasFlats, HasTextures, IsTexture};
     ghost use Rattle.map_warnings.specs.NameNumber.{AreKnown};
 
     ghost Value = { List Wad };
@@ -35,7 +38,8 @@ impl<'s, 'a, A: Allocator> Model for Resources<'s, 'a, A> {
     ghost view = { λ r. r.set.now };
 
     ghost invariant = { λ r. AreKnown (HasTextures r.set.now) (IsTexture r.set.now) r.textures
-        × AreKnown (HasFlats r.set.now) (HasEntry r.set.now) r.flats };
+        × AreKnown (HasFlats r.set.now) (HasEntry r.set.now) r.flats
+        × (IsTrue r.has_flat_end ↔ HasFlatEnd r.set.now) × (r.graphics ≡ r.set.now) };
 }
 
 impl<'s, 'a, A: Allocator + Copy> Resources<'s, 'a, A> {
@@ -47,17 +51,21 @@ impl<'s, 'a, A: Allocator + Copy> Resources<'s, 'a, A> {
     {
         let textures = textures_of(alloc, set)?;
         let flats = flats_of(alloc, set)?;
+        let graphics = Graphics::of(alloc, set)?;
         Ok(Resources {
             set,
             textures,
             flats,
+            has_flat_end: has_flat_end(set),
+            graphics,
         })
     }
 }
 
 impl<'s, 'a, A: Allocator> Resources<'s, 'a, A> {
-    ghost use Rattle.std.specs.Prelude.{◌↔◌, IsTrue};
-    ghost use Rattle.map_warnings.specs.Listed.{HasEntry, HasFlats, HasTextures, IsTexture};
+    ghost use Rattle.std.specs.Prelude.{◌≡◌, ◌↔◌, IsTrue};
+    ghost use Rattle.game_warnings.specs.Misplaced.{HasFlatEnds};
+    ghost use Rattle.map_warnings.specs.Listed.{HasEntry, HasFlatEnd, HasFlats, HasTextures, IsTexture};
 
     /// Whether the textures are known: where the lump of TEXTURE1 is found.
     pub fn has_textures(&self) -> bool
@@ -71,6 +79,27 @@ impl<'s, 'a, A: Allocator> Resources<'s, 'a, A> {
         ensures { IsTrue result ↔ HasFlats self.now }
     {
         self.flats.is_some()
+    }
+
+    /// Whether there is an entry F_END.
+    pub fn has_flat_end(&self) -> bool
+        ensures { IsTrue result ↔ HasFlatEnd self.now }
+    {
+        self.has_flat_end
+    }
+
+    /// Whether both ends of the flats are there: F_START and F_END.
+    pub fn has_flat_ends(&self) -> bool
+        ensures { IsTrue result ↔ HasFlatEnds self.now }
+    {
+        self.graphics.has_flat_ends()
+    }
+
+    // What the game finds of the flats and textures.
+    pub(crate) fn graphics(&self) -> &Graphics<'s, 'a, A>
+        ensures { result.now ≡ self.now }
+    {
+        &self.graphics
     }
 
     /// Whether a texture has a name, in capital letters.
@@ -155,6 +184,13 @@ fn found<'a, A: Allocator>(set: &Set<'a, A>, name: &[u8]) -> Option<&'a [u8]>
         Ok(lump) => Some(lump),
         Err(_) => None,
     }
+}
+
+// Whether there is an entry F_END.
+fn has_flat_end<A: Allocator>(set: &Set<'_, A>) -> bool
+    ensures { IsTrue result ↔ HasFlatEnd set.now }
+{
+    set.find(Name8::query(b"F_END")).is_some()
 }
 
 // The names of all entries of a set, where one of them is F_START.

@@ -1,11 +1,13 @@
 //! The report on warnings: the first of them, and how many there are.
 
-ghost use Rattle.std.specs.Prelude.{◌≡◌, ◌+◌, ◌↔◌, ◌<◌, [], Some, IfNone, IfOk, IfSome, IsTrue, OnOk};
-ghost use Rattle.map_warnings.specs.Warnings.{Cut, cut_with, rank, Tells, TellsBelow};
+ghost use Rattle.std.specs.Prelude.{◌≡◌, ◌+◌, ◌↔◌, ◌<◌, [], Some, map, IfNone, IfOk, IfSome, IsTrue, OnOk};
+ghost use Rattle.map_warnings.specs.Warnings.{Cut, cut_with, rank, Tells, TellsBelow, warnings_of};
 ghost use Rattle.map_warnings.specs.Holds.{HoldsIn, HoldsOf};
+ghost use Rattle.map_warnings.specs.declared.warning.Warning.TheVariants.{Game};
 
 use crate::resources::Resources;
 use crate::warning::Warning;
+use game_warnings::GameWarning;
 use level_codes::WarningCode;
 use map_level::Level;
 use std::alloc::{AllocError, Allocator, Global};
@@ -132,4 +134,32 @@ pub fn tell_one<A: Allocator>(
     };
     told.add(warning)?;
     Ok(told)
+}
+
+/// The report on what the game does, of which at most so many are kept, as one of warnings.
+pub fn tell_game<A: Allocator + Copy>(
+    alloc: A,
+    most: usize,
+    told: &game_warnings::Told<A>,
+) -> Result<Told<A>, AllocError>
+    requires { told.now.most ≡ most }
+    ensures { IfOk result (λ all. all ≡ warnings_of told.now) }
+{
+    let first = as_warnings(alloc, told.first())?;
+    Ok(Told {
+        most,
+        first,
+        count: told.count(),
+    })
+}
+
+// Each warning of the game as one of the report.
+fn as_warnings<A: Allocator>(alloc: A, game: &[GameWarning]) -> Result<Vec<Warning, A>, AllocError>
+    ensures { IfOk result (λ all. all.items ≡ map (λ w. Game w) game.now) }
+{
+    let mut all = Vec::with_capacity(alloc, game.len())?;
+    for i in 0..game.len() {
+        all.push(Warning::Game(game[i]))?;
+    }
+    Ok(all)
 }

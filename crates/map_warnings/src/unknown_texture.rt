@@ -10,7 +10,7 @@ ghost use Rattle.map_warnings.specs.Warnings.{texture_number, Tells, TellsBelow}
 
 use crate::resources::Resources;
 use crate::told::{Told, tell_among};
-use crate::warning::{Part, Warning};
+use crate::warning::{SidePart, Warning};
 use le_rec::{Name8, SideDef};
 use level_codes::WarningCode;
 use map_level::Level;
@@ -48,9 +48,9 @@ fn tell_sidedef<A: Allocator>(
         (TellsBelow (HoldsIn (Some resources.now) level.now WarningCode.W9) (i * 3 + 3) told.new) }
     ensures most { OnOk result (told.new.most ≡ told.old.most) }
 {
-    tell_part(told, level, resources, i, Part::Upper)?;
-    tell_part(told, level, resources, i, Part::Lower)?;
-    tell_part(told, level, resources, i, Part::Middle)
+    tell_part(told, level, resources, i, SidePart::Upper)?;
+    tell_part(told, level, resources, i, SidePart::Lower)?;
+    tell_part(told, level, resources, i, SidePart::Middle)
 }
 
 // Adds the texture at a part of a sidedef, if it is unknown.
@@ -59,7 +59,7 @@ fn tell_part<A: Allocator>(
     level: &Level<'_>,
     resources: &Resources<'_, '_, A>,
     i: u32,
-    part: Part,
+    part: SidePart,
 ) -> Result<(), AllocError>
     requires textures { HasTextures resources.now }
     requires below { TellsBelow (HoldsIn (Some resources.now) level.now WarningCode.W9)
@@ -78,7 +78,7 @@ fn is_unknown_texture<A: Allocator>(
     level: &Level<'_>,
     resources: &Resources<'_, '_, A>,
     i: u32,
-    part: Part,
+    part: SidePart,
 ) -> bool
     requires { HasTextures resources.now }
     ensures { IsTrue result ↔ IsUnknownTexture resources.now level.now i part }
@@ -90,13 +90,13 @@ fn is_unknown_texture<A: Allocator>(
 }
 
 // The eight bytes of a part's texture.
-fn texture_of(part: Part, sidedef: &SideDef) -> [u8; 8]
+fn texture_of(part: SidePart, sidedef: &SideDef) -> [u8; 8]
     ensures { result ≡ texture_of part sidedef.now }
 {
     match part {
-        Part::Upper => sidedef.top,
-        Part::Lower => sidedef.bottom,
-        Part::Middle => sidedef.middle,
+        SidePart::Upper => sidedef.top,
+        SidePart::Lower => sidedef.bottom,
+        SidePart::Middle => sidedef.middle,
     }
 }
 

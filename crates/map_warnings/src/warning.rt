@@ -1,9 +1,11 @@
 //! Warnings of a level: what each says, and its code.
 
 ghost use Rattle.std.specs.Prelude.{◌≡◌};
-ghost use Rattle.map_warnings.specs.Warnings.{code_of, number_of};
+ghost use Rattle.map_warnings.specs.Game.{report_code};
+ghost use Rattle.map_warnings.specs.Warnings.{code_of, ends_at, ends_game, number_of};
 
-use level_codes::WarningCode;
+use game_warnings::{GameCode, GameWarning};
+use level_codes::{ReportCode, WarningCode};
 
 /// A side of a linedef.
 #[derive(Clone, Copy, Debug, PartialEq, Eq)]
@@ -14,7 +16,7 @@ pub enum Side {
 
 /// A part of a linedef's side.
 #[derive(Clone, Copy, Debug, PartialEq, Eq)]
-pub enum Part {
+pub enum SidePart {
     Middle,
     Upper,
     Lower,
@@ -40,7 +42,7 @@ pub enum Warning {
     Bare {
         linedef: u32,
         side: Side,
-        part: Part,
+        part: SidePart,
     },
     /// W3: no sector is shown where a thing is.
     InVoid {
@@ -73,7 +75,7 @@ pub enum Warning {
     /// W9: no lump of the set lists the texture at a part of a sidedef.
     UnknownTexture {
         sidedef: u32,
-        part: Part,
+        part: SidePart,
     },
     /// W10: no entry of the set has the name of a sector's flat.
     UnknownFlat {
@@ -84,6 +86,8 @@ pub enum Warning {
     UnknownThing {
         thing: u32,
     },
+    /// W14 to W25: what the released game does with the level.
+    Game(GameWarning),
 }
 
 impl Warning {
@@ -103,6 +107,7 @@ impl Warning {
             Warning::UnknownTexture { .. } => WarningCode::W9,
             Warning::UnknownFlat { .. } => WarningCode::W10,
             Warning::UnknownThing { .. } => WarningCode::W11,
+            Warning::Game(told) => report_code(told.code()),
         }
     }
 
@@ -119,6 +124,45 @@ impl Warning {
             Warning::Mismatched { ssector, .. } => ssector,
             Warning::UnknownTexture { sidedef, .. } => sidedef,
             Warning::NoStart { .. } | Warning::FewStarts { .. } => 0,
+            Warning::Game(told) => told.number(),
         }
+    }
+
+    /// Whether the released game ends at it, or writes where nothing of its own is: as its code says, but for deathmatch starts
+    /// that are too many. The game never uses those.
+    pub fn ends_game(self) -> bool
+        ensures { result ≡ ends_game self }
+    {
+        match self {
+            Warning::Game(told) => ends_at(told),
+            _ => ReportCode::Warning(self.code()).ends_game(),
+        }
+    }
+}
+
+// Whether it ends at what it does.
+fn ends_at(told: GameWarning) -> bool
+    ensures { result ≡ ends_at told }
+{
+    match told {
+        GameWarning::ManyStarts { .. } => false,
+        _ => ReportCode::Warning(report_code(told.code())).ends_game(),
+    }
+}
+
+/// The report's code of what the game does.
+pub fn report_code(code: GameCode) -> WarningCode
+    ensures { result ≡ report_code code }
+{
+    match code {
+        GameCode::W14 => WarningCode::W14,
+        GameCode::W15 => WarningCode::W15,
+        GameCode::W16 => WarningCode::W16,
+        GameCode::W17 => WarningCode::W17,
+        GameCode::W18 => WarningCode::W18,
+        GameCode::W19 => WarningCode::W19,
+        GameCode::W21 => WarningCode::W21,
+        GameCode::W22 => WarningCode::W22,
+        GameCode::W25 => WarningCode::W25,
     }
 }

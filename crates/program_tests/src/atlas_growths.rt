@@ -26,12 +26,15 @@ fn judging<'b>(base: &'b Base<'b>, warnings: Warnings) -> Judging<'b> {
         warnings,
         ignored: CodeSet::none(),
         failing: CodeSet::none(),
+        game_ends: false,
     };
     rules.over(base)
 }
 
-// The sample level has one start, and its two sectors are open at both ends of its linedef.
-const WARNED: [u64; 11] = [4, 0, 0, 0, 0, 0, 1, 1, 0, 0, 0];
+// The sample level has one start and no exit, and its two sectors are open at both ends of its linedef.
+const WARNED: [u64; 25] = [
+    4, 0, 0, 0, 0, 0, 1, 1, 0, 0, 0, 0, 0, 0, 0, 0, 0, 0, 1, 0, 0, 0, 0, 0, 0,
+];
 
 const TABLES: Tables = Tables {
     things: 1,
@@ -82,11 +85,11 @@ fn add_rows<'h, 'b>(
 fn check_judged(rt: &impl Abort, judged: &LevelCounts) {
     check_same(rt, judged.tables, TABLES);
     check_same(rt, (judged.counts.faults(), judged.counts.notes()), (0, 0));
-    for k in 0..11 {
+    for k in 0..25 {
         let code = ReportCode::at(CODE_COUNT + k);
         check_same(rt, judged.counts.get(code), WARNED[k]);
     }
-    check_same(rt, judged.counts.warnings(), 6);
+    check_same(rt, judged.counts.warnings(), 7);
     assert!(rt; judged.drawn);
 }
 

@@ -51,6 +51,7 @@ fn signed<'b>(base: &'b Base<'b>, warnings: Warnings) -> Judging<'b> {
         warnings,
         ignored: CodeSet::none(),
         failing: CodeSet::none(),
+        game_ends: false,
     };
     rules.over(base)
 }
@@ -140,20 +141,26 @@ fn totals_of_a_run(rt: HostRuntime) {
 const NEITHER: Unlisted = Unlisted {
     textures: true,
     flats: true,
+    flat_start: true,
+    flat_end: true,
 };
 
-// So W9 and W10 aren't looked for.
+// So W9, W10 and W25 aren't looked for.
 fn neither() -> CodeSet {
     CodeSet::between(
         ReportCode::Warning(WarningCode::W9),
         ReportCode::Warning(WarningCode::W10),
     )
+    .with(CodeSet::between(
+        ReportCode::Warning(WarningCode::W25),
+        ReportCode::Warning(WarningCode::W25),
+    ))
 }
 
 // The totals of the sample where it is warned of.
 fn warned() -> Totals {
     Totals {
-        warnings: 6,
+        warnings: 7,
         partly: 1,
         unlooked: neither(),
         unlisted: NEITHER,
@@ -165,7 +172,7 @@ fn warned() -> Totals {
 fn totals_with_warnings(rt: HostRuntime) {
     let all = warned().with(warned()).with(totals(1, 2, 1, 0, 1));
     let text =
-        b"3 levels in 2 files: 2 faults, 1 notes, 12 warnings, 1 not judged, 2 with warnings not looked for\n";
+        b"3 levels in 2 files: 2 faults, 1 notes, 14 warnings, 1 not judged, 2 with warnings not looked for\n";
     check_totals(&rt, Warnings::Told, &all, text);
 }
 
@@ -223,7 +230,8 @@ fn check_spared(
 }
 
 const NO_STARTS: &[u8] = b"a.wad: E1M1: W7 level: no player 2 start\n\
-a.wad: E1M1: W8 level: 0 deathmatch starts\n";
+a.wad: E1M1: W8 level: 0 deathmatch starts\n\
+a.wad: E1M1: W19 level: no exit\n";
 
 // So many warnings of a level that has no finding.
 fn alone(warnings: u64) -> Totals {
@@ -240,7 +248,7 @@ fn alone(warnings: u64) -> Totals {
 #[test]
 fn lists_refused(rt: HostRuntime) {
     let file = base_with_lines(&rt, &round(&rt, 200), 200);
-    check_spared(&rt, &file, NO_STARTS, alone(2), 5);
+    check_spared(&rt, &file, NO_STARTS, alone(3), 5);
 }
 
 const OPEN: &[u8] = b"a.wad: E1M1: W1 sector 0: isn't closed, at (0, 0)\n\
@@ -250,12 +258,13 @@ a.wad: E1M1: W1: 1 more\n\
 a.wad: E1M1: W6 linedef 202: lies on linedef 200, from (13, 0) to (5, 0)\n\
 a.wad: E1M1: W6 linedef 203: lies on linedef 200, from (5, 0) to (13, 0)\n\
 a.wad: E1M1: W7 level: no player 2 start\n\
-a.wad: E1M1: W8 level: 0 deathmatch starts\n";
+a.wad: E1M1: W8 level: 0 deathmatch starts\n\
+a.wad: E1M1: W19 level: no exit\n";
 
 // The sector is open by two linedefs whose squares add up to the same, and two lie on an earlier one.
 #[test]
 fn lists_refused_in_vain(rt: HostRuntime) {
     let others = [(5, 13), (12, 0), (13, 5), (5, 13)];
     let file = base_with_lines(&rt, &round_and(&rt, 200, &others), 200);
-    check_spared(&rt, &file, OPEN, alone(8), 5);
+    check_spared(&rt, &file, OPEN, alone(9), 5);
 }

@@ -26,6 +26,7 @@ fn looked_over<'l, 'a, A: Allocator + Copy>(
         warnings,
         ignored: CodeSet::none(),
         failing: CodeSet::none(),
+        game_ends: false,
     };
     let base = Base::none();
     Judged::of(alloc, level, &None, 1, rules.over(&base))
@@ -41,14 +42,14 @@ fn counted(rt: &(impl Abort + AllocGlobal), level: &Level<'_>, n: u64) -> Option
 }
 
 // How many warnings of each code are told, in order, and the total.
-fn told<A: Allocator>(rt: &impl Abort, judged: &Judged<'_, '_, A>) -> ([usize; 11], u64) {
+fn told<A: Allocator>(rt: &impl Abort, judged: &Judged<'_, '_, A>) -> ([usize; 25], u64) {
     let all = judged.warned();
-    let mut counts = [0; 11];
+    let mut counts = [0; 25];
     for (count, warned) in counts.iter_mut().zip(all) {
         *count = warned.count();
     }
     if let Some(first) = all.first() {
-        check_same(rt, (first.code(), all.len()), (WarningCode::W1, 11));
+        check_same(rt, (first.code(), all.len()), (WarningCode::W1, 25));
     }
     (counts, judged.counts().warnings())
 }
@@ -59,17 +60,22 @@ fn asked_for(
     level: &Level<'_>,
     warnings: Warnings,
     n: u64,
-) -> Option<([usize; 11], u64)> {
+) -> Option<([usize; 25], u64)> {
     let heap = Refusing::new(rt.alloc(), n);
     let judged = looked_over(&heap, level, warnings);
     check_same(rt, judged.is_err(), heap.has_refused());
     Some(told(rt, &judged.ok()?))
 }
 
-// The sample level has one start, and its two sectors are open at both ends of its linedef.
-const WARNED: ([usize; 11], u64) = ([4, 0, 0, 0, 0, 0, 1, 1, 0, 0, 0], 6);
+// The sample level has one start and no exit, and its two sectors are open at both ends of its linedef.
+const WARNED: ([usize; 25], u64) = (
+    [
+        4, 0, 0, 0, 0, 0, 1, 1, 0, 0, 0, 0, 0, 0, 0, 0, 0, 0, 1, 0, 0, 0, 0, 0, 0,
+    ],
+    7,
+);
 
-const NOT_WARNED: ([usize; 11], u64) = ([0; 11], 0);
+const NOT_WARNED: ([usize; 25], u64) = ([0; 25], 0);
 
 fn check_counts(rt: &(impl Abort + AllocGlobal), level: &Level<'_>) {
     let mut met = 0;
@@ -95,7 +101,7 @@ fn all_told(
     rt: &(impl Abort + AllocGlobal),
     level: &Level<'_>,
     warnings: Warnings,
-) -> (u64, ([usize; 11], u64)) {
+) -> (u64, ([usize; 25], u64)) {
     let mut growth = 1;
     for n in 1..99 {
         growth = n;

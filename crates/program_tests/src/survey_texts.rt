@@ -17,6 +17,7 @@ fn signed() -> Rules {
         warnings: Warnings::Unasked,
         ignored: CodeSet::none(),
         failing: CodeSet::none(),
+        game_ends: false,
     }
 }
 

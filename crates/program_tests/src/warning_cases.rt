@@ -6,10 +6,11 @@ use crate::growth_end::GrowthEnd;
 use crate::line_levels::{Ends, base_with_lines, round, round_and};
 use crate::opening::level_of;
 use crate::sample::{base, base_with, lumps, pack, pack_both};
+use game_warnings::GameWarning;
 use le_rec::Name8;
 use level_codes::WarningCode;
 use map_level::{Level, Reading};
-use map_warnings::{Checks, Part, Plane, Resources, Warning};
+use map_warnings::{Checks, Plane, Resources, SidePart, Warning};
 use std::alloc::Allocator;
 use std::process::Abort;
 use test_refusals::Refusing;
@@ -183,6 +184,20 @@ fn sample(rt: HostRuntime) {
     check_file(&rt, &file, WarningCode::W7, (1, Some(no_start)), 0);
     check_file(&rt, &file, WarningCode::W8, (1, Some(few_starts)), 0);
     check_file(&rt, &file, WarningCode::W11, NOTHING, 0);
+    check_game(&rt, &file);
+}
+
+// What the released game does with it.
+fn check_game(rt: &(impl Abort + AllocGlobal), file: &[u8]) {
+    let no_exit = Warning::Game(GameWarning::NoExit);
+    check_file(rt, file, WarningCode::W14, NOTHING, 0);
+    check_file(rt, file, WarningCode::W15, NOTHING, 0);
+    check_file(rt, file, WarningCode::W16, NOTHING, 0);
+    check_file(rt, file, WarningCode::W17, NOTHING, 0);
+    check_file(rt, file, WarningCode::W18, NOTHING, 0);
+    check_file(rt, file, WarningCode::W19, (1, Some(no_exit)), 0);
+    check_file(rt, file, WarningCode::W21, NOTHING, 0);
+    check_file(rt, file, WarningCode::W22, NOTHING, 0);
 }
 
 // A thing that the game has no kind for.
@@ -247,7 +262,7 @@ fn resources(rt: HostRuntime) {
     let file = pack_both(&rt, &level, &[(b"TEXTURE1", &STONE), (b"F_START", &[])]);
     let texture = Warning::UnknownTexture {
         sidedef: 0,
-        part: Part::Upper,
+        part: SidePart::Upper,
     };
     let flat = Warning::UnknownFlat {
         sector: 0,
@@ -273,7 +288,7 @@ fn has_room<A: Allocator + Copy>(alloc: A, file: &[u8]) -> bool {
     }
 }
 
-// Whether what a file lists asks for growth `n`. Growth 1 is its directory's.
+// Whether what a file lists asks for growth `n`. Growth 1 is its directory's, and the last that of the names of its entries.
 fn asks_for(rt: &(impl Abort + AllocGlobal), file: &[u8], n: u64) -> bool {
     let heap = Refusing::new(rt.alloc(), n);
     assert!(rt; has_room(&heap, file) != heap.has_refused());
@@ -287,11 +302,11 @@ fn textures_are_listed_once(rt: HostRuntime) {
         &rt,
         &[(b"TEXTURE1", &TWICE_STONE), (b"TEXTURE2", &TWICE_STONE)],
     );
-    assert!(rt; asks_for(&rt, &both, 2));
-    assert!(rt; !asks_for(&rt, &both, 3));
+    assert!(rt; asks_for(&rt, &both, 3));
+    assert!(rt; !asks_for(&rt, &both, 4));
     let first = pack(&rt, &[(b"TEXTURE1", &TWICE_STONE)]);
-    assert!(rt; asks_for(&rt, &first, 2));
-    assert!(rt; !asks_for(&rt, &first, 3));
+    assert!(rt; asks_for(&rt, &first, 3));
+    assert!(rt; !asks_for(&rt, &first, 4));
 }
 
 // Whether a level could be looked over with growth `n` refused. Then its soundness is right.

@@ -85,6 +85,7 @@ pub record Asks (question : LensQuestion) (asked : LensRequest) : Type 0 where
   pub reads : asked.rules.reading ≡ reading_of question.wide
   pub all : asked.rules.ignored ≡ no_codes
   pub fails : asked.rules.failing ≡ failing_of question.warnings
+  pub goes_on : asked.rules.game_ends ≡ false
 
 -- whether it can be asked of `count` files, of which the first `bases` are base files
 abbrev pub Takes : LensWord → ℕ → ℕ → Type 0

@@ -165,6 +165,7 @@ fn asked_by(question: &LensQuestion) -> Option<LensRequest>
         warnings,
         ignored: CodeSet::none(),
         failing: failing_of(question.warnings),
+        game_ends: false,
     };
     Some(LensRequest { word, rules })
 }

@@ -124,7 +124,7 @@ fn add_args<'a>(alloc: Global, rows: &[ArgRow], args: &mut Vec<Arg<'a>>) -> Resu
 
 // What the help of `check` ends with.
 const CODES_AND_STATUSES: &str =
-    "F1 to F18 are faults, N1 to N12 notes, and W1 to W11 warnings, which --map asks for.\n\
+    "F1 to F18 are faults, N1 to N12 notes, and W1 to W25 warnings, which --map asks for.\n\
      `wadlens explain CODE` says what a code means, and `wadlens explain` lists all.\n\
      \n\
      The status is 0 without a fault, 1 if a level has a fault or lacks a lump, or has what\n\

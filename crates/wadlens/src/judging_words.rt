@@ -63,7 +63,7 @@ pub fn rules_of(matches: &ArgMatches<'_>) -> Result<Rules, Mistake> {
     }
     let warnings = CodeSet::of_group(Group::Warnings);
     let asked = matches.get_flag("map");
-    if !asked && failing.all.shares(&warnings) {
+    if !asked && failing.all().shares(&warnings) {
         return Err(Mistake::Told("--fail wants --map for a warning"));
     }
     Ok(Rules {
@@ -73,12 +73,13 @@ pub fn rules_of(matches: &ArgMatches<'_>) -> Result<Rules, Mistake> {
         } else {
             Warnings::Unasked
         },
-        ignored: ignored.all,
+        ignored: ignored.all(),
         failing: if matches.get_flag("strict") {
-            failing.all.with(warnings)
+            failing.whole().with(warnings)
         } else {
-            failing.all
+            failing.whole()
         },
+        game_ends: failing.game,
     })
 }
 
@@ -89,34 +90,45 @@ const IGNORE_WANTS: &str =
 const FAIL_WANTS: &str =
     "--fail wants notes and warnings, as N2,W9-W11: codes, ranges, or game, notes, warnings";
 
-// What an option names: the codes that are written out, and all.
+// What an option names: the codes that are written out, those of the classes that it names, and whether it names `game`.
 #[derive(Clone, Copy)]
 struct NamedCodes {
     written: CodeSet,
-    all: CodeSet,
+    classes: CodeSet,
+    game: bool,
 }
 
 impl NamedCodes {
     fn none() -> NamedCodes {
         NamedCodes {
             written: CodeSet::none(),
-            all: CodeSet::none(),
+            classes: CodeSet::none(),
+            game: false,
         }
     }
 
     // These and those of one word more; None if it names none.
-    fn with(self, word: &str) -> Option<NamedCodes> {
-        if let Some(group) = Group::named(word) {
-            return Some(NamedCodes {
-                written: self.written,
-                all: self.all.with(CodeSet::of_group(group)),
-            });
+    fn with(mut self, word: &str) -> Option<NamedCodes> {
+        match Group::named(word) {
+            Some(Group::Game) => self.game = true,
+            Some(group) => self.classes = self.classes.with(CodeSet::of_group(group)),
+            None => self.written = self.written.with(CodeSet::written(word)?),
         }
-        let codes = CodeSet::written(word)?;
-        Some(NamedCodes {
-            written: self.written.with(codes),
-            all: self.all.with(codes),
-        })
+        Some(self)
+    }
+
+    // All codes but those that only `game` brings.
+    fn whole(&self) -> CodeSet {
+        self.written.with(self.classes)
+    }
+
+    // All codes.
+    fn all(&self) -> CodeSet {
+        if self.game {
+            self.whole().with(CodeSet::of_group(Group::Game))
+        } else {
+            self.whole()
+        }
     }
 }
 

@@ -160,7 +160,7 @@ fn code_of(of_explain: &ArgMatches<'_>) -> Result<Option<ReportCode>, Mistake> {
     };
     match ReportCode::from_word(word.as_bytes()) {
         Some(code) => Ok(Some(code)),
-        None => Err(Mistake::Told("there are the codes F1 to F18, N1 to N12 and W1 to W11")),
+        None => Err(Mistake::Told("there are the codes F1 to F18, N1 to N12 and W1 to W25")),
     }
 }
 

@@ -168,6 +168,7 @@ fn check_varied(
         warnings: Warnings::Told,
         ignored: CodeSet::none(),
         failing: CodeSet::none(),
+        game_ends: false,
     };
     let question = Question {
         form: Form::Lines,

@@ -28,5 +28,10 @@ fn marks_without(ignored: &CodeSet) -> MarkedWarnings
         in_void: !ignored.has(ReportCode::Warning(WarningCode::W3)),
         twins: !ignored.has(ReportCode::Warning(WarningCode::W6)),
         unknown_things: !ignored.has(ReportCode::Warning(WarningCode::W11)),
+        unknown_specials: !ignored.has(ReportCode::Warning(WarningCode::W14)),
+        zero_tags: !ignored.has(ReportCode::Warning(WarningCode::W15)),
+        crossings: !ignored.has(ReportCode::Warning(WarningCode::W16)),
+        effects: !ignored.has(ReportCode::Warning(WarningCode::W17)),
+        odd_things: !ignored.has(ReportCode::Warning(WarningCode::W21)),
     }
 }

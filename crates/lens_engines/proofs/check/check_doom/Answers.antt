@@ -30,7 +30,7 @@ returns g c =
     c.write_judged-wrote.ensures.text in
     let are = rw c.requires.known at c.in-Ok.ensures in
     let unlisted = rw c.requires.known at c.of-unlisted.ensures in
-    let failing = rw c.counts-counts.ensures at c.has_failing-fails.ensures in
+    let failing = rw (c.counts-counts.ensures, c.warned.ensures) at c.has_failing-fails.ensures in
     let ended = rw (c.judged_totals-totals.ensures, c.counts-counts.ensures, c.unlooked.ensures) at c.text_end.ensures in
     judged_written g.W.Sink.state (asked_of c.args.question.now) c.args.set.now c.args.g c.args.heading.now.label level judged
     c.has_failing-fails.result c.of-unlisted.result c.in-Ok-is_sound_wide_alone.sound_wide c.args.out.now c.write_judged-wrote.new.out c.write_judged-wrote.result c.text_end.result

@@ -1,18 +1,25 @@
-use Rattle.std.proofs.Common.{arith, below_more, subst, sym, ◌∙◌}
+use Rattle.std.proofs.Common.{inl, inr, refl, sym, ◌∙◌}
 use Rattle.std.proofs.lemmas.Bool.{true≢false}
-use Rattle.level_codes.proofs.CodeLemmas.{code_at-rank, code_rank-below}
-use Rattle.level_codes.specs.Codes.{code_rank}
-use Rattle.lens_engines.specs.Failing.{IsFailing}
 use Rattle.lens_engines.proofs.failing.has_failing.Goals as goal
 
-pub loop-rank-preserved : goal.loop-rank-preserved
-loop-rank-preserved c =
-    below_more _ _ c.loop-rank.invariant
-    (λ failing. true≢false (sym (c.is_failing.ensures.1 (subst (IsFailing c.args.failing.now c.args.counts.now) (sym c.at.ensures) failing)) ∙ c.if-is_failing.false))
+pub returns-then-has_code : goal.returns-then-has_code
+returns-then-has_code g c = (λ yes. inl (c.has_code.ensures.0 c.if-has_code.true), λ some. refl)
+
+-- no code fails
+pub returns-then-judging : goal.returns-then-judging
+returns-then-judging g c = (
+  (λ yes. inr (c.if-judging.true, c.has_ending.ensures.0 yes)),
+  (λ some. elim some [
+    | inl code ↦ absurd (true≢false (sym (c.has_code.ensures.1 code) ∙ c.if-has_code.false))
+    | inr ends ↦ c.has_ending.ensures.1 ends.1
+  ]),
+)
 
 pub returns : goal.returns
-returns c = (
-  (λ no. absurd (cc)),
-  (λ some. absurd (c.loop-rank.invariant (code_rank some.0) (omega (arith, code_rank-below some.0, c.loop-rank-test.false))
-      (subst (IsFailing c.args.failing.now c.args.counts.now) (sym (code_at-rank some.0)) some.1))),
+returns g c = (
+  (λ no. absurd (true≢false (sym no))),
+  (λ some. elim some [
+    | inl code ↦ absurd (true≢false (sym (c.has_code.ensures.1 code) ∙ c.if-has_code.false))
+    | inr ends ↦ absurd (true≢false (sym ends.0 ∙ c.if-judging.false))
+  ]),
 )

@@ -10,10 +10,10 @@ returns-in_err-emit g c =
     let p = err_from_is_err_and c.from_residual.result c.from_residual.ensures.1 in
     rw (sym c.is_none.ensures ∙ c.if-is_none.false, p.1, p.2) (Writes-stop (unlisted_note c.args.unlisted ++ codes "\n") c.in_err-emit.ensures)
 
-pub returns-in_err-emit-2 : goal.returns-in_err-emit-2
-returns-in_err-emit-2 g c =
-    let p = err_from_is_err_and c.from_residual-in_err-emit-2.result c.from_residual-in_err-emit-2.ensures.1 in
-    rw (sym c.is_none.ensures ∙ c.if-is_none.false, p.1, p.2, ← c.note.ensures) (Writes-later {T = Unit {0}} c.in_ok-emit.ensures (Writes-stop (codes "\n") c.in_err-emit-2.ensures))
+pub returns-in_err-write_note : goal.returns-in_err-write_note
+returns-in_err-write_note g c =
+    let p = err_from_is_err_and c.from_residual-in_err-write_note.result c.from_residual-in_err-write_note.ensures.1 in
+    rw (sym c.is_none.ensures ∙ c.if-is_none.false, p.1, p.2) (Writes-later {T = Unit {0}} c.in_ok-emit.ensures (Writes-stop (codes "\n") c.in_err-write_note.ensures))
 
 pub returns : goal.returns
-returns g c = rw (sym c.is_none.ensures ∙ c.if-is_none.false, ← c.note.ensures) (Writes-after c.in_ok-emit.ensures (Writes-after c.in_ok-emit-2.ensures c.emit-4.ensures))
+returns g c = rw (sym c.is_none.ensures ∙ c.if-is_none.false) (Writes-after c.in_ok-emit.ensures (Writes-after c.in_ok-write_note.ensures c.emit-3.ensures))

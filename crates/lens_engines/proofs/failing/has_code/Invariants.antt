@@ -1,7 +1,7 @@
 use Rattle.std.proofs.Common.{ℕ, ◌<◌}
 use Rattle.level_codes.specs.Codes.{code_at}
 use Rattle.lens_engines.specs.Failing.{IsFailing}
-use Rattle.lens_engines.proofs.failing.has_failing.Given as goal
+use Rattle.lens_engines.proofs.failing.has_code.Given as goal
 
 -- no code so far is
 abbrev pub invariant-loop-rank : goal.invariant-loop-rank

@@ -8,7 +8,7 @@ from typing import Dict, FrozenSet, Iterable, List, NamedTuple, Set
 from tables_marks import text_of
 
 PAGE = "tests/CASES.md"
-RATTLE = ("crates/program_tests/src", "crates/library_tests/src")
+RATTLE = ("crates/program_tests/src", "crates/level_tests/src", "crates/library_tests/src")
 SCRIPTS = {"tests/wadlook": "tests/look_cases", "tests/wadlens": "tests/lens_cases"}
 FOLDERS = (*RATTLE, "tests/look_cases", "web/test")
 IN_THE_PAGE = "worked_cases.mjs"

@@ -1,7 +1,6 @@
 //! Pictures of levels as texts, with each growth refused in turn.
 
 use crate::compare::{check_bytes, check_same, contains};
-use crate::growth_end::GrowthEnd;
 use crate::opening::level_of;
 use crate::sample::{LINE_WITHOUT_SIDE_1, base, base_with};
 use le_rec::Sink;
@@ -12,6 +11,14 @@ use memory_streams::ToVec;
 use std::alloc::Allocator;
 use std::process::Abort;
 use test_refusals::Refusing;
+
+// How a drawing ends that is refused a growth: no growth was refused, it has no memory left, or it succeeds without that growth.
+#[derive(Clone, Copy)]
+enum GrowthEnd {
+    Granted,
+    Refused,
+    Spared,
+}
 
 // Draws into an output that hasn't failed.
 fn draw<A: Allocator + Copy>(

@@ -1,8 +1,7 @@
 //! The check of a file: a failed output, each growth refused in turn, and totals that are added up.
 
 use crate::compare::{check_bytes, check_same};
-use crate::line_levels::{base_with_lines, round, round_and};
-use crate::sample::{LINE_WITHOUT_SIDE_1, base_with};
+use crate::sample::{LINE_WITHOUT_SIDE_1, base_with, base_with_lines, round, round_and};
 use le_rec::Sink;
 use lens_engines::{
     Base, Judging, LevelsFault, Question, Rules, Totals, Unlisted, Verdict, Warnings, check_file,

@@ -1,9 +1,9 @@
 //! Levels of many linedefs, made of the sample level.
 
-use crate::sample::base_with;
+use crate::packed_with;
 use le_rec::{LineDef, Record, Vertex};
 use std::alloc::{AllocError, Global};
-use std::process::Abort;
+use wad_dir::PackFault;
 
 /// The vertexes from which a linedef runs and to which it does.
 pub type Ends = (u16, u16);
@@ -21,14 +21,16 @@ const SIDEDEF: [u8; 30] = [
 // A start of player 1 in front of linedef 0.
 const THING: [u8; 10] = [8, 0, 248, 255, 0, 0, 1, 0, 7, 0];
 
-const NO_MEMORY: &str = "no memory for the linedefs";
-
 /// The sample level's file with other linedefs, each with a side in front alone, of sector 0, and with so many vertexes.
-pub fn base_with_lines(rt: &(impl Abort + AllocGlobal), lines: &[Ends], count: u16) -> Vec<u8> {
-    let linedefs = linedefs(rt.alloc(), lines).expect(rt, NO_MEMORY);
-    let vertexes = vertexes(rt.alloc(), count).expect(rt, NO_MEMORY);
-    base_with(
-        rt,
+pub fn packed_with_lines(alloc: Global, lines: &[Ends], count: u16) -> Result<Vec<u8>, PackFault> {
+    let Ok(linedefs) = linedefs(alloc, lines) else {
+        return Err(PackFault::Memory);
+    };
+    let Ok(vertexes) = vertexes(alloc, count) else {
+        return Err(PackFault::Memory);
+    };
+    packed_with(
+        alloc,
         &[
             (1, &THING),
             (2, &linedefs),
@@ -39,23 +41,15 @@ pub fn base_with_lines(rt: &(impl Abort + AllocGlobal), lines: &[Ends], count: u
     )
 }
 
-/// Linedefs round a sector: each goes from a vertex to the next one, and the last one back to the first.
-pub fn round(rt: &(impl Abort + AllocGlobal), count: u16) -> Vec<Ends> {
-    let mut lines = Vec::new(rt.alloc());
+/// Linedefs round a sector, and others behind them. Round it each goes from a vertex to the next one, and the last one back to the first.
+pub fn lines_round(alloc: Global, count: u16, others: &[Ends]) -> Result<Vec<Ends>, AllocError> {
+    let mut lines = Vec::new(alloc);
     for i in 1..count {
-        lines.push((i - 1, i)).expect(rt, NO_MEMORY);
+        lines.push((i - 1, i))?;
     }
-    lines
-        .push((count.saturating_sub(1), 0))
-        .expect(rt, NO_MEMORY);
-    lines
-}
-
-/// The same, and linedefs besides.
-pub fn round_and(rt: &(impl Abort + AllocGlobal), count: u16, others: &[Ends]) -> Vec<Ends> {
-    let mut lines = round(rt, count);
-    lines.extend_from_slice(others).expect(rt, NO_MEMORY);
-    lines
+    lines.push((count.saturating_sub(1), 0))?;
+    lines.extend_from_slice(others)?;
+    Ok(lines)
 }
 
 // The records of linedefs.

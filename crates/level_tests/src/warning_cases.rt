@@ -3,9 +3,10 @@
 
 use crate::compare::check_same;
 use crate::growth_end::GrowthEnd;
-use crate::line_levels::{Ends, base_with_lines, round, round_and};
 use crate::opening::level_of;
-use crate::sample::{base, base_with, lumps, pack, pack_both};
+use crate::sample::{
+    Ends, base, base_with, base_with_lines, lumps, pack, pack_both, round, round_and,
+};
 use game_warnings::GameWarning;
 use le_rec::Name8;
 use level_codes::WarningCode;

@@ -3,6 +3,7 @@
 ghost use Rattle.map_tree.specs.Sound.{IsSound};
 
 use crate::compare::check_same;
+use crate::growth_end::GrowthEnd;
 use crate::opening::level_of;
 use crate::sample::{SEGS, base, base_with};
 use map_cells::{Block, CellCount, Cells, Frame, Grid, Groups, SectorCounts, Shown};
@@ -11,14 +12,6 @@ use map_tree::is_sound;
 use std::alloc::{AllocError, Allocator};
 use std::process::Abort;
 use test_refusals::Refusing;
-
-// The outcome of a call with one growth to be refused: it returned `Memory`, it did without the growth, or it met none.
-#[derive(Clone, Copy, Debug, PartialEq, Eq)]
-enum Outcome {
-    Refused,
-    DoneWithout,
-    Done,
-}
 
 // A frame, and how many cells its longer side has.
 type Drawing = ([i16; 4], u32);
@@ -58,66 +51,62 @@ fn check_cells<A: Allocator, B: Allocator>(
 }
 
 // What becomes of the cells of a grid where growth `n` is refused. Whatever is drawn is the same.
-fn outcome_of(rt: &(impl Abort + AllocGlobal), level: &Level<'_>, grid: Grid, n: u64) -> Outcome
+fn end_of(rt: &(impl Abort + AllocGlobal), level: &Level<'_>, grid: Grid, n: u64) -> GrowthEnd
     requires { IsSound level.now }
 {
     let heap = Refusing::new(rt.alloc(), n);
     let Ok(cells) = cells_of(&heap, level, grid) else {
         assert!(rt; heap.has_refused());
-        return Outcome::Refused;
+        return GrowthEnd::Refused;
     };
     let shown = Shown::of(rt.alloc(), level).expect(rt, "no memory for the sectors");
     check_cells(rt, &cells, &shown);
     if heap.has_refused() {
-        Outcome::DoneWithout
+        GrowthEnd::Spared
     } else {
-        Outcome::Done
+        GrowthEnd::Granted
     }
 }
 
-// Compares the outcomes of growth 1, 2, .. refused, of a level that is sound.
+// Compares the ends with growth 1, 2, .. refused, of a level that is sound.
 fn check_level(
     rt: &(impl Abort + AllocGlobal),
     level: &Level<'_>,
     drawing: Drawing,
-    expected: &[Outcome],
+    expected: &[GrowthEnd],
 ) {
     assert!(rt; is_sound(rt.alloc(), level).expect(rt, "no memory for the tree"));
     let grid = grid_of(rt, drawing);
     for (i, one) in expected.iter().enumerate() {
-        check_same(
-            rt,
-            (i, outcome_of(rt, level, grid, i as u64 + 1)),
-            (i, *one),
-        );
+        check_same(rt, (i, end_of(rt, level, grid, i as u64 + 1)), (i, *one));
     }
 }
 
-fn check_outcomes(
+fn check_ends(
     rt: &(impl Abort + AllocGlobal),
     file: Vec<u8>,
     drawing: Drawing,
-    expected: &[Outcome],
+    expected: &[GrowthEnd],
 ) {
     check_level(rt, &level_of(rt, &file), drawing, expected);
 }
 
 // The sectors of the ssectors are listed, then there are the cells, and then the ends of the segs.
-const WITH_LIST: [Outcome; 4] = [
-    Outcome::Refused,
-    Outcome::Refused,
-    Outcome::DoneWithout,
-    Outcome::Done,
+const WITH_LIST: [GrowthEnd; 4] = [
+    GrowthEnd::Refused,
+    GrowthEnd::Refused,
+    GrowthEnd::Spared,
+    GrowthEnd::Granted,
 ];
 
-const WITHOUT_LIST: [Outcome; 3] = [Outcome::Refused, Outcome::Refused, Outcome::Done];
+const WITHOUT_LIST: [GrowthEnd; 3] = [GrowthEnd::Refused, GrowthEnd::Refused, GrowthEnd::Granted];
 
 // Sixteen by sixteen cells of eight map units: the line of the sample level is in their middle.
 const SQUARE: Drawing = ([-64, 0, 63, 127], 16);
 
 #[test]
 fn growths_of_square(rt: HostRuntime) {
-    check_outcomes(&rt, base(&rt), SQUARE, &WITH_LIST);
+    check_ends(&rt, base(&rt), SQUARE, &WITH_LIST);
 }
 
 // The sample level's file with so many segs, the first two of them its own.
@@ -133,16 +122,16 @@ fn base_of_segs(rt: &(impl Abort + AllocGlobal), count: u32) -> Vec<u8> {
 // Their ends are listed where there are four times as many cells.
 #[test]
 fn growths_by_segs(rt: HostRuntime) {
-    check_outcomes(&rt, base_of_segs(&rt, 64), SQUARE, &WITH_LIST);
-    check_outcomes(&rt, base_of_segs(&rt, 66), SQUARE, &WITHOUT_LIST);
+    check_ends(&rt, base_of_segs(&rt, 64), SQUARE, &WITH_LIST);
+    check_ends(&rt, base_of_segs(&rt, 66), SQUARE, &WITHOUT_LIST);
 }
 
 // Rows go down together where they have eight columns and the picture has 256 cells.
 #[test]
 fn growths_by_cells(rt: HostRuntime) {
-    check_outcomes(&rt, base(&rt), ([-32, 0, 31, 255], 32), &WITH_LIST);
-    check_outcomes(&rt, base(&rt), ([-32, 0, 31, 247], 31), &WITHOUT_LIST);
-    check_outcomes(&rt, base(&rt), ([-32, 0, 23, 319], 40), &WITHOUT_LIST);
+    check_ends(&rt, base(&rt), ([-32, 0, 31, 255], 32), &WITH_LIST);
+    check_ends(&rt, base(&rt), ([-32, 0, 31, 247], 31), &WITHOUT_LIST);
+    check_ends(&rt, base(&rt), ([-32, 0, 23, 319], 40), &WITHOUT_LIST);
 }
 
 // No point is in range, or those of one row alone: 256 of them, or 255.
@@ -153,9 +142,9 @@ fn growths_out_of_range(rt: HostRuntime) {
         [-1024, 16376, 1023, 16391],
         [-1024, 16376, 1015, 16391],
     );
-    check_outcomes(&rt, base(&rt), (far, 16), &WITHOUT_LIST);
-    check_outcomes(&rt, base(&rt), (row, 256), &WITH_LIST);
-    check_outcomes(&rt, base(&rt), (shorter_row, 255), &WITHOUT_LIST);
+    check_ends(&rt, base(&rt), (far, 16), &WITHOUT_LIST);
+    check_ends(&rt, base(&rt), (row, 256), &WITH_LIST);
+    check_ends(&rt, base(&rt), (shorter_row, 255), &WITHOUT_LIST);
 }
 
 // Whether the groups of cells met growth `n` refused.

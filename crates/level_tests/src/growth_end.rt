@@ -1,7 +1,7 @@
 //! How a call ends that is refused a growth.
 
 /// How a call ends that is refused a growth.
-#[derive(Clone, Copy, PartialEq, Eq)]
+#[derive(Clone, Copy, Debug, PartialEq, Eq)]
 pub(crate) enum GrowthEnd {
     /// No growth was refused.
     Granted,

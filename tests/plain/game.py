@@ -4,7 +4,7 @@ W25 that are looked for, as docs/DEFINITIONS.md has them. Each is looked for at 
 from collections.abc import Iterator
 
 from plain.levels import Level, LineDef, Thing, is_in_range
-from plain.wads import Entry, lump, number, query, shown, winner
+from plain.wads import Entry, lump, number, query, shown, winners
 from plain.warnings import GAME_KINDS, Warned, along, at, named_lump, sector_at
 
 
@@ -277,9 +277,9 @@ def patch_numbers(data: bytes) -> list[tuple[bytes, list[int]]]:
 def patches_there(listed: list[Entry], pnames: bytes) -> set[int]:
     """The numbers of the patches whose lumps are found."""
     count = min(number(pnames[:4]), (len(pnames) - 4) // 8) if len(pnames) >= 4 else 0
-    there = set()
+    won, there = winners(listed), set()
     for m in range(count):
-        g = winner(listed, query(pnames[4 + 8 * m : 12 + 8 * m]))
+        g = won.get(query(pnames[4 + 8 * m : 12 + 8 * m]))
         if g is not None and lump(listed[g]) is not None:
             there.add(m)
     return there
@@ -317,11 +317,12 @@ def limits(level: Level, listed: list[Entry]) -> Iterator[Warned]:
 
 
 def misplaced_flats(level: Level, listed: list[Entry]) -> Iterator[Warned]:
-    start, end = winner(listed, b"F_START"), winner(listed, b"F_END")
+    won = winners(listed)
+    start, end = won.get(b"F_START"), won.get(b"F_END")
     if start is None or end is None:
         return
     for s, sector in enumerate(level.sectors):
         for surface, name in (("floor", sector.floor_name), ("ceiling", sector.ceiling_name)):
-            g = winner(listed, query(name))
+            g = won.get(query(name))
             if g is not None and not start < g < end:
                 yield Warned(f"sector {s}", f"{surface} flat {shown(name) or '(empty)'} isn't between F_START and F_END")

@@ -335,8 +335,12 @@ class Level:
     @cached_property
     def sides_above(self) -> dict[int, list[tuple[int, int]]]:
         """For each ssector that the root leads to the nodes and sides that lead to it."""
-        below = {word: self.led_to(place) for word, place in self.children.items()}
-        return {t: [word for word, led in below.items() if ("ssector", t) in led] for kind, t in self.reached if kind == "ssector"}
+        found: dict[int, list[tuple[int, int]]] = {t: [] for kind, t in self.reached if kind == "ssector"}
+        for word, place in self.children.items():
+            for kind, t in self.led_to(place):
+                if kind == "ssector" and t in found:
+                    found[t].append(word)
+        return found
 
     def leaf(self, x: int, y: int) -> int:
         """The one ssector on whose side of every node above it the point lies."""

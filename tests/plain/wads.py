@@ -82,10 +82,14 @@ def joined(files: list[bytes]) -> list[Entry]:
     return [entry for file in files for entry in entries(file)]
 
 
+def winners(listed: list[Entry]) -> dict[bytes, int]:
+    """The greatest number of an entry that has a name, for each name that one has."""
+    return {entry.name: g for g, entry in enumerate(listed)}
+
+
 def winner(listed: list[Entry], asked: bytes) -> int | None:
     """The greatest number of an entry that has the name that is looked up."""
-    found = [g for g, entry in enumerate(listed) if entry.name == query(asked)]
-    return found[-1] if found else None
+    return winners(listed).get(query(asked))
 
 
 def lump(entry: Entry) -> bytes | None:

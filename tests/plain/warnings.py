@@ -42,18 +42,16 @@ def sector_at(level: Level, side: int) -> int | None:
 
 
 def unclosed(level: Level) -> Iterator[Warned]:
-    for s in range(len(level.sectors)):
-        leave = [0] * len(level.vertexes)
-        for linedef in level.linedefs:
-            if sector_at(level, linedef.side0) == s:
-                leave[linedef.v1] += 1
-                leave[linedef.v2] -= 1
-            if sector_at(level, linedef.side1) == s:
-                leave[linedef.v2] += 1
-                leave[linedef.v1] -= 1
-        for v, more in enumerate(leave):
-            if more:
-                yield Warned(f"sector {s}", "isn't closed", at(*level.vertexes[v]))
+    leave: dict[tuple[int, int], int] = {}
+    for linedef in level.linedefs:
+        for side, begin, end in ((linedef.side0, linedef.v1, linedef.v2), (linedef.side1, linedef.v2, linedef.v1)):
+            s = sector_at(level, side)
+            if s is not None:
+                leave[s, begin] = leave.get((s, begin), 0) + 1
+                leave[s, end] = leave.get((s, end), 0) - 1
+    for (s, v), more in sorted(leave.items()):
+        if more:
+            yield Warned(f"sector {s}", "isn't closed", at(*level.vertexes[v]))
 
 
 def bare_parts(level: Level, side: int, other: int) -> Iterator[str]:
@@ -162,9 +160,12 @@ def textures_of(data: bytes) -> Iterator[bytes]:
 def unknown_textures(level: Level, listed: list[Entry]) -> Iterator[Warned]:
     first, second = named_lump(listed, b"TEXTURE1"), named_lump(listed, b"TEXTURE2")
     there = {*textures_of(first or b""), *textures_of(second or b"")}
+    owners: dict[int, int] = {}
+    for n, linedef in enumerate(level.linedefs):
+        owners.setdefault(linedef.side0, n)
+        owners.setdefault(linedef.side1, n)
     for i, sidedef in enumerate(level.sidedefs):
-        owners = [n for n, linedef in enumerate(level.linedefs) if i in (linedef.side0, linedef.side1)]
-        place = f", of linedef {owners[0]}" if owners else ""
+        place = f", of linedef {owners[i]}" if i in owners else ""
         for part, name in (("upper", sidedef.top), ("lower", sidedef.bottom), ("middle", sidedef.middle)):
             if name[:1] != b"-" and query(name) not in there:
                 yield Warned(f"sidedef {i}", f"{part} texture {shown(name) or '(empty)'} isn't there", place)

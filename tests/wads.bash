@@ -67,11 +67,11 @@ declare -A own=(
     [BLOCKMAP]=$(words -8 -8 1 1 5 0 0 -1)
 )
 
-# level [LUMP BYTES]...: a PWAD of the sample level with these lumps in place of its own, and those of `behind`.
-behind=()
+# level [LUMP BYTES]...: a PWAD of the sample level with these lumps in place of its own, and those of `behind`, under the name `label`.
+behind=() label=E1M1
 level() {
     local -A other
-    local name parts=(E1M1 '')
+    local name parts=("$label" '')
     for (( ; $#; )); do
         other[$1]=$2
         shift 2

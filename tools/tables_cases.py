@@ -10,7 +10,7 @@ from tables_marks import text_of
 PAGE = "tests/CASES.md"
 RATTLE = ("crates/program_tests/src", "crates/level_tests/src", "crates/library_tests/src")
 SCRIPTS = {"tests/wadlook": "tests/look_cases", "tests/wadlens": "tests/lens_cases"}
-FOLDERS = (*RATTLE, "tests/look_cases", "web/test")
+FOLDERS = (*RATTLE, *SCRIPTS.values(), "web/test")
 IN_THE_PAGE = "worked_cases.mjs"
 
 

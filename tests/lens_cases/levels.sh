@@ -566,17 +566,24 @@ cases_of_warned_sample() {
     says 'warnings, surveyed strictly' 1 "$object" '' survey --map --strict base.wad
 }
 
+# is_freedoom FOLDER: whether the three files of Freedoom 0.12.1 are there.
+is_freedoom() {
+    (cd "$1" && sha256sum --check --status) 2>/dev/null <<'END'
+84c3a912f2973892a8025d09d65f5053b1ee2304968a5a172526d683a185b885  freedoom1.wad
+c72de2af7e2d0c17f6213e751a167e2f1913278aaf37ae6957854fe3cd6588ca  freedoom2.wad
+f8fddaa129c03d6898eca9111ce139310335952b7b133090a369b153b8f92efe  freedm.wad
+END
+}
+
 # The warnings of Freedoom 0.12.1's 100 levels, where these are (FREEDOOM names their folder): of each code how many there are, and
 # in how many levels.
 cases_of_warned_games() {
-    local games=${FREEDOOM:-/usr/share/games/doom} file files=() code count counts sum
-    for file in freedoom1 freedoom2 freedm; do
-        files+=("$games/$file.wad")
-        if [[ ! -e ${files[-1]} ]]; then
-            printf 'skipped, as there is no %s: warnings of levels\n' "${files[-1]}"
-            return
-        fi
-    done
+    local games=${FREEDOOM:-/usr/share/games/doom} files=() code count counts sum
+    if ! is_freedoom "$games"; then
+        printf 'skipped, as there is no Freedoom 0.12.1 in %s: warnings of levels\n' "$games"
+        return
+    fi
+    files=("$games"/{freedoom1,freedoom2,freedm}.wad)
     run_on '' survey --map "${files[@]}"
     mv output surveyed
     wc -l <surveyed >output
@@ -592,6 +599,38 @@ cases_of_warned_games() {
             'W12 0 0' 'W13 0 0' 'W14 44 8' 'W15 0 0' 'W16 22 5' 'W17 4 3' 'W18 3 1' 'W19 0 0' 'W20 0 0' 'W21 1 1' 'W22 28 25' 'W23 0 0' \
             'W24 0 0' 'W25 0 0' \
             '"level":"E3M6"'
+    )" ''
+    cases_of_ended_games
+}
+
+# in_games [FILE LINE]...: these lines of the files of Freedoom.
+in_games() {
+    for (( ; $#; )); do
+        printf '%s/%s.wad: %s\\n' "$games" "$1" "$2"
+        shift 2
+    done
+}
+
+# Each place at which the game ends, or is spoilt, and how many bytes the savegames that are too long have.
+cases_of_ended_games() {
+    local special="special 37: sector" memory="its new special is what memory held" door='special 27 without a back sidedef: its use ends the game'
+    local floor='a player on its floor ends the game'
+    says 'what ends or spoils the game in 100 levels' 0 "$(
+        in_games freedoom1 "E3M9: W18 sector 308: special 72: $floor" freedoom1 "E3M9: W18 sector 544: special 77: $floor" \
+            freedoom1 "E3M9: W18 sector 547: special 77: $floor" \
+            freedoom1 "E4M6: W17 linedef 1465: $special 502 finds no neighbour at -120, $memory, from (928, -508) to (928, -388)" \
+            freedoom2 "MAP25: W17 linedef 2784: $special 362 finds no neighbour at -273, $memory, from (-2224, 456) to (-1616, 456)" \
+            freedoom2 "MAP26: W17 linedef 949: $door, from (4752, -1424) to (4752, -1408)" \
+            freedoom2 "MAP26: W17 linedef 951: $door, from (4880, -1408) to (4880, -1424)" \
+            freedm 'MAP08: W21 thing 26: appears in no skill, at (352, -352)'
+        printf '100 levels in 3 files: 0 faults, 0 notes, 8 warnings, 0 not judged\\n'
+    )" '' check --map --max 0 --ignore notes,W1-W16,W19-W20,W22-W25 "${files[@]}"
+    run_on '' check --map --ignore notes,W1-W21,W23-W25 "${files[@]}"
+    sed -nE 's/^.*: ([A-Z0-9]+): W22 level: ([0-9]+) bytes to save.*/\1 \2/p' output >saved
+    mv saved output
+    judge 'savegames of 100 levels that are too long' 0 "$(
+        printf '%s\\n' 'E1M5 237538' 'E1M7 196394' 'E2M5 222470' 'E3M4 183582' 'E3M9 193354' 'E4M2 226046' 'E4M7 295690' 'E4M9 229010' \
+            'MAP12 353534' 'MAP15 184614' 'MAP28 262842'
     )" ''
 }
 

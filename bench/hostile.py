@@ -17,7 +17,7 @@ import tempfile
 sys.dont_write_bytecode = True
 
 import hostile_demos as demos  # noqa: E402
-from hostile_files import FILES, INPUT, again, entry, head, w  # noqa: E402
+from hostile_files import FILES, INPUT, NAMES, OWN, SAMPLE, again, big_level, entry, head, level, w, whole  # noqa: E402
 
 A = argparse.ArgumentParser()
 A.add_argument("--wadlook", required=True)
@@ -31,7 +31,6 @@ A.add_argument("--scale", type=float, default=1.0, help="part of the limits that
 A.add_argument("--markdown", action="store_true", help="the table of RESULTS.md")
 o = A.parse_args()
 HERE = os.path.dirname(os.path.abspath(__file__))
-SAMPLE = os.path.join(HERE, "..", "sample", "base.wad")
 ROOM = tempfile.TemporaryDirectory(dir=o.dir or None)
 
 
@@ -42,69 +41,9 @@ def p(n):
 RUN = p("runner")
 subprocess.check_call(["gcc", "-O2", "-o", RUN, HERE + "/runner.c"])
 
-NAMES = [b"THINGS", b"LINEDEFS", b"SIDEDEFS", b"VERTEXES", b"SEGS", b"SSECTORS", b"NODES", b"SECTORS", b"REJECT", b"BLOCKMAP"]
-
 
 # -------------------------------------------------------------------- inputs
 # Each is written piece by piece, so that this process stays small.
-def own():
-    """the sample's lumps by name"""
-    b = open(SAMPLE, "rb").read()
-    n, at = struct.unpack("<ii", b[4:12])
-    d = {}
-    for i in range(n):
-        q, size, name = struct.unpack("<ii8s", b[at + 16 * i : at + 16 * i + 16])
-        d[name.rstrip(b"\0")] = b[q : q + size]
-    return d
-
-
-OWN = own()
-
-
-def names_of(lumps, big):
-    """the names of a level's lumps, and of these behind them"""
-    return NAMES + [k for k in [*lumps, *big] if k not in NAMES]
-
-
-def level(out, lumps, big=None, size=0, fill=None):
-    """the level E1M1: the sample's lumps, others in their place, and one or
-    several big ones that share size bytes, which fill writes at the end"""
-    big = big or []
-    small, names = {**OWN, **lumps}, names_of(lumps, big)
-    at = 12 + 16 * (1 + len(names))
-    body, d = b"", entry(0, 0, b"E1M1")
-    for k in names:
-        if k not in big:
-            d += entry(at + len(body), len(small[k]), k)
-            body += small[k]
-        else:
-            d += entry(-1, size, k)
-    start = at + len(body)
-    d = b"".join(
-        d[i : i + 16] if d[i : i + 4] != b"\xff" * 4 else struct.pack("<i", start) + d[i + 4 : i + 16] for i in range(0, len(d), 16)
-    )
-    out.write(head(1 + len(names), 12) + d + body)
-    if fill:
-        fill(out, size)
-
-
-def room(lumps, big):
-    """how many bytes the big lumps may have"""
-    directory = 16 * (1 + len(names_of(lumps, big)))
-    return FILES - 12 - directory - sum(len(b) for k, b in {**OWN, **lumps}.items() if k not in big)
-
-
-def big_level(lumps, big, size_of, fill):
-    def make(out, part):
-        level(out, lumps, big, size_of(int(room(lumps, big) * part)), fill)
-
-    return make
-
-
-def whole(record):
-    return lambda n: n // record * record
-
-
 def directory(label, names):
     """levels or entries alone: as many entries as fit, by turns of these names, behind empty places"""
 
@@ -286,7 +225,7 @@ job("lmp: a byte more than may be read", "lmp D", demos.demo_hole, ends=2)
 SIDE, SEG, THING = OWN[b"SIDEDEFS"][:30], OWN[b"SEGS"][:12], OWN[b"THINGS"]
 # The second sector is a step up under a lower ceiling, so the wall to it lacks two textures.
 STEP = {b"SECTORS": OWN[b"SECTORS"][:26] + w(8, 100) + OWN[b"SECTORS"][30:]}
-TAGGED = w(0, 1, 1)  # of a linedef: no flags, a special, and a tag that no sector has
+TAGGED = w(0, 23, 1)  # of a linedef: no flags, a special, and a tag that no sector has
 
 
 def vertexes(n):
@@ -457,10 +396,18 @@ def rings(out, part):
     level(out, {b"SECTORS": sectors, b"SIDEDEFS": sidedefs, b"LINEDEFS": lines})
 
 
+def specials(number, tag):
+    """as many linedefs as fit, with this special and tag"""
+    return big_level(STEP, [b"LINEDEFS"], whole(14), lambda out, n: again(out, w(0, 1, 4, number, tag, 0, 1), n))
+
+
 def shooters(out, part):
     """65,536 things, one after another a shooter and a target"""
     pair = b"".join(THING[:6] + w(kind, 7) for kind in (89, 87))
     level(out, {b"THINGS": pair * int(32768 * part)})
+
+
+LED = {b"THINGS": (THING[:6] + w(14, 7)) * 1024, b"LINEDEFS": w(0, 1, 4, 97, 0, 0, 1)}  # a teleporter, and where it leads
 
 
 def patches(count):
@@ -472,6 +419,30 @@ def patches(count):
 
     record = b"WALL".ljust(8, b"\0") + w(0, 0, 1, 1, 0, 0, 1) + w(0, 0, 0, 1, 0)
     return big_level({b"TEXTURE1": struct.pack("<ii", 1, 8) + record}, [b"PNAMES"], whole(1), fill)
+
+
+def patched(out, part):
+    """512 textures of one record, whose 32,767 patches are there"""
+    n = int(512 * part)
+    record = b"WALL".ljust(8, b"\0") + w(0, 0, 1, 1, 0, 0, 32767) + w(0, 0, 0, 1, 0) * 32767
+    names = {b"PNAMES": struct.pack("<i", 1) + b"PATCH\0\0\0", b"PATCH": b""}
+    level(out, {b"TEXTURE1": struct.pack("<i", n) + struct.pack("<i", 4 + 4 * n) * n + record, **names})
+
+
+def misplaced_flats(out, part):
+    """a level of 65,536 sectors, each with two flats that stand before F_START, among as many other entries as there is room for"""
+    n = int(65536 * part)
+    sectors = b"".join(w(0, 128) + b"%08d" % i + b"%08d" % (n - 1 - i) + w(160, 0, 0) for i in range(n))
+    lumps = {**OWN, b"SECTORS": sectors}
+    body = b"".join(lumps[k] for k in NAMES)
+    others = int((FILES - 12 - 16 * 13 - 26 * 65536 - 4096) // 16 * part)
+    out.write(head(13 + others, 12 + len(body)) + body + entry(12, 0, b"E1M1"))
+    at = 12
+    for k in NAMES:
+        out.write(entry(at, len(lumps[k]), k))
+        at += len(lumps[k])
+    again(out, b"".join(entry(12, 0, b"%08d" % (40503 * i % 65536)) for i in range(65536)), 16 * others)
+    out.write(entry(12, 0, b"F_START") + entry(12, 0, b"F_END"))
 
 
 def udmf(last):
@@ -533,11 +504,17 @@ for word in ("check", "survey") if o.wadlens else ():
         fill = listed(list(offsets))
         base = big_level({}, [b"TEXTURE1"], lambda n: n // 4 * 4, fill)
         job("%s --base: 67 million textures of %s" % (word, told), word + " --base F S", base)
-    job(word + ": 10,000 linedefs of special 37 on 10,000 sectors of one tag", word + " F", changed(37, 4))
-    job(word + ": 10,000 linedefs of special 20 on the same", word + " F", changed(20, 4))
+    for special in (37, 20, 9):
+        told = "10,000 linedefs of special %d on 10,000 sectors of one tag" % special
+        job("%s: %s" % (word, told), word + " F", changed(special, 4))
     job(word + ": 10,000 donuts with one ring", word + " F", rings)
+    for special, tag in ((142, 0), (23, 0), (37, 0), (97, 0)):
+        job("%s: 19 million linedefs of special %d and tag %d" % (word, special, tag), word + " F", specials(special, tag))
     job(word + ": 32,768 shooters and as many targets", word + " F", shooters)
+    job(word + ": 1024 destinations down a chain of 32,767 nodes", word + " F", chain(LED))
+    job(word + ": 65,536 sectors with two flats before F_START, of 16 million entries", word + " --wide F", misplaced_flats)
     job(word + ": a PNAMES that lists 2,147,483,647 names", word + " --base F S", patches(2147483647))
+    job(word + ": 16.8 million patches of 512 textures", word + " --base F S", patched)
     job(word + " --base: 16,777,215 entries of one name", word + " --base F S", one_name)
     job(word + " --base: 63 files of 65,536 entries", word + 63 * " --base F" + " S", entries(65536))
 if o.wadlens:

@@ -213,14 +213,15 @@ def of_game(random: Random) -> Case:
         trick.play(random, draft)
     if random.random() < 0.2:
         harm.level(random, draft)
-    lumps = make.named(draft, random.choice((b"E1M1", b"E2M8", b"E3M8", b"MAP07")))
+    name = random.choice(("E1M1", "E2M8", "E3M8", "MAP07"))
+    lumps = make.named(draft, name.encode())
     files: Files = {"game.wad": make.file(random, trick.graphics(random, make.FLATS))}
     if random.random() < 0.5:
         lumps += trick.graphics(random, make.FLATS)
     path = random.choice(PATHS)
     files = {path: make.file(random, lumps)} | files
     runs = [lens_run(random, command, [path], mapped=True, bases=[*files]) for command in ("check", "survey") for _ in "ab"]
-    return Case(files, runs)
+    return Case(files, [*runs, picture_run(random, draft, name, [path], files)])
 
 
 def of_many(random: Random) -> Case:

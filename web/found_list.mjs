@@ -102,6 +102,12 @@ export class FoundList {
     return this.#seen().flatMap(({ from, to, passed }) => passed ?? Array.from({ length: to - from }, (_, n) => from + n));
   }
 
+  /** What is shown of the level as a whole. All of a code are about one kind of record. */
+  ofLevel() {
+    const whole = this.#seen().filter(({ from, to }) => from < to && this.finding(from).kind === 'level');
+    return whole.flatMap(({ from, to, passed }) => passed ?? Array.from({ length: to - from }, (_, n) => from + n)).map((k) => this.finding(k));
+  }
+
   /** What is chosen, if it is a finding. */
   get chosen() {
     const item = this.list.at >= 0 ? this.list.item(this.list.at) : null;

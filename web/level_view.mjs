@@ -176,6 +176,7 @@ export class LevelView {
     get('counts').replaceChildren();
     get('told').textContent = '';
     get('told').className = '';
+    get('of-level').hidden = true;
     get('found-count').textContent = '';
     this.found.clear();
     for (const id of ['changes', 'advice', 'read-wide']) get(id).hidden = true;
@@ -344,9 +345,17 @@ export class LevelView {
     this.found.reveal();
   }
 
+  /** Tells above the picture what was found of the level as a whole: the picture has no place for it. */
+  #tellOfLevel() {
+    const all = this.found.ofLevel();
+    get('of-level').textContent = all.map(({ code, title }) => `${code} ${title}`).join(' · ');
+    get('of-level').hidden = !all.length;
+  }
+
   /** Marks the places of all findings that are shown, a part at a time where they are very many, and says how many those are where there are more. */
   async #mark() {
     const { asked, found } = this, mine = ++this.marking, shown = found.shown(), places = [];
+    this.#tellOfLevel();
     if (!this.map.picture) return;
     let lines = 0, until = performance.now() + SLICE;
     for (const k of shown) {

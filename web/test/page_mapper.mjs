@@ -58,6 +58,7 @@ async function groups() {
   await drawn('MAP01');
   check('what ends the game stands first, then faults and notes', await codes(), 'N11 1 · F3 33 · F6 1 · N3 1');
   check('and what ends the game is told first', [await textOf('#told'), await browser.run("document.querySelector('#told').className")], ['ends the game: 34 faults, 2 notes', 'fault']);
+  check('what has no place is told above the map', [await textOf('#of-level'), await isHidden('#of-level')], ['N11 No player 1 start', false]);
   check('each under a heading in plain words', await textsOf('#findings .group-name'),
     ['No player 1 start, 1', 'Linedef vertex names none, 33', 'Seg vertex names none, 1', 'Two-sided flag without side 1, 1']);
   check('that says what it is', await textsOf('#findings .odd .row-more'), ['N11 ends the game · note', 'F3 fault', 'F6 fault', 'N3 note']);

@@ -613,13 +613,13 @@ in_games() {
 
 # Each place at which the game ends, or is spoilt, and how many bytes the savegames that are too long have.
 cases_of_ended_games() {
-    local special="special 37: sector" memory="its new special is what memory held" door='special 27 without a back sidedef: its use ends the game'
+    local special="special 37: sector" held="its new special is what memory held" door='special 27 without a back sidedef: its use ends the game'
     local floor='a player on its floor ends the game'
     says 'what ends or spoils the game in 100 levels' 0 "$(
         in_games freedoom1 "E3M9: W18 sector 308: special 72: $floor" freedoom1 "E3M9: W18 sector 544: special 77: $floor" \
             freedoom1 "E3M9: W18 sector 547: special 77: $floor" \
-            freedoom1 "E4M6: W17 linedef 1465: $special 502 finds no neighbour at -120, $memory, from (928, -508) to (928, -388)" \
-            freedoom2 "MAP25: W17 linedef 2784: $special 362 finds no neighbour at -273, $memory, from (-2224, 456) to (-1616, 456)" \
+            freedoom1 "E4M6: W17 linedef 1465: $special 502 finds no neighbour at -120, $held, from (928, -508) to (928, -388)" \
+            freedoom2 "MAP25: W17 linedef 2784: $special 362 finds no neighbour at -273, $held, from (-2224, 456) to (-1616, 456)" \
             freedoom2 "MAP26: W17 linedef 949: $door, from (4752, -1424) to (4752, -1408)" \
             freedoom2 "MAP26: W17 linedef 951: $door, from (4880, -1408) to (4880, -1424)" \
             freedm 'MAP08: W21 thing 26: appears in no skill, at (352, -352)'

@@ -2,39 +2,26 @@
 //! ended.
 #![tactic(auto)]
 
-mod arg_row;
-mod atlas_words;
-mod command_words;
 mod disk_folder;
-mod judging_words;
-mod mistake;
-mod picture_words;
-mod progress;
-mod shared_words;
-mod words;
+mod jobs;
 
-use atlas_words::AtlasWords;
-use clap::error::ErrorKind;
+use demo_listings::Compared;
 use disk_folder::DiskFolder;
+use jobs::{atlas_of, cut_of, picture_of, report_of};
 use le_rec::{Sink, ToWrite};
 use lens_commands::{run_assemble, run_atlas, run_compare, run_listing, run_picture};
 use lens_engines::Verdict;
 use lens_reports::{End, Output, exit_status, run_cut, run_explain, run_job};
+use lens_words::{
+    AtlasWords, CompareWords, CutWords, PictureWords, Progress, Task, Telling, Unstarted,
+    given_words, task_of,
+};
 use level_codes::ReportCode;
 use line_io::{Disk, emit};
-use mistake::Mistake;
-use picture_words::PictureWords;
-use progress::Progress;
-use std::fmt::Display;
+use std::io;
 use std::io::{IsTerminal, Write};
 use std::process::ExitCode;
 use std::rt::{Env, Files};
-use std::{env, io};
-use words::{CompareWords, CutWords, Task, Telling, read_words, usage};
-
-// The refusal of a run with an argument that isn't UTF-8: the kit hands arguments on as text only.
-const NOT_UTF_8: &str =
-    "wadlens: a word isn't UTF-8, so the whole run is refused: hand such a file over as /dev/stdin <FILE";
 
 // What is told besides, if a picture's name looks like a file's.
 const NAME_FIRST: &[u8] =
@@ -59,23 +46,30 @@ fn do_words<R: Env + Files + Input + Print + Eprint + AllocGlobal, E: Write + Dr
     line: E,
     is_terminal: bool,
 ) -> Result<Verdict, End> {
-    let words = words_of(rt)?;
-    match read_words(rt.alloc(), &words) {
-        Ok(task) => do_task(rt, &task, errors, line, is_terminal),
-        Err(mistake) => {
-            let command = match words.get(1) {
-                Some(word) => word.as_str(),
-                None => "",
-            };
-            Err(tell_mistake(rt, command, &mistake))
-        }
+    let words = match given_words(rt) {
+        Ok(words) => words,
+        Err(unstarted) => return Err(end_of(unstarted)),
+    };
+    match task_of(rt, &words) {
+        Ok(task) => do_task(rt, task, errors, line, is_terminal),
+        Err(unstarted) => Err(end_of(unstarted)),
+    }
+}
+
+// How the run ends that the words don't start.
+fn end_of(unstarted: Unstarted) -> End {
+    match unstarted {
+        Unstarted::Memory => End::Memory,
+        Unstarted::Output => End::Output,
+        Unstarted::Refused => End::Refused,
+        Unstarted::Told => End::Told,
     }
 }
 
 // Does what is asked for.
 fn do_task<R: Files + Input + Print + AllocGlobal, E: Write + Drop>(
     rt: &R,
-    task: &Task<'_>,
+    task: Task<'_>,
     errors: E,
     line: E,
     is_terminal: bool,
@@ -93,10 +87,10 @@ fn do_task<R: Files + Input + Print + AllocGlobal, E: Write + Drop>(
             let shown = (words.progress || is_terminal).then_some(line);
             make_atlas(rt, words, errors, shown)
         }
-        Task::Explain(code) => explain(rt, *code),
-        Task::Cut(words) => cut(rt, words, errors),
-        Task::Draw(words) => draw(rt, words, errors),
-        Task::Compare(words) => compare(rt, words, errors),
+        Task::Explain(code) => explain(rt, code),
+        Task::Cut(words) => cut(rt, &words, errors),
+        Task::Draw(words) => draw(rt, &words, errors),
+        Task::Compare(words) => compare(rt, &words, errors),
         Task::List(path) => list(rt, path, errors),
         Task::Assemble => assemble(rt, errors),
     }
@@ -105,17 +99,19 @@ fn do_task<R: Files + Input + Print + AllocGlobal, E: Write + Drop>(
 // Reports on files.
 fn tell<R: Files + Input + AllocGlobal, O: Write + Drop, E: Write + Drop>(
     rt: &R,
-    telling: &Telling<'_>,
+    telling: Telling<'_>,
     output: O,
     errors: E,
     shown: Option<E>,
 ) -> Result<Verdict, End> {
+    let files = telling.files;
+    let job = report_of(telling.report, &telling.judging, files);
     let mut output = Output::new(rt.alloc(), output)?;
     let mut told = ToWrite::new(errors);
     let mut watch = Progress::new(shown);
     run_job(
         rt.alloc(),
-        &telling.job,
+        &job,
         &Disk(rt),
         rt.reader(),
         &mut output,
@@ -127,16 +123,18 @@ fn tell<R: Files + Input + AllocGlobal, O: Write + Drop, E: Write + Drop>(
 // Makes an atlas.
 fn make_atlas<R: Files + Input + AllocGlobal, E: Write + Drop>(
     rt: &R,
-    words: &AtlasWords<'_>,
+    words: AtlasWords<'_>,
     errors: E,
     shown: Option<E>,
 ) -> Result<Verdict, End> {
+    let folder = words.folder;
+    let job = atlas_of(words);
     run_atlas(
         rt.alloc(),
-        &words.job,
+        &job,
         &Disk(rt),
         rt.reader(),
-        &mut DiskFolder::new(rt, words.folder),
+        &mut DiskFolder::new(rt, folder),
         &mut ToWrite::new(errors),
         &mut Progress::new(shown),
     )
@@ -158,7 +156,7 @@ fn cut<R: Files + Print + AllocGlobal, E: Write + Drop>(
     let mut told = ToWrite::new(errors);
     run_cut(
         rt.alloc(),
-        words.level,
+        cut_of(words),
         words.path.as_bytes(),
         &Disk(rt),
         &mut output,
@@ -176,8 +174,8 @@ fn draw<R: Files + Print + AllocGlobal, E: Write + Drop>(
     let mut told = ToWrite::new(errors);
     let ended = run_picture(
         rt.alloc(),
-        words.question(),
-        words.files(),
+        &picture_of(words),
+        &words.files,
         &Disk(rt),
         &mut output,
         &mut told,
@@ -195,11 +193,16 @@ fn compare<R: Files + Print + AllocGlobal, E: Write + Drop>(
     words: &CompareWords<'_>,
     errors: E,
 ) -> Result<Verdict, End> {
+    let what = if words.commands {
+        Compared::Commands
+    } else {
+        Compared::Everything
+    };
     let mut output = Output::new(rt.alloc(), io::writer(rt))?;
     let mut told = ToWrite::new(errors);
     run_compare(
         rt.alloc(),
-        words.what,
+        what,
         words.path_a.as_bytes(),
         words.path_b.as_bytes(),
         &Disk(rt),
@@ -233,55 +236,4 @@ fn assemble<R: Input + Print + AllocGlobal, E: Write + Drop>(
     let mut output = Output::new(rt.alloc(), io::writer(rt))?;
     let mut told = ToWrite::new(errors);
     run_assemble(rt.alloc(), rt.reader(), &mut output, &mut told)
-}
-
-// The program's arguments, its name first.
-fn words_of<R: Env + Eprint + AllocGlobal>(rt: &R) -> Result<Vec<String>, End> {
-    match env::args(rt) {
-        Ok(words) => Ok(words.collect(rt.alloc())?),
-        Err(e) if e.kind() == io::ErrorKind::OutOfMemory => Err(End::Memory),
-        Err(_) => {
-            let _ = rt.eprintln(NOT_UTF_8);
-            Err(End::Refused)
-        }
-    }
-}
-
-// Prints why no run is started: a mistake, the help or the version.
-fn tell_mistake<R: Print + Eprint + AllocGlobal>(rt: &R, command: &str, mistake: &Mistake) -> End {
-    match mistake {
-        Mistake::Words(error) => tell_words(rt, command, error),
-        Mistake::Told(text) => tell_with_usage(rt, command, format_args!("error: {text}\n")),
-    }
-}
-
-// Prints the mistake, then the command's usage.
-fn tell_with_usage<R: Eprint + AllocGlobal>(
-    rt: &R,
-    command: &str,
-    mistaken: impl Display + Drop,
-) -> End {
-    let Ok(usage) = usage(rt.alloc(), command) else {
-        return End::Memory;
-    };
-    // If standard error fails, the message is lost.
-    let _ = rt.eprintln(format_args!("{mistaken}\n{}", usage.as_str()));
-    End::Refused
-}
-
-// Prints the mistake in the arguments, or the help or the version that they ask for.
-fn tell_words<R: Print + Eprint + AllocGlobal>(rt: &R, command: &str, error: &clap::Error) -> End {
-    match error.kind() {
-        ErrorKind::OutOfMemory => End::Memory,
-        // Their texts have no usage.
-        ErrorKind::InvalidValue | ErrorKind::ValueValidation => {
-            tell_with_usage(rt, command, format_args!("{error}"))
-        }
-        _ => match error.print(rt) {
-            Ok(()) if !error.use_stderr() => End::Told,
-            Err(e) if !error.use_stderr() && e.kind() != io::ErrorKind::BrokenPipe => End::Output,
-            Err(_) if !error.use_stderr() => End::Told,
-            _ => End::Refused,
-        },
-    }
 }

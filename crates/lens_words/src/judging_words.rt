@@ -1,61 +1,27 @@
 //! The arguments for how levels are judged.
 
-use crate::arg_row::{ArgRow, Bound, Takes};
 use crate::mistake::Mistake;
-use crate::shared_words::{WIDE, reading_of, texts_of};
+use crate::shared_words::reading_of;
 use clap::ArgMatches;
-use lens_engines::{Rules, Warnings};
-use lens_reports::BasePaths;
 use level_codes::{CodeSet, Group};
-use std::alloc::Global;
+use map_level::Reading;
 
-/// The option `--ignore`.
-pub const IGNORE: &[ArgRow] = &[ArgRow {
-    id: "ignore",
-    value: Some("CODES"),
-    takes: Takes::Codes,
-    bound: Bound::Free,
-    help: "Ignore these notes and warnings, as N2,W7-W8",
-}];
-
-/// The option `--fail`.
-pub const FAIL: &[ArgRow] = &[ArgRow {
-    id: "fail",
-    value: Some("CODES"),
-    takes: Takes::Codes,
-    bound: Bound::Free,
-    help: "End with status 1 at these, too, as N2,W9-W11; game, notes and warnings name many",
-}];
-
-/// The other arguments for how levels are judged.
-pub const JUDGING: &[ArgRow] = &[
-    WIDE,
-    ArgRow {
-        id: "map",
-        value: None,
-        takes: Takes::Flag,
-        bound: Bound::Free,
-        help: "Also report likely mapping mistakes: warnings",
-    },
-    // A warning ends a run as a fault does.
-    ArgRow {
-        id: "strict",
-        value: None,
-        takes: Takes::Flag,
-        bound: Bound::With("map"),
-        help: "End with status 1 at a warning, too",
-    },
-    ArgRow {
-        id: "base",
-        value: Some("FILE"),
-        takes: Takes::Texts,
-        bound: Bound::With("map"),
-        help: "A file that every FILE stands on, as its game's: its textures and flats count, too",
-    },
-];
+/// How levels are to be judged.
+#[derive(Clone, Copy)]
+pub struct JudgingWords {
+    pub reading: Reading,
+    /// Whether warnings are asked for.
+    pub warnings: bool,
+    /// Notes and warnings of these are neither shown nor counted.
+    pub ignored: CodeSet,
+    /// A note or a warning of these is as grave as a fault.
+    pub failing: CodeSet,
+    /// One at which the released game ends is, too.
+    pub game_ends: bool,
+}
 
 /// How levels are to be judged, by a command's arguments.
-pub fn rules_of(matches: &ArgMatches<'_>) -> Result<Rules, Mistake> {
+pub fn judging_of(matches: &ArgMatches<'_>) -> Result<JudgingWords, Mistake> {
     let ignored = codes_of(matches, "ignore", IGNORE_WANTS)?;
     let failing = codes_of(matches, "fail", FAIL_WANTS)?;
     if failing.written.shares(&ignored.written) {
@@ -66,13 +32,9 @@ pub fn rules_of(matches: &ArgMatches<'_>) -> Result<Rules, Mistake> {
     if !asked && failing.all().shares(&warnings) {
         return Err(Mistake::Told("--fail wants --map for a warning"));
     }
-    Ok(Rules {
+    Ok(JudgingWords {
         reading: reading_of(matches),
-        warnings: if asked {
-            Warnings::Told
-        } else {
-            Warnings::Unasked
-        },
+        warnings: asked,
         ignored: ignored.all(),
         failing: if matches.get_flag("strict") {
             failing.whole().with(warnings)
@@ -145,10 +107,4 @@ fn codes_of(
         }
     }
     Ok(codes)
-}
-
-/// The base files that a command's arguments name.
-pub fn bases_of<'a>(alloc: Global, matches: &ArgMatches<'a>) -> Result<BasePaths<'a>, Mistake> {
-    let paths = texts_of(alloc, matches, "base")?;
-    BasePaths::new(paths).ok_or(Mistake::Told("--base names at most 63 files"))
 }

@@ -1,17 +1,16 @@
 //! What the command line asks for.
 
 use crate::atlas_words::AtlasWords;
-use crate::command_words::{command_named, commands};
-use crate::judging_words::{bases_of, rules_of};
+use crate::file_words::FileWords;
+use crate::judging_words::{JudgingWords, judging_of};
 use crate::mistake::Mistake;
 use crate::picture_words::PictureWords;
-use crate::shared_words::{most_of, texts_of};
-use clap::{ArgMatches, Command};
-use demo_listings::Compared;
-use lens_reports::{CutAsked, ReportJob, ReportKind, SHOWN};
+use crate::shared_words::most_of;
+use clap::ArgMatches;
+use lens_args::program;
 use lens_texts::Form;
 use level_codes::ReportCode;
-use std::alloc::{AllocError, Global};
+use std::alloc::Global;
 
 /// What the command line asks for.
 #[derive(Drop)]
@@ -34,25 +33,42 @@ pub enum Task<'a> {
     Atlas(AtlasWords<'a>),
 }
 
-/// Which level is cut out.
-#[derive(Drop)]
+/// Which level is cut out, of which file.
+#[derive(Clone, Copy)]
 pub struct CutWords<'a> {
-    pub level: CutAsked<'a>,
+    /// The level's name; None if `entry` tells which level.
+    pub name: Option<&'a str>,
+    /// The number of the label among the file's entries.
+    pub entry: u64,
     pub path: &'a str,
 }
 
 /// Which demo files are compared, and what of them.
-#[derive(Drop)]
+#[derive(Clone, Copy)]
 pub struct CompareWords<'a> {
-    pub what: Compared,
+    /// Whether players and commands are compared alone.
+    pub commands: bool,
     pub path_a: &'a str,
     pub path_b: &'a str,
+}
+
+/// Which report is asked for.
+#[derive(Clone, Copy, Debug, PartialEq, Eq)]
+pub enum ReportAsked {
+    /// The findings of each level, in a form. At most so many of one code in one level are shown; None where the words don't say.
+    Check(Option<u64>, Form),
+    /// An object for each level.
+    Survey,
+    /// The demos, in a form.
+    Demos(Form),
 }
 
 /// What is reported on files, and how.
 #[derive(Drop)]
 pub struct Telling<'a> {
-    pub job: ReportJob<'a>,
+    pub report: ReportAsked,
+    pub judging: JudgingWords,
+    pub files: FileWords<'a>,
     /// Whether nothing is written to standard output.
     pub quiet: bool,
     /// Whether progress is shown on standard error.
@@ -63,50 +79,13 @@ pub struct Telling<'a> {
 /// version that was asked for.
 pub fn read_words<'a>(alloc: Global, words: &'a [String]) -> Result<Task<'a>, Mistake> {
     let matches = program(alloc)?.try_get_matches_from(words)?;
-    task_of(alloc, &matches)
-}
-
-/// The usage of a command that takes values, and of the program for any other name. It goes with a mistake whose text lacks
-/// it.
-pub fn usage(alloc: Global, command: &str) -> Result<String, AllocError> {
-    match shown(command) {
-        Some(shown) => command_named(alloc, command)?
-            .bin_name(shown)?
-            .render_usage(),
-        None => program(alloc)?.render_usage(),
-    }
-}
-
-// The command of this name as its usage shows it, if it takes values.
-fn shown(command: &str) -> Option<&'static str> {
-    match command {
-        "check" => Some("wadlens check"),
-        "survey" => Some("wadlens survey"),
-        "demos" => Some("wadlens demos"),
-        "explain" => Some("wadlens explain"),
-        "picture" => Some("wadlens picture"),
-        "cut" => Some("wadlens cut"),
-        "atlas" => Some("wadlens atlas"),
-        _ => None,
-    }
-}
-
-// The program with all its commands.
-fn program<'a>(alloc: Global) -> Result<Command<'a>, AllocError> {
-    let commands = commands(alloc)?;
-    Command::new(alloc, "wadlens")
-        .version("0.1.0")
-        .about("Looks over all levels of Doom WAD files")
-        .subcommand_required(true)
-        .disable_help_subcommand(true)
-        .subcommands(commands)
+    task_in(alloc, &matches)
 }
 
 // What the arguments ask for. Values that are read here without a default are required.
-fn task_of<'a>(alloc: Global, matches: &ArgMatches<'a>) -> Result<Task<'a>, Mistake> {
+fn task_in<'a>(alloc: Global, matches: &ArgMatches<'a>) -> Result<Task<'a>, Mistake> {
     if let Some(of_atlas) = matches.subcommand_matches("atlas") {
-        let telling = job_over(alloc, ReportKind::Survey, of_atlas)?;
-        return Ok(Task::Atlas(AtlasWords::of(telling, of_atlas)?));
+        return Ok(Task::Atlas(AtlasWords::of(alloc, of_atlas)?));
     }
     if let Some(of_picture) = matches.subcommand_matches("picture") {
         return Ok(Task::Draw(PictureWords::of(alloc, of_picture)?));
@@ -116,13 +95,14 @@ fn task_of<'a>(alloc: Global, matches: &ArgMatches<'a>) -> Result<Task<'a>, Mist
     }
     if let Some(of_cut) = matches.subcommand_matches("cut") {
         return Ok(Task::Cut(CutWords {
-            level: level_of(of_cut),
+            name: of_cut.get_str("level"),
+            entry: of_cut.get_one::<u64>("entry").unwrap_or(0),
             path: of_cut.get_str("file").unwrap_or(""),
         }));
     }
     if let Some(of_compare) = matches.subcommand_matches("compare") {
         return Ok(Task::Compare(CompareWords {
-            what: compared_of(of_compare),
+            commands: of_compare.get_flag("commands"),
             path_a: of_compare.get_str("a").unwrap_or(""),
             path_b: of_compare.get_str("b").unwrap_or(""),
         }));
@@ -133,24 +113,7 @@ fn task_of<'a>(alloc: Global, matches: &ArgMatches<'a>) -> Result<Task<'a>, Mist
     if matches.subcommand_matches("assemble").is_some() {
         return Ok(Task::Assemble);
     }
-    Ok(Task::Tell(job_of(alloc, matches)?))
-}
-
-// Which level the arguments of `cut` ask for.
-fn level_of<'a>(of_cut: &ArgMatches<'a>) -> CutAsked<'a> {
-    match of_cut.get_str("level") {
-        Some(name) => CutAsked::Named(name.as_bytes()),
-        None => CutAsked::Entry(of_cut.get_one::<u64>("entry").unwrap_or(0)),
-    }
-}
-
-// What of two demos the arguments ask to compare.
-fn compared_of(of_compare: &ArgMatches<'_>) -> Compared {
-    if of_compare.get_flag("commands") {
-        Compared::Commands
-    } else {
-        Compared::Everything
-    }
+    Ok(Task::Tell(telling_of(alloc, matches)?))
 }
 
 // The code that the arguments name, if they name one.
@@ -165,17 +128,17 @@ fn code_of(of_explain: &ArgMatches<'_>) -> Result<Option<ReportCode>, Mistake> {
 }
 
 // Which report the arguments ask for.
-fn job_of<'a>(alloc: Global, matches: &ArgMatches<'a>) -> Result<Telling<'a>, Mistake> {
+fn telling_of<'a>(alloc: Global, matches: &ArgMatches<'a>) -> Result<Telling<'a>, Mistake> {
     match matches.subcommand_matches("check") {
         Some(of_check) => {
-            let word = ReportKind::Check(most_of(of_check, SHOWN), form_of(of_check));
-            job_over(alloc, word, of_check)
+            let report = ReportAsked::Check(most_of(of_check), form_of(of_check));
+            telling_over(alloc, report, of_check)
         }
         None => match matches.subcommand_matches("demos") {
-            Some(of_demos) => job_over(alloc, ReportKind::Demos(form_of(of_demos)), of_demos),
+            Some(of_demos) => telling_over(alloc, ReportAsked::Demos(form_of(of_demos)), of_demos),
             None => match matches.subcommand_matches("survey") {
-                Some(of_survey) => job_over(alloc, ReportKind::Survey, of_survey),
-                None => job_over(alloc, ReportKind::Survey, matches),
+                Some(of_survey) => telling_over(alloc, ReportAsked::Survey, of_survey),
+                None => telling_over(alloc, ReportAsked::Survey, matches),
             },
         },
     }
@@ -190,24 +153,18 @@ fn form_of(matches: &ArgMatches<'_>) -> Form {
     }
 }
 
-// The job over the files that a command's arguments name.
-fn job_over<'a>(
+// This report over the files that a command's arguments name.
+fn telling_over<'a>(
     alloc: Global,
-    word: ReportKind,
+    report: ReportAsked,
     matches: &ArgMatches<'a>,
 ) -> Result<Telling<'a>, Mistake> {
-    let rules = rules_of(matches)?;
-    let bases = bases_of(alloc, matches)?;
-    let files = texts_of(alloc, matches, "files")?;
+    let judging = judging_of(matches)?;
+    let files = FileWords::of(alloc, matches)?;
     Ok(Telling {
-        job: ReportJob {
-            word,
-            rules,
-            bases,
-            files,
-            list: matches.get_str("files-from"),
-            list_end: if matches.get_flag("null") { 0 } else { b'\n' },
-        },
+        report,
+        judging,
+        files,
         quiet: matches.get_flag("quiet"),
         progress: matches.get_flag("progress"),
     })

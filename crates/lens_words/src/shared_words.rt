@@ -1,6 +1,5 @@
 //! Arguments that several commands take.
 
-use crate::arg_row::{ArgRow, Bound, Takes};
 use crate::mistake::Mistake;
 use clap::ArgMatches;
 use map_cells::CellCount;
@@ -9,15 +8,6 @@ use std::alloc::{AllocError, Global};
 
 /// The default of `--cells`: how many cells the longer side of a picture has at most.
 const DEFAULT_CELLS: u32 = 512;
-
-/// The option `--wide`: a level's indexes are read as numbers from 0 to 65535.
-pub const WIDE: ArgRow = ArgRow {
-    id: "wide",
-    value: None,
-    takes: Takes::Flag,
-    bound: Bound::Free,
-    help: "Read a level's indexes as numbers from 0 to 65535",
-};
 
 /// How a level's indexes are read, by a command's arguments.
 pub fn reading_of(matches: &ArgMatches<'_>) -> Reading {
@@ -28,27 +18,18 @@ pub fn reading_of(matches: &ArgMatches<'_>) -> Reading {
     }
 }
 
-/// The option `--cells`: how many cells the longer side of a picture has at most.
-pub const CELLS: ArgRow = ArgRow {
-    id: "cells",
-    value: Some("N"),
-    takes: Takes::Cells,
-    bound: Bound::Free,
-    help: "Draw at most N cells along the longer side [default: 512]",
-};
-
 /// How many cells a command's arguments ask for.
 pub fn cells_of(matches: &ArgMatches<'_>) -> Result<CellCount, Mistake> {
     let cells = matches.get_one::<u32>("cells").unwrap_or(DEFAULT_CELLS);
     CellCount::new(cells).ok_or(Mistake::Told("--cells wants a number from 1 to 1024"))
 }
 
-/// How many findings or warnings of one code are shown of a level at most, by a command's arguments, where 0 asks for all.
-pub fn most_of(matches: &ArgMatches<'_>, default: u64) -> u64 {
+/// How many findings or warnings of one code are shown of a level at most, by a command's arguments, where 0 asks for all; None
+/// where they don't say.
+pub fn most_of(matches: &ArgMatches<'_>) -> Option<u64> {
     match matches.get_one::<u64>("max") {
-        Some(0) => u64::MAX,
-        Some(most) => most,
-        None => default,
+        Some(0) => Some(u64::MAX),
+        most => most,
     }
 }
 

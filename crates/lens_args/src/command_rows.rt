@@ -1,9 +1,9 @@
 //! The commands, and the rows of their arguments.
 
 use crate::arg_row::{ArgRow, Bound, Takes};
-use crate::atlas_words::ATLAS;
-use crate::judging_words::{FAIL, IGNORE, JUDGING};
-use crate::picture_words::PICTURE;
+use crate::atlas_rows::ATLAS;
+use crate::judging_rows::{FAIL, IGNORE, JUDGING};
+use crate::picture_rows::PICTURE;
 use clap::{Arg, Command};
 use std::alloc::{AllocError, Global};
 

@@ -1,6 +1,6 @@
 //! The line that shows how far a run is. It is rewritten in place.
 
-use lens_reports::Watch;
+use lens_texts::Watch;
 use level_starts::LevelStarts;
 use std::alloc::Allocator;
 use std::io::Write;

@@ -30,8 +30,8 @@ cases_of_explain() {
     tells 'the first line of the list' $'F1   fault    lump missing after the label\nF2   fault    lump' explain
     tells 'the last line of the list' 'W25  warning  flat not between its ends' explain
     run_on '' explain
-    [[ $(wc -l <output) -ne 41 ]] || : >output
-    judge 'the list has 41 lines' 0 '' ''
+    [[ $(wc -l <output) -ne 55 ]] || : >output
+    judge 'the list has 55 lines' 0 '' ''
     for code in F19 N13 W26 F0 F01 F '' 'F3 ' X1 n2,w7 sector; do
         mistaken "no such code: '$code'" 'there are the codes F1 to F18, N1 to N12 and W1 to W25' explain "$code"
     done

@@ -426,8 +426,8 @@ const EXPLANATIONS = {
   W16: {
     text: 'special that acts on nothing',
     parts: [
-      "A linedef's special acts when something crosses it, and nothing can; or it takes to a tag, and no sector with the tag has a destination.",
-      "What a linedef stops doesn't cross it (PIT_CheckLine, P_TryMove). A teleporter looks for a thing of type 14 in the sectors of its tag (EV_Teleport), and does nothing without one.",
+      "A linedef's special acts when something crosses it, and nothing can; or it teleports, and no sector with its tag has a destination.",
+      "A linedef isn't crossed by what it stops (PIT_CheckLine, P_TryMove). A teleporter looks for a thing of type 14 in the sectors of its tag (EV_Teleport), and does nothing without one.",
       'Give the linedef a back sidedef, or clear the flag that blocks. Place a thing of type 14 in the sector.',
     ],
   },
@@ -435,7 +435,7 @@ const EXPLANATIONS = {
     text: 'use ends or spoils the game',
     parts: [
       "The use of a linedef's special ends the game, or spoils a sector.",
-      "A door in a wall ends it (EV_VerticalDoor), and so does a 31st platform (P_AddActivePlat). A donut may read what isn't there (EV_DoDonut). A floor that changes may find no neighbour, and gets a special out of memory (EV_DoFloor).",
+      "A door in a wall ends it (EV_VerticalDoor), and so does a 31st platform (P_AddActivePlat). A 31st ceiling can't be stopped (P_AddActiveCeiling). A list has room for 20 higher neighbours (P_FindNextHighestFloor). A donut (EV_DoDonut) and a floor that changes (EV_DoFloor) may read what isn't there.",
       "Put the special on a linedef with two sides, give fewer sectors the tag, or draw the sector's linedefs in another order.",
     ],
   },
@@ -444,14 +444,14 @@ const EXPLANATIONS = {
     parts: [
       "A sector's special is none of the game's.",
       "Once a player stands on the sector's floor, the game ends with an error (P_PlayerInSpecialSector).",
-      'Choose another special. Ignore W18 where no player gets to.',
+      'Choose another special. Ignore W18 where no player can stand.',
     ],
   },
   W19: {
     text: 'no exit, or a key missing',
     parts: [
       "Nothing ends the level, or a linedef wants a key that isn't there in some skill.",
-      "Without an exit the level goes on for ever. What is locked stays shut (EV_VerticalDoor, EV_DoLockedDoor); keys don't last from level to level. Things for several players aren't there for one.",
+      "Without an exit the level goes on for ever. Locked doors stay shut (EV_VerticalDoor, EV_DoLockedDoor); keys don't last from level to level. Things for several players aren't there for one.",
       'Place an exit, or the key in each skill. Ignore W19 in a level for deathmatch, where players have all keys.',
     ],
   },

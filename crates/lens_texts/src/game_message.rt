@@ -121,7 +121,7 @@ fn prepend_counted(line: &mut TextLine, count: u32, what: &[u8])
     prepend_count(line, count as usize);
 }
 
-// What keeps all from crossing a linedef.
+// The reason why none crosses a linedef.
 fn prepend_barrier(line: &mut TextLine, barrier: Barrier)
     requires { length line.old ≤ 20 }
     ensures text { line.new ≡ barrier_text barrier line.old }
@@ -133,7 +133,7 @@ fn prepend_barrier(line: &mut TextLine, barrier: Barrier)
     }
 }
 
-// That a teleporter leads nowhere.
+// Says that a teleporter has no destination.
 fn prepend_no_destination(line: &mut TextLine, level: &Level<'_>, linedef: u32)
     requires { line.old ≡ [] }
     ensures { line.new ≡ game_message level.now (game.NoDestination linedef) line.old }
@@ -201,7 +201,7 @@ fn prepend_numbered(line: &mut TextLine, words: &[u8], number: u32)
     line.prepend_bytes(words);
 }
 
-// That the floor of a sector ends the game.
+// Says that a sector's floor ends the game.
 fn prepend_deadly_floor(line: &mut TextLine, level: &Level<'_>, sector: u32)
     requires { line.old ≡ [] }
     ensures { line.new ≡ game_message level.now (game.DeadlyFloor sector) line.old }
@@ -221,7 +221,7 @@ fn prepend_sector_special(line: &mut TextLine, level: &Level<'_>, sector: u32)
     }
 }
 
-// That linedefs want a key that isn't there.
+// Says that linedefs want a key that isn't there.
 fn prepend_locked(line: &mut TextLine, key: Key, linedefs: u32, skills: Skills)
     requires { line.old ≡ [] }
     ensures { line.new ≡ locked_text key linedefs skills line.old }
@@ -263,7 +263,7 @@ fn prepend_skills(line: &mut TextLine, skills: Skills)
     }
 }
 
-// That the first game ends its reading at a thing.
+// Says that the first game ends its reading at a thing.
 fn prepend_ending(line: &mut TextLine, level: &Level<'_>, thing: u32, follow: u32)
     requires { line.old ≡ [] }
     ensures { line.new ≡ game_message level.now (game.EndsThings thing follow) line.old }
@@ -294,7 +294,7 @@ fn prepend_shot(line: &mut TextLine, skills: Skills)
     prepend_skills(line, skills);
 }
 
-// That a flat isn't between the ends of the flats.
+// Says that a flat isn't between the ends of the flats.
 fn prepend_misplaced(line: &mut TextLine, level: &Level<'_>, sector: u32, surface: Surface)
     requires { line.old ≡ [] }
     ensures { line.new ≡ misplaced_text level.now sector surface line.old }

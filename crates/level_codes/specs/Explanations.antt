@@ -208,20 +208,20 @@ explanation_table =
     (codes "The game compares 0 like any other tag (P_FindSectorFromLineTag): the special" ∷ codes "moves every sector without a tag, or changes its light." ∷ [])
     (codes "Give the linedef a tag, and the sectors that are meant the same one." ∷ [])
     ∷ explained
-    (codes "A linedef's special acts when something crosses it, and nothing can; or it takes" ∷ codes "to a tag, and no sector with the tag has a destination." ∷ [])
-    (codes "What a linedef stops doesn't cross it (PIT_CheckLine, P_TryMove). A teleporter" ∷ codes "looks for a thing of type 14 in the sectors of its tag (EV_Teleport), and does" ∷ codes "nothing without one." ∷ [])
+    (codes "A linedef's special acts when something crosses it, and nothing can; or it" ∷ codes "teleports, and no sector with its tag has a destination." ∷ [])
+    (codes "A linedef isn't crossed by what it stops (PIT_CheckLine, P_TryMove). A" ∷ codes "teleporter looks for a thing of type 14 in the sectors of its tag (EV_Teleport)," ∷ codes "and does nothing without one." ∷ [])
     (codes "Give the linedef a back sidedef, or clear the flag that blocks. Place a thing of" ∷ codes "type 14 in the sector." ∷ [])
     ∷ explained
     (codes "The use of a linedef's special ends the game, or spoils a sector." ∷ [])
-    (codes "A door in a wall ends it (EV_VerticalDoor), and so does a 31st platform" ∷ codes "(P_AddActivePlat). A donut may read what isn't there (EV_DoDonut). A floor that" ∷ codes "changes may find no neighbour, and gets a special out of memory (EV_DoFloor)." ∷ [])
+    (codes "A door in a wall ends it (EV_VerticalDoor), and so does a 31st platform" ∷ codes "(P_AddActivePlat). A 31st ceiling can't be stopped (P_AddActiveCeiling). A list" ∷ codes "has room for 20 higher neighbours (P_FindNextHighestFloor). A donut (EV_DoDonut)" ∷ codes "and a floor that changes (EV_DoFloor) may read what isn't there." ∷ [])
     (codes "Put the special on a linedef with two sides, give fewer sectors the tag, or draw" ∷ codes "the sector's linedefs in another order." ∷ [])
     ∷ explained
     (codes "A sector's special is none of the game's." ∷ [])
     (codes "Once a player stands on the sector's floor, the game ends with an error" ∷ codes "(P_PlayerInSpecialSector)." ∷ [])
-    (codes "Choose another special. Ignore W18 where no player gets to." ∷ [])
+    (codes "Choose another special. Ignore W18 where no player can stand." ∷ [])
     ∷ explained
     (codes "Nothing ends the level, or a linedef wants a key that isn't there in some skill." ∷ [])
-    (codes "Without an exit the level goes on for ever. What is locked stays shut" ∷ codes "(EV_VerticalDoor, EV_DoLockedDoor); keys don't last from level to level. Things" ∷ codes "for several players aren't there for one." ∷ [])
+    (codes "Without an exit the level goes on for ever. Locked doors stay shut" ∷ codes "(EV_VerticalDoor, EV_DoLockedDoor); keys don't last from level to level. Things" ∷ codes "for several players aren't there for one." ∷ [])
     (codes "Place an exit, or the key in each skill. Ignore W19 in a level for deathmatch," ∷ codes "where players have all keys." ∷ [])
     ∷ explained
     (codes "This number is kept for a later version, and no level is looked at for it." ∷ [])

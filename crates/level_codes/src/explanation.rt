@@ -371,19 +371,20 @@ const EXPLANATIONS: [Explanation; REPORT_COUNT] = [
         b"Give the linedef a tag, and the sectors that are meant the same one.\n",
     },
     explained! { W16,
-        b"A linedef's special acts when something crosses it, and nothing can; or it takes\n\
-          to a tag, and no sector with the tag has a destination.\n",
-        b"What a linedef stops doesn't cross it (PIT_CheckLine, P_TryMove). A teleporter\n\
-          looks for a thing of type 14 in the sectors of its tag (EV_Teleport), and does\n\
-          nothing without one.\n",
+        b"A linedef's special acts when something crosses it, and nothing can; or it\n\
+          teleports, and no sector with its tag has a destination.\n",
+        b"A linedef isn't crossed by what it stops (PIT_CheckLine, P_TryMove). A\n\
+          teleporter looks for a thing of type 14 in the sectors of its tag (EV_Teleport),\n\
+          and does nothing without one.\n",
         b"Give the linedef a back sidedef, or clear the flag that blocks. Place a thing of\n\
           type 14 in the sector.\n",
     },
     explained! { W17,
         b"The use of a linedef's special ends the game, or spoils a sector.\n",
         b"A door in a wall ends it (EV_VerticalDoor), and so does a 31st platform\n\
-          (P_AddActivePlat). A donut may read what isn't there (EV_DoDonut). A floor that\n\
-          changes may find no neighbour, and gets a special out of memory (EV_DoFloor).\n",
+          (P_AddActivePlat). A 31st ceiling can't be stopped (P_AddActiveCeiling). A list\n\
+          has room for 20 higher neighbours (P_FindNextHighestFloor). A donut (EV_DoDonut)\n\
+          and a floor that changes (EV_DoFloor) may read what isn't there.\n",
         b"Put the special on a linedef with two sides, give fewer sectors the tag, or draw\n\
           the sector's linedefs in another order.\n",
     },
@@ -391,11 +392,11 @@ const EXPLANATIONS: [Explanation; REPORT_COUNT] = [
         b"A sector's special is none of the game's.\n",
         b"Once a player stands on the sector's floor, the game ends with an error\n\
           (P_PlayerInSpecialSector).\n",
-        b"Choose another special. Ignore W18 where no player gets to.\n",
+        b"Choose another special. Ignore W18 where no player can stand.\n",
     },
     explained! { W19,
         b"Nothing ends the level, or a linedef wants a key that isn't there in some skill.\n",
-        b"Without an exit the level goes on for ever. What is locked stays shut\n\
+        b"Without an exit the level goes on for ever. Locked doors stay shut\n\
           (EV_VerticalDoor, EV_DoLockedDoor); keys don't last from level to level. Things\n\
           for several players aren't there for one.\n",
         b"Place an exit, or the key in each skill. Ignore W19 in a level for deathmatch,\n\

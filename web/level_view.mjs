@@ -197,7 +197,7 @@ export class LevelView {
   /** @param {Asked} asked */
   async #look(asked) {
     const began = performance.now();
-    const { level, findings, spots } = await this.desk.ask('look', asked, `Judging ${asked.name}`);
+    const { level, findings, lacking, spots } = await this.desk.ask('look', asked, `Judging ${asked.name}`);
     if (this.asked !== asked) return;
     if (level.format !== 'doom') return this.#sketch(asked, level);
     this.level = level;
@@ -205,7 +205,7 @@ export class LevelView {
     this.#tell();
     this.#list(new Lines(findings), spots);
     if (this.kept) this.#compare(this.kept, asked);
-    const left = unlookedWords(level, asked.wantsGame);
+    const left = unlookedWords(level, lacking, asked.wantsGame);
     get('unlooked').textContent = left;
     get('unlooked').hidden = !left;
     get('pin').removeAttribute('disabled');

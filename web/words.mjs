@@ -95,20 +95,18 @@ export function adviceOf(objects) {
 
 const SILENCING = /^F[3-9]$/; // with one of these no warning is looked for
 
-/** Of what is looked for only with it, the lump that lists the names; W25 lacks the end of the flats where W10 has their start. */
-const LISTED_IN = /** @type {Record<string, string>} */ ({ W9: 'TEXTURE1', W10: 'F_START', W25: 'F_END' });
+const LISTED = ['W9', 'W10', 'W25']; // looked for only where a file lists the names
 
 /**
  * What wasn't looked for in a level, as the program tells it, and what helps: here that is a game's file, dropped too, and for the program
  * `--base`.
- * @param {Level} level @param {boolean} wantsGame
+ * @param {Level} level @param {string} lacking  the lumps that no file has @param {boolean} wantsGame
  */
-export function unlookedWords({ sound, findings = {}, unlooked = [] }, wantsGame) {
+export function unlookedWords({ sound, findings = {}, unlooked = [] }, lacking, wantsGame) {
   if (Object.keys(findings).some((code) => SILENCING.test(code))) return "Warnings aren't looked for until F3 to F9 are mended.";
-  const unlisted = unlooked.filter((code) => LISTED_IN[code]);
-  const lumps = unlisted.filter((code) => code !== 'W25' || !unlisted.includes('W10')).map((code) => LISTED_IN[code]);
+  const unlisted = unlooked.filter((code) => LISTED.includes(code));
   const help = wantsGame ? "; drop the game's file, too." : '.';
-  const names = unlisted.length ? `${unlisted.join(', ')} weren't looked for: no file has ${lumps.join(', ')}${help}` : '';
+  const names = unlisted.length ? `${unlisted.join(', ')} weren't looked for: no file has ${lacking}${help}` : '';
   return [sound ? '' : "W3 and W5 aren't looked for until all faults are mended.", names].filter(Boolean).join(' ');
 }
 

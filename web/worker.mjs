@@ -48,6 +48,8 @@ function findingsIn(told) {
 const utf8 = (/** @type {string} */ words) => new TextEncoder().encode(words);
 const text = (/** @type {Uint8Array} */ bytes) => new TextDecoder().decode(bytes);
 const firstLine = (/** @type {Ended} */ ended) => text(ended.answer).split('\n')[0];
+/** The lumps that no file has, for want of which some warnings weren't looked for. @param {Ended} ended */
+const lackingOf = (ended) => /: no file has (.*); name the game's with --base$/m.exec(ended.refused)?.[1] ?? '';
 const reason = (/** @type {Ended} */ ended) => ended.refused.replace(/^wadlens: [^:]*: /, '').trim();
 
 /**
@@ -266,7 +268,7 @@ const jobs = {
     const room = Math.max(1 << 20, isWhole ? OBJECT * found : 0); // so many objects need room
     const check = await judge(asked, { command: 'check', json: true, max: isWhole ? 0 : FEW }, bases, file, room);
     const spots = { vertex: counts.N12 && spotsOf(file, 4, 4), node: counts.F12 && spotsOf(file, 7, 28) };
-    return { level, findings: findingsIn(check.answer), spots };
+    return { level, findings: findingsIn(check.answer), lacking: lackingOf(check), spots };
   },
 
   /**

@@ -76,7 +76,7 @@ def of_lens(asked: lens.Asked, held: Files) -> Iterator[Asked]:
         return
     there, bases = ([path for path in paths if bytes_under(path, held) is not None] for paths in (asked.paths, asked.bases))
     if there and not asked.lost:
-        asked = asked._replace(paths=there, ignored=frozenset(), failing=frozenset(), bases=tuple(bases))
+        asked = asked._replace(paths=there, ignored=frozenset(), failing=frozenset(), game=False, bases=tuple(bases))
         files = [held[path] or b"" for path in (*bases, *there)]
         yield Asked(lens_words(asked), files, b"", wadlens.run(asked, held, b""))
 

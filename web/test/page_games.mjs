@@ -11,7 +11,7 @@ const mineFile = written('mine.wad', mine), gameFile = written('game.wad', game)
 
 /** What a note adds where the game's file is wanted, in the place of what the program adds. */
 const HELPS = "; drop the game's file, too.", PROGRAM_HELPS = "; name the game's with --base";
-const NEITHER = `W9, W10, W25 weren't looked for: no file has TEXTURE1, F_START${HELPS}`;
+const NEITHER = `W9, W10, W25 weren't looked for: no file has TEXTURE1, F_START, F_END${HELPS}`;
 const W9 = "Middle texture NOWALL isn't there, of linedef 5", W10 = "Floor flat NOFLAT isn't there";
 
 /** The note of what wasn't looked for; nothing where there is none. @returns {Promise<string>} */
@@ -103,7 +103,7 @@ async function own() {
   await drawn('MAP01');
   await judged();
   check('textures of its own', [await textsOf('#levels .row-state'), await codes()], [['ends the game: 1 warning · W9'], 'W9 1']);
-  check('flats of none', await note(), `W10, W25 weren't looked for: no file has F_START${HELPS}`);
+  check('flats of none', await note(), `W10, W25 weren't looked for: no file has F_START, F_END${HELPS}`);
   await fresh();
   await browser.drop(written('label.wad', wad([...rooms('TEXTURE1', { damage: twoUnknown }), ...rooms('NOFLAT', { flat: 'LEVEL' }), ...wallsOfRooms()])));
   await drawn('TEXTURE1');

@@ -83,6 +83,7 @@ cases_of_game() {
     cases_of_patches
     cases_of_flat_ends
     cases_of_game_objects
+    cases_of_ended_game
 }
 
 # ---- Specials -------------------------------------------------------------------------------------------------------
@@ -462,4 +463,50 @@ cases_of_game_objects() {
         told_as '"code":"W21","kind":"thing","index":1,"message":"has no target (type 87) in easy, medium, hard: its shot ends the game","place":{"at":[64,64]}'
         printf '{"levels":1,"files":1,"faults":0,"notes":0,"warnings":1,"not_judged":0}\\n'
     )" '' check --json --map --ignore notes,W1-W19,W22-W25 square.wad
+}
+
+# ---- What fails -----------------------------------------------------------------------------------------------------
+
+# ends_with_game NAME STATUS CODES [LUMP BYTES]...: what `check --fail game` ends with at the square with these lumps and with what `lines` and
+# `sides` drew, of which these codes alone are told.
+ends_with_game() {
+    level "${square[@]}" "${drawn[@]}" "${sided[@]}" "${@:4}" >square.wad
+    run_on '' survey --map --ignore "$untold" "${bases[@]}" square.wad
+    sed 's/.*"warnings":{\([^}]*\)}.*/\1/; s/:[0-9]*//g; s/"//g' output >codes
+    says "fail: $1" "$2" '' '' check --quiet --map --fail game --ignore "$untold" "${bases[@]}" square.wad
+    mv codes output
+    printf 0 >status
+    judge "fail: $1: its codes" 0 "$3\\n" ''
+}
+
+# W17, W18 and W22 end the game, but for W22's deathmatch starts.
+cases_of_ended_game() {
+    local label=MAP30 drawn=() sided=() behind=() bases=() many untold=notes,W1-W13,W19,W25
+    sides 0 0
+    many=$(sector)$(times 31 "$(sector_as 0 0 5)")
+    lines 1 142 0 4 -1
+    ends_with_game 'an unknown special' 0 W14
+    lines 1 23 0 4 -1
+    ends_with_game 'tag 0' 0 W15
+    lines 5 36 5 4 5
+    ends_with_game 'what is never crossed' 0 W16
+    lines 1 41 5 4 -1
+    ends_with_game 'a ceiling too many' 1 W17 SECTORS "$many"
+    lines 1 9 5 4 -1
+    ends_with_game 'a donut' 1 W17 SECTORS "$(sector)$(sector_as 0 0 5)"
+    drawn=()
+    ends_with_game 'a floor' 1 W18 SECTORS "$(sector_as 0 15 0)"
+    ends_with_game 'a shooter without a target' 0 W21 THINGS "$(placed 89 7)"
+    ends_with_game 'a deathmatch start too many' 0 W22 THINGS "$square_start$(times 11 "$(words 64 64 0 11 7)")"
+    ends_with_game 'a long savegame' 1 W22 THINGS "$(barrels 1152 7)"
+    ends_with_game 'a long savegame, and a deathmatch start too many' 1 W22 THINGS "$(barrels 1152 7)$(times 11 "$(words 64 64 0 11 7)")"
+    lines 4 53 4 4 5 4 87 5 4 5
+    ends_with_game 'a perpetual platform too many' 1 W22 SECTORS "$(sector)$(times 16 "$(sector_as 0 0 4)")$(times 15 "$(sector_as 0 0 5)")"
+    drawn=()
+    behind=(TEXTURE1 "$(textured 0)" PNAMES "$(words 1 0)$(name8 PLANK)")
+    ends_with_game 'a patch that lacks' 1 W22
+    behind=() untold=notes,W1-W18,W20-W25
+    ends_with_game 'no exit' 0 W19
+    untold=notes,W1-W24 behind=(FLAT1 '' F_START '' F_END '')
+    ends_with_game 'a flat before F_START' 0 W25
 }

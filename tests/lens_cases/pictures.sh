@@ -115,16 +115,34 @@ cases_of_marked_warnings() {
     says 'picture --map: a thing of no known type' 0 "$(drawn 'E1M1: faults 0 notes 0' "$usual_view" "$usual_matrix" \
         "$(shaded 1 'M0 0h1v65h-1z' 65)" "$line" '' "$unknown")" '' picture --map --ignore W1 E1M1 unknown.wad
     things=''
-    level LINEDEFS "$(words 0 1 4 142 0 0 1)" >special.wad
-    says 'picture --map: a special that the game does not know' 0 "$(drawn 'E1M1: faults 0 notes 0' "$usual_view" "$usual_matrix" \
-        "$(shaded 1 'M0 0h1v65h-1z' 65)" "$line" '' "$(warning_mark 'M0 0L0 64' 'W14 0 unknown special')")" '' \
-        picture --map --ignore W1 E1M1 special.wad
+    cases_of_marked_game
     says 'picture --map: none where a reference lacks' 1 "$half" '' picture --map E1M1 faulty.wad
     level THINGS "$(words 8 8 0 1 7)$(times 1001 "$(words 8 8 0 32000 7)")" >many.wad
     timeout 60 "$program" picture --map E1M1 many.wad 2>error | grep -c '<title>W11 ' >output
     printf 0 >status
     judge 'picture --map: as many marks as warnings' 0 '1001\n' ''
     mistaken 'picture: --ignore of a fault' '--ignore' picture --ignore F3 E1M1 base.wad
+}
+
+# What the released game does at a linedef is drawn there, and what it does with a thing stands in a ring about the thing. 31 sectors have tag 5.
+cases_of_marked_game() {
+    local code special text things
+    while IFS=: read -r code special text; do
+        # shellcheck disable=SC2086  # words
+        level LINEDEFS "$(words 0 1 $special 0 1)" SECTORS "$(sector)$(sector)$(times 31 "$(sector_as 0 0 5)")" REJECT "$(times 137 '\x00')" >special.wad
+        says "picture --map: $code" 0 "$(drawn 'E1M1: faults 0 notes 0' "$usual_view" "$usual_matrix" \
+            "$(shaded 1 'M0 0h1v65h-1z' 65)" "$line" '' "$(warning_mark 'M0 0L0 64' "$code 0 $text")")" '' picture --map --ignore W1 E1M1 special.wad
+        says "picture --map: $code is ignored" 0 "$whole" '' picture --map --ignore "W1,$code" E1M1 special.wad
+    done <<'END'
+W14:4 142 0:unknown special
+W15:4 23 0:special with tag 0
+W16:5 36 5:special that acts on nothing
+W17:4 21 5:use ends or spoils the game
+END
+    level THINGS "$(words 8 8 0 1 7 0 0 90 2013 8)" >unplaced.wad
+    things=$(thing start '8 8' 0 '0: type 1, angle 0, flags 7')$(thing other '0 0' 90 '1: type 2013, angle 90, flags 8')
+    says 'picture --map: W21' 0 "$(drawn 'E1M1: faults 0 notes 0' "$usual_view" "$usual_matrix" "$(shaded 1 'M0 0h1v65h-1z' 65)" "$line" '' \
+        "$(warning_mark "$ring" 'W21 1 thing unread, unplaced or deadly')")" '' picture --map --ignore W1 E1M1 unplaced.wad
 }
 
 cases_of_frames() {

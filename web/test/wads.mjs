@@ -2,7 +2,7 @@
 import { deflateRawSync } from 'node:zlib';
 
 /** @param {string} name */
-const eight = (name) => Buffer.concat([Buffer.from(name, 'latin1'), Buffer.alloc(8)]).subarray(0, 8);
+export const eight = (name) => Buffer.concat([Buffer.from(name, 'latin1'), Buffer.alloc(8)]).subarray(0, 8);
 /** @param {number[]} numbers of 16 bits */
 export const words = (...numbers) => Buffer.from(Uint8Array.from(numbers.flatMap((word) => [word & 255, (word >> 8) & 255])));
 

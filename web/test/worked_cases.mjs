@@ -1,7 +1,7 @@
 // The worked cases of levels, files and demos, each under its name, and the lines of input that they are asked with.
 import { readFileSync } from 'node:fs';
 import { join } from 'node:path';
-import { wad, words } from './wads.mjs';
+import { eight, wad, words } from './wads.mjs';
 
 const USUAL = ['THINGS', 'LINEDEFS', 'SIDEDEFS', 'VERTEXES', 'SEGS', 'SSECTORS', 'NODES', 'SECTORS', 'REJECT', 'BLOCKMAP'];
 
@@ -67,6 +67,72 @@ function lumpCases(own) {
   ];
 }
 
+/** So many of a thing. @template T @param {number} count @param {T} one */
+const times = (count, one) => Array.from({ length: count }, () => one);
+
+/**
+ * @typedef {{ label?: string, things?: number[][], lines?: number[][], sides?: number[], sectors?: number[][], behind?: [string, Buffer][] }} More
+ *   kinds and options of things; flags, special, tag and sidedefs of linedefs from 4 on; the sectors of sidedefs from 4 on; floor, special and tag of
+ *   the sectors; lumps behind the level
+ */
+
+/** A square room of sector 0, in one ssector, with player 1 in its middle. @param {More} more */
+function square({ label = 'E1M1', things = [], lines = [], sides = [0, 0], sectors = [[0, 0, 0]], behind = [] }) {
+  const corners = [[0, 0], [0, 256], [256, 256], [256, 0]], turns = [16384, 0, -16384, -32768];
+  const walls = corners.map((_, k) => [k, (k + 1) % 4, 1, 0, 0, k, -1]), inner = lines.map((line, k) => [4 + 2 * k, 5 + 2 * k, ...line]);
+  const side = (/** @type {number} */ sector) => Buffer.concat([words(0, 0), eight('-'), eight('-'), eight('WALL'), words(sector)]);
+  const sector = ([floor, special, tag] = [0, 0, 0]) => Buffer.concat([words(floor, 128), eight('FLAT1'), eight('FLAT1'), words(160, special, tag)]);
+  /** @type {Record<string, Buffer>} */
+  const lumps = {
+    THINGS: words(128, 128, 90, 1, 7, ...things.flatMap((thing) => [64, 64, 0, ...thing])),
+    LINEDEFS: words(...walls.flat(), ...inner.flat()),
+    SIDEDEFS: Buffer.concat([0, 0, 0, 0, ...sides].map(side)),
+    VERTEXES: words(...corners.flat(), ...lines.flatMap((_, k) => [32, 32 + k, 96, 32 + k])),
+    SEGS: words(...turns.flatMap((angle, k) => [k, (k + 1) % 4, angle, k, 0, 0])),
+    SSECTORS: words(4, 0),
+    NODES: Buffer.alloc(0),
+    SECTORS: Buffer.concat(sectors.map(sector)),
+    REJECT: Buffer.alloc((sectors.length ** 2 + 7) >> 3),
+    BLOCKMAP: words(-8, -8, 1, 1, 5, 0, 0, -1),
+  };
+  return wad([[label, Buffer.alloc(0)], .../** @type {[string, Buffer][]} */ (Object.entries(lumps)), ...behind]);
+}
+
+/** What the released game does with a level. @returns {[string, Buffer][]} */
+function gameCases() {
+  const none = Buffer.alloc(0), wall = (/** @type {number} */ special, /** @type {number} */ tag) => [1, special, tag, 4, -1];
+  const room = [0, 0, 0], tagged = (/** @type {number} */ tag) => [0, 0, tag], ring = [[4, 0, 0, 4, 5], [4, 0, 0, 6, 7]];
+  const texture = Buffer.concat([words(1, 0, 8, 0), eight('WALL'), words(0, 0, 64, 128, 0, 0, 1, 0, 0, 0, 1, 0)]);
+  /** @type {[string, More][]} */
+  const cases = [
+    ['unknown_special', { lines: [wall(142, 0)] }],
+    ['zero_tag', { lines: [wall(23, 0)] }],
+    ['never_crossed', { lines: [wall(36, 3), [5, 36, 3, 4, 5]], sectors: [tagged(3)] }],
+    ['no_destination', { things: [[14, 7]], lines: [[4, 97, 3, 4, 5]], sectors: [room, tagged(3)] }],
+    ['one_sided_door', { lines: [wall(27, 0)] }],
+    ['platforms', { lines: [wall(21, 5)], sectors: [room, ...times(31, tagged(5)), [0, 10, 5]] }],
+    ['ceilings', { lines: [wall(41, 5)], sectors: [room, ...times(31, tagged(5))] }],
+    ['no_ring', { lines: [[1, 9, 6, 0, -1], [1, 0, 0, 4, -1]], sides: [1], sectors: [room, tagged(6)] }],
+    ['open_ring', { lines: [[1, 9, 6, 0, -1], ...ring, [1, 0, 0, 8, -1]], sides: [2, 1, 2, 1, 2], sectors: [room, tagged(6), room] }],
+    ['higher_neighbours', { lines: [[1, 18, 9, 0, -1], ...times(21, [4, 0, 0, 4, 5])], sides: [1, 2], sectors: [room, tagged(9), [8, 0, 0]] }],
+    ['no_neighbour', { lines: [[4, 37, 9, 0, 1], ...ring], sides: [1, 2, 1, 3], sectors: [room, [8, 0, 9], room, [-8, 0, 0]] }],
+    ['deadly_floor', { sectors: [16, 15, 17, -1].map((special) => [0, special, 0]) }],
+    ['no_exit', { lines: [wall(52, 0)] }],
+    ['locked', { things: [[40, 4], [5, 23]], lines: [[4, 26, 0, 4, 5], wall(133, 3), wall(11, 0)] }],
+    ['ends_things', { things: [[64, 7], [3001, 7], [2001, 7]] }],
+    ['no_skill', { things: [[2013, 8]] }],
+    ['no_target', { label: 'MAP30', things: [[89, 7], [87, 5]] }],
+    ['many_targets', { label: 'MAP30', things: [[89, 7], ...times(32, [87, 7]), [87, 1]] }],
+    ['scrolling', { lines: times(65, wall(48, 0)) }],
+    ['perpetual', { lines: [[4, 53, 4, 4, 5], [4, 87, 5, 4, 5]], sectors: [room, ...times(16, tagged(4)), ...times(15, tagged(5))] }],
+    ['starts', { things: times(11, [11, 7]) }],
+    ['long_save', { things: times(1152, [2035, 7]) }],
+    ['lacks_patch', { behind: [['TEXTURE1', texture], ['PNAMES', Buffer.concat([words(1, 0), eight('PLANK')])]] }],
+    ['misplaced_flat', { behind: [['FLAT1', none], ['F_START', none], ['F_END', none]] }],
+  ];
+  return cases.map(([name, more]) => [name, square(more)]);
+}
+
 /** Files of levels. @param {Buffer} sample @returns {[string, Buffer][]} */
 export function workedFiles(sample) {
   const own = lumpsOf(sample), at = sample.readInt32LE(8), label = Buffer.alloc(0);
@@ -88,6 +154,7 @@ export function workedFiles(sample) {
     ['refused_directories, magic', Buffer.concat([Buffer.from('XWAD'), words(-1, -1, 0, 0)])],
     ['refused_directories, count', Buffer.concat([Buffer.from('PWAD'), words(-1, -1, 0, 0)])],
     ['packed', Buffer.concat([Buffer.from('IWAD'), sample.subarray(4)])],
+    ...gameCases(),
     .../** @type {[string, Buffer][]} */ ([0, 11, 12, 233, 408].map((size) => [`wad_cut, ${size}`, sample.subarray(0, size)])),
   ];
 }

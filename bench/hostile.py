@@ -407,6 +407,8 @@ def shooters(out, part):
     level(out, {b"THINGS": pair * int(32768 * part)})
 
 
+DEADLY = OWN[b"SECTORS"][:22] + w(15, 0)  # a sector on whose floor the game ends
+LOCKED = {b"LINEDEFS": b"".join(w(0, 1, 4, special, 0, 0, 1) for special in (26, 27, 28))}  # doors that want three keys
 LED = {b"THINGS": (THING[:6] + w(14, 7)) * 1024, b"LINEDEFS": w(0, 1, 4, 97, 0, 0, 1)}  # a teleporter, and where it leads
 
 
@@ -508,8 +510,18 @@ for word in ("check", "survey") if o.wadlens else ():
         told = "10,000 linedefs of special %d on 10,000 sectors of one tag" % special
         job("%s: %s" % (word, told), word + " F", changed(special, 4))
     job(word + ": 10,000 donuts with one ring", word + " F", rings)
-    for special, tag in ((142, 0), (23, 0), (37, 0), (97, 0)):
+    for special, tag in ((142, 0), (23, 0), (37, 0), (97, 0), (26, 0)):
         job("%s: 19 million linedefs of special %d and tag %d" % (word, special, tag), word + " F", specials(special, tag))
+    job(
+        word + ": 10 million sectors of special 15",
+        word + " F",
+        big_level({}, [b"SECTORS"], whole(26), lambda out, n: again(out, DEADLY, n)),
+    )
+    job(
+        word + ": 26.8 million things, and doors that want three keys",
+        word + " F",
+        big_level(LOCKED, [b"THINGS"], whole(10), lambda out, n: again(out, THING, n)),
+    )
     job(word + ": 32,768 shooters and as many targets", word + " F", shooters)
     job(word + ": 1024 destinations down a chain of 32,767 nodes", word + " F", chain(LED))
     job(word + ": 65,536 sectors with two flats before F_START, of 16 million entries", word + " --wide F", misplaced_flats)

@@ -96,6 +96,7 @@ export async function keysAlone() {
   check('an arrow shows the next level, and the list of them stays', await at(), ['levels', 'levels']);
   await browser.key('Enter');
   check('Enter leads to the map', await at(), ['map', 'map']);
+  await browser.until("document.querySelector('#map').dataset.asked === 'MAP02'", 'its records');
   await show('notes');
   await browser.run("document.querySelector('#findings').focus()");
   for (let k = 0; k < 2; k++) await browser.key('ArrowDown'); // past a heading

@@ -1,7 +1,7 @@
 // The cases of the page of what the map is asked: linedefs, things, sectors and vertexes.
 import { wait } from './browser.mjs';
 import {
-  FINDING, browser, check, drawn, drawnAnew, fresh, hasInk, isHidden, pinBy, placeOf, pointTold, textOf, textsOf, viewOf, written,
+  FINDING, browser, check, drawn, drawnAnew, fresh, hasInk, inkComes, isHidden, pinBy, placeOf, pointTold, textOf, textsOf, viewOf, written,
 } from './person.mjs';
 import { oneMistaken, rooms, twoOverlooked, wad, words } from './wads.mjs';
 
@@ -46,7 +46,7 @@ async function answers() {
   });
   await pointTold('4');
   await drawnAnew();
-  check('is marked, with a tick in front', [await hasInk('ink', 300, 256), await hasInk('ink', 384, 256 - 5 / (await viewOf())[2])], [true, true]);
+  check('is marked, with a tick in front', [await inkComes('ink', 300, 256), await inkComes('ink', 384, 256 - 5 / (await viewOf())[2])], [true, true]);
   check('and the point is pinned, too', [(await textOf('#point-line')).split(' ').slice(2), await isHidden('#unpin')], [['sector', '1', 'ssector', '1'], false]);
   await browser.click(...await placeOf(384, 128));
   await told('Thing 1: former human');
@@ -76,7 +76,7 @@ async function numbers() {
   });
   await browser.until("document.querySelector('#map').dataset.view.startsWith('384.000 128.000')", 'the view at the sector');
   await drawnAnew();
-  check('its outline is marked', [await hasInk('ink', 256, 60), await hasInk('ink', 512, 60), await hasInk('ink', 0, 60)], [true, true, false]);
+  check('its outline is marked', [await inkComes('ink', 256, 60), await inkComes('ink', 512, 60), await hasInk('ink', 0, 60)], [true, true, false]);
   await goTo('linedef 7');
   check('a number that nothing has is told', await browser.run("document.querySelector('#at').validationMessage"), 'There is no linedef 7.');
   await goTo('door 7');

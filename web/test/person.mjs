@@ -94,6 +94,11 @@ export const hasInk = async (ink, x, y, from = 0, to = from) => {
     for (let right = ${from}; right <= ${to}; right++) if (isIt(right)) return true;
     return false; })()`);
 };
+/** Waits for ink at a place, which comes with an answer of the engine. @param {string} ink @param {number} x @param {number} y */
+export const inkComes = async (ink, x, y, from = 0, to = from) => {
+  for (const end = Date.now() + 60000; Date.now() < end; await drawnAnew()) if (await hasInk(ink, x, y, from, to)) return true;
+  return false;
+};
 /** What the legend tells. @returns {Promise<string[]>} */
 export const legend = () => browser.run("[...document.querySelectorAll('#legend li')].filter((e) => e.checkVisibility()).map((e) => e.textContent)");
 /** Pins a point by its numbers. @param {string} numbers */

@@ -1,29 +1,27 @@
 -- A sector is harmed in one way by an effect, and so is a tag.
-use Rattle.std.proofs.Common.{◌≡◌, ◌≢◌, ◌↔◌, ℕ, ◌+◌, ◌<◌, ◌≤◌, ℤ, Bool, true, false, inl, inr, List, [], ◌∷◌, ◌++◌, length, get_or, set, Option, Some, None, refl, sym, ap, subst, ◌∙◌, arith}
+use Rattle.std.proofs.Common.{◌≡◌, ◌↔◌, ℕ, ◌+◌, ◌<◌, ◌≤◌, ℤ, true, false, inl, inr, List, [], ◌∷◌, ◌++◌, length, get_or, set, Option, Some, None, refl, sym, ap, subst, ◌∙◌, arith}
 use Rattle.std.specs.Prelude.{FitsSigned, IfNone, IfSome, IsSomeAnd, IsTrue, is_some}
 use Rattle.std.specs.Int.{cast_unsigned, w16}
 use Rattle.std.specs.List.{slice_get}
 use Rattle.std.proofs.lemmas.Bool.{cases_eq, cases_lt}
 use Rattle.std.proofs.lemmas.List.{get_or-set_other, get_or-set_same, get_or_append_left, get_or_past, get_or_push, length-append, length-set}
-use Rattle.std.proofs.lemmas.Option.{slice_get_within}
 use Rattle.le_rec.specs.declared.records.Sector.{Sector}
 use Rattle.map_level.specs.Level.{Level}
 use Rattle.map_level.specs.Links.{linedefs_of, sectors_of}
 use Rattle.map_level.proofs.BoundLemmas.{some_within}
 use Rattle.game_warnings.specs.Donut.{ring_across, LeadsOffAt}
 use Rattle.game_warnings.specs.First.{IsFirst}
-use Rattle.game_warnings.specs.Harm.{effect_of, has_effect, DoesHarm, AreHarms, AreHarmsBelow, AreHarmsWhere, ArePlain, IsFirstHarm, IsFirstHarmBelow, IsHarmBelow, IsHarmedBy, IsHarmOf, IsTagPlace}
+use Rattle.game_warnings.specs.Harm.{effect_of, has_effect, DoesHarm, AreHarms, AreHarmsBelow, AreHarmsKept, AreHarmsWhere, ArePlain, HarmsNone, IsEffectTag, IsFirstHarm, IsHarmBelow, IsHarmedBy, IsHarmedSector, IsHarmOf, IsTagPlace}
 use Rattle.game_warnings.specs.Sides.{sides_in, IsLineAt}
 use Rattle.game_warnings.specs.Holds.{HoldsOf}
 use Rattle.game_warnings.specs.Tags.{HasTag}
 use Rattle.game_warnings.specs.declared.code.GameCode.TheVariants.{W17}
 use Rattle.game_warnings.specs.declared.warning.GameWarning.TheVariants.{Harmful}
 use Rattle.le_rec.specs.declared.records.LineDef.{LineDef}
-use Rattle.game_warnings.specs.declared.sides.Sides.{Sides}
 use Rattle.game_warnings.specs.declared.warning.Effect.{Effect}
 use Rattle.game_warnings.specs.declared.warning.Harm.{Harm}
 use Rattle.game_warnings.specs.declared.warning.Harm.TheVariants.{NoLine, NoRing, OpenRing, ManyNeighbours, NoNeighbour}
-use Rattle.game_warnings.proofs.FirstLemmas.{at_some, both_at, first_one, from_at}
+use Rattle.game_warnings.proofs.FirstLemmas.{at_as, at_some, both_at, first_one, from_at}
 use Rattle.game_warnings.proofs.TagLemmas.{same_word, word-below}
 
 -- one ring at most lies across a linedef
@@ -251,7 +249,18 @@ module _ (level : Level) (effect : Effect) (n at : ℕ) (place : IsTagPlace leve
 
 -- where a linedef has the effect, the harms are known
 pub known_harms : (level : Level) (effect : Effect) (i : ℕ) (linedef : LineDef) (harms : List (Option Harm)) → slice_get (linedefs_of level) i ≡ Some linedef
-    → has_effect effect linedef.special ≡ true → AreHarmsWhere level effect harms → AreHarms level effect harms
+    → has_effect effect linedef.special ≡ true → AreHarmsWhere level effect harms → AreHarmsKept level effect harms
 known_harms level effect i linedef harms at has (inl none) =
     absurd (none.1 i (at_some (slice_get (linedefs_of level) i) linedef (λ l. IsTrue (has_effect effect l.special)) at has))
 known_harms level effect i linedef harms at has (inr are) = are
+
+-- where no sector with the tag of a linedef with the effect is harmed, none of such a tag is
+pub none_harmed : (level : Level) (effect : Effect) → ((s : ℕ) → ¬ IsHarmedSector level effect s) → HarmsNone level effect
+none_harmed level effect none tag named s harm tagged is =
+    none s (record {
+      tagged =
+          at_as (slice_get (sectors_of level) s) (λ sector. sector.tag ≡ tag) (λ sector. IsEffectTag level effect sector.tag)
+          (λ sector same. subst (IsEffectTag level effect) (sym same) named) tagged;
+      harm = harm;
+      is = is;
+    })

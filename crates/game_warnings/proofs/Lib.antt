@@ -9,6 +9,7 @@ pub mod AroundLemmas
 pub mod SearchLemmas
 pub mod DonutLemmas
 pub mod HarmLemmas
+pub mod EffectLemmas
 pub mod FoundLemmas
 pub mod WinnerLemmas
 pub mod PatchLemmas

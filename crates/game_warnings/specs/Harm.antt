@@ -1,5 +1,5 @@
 -- W17: specials that harm a sector of their tag, by what lies around it.
-use Rattle.std.specs.Prelude.{◌≡◌, ◌⊎◌, ℕ, ◌+◌, ◌<◌, ℤ, pos, Bool, false, List, [], FitsSigned, length, Option, Some, None, slice_index_or, IsSomeAnd, IsTrue}
+use Rattle.std.specs.Prelude.{◌≡◌, ◌⊎◌, ℕ, ◌<◌, ℤ, pos, Bool, false, List, [], FitsSigned, length, Option, Some, None, slice_index_or, IsSomeAnd, IsTrue}
 use Rattle.std.specs.Int.{cast_unsigned, w16}
 use Rattle.std.specs.List.{slice_get}
 use Rattle.std.specs.Ordering.{int_eq}
@@ -9,10 +9,13 @@ use Rattle.game_numbers.specs.SectorSpecials.{timed_door}
 use Rattle.game_numbers.specs.Specials.{change, nearest}
 use Rattle.map_level.specs.Level.{Level}
 use Rattle.map_level.specs.Links.{linedefs_of, sectors_of}
+use Rattle.game_warnings.specs.Around.{AreSearches}
 use Rattle.game_warnings.specs.Change.{FindsNone}
 use Rattle.game_warnings.specs.Donut.{HasNoLine, HasNoRing, HasOpenRing}
 use Rattle.game_warnings.specs.Neighbours.{higher_count, lowest_floor}
+use Rattle.game_warnings.specs.Sides.{sides_in}
 use Rattle.game_warnings.specs.Tags.{HasTag}
+use Rattle.game_warnings.specs.declared.search.Search.{Search}
 use Rattle.game_warnings.specs.declared.warning.Effect.{Effect}
 use Rattle.game_warnings.specs.declared.warning.Effect.TheVariants.{Donut, Nearest, Change}
 use Rattle.game_warnings.specs.declared.warning.Harm.{Harm}
@@ -88,9 +91,43 @@ pub record AreHarms (level : Level) (effect : Effect) (harms : List (Option Harm
 abbrev pub HasEffectAt : Level → Effect → ℕ → Type 0
 HasEffectAt level effect i = IsSomeAnd (slice_get (linedefs_of level) i) (λ linedef. IsTrue (has_effect effect linedef.special))
 
+-- the searches of all sectors, for the effect that goes by them
+abbrev pub AreSearchesFor : Level → Effect → List Search → Type 0
+AreSearchesFor level effect searches = effect ≡ Change → AreSearches level (length (sides_in level)) searches
+
+-- a linedef has an effect on the sectors of a tag
+abbrev pub HasEffectOn : Effect → ℤ → LineDef → Type 0
+HasEffectOn effect tag linedef = IsTrue (has_effect effect linedef.special) × (linedef.tag ≡ tag)
+
+-- linedef i has it
+abbrev pub IsEffectTagAt : Level → Effect → ℕ → ℤ → Type 0
+IsEffectTagAt level effect i tag = IsSomeAnd (slice_get (linedefs_of level) i) (HasEffectOn effect tag)
+
+-- some linedef has it
+abbrev pub IsEffectTag : Level → Effect → ℤ → Type 0
+IsEffectTag level effect tag = (i : ℕ) × IsEffectTagAt level effect i tag
+
+-- sector s has the tag of such a linedef
+abbrev pub HasEffectTag : Level → Effect → ℕ → Type 0
+HasEffectTag level effect s = IsSomeAnd (slice_get (sectors_of level) s) (λ sector. IsEffectTag level effect sector.tag)
+
+-- an effect harms sector s, which has the tag of a linedef with the effect
+pub record IsHarmedSector (level : Level) (effect : Effect) (s : ℕ) : Type 0 where
+  pub tagged : HasEffectTag level effect s
+  pub harm : Harm
+  pub is : IsHarmedBy level effect s harm
+
+-- no tag of a linedef with the effect has a sector that the effect harms
+abbrev pub HarmsNone : Level → Effect → Type 0
+HarmsNone level effect = (tag : ℤ) → IsEffectTag level effect tag → IsHarmOf level effect tag None
+
+-- these harms, or nothing where no sector of such a tag is harmed
+abbrev pub AreHarmsKept : Level → Effect → List (Option Harm) → Type 0
+AreHarmsKept level effect harms = ((harms ≡ []) × HarmsNone level effect) ⊎ AreHarms level effect harms
+
 -- these harms, or nothing where no linedef has the effect
 abbrev pub AreHarmsWhere : Level → Effect → List (Option Harm) → Type 0
-AreHarmsWhere level effect harms = ((harms ≡ []) × ((i : ℕ) → ¬ HasEffectAt level effect i)) ⊎ AreHarms level effect harms
+AreHarmsWhere level effect harms = ((harms ≡ []) × ((i : ℕ) → ¬ HasEffectAt level effect i)) ⊎ AreHarmsKept level effect harms
 
 -- the same of the sectors below n
 pub record IsFirstHarmBelow (level : Level) (effect : Effect) (tag : ℤ) (n : ℕ) (harm : Harm) : Type 0 where

@@ -31,7 +31,7 @@ const BLOCKS: i16 = 1;
 const BLOCKS_MONSTERS: i16 = 2;
 
 /// W16 of a level: its linedefs whose special acts when something crosses them, and which nothing can cross, and its
-/// teleporters without a destination. It takes 128 KiB and, in a sound level, two bytes an ssector.
+/// teleporters without a destination. It takes 128 KiB.
 pub fn crossings<A: Allocator + Copy>(
     alloc: A,
     level: &Level<'_>,

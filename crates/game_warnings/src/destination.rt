@@ -18,14 +18,14 @@ use le_rec::{LineDef, Thing};
 use map_geo::Point;
 use map_level::Level;
 use map_level::links::linedef_at;
-use map_tree::{SectorTree, Tree};
+use map_tree::Tree;
 use std::alloc::{AllocError, Allocator};
 
 // The kind of a thing to which teleporters take.
 const DESTINATION: i16 = 14;
 
 /// The tags of sectors in which a destination stands, where the level is sound.
-pub fn destination_tags<A: Allocator + Copy>(
+pub fn destination_tags<A: Allocator>(
     alloc: A,
     level: &Level<'_>,
     is_sound: bool,
@@ -42,24 +42,16 @@ pub fn destination_tags<A: Allocator + Copy>(
     Ok(tags)
 }
 
-fn tags_by_tree<A: Allocator + Copy>(
-    alloc: A,
-    level: &Level<'_>,
-) -> Result<Vec<bool, A>, AllocError>
+fn tags_by_tree<A: Allocator>(alloc: A, level: &Level<'_>) -> Result<Vec<bool, A>, AllocError>
     requires { IsSound level.now }
     ensures { IfOk result (λ tags. AreTags (HasDestination level.now) tags.items) }
 {
-    let tree = SectorTree::of(alloc, Tree::of(level))?;
     let mut tags = unmarked(alloc, TAG_COUNT)?;
-    mark_destinations(level, &tree, &mut tags);
+    mark_destinations(level, &Tree::of(level), &mut tags);
     Ok(tags)
 }
 
-fn mark_destinations<A: Allocator>(
-    level: &Level<'_>,
-    tree: &SectorTree<'_, '_, A>,
-    tags: &mut [bool],
-)
+fn mark_destinations(level: &Level<'_>, tree: &Tree<'_, '_>, tags: &mut [bool])
     requires tree { tree.now ≡ level.now }
     requires long { length tags.old ≡ 65536 }
     requires none { (n : ℕ) → slice_index_or tags.old n false ≡ false }
@@ -72,12 +64,7 @@ fn mark_destinations<A: Allocator>(
 }
 
 // Marks the tag of the sector in which a thing stands that is a destination.
-fn mark_thing<A: Allocator>(
-    level: &Level<'_>,
-    tree: &SectorTree<'_, '_, A>,
-    tags: &mut [bool],
-    thing: &Thing,
-)
+fn mark_thing(level: &Level<'_>, tree: &Tree<'_, '_>, tags: &mut [bool], thing: &Thing)
     requires tree { tree.now ≡ level.now }
     requires long { length tags.old ≡ 65536 }
     ensures { AddsTags (λ tag. LeadsTo level.now tag thing.now) tags.old tags.new }
@@ -98,20 +85,21 @@ fn is_destination(thing: &Thing) -> bool
 }
 
 // The sector in which a thing stands, where its place is in range.
-fn sector_under<A: Allocator>(tree: &SectorTree<'_, '_, A>, thing: &Thing) -> Option<u16>
+fn sector_under(tree: &Tree<'_, '_>, thing: &Thing) -> Option<u16>
     ensures some { IfSome result (StandsInOne tree.now thing.now.x thing.now.y) }
     ensures none { IfNone result (StandsInNone tree.now thing.now.x thing.now.y) }
 {
     sector_at(tree, i32::from(thing.x), i32::from(thing.y))
 }
 
-fn sector_at<A: Allocator>(tree: &SectorTree<'_, '_, A>, x: i32, y: i32) -> Option<u16>
+fn sector_at(tree: &Tree<'_, '_>, x: i32, y: i32) -> Option<u16>
     ensures some { IfSome result (StandsInOne tree.now x y) }
     ensures none { IfNone result (StandsInNone tree.now x y) }
 {
     let point = Point::new(x, y)?;
-    let (_ssector, sector) = tree.leaf(point);
-    Some(sector)
+    // Only the clauses speak of the ssector.
+    let (_ssector, _tests) = tree.leaf(point);
+    Some(tree.sector(point))
 }
 
 // Marks the tag of a sector.

@@ -14,7 +14,8 @@ ghost use Rattle.game_warnings.specs.Holds.{HoldsOf};
 
 use crate::answer::{answers_at, answers_of};
 use crate::code::GameCode;
-use crate::harm::{harm_of, harms_where, has_effect};
+use crate::effect_tag::has_effect;
+use crate::harm::{harm_of, harms_where};
 use crate::special::has_special;
 use crate::told::{Told, tell_where};
 use crate::warning::{Effect, GameWarning, Harm};
@@ -28,8 +29,8 @@ use std::alloc::{AllocError, Allocator};
 const MOST: u32 = 30;
 
 /// W17 of a level: its doors without a back sidedef, the linedefs that start more platforms or ceilings than the game has room for,
-/// and those that harm a sector of their tag. It takes 256 KiB; where a
-/// linedef may harm by what lies around a sector, 1 MiB for each way and up to 52 bytes a sector besides.
+/// and those that harm a sector of their tag. It takes 256 KiB; where a linedef may harm by what lies around a sector, 64 KiB and up to
+/// 52 bytes a sector besides, and 1 MiB for each way in which linedefs harm a sector of their tag.
 pub fn effects<A: Allocator + Copy>(
     alloc: A,
     level: &Level<'_>,

@@ -6,29 +6,27 @@ ghost use Rattle.game_numbers.specs.Number.{is_one_of};
 ghost use Rattle.game_numbers.specs.SectorSpecials.{timed_door};
 ghost use Rattle.game_warnings.specs.Around.{AreAround, AreSearches};
 ghost use Rattle.game_warnings.specs.Change.{ended};
-ghost use Rattle.game_warnings.specs.Harm.{has_effect, AreHarms, AreHarmsBelow, AreHarmsWhere, ArePlain, HasEffectAt, IsTagPlace, HasNoDoor, IsHarmedBy, IsHarmOf};
+ghost use Rattle.game_warnings.specs.Harm.{AreHarms, AreHarmsBelow, AreHarmsKept, AreHarmsWhere, ArePlain, AreSearchesFor, IsEffectTag, IsTagPlace, HasNoDoor, IsHarmedBy, IsHarmedSector, IsHarmOf};
 ghost use Rattle.game_warnings.specs.Sides.{sides_in};
+ghost use Rattle.game_warnings.specs.Tags.{AreTags};
 ghost use Rattle.game_warnings.specs.declared.warning.Harm.{Harm};
 
 use crate::around::{Around, around_of, higher_count, lowest_floor};
 use crate::donut::donut_harm;
+use crate::effect_tag::{effect_tags, has_effect_tag, has_line};
 use crate::search::{Search, searches_of};
 use crate::tags::TAG_COUNT;
 use crate::warning::{Effect, Harm};
-use game_numbers::{is_change, is_nearest, is_timed_door};
-use le_rec::{LineDef, Sector};
+use game_numbers::is_timed_door;
+use le_rec::Sector;
 use map_level::Level;
-use map_level::links::linedef_at;
 use std::alloc::{AllocError, Allocator};
 
 // So many higher neighbours are the most.
 const MOST_NEIGHBOURS: u32 = 20;
 
-// The special of a donut.
-const DONUT: i16 = 9;
-
-/// The harms of an effect, for each tag that of the first sector that is harmed. They are empty where no linedef has the effect, as
-/// in most levels.
+/// The harms of an effect, for each tag that of the first sector that is harmed. They are empty where no linedef has the effect, or no
+/// sector with such a linedef's tag is harmed.
 pub fn harms_where<A: Allocator + Copy>(
     alloc: A,
     level: &Level<'_>,
@@ -40,41 +38,83 @@ pub fn harms_where<A: Allocator + Copy>(
         return Ok(Vec::new(alloc));
     }
     let around = around_of(alloc, level)?;
-    let searches = searches_of(alloc, level, &around)?;
-    let harms = harms_of(alloc, level, &around, &searches, effect)?;
+    let searches = searches_for(alloc, level, &around, effect)?;
+    let harms = harms_kept(alloc, level, &around, &searches, effect)?;
     Ok(harms)
 }
 
-// Whether some linedef's special has an effect.
-fn has_line(level: &Level<'_>, effect: Effect) -> bool
-    ensures { IsTrue result ↔ ((i : ℕ) × HasEffectAt level.now effect i) }
+// The searches for a neighbour, which one effect alone goes by.
+fn searches_for<A: Allocator>(
+    alloc: A,
+    level: &Level<'_>,
+    around: &[Around],
+    effect: Effect,
+) -> Result<Vec<Search, A>, AllocError>
+    requires { AreAround level.now (length (sides_in level.now)) around.now }
+    ensures { IfOk result (λ searches. AreSearchesFor level.now effect searches.items) }
 {
-    for i in 0..level.linedefs().len() {
-        if has_effect_at(level, effect, i) {
+    match effect {
+        Effect::Change => searches_of(alloc, level, around),
+        _ => Ok(Vec::new(alloc)),
+    }
+}
+
+// The harms; none is kept where no sector with the tag of a linedef with the effect is harmed.
+fn harms_kept<A: Allocator + Copy>(
+    alloc: A,
+    level: &Level<'_>,
+    around: &[Around],
+    searches: &[Search],
+    effect: Effect,
+) -> Result<Vec<Option<Harm>, A>, AllocError>
+    requires around { AreAround level.now (length (sides_in level.now)) around.now }
+    requires searches { AreSearchesFor level.now effect searches.now }
+    ensures { IfOk result (λ harms. AreHarmsKept level.now effect harms.items) }
+{
+    let tags = effect_tags(alloc, level, effect)?;
+    if !harms_some(level, around, searches, effect, &tags) {
+        return Ok(Vec::new(alloc));
+    }
+    let harms = harms_of(alloc, level, around, searches, effect)?;
+    Ok(harms)
+}
+
+// Whether an effect harms some sector with the tag of a linedef that has it.
+fn harms_some(
+    level: &Level<'_>,
+    around: &[Around],
+    searches: &[Search],
+    effect: Effect,
+    tags: &[bool],
+) -> bool
+    requires around { AreAround level.now (length (sides_in level.now)) around.now }
+    requires searches { AreSearchesFor level.now effect searches.now }
+    requires tags { AreTags (IsEffectTag level.now effect) tags.now }
+    ensures { IsTrue result ↔ ((s : ℕ) × IsHarmedSector level.now effect s) }
+{
+    for s in 0..level.sectors().len() {
+        if is_harmed(level, around, searches, effect, tags, s as u32) {
             return true;
         }
     }
     false
 }
 
-fn has_effect_at(level: &Level<'_>, effect: Effect, i: usize) -> bool
-    ensures { IsTrue result ↔ HasEffectAt level.now effect i }
+fn is_harmed(
+    level: &Level<'_>,
+    around: &[Around],
+    searches: &[Search],
+    effect: Effect,
+    tags: &[bool],
+    s: u32,
+) -> bool
+    requires around { AreAround level.now (length (sides_in level.now)) around.now }
+    requires searches { AreSearchesFor level.now effect searches.now }
+    requires tags { AreTags (IsEffectTag level.now effect) tags.now }
+    requires within { s < length (sectors_of level.now) }
+    ensures { IsTrue result ↔ IsHarmedSector level.now effect s }
 {
-    match linedef_at(level, i) {
-        Some(linedef) => has_effect(&linedef, effect),
-        None => false,
-    }
-}
-
-/// Whether a linedef's special has an effect.
-pub fn has_effect(linedef: &LineDef, effect: Effect) -> bool
-    ensures { result ≡ has_effect effect linedef.now.special }
-{
-    match effect {
-        Effect::Donut => linedef.special == DONUT,
-        Effect::Nearest => is_nearest(linedef.special),
-        Effect::Change => is_change(linedef.special),
-    }
+    has_effect_tag(level, effect, tags, s) && harm_at(level, around, searches, effect, s).is_some()
 }
 
 // The same by what lies around each sector. It takes 1 MiB.
@@ -86,7 +126,7 @@ fn harms_of<A: Allocator>(
     effect: Effect,
 ) -> Result<Vec<Option<Harm>, A>, AllocError>
     requires around { AreAround level.now (length (sides_in level.now)) around.now }
-    requires searches { AreSearches level.now (length (sides_in level.now)) searches.now }
+    requires searches { AreSearchesFor level.now effect searches.now }
     ensures { IfOk result (λ harms. AreHarms level.now effect harms.items) }
 {
     let mut harms = harmless(alloc)?;
@@ -124,7 +164,7 @@ fn add_sectors(
     harms: &mut [Option<Harm>],
 )
     requires around { AreAround level.now (length (sides_in level.now)) around.now }
-    requires searches { AreSearches level.now (length (sides_in level.now)) searches.now }
+    requires searches { AreSearchesFor level.now effect searches.now }
     requires plain { ArePlain 65536 harms.old }
     ensures { AreHarms level.now effect harms.new }
 {
@@ -143,7 +183,7 @@ fn add_sector(
     s: u32,
 )
     requires around { AreAround level.now (length (sides_in level.now)) around.now }
-    requires searches { AreSearches level.now (length (sides_in level.now)) searches.now }
+    requires searches { AreSearchesFor level.now effect searches.now }
     requires within { s < length (sectors_of level.now) }
     requires before { AreHarmsBelow level.now effect s harms.old }
     ensures { AreHarmsBelow level.now effect (s + 1) harms.new }
@@ -188,7 +228,7 @@ fn harm_at(
     s: u32,
 ) -> Option<Harm>
     requires around { AreAround level.now (length (sides_in level.now)) around.now }
-    requires searches { AreSearches level.now (length (sides_in level.now)) searches.now }
+    requires searches { AreSearchesFor level.now effect searches.now }
     requires within { s < length (sectors_of level.now) }
     ensures some { IfSome result (IsHarmedBy level.now effect s) }
     ensures none { IfNone result ((harm : Harm) → ¬ IsHarmedBy level.now effect s harm) }
@@ -282,13 +322,17 @@ fn is_no_door(sector: &Sector) -> bool
     !is_timed_door(sector.special)
 }
 
-/// The harm of a tag, if there is one.
+/// The harm of a tag that a linedef with the effect has, if there is one.
 #[inline]
 pub fn harm_of(level: &Level<'_>, harms: &[Option<Harm>], effect: Effect, tag: i16) -> Option<Harm>
-    requires { AreHarms level.now effect harms.now }
+    requires harms { AreHarmsKept level.now effect harms.now }
+    requires tag { IsEffectTag level.now effect tag }
     ensures { IsHarmOf level.now effect tag result }
 {
     // Only the clauses speak of the level and the effect.
     let (_level, _effect) = (level, effect);
+    if harms.is_empty() {
+        return None;
+    }
     harms[tag.cast_unsigned() as usize]
 }

@@ -11,6 +11,7 @@ mod deadly_floor;
 mod destination;
 mod donut;
 mod effect;
+mod effect_tag;
 mod ending;
 mod exit;
 mod flats;

@@ -7,10 +7,10 @@ use Rattle.game_warnings.proofs.TagLemmas.{adds_at, marks_more, none_marked}
 use Rattle.game_warnings.proofs.destination.mark_destinations.Goals as goal
 
 pub loop-k-init : goal.loop-k-init
-loop-k-init g c = none_marked (IsDestination c.args.level.now) c.args.tags.now c.requires.long c.requires.none
+loop-k-init c = none_marked (IsDestination c.args.level.now) c.args.tags.now c.requires.long c.requires.none
 
 pub loop-k-preserved : goal.loop-k-preserved
-loop-k-preserved g c =
+loop-k-preserved c =
     let level = c.args.level.now in
     let here : slice_get (things_of level) c.loop-k.k ≡ Some c.at.result = rw (← c.things-things.ensures.is) c.at.ensures in
     let adds =
@@ -18,6 +18,6 @@ loop-k-preserved g c =
     marks_more (IsDestination level) c.loop-k.k c.loop-k.tags c.mark_thing.new.tags c.mark_thing.auto.tags c.loop-k.invariant adds
 
 pub returns : goal.returns
-returns g c =
+returns c =
     let past : length (things_of c.args.level.now) ≤ c.loop-k.k = rw (← c.things-things.ensures.is, ← c.len-k-end.ensures) c.loop-k-test.false in
     all_destinations c.args.level.now c.loop-k.k c.loop-k.tags past c.loop-k.invariant

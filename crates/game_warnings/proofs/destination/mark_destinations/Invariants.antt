@@ -4,4 +4,4 @@ use Rattle.game_warnings.proofs.TagLemmas.{Below}
 use Rattle.game_warnings.proofs.destination.mark_destinations.Given as goal
 
 abbrev pub invariant-loop-k : goal.invariant-loop-k
-invariant-loop-k g l = AreTags (Below (IsDestination l.level) l.k) l.tags
+invariant-loop-k l = AreTags (Below (IsDestination l.level) l.k) l.tags

@@ -1,5 +1,4 @@
-use Rattle.std.proofs.Common.{◌≡◌, inl, inr, false}
-use Rattle.game_warnings.specs.Harm.{HasEffectAt}
+use Rattle.std.proofs.Common.{inl, inr}
 use Rattle.game_warnings.proofs.harm.harms_where.Goals as goal
 
 pub returns-then-not-has_line : goal.returns-then-not-has_line

@@ -284,6 +284,15 @@ cases_of_census() {
     answers 'census_base, wide' '-1 0 1 1\n' '-1 0 1 1 points 6 0:2 1:4\n' census --wide E1M1 base.wad
     level NODES "$(node 0 0 -1 1 32768 32769)" >level.wad
     answers census_diagonal '-1 -1 1 1\n' '-1 -1 1 1 points 9 0:4 1:5\n' census E1M1 level.wad
+    # The widest rectangles. In each row a division finds where the side changes; a search along each row would take minutes.
+    yes -- '-16384 0 16383 31' | head -n 200000 >input
+    timeout 60 "$program" census E1M1 level.wad <input >output 2>error
+    printf '%s' $? >status
+    : >left
+    sha256sum <output >sum
+    mv sum output
+    judge 'wide rectangles across a diagonal' 0 \
+        "$(yes -- '-16384 0 16383 31 points 1048576 0:524753 1:523823' | head -n 200000 | sha256sum)\n" '' ''
     answers census_square '-512 -512 511 511\n' '-512 -512 511 511 points 1048576 0:523264 1:525312\n' \
         census E1M1 base.wad
     answers census_no_direction '-1 0 1 1\n' '-1 0 1 1 points 6 0:6\n' census E1M1 no_direction.wad

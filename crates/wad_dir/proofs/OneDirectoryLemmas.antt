@@ -1,11 +1,13 @@
--- Bytes have at most one directory.
-use Rattle.std.proofs.Common.{◌≡◌, ℕ, ◌<◌, List, [], ◌∷◌, length, slice_index, refl, sym, ap, ◌∙◌, arith}
+-- Bytes have at most one directory, and those of a file that was read have one.
+use Rattle.std.proofs.Common.{◌≡◌, ℕ, ◌<◌, List, [], ◌∷◌, length, map, slice_index, refl, sym, ap, ◌∙◌, subst, arith}
+use Rattle.std.specs.List.{All}
 use Rattle.std.proofs.lemmas.Int.{ints}
 use Rattle.le_rec.specs.declared.records.Entry.{Entry}
 use Rattle.wad_dir.specs.declared.header.Kind.{Kind}
 use Rattle.wad_dir.specs.declared.header.Kind.TheVariants.{Iwad, Pwad}
-use Rattle.wad_dir.specs.Directory.{HasTable, IsDirectory}
+use Rattle.wad_dir.specs.Directory.{HasDirectory, HasTable, IsDirectory}
 use Rattle.wad_dir.specs.Header.{magic_of}
+use Rattle.wad_dir.specs.Wad.{IsRead, Wad}
 use Rattle.wad_dir.proofs.DirectoryLemmas.{HasTable-one}
 
 magic_of-one : (kind other : Kind) → magic_of kind ≡ magic_of other → kind ≡ other
@@ -33,3 +35,14 @@ IsDirectory-one bytes kind other entries others d e =
       magic_of-one kind other (sym d.begins ∙ e.begins),
       same_entries bytes entries others same d.listed e.listed,
     )
+
+-- a file that was read has a directory
+pub has_directory : (bytes : List ℕ) (file : Wad) → file.bytes ≡ bytes → IsRead file → HasDirectory bytes
+has_directory bytes file of_bytes read =
+    (file.kind, file.entries, subst (λ (b : List ℕ). IsDirectory b file.kind file.entries) of_bytes read)
+
+-- and so has the one file of some that were read
+pub one-has_directory : (bytes : List ℕ) (files : List Wad) → map (λ file. file.bytes) files ≡ bytes ∷ []
+    → All IsRead files → HasDirectory bytes
+one-has_directory bytes [] of_bytes read = absurd (cc)
+one-has_directory bytes (file ∷ files) of_bytes read = has_directory bytes file (cc) (read 0 file (omega arith))

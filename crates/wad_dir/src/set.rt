@@ -4,6 +4,7 @@ ghost use Rattle.std.specs.Prelude.{◌≡◌, ◌≢◌, ℕ, ◌+◌, ◌<◌,
 ghost use Rattle.std.specs.Prelude.{IfOk, IfErr, IsOk, IfSome, IfNone, IsErrOf, vec_capacity, vec_len};
 ghost use Rattle.std.specs.List.{All, slice_get};
 ghost use Rattle.std.specs.Option.{option_map};
+ghost use Rattle.wad_dir.specs.Directory.{HasDirectory};
 ghost use Rattle.wad_dir.specs.Wad.{IsRead};
 ghost use Rattle.wad_dir.specs.Refusal.{IsFirstRefused, RefusesWad};
 
@@ -84,8 +85,8 @@ impl<'a, A: Allocator> Set<'a, A> {
         }
     }
 
-    /// The set of one file, which is number 1. It borrows the bytes. Before it reads the file it makes
-    /// room for its list; only this step returns `Memory`.
+    /// The set of one file, which is number 1. It borrows the bytes. It reads the file's directory, and
+    /// then makes room for its list; only this step returns `Memory`.
     pub fn one(alloc: A, bytes: &'a [u8]) -> Result<Set<'a, A>, SetFault>
         ensures bytes { IfOk result (λ set. map (λ file. file.bytes) set ≡ bytes.now ∷ []) }
         ensures read { IfOk result (All IsRead) }
@@ -93,14 +94,16 @@ impl<'a, A: Allocator> Set<'a, A> {
             → (n ≡ 1) × RefusesWad bytes.now fault }
         ensures first { (n : ℕ) (fault : _) → result ≡ Err (SetFault.File n fault)
             → IsFirstRefused (bytes.now ∷ []) n fault }
+        ensures memory { result ≡ Err SetFault.Memory → HasDirectory bytes.now }
     {
-        let Ok(room) = Vec::with_capacity(alloc, 1) else {
+        let wad = match Wad::read(bytes) {
+            Ok(wad) => wad,
+            Err(fault) => return Err(SetFault::File(1, fault)),
+        };
+        let Ok(wads) = alone(alloc, wad) else {
             return Err(SetFault::Memory);
         };
-        match read_one(room, bytes) {
-            Ok(wads) => Ok(Set { wads }),
-            Err(fault) => Err(SetFault::File(1, fault)),
-        }
+        Ok(Set { wads })
     }
 
     /// The set of some files and, behind them, the files of this set. It makes room for its list; only
@@ -256,19 +259,11 @@ fn read_files<'a, A: Allocator, F: AsBytes>(
     Ok(wads)
 }
 
-// The directory of one file, put into a list that has room for it.
-fn read_one<'a, A: Allocator>(
-    room: Vec<Wad<'a>, A>,
-    bytes: &'a [u8],
-) -> Result<Vec<Wad<'a>, A>, WadFault>
-    requires empty { room.items ≡ [] }
-    requires enough { 1 ≤ vec_capacity room }
-    ensures bytes { IfOk result (λ wads. map (λ file. file.bytes) wads.items ≡ bytes.now ∷ []) }
-    ensures read { IfOk result (λ wads. All IsRead wads.items) }
-    ensures refused { IfErr result (RefusesWad bytes.now) }
+// A list of one file.
+fn alone<'a, A: Allocator>(alloc: A, wad: Wad<'a>) -> Result<Vec<Wad<'a>, A>, AllocError>
+    ensures { IfOk result (λ wads. wads.items ≡ wad.entry ∷ []) }
 {
-    let mut wads = room;
-    let wad = Wad::read(bytes)?;
+    let mut wads = Vec::with_capacity(alloc, 1)?;
     wads.push_reserved(wad);
     Ok(wads)
 }

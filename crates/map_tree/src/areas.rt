@@ -1,6 +1,6 @@
 //! The areas of a rectangle: how many of its points lie in each sector, and no more.
 
-ghost use Rattle.std.specs.Prelude.{◌≡◌, IfOk, OnOk, length};
+ghost use Rattle.std.specs.Prelude.{◌≡◌, ◌+◌, ◌≤◌, ◌++◌, ◌∷◌, [], IfOk, OnOk, length};
 ghost use Rattle.map_geo.specs.Rect.{IsRect};
 ghost use Rattle.map_tree.specs.Areas.{AreAreas, AreCounted};
 ghost use Rattle.map_tree.specs.SectorList.{ListsSectors};
@@ -15,6 +15,7 @@ use crate::sector_counts::SectorCounts;
 use crate::sector_tree::SectorTree;
 use crate::tally::Tally;
 use crate::tree::Tree;
+use le_rec::{Node, Table};
 use map_geo::Rect;
 use map_level::Level;
 use std::alloc::{AllocError, Allocator};
@@ -63,7 +64,7 @@ pub(crate) fn add_points<A: Allocator>(
         hand = match take_turn(&nodes, hand) {
             Turn::Down(next) => next,
             Turn::Apart(parts) => {
-                pending.push(parts.first)?;
+                keep(pending, parts.first, &nodes)?;
                 parts.second
             }
             Turn::AtSsector(t, points) => {
@@ -75,4 +76,20 @@ pub(crate) fn add_points<A: Allocator>(
             }
         };
     }
+}
+
+// Keeps a piece pending. With it and the piece in hand there are at most as many as there are nodes, and 16.
+#[inline]
+fn keep<A: Allocator>(
+    pending: &mut Vec<Piece, A>,
+    piece: Piece,
+    nodes: &Table<'_, Node>,
+) -> Result<(), AllocError>
+    requires { length pending.old.items + 2 ≤ length nodes.now.records + 16 }
+    ensures { OnOk result (pending.new.items ≡ pending.old.items ++ piece ∷ []) }
+{
+    // Only the clauses speak of the nodes.
+    let _nodes = nodes;
+    pending.push(piece)?;
+    Ok(())
 }

@@ -1,5 +1,6 @@
-use Rattle.std.proofs.Common.{◌+◌, ◌∷◌, length-set, reverse, get_or, set, refl, ◌∙◌}
+use Rattle.std.proofs.Common.{◌+◌, ◌∷◌, length-set, reverse, get_or, set, refl, ◌∙◌, arith}
 use Rattle.std.proofs.Math.Facts.{Fits-lt-pow}
+use Rattle.std.proofs.lemmas.List.{length-reverse}
 use Rattle.map_tree.proofs.Sizes.{size_of}
 use Rattle.map_tree.proofs.CountLemmas.{sum_zeros}
 use Rattle.map_tree.proofs.FewLemmas.{sized-from_sound}
@@ -83,20 +84,29 @@ loop-next-preserved-in-Down g c =
     let held = turn-down level (size_of level) c.args.rect sized c.loop-next.hand _ _ c.loop-next.invariant.held c.in-Down.next turn in
     record { held = held; few = few_pending _ _ _ _ _ _ held; long = c.loop-next.invariant.long }
 
-pub loop-next-smaller-in_ok-push-in-Apart : goal.loop-next-smaller-in_ok-push-in-Apart
-loop-next-smaller-in_ok-push-in-Apart g c =
+pub keep-requires : goal.keep-requires
+keep-requires g c =
     let level = c.args.level.now in
     let sized = sized-from_sound level c.requires.sound in
     let turn = rw c.nodes-nodes.ensures.is at c.in-Apart.ensures in
-    let grown = pushed c.loop-next.pending.items c.push.new.self.items c.in-Apart.parts.first c.in_ok-push-in-Apart.ensures.items in
+    let held = turn-apart level (size_of level) c.args.rect sized c.loop-next.hand _ _ c.loop-next.invariant.held c.in-Apart.parts turn in
+    let few = few_pending _ _ _ _ _ _ held in
+    rw c.nodes-nodes.ensures.is (omega (arith, few, length-reverse c.loop-next.pending.items))
+
+pub loop-next-smaller-in_ok-keep-in-Apart : goal.loop-next-smaller-in_ok-keep-in-Apart
+loop-next-smaller-in_ok-keep-in-Apart g c =
+    let level = c.args.level.now in
+    let sized = sized-from_sound level c.requires.sound in
+    let turn = rw c.nodes-nodes.ensures.is at c.in-Apart.ensures in
+    let grown = pushed c.loop-next.pending.items c.keep.new.pending.items c.in-Apart.parts.first c.in_ok-keep-in-Apart.ensures in
     rw grown (fewer-apart level (size_of level) c.args.rect sized c.loop-next.hand _ _ c.loop-next.invariant.held c.in-Apart.parts turn)
 
-pub loop-next-preserved-in_ok-push-in-Apart : goal.loop-next-preserved-in_ok-push-in-Apart
-loop-next-preserved-in_ok-push-in-Apart g c =
+pub loop-next-preserved-in_ok-keep-in-Apart : goal.loop-next-preserved-in_ok-keep-in-Apart
+loop-next-preserved-in_ok-keep-in-Apart g c =
     let level = c.args.level.now in
     let sized = sized-from_sound level c.requires.sound in
     let turn = rw c.nodes-nodes.ensures.is at c.in-Apart.ensures in
-    let grown = pushed c.loop-next.pending.items c.push.new.self.items c.in-Apart.parts.first c.in_ok-push-in-Apart.ensures.items in
+    let grown = pushed c.loop-next.pending.items c.keep.new.pending.items c.in-Apart.parts.first c.in_ok-keep-in-Apart.ensures in
     let held = turn-apart level (size_of level) c.args.rect sized c.loop-next.hand _ _ c.loop-next.invariant.held c.in-Apart.parts turn in
     record {
       held = rw grown held;

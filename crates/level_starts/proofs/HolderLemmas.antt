@@ -17,7 +17,7 @@ use Rattle.le_rec.proofs.NameLemmas.{name_of-name_of}
 use Rattle.wad_dir.specs.Entries.{joined, listed_name, names}
 use Rattle.wad_dir.specs.Wad.{Wad}
 use Rattle.wad_dir.specs.Winner.{Wins}
-use Rattle.level_starts.specs.Holders.{AreHolders, AreLabelHolders, HasLabelsBelow, HasNames, IsHolder, PutsHolder, holder_at}
+use Rattle.level_starts.specs.Holders.{AreHolders, AreLabelHolders, AreOfLabels, HasLabelsBelow, HasNames, IsHolder, PutsHolder, holder_at}
 use Rattle.level_starts.specs.Starts.{LevelStartsAt}
 
 -- two names of eight bytes are the same or not
@@ -47,6 +47,12 @@ module _ {before after : BTreeMap (List ℕ) ℕ} {bytes : List ℕ} {holder : �
   HasNames-put other some = elim (key_cases other bytes) [
     | inl same ↦ rw (same, puts.put) refl
     | inr differs ↦ rw (puts.others other differs) some
+  ]
+
+  pub AreOfLabels-put : (all : List (List ℕ)) → LevelStartsAt all holder → AreOfLabels all before → AreOfLabels all after
+  AreOfLabels-put all starts are other at is = elim (key_cases other bytes) [
+    | inl same ↦ (let one : at ≡ holder = cc in rw one starts)
+    | inr differs ↦ are other at (sym (puts.others other differs) ∙ is)
   ]
 
 pub puts_from_updates : {before after : BTreeMap (List ℕ) ℕ} {bytes : List ℕ} {holder : ℕ} → Updates (slice_cmp nat_cmp) before after bytes (Some holder) → PutsHolder before after bytes holder

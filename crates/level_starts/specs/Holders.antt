@@ -38,6 +38,10 @@ abbrev pub HasLabelsBelow : List (List ℕ) → ℕ → BTreeMap (List ℕ) ℕ 
 HasLabelsBelow all n holders =
     (g : ℕ) (name : List ℕ) → g < n → LevelStartsAt all g → slice_get all g ≡ Some name → HasName holders name
 
+-- each holder of a map is an entry at which a level starts
+abbrev pub AreOfLabels : List (List ℕ) → BTreeMap (List ℕ) ℕ → Type 0
+AreOfLabels all holders = (bytes : List ℕ) (holder : ℕ) → holder_at holders bytes ≡ Some holder → LevelStartsAt all holder
+
 -- the last entry of each label's name
 pub record AreLabelHolders (all : List (List ℕ)) (holders : BTreeMap (List ℕ) ℕ) : Type 0 where
   pub last : AreHolders all (length all) holders

@@ -5,7 +5,7 @@ ghost use Rattle.std.specs.List.{slice_get};
 ghost use Rattle.le_rec.specs.Name.{query_of};
 ghost use Rattle.wad_dir.specs.Entries.{joined, names};
 ghost use Rattle.wad_dir.specs.Winner.{Wins};
-ghost use Rattle.level_starts.specs.Holders.{AreHolders, AreLabelHolders, HasLabelsBelow, HasName, HasNames, PutsHolder, holder_at};
+ghost use Rattle.level_starts.specs.Holders.{AreHolders, AreLabelHolders, AreOfLabels, HasLabelsBelow, HasName, HasNames, PutsHolder, holder_at};
 ghost use Rattle.level_starts.specs.Starts.{LevelStartsAt};
 
 use crate::starts::{name_at, starts_at};
@@ -54,6 +54,7 @@ fn label_holders<A: Allocator + Copy, B: Allocator>(
 ) -> Result<BTreeMap<[u8; 8], usize, A>, AllocError>
     ensures holders { IfOk result (AreHolders (names set.now) 0) }
     ensures labels { IfOk result (HasLabelsBelow (names set.now) (length (joined set.now))) }
+    ensures alone { IfOk result (AreOfLabels (names set.now)) }
 {
     let mut holders = BTreeMap::new(alloc);
     'entries: for g in 0..set.total() {
@@ -68,6 +69,7 @@ fn label_holders<A: Allocator + Copy, B: Allocator>(
 fn label_at<B: Allocator>(set: &Set<'_, B>, g: usize) -> Option<Name8>
     requires { g + 1 < 2 ^ 64 }
     ensures some { IfSome result (λ name. slice_get (names set.now) g ≡ Some name) }
+    ensures starts { IfSome result (λ _. LevelStartsAt (names set.now) g) }
     ensures none { result ≡ None → (name : List ℕ) → LevelStartsAt (names set.now) g → slice_get (names set.now) g ≢ Some name }
 {
     if starts_at(set, g) {

@@ -1,5 +1,5 @@
 -- Facts about what lumps and files list.
-use Rattle.std.proofs.Common.{◌≡◌, ◌↔◌, ℕ, ◌<◌, ◌≤◌, List, length, Option, Some, None, refl, sym, ap, ◌∙◌, subst, arith}
+use Rattle.std.proofs.Common.{◌≡◌, ◌↔◌, ℕ, zero, suc, ◌<◌, ◌≤◌, List, length, Option, Some, None, refl, sym, ap, ◌∙◌, subst, arith}
 use Rattle.std.specs.Prelude.{Bool, true, false, not, Err, IsErrOf, IsTrue, Result}
 use Rattle.std.specs.Option.{option_map}
 use Rattle.std.specs.List.{slice_get}
@@ -16,7 +16,7 @@ use Rattle.wad_dir.specs.declared.lump.LumpFault.{LumpFault}
 use Rattle.wad_dir.specs.declared.lump.LumpFault.TheVariants.{NoSuch, Outside}
 use Rattle.wad_dir.proofs.WinnerLemmas.{Wins-one}
 use Rattle.wad_dir.proofs.LumpLemmas.{IsLump-one}
-use Rattle.map_warnings.specs.Listed.{HasEntry, HasOffset, IsFound, IsListedUnder, IsNameAt, ListsTexture}
+use Rattle.map_warnings.specs.Listed.{HasEntry, HasFewOffsets, HasOffset, IsFound, IsListedUnder, IsNameAt, ListsTexture}
 use Rattle.map_warnings.specs.NameNumber.{AddsNames}
 use Rattle.map_warnings.proofs.NumberLemmas.{adds_as, adds_none, Below}
 
@@ -41,6 +41,11 @@ all_listed lump n each name = (
   λ h. record { k = h.0; offset = (each h.0).0 h.1; here = h.2 },
   λ h. (h.k, (each h.k).1 h.offset, h.here),
 )
+
+-- a lump has no more offsets than so many
+pub few_offsets : (lump : List ℕ) (count n : ℕ) → ((k : ℕ) → (k < count) ↔ HasOffset lump k) → HasFewOffsets lump n → count ≤ n
+few_offsets lump zero n each few = omega arith
+few_offsets lump (suc count) n each few = omega (arith, few count ((each count).0 (omega arith)))
 
 -- a name has one lump
 pub found_one : (files : List Wad) (name a b : List ℕ) → IsFound files name a → IsFound files name b → a ≡ b

@@ -1,5 +1,5 @@
 -- What a set of files lists: its textures (R_InitTextures of r_data.c) and its flats (R_FlatNumForName).
-use Rattle.std.specs.Prelude.{◌≡◌, ◌⊎◌, ℕ, ◌+◌, ◌*◌, ◌≤◌, pos, ◌<ℤ◌, List, Some, codes, length}
+use Rattle.std.specs.Prelude.{◌≡◌, ◌⊎◌, ℕ, ◌+◌, ◌*◌, ◌<◌, ◌≤◌, pos, ◌<ℤ◌, List, Some, codes, length}
 use Rattle.std.specs.List.{slice_get}
 use Rattle.le_rec.specs.Name.{query_of}
 use Rattle.le_rec.specs.Number.{name_at, signed32_at}
@@ -12,6 +12,10 @@ use Rattle.wad_dir.specs.Winner.{Wins}
 pub record HasOffset (lump : List ℕ) (k : ℕ) : Type 0 where
   pub counted : pos k <ℤ signed32_at lump 0
   pub inside : 4 * k + 8 ≤ length lump
+
+-- it has so many such offsets at most
+abbrev pub HasFewOffsets : List ℕ → ℕ → Type 0
+HasFewOffsets lump n = (k : ℕ) → HasOffset lump k → k < n
 
 -- the eight bytes at the offset of a number stand inside the lump and have a name, which is compared without case
 pub record IsNameAt (lump : List ℕ) (k : ℕ) (name : List ℕ) : Type 0 where
@@ -31,6 +35,10 @@ pub record IsFound (files : List Wad) (name lump : List ℕ) : Type 0 where
   pub g : ℕ
   pub wins : Wins (names files) name g
   pub holds : IsLump files g lump
+
+-- the lump that is found under a name has so many offsets at most, if one is found
+abbrev pub ListsFew : List Wad → List ℕ → ℕ → Type 0
+ListsFew files under n = (lump : List ℕ) → IsFound files under lump → HasFewOffsets lump n
 
 -- the lump that is found under a name lists a texture
 abbrev pub IsListedUnder : List Wad → List ℕ → List ℕ → Type 0

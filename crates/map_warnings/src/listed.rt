@@ -2,7 +2,7 @@
 
 ghost use Rattle.std.specs.Prelude.{◌≡◌, ◌↔◌, ◌+◌, ◌*◌, ◌<◌, ◌≤◌, ℕ, List, length, IfNone, IfSome, OnOk};
 ghost use Rattle.le_rec.specs.Name.{query_of};
-ghost use Rattle.map_warnings.specs.Listed.{HasOffset, IsNameAt, ListsTexture};
+ghost use Rattle.map_warnings.specs.Listed.{HasFewOffsets, HasOffset, IsNameAt, ListsTexture};
 ghost use Rattle.map_warnings.specs.NameNumber.{AddsNames};
 
 use crate::names::push_name;
@@ -12,7 +12,9 @@ use std::alloc::{AllocError, Allocator};
 
 /// Adds the names of the textures that a lump lists, as many as it has offsets at most.
 pub fn push_textures<A: Allocator>(numbers: &mut Vec<u64, A>, lump: &[u8]) -> Result<(), AllocError>
-    ensures { OnOk result (AddsNames (ListsTexture lump.now) numbers.old.items numbers.new.items) }
+    ensures adds { OnOk result (AddsNames (ListsTexture lump.now) numbers.old.items numbers.new.items) }
+    ensures few { OnOk result ((n : ℕ) → HasFewOffsets lump.now n
+        → length numbers.new.items ≤ length numbers.old.items + n) }
 {
     for k in 0..offset_count(lump) {
         push_texture(numbers, lump, k)?;
@@ -38,7 +40,8 @@ fn push_texture<A: Allocator>(
     k: usize,
 ) -> Result<(), AllocError>
     requires { 4 * k + 8 ≤ length lump.now }
-    ensures { OnOk result (AddsNames (IsNameAt lump.now k) numbers.old.items numbers.new.items) }
+    ensures adds { OnOk result (AddsNames (IsNameAt lump.now k) numbers.old.items numbers.new.items) }
+    ensures few { OnOk result (length numbers.new.items ≤ length numbers.old.items + 1) }
 {
     match name_at(lump, k) {
         Some(name) => push_name(numbers, name),

@@ -1,6 +1,6 @@
 //! Names of textures and flats, put in order by their numbers.
 
-ghost use Rattle.std.specs.Prelude.{◌≡◌, ◌↔◌, ◌<◌, ◌^◌, ℕ, Contains, IsTrue, OnOk};
+ghost use Rattle.std.specs.Prelude.{◌≡◌, ◌↔◌, ◌+◌, ◌<◌, ◌^◌, ℕ, Contains, IsTrue, OnOk, length};
 ghost use Rattle.std.specs.List.Sorted.{IsNonDecreasing};
 ghost use Rattle.map_warnings.specs.NameNumber.{name_number, AddsNames, IsNumbered};
 
@@ -28,7 +28,8 @@ impl<A: Allocator> Model for Names<A> {
 impl<A: Allocator> Names<A> {
     /// The names of some numbers, which are put in order.
     pub fn of(numbers: Vec<u64, A>) -> Names<A>
-        ensures { (n : ℕ) → Contains result n ↔ Contains numbers.items n }
+        ensures long { length result ≡ length numbers.items }
+        ensures same { (n : ℕ) → Contains result n ↔ Contains numbers.items n }
     {
         let mut numbers = numbers;
         numbers.sort_unstable();
@@ -54,7 +55,8 @@ fn has_number(numbers: &[u64], number: u64) -> bool
 
 /// Adds the number of a name.
 pub fn push_name<A: Allocator>(numbers: &mut Vec<u64, A>, name: Name8) -> Result<(), AllocError>
-    ensures { OnOk result (AddsNames (λ other. other ≡ name) numbers.old.items numbers.new.items) }
+    ensures adds { OnOk result (AddsNames (λ other. other ≡ name) numbers.old.items numbers.new.items) }
+    ensures one { OnOk result (length numbers.new.items ≡ length numbers.old.items + 1) }
 {
     numbers.push(name_number(name))?;
     Ok(())

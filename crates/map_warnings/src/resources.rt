@@ -1,11 +1,11 @@
 //! What a set of files lists, looked through once.
 
-ghost use Rattle.std.specs.Prelude.{◌≡◌, ◌↔◌, IfNone, IfOk, IfSome, IsTrue, OnOk, Some};
+ghost use Rattle.std.specs.Prelude.{◌≡◌, ◌↔◌, ◌+◌, ◌≤◌, length, IfNone, IfOk, IfSome, IsOk, IsTrue, OnOk, Some};
 ghost use Rattle.std.specs.Prelude.{List, ℕ, codes};
 ghost use Rattle.std.specs.List.{slice_get};
 ghost use Rattle.le_rec.specs.Name.{query_of};
 ghost use Rattle.wad_dir.specs.Entries.{names};
-ghost use Rattle.map_warnings.specs.Listed.{HasEntry, HasFlatEnd, HasFlats, HasTextures, IsFound, IsListedUnder, IsTexture};
+ghost use Rattle.map_warnings.specs.Listed.{HasEntry, HasFlatEnd, HasFlats, HasTextures, IsFound, IsListedUnder, IsTexture, ListsFew};
 ghost use Rattle.map_warnings.specs.NameNumber.{AddsNames, AreKnown, AreNumbers};
 
 use crate::listed::push_textures;
@@ -143,7 +143,9 @@ fn textures_of<A: Allocator + Copy>(
 
 // The textures that the lumps of TEXTURE1 and TEXTURE2 list.
 fn listed_in<A: Allocator + Copy>(alloc: A, set: &Set<'_, A>) -> Result<Names<A>, AllocError>
-    ensures { IfOk result (AreNumbers (IsTexture set.now)) }
+    ensures numbers { IfOk result (AreNumbers (IsTexture set.now)) }
+    ensures few { IfOk result (λ names. (one two : ℕ) → ListsFew set.now (codes "TEXTURE1") one
+        → ListsFew set.now (codes "TEXTURE2") two → length names ≤ one + two) }
 {
     let mut numbers = Vec::new(alloc);
     push_lump(&mut numbers, set, b"TEXTURE1")?;
@@ -153,20 +155,26 @@ fn listed_in<A: Allocator + Copy>(alloc: A, set: &Set<'_, A>) -> Result<Names<A>
 
 // Adds the textures that the lump of TEXTURE2 lists, where it is found.
 fn push_second<A: Allocator>(numbers: &mut Vec<u64, A>, set: &Set<'_, A>) -> Result<(), AllocError>
-    ensures { OnOk result
+    ensures adds { OnOk result
         (AddsNames (IsListedUnder set.now (codes "TEXTURE2")) numbers.old.items numbers.new.items) }
+    ensures few { OnOk result ((n : ℕ) → ListsFew set.now (codes "TEXTURE2") n
+        → length numbers.new.items ≤ length numbers.old.items + n) }
+    ensures absent { ((lump : List ℕ) → ¬ IsFound set.now (codes "TEXTURE2") lump) → IsOk result }
 {
     push_lump(numbers, set, b"TEXTURE2")
 }
 
-// Adds the textures that the lump of a name lists, where it is found.
+// Adds the textures that the lump of a name lists, where it is found. Else it takes no memory.
 fn push_lump<A: Allocator>(
     numbers: &mut Vec<u64, A>,
     set: &Set<'_, A>,
     name: &[u8],
 ) -> Result<(), AllocError>
-    ensures { OnOk result
+    ensures adds { OnOk result
         (AddsNames (IsListedUnder set.now (query_of name.now)) numbers.old.items numbers.new.items) }
+    ensures few { OnOk result ((n : ℕ) → ListsFew set.now (query_of name.now) n
+        → length numbers.new.items ≤ length numbers.old.items + n) }
+    ensures absent { ((lump : List ℕ) → ¬ IsFound set.now (query_of name.now) lump) → IsOk result }
 {
     match found(set, name) {
         Some(lump) => push_textures(numbers, lump),

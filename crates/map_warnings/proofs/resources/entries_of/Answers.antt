@@ -26,4 +26,4 @@ returns g c =
     ) in
     are_all (HasEntry files) c.loop-g.numbers.items c.of.result
     (adds_as (Below (EntryAt files) c.loop-g.g) (HasEntry files) [] c.loop-g.numbers.items c.loop-g.invariant
-    (all_entries files c.loop-g.g within)) c.of.ensures
+    (all_entries files c.loop-g.g within)) c.of.ensures.same

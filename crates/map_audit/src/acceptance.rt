@@ -1,6 +1,8 @@
 //! Which levels are accepted: those without a fault.
 
-ghost use Rattle.std.specs.Prelude.{◌≡◌, IfOk, OnOk, IfErr, MatchOption};
+ghost use Rattle.std.specs.Prelude.{◌≡◌, IfOk, OnOk, OnErr, IfErr, MatchOption};
+ghost use Rattle.map_level.specs.Findings.{NoFaultHolds};
+ghost use Rattle.map_level.specs.LinkFaults.{LinkHolds};
 ghost use Rattle.map_tree.specs.Sound.{IsSound};
 ghost use Rattle.map_audit.specs.Refusal.{Refuses};
 
@@ -49,13 +51,15 @@ pub fn accept<'l, 'a, A: Allocator + Copy>(
     Ok(Tree::of(level))
 }
 
-/// The tree of a sound level, or None for another: what `accept` decides, with no report. It stops at the first fault.
+/// The tree of a sound level, or None for another: what `accept` decides, with no report. It stops at the first fault, and takes
+/// memory only if no link has one.
 pub fn sound_tree<'l, 'a, A: Allocator + Copy>(
     alloc: A,
     level: &'l Level<'a>,
 ) -> Result<Option<Tree<'l, 'a>>, AllocError>
-    ensures { IfOk result (λ found.
+    ensures found { IfOk result (λ found.
         MatchOption found (¬ IsSound level.now) (λ tree. (tree ≡ level.now) × IsSound level.now)) }
+    ensures linked { OnErr result (NoFaultHolds (LinkHolds level.now)) }
 {
     if !is_sound(alloc, level)? {
         return Ok(None);

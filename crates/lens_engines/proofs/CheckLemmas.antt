@@ -29,6 +29,7 @@ use Rattle.map_tree.proofs.CountLemmas.{sum_zeros}
 use Rattle.map_tree.specs.Sound.{IsSound}
 use Rattle.wad_dir.specs.Entries.{names}
 use Rattle.wad_dir.specs.Wad.{IsRead, Wad}
+use Rattle.wad_dir.proofs.OneDirectoryLemmas.{one-has_directory}
 use Rattle.lens_engines.specs.Check.{CheckAsked, Checks, ChecksAll, ChecksDoom, ChecksFile, ChecksLevel, ChecksOrWants, ChecksSome, IsLevelText, IsOrder, IsSoundWideAlone, IsToldBy, RunsCheck, ToldTo, WritesText, at_start, head_in, ordered_text, with_level, text_end}
 use Rattle.lens_engines.specs.Counts.{AreCounts, IsCount, fault_total, finding_order}
 use Rattle.level_codes.specs.declared.code.ReportCode.TheVariants as report
@@ -321,5 +322,5 @@ one_file asked bytes (file ∷ other ∷ files) before after result of_bytes rea
 pub file_checked : {W : Type 0} (state : W → SinkState) (asked : CheckAsked) (bytes : List ℕ) (files : List Wad) (out out' : W) (result : Result Totals LevelsFault)
     → map (λ file. file.bytes) files ≡ bytes ∷ [] → All IsRead files → ChecksOrWants state asked files out out' result → RunsCheck state asked bytes out out' result
 file_checked state asked bytes files out out' result of_bytes read (inl wants) =
-    inl (record { fault = fault.Memory; ended = wants.ended; holds = tt; untouched = wants.untouched })
+    inl (record { fault = fault.Memory; ended = wants.ended; holds = one-has_directory bytes files of_bytes read; untouched = wants.untouched })
 file_checked state asked bytes files out out' result of_bytes read (inr does) = inr (one_file asked bytes files (state out) (state out') result of_bytes read does)

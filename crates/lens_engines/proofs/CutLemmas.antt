@@ -1,17 +1,22 @@
 -- A level at an entry, packed or refused.
-use Rattle.std.proofs.Common.{◌≡◌, ◌≢◌, inl, inr, ℕ, ◌+◌, ◌-◌, ◌<◌, ◌≤◌, List, [], ◌∷◌, ◌++◌, length, Option, Some, None, refl, ap, ◌∙◌, arith}
-use Rattle.std.specs.Prelude.{codes, IfNone, IfSome}
+use Rattle.std.proofs.Common.{◌≡◌, ◌≢◌, inl, inr, ℕ, ◌+◌, ◌-◌, ◌<◌, ◌≤◌, List, [], ◌∷◌, ◌++◌, length, map, Option, Some, None, refl, ap, ◌∙◌, arith}
+use Rattle.std.specs.Prelude.{codes, IfNone, IfOk, IfSome, Result, Ok, Err}
+use Rattle.std.specs.declared.vec.Vec.{Vec}
+use Rattle.std.specs.List.{All}
 use Rattle.std.proofs.lemmas.Bool.{cases_eq, cases_lt}
 use Rattle.level_starts.proofs.StartLemmas.{named_within}
 use Rattle.level_starts.specs.Format.{IsFormat}
+use Rattle.level_starts.specs.LevelFile.{HoldsLumps}
 use Rattle.level_starts.specs.Starts.{IsNamed, IsNextStart, LevelStartsAt, NoneStartsFrom}
 use Rattle.level_starts.specs.declared.format.Format.{Format}
 use Rattle.level_starts.specs.declared.format.Format.TheVariants as format
 use Rattle.wad_dir.specs.Entries.{joined, names}
-use Rattle.wad_dir.specs.Packing.{NamedLump}
+use Rattle.wad_dir.specs.Packing.{NamedLump, packed}
 use Rattle.wad_dir.specs.Slice.{IsLump}
-use Rattle.wad_dir.specs.Wad.{Wad}
-use Rattle.lens_engines.specs.Cut.{AddsLump, AreNamedLumps, Belong, BelongAt, HasLumpsAt, IsEndMap, LacksLump, RefusesEntry, none, more}
+use Rattle.wad_dir.specs.declared.packer.TheConstants.{MAX_BYTES}
+use Rattle.wad_dir.specs.Wad.{IsRead, Wad}
+use Rattle.wad_dir.proofs.OneDirectoryLemmas.{one-has_directory}
+use Rattle.lens_engines.specs.Cut.{AddsLump, AreNamedLumps, Belong, BelongAt, CutsLevel, HasLumpsAt, IsEndMap, LacksLump, RefusesCut, RefusesEntry, RefusesPack, none, more}
 use Rattle.lens_texts.specs.Label.{IsLabelOf}
 use Rattle.lens_engines.specs.declared.cut.CutFault.{CutFault}
 use Rattle.lens_engines.specs.declared.cut.CutFault.TheVariants as fault
@@ -77,12 +82,13 @@ all_stand files from many lumps (more before earlier lump are named stands) m be
 ]
 
 -- a lump that wasn't added
-pub lump_lacking : (files : List Wad) (g many place : ℕ) (label : LevelLabel) (found : List NamedLump) (fault : CutFault) → IsLabelOf files g label → BelongAt files g many → place < many
+pub lump_lacking : (files : List Wad) (g many place : ℕ) (label : LevelLabel) (found : List NamedLump) (fault : CutFault) → IsLabelOf files g label → LevelStartsAt (names files) g
+    → BelongAt files g many → place < many
     → Gathered files g label.name place found → LacksLump files label (g + 1 + place) fault → RefusesEntry files g fault
-lump_lacking files g many place label found (fault.NoWad why) is belong below so_far lacks = absurd lacks
-lump_lacking files g many place label found (fault.NoLevel entry) is belong below so_far lacks = absurd lacks
-lump_lacking files g many place label found (fault.Level other (uncut.Incomplete k)) is belong below so_far lacks = absurd lacks
-lump_lacking files g many place label found (fault.Level other (uncut.Outside name)) is belong below so_far lacks = (
+lump_lacking files g many place label found (fault.NoWad why) is starts belong below so_far lacks = absurd lacks
+lump_lacking files g many place label found (fault.NoLevel entry) is starts belong below so_far lacks = absurd lacks
+lump_lacking files g many place label found (fault.Level other (uncut.Incomplete k)) is starts belong below so_far lacks = absurd lacks
+lump_lacking files g many place label found (fault.Level other (uncut.Outside name)) is starts belong below so_far lacks = (
   rw lacks.0 is,
   record {
     many = many;
@@ -94,10 +100,39 @@ lump_lacking files g many place label found (fault.Level other (uncut.Outside na
     named = lacks.1;
   },
 )
-lump_lacking files g many place label found (fault.Level other uncut.NoEndMap) is belong below so_far lacks = absurd lacks
-lump_lacking files g many place label found (fault.Level other uncut.TooLarge) is belong below so_far lacks = absurd lacks
-lump_lacking files g many place label found fault.Memory is belong below so_far lacks = tt
-lump_lacking files g many place label found fault.Write is belong below so_far lacks = absurd lacks
+lump_lacking files g many place label found (fault.Level other uncut.NoEndMap) is starts belong below so_far lacks = absurd lacks
+lump_lacking files g many place label found (fault.Level other uncut.TooLarge) is starts belong below so_far lacks = absurd lacks
+lump_lacking files g many place label found fault.Memory is starts belong below so_far lacks = record { starts = starts; many = many; belong = belong }
+lump_lacking files g many place label found fault.Write is starts belong below so_far lacks = absurd lacks
+
+-- lumps that were packed
+pub packed_cuts : {A : Type 0} (files : List Wad) (g : ℕ) (found : List NamedLump) (result : Result (Vec ℕ A) CutFault) → HasLumpsAt files g found
+    → IfOk result (λ file. file.items ≡ packed found) → IfOk result (λ file. length file.items ≤ MAX_BYTES) → IfOk result (λ file. HoldsLumps file.items found)
+    → IfOk result (λ file. CutsLevel files g file.items)
+packed_cuts files g found (Ok file) has is fits holds = record { found = found; has = has; is = is; fits = fits; holds = holds }
+packed_cuts files g found (Err fault) has is fits holds = tt
+
+-- lumps that weren't packed
+pub pack_refused : (files : List Wad) (g many : ℕ) (label : LevelLabel) (found : List NamedLump) (fault : CutFault) → IsLabelOf files g label → LevelStartsAt (names files) g
+    → BelongAt files g many → HasLumpsAt files g found → RefusesPack found label fault → RefusesEntry files g fault
+pack_refused files g many label found (fault.NoWad why) is starts belong has refused = absurd refused
+pack_refused files g many label found (fault.NoLevel entry) is starts belong has refused = absurd refused
+pack_refused files g many label found (fault.Level other (uncut.Incomplete k)) is starts belong has refused = absurd refused
+pack_refused files g many label found (fault.Level other (uncut.Outside name)) is starts belong has refused = absurd refused
+pack_refused files g many label found (fault.Level other uncut.NoEndMap) is starts belong has refused = absurd refused
+pack_refused files g many label found (fault.Level other uncut.TooLarge) is starts belong has refused =
+    (rw refused.0 is, record { found = found; has = has; large = refused.1 })
+pack_refused files g many label found fault.Memory is starts belong has refused = record { starts = starts; many = many; belong = belong }
+pack_refused files g many label found fault.Write is starts belong has refused = absurd refused
+
+-- a level of the one file of these bytes that isn't cut out
+pub file_refused : (bytes : List ℕ) (files : List Wad) (g : ℕ) (fault : CutFault) → map (λ file. file.bytes) files ≡ bytes ∷ [] → All IsRead files
+    → RefusesEntry files g fault → RefusesCut bytes g fault
+file_refused bytes files g (fault.NoWad why) of_bytes read refused = absurd refused
+file_refused bytes files g (fault.NoLevel entry) of_bytes read refused = record { files = files; file = record { of_bytes = of_bytes; read = read }; refuses = refused }
+file_refused bytes files g (fault.Level label why) of_bytes read refused = record { files = files; file = record { of_bytes = of_bytes; read = read }; refuses = refused }
+file_refused bytes files g fault.Memory of_bytes read refused = one-has_directory bytes files of_bytes read
+file_refused bytes files g fault.Write of_bytes read refused = absurd refused
 
 -- the first ENDMAP from one entry on
 pub end_map_here : (files : List Wad) (g entry : ℕ) → ((h : ℕ) → g + 2 ≤ h → h < entry → ¬ IsNamed (names files) h (codes "ENDMAP")) → g + 2 ≤ entry

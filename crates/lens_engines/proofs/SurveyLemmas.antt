@@ -21,6 +21,7 @@ use Rattle.line_io.proofs.WriteLemmas.{line_stopped}
 use Rattle.lens_engines.specs.declared.judging.Judging.{Judging}
 use Rattle.wad_dir.specs.Entries.{names}
 use Rattle.wad_dir.specs.Wad.{IsRead, Wad}
+use Rattle.wad_dir.proofs.OneDirectoryLemmas.{one-has_directory}
 use Rattle.lens_texts.specs.LevelObject.{NamesLump}
 use Rattle.lens_engines.specs.Survey.{AreStartsBelow, AreTold, AreToldBelow, IsTold, RunsSurvey, Surveys, SurveysAll, SurveysFile, SurveysLevel, SurveysOrWants, SurveysSome, ToldLevel, WritesLevel}
 use Rattle.lens_engines.specs.Survey.{fault_after, gravest, graver, line_end, lines_of}
@@ -246,6 +247,6 @@ pub file_surveyed : {W : Type 0} (state : W → SinkState) (path bytes : List �
     → map (λ file. file.bytes) files ≡ bytes ∷ [] → All IsRead files → SurveysOrWants state path files judging out out' result
     → RunsSurvey state path bytes judging out out' result
 file_surveyed state path bytes files judging out out' result of_bytes read (inl wants) =
-    inl (record { fault = fault.Memory; ended = wants.ended; holds = tt; untouched = wants.untouched })
+    inl (record { fault = fault.Memory; ended = wants.ended; holds = one-has_directory bytes files of_bytes read; untouched = wants.untouched })
 file_surveyed state path bytes files judging out out' result of_bytes read (inr does) =
     inr (one_file path bytes files judging (state out) (state out') result of_bytes read does)

@@ -10,6 +10,7 @@ use Rattle.level_starts.specs.declared.format.Format.{Format}
 use Rattle.level_starts.specs.declared.format.Format.TheVariants as format
 use Rattle.line_io.specs.Writes.{Writes}
 use Rattle.line_io.specs.declared.fault.IoFault.{IoFault}
+use Rattle.wad_dir.specs.Directory.{HasDirectory}
 use Rattle.wad_dir.specs.Entries.{names}
 use Rattle.wad_dir.specs.Packing.{NamedLump, packed}
 use Rattle.wad_dir.specs.Refusal.{RefusesWad}
@@ -103,12 +104,18 @@ pub record AddsLump (files : List Wad) (entry : ℕ) (old new : List NamedLump) 
   pub named : IsNamed (names files) entry lump.name
   pub stands : IsLump files entry lump.bytes
 
--- the lump of an entry wasn't added: it isn't inside its file, or there was no memory
+-- the lump of an entry wasn't added: it isn't inside its file; or it is, and there was no memory
 abbrev pub LacksLump : List Wad → LevelLabel → ℕ → CutFault → Type 0
 LacksLump files label entry (Level other (Outside name)) =
     (other ≡ label) × IsNamed (names files) entry name × ((lump : List ℕ) → ¬ IsLump files entry lump)
-LacksLump files label entry Memory = Unit {0}
+LacksLump files label entry Memory = (lump : List ℕ) × IsLump files entry lump
 LacksLump files label entry _ = ⊥
+
+-- why the lumps of a level aren't packed: their file would be too large; or it wouldn't, and there was no memory
+abbrev pub RefusesPack : List NamedLump → LevelLabel → CutFault → Type 0
+RefusesPack found label (Level other TooLarge) = (other ≡ label) × (MAX_BYTES < length (packed found))
+RefusesPack found label Memory = length (packed found) ≤ MAX_BYTES
+RefusesPack found label _ = ⊥
 
 -- why the level that starts at an entry isn't cut out
 abbrev pub RefusesLevel : List Wad → ℕ → Uncut → Type 0
@@ -117,12 +124,18 @@ RefusesLevel files g (Outside name) = IsFirstOutside files g name
 RefusesLevel files g NoEndMap = IsFormat files g format.Udmf × LacksEndMap files g
 RefusesLevel files g TooLarge = IsTooLarge files g
 
--- why no level is cut out of files at an entry
+-- a level starts at an entry, and all entries are there that belong to it
+pub record IsListedAt (files : List Wad) (g : ℕ) : Type 0 where
+  pub starts : LevelStartsAt (names files) g
+  pub many : ℕ
+  pub belong : BelongAt files g many
+
+-- why no level is cut out of files at an entry: there is none, or not all of it; or there was no memory, with its entries listed
 abbrev pub RefusesEntry : List Wad → ℕ → CutFault → Type 0
 RefusesEntry files g (NoWad why) = ⊥
 RefusesEntry files g (NoLevel entry) = (entry ≡ g) × (¬ LevelStartsAt (names files) g)
 RefusesEntry files g (Level label why) = IsLabelOf files g label × RefusesLevel files g why
-RefusesEntry files g Memory = Unit {0}
+RefusesEntry files g Memory = IsListedAt files g
 RefusesEntry files g Write = ⊥
 
 -- the one file of these bytes
@@ -141,10 +154,10 @@ pub record RefusesIn (bytes : List ℕ) (g : ℕ) (fault : CutFault) : Type 0 wh
   pub file : IsFileOf bytes files
   pub refuses : RefusesEntry files g fault
 
--- why no level is cut out of a file's bytes: they have no directory, or there is none at the entry
+-- why no level is cut out of a file's bytes: they have no directory, or there is none at the entry; or there was no memory, with a directory
 abbrev pub RefusesCut : List ℕ → ℕ → CutFault → Type 0
 RefusesCut bytes g (NoWad why) = RefusesWad bytes why
-RefusesCut bytes g Memory = Unit {0}
+RefusesCut bytes g Memory = HasDirectory bytes
 RefusesCut bytes g fault = RefusesIn bytes g fault
 
 -- nothing was written

@@ -2,6 +2,7 @@
 use Rattle.std.specs.Prelude.{◌≡◌, ℕ, List, Result, Err}
 use Rattle.level_starts.specs.Format.{IsFormat}
 use Rattle.level_starts.specs.declared.format.Format.TheVariants.{Doom}
+use Rattle.wad_dir.specs.Directory.{HasDirectory}
 use Rattle.wad_dir.specs.Refusal.{RefusesWad}
 use Rattle.wad_dir.specs.Wad.{Wad}
 use Rattle.lens_engines.specs.declared.verdict.LevelsFault.{LevelsFault}
@@ -17,10 +18,10 @@ pub record LeavesLevel {W T : Type 0} (files : List Wad) (g : ℕ) (out out' : W
   pub doom : IsFormat files g Doom
   pub wants : WantsMemory out out' result
 
--- why a file isn't gone over: its bytes have no directory, or a growth was refused
+-- why a file isn't gone over: its bytes have no directory; or they have one, and a growth was refused
 abbrev pub RefusesBytes : List ℕ → LevelsFault → Type 0
 RefusesBytes bytes (NoWad why) = RefusesWad bytes why
-RefusesBytes bytes Memory = Unit {0}
+RefusesBytes bytes Memory = HasDirectory bytes
 RefusesBytes bytes (Write found) = ⊥
 
 -- and nothing was written

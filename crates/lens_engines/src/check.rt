@@ -1,6 +1,6 @@
 //! The check of a file: what is found at each of its levels, in lines for people, editors and programs.
 
-ghost use Rattle.std.specs.Prelude.{◌≡◌, ◌≤◌, ◌↔◌, ◌++◌, false, length, IfOk, IfSome, IsTrue};
+ghost use Rattle.std.specs.Prelude.{◌≡◌, ◌≤◌, ◌↔◌, ◌++◌, false, length, IfOk, IfSome, IsTrue, OnErr};
 ghost use Rattle.level_starts.specs.Format.{IsFormat};
 ghost use Rattle.level_starts.specs.Holders.{AreLabelHolders};
 ghost use Rattle.level_starts.specs.Starts.{LevelStartsAt};
@@ -254,7 +254,8 @@ fn is_sound_wide_alone<A: Allocator + Copy>(
 ) -> Result<bool, AllocError>
     requires is { IsFormat set.now g format.Doom }
     requires tells { IsTrue sound ↔ IsSound level.now }
-    ensures { IfOk result (λ sound. IsTrue sound ↔ IsSoundWideAlone set.now g reading level.now) }
+    ensures sound { IfOk result (λ sound. IsTrue sound ↔ IsSoundWideAlone set.now g reading level.now) }
+    ensures asked { OnErr result ((reading ≡ Reading.Signed) × ¬ IsSound level.now) }
 {
     // Only the clauses speak of the level.
     let _level = level;

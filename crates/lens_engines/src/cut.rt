@@ -1,13 +1,15 @@
 //! A level cut out of a file: the one whose label is an entry, as a file of its own.
 
-ghost use Rattle.std.specs.Prelude.{◌≡◌, ◌↔◌, ◌+◌, ◌<◌, ◌∷◌, [], false, length, IsTrue, IfErr, IfNone, IfOk, IfSome, OnOk, Some};
+ghost use Rattle.std.specs.Prelude.{◌≡◌, ◌↔◌, ◌+◌, ◌<◌, ◌≤◌, ◌∷◌, [], false, length, IsTrue, IfErr, IfNone, IfOk, IfSome, OnOk, Some};
 ghost use Rattle.std.specs.List.{slice_get};
+ghost use Rattle.level_starts.specs.LevelFile.{HoldsLumps};
 ghost use Rattle.level_starts.specs.Starts.{LevelStartsAt};
 ghost use Rattle.level_starts.specs.declared.format.Format.TheVariants as format;
 ghost use Rattle.line_io.specs.Writes.{Writes};
 ghost use Rattle.wad_dir.specs.Entries.{joined, names};
+ghost use Rattle.wad_dir.specs.Packing.{packed};
 ghost use Rattle.lens_engines.specs.Cut.{AddsLump, Belong, BelongAt, CutsLevel, HasLump, HasLumpsAt, HasPlace, HasScripts, IsCut, IsEndMap, LacksEndMap, LacksLump};
-ghost use Rattle.lens_engines.specs.Cut.{RefusesCut, RefusesEntry, RefusesLevel, RunsCut, cut_fault_text, uncut_text};
+ghost use Rattle.lens_engines.specs.Cut.{RefusesCut, RefusesEntry, RefusesLevel, RefusesPack, RunsCut, cut_fault_text, uncut_text};
 ghost use Rattle.lens_texts.specs.Label.{IsLabelOf};
 
 use crate::object::FileRefusal;
@@ -197,10 +199,24 @@ fn pack_lumps<'a, A: Allocator + Copy>(
     ensures err { IfErr result (RefusesEntry set.now g) }
     ensures lump { IfErr result HasLump }
 {
-    let packer = match gather(alloc, set, label, g, many) {
-        Ok(packer) => packer,
-        Err(fault) => return Err(fault),
-    };
+    match gather(alloc, set, label, g, many) {
+        Ok(packer) => pack(alloc, &packer, label),
+        Err(fault) => Err(fault),
+    }
+}
+
+// The file of a level's lumps.
+fn pack<A: Allocator>(
+    alloc: A,
+    packer: &Packer<'_, A>,
+    label: &LevelLabel,
+) -> Result<Vec<u8, A>, CutFault>
+    ensures is { IfOk result (λ file. file.items ≡ packed packer.now) }
+    ensures fits { IfOk result (λ file. length file.items ≤ MAX_BYTES) }
+    ensures holds { IfOk result (λ file. HoldsLumps file.items packer.now) }
+    ensures err { IfErr result (RefusesPack packer.now label.now) }
+    ensures lump { IfErr result HasLump }
+{
     match packer.pack(alloc) {
         Ok(file) => Ok(file),
         Err(PackFault::TooLarge) => Err(CutFault::Level(*label, Uncut::TooLarge)),

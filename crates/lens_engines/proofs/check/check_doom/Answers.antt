@@ -34,4 +34,4 @@ returns g c =
     let ended = rw (c.judged_totals-totals.ensures, c.counts-counts.ensures, c.unlooked.ensures) at c.text_end.ensures in
     judged_written g.W.Sink.state (asked_of c.args.question.now) c.args.set.now c.args.g c.args.heading.now.label level judged
     c.has_failing-fails.result c.of-unlisted.result c.in-Ok-is_sound_wide_alone.sound_wide c.args.out.now c.write_judged-wrote.new.out c.write_judged-wrote.result c.text_end.result
-    c.level_at-level.ensures are failing unlisted c.in-Ok-is_sound_wide_alone.ensures text ended
+    c.level_at-level.ensures are failing unlisted c.in-Ok-is_sound_wide_alone.ensures.sound text ended

@@ -16,7 +16,7 @@ add_lump-requires g c = omega (arith, belong_within c.args.set.now c.args.g c.ar
 
 pub returns-in-Err-clause-err : goal.returns-in-Err-clause-err
 returns-in-Err-clause-err g c =
-    lump_lacking c.args.set.now c.args.g c.args.many c.lumps.m c.args.label.now c.lumps.packer c.in-Err.fault c.requires.label c.requires.belong c.lumps-test.true
+    lump_lacking c.args.set.now c.args.g c.args.many c.lumps.m c.args.label.now c.lumps.packer c.in-Err.fault c.requires.label c.requires.starts c.requires.belong c.lumps-test.true
     c.lumps.invariant.gathered c.in-Err.ensures.err
 
 pub lumps-preserved : goal.lumps-preserved

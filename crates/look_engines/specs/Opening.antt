@@ -2,6 +2,8 @@
 use Rattle.std.specs.Prelude.{◌≡◌, ℕ, List, All, map}
 use Rattle.std.specs.declared.vec.Vec.{Vec}
 use Rattle.le_rec.specs.Name.{query_of}
+use Rattle.map_level.specs.Findings.{NoFaultHolds}
+use Rattle.map_level.specs.LinkFaults.{LinkHolds}
 use Rattle.map_level.specs.Opening.{IsLevel, RefusesLevel}
 use Rattle.map_level.specs.Level.{Level}
 use Rattle.map_level.specs.declared.reading.Reading.{Reading}
@@ -20,7 +22,8 @@ pub record AreRead (bytes : List (List ℕ)) (files : List Wad) : Type 0 where
   pub of_bytes : map (λ file. file.bytes) files ≡ bytes
   pub each : All IsRead files
 
--- why files aren't read: the first that has no directory, or a growth was refused
+-- why files aren't read: the first that has no directory, or a growth was refused. Room for their list is made before any is read, so want
+-- of memory says nothing of them.
 abbrev pub RefusesFiles : List (List ℕ) → RunFault → Type 0
 RefusesFiles bytes (fault.Set n why) = IsFirstRefused bytes n why
 RefusesFiles bytes fault.Memory = Unit {0}
@@ -42,10 +45,10 @@ pub record IsAccepted (bytes : List (List ℕ)) (name : List ℕ) (reading : Rea
   pub opened : IsOpened bytes name reading level
   pub sound : IsSound level
 
--- why a level isn't accepted: it isn't sound, or a growth was refused
+-- why a level isn't accepted: it isn't sound, or a growth was refused, and then no link has a fault
 abbrev pub RefusesAudit : Level → RunFault → Type 0
 RefusesAudit level fault.Audit = ¬ IsSound level
-RefusesAudit level fault.Memory = Unit {0}
+RefusesAudit level fault.Memory = NoFaultHolds (LinkHolds level)
 RefusesAudit level _ = ⊥
 
 -- why the level of the files' name isn't: there is none, or it isn't sound

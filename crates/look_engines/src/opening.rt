@@ -50,6 +50,7 @@ pub fn open_level<'a, A: Allocator, F: AsBytes>(
 }
 
 /// The tree of a level that is accepted, with its ssectors' sectors.
+#[tactic(auto, using(crate::proofs::OpeningLemmas::links_from_sound))]
 pub fn sector_tree<'l, 'a, A: Allocator + Copy>(
     alloc: A,
     level: &'l Level<'a>,
@@ -68,10 +69,12 @@ pub fn sector_tree<'l, 'a, A: Allocator + Copy>(
 }
 
 /// The counter for the rectangles of an accepted level's tree.
+#[tactic(auto, using(crate::proofs::OpeningLemmas::links_from_sound))]
 pub fn tally_of<'t, 'a, A: Allocator + Copy>(
     alloc: A,
     tree: &'t SectorTree<'_, 'a, A>,
 ) -> Result<Tally<'t, 'a, A>, RunFault>
+    requires { IsSound tree.now }
     ensures ok { IfOk result (λ tally. tally ≡ tree.now) }
     ensures err { IfErr result (RefusesAudit tree.now) }
 {

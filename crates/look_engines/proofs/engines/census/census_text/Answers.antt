@@ -9,6 +9,9 @@ returns-in_err-tree g c =
     let told = refused_audit _ _ _ _ _ c.in_ok-level.ensures.ok c.in_err-tree.ensures.err in
     inl (record { fault = p.0; ended = p.1; holds = rw p.2 told; untouched = (refl, refl) })
 
+pub tally_of-requires : goal.tally_of-requires
+tally_of-requires g c = rw c.in_ok-tree.ensures.ok.0 c.in_ok-tree.ensures.ok.1
+
 pub returns-in_err-tally : goal.returns-in_err-tally
 returns-in_err-tally g c =
     let refused = rw c.in_ok-tree.ensures.ok.0 at c.in_err-tally.ensures.err in

@@ -9,6 +9,7 @@ use Rattle.later_demos.specs.Refusal.{RefusesDemo}
 use Rattle.later_demos.specs.declared.fault.LaterFault.{LaterFault}
 use Rattle.le_rec.specs.Sink.{SinkState}
 use Rattle.line_io.specs.Writes.{TakesFront}
+use Rattle.wad_dir.specs.Directory.{HasDirectory}
 use Rattle.wad_dir.specs.Entries.{joined, names}
 use Rattle.wad_dir.specs.Refusal.{RefusesWad}
 use Rattle.wad_dir.specs.Slice.{IsLump}
@@ -184,10 +185,10 @@ pub record Tells (asked : DemosAsked) (files : List Wad) (out out' errors errors
 abbrev pub is_wad_file : List ℕ → Bool
 is_wad_file bytes = starts_with nat_eq bytes (codes "IWAD") || starts_with nat_eq bytes (codes "PWAD")
 
--- why there is no report on a WAD file: its bytes have no directory, or a growth was refused
+-- why there is no report on a WAD file: its bytes have no directory; or they have one, and a growth was refused
 abbrev pub RefusesFile : List ℕ → DemosFault → Type 0
 RefusesFile bytes (NoWad why) = RefusesWad bytes why
-RefusesFile bytes Memory = Unit {0}
+RefusesFile bytes Memory = HasDirectory bytes
 RefusesFile bytes Errors = ⊥
 RefusesFile bytes (Write all_read) = ⊥
 

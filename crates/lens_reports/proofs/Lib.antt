@@ -4,3 +4,4 @@ pub mod CutLemmas
 pub mod JobLemmas
 pub mod PathLemmas
 pub mod TellLemmas
+mod FileLemmas

@@ -28,6 +28,15 @@ RefusesKnown known (Refused TooLarge) = IfSome known.bytes (λ bytes. MAX_READ <
 RefusesKnown known (Refused (NoWad why)) = ⊥
 RefusesKnown known Memory = Unit {0}
 
+-- a file isn't opened where the storage refuses it
+abbrev pub IsAnswered : Type 0 → ReadFault → Type 0
+IsAnswered refused (Refused Unopened) = refused
+IsAnswered refused _ = Unit {0}
+
+-- the faults of an input that was opened
+abbrev pub IsOpenedFault : ReadFault → Type 0
+IsOpenedFault fault = IsAnswered ⊥ fault
+
 -- the file under a path of a storage: it may fail
 abbrev pub at_path : Option (List ℕ) → Known
 at_path held = record { bytes = held; sure = false }

@@ -2,7 +2,7 @@
 ghost use Rattle.std.specs.Prelude.{◌≤◌, vec_len, Some, IfErr, IfOk};
 ghost use Rattle.std.specs.Io.KnownBytes.{Keeps};
 ghost use Rattle.line_io.specs.declared.input.TheConstants.{MAX_READ};
-ghost use Rattle.lens_reports.specs.Files.{RefusesRead, read_fault_of};
+ghost use Rattle.lens_reports.specs.Files.{IsAnswered, IsOpenedFault, RefusesRead, read_fault_of};
 
 use le_rec::{EndFault, FromRead};
 use lens_engines::FileRefusal;
@@ -48,6 +48,7 @@ pub fn read_path<S: Storage, A: Allocator>(
     ensures held { IfOk result (λ file. Keeps (S.held storage.now path.now) (Some file.items)) }
     ensures few { IfOk result (λ file. vec_len file ≤ MAX_READ) }
     ensures refused { IfErr result (RefusesRead (S.held storage.now path.now)) }
+    ensures answered { IfErr result (IsAnswered (S.refuses storage.now path.now)) }
 {
     match storage.open(path) {
         Ok(file) => read_input(room, file),
@@ -63,6 +64,7 @@ pub fn read_input<R: Read + Drop, A: Allocator>(
     ensures held { IfOk result (λ file. Keeps (R.remaining input) (Some file.items)) }
     ensures few { IfOk result (λ file. vec_len file ≤ MAX_READ) }
     ensures refused { IfErr result (RefusesRead (R.remaining input)) }
+    ensures opened { IfErr result IsOpenedFault }
 {
     match read_again(room, &mut FromRead::new(input), MAX_READ) {
         Ok(bytes) => Ok(bytes),

@@ -17,15 +17,16 @@
  * Where the array for an answer is too short, a call that says NO_ROOM writes nothing to it, a call that says FRONT fills it with
  * the front of the answer and is DONE, and what stands right of the `<` there is the length that is enough.
  *
- * A call takes one file: of a PWAD over a game's file ask the PWAD first, and then the game's. `name` is looked up as the game
- * does: its first eight bytes in capital letters, up to a NUL; the last entry of that name is taken. No call lists the names of
- * levels: the program `wadlook levels FILE` does. `wide` is false as in Doom, and true for levels of ports with raised limits: their
- * indexes are read as unsigned.
+ * All but wadlook_run and wadlook_check take one file: of a PWAD over a game's file ask the PWAD first, and then the game's.
+ * wadlook_levels lists the levels of a file. A level is asked for by the entry of its label, or by its name. `name` is looked up
+ * as the game does: its first eight bytes in capital letters, up to a NUL; the last entry of that name is taken. `wide` is false
+ * as in Doom, and true for levels of ports with raised limits: their indexes are read as unsigned.
  *
- * A level is sound where its links and nodes hold together (findings F1 to F18 don't hold). All calls judge Doom's format. Of
- * Hexen's, of UDMF and of extended nodes the answers mean nothing: `wadlens check FILE` tells which levels these are. Docs:
+ * A level is sound where its links and nodes hold together (findings F1 to F18 don't hold). Doom's format is judged. A level of
+ * another format than Doom's ends a call by an entry with OTHER_FORMAT, or with LUMP_MISSING or LUMP_OUTSIDE where it isn't whole.
+ * A call by a name reads each level as Doom's, and then its answer means nothing: prefer the calls by an entry. Docs:
  * docs/wadlook.1 lists the findings, docs/DEFINITIONS.md says what each word means. What the functions of crates/wadlook_c
- * answer is proved; that this page says what they do is tested.
+ * answer is proved; that this page says what they do is tested, and so are the texts and wadlook_check, which are written in C.
  *
  *     size_t size; uint8_t *wad = read_file("doom2.wad", &size);          // 'read_file' is yours
  *     wadlook_point_at points[] = {{0, 5}, {64, -128}};
@@ -86,8 +87,47 @@ enum wadlook_status {
     WADLOOK_OFFSET_OUTSIDE = 21, /* the block's offset is missing, or is no word of BLOCKMAP */
     WADLOOK_NO_END = 22,         /* no end word stands at the offset or after it */
     WADLOOK_NO_SECTOR = 23,      /* a sector's number isn't below the number of sectors */
-    WADLOOK_UNKNOWN = 24         /* REJECT ends before the bit */
+    WADLOOK_UNKNOWN = 24,        /* REJECT ends before the bit */
+    WADLOOK_NO_LEVEL = 28,       /* no level starts at the entry */
+    WADLOOK_OTHER_FORMAT = 29,   /* the level is in another format than Doom's: Hexen's, UDMF, or with extended nodes */
+    WADLOOK_NO_VIEW = 30,        /* bounds out of order, or no cells, or more than 1024 along a side */
+    WADLOOK_NOTHING_TO_DRAW = 31 /* no linedef of the level has both of its vertexes */
 };
+
+/* ---- Texts ------------------------------------------------------------------------------------------------------- */
+
+/* Each ends with a NUL and stays. NULL where the number is none's. */
+const char *wadlook_status_text(uint32_t status); /* one of wadlook_status, in words */
+const char *wadlook_code_name(uint32_t code);     /* one of wadlook_code, as "F3" */
+const char *wadlook_code_text(uint32_t code);     /* what it says, in few words */
+const char *wadlook_kind_text(uint32_t kind);     /* one of wadlook_kind, as "linedef" */
+const char *wadlook_format_text(uint32_t format); /* one of wadlook_format, as "doom" */
+
+/* ---- The levels of a file ---------------------------------------------------------------------------------------- */
+
+enum wadlook_format {
+    WADLOOK_DOOM = 0,
+    WADLOOK_HEXEN = 1,
+    WADLOOK_UDMF = 2,
+    WADLOOK_EXTENDED = 3,   /* its nodes are in a later format */
+    WADLOOK_INCOMPLETE = 4, /* a lump isn't there, or hasn't its usual name */
+    WADLOOK_OUTSIDE = 5     /* a lump isn't inside its file */
+};
+
+/* `entry` is the number of the label among the file's entries, from 0. `name` has zeros behind it where it is shorter. `format` is
+ * one of wadlook_format. `lump` is the place of the lump that isn't there or isn't inside its file, from 1 to 10, and else 0.
+ * `tag` is how extended nodes begin, and else zeros. */
+typedef struct {
+    size_t entry;
+    char name[8];
+    uint32_t format, lump;
+    char tag[4];
+} wadlook_level;
+
+/* Writes the levels of a file in the order of their entries, hidden ones too, and how many there are to *count. FRONT:
+ * levels_len < *count. DONE, MEMORY, SHORT to DIRECTORY. */
+WADLOOK_NODISCARD uint32_t wadlook_levels(
+    const uint8_t *wad, size_t wad_len, wadlook_level *levels, size_t levels_len, size_t *count);
 
 /* ---- Points ------------------------------------------------------------------------------------------------------ */
 
@@ -108,17 +148,32 @@ typedef struct {
 WADLOOK_NODISCARD uint32_t wadlook_points(const uint8_t *wad, size_t wad_len, const uint8_t *name, size_t name_len, bool wide,
     const wadlook_point_at *points, size_t points_len, wadlook_place *places, size_t places_len);
 
+/* The same of the level whose label is an entry. NO_ROOM; else DONE, UNSOUND, MEMORY, SHORT to DIRECTORY, LUMP_MISSING,
+ * LUMP_OUTSIDE, NO_LEVEL, OTHER_FORMAT. */
+WADLOOK_NODISCARD uint32_t wadlook_points_at(const uint8_t *wad, size_t wad_len, size_t entry, bool wide,
+    const wadlook_point_at *points, size_t points_len, wadlook_place *places, size_t places_len);
+
 /* Audits a level once for many calls of wadlook_point: writes the sector of each ssector to the front of sectors, and how
  * many there are to *count, also at NO_ROOM. NO_ROOM: sectors_len < *count. That comes before the audit: with more room the level
  * may still be UNSOUND. Room for 32,768 is enough for each sound level. Else DONE, UNSOUND, MEMORY, SHORT to LUMP_OUTSIDE. */
 WADLOOK_NODISCARD uint32_t wadlook_prepare(const uint8_t *wad, size_t wad_len, const uint8_t *name, size_t name_len, bool wide,
     uint16_t *sectors, size_t sectors_len, size_t *count);
 
+/* The same of the level whose label is an entry. NO_ROOM; else DONE, UNSOUND, MEMORY, SHORT to DIRECTORY, LUMP_MISSING,
+ * LUMP_OUTSIDE, NO_LEVEL, OTHER_FORMAT. */
+WADLOOK_NODISCARD uint32_t wadlook_prepare_at(
+    const uint8_t *wad, size_t wad_len, size_t entry, bool wide, uint16_t *sectors, size_t sectors_len, size_t *count);
+
 /* The place of one point, by the bytes of a level's NODES (wadlook_find with 7) and the *count sectors that
  * wadlook_prepare listed. Takes no memory. Any bytes and numbers may be handed in; where they are no sound level's, the
  * answer is some place or nowhere. */
 wadlook_place wadlook_point(
     const uint8_t *nodes, size_t nodes_len, const uint16_t *sectors, size_t sectors_len, wadlook_point_at point);
+
+/* The place of one point of the level whose label is an entry, which may have faults: NOWHERE where the walk down its nodes
+ * breaks off, or the ssector has no sector. DONE, MEMORY, SHORT to DIRECTORY, LUMP_MISSING, LUMP_OUTSIDE, NO_LEVEL, OTHER_FORMAT. */
+WADLOOK_NODISCARD uint32_t wadlook_under(
+    const uint8_t *wad, size_t wad_len, size_t entry, bool wide, wadlook_point_at point, wadlook_place *place);
 
 /* Columns x0 to x1 and rows y0 to y1, with both ends. */
 typedef struct {
@@ -133,9 +188,37 @@ typedef struct {
 WADLOOK_NODISCARD uint32_t wadlook_census(const uint8_t *wad, size_t wad_len, const uint8_t *name, size_t name_len, bool wide,
     const wadlook_rect *rect, wadlook_count *counts, size_t counts_len, size_t *count);
 
+/* The same of the level whose label is an entry. NO_RECT; else DONE, UNSOUND, MEMORY, SHORT to DIRECTORY, LUMP_MISSING,
+ * LUMP_OUTSIDE, NO_LEVEL, OTHER_FORMAT. */
+WADLOOK_NODISCARD uint32_t wadlook_census_at(const uint8_t *wad, size_t wad_len, size_t entry, bool wide, const wadlook_rect *rect,
+    wadlook_count *counts, size_t counts_len, size_t *count);
+
+/* ---- Cells: a map of sectors ------------------------------------------------------------------------------------- */
+
+/* The part of a map from x0 to x1 and y0 to y1 where `framed` is true, and else that of the level's linedefs; and how many cells
+ * its longer side has at most, from 1 to 1024. */
+typedef struct {
+    int16_t x0, y0, x1, y1;
+    uint32_t cells;
+    bool framed;
+} wadlook_view;
+
+/* A cell is `size` map units wide and high. That of column i and row j shows the sector of the point
+ * (x + i * size, y + j * size), and none where the map is void. */
+typedef struct {
+    uint32_t size, columns, rows;
+    int32_t x, y;
+} wadlook_grid;
+
+/* Writes the sector of each cell to sectors[row * columns + column], the lowest row first, -1 where there is none; and the cells'
+ * size and numbers to *grid, also at NO_ROOM. NO_ROOM: sectors_len < grid->columns * grid->rows. NO_VIEW; else DONE, UNSOUND,
+ * MEMORY, SHORT to DIRECTORY, LUMP_MISSING, LUMP_OUTSIDE, NO_LEVEL, OTHER_FORMAT, NOTHING_TO_DRAW. */
+WADLOOK_NODISCARD uint32_t wadlook_cells(const uint8_t *wad, size_t wad_len, size_t entry, bool wide, const wadlook_view *view,
+    int32_t *sectors, size_t sectors_len, wadlook_grid *grid);
+
 /* ---- What is wrong with a level ---------------------------------------------------------------------------------- */
 
-/* The codes of findings: the faults, and then the notes. */
+/* The codes: the faults, the notes, and then the warnings, of which wadlook_run and wadlook_check alone tell. */
 /* tools/tables writes from here */
 enum wadlook_code {
     WADLOOK_F1 = 0,   /* lump missing after the label */
@@ -167,7 +250,32 @@ enum wadlook_code {
     WADLOOK_N9 = 26,  /* BLOCKMAP short */
     WADLOOK_N10 = 27, /* block list faulty */
     WADLOOK_N11 = 28, /* no player 1 start */
-    WADLOOK_N12 = 29  /* vertex out of range */
+    WADLOOK_N12 = 29, /* vertex out of range */
+    WADLOOK_W1 = 30,  /* sector not closed */
+    WADLOOK_W2 = 31,  /* wall without texture */
+    WADLOOK_W3 = 32,  /* thing in the void */
+    WADLOOK_W4 = 33,  /* tag of no sector */
+    WADLOOK_W5 = 34,  /* segs face several sectors */
+    WADLOOK_W6 = 35,  /* linedef on another */
+    WADLOOK_W7 = 36,  /* no start of players 2 to 4 */
+    WADLOOK_W8 = 37,  /* fewer than 4 deathmatch starts */
+    WADLOOK_W9 = 38,  /* texture not there */
+    WADLOOK_W10 = 39, /* flat not there */
+    WADLOOK_W11 = 40, /* thing of no known type */
+    WADLOOK_W12 = 41, /* reserved */
+    WADLOOK_W13 = 42, /* reserved */
+    WADLOOK_W14 = 43, /* unknown special */
+    WADLOOK_W15 = 44, /* special with tag 0 */
+    WADLOOK_W16 = 45, /* special that acts on nothing */
+    WADLOOK_W17 = 46, /* use ends or spoils the game */
+    WADLOOK_W18 = 47, /* floor that ends the game */
+    WADLOOK_W19 = 48, /* no exit, or a key missing */
+    WADLOOK_W20 = 49, /* reserved */
+    WADLOOK_W21 = 50, /* thing unread, unplaced or deadly */
+    WADLOOK_W22 = 51, /* limit of the game passed */
+    WADLOOK_W23 = 52, /* reserved */
+    WADLOOK_W24 = 53, /* reserved */
+    WADLOOK_W25 = 54  /* flat not between its ends */
 };
 /* tools/tables writes up to here */
 
@@ -185,6 +293,11 @@ typedef struct {
 WADLOOK_NODISCARD uint32_t wadlook_audit(const uint8_t *wad, size_t wad_len, const uint8_t *name, size_t name_len, bool wide,
     wadlook_finding *findings, size_t findings_len, wadlook_totals *totals);
 
+/* The same of the level whose label is an entry, without F1, F2 and N1, which OTHER_FORMAT and its neighbours stand for. FRONT. DONE,
+ * MEMORY, SHORT to DIRECTORY, LUMP_MISSING, LUMP_OUTSIDE, NO_LEVEL, OTHER_FORMAT. */
+WADLOOK_NODISCARD uint32_t wadlook_audit_at(const uint8_t *wad, size_t wad_len, size_t entry, bool wide, wadlook_finding *findings,
+    size_t findings_len, wadlook_totals *totals);
+
 /* ---- Lumps, sight and blocks ------------------------------------------------------------------------------------- */
 
 /* `entry` counts from 0; its lump is the `size` bytes from wad + place. */
@@ -197,6 +310,9 @@ typedef struct {
  * LUMP_OUTSIDE. */
 WADLOOK_NODISCARD uint32_t wadlook_find(
     const uint8_t *wad, size_t wad_len, const uint8_t *name, size_t name_len, size_t after, wadlook_lump *lump);
+
+/* An entry's lump. DONE, MEMORY, SHORT to DIRECTORY, LUMP_MISSING where there are not so many entries, LUMP_OUTSIDE. */
+WADLOOK_NODISCARD uint32_t wadlook_find_at(const uint8_t *wad, size_t wad_len, size_t entry, wadlook_lump *lump);
 
 /* Whether REJECT's bytes, of a level of so many sectors (SECTORS has 26 bytes for each), refuse the sight from a sector to
  * another: *blocked is 1 or 0. NO_SECTOR, UNKNOWN, DONE. Takes no memory. */
@@ -220,6 +336,11 @@ WADLOOK_NODISCARD uint32_t wadlook_block(
 WADLOOK_NODISCARD uint32_t wadlook_extract(
     const uint8_t *wad, size_t wad_len, const uint8_t *name, size_t name_len, uint8_t *out, size_t out_len, size_t *written);
 
+/* The same of the level whose label is an entry, in any format: with the lumps that belong to it there. NO_ROOM; else DONE, MEMORY,
+ * TOO_LARGE, SHORT to DIRECTORY, LUMP_MISSING, LUMP_OUTSIDE, NO_LEVEL. */
+WADLOOK_NODISCARD uint32_t wadlook_extract_at(
+    const uint8_t *wad, size_t wad_len, size_t entry, uint8_t *out, size_t out_len, size_t *written);
+
 typedef struct {
     size_t commands; /* how many, of all players; a full tic has one of each */
     size_t after;    /* bytes behind the end marker */
@@ -237,6 +358,128 @@ typedef struct {
  * DEMO_EMPTY to DEMO_NO_MARKER. Takes no memory. */
 WADLOOK_NODISCARD uint32_t wadlook_demo(
     const uint8_t *bytes, size_t bytes_len, wadlook_command *commands, size_t commands_len, wadlook_demo_info *info);
+
+/* ---- The words of `wadlens` -------------------------------------------------------------------------------------- */
+
+enum wadlook_word {
+    WADLOOK_CHECK = 0,            /* check --max NUMBER, where 0 shows all */
+    WADLOOK_SURVEY = 1,           /* survey */
+    WADLOOK_DEMOS = 2,            /* demos */
+    WADLOOK_DEMOS_JSON = 3,       /* demos --json */
+    WADLOOK_CUT = 4,              /* cut --entry NUMBER, of one file */
+    WADLOOK_CHECK_JSON = 5,       /* check --json --max NUMBER */
+    WADLOOK_CUT_LEVEL = 6,        /* cut --level NAME, of one file */
+    WADLOOK_PICTURE = 7,          /* picture NAME, of the set of 1 to 64 files */
+    WADLOOK_COMPARE = 8,          /* compare, of two files */
+    WADLOOK_ASSEMBLE = 9,         /* assemble, of the input; no file */
+    WADLOOK_EXPLAIN = 10,         /* explain CODE: that of rank NUMBER; no file */
+    WADLOOK_EXPLAIN_ALL = 11,     /* explain; no file */
+    WADLOOK_LISTING = 12,         /* listing, of one file */
+    WADLOOK_COMPARE_COMMANDS = 13 /* compare --commands, of two files */
+};
+
+/* The bit of a code in a set of codes. */
+#define WADLOOK_BIT(code) ((uint64_t)1 << (code))
+
+/* Writes to *set the notes and warnings that words name, as --ignore and --fail take them: codes, ranges of one letter that rise,
+ * and the groups game, notes and warnings, with commas between them, as "N2,W7-W8,game". Words end with a NUL; "" names none.
+ * False, and nothing written, where a word names none. `game` names whole codes; what --fail game asks for is `game_ends` of a
+ * question. */
+WADLOOK_NODISCARD bool wadlook_codes(const char *words, uint64_t *set);
+
+/* What is asked. All zeros ask `check` for every finding of each file, and no warning. */
+typedef struct {
+    const uint8_t *name; /* the level's, of CUT_LEVEL and PICTURE */
+    size_t name_len;
+    uint64_t number;           /* see wadlook_word */
+    uint64_t ignored, failing; /* --ignore and --fail: sets of codes. A fault is never ignored */
+    size_t limit;              /* the answer and the messages end at so many bytes each; 0: at none */
+    size_t bases;              /* so many of the files, the first ones, are base files: --base. 63 at most */
+    uint32_t word;             /* one of wadlook_word */
+    uint32_t cells;            /* of PICTURE: --cells; 0 for 512 */
+    int16_t x0, y0, x1, y1;    /* of PICTURE: --frame, where `framed` is true */
+    bool framed, wide, map, strict;
+    bool game_ends; /* --fail game: what ends the game is as grave as a fault */
+} wadlook_question;
+
+/* A file: the path by which answers name it, any bytes, and its bytes. */
+typedef struct {
+    const uint8_t *path;
+    size_t path_len;
+    const uint8_t *bytes;
+    size_t bytes_len;
+} wadlook_file;
+
+/* How long the answer and the messages are. */
+typedef struct {
+    size_t answer, messages;
+} wadlook_told;
+
+/* How a run ended: the program's statuses, and two more. */
+enum wadlook_end {
+    WADLOOK_CLEAN = 0,   /* nothing is wrong */
+    WADLOOK_FAULTY = 1,  /* a fault, a missing lump, or what `failing`, `strict` or `game_ends` ask for; of COMPARE a difference */
+    WADLOOK_REFUSED = 2, /* a file is refused, or a level isn't judged: the messages say why */
+    WADLOOK_NO_MEMORY = 3, /* malloc or realloc gave none; a front of the answer was made */
+    WADLOOK_STOPPED = 4,   /* the limit was reached, or the callback stopped; a front of the answer was made */
+    WADLOOK_MISTAKEN = 5   /* the question has no meaning, or isn't asked of so many files; there is no answer */
+};
+
+/* Does what `wadlens` does with such words over files that are held in memory, and an input. What the program writes to standard
+ * output goes to the front of answer, and what it writes to standard error to the front of messages: FRONT: answer_len <
+ * told->answer, and messages_len < told->messages. It returns one of wadlook_end. */
+WADLOOK_NODISCARD uint32_t wadlook_run(const wadlook_question *question, const wadlook_file *files, size_t files_len,
+    const uint8_t *input, size_t input_len, uint8_t *answer, size_t answer_len, uint8_t *messages, size_t messages_len,
+    wadlook_told *told);
+
+/* What a code is found at. */
+enum wadlook_kind {
+    WADLOOK_LINEDEF = 0,
+    WADLOOK_SIDEDEF = 1,
+    WADLOOK_VERTEX = 2,
+    WADLOOK_SEG = 3,
+    WADLOOK_SSECTOR = 4,
+    WADLOOK_NODE = 5,
+    WADLOOK_SECTOR = 6,
+    WADLOOK_THING = 7,
+    WADLOOK_LUMP = 8,
+    WADLOOK_BLOCK = 9,
+    WADLOOK_WHOLE = 10 /* the level */
+};
+
+/* Where it is on the map. */
+enum wadlook_where {
+    WADLOOK_NO_PLACE = 0,
+    WADLOOK_AT = 1,        /* at (x0, y0) */
+    WADLOOK_BETWEEN = 2,   /* from (x0, y0) to (x1, y1) */
+    WADLOOK_OF_LINEDEF = 3 /* at linedef x0 */
+};
+
+/* Stands for the code of what is no finding: a file that is refused, or a level that isn't judged; `message` says why. */
+#define WADLOOK_UNJUDGED UINT32_MAX
+
+/* A finding. The texts end with a NUL, and stay until the callback has returned. */
+typedef struct {
+    size_t file;         /* which of the files, from 0; those of `bases` count */
+    size_t entry;        /* the entry of the level's label */
+    const char *level;   /* the label's name, as it is shown; "" of a file that is refused */
+    const char *message; /* what is wrong, in words */
+    int64_t index;       /* the number of the record; of a block its column; -1 of a level */
+    int64_t row;         /* of a block its row, and else -1 */
+    uint32_t code;       /* one of wadlook_code, or WADLOOK_UNJUDGED */
+    uint32_t kind;       /* one of wadlook_kind */
+    uint32_t where;      /* one of wadlook_where */
+    int32_t x0, y0, x1, y1;
+} wadlook_found;
+
+/* A callback: whether it wants more. */
+typedef bool (*wadlook_on_found)(void *own, const wadlook_found *found);
+
+/* Does WADLOOK_CHECK of each file in turn, and gives its findings one by one to a callback. `own` is handed on. Of the question
+ * `word` and `limit` are ignored. It returns the gravest of wadlook_end: FAULTY goes before REFUSED. STOPPED: the callback wanted
+ * no more. NO_MEMORY, STOPPED and MISTAKEN end it at once, and so does a base file that is refused: it alone is given. */
+WADLOOK_NODISCARD uint32_t wadlook_check(
+    const wadlook_question *question, const wadlook_file *files, size_t files_len, wadlook_on_found on_found, void *own);
 
 #ifdef __cplusplus
 }

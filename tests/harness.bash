@@ -213,7 +213,8 @@ apart() {
 # What docs/CALLING.md calls each language.
 declare -A languages=([c]=C [cpp]=C++ [python]=Python [rust]=Rust)
 
-# example LANGUAGE [findings]: the example in docs/CALLING.md in a language, which prints sectors, or that which prints findings.
+# example LANGUAGE [check|findings]: the example in docs/CALLING.md in a language, which prints sectors, or that which prints what is found in
+# files, or in one level.
 example() {
     awk -v fence="\`\`\`$*" -v heading="## ${languages[$1]}" '
         /^## / { here = $0 == heading; next }
@@ -254,6 +255,14 @@ prints_findings() {
     printf '\0\200\0\200' | dd of="$room/faulty.wad" bs=1 seek=160 conv=notrunc status=none
     "$@" <"$room/faulty.wad" >"$room/found" || return
     diff <(head -n 1 "$room/found"; sed -n 's/.* at \([0-9]*\).*/\1/p' "$room/found") <(printf '%s\n' '2 faults, 0 notes' 0 1)
+}
+
+# prints_checked CMD..: what the example over files prints of the sample.
+prints_checked() {
+    diff <(
+        for _ in 1 2 3 4; do printf "E1M1: W1: isn't closed\n"; done
+        printf 'E1M1: W7: no player 2 start\nE1M1: W8: 0 deathmatch starts\nE1M1: W19: no exit\n'
+    ) <("$@" <"$sample")
 }
 
 # ---- Scripts that end early -----------------------------------------------------------------------------------------

@@ -118,25 +118,19 @@ def script_entry(row: Row, told: Explanation) -> List[str]:
     return [f"  {row.name}: {{", f"    text: {script_string(row.text)},", "    parts: [", *parts, "    ],", "  },"]
 
 
-def rust_block(rows: List[Row]) -> List[str]:
-    def array(name: str, group: str) -> List[str]:
-        texts = [row.text for row in rows if row.group == group]
-        return [f"pub const {name}: [&str; {len(texts)}] = [", *[f"    {quoted(text)}," for text in texts], "];"]
-
-    return [*array("FAULTS", "fault"), "", *array("NOTES", "note")]
-
-
-def python_block(rows: List[Row]) -> List[str]:
-    return ["_TEXTS = {", *[f"    {quoted(row.name)}: {quoted(row.text)}," for row in rows if row.is_finding], "}"]
+def library_block(rows: List[Row]) -> List[str]:
+    """The texts of codes in the library, from which Python and Rust take them."""
+    ends = {True: "true", False: "false"}
+    told = [f"    {{{quoted(row.name)}, {quoted(row.text)}, {ends[row.ends_game]}}}," for row in rows]
+    return ["static const struct code codes[] = {", *told, "};"]
 
 
 def header_block(rows: List[Row]) -> List[str]:
-    found = [row for row in rows if row.is_finding]
-    names = [f"WADLOOK_{row.name} = {number}" + "," * (number + 1 < len(found)) for number, row in enumerate(found)]
+    names = [f"WADLOOK_{row.name} = {number}" + "," * (number + 1 < len(rows)) for number, row in enumerate(rows)]
     widest = max(map(len, names))
     return [
         "enum wadlook_code {",
-        *[f"    {name.ljust(widest)} /* {row.text} */" for name, row in zip(names, found)],
+        *[f"    {name.ljust(widest)} /* {row.text} */" for name, row in zip(names, rows)],
         "};",
     ]
 
@@ -205,8 +199,7 @@ def fish_block(rows: List[Row]) -> List[str]:
 
 BLOCKS: Dict[str, Callable[[List[Row]], List[str]]] = {
     "web/codes.mjs": script_block,
-    "rust/src/texts.rs": rust_block,
-    "python/wadlook.py": python_block,
+    "tools/texts.c": library_block,
     "include/wadlook.h": header_block,
     "docs/wadlook.1": page_block,
     "docs/wadlens.1": explained_page_block,

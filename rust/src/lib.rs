@@ -14,8 +14,22 @@
 //! # Ok::<(), wadlook::Error>(())
 //! ```
 //!
-//! They judge levels in Doom's format: of another format the answers mean nothing, and `wadlens check FILE` tells which those are. They
-//! list no levels: `wadlook levels FILE` does.
+//! [`Wad::levels`] lists the levels of a file. Doom's format is judged: a level of another one is refused where it is asked for by its
+//! entry, by [`Wad::level_at`]. By its name it is read as Doom's, and then the answers mean nothing.
+//!
+//! [`Question`] does what the words of `wadlens` do, over files that are held in memory:
+//!
+//! ```
+//! # if !std::path::Path::new("sample").exists() {
+//! #     std::env::set_current_dir("..").unwrap();
+//! # }
+//! let bytes = std::fs::read("sample/base.wad").unwrap();
+//! let files = [wadlook::File::new("sample/base.wad", &bytes)];
+//! for found in (wadlook::Question { map: true, ..Default::default() }).check(&files) {
+//!     println!("{}", found?);
+//! }
+//! # Ok::<(), wadlook::Stopped>(())
+//! ```
 //!
 //! `include/wadlook.h` says what each call promises. These declarations aren't checked against it but by tests. Each safe
 //! function owes the library slices of memory that is borrowed for the call, which is what its types say.
@@ -27,12 +41,23 @@ extern crate alloc;
 use alloc::{vec, vec::Vec};
 use core::fmt;
 
+mod code;
+mod found;
+mod label;
+mod line;
 mod name;
+mod question;
 mod raw;
 mod refused;
 mod texts;
 
+pub use code::{Code, Codes};
+pub use found::{Found, Index, Kind, Spot, Where};
+pub use label::{Cells, Format, Grid, Label, View};
 use name::Name;
+pub use question::{
+    assemble, compare, compare_commands, cut, cut_level, demos, explain, listing, End, File, Findings, Question, Ran, Stopped,
+};
 pub use refused::{Error, Refused};
 
 /// A point, in map units from -16384 to 16383.
@@ -98,25 +123,6 @@ pub struct Lump {
     pub size: usize,
 }
 
-/// What can be found at a level. As text it is `F1` or `N1`. Later versions may tell of more.
-#[derive(Clone, Copy, Debug, PartialEq, Eq, Hash)]
-#[non_exhaustive]
-pub enum Code {
-    /// F1 to F18: the level isn't sound.
-    Fault(u32),
-    /// N1 to N12.
-    Note(u32),
-}
-
-impl fmt::Display for Code {
-    fn fmt(&self, f: &mut fmt::Formatter<'_>) -> fmt::Result {
-        match self {
-            Code::Fault(number) => write!(f, "F{number}"),
-            Code::Note(number) => write!(f, "N{number}"),
-        }
-    }
-}
-
 /// A fault or a note, and the record or lump at which it holds.
 #[derive(Clone, Copy, Debug, PartialEq, Eq, Hash)]
 #[allow(missing_docs)]
@@ -128,11 +134,7 @@ pub struct Finding {
 impl Finding {
     /// What it says, in words.
     pub fn text(&self) -> &'static str {
-        let (texts, number) = match self.code {
-            Code::Fault(number) => (&texts::FAULTS[..], number),
-            Code::Note(number) => (&texts::NOTES[..], number),
-        };
-        texts.get((number as usize).wrapping_sub(1)).copied().unwrap_or_default()
+        self.code.text()
     }
 }
 
@@ -217,7 +219,36 @@ impl<'a> Wad<'a> {
     /// The level of a name, of which the first eight bytes count and are kept; its indexes are read as signed. Each call
     /// looks it up, and answers where there is none.
     pub fn level(self, name: &str) -> Level<'a> {
-        Level { wad: self, name: Name::of(name.as_bytes()), wide: false }
+        Level { wad: self, asked: Asked::Name(Name::of(name.as_bytes())), wide: false }
+    }
+
+    /// The level whose label is an entry. Each call looks whether it is in Doom's format.
+    pub fn level_at(self, entry: usize) -> Level<'a> {
+        Level { wad: self, asked: Asked::Entry(entry), wide: false }
+    }
+
+    /// The levels of the file in the order of their entries, those whose name a later entry has, too.
+    pub fn levels(self) -> Result<Vec<Label>, Error> {
+        let mut told = vec![raw::Level::default(); 64];
+        loop {
+            let mut count = 0;
+            // SAFETY: as in `entry`.
+            let status =
+                unsafe { raw::wadlook_levels(self.bytes.as_ptr(), self.bytes.len(), told.as_mut_ptr(), told.len(), &mut count) };
+            Error::of(status, None)?;
+            if count <= told.len() {
+                return Ok(told[..count].iter().map(Label::of).collect());
+            }
+            told.resize(count, raw::Level::default());
+        }
+    }
+
+    /// The lump of an entry.
+    fn lump_at(self, entry: usize) -> Result<Lump, Error> {
+        let mut lump = Lump::default();
+        // SAFETY: as in `entry`.
+        let status = unsafe { raw::wadlook_find_at(self.bytes.as_ptr(), self.bytes.len(), entry, &mut lump) };
+        Error::of(status, None).map(|()| lump)
     }
 
     fn entry(self, name: Name, after: usize) -> Result<Lump, Error> {
@@ -244,8 +275,34 @@ impl fmt::Debug for Wad<'_> {
 #[derive(Clone, Copy)]
 pub struct Level<'a> {
     wad: Wad<'a>,
-    name: Name,
+    asked: Asked,
     wide: bool,
+}
+
+/// How a level is asked for.
+#[derive(Clone, Copy)]
+enum Asked {
+    Name(Name),
+    Entry(usize),
+}
+
+/// Calls the form of a call for the name of a level, or that for an entry.
+macro_rules! ask {
+    ($level:expr, $by_name:ident, $by_entry:ident, $($more:expr),*) => {{
+        let (level, wad) = ($level, $level.wad.bytes);
+        // SAFETY: each pointer and length are those of one slice that is borrowed for the call; what is written to is borrowed
+        // mutably.
+        let status = unsafe {
+            match &level.asked {
+                Asked::Name(name) => {
+                    let name = name.bytes();
+                    raw::$by_name(wad.as_ptr(), wad.len(), name.as_ptr(), name.len(), level.wide, $($more),*)
+                }
+                Asked::Entry(entry) => raw::$by_entry(wad.as_ptr(), wad.len(), *entry, level.wide, $($more),*),
+            }
+        };
+        level.ended(status)
+    }};
 }
 
 impl<'a> Level<'a> {
@@ -256,22 +313,7 @@ impl<'a> Level<'a> {
 
     /// Writes the place of each point to the front of `places`, which may be longer. Takes no memory but what the audit takes.
     pub fn places_into(&self, points: &[Point], places: &mut [Place]) -> Result<(), Error> {
-        let (wad, name) = (self.wad.bytes, self.name.bytes());
-        // SAFETY: as in `entry`.
-        let status = unsafe {
-            raw::wadlook_points(
-                wad.as_ptr(),
-                wad.len(),
-                name.as_ptr(),
-                name.len(),
-                self.wide,
-                points.as_ptr(),
-                points.len(),
-                places.as_mut_ptr(),
-                places.len(),
-            )
-        };
-        self.ended(status)
+        ask!(self, wadlook_points, wadlook_points_at, points.as_ptr(), points.len(), places.as_mut_ptr(), places.len())
     }
 
     /// The place of each point, None where one is out of range.
@@ -283,51 +325,49 @@ impl<'a> Level<'a> {
 
     /// The level audited once, for one point after another.
     pub fn prepare(&self) -> Result<Prepared<'a>, Error> {
-        let (wad, name) = (self.wad.bytes, self.name.bytes());
         let mut sectors = vec![0; 32768]; // no sound level has more ssectors
         let mut count = 0;
-        // SAFETY: as in `entry`.
-        let status = unsafe {
-            raw::wadlook_prepare(
-                wad.as_ptr(),
-                wad.len(),
-                name.as_ptr(),
-                name.len(),
-                self.wide,
-                sectors.as_mut_ptr(),
-                sectors.len(),
-                &mut count,
-            )
-        };
-        match self.ended(status) {
-            Err(error) if error.why() == Refused::NoRoom => return Err(Error::new(Refused::Unsound, self.name)),
+        match ask!(self, wadlook_prepare, wadlook_prepare_at, sectors.as_mut_ptr(), sectors.len(), &mut count) {
+            Err(error) if error.why() == Refused::NoRoom => return Err(error.but(Refused::Unsound)),
             ended => ended?,
         }
         sectors.truncate(count);
-        Ok(Prepared { nodes: self.wad.lump_of(self.name, 7)?, sectors })
+        Ok(Prepared { nodes: self.lump(7)?, sectors })
+    }
+
+    /// The place of one point, also of a level with faults: None where the walk down its nodes breaks off.
+    pub fn under(&self, point: Point) -> Result<Option<Place>, Error> {
+        let (wad, entry, mut place) = (self.wad.bytes, self.entry(0)?.entry, Place::default());
+        // SAFETY: as in `ask`.
+        let status = unsafe { raw::wadlook_under(wad.as_ptr(), wad.len(), entry, self.wide, point, &mut place) };
+        self.ended(status).map(|()| place.somewhere())
+    }
+
+    /// The sectors that the cells of a view show.
+    pub fn cells(&self, view: View) -> Result<Cells, Error> {
+        let (wad, entry) = (self.wad.bytes, self.entry(0)?.entry);
+        let (x0, y0, x1, y1) = view.frame.unwrap_or_default();
+        let view = raw::View { x0, y0, x1, y1, cells: view.cells, framed: view.frame.is_some() };
+        let mut sectors = Vec::new();
+        loop {
+            let mut grid = Grid::default();
+            // SAFETY: as in `ask`.
+            let status = unsafe {
+                raw::wadlook_cells(wad.as_ptr(), wad.len(), entry, self.wide, &view, sectors.as_mut_ptr(), sectors.len(), &mut grid)
+            };
+            match self.ended(status) {
+                Err(error) if error.why() == Refused::NoRoom => sectors.resize(grid.columns as usize * grid.rows as usize, -1),
+                ended => return ended.map(|()| Cells { grid, sectors }),
+            }
+        }
     }
 
     /// How many points of a rectangle lie in each sector that has some, by sectors.
     pub fn census(&self, rect: Rect) -> Result<Vec<Count>, Error> {
-        let (wad, name) = (self.wad.bytes, self.name.bytes());
         let mut counts = vec![Count::default(); 256];
         loop {
             let mut count = 0;
-            // SAFETY: as in `entry`.
-            let status = unsafe {
-                raw::wadlook_census(
-                    wad.as_ptr(),
-                    wad.len(),
-                    name.as_ptr(),
-                    name.len(),
-                    self.wide,
-                    &rect,
-                    counts.as_mut_ptr(),
-                    counts.len(),
-                    &mut count,
-                )
-            };
-            self.ended(status)?;
+            ask!(self, wadlook_census, wadlook_census_at, &rect, counts.as_mut_ptr(), counts.len(), &mut count)?;
             let all = count <= counts.len();
             counts.resize(count, Count::default());
             if all {
@@ -338,24 +378,10 @@ impl<'a> Level<'a> {
 
     /// The level's faults and then its notes, by code and then by index.
     pub fn findings(&self) -> Result<Vec<Finding>, Error> {
-        let (wad, name) = (self.wad.bytes, self.name.bytes());
         let mut found = vec![raw::Finding { code: 0, index: 0 }; 64];
         loop {
             let mut totals = raw::Totals::default();
-            // SAFETY: as in `entry`.
-            let status = unsafe {
-                raw::wadlook_audit(
-                    wad.as_ptr(),
-                    wad.len(),
-                    name.as_ptr(),
-                    name.len(),
-                    self.wide,
-                    found.as_mut_ptr(),
-                    found.len(),
-                    &mut totals,
-                )
-            };
-            self.ended(status)?;
+            ask!(self, wadlook_audit, wadlook_audit_at, found.as_mut_ptr(), found.len(), &mut totals)?;
             let count = totals.faults + totals.notes;
             if count <= found.len() {
                 return Ok(found[..count].iter().map(told).collect());
@@ -364,10 +390,24 @@ impl<'a> Level<'a> {
         }
     }
 
+    /// The lump that stands so many entries behind the label.
+    fn entry(&self, after: usize) -> Result<Lump, Error> {
+        match self.asked {
+            Asked::Name(name) => self.wad.entry(name, after),
+            Asked::Entry(entry) => self.wad.lump_at(entry + after),
+        }
+    }
+
+    /// Its bytes.
+    fn lump(&self, after: usize) -> Result<&'a [u8], Error> {
+        let lump = self.entry(after)?;
+        Ok(&self.wad.bytes[lump.place..lump.place + lump.size])
+    }
+
     /// Whether REJECT refuses the sight from a sector to another; `Unknown` where it ends before their bit.
     pub fn is_blocked(&self, from: u32, to: u32) -> Result<bool, Error> {
-        let reject = self.wad.lump_of(self.name, 9)?;
-        let sectors = self.wad.entry(self.name, 8)?.size / 26;
+        let reject = self.lump(9)?;
+        let sectors = self.entry(8)?.size / 26;
         let mut blocked = 0;
         // SAFETY: as in `entry`.
         let status = unsafe { raw::wadlook_sight(reject.as_ptr(), reject.len(), sectors as u32, from, to, &mut blocked) };
@@ -376,7 +416,7 @@ impl<'a> Level<'a> {
 
     /// The block that holds a point, and its list.
     pub fn block(&self, point: Point) -> Result<Block<'a>, Error> {
-        let lump = self.wad.lump_of(self.name, 10)?;
+        let lump = self.lump(10)?;
         let mut block = raw::Block::default();
         // SAFETY: as in `entry`.
         let status = unsafe { raw::wadlook_block(lump.as_ptr(), lump.len(), self.wide, point, &mut block) };
@@ -385,15 +425,30 @@ impl<'a> Level<'a> {
         Ok(Block { column: block.column, row: block.row, bytes, wide: self.wide })
     }
 
-    /// A PWAD of the level alone.
+    /// A PWAD of the level alone. By an entry it is one of any format, with the lumps that belong to it there.
     pub fn extract(&self) -> Result<Vec<u8>, Error> {
-        let (wad, name) = (self.wad.bytes, self.name.bytes());
-        let mut out = Vec::new();
+        let (wad, mut out) = (self.wad.bytes, Vec::new());
         loop {
             let mut written = 0;
-            // SAFETY: as in `entry`.
+            // SAFETY: as in `ask`.
             let status = unsafe {
-                raw::wadlook_extract(wad.as_ptr(), wad.len(), name.as_ptr(), name.len(), out.as_mut_ptr(), out.len(), &mut written)
+                match &self.asked {
+                    Asked::Name(name) => {
+                        let name = name.bytes();
+                        raw::wadlook_extract(
+                            wad.as_ptr(),
+                            wad.len(),
+                            name.as_ptr(),
+                            name.len(),
+                            out.as_mut_ptr(),
+                            out.len(),
+                            &mut written,
+                        )
+                    }
+                    Asked::Entry(entry) => {
+                        raw::wadlook_extract_at(wad.as_ptr(), wad.len(), *entry, out.as_mut_ptr(), out.len(), &mut written)
+                    }
+                }
             };
             match self.ended(status) {
                 Err(error) if error.why() == Refused::NoRoom => out.resize(written, 0),
@@ -404,21 +459,29 @@ impl<'a> Level<'a> {
 
     /// What the status of a call on this level says.
     fn ended(&self, status: u32) -> Result<(), Error> {
-        Error::of(status, Some(self.name))
+        Error::of(
+            status,
+            match self.asked {
+                Asked::Name(name) => Some(name),
+                Asked::Entry(_) => None,
+            },
+        )
     }
 }
 
 impl fmt::Debug for Level<'_> {
     fn fmt(&self, f: &mut fmt::Formatter<'_>) -> fmt::Result {
-        f.debug_struct("Level").field("name", &self.name).field("wide", &self.wide).finish_non_exhaustive()
+        let mut shown = f.debug_struct("Level");
+        match &self.asked {
+            Asked::Name(name) => shown.field("name", name),
+            Asked::Entry(entry) => shown.field("entry", entry),
+        };
+        shown.field("wide", &self.wide).finish_non_exhaustive()
     }
 }
 
 fn told(finding: &raw::Finding) -> Finding {
-    let code = match finding.code {
-        place @ 0..=17 => Code::Fault(place + 1),
-        place => Code::Note(place - 17),
-    };
+    let code = Code::at(finding.code).unwrap_or(Code::Note(finding.code));
     Finding { code, index: finding.index }
 }
 

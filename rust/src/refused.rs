@@ -1,16 +1,16 @@
 //! Why a call was refused, and of which name.
 
-use crate::name::Name;
+use crate::{name::Name, texts};
 use core::fmt;
 
 macro_rules! refusals {
-    ($($number:literal $name:ident $words:literal,)*) => {
+    ($($number:literal $name:ident,)*) => {
         /// Why a call was refused: a status of `include/wadlook.h`. As text it is the reason in words. Later versions may have more.
         #[derive(Clone, Copy, Debug, PartialEq, Eq, Hash)]
         #[non_exhaustive]
         #[repr(u32)]
         pub enum Refused {
-            $(#[doc = concat!("It says: ", $words, ".")] $name = $number,)*
+            $(#[doc = concat!("Status ", $number, " of the header.")] $name = $number,)*
         }
 
         impl Refused {
@@ -26,38 +26,42 @@ macro_rules! refusals {
 
         impl fmt::Display for Refused {
             fn fmt(&self, f: &mut fmt::Formatter<'_>) -> fmt::Result {
-                f.write_str(match self { $(Refused::$name => $words,)* })
+                f.write_str(texts::status(*self as u32).unwrap_or("another status than the header has"))
             }
         }
     };
 }
 
 refusals! {
-    1 Unsound "the level has faults",
-    2 Memory "no memory left",
-    3 NoRoom "the slice for the answer is too short",
-    4 Short "shorter than a WAD header",
-    5 Magic "not a WAD file: it begins with neither IWAD nor PWAD",
-    6 Count "a negative count of lumps",
-    7 Directory "its directory isn't inside the file",
-    8 NoName "no entry of this name",
-    9 LumpMissing "the list of entries ends before the lump",
-    10 LumpOutside "the lump is outside its file",
-    11 TooLarge "the lumps make too large a file",
-    12 DemoEmpty "a demo of no bytes",
-    13 DemoVersion "not a demo of version 109, 110 or 111",
-    14 DemoShort "shorter than a demo's header",
-    15 DemoNoPlayer "no player takes part in the demo",
-    16 DemoNoMarker "the demo has no end marker",
-    17 NoRect "no rectangle of at most 1,048,576 points in range",
-    18 OutOfRange "a coordinate isn't in -16384 to 16383",
-    19 NoBlockMap "BLOCKMAP has fewer than 8 bytes",
-    20 NoBlock "no block holds the point",
-    21 OffsetOutside "the block's list isn't inside BLOCKMAP",
-    22 NoEnd "the block's list has no end",
-    23 NoSector "the level has no sector of this number",
-    24 Unknown "REJECT ends before the bit",
-    255 Other "another status than the header has",
+    1 Unsound,
+    2 Memory,
+    3 NoRoom,
+    4 Short,
+    5 Magic,
+    6 Count,
+    7 Directory,
+    8 NoName,
+    9 LumpMissing,
+    10 LumpOutside,
+    11 TooLarge,
+    12 DemoEmpty,
+    13 DemoVersion,
+    14 DemoShort,
+    15 DemoNoPlayer,
+    16 DemoNoMarker,
+    17 NoRect,
+    18 OutOfRange,
+    19 NoBlockMap,
+    20 NoBlock,
+    21 OffsetOutside,
+    22 NoEnd,
+    23 NoSector,
+    24 Unknown,
+    28 NoLevel,
+    29 OtherFormat,
+    30 NoView,
+    31 NothingToDraw,
+    255 Other,
 }
 
 impl core::error::Error for Refused {}
@@ -80,8 +84,9 @@ impl Error {
         self.name.as_ref().map(Name::text)
     }
 
-    pub(crate) fn new(why: Refused, name: Name) -> Error {
-        Error { why, name: Some(name) }
+    /// The same with another reason.
+    pub(crate) fn but(self, why: Refused) -> Error {
+        Error { why, ..self }
     }
 
     /// What a status says: `Ok` where it is 0.

@@ -1,39 +1,43 @@
-//! What each fault and note says, from F1 and from N1 on.
+//! The library's texts of its numbers.
 
-// tools/tables writes from here
-pub const FAULTS: [&str; 18] = [
-    "lump missing after the label",
-    "lump outside its file",
-    "linedef vertex names none",
-    "linedef side names none",
-    "sidedef sector names none",
-    "seg vertex names none",
-    "seg linedef names none",
-    "seg side is not 0 or 1",
-    "seg's linedef has no side there",
-    "ssector's segs out of range",
-    "child names nothing",
-    "node origin out of range",
-    "node named twice or root named",
-    "node not reached",
-    "ssector named more than once",
-    "ssector not reached",
-    "no ssector",
-    "more than 32767 nodes",
-];
+use crate::raw;
+use core::ffi::{c_char, CStr};
 
-pub const NOTES: [&str; 12] = [
-    "lump name differs",
-    "bytes left over",
-    "two-sided flag without side 1",
-    "no side 0",
-    "linedef of no length",
-    "ssector without segs",
-    "partition without direction",
-    "REJECT size",
-    "BLOCKMAP short",
-    "block list faulty",
-    "no player 1 start",
-    "vertex out of range",
-];
-// tools/tables writes up to here
+/// A text that the library keeps, where there is one.
+fn kept(text: *const c_char) -> Option<&'static str> {
+    if text.is_null() {
+        return None;
+    }
+    // SAFETY: the header says that a text ends with a NUL and stays.
+    unsafe { CStr::from_ptr(text) }.to_str().ok()
+}
+
+/// What a status says.
+pub fn status(number: u32) -> Option<&'static str> {
+    // SAFETY: the call takes any number.
+    kept(unsafe { raw::wadlook_status_text(number) })
+}
+
+/// A code as it is printed, by its rank.
+pub fn code_name(rank: u32) -> Option<&'static str> {
+    // SAFETY: as above.
+    kept(unsafe { raw::wadlook_code_name(rank) })
+}
+
+/// What a code says, by its rank.
+pub fn code(rank: u32) -> Option<&'static str> {
+    // SAFETY: as above.
+    kept(unsafe { raw::wadlook_code_text(rank) })
+}
+
+/// What a code is found at.
+pub fn kind(number: u32) -> Option<&'static str> {
+    // SAFETY: as above.
+    kept(unsafe { raw::wadlook_kind_text(number) })
+}
+
+/// A format as it is named.
+pub fn format(number: u32) -> Option<&'static str> {
+    // SAFETY: as above.
+    kept(unsafe { raw::wadlook_format_text(number) })
+}

@@ -1,7 +1,10 @@
 //! The calls on worked cases over the sample level (`sample/README.md`).
 
 use std::collections::HashMap;
-use wadlook::{read_demo, Code, Command, Count, Error, Finding, Level, Lump, Place, Point, Rect, Refused, Wad};
+use wadlook::{
+    assemble, compare, compare_commands, cut, cut_level, explain, listing, read_demo, Code, Codes, Command, Count, End, Error,
+    File, Finding, Format, Found, Index, Level, Lump, Place, Point, Question, Rect, Refused, Spot, View, Wad, Where,
+};
 
 const TWO_COMMANDS: [u8; 23] = [109, 3, 1, 1, 0, 0, 0, 0, 0, 1, 0, 0, 0, 25, 0, 0, 0, 206, 128, 255, 128, 128, 7];
 
@@ -270,7 +273,100 @@ fn statuses_are_the_headers() {
         Refused::NoEnd,
         Refused::NoSector,
         Refused::Unknown,
+        Refused::NoLevel,
+        Refused::OtherFormat,
+        Refused::NoView,
+        Refused::NothingToDraw,
     ];
     let own: Vec<(String, u32)> = all.iter().map(|why| (format!("{why:?}").to_lowercase(), *why as u32)).collect();
     assert_eq!(own, told);
+}
+
+fn found(question: Question<'_>, files: &[File<'_>]) -> Vec<String> {
+    question.check(files).map(|found| found.unwrap().to_string()).collect()
+}
+
+#[test]
+fn words_check() {
+    let wad = base();
+    let files = [File::new("a\nb.wad", &wad)];
+    assert_eq!(found(Question::default(), &files), Vec::<String>::new());
+    let map = Question { map: true, ignore: Codes::named("W1").unwrap(), ..Question::default() };
+    let told = [
+        "a\\x0ab.wad: E1M1: W7 level: no player 2 start",
+        "a\\x0ab.wad: E1M1: W8 level: 0 deathmatch starts",
+        "a\\x0ab.wad: E1M1: W19 level: no exit",
+    ];
+    assert_eq!(found(map, &files), told);
+    let two = [File::new("a.wad", &wad), File::new("none.wad", b"")];
+    assert_eq!(found(Question::default(), &two), ["wadlens: none.wad: shorter than a WAD header"]);
+}
+
+#[test]
+fn words_found() {
+    let wad = base();
+    let files = [File::new("a.wad", &wad)];
+    let all: Vec<Found> = Question { map: true, ..Question::default() }.check(&files).map(Result::unwrap).collect();
+    let first = &all[0];
+    assert_eq!((first.code, first.kind.to_string(), first.index), (Code::named("w1"), "sector".into(), Index::Record(0)));
+    assert_eq!((first.place, first.entry, first.is_hidden), (Where::At(Spot { x: 0, y: 0 }), 0, false));
+    assert_eq!(first.to_string(), "a.wad: E1M1: W1 sector 0: isn't closed, at (0, 0)");
+    assert_eq!(all.len(), 7);
+}
+
+#[test]
+fn words_others() {
+    let wad = base();
+    let file = File::new("a.wad", &wad);
+    assert!(Question::default().survey(&[file]).unwrap()[0].starts_with("{\"file\":\"a.wad\",\"level\":\"E1M1\",\"entry\":0,"));
+    assert!(Question::default().picture("E1M1", &[file], View::default()).unwrap().starts_with("<svg"));
+    let none = Question::default().picture("E1M2", &[file], View::default()).unwrap_err();
+    assert_eq!((none.to_string(), none.end), ("wadlens: E1M2: no level of this name".into(), End::Refused));
+    let no_view = Question::default().picture("E1M1", &[file], View { frame: None, cells: 0 }).unwrap_err();
+    assert_eq!(no_view.end, End::Mistaken);
+    assert_eq!(cut(file, 0).unwrap(), Wad::new(&wad).level_at(0).extract().unwrap());
+    assert_eq!(cut(file, 0).unwrap(), cut_level(file, "E1M1").unwrap());
+    assert!(explain(Code::named("F3")).unwrap().starts_with("F3: "));
+    assert_eq!(
+        assemble(b"x\n").unwrap_err().to_string(),
+        "wadlens: standard input: line 1 is no line of a listing: a demo's header is wanted"
+    );
+    let demo = File::new("a.lmp", &TWO_COMMANDS);
+    assert_eq!(compare(demo, demo), Ok(None));
+    // A skill of 2 in place of 3, which the commands don't tell.
+    let mut easier = TWO_COMMANDS;
+    easier[1] = 2;
+    let other = File::new("b.lmp", &easier);
+    assert_eq!(compare(demo, other), Ok(Some("header: skill 3, 2".into())));
+    assert_eq!(compare_commands(demo, other), Ok(None));
+    assert!(listing(demo).unwrap().starts_with("demo version 109 skill 3 episode 1 map 1 "));
+    assert_eq!(listing(file).unwrap_err().end, End::Refused);
+    assert_eq!(wadlook::demos(&[demo]).unwrap().len(), 1);
+}
+
+#[test]
+fn codes() {
+    let codes = Codes::named("n2, W7-W8,notes").unwrap();
+    assert!(codes.has(Code::Note(12)) && codes.has(Code::Warning(8)) && !codes.has(Code::Warning(9)));
+    assert_eq!([Codes::named("W8-W7"), Codes::named("N1-W1"), Codes::named("X1"), Codes::named("N1,")], [None; 4]);
+    assert!(Codes::named("Game").unwrap().has(Code::Note(11)) && !Codes::named("").unwrap().has(Code::Note(11)));
+    assert_eq!(Code::Warning(9).text(), "texture not there");
+    assert_eq!(Code::named("F18").map(Code::rank), Some(17));
+}
+
+#[test]
+fn by_entries() {
+    let wad = base();
+    let labels = Wad::new(&wad).levels().unwrap();
+    assert_eq!((labels.len(), labels[0].name(), labels[0].format), (1, &b"E1M1"[..], Format::Doom));
+    let level = Wad::new(&wad).level_at(labels[0].entry);
+    assert_eq!(sector(level, 0, 5), Ok(Some(1)));
+    assert_eq!(level.under(Point { x: 1, y: 5 }).unwrap().map(|place| place.sector), Some(0));
+    assert_eq!(why(Wad::new(&wad).level_at(1).findings()), Refused::NoLevel);
+    assert_eq!(Refused::NoLevel.to_string(), "no level starts at this entry");
+    let view = View { frame: Some((-1, 0, 2, 0)), cells: 4 };
+    let cells = level.cells(view).unwrap();
+    assert_eq!((cells.grid.size, cells.grid.columns, cells.grid.rows, cells.sectors.len()), (1, 4, 1, 4));
+    assert_eq!((cells.get(2, 0), cells.get(4, 0)), (Some(0), None));
+    assert_eq!(why(level.cells(View { cells: 0, ..view })), Refused::NoView);
 }

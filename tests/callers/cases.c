@@ -384,6 +384,181 @@ static void threads(void) {
     for (int k = 0; k < 4; k++) CHECK(pthread_join(asking[k], NULL) == 0 && same[k]);
 }
 
+/* Calls by the entry of a label, and what lists the labels. The sample's is entry 0. */
+static void entries(void) {
+    wadlook_level levels[2] = {{9, "", 9, 9, ""}, {9, "", 9, 9, ""}};
+    wadlook_point_at at[] = {{0, 5}, {1, 5}};
+    wadlook_place places[2], place = {7, 7};
+    wadlook_totals totals;
+    wadlook_lump lump = {9, 9, 9};
+    wadlook_rect rect = {-1, 0, 2, 0};
+    wadlook_count counts[2];
+    uint16_t sectors[2];
+    uint8_t out[BASE], other[BASE];
+    size_t count = 9, written;
+    fresh();
+    CHECK(wadlook_levels(wad, BASE, levels, 2, &count) == WADLOOK_DONE && count == 1 && levels[1].entry == 9);
+    CHECK(levels[0].entry == 0 && !memcmp(levels[0].name, "E1M1\0\0\0", 8) && levels[0].format == WADLOOK_DOOM && !levels[0].lump);
+    CHECK(wadlook_levels(wad, BASE, NULL, 0, &count) == WADLOOK_DONE && count == 1);
+    CHECK(wadlook_levels(NULL, 0, NULL, 0, &count) == WADLOOK_SHORT && count == 1);
+    CHECK(
+        wadlook_points_at(wad, BASE, 0, false, at, 2, places, 2) == WADLOOK_DONE && places[0].sector == 1 && places[1].sector == 0);
+    CHECK(wadlook_points_at(wad, BASE, 0, false, at, 2, places, 1) == WADLOOK_NO_ROOM);
+    CHECK(wadlook_points_at(wad, BASE, 1, false, at, 2, places, 2) == WADLOOK_NO_LEVEL);
+    CHECK(wadlook_points_at(wad, BASE, (size_t)-1, false, at, 2, places, 2) == WADLOOK_NO_LEVEL);
+    CHECK(wadlook_prepare_at(wad, BASE, 0, false, sectors, 2, &count) == WADLOOK_DONE && count == 2 && sectors[0] == 0);
+    CHECK(wadlook_prepare_at(wad, BASE, 0, false, NULL, 0, &count) == WADLOOK_NO_ROOM && count == 2);
+    CHECK(wadlook_under(wad, BASE, 0, false, at[0], &place) == WADLOOK_DONE && place.sector == 1);
+    CHECK(wadlook_census_at(wad, BASE, 0, false, &rect, counts, 2, &count) == WADLOOK_DONE && count == 2 && counts[0].points == 2);
+    CHECK(wadlook_audit_at(wad, BASE, 0, false, NULL, 0, &totals) == WADLOOK_DONE && totals.faults == 0 && totals.notes == 0);
+    CHECK(wadlook_find_at(wad, BASE, 7, &lump) == WADLOOK_DONE && lump.place == NODES && lump.size == 28);
+    CHECK(wadlook_find_at(wad, BASE, 11, &lump) == WADLOOK_LUMP_MISSING && lump.place == NODES);
+    CHECK(wadlook_extract_at(wad, BASE, 0, out, BASE, &written) == WADLOOK_DONE && written == BASE);
+    CHECK(wadlook_extract(wad, BASE, NAME("E1M1"), other, BASE, &count) == WADLOOK_DONE && !memcmp(out, other, BASE));
+    CHECK(wadlook_extract_at(wad, BASE, 3, out, BASE, &written) == WADLOOK_NO_LEVEL);
+    PUT(SSECTORS, -1, -1); /* the first ssector names no segs: the level isn't sound, and the second ssector still has its sector */
+    CHECK(wadlook_points_at(wad, BASE, 0, false, at, 2, places, 2) == WADLOOK_UNSOUND);
+    CHECK(wadlook_under(wad, BASE, 0, false, at[0], &place) == WADLOOK_DONE);
+    fresh();
+    memcpy(wad + NODES, "XNOD", 4);
+    CHECK(wadlook_levels(wad, BASE, levels, 1, &count) == WADLOOK_DONE && levels[0].format == WADLOOK_EXTENDED &&
+          !memcmp(levels[0].tag, "XNOD", 4));
+    CHECK(wadlook_points_at(wad, BASE, 0, false, at, 2, places, 2) == WADLOOK_OTHER_FORMAT);
+    CHECK(wadlook_audit_at(wad, BASE, 0, false, NULL, 0, &totals) == WADLOOK_OTHER_FORMAT);
+    fresh();
+}
+
+/* The cells of a picture. The sample's linedef goes from (0, 0) to (0, 64): sector 1 is to its west. */
+static void cells(void) {
+    int32_t told[8];
+    wadlook_grid grid = {9, 9, 9, 9, 9};
+    wadlook_view view = {-2, 0, 1, 0, 4, true};
+    memset(told, 9, sizeof told);
+    CHECK(wadlook_cells(wad, BASE, 0, false, &view, NULL, 0, &grid) == WADLOOK_NO_ROOM && grid.columns == 4 && grid.rows == 1);
+    CHECK(grid.size == 1 && grid.x == -2 && grid.y == 0);
+    CHECK(wadlook_cells(wad, BASE, 0, false, &view, told, 8, &grid) == WADLOOK_DONE && told[4] == 0x09090909);
+    CHECK(told[1] == 1 && told[3] == 0);
+    view.cells = 0;
+    CHECK(wadlook_cells(wad, BASE, 0, false, &view, told, 8, &grid) == WADLOOK_NO_VIEW);
+    view.cells = 4;
+    view.x0 = 2;
+    CHECK(wadlook_cells(wad, BASE, 0, false, &view, told, 8, &grid) == WADLOOK_NO_VIEW && grid.columns == 4);
+}
+
+static void texts(void) {
+    uint64_t codes = 9;
+    CHECK(!strcmp(wadlook_status_text(WADLOOK_NO_NAME), "no entry of this name") && !wadlook_status_text(25) &&
+          !wadlook_status_text(99));
+    CHECK(!strcmp(wadlook_code_name(WADLOOK_W25), "W25") && !wadlook_code_name(WADLOOK_W25 + 1) && !wadlook_code_text(99));
+    CHECK(!strcmp(wadlook_code_text(WADLOOK_N2), "bytes left over"));
+    CHECK(!strcmp(wadlook_kind_text(WADLOOK_WHOLE), "level") && !wadlook_kind_text(WADLOOK_WHOLE + 1));
+    CHECK(!strcmp(wadlook_format_text(WADLOOK_OUTSIDE), "outside") && !wadlook_format_text(WADLOOK_OUTSIDE + 1));
+    CHECK(wadlook_codes("n2,W7-w8", &codes) &&
+          codes == (WADLOOK_BIT(WADLOOK_N2) | WADLOOK_BIT(WADLOOK_W7) | WADLOOK_BIT(WADLOOK_W8)));
+    CHECK(wadlook_codes("", &codes) && codes == 0);
+    CHECK(wadlook_codes("Notes", &codes) && codes == 0xFFFull << 18);
+    CHECK(!wadlook_codes("F1", &codes) && !wadlook_codes("W8-W7", &codes) && !wadlook_codes("N1-W1", &codes) &&
+          !wadlook_codes("N1,", &codes) && codes == 0xFFFull << 18);
+}
+
+static bool count_found(void *own, const wadlook_found *found) {
+    size_t *left = (size_t *)own;
+    if (found->code == WADLOOK_W1)
+        CHECK(found->kind == WADLOOK_SECTOR && found->where == WADLOOK_AT && !strcmp(found->message, "isn't closed"));
+    if (found->code == WADLOOK_UNJUDGED)
+        CHECK(found->file == 1 && !*found->level && !strcmp(found->message, "shorter than a WAD header"));
+    else CHECK(found->file == 0 && !strcmp(found->level, "E1M1") && found->entry == 0);
+    return --*left != 0;
+}
+
+/* Keeps the message of what was found last. */
+static bool keep_message(void *own, const wadlook_found *found) {
+    char *kept = (char *)own;
+    snprintf(kept, 80, "%s: %s", found->level, found->message);
+    return true;
+}
+
+/* What is told of levels that aren't judged: the words of the program. */
+static void unjudged(void) {
+    wadlook_question question;
+    memset(&question, 0, sizeof question);
+    const wadlook_file file = {NULL, 0, wad, BASE};
+    char kept[80] = "";
+    fresh();
+    memcpy(wad + NODES, "XNOD", 4);
+    CHECK(wadlook_check(&question, &file, 1, keep_message, kept) == WADLOOK_REFUSED);
+    CHECK(!strcmp(kept, "E1M1: extended nodes XNOD: not read"));
+    fresh();
+    memcpy(wad + entry(10) + 8, "OTHERMAP", 8);
+    CHECK(wadlook_check(&question, &file, 1, keep_message, kept) == WADLOOK_FAULTY);
+    CHECK(!strcmp(kept, "E1M1: incomplete: no BLOCKMAP where it belongs"));
+    fresh();
+    memcpy(wad + entry(1) + 8, "TEXTMAP\0", 8);
+    CHECK(wadlook_check(&question, &file, 1, keep_message, kept) == WADLOOK_REFUSED);
+    CHECK(!strcmp(kept, "E1M1: udmf: not read"));
+    fresh();
+}
+
+/* The words of `wadlens`: answers in arrays that are too short, the limit, a callback that stops, and questions without a meaning. */
+static void words(void) {
+    const char line[] = "1 levels in 1 files: 0 faults, 0 notes, 0 not judged\n";
+    wadlook_question question;
+    memset(&question, 0, sizeof question);
+    wadlook_file files[] = {{(const uint8_t *)"a.wad", 5, wad, BASE}, {NULL, 0, NULL, 0}};
+    wadlook_told told = {9, 9};
+    uint8_t answer[600], messages[100];
+    size_t left = 99;
+    fresh();
+    memset(answer, 7, sizeof answer);
+    CHECK(wadlook_run(&question, files, 1, NULL, 0, answer, sizeof answer, messages, sizeof messages, &told) == WADLOOK_CLEAN);
+    CHECK(told.answer == strlen(line) && told.messages == 0 && !memcmp(answer, line, strlen(line)) && answer[strlen(line)] == 7);
+    CHECK(wadlook_run(&question, files, 1, NULL, 0, answer, 3, NULL, 0, &told) == WADLOOK_CLEAN && told.answer == strlen(line));
+    CHECK(wadlook_run(&question, files, 1, NULL, 0, NULL, 0, NULL, 0, &told) == WADLOOK_CLEAN && told.answer == strlen(line));
+    question.limit = 5;
+    memset(answer, 7, sizeof answer);
+    CHECK(wadlook_run(&question, files, 1, NULL, 0, answer, sizeof answer, NULL, 0, &told) == WADLOOK_STOPPED);
+    CHECK(told.answer == 5 && !memcmp(answer, "1 lev\7", 6));
+    question.limit = 0;
+    CHECK(wadlook_run(&question, files, 2, NULL, 0, answer, sizeof answer, messages, sizeof messages, &told) == WADLOOK_REFUSED);
+    CHECK(told.messages == 37 && !memcmp(messages, "wadlens: : shorter than a WAD header\n", 37));
+    CHECK(wadlook_run(&question, files, 0, NULL, 0, NULL, 0, NULL, 0, &told) == WADLOOK_MISTAKEN && told.answer == 0);
+    question.word = WADLOOK_COMPARE_COMMANDS + 1;
+    CHECK(wadlook_run(&question, files, 1, NULL, 0, NULL, 0, NULL, 0, &told) == WADLOOK_MISTAKEN);
+    question.word = WADLOOK_EXPLAIN;
+    question.number = WADLOOK_W25 + 1;
+    CHECK(wadlook_run(&question, NULL, 0, NULL, 0, NULL, 0, NULL, 0, &told) == WADLOOK_MISTAKEN);
+    question.number = WADLOOK_F3;
+    CHECK(wadlook_run(&question, NULL, 0, NULL, 0, answer, sizeof answer, NULL, 0, &told) == WADLOOK_CLEAN &&
+          !memcmp(answer, "F3: ", 4));
+    question.number = 0;
+    question.word = WADLOOK_CUT;
+    CHECK(wadlook_run(&question, files, 1, NULL, 0, answer, sizeof answer, NULL, 0, &told) == WADLOOK_CLEAN && told.answer == BASE);
+    question.word = WADLOOK_CUT_LEVEL;
+    question.name = (const uint8_t *)"e1m1";
+    question.name_len = 4;
+    CHECK(wadlook_run(&question, files, 1, NULL, 0, answer, sizeof answer, NULL, 0, &told) == WADLOOK_CLEAN && told.answer == BASE);
+    question.word = WADLOOK_ASSEMBLE;
+    CHECK(wadlook_run(&question, NULL, 0, (const uint8_t *)"x\n", 2, NULL, 0, NULL, 0, &told) == WADLOOK_REFUSED &&
+          told.messages > 0);
+    CHECK(wadlook_run(&question, files, 1, NULL, 0, NULL, 0, NULL, 0, &told) == WADLOOK_MISTAKEN);
+    question.map = true;
+    CHECK(wadlook_check(&question, files, 2, count_found, &left) == WADLOOK_REFUSED && left == 99 - 8);
+    left = 2;
+    CHECK(wadlook_check(&question, files, 2, count_found, &left) == WADLOOK_STOPPED && left == 0);
+    question.strict = true;
+    left = 99;
+    CHECK(wadlook_check(&question, files, 2, count_found, &left) == WADLOOK_FAULTY);
+    CHECK(wadlook_check(&question, files, 0, count_found, &left) == WADLOOK_MISTAKEN);
+    /* The second file as a base file of the first, which isn't judged then. */
+    const wadlook_file over[] = {files[0], files[1], files[0]};
+    question.bases = 2;
+    left = 99;
+    CHECK(wadlook_check(&question, over, 3, count_found, &left) == WADLOOK_REFUSED && left == 98);
+    left = 1;
+    CHECK(wadlook_check(&question, over, 3, count_found, &left) == WADLOOK_STOPPED && left == 0);
+    CHECK(wadlook_check(&question, over, 2, count_found, &left) == WADLOOK_MISTAKEN);
+}
+
 int main(int argc, char **argv) {
     FILE *file = argc == 2 ? fopen(argv[1], "rb") : NULL;
     if (!file || fread(base, 1, BASE, file) != BASE) {
@@ -405,6 +580,11 @@ int main(int argc, char **argv) {
     demo();
     nothing();
     cuts();
+    entries();
+    cells();
+    texts();
+    words();
+    unjudged();
     threads();
     printf("%u passed, %u failed\n", passed, failed);
     return failed != 0;

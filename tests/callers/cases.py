@@ -10,9 +10,12 @@ from array import array
 
 import wadlook
 from harness import add_up, check
-from wadlook import NOWHERE, Block, Command, Place, Status, Wad, WadlookError
+from wadlook import _program
+from wadlook import NOWHERE, Block, Command, End, Found, Label, Place, Refusal, Status, Wad, WadlookError
 
 SIDEDEFS, NODES, REJECT, BLOCKMAP, DIRECTORY = 36, 136, 216, 217, 233
+
+TWO_COMMANDS = bytes([109, 3, 1, 1, 0, 0, 0, 0, 0, 1, 0, 0, 0, 25, 0, 0, 0, 206, 128, 255, 128, 128, 7])
 
 
 def refused(status, call, *words):
@@ -135,6 +138,8 @@ def cases(path):
     check("a missing lump, audited", [it[:2] for it in Wad(base).level("THINGS").findings] == [("F1", 10)])
 
     names_in_bytes(base)
+    entries(base)
+    words(path, base)
 
     last = many_sectors(base)
     check("a level of 65,536 sectors is sound", last.is_sound and [it.code for it in last.findings] == ["N8"])
@@ -149,7 +154,7 @@ def cases(path):
     check("a refusal's words", str(WadlookError(Status.NO_NAME, "MAP01")) == "MAP01: no entry of this name")
     check("a refusal's words alone", str(WadlookError(Status.NO_NAME)) == "no entry of this name")
 
-    two = bytes([109, 3, 1, 1, 0, 0, 0, 0, 0, 1, 0, 0, 0, 25, 0, 0, 0, 206, 128, 255, 128, 128, 7])
+    two = TWO_COMMANDS
     demo = wadlook.read_demo(two)
     check("a demo", demo.commands == [Command(25, 0, 0, 0), Command(-50, -128, 255, 128)] and demo.after == 1)
     check("a demo's header", (demo.version, demo.skill, demo.players) == (109, 3, (1, 0, 0, 0)))
@@ -166,9 +171,13 @@ def cases(path):
 
     with open("crates/look_engines/specs/Engines/Audit.antt", encoding="utf-8") as file:
         texts = dict(re.findall(r'^meaning ([FN]\d+) = codes "(.*)"$', file.read(), re.M))
-    check("the findings' texts", wadlook._TEXTS == texts and list(wadlook._TEXTS) == list(texts))
+    told_texts = list(wadlook._TEXTS.items())
+    check("the findings' texts", told_texts[: len(texts)] == list(texts.items()))
+    check("the warnings' texts", len(told_texts) == 55 and wadlook._TEXTS["W9"] == "texture not there")
     check("the statuses", {it.name: str(it.value) for it in Status} == numbers_of("wadlook_status"))
-    check("the codes' numbers", {code: str(number) for number, code in enumerate(texts)} == numbers_of("wadlook_code"))
+    check("the ends", {it.name: str(it.value) for it in wadlook.End} == numbers_of("wadlook_end"))
+    check("the codes' numbers", {code: str(number) for number, code in enumerate(wadlook._CODES)} == numbers_of("wadlook_code"))
+    check("the words' numbers", [str(number) for number in range(14)] == list(numbers_of("wadlook_word").values()))
     with open("VERSION", encoding="utf-8") as file:
         version = file.read().strip()
     wadlook._so.wadlook_version.restype = ctypes.c_char_p
@@ -207,9 +216,154 @@ def names_in_bytes(base):
         Wad(other).level(b"\xc9\xff1".decode("utf-8", "surrogateescape")).sectors([(0, 5)]) == [1],
     )
     check("a name that is no UTF-8 in words", told(wad.level, b"\xc9\xff1") == r"\xc9\xff1: no entry of this name")
-    for name in (1, None, bytearray(b"E1M1"), ["E1M1"]):
+    for name in (1.0, None, bytearray(b"E1M1"), ["E1M1"]):
         for call in (wad.level, wad.find, wad.lump, wad.demo):
             check(f"{call.__name__} of a {type(name).__name__}", raises(TypeError, call, name))
+    for call in (wad.find, wad.lump, wad.demo):
+        check(f"{call.__name__} of an entry", raises(TypeError, call, 1))
+
+
+def entries(base):
+    """Levels by the entries of their labels, the cells of a picture, and points of a level with faults."""
+    wad = Wad(base)
+    check("the levels of a file", wad.levels == [Label(0, "E1M1", "doom", 0)])
+    level = wad.level(0)
+    check("a level by its entry", level.entry == 0 and level.sectors([(0, 5)]) == [1] and level.place(1, 5) == Place(0, 0))
+    check("its lumps", level.is_blocked(0, 1) is False and level.block(0, 5) == Block(0, 0, (0, 0)) and level.extract() == base)
+    check("the entry of a level by its name", wad.level("E1M1").entry == 0)
+    check("a level by its entry, pickled", pickle.loads(pickle.dumps(level)).census(-1, 0, 1, 1) == {0: 2, 1: 4})
+    for entry in (1, 10, 11, 2**64 - 1, 2**64, -1):
+        check(f"no level at entry {entry}", refused(Status.NO_LEVEL, wad.level, entry))
+    check("no level in words", told(wad.level, 3) == "entry 3: no level starts at this entry")
+    check("points of a sound level", level.under(0, 5) == Place(1, 1) and level.under(16384, 0) is None)
+    twice = Wad(with_words(base, NODES + 24, -32768, -32768)).level(0)  # one ssector twice
+    check("points of a level with faults", twice.under(0, 5) == Place(0, 0) and refused(Status.UNSOUND, twice.place, 0, 5))
+    ring = Wad(with_words(base, NODES + 24, 0, 0)).level(0)  # the root is its own child
+    check("points of a level whose nodes break", ring.under(0, 5) is None)
+    later = bytearray(base)
+    later[NODES : NODES + 4] = b"XNOD"
+    check("a level in another format", Wad(later).levels == [Label(0, "E1M1", "extended", 0)])
+    check("it isn't judged", refused(Status.OTHER_FORMAT, Wad(later).level, 0))
+    check("a file that is none", refused(Status.SHORT, lambda: Wad(b"").levels))
+    cells = level.cells(4, (-2, 0, 1, 0))
+    check("cells", cells[:5] == (1, 4, 1, -2, 0) and cells.sectors.tolist()[1::2] == [1, 0])
+    check("a frame out of order", refused(Status.NO_VIEW, level.cells, 4, (2, 0, 1, 0)))
+    check("a bound of 17 bits", raises(OverflowError, level.cells, 4, (0, 0, 32768, 0)))
+    check("no cells", all(raises(ValueError, level.cells, count) for count in (0, 1025, 2**32 + 1)))
+
+
+WARNED = [
+    "E1M1: W1 sector 0: isn't closed, at (0, 0)",
+    "E1M1: W1 sector 0: isn't closed, at (0, 64)",
+    "E1M1: W1 sector 1: isn't closed, at (0, 0)",
+    "E1M1: W1 sector 1: isn't closed, at (0, 64)",
+    "E1M1: W7 level: no player 2 start",
+    "E1M1: W8 level: 0 deathmatch starts",
+    "E1M1: W19 level: no exit",
+]
+"""What `wadlens check --map` tells of the sample behind its path."""
+
+
+def words(path, base):
+    """The words of `wadlens`: files by their paths, by their bytes and as pairs, what is found as objects, and refusals."""
+    named = [("a.wad", base)]
+    found = wadlook.check(path)
+    check("findings as lines", [str(it) for it in found] == [f"{path}: {line}" for line in WARNED])
+    check("findings of bytes", [str(it) for it in wadlook.check(base)] == [f"bytes: {line}" for line in WARNED])
+    check("findings of a buffer", len(wadlook.check(array("B", base))) == len(WARNED))
+    for files in (named[0], named, iter(named), [("a.wad", bytearray(base))], [(b"a.wad", memoryview(base))]):
+        check("findings of a pair", [str(it) for it in wadlook.check(files)] == [f"a.wad: {line}" for line in WARNED])
+    first = wadlook.check(named)[0]
+    check("a finding", first == Found("a.wad", "E1M1", 0, "W1", "sector", 0, "isn't closed", (0, 0)))
+    check("a finding of a level", found[-1].index is None and found[-1].at is None and found[-1].kind == "level")
+    check("without warnings", wadlook.check(named, map=False) == [])
+    check("the most of one code", [it.code for it in wadlook.check(named, most=1)] == ["W1", "W7", "W8", "W19"])
+    for ignore in ("W1,W7-W8", ["W1", "w7-w8"], "w8,W7, W1"):
+        check("ignored codes", [it.code for it in wadlook.check(named, ignore=ignore)] == ["W19"])
+    check("a group of codes", wadlook.check(named, ignore="warnings") == [])
+    for ignore in ("F1", "W8-W7", "N1-W1", "W26", "W1,"):
+        check(f"no codes: {ignore}", raises(ValueError, lambda words: wadlook.check(named, ignore=words), ignore))
+    check("more of one code than fits", raises(OverflowError, lambda: wadlook.check(named, most=-1)))
+    check("sets of codes", wadlook.codes("") == 0 and wadlook.codes(["N2", "notes"]) == 0xFFF << 18)
+    alike = base[:DIRECTORY] + b"".join(2 * [base[DIRECTORY:]])
+    twice = alike[:4] + struct.pack("<ii", 22, DIRECTORY) + alike[12:]
+    hidden = wadlook.check([("a.wad", twice)], ignore="W1-W8")
+    check(
+        "a hidden label",
+        [str(it) for it in hidden] == ["a.wad: E1M1 (entry 0): W19 level: no exit", "a.wad: E1M1: W19 level: no exit"],
+    )
+    faulty = with_words(base, NODES + 24, -32768, -32768)
+    faults = wadlook.check([("a.wad", faulty), ("none.wad", b"")], map=False)
+    check("faults of one file", [it.code for it in faults] == ["F15", "F16", ""])
+    check(
+        "a file that is refused",
+        str(faults[-1]) == "wadlens: none.wad: shorter than a WAD header" and faults[-1].file == "none.wad",
+    )
+    check("a path with a control", str(wadlook.check([("a\n.wad", b"")])[0]) == "wadlens: a\\x0a.wad: shorter than a WAD header")
+    with_base = [it.code for it in wadlook.check(named, base=[("game.wad", base)])]
+    check("over a base file", with_base == [it.code for it in found])
+    for call in (wadlook.check, wadlook.survey):
+        check(
+            "a base file that is refused",
+            refusal(call, named, [("game.wad", b"")]) == (2, "wadlens: game.wad: shorter than a WAD header"),
+        )
+    check("a finding copied and pickled", pickle.loads(pickle.dumps(first)) == first and copy.copy(first) == first)
+
+    row, none = wadlook.survey([*named, ("none.wad", b"")])
+    check("a survey", (row["file"], row["level"], row["sectors"], row["sound"]) == ("a.wad", "E1M1", 2, True))
+    check("a survey of what is refused", none == {"file": "none.wad", "refused": "shorter than a WAD header"})
+    check("a survey with warnings", wadlook.survey(named, map=True)[0]["warnings"] == {"W1": 4, "W7": 1, "W8": 1, "W19": 1})
+    check("a picture", wadlook.picture("E1M1", named, cells=4).startswith("<svg "))
+    check(
+        "a picture of a part",
+        wadlook.picture(b"E1M1", base, frame=(0, 0, 8, 8)).startswith(
+            '<svg xmlns="http://www.w3.org/2000/svg" viewBox="-32 -40 72 72">'
+        ),
+    )
+    check("no such picture", refusal(wadlook.picture, "E1M2", named) == (2, "wadlens: E1M2: no level of this name"))
+    check("a frame out of order", raises(ValueError, lambda: wadlook.picture("E1M1", named, frame=(1, 0, 0, 0))))
+    check("no cells", raises(ValueError, lambda: wadlook.picture("E1M1", named, cells=0)))
+    check("a level cut out", wadlook.cut(path, 0) == base and wadlook.cut(base, "e1m1") == base)
+    check("no level to cut out", refusal(wadlook.cut, named[0], 3) == (2, "wadlens: a.wad: no level starts at entry 3"))
+    check("no entry's number", raises(OverflowError, wadlook.cut, base, -1) and raises(OverflowError, wadlook.cut, base, 2**64))
+    check("more words than one file", raises(TypeError, wadlook.cut, 5, 0))
+    explained = wadlook.explain("f3")
+    check("a code explained", explained.startswith("F3: ") and len(wadlook.explain().splitlines()) == 55)
+    check("no such code", raises(ValueError, wadlook.explain, "F19"))
+    ordered = _program._ordered(["check", "a", "--max", "3", "--frame", "-1,0,1,0", "b", "--", "-c"])
+    check("a program's words in any order", ordered == ["check", "--max=3", "--frame=-1,0,1,0", "--", "a", "b", "-c"])
+    of_demos()
+
+
+def of_demos():
+    easier = TWO_COMMANDS[:1] + b"\2" + TWO_COMMANDS[2:]
+    pair = ("a.lmp", TWO_COMMANDS), ("b.lmp", easier)
+    check("the same demos", wadlook.compare(pair[0], pair[0]) == "")
+    check("other headers", wadlook.compare(*pair) == "header: skill 3, 2" and wadlook.compare(*pair, commands=True) == "")
+    check("no demo to compare", refusal(wadlook.compare, pair[0], ("c.lmp", b"")) == (2, "wadlens: c.lmp: empty"))
+    row = wadlook.demos(pair[0])[0]
+    check("demos", (row["file"], row["skill"], row["tics"], row["after"]) == ("a.lmp", 3, 2, 1))
+    listing = wadlook.listing(pair[0])
+    check(
+        "a listing", listing.startswith("demo version 109 skill 3 episode 1 map 1 ") and listing.endswith("tics 2 odd 0 after 1\n")
+    )
+    check("put together", wadlook.assemble(listing) == TWO_COMMANDS[:-1])
+    wrong = "wadlens: standard input: line 1 is no line of a listing: a demo's header is wanted"
+    check("no listing", refusal(wadlook.assemble, "x\n") == refusal(wadlook.assemble, b"x\n") == (2, wrong))
+    try:
+        wadlook.assemble("x\n")
+    except Refusal as why:
+        again = pickle.loads(pickle.dumps(why))
+        check("a refusal pickled", (str(again), again.end) == (wrong, End.REFUSED))
+
+
+def refusal(call, *given):
+    """How a run is refused, and in which words."""
+    try:
+        call(*given)
+    except Refusal as why:
+        return why.end, str(why)
+    return None
 
 
 def told(call, *words):
@@ -269,6 +423,20 @@ def numpy_cases(path):
             check("numpy's other arrays", True)
 
 
+def pandas_cases(path):
+    try:
+        import pandas
+    except ImportError:
+        return
+    frame = pandas.DataFrame(wadlook.survey([path, ("none.wad", b"")]))
+    check(
+        "pandas takes a survey",
+        frame.shape[0] == 2 and frame["sectors"][0] == 2 and frame["refused"][1] == "shorter than a WAD header",
+    )
+    check("pandas takes findings", pandas.DataFrame(wadlook.check(path))["code"].tolist() == ["W1"] * 4 + ["W7", "W8", "W19"])
+
+
 cases(sys.argv[1])
 numpy_cases(sys.argv[1])
+pandas_cases(sys.argv[1])
 sys.exit(add_up())

@@ -44,7 +44,7 @@ static uint8_t *fenced(void) {
 
 /* A block of so many bytes, at one of the two ends of pages that no other block of the round has. */
 static void *room(size_t size) {
-    static uint8_t *pages[12];
+    static uint8_t *pages[24];
     must(used < sizeof pages / sizeof *pages && size <= PAGES, "there are blocks enough");
     uint8_t **front = &pages[used++];
     if (!*front) *front = fenced();
@@ -107,6 +107,64 @@ static void round_of(const uint8_t *base, uint32_t size) {
         "bytes are a demo or are told why not");
 }
 
+/* What is asked by the entry of a label, and a word of `wadlens` over a damaged file, alone and over another one. */
+static void round_of_words(const uint8_t *base, uint32_t size) {
+    used = 0;
+    uint32_t len = below(8) ? size : below(size);
+    uint8_t *wad = ROOM(uint8_t, len);
+    memcpy(wad, base, len);
+    for (uint32_t k = below(6); len && k-- > 0;) wad[below(len)] = (uint8_t)below(256);
+
+    bool wide = below(2);
+    wadlook_level *levels = ROOM(wadlook_level, 2);
+    wadlook_point_at *point = ROOM(wadlook_point_at, 1);
+    wadlook_place *place = ROOM(wadlook_place, 1), under;
+    wadlook_totals totals;
+    wadlook_grid grid;
+    wadlook_view view = {(int16_t)number(), -8, (int16_t)number(), 90, below(9), (bool)below(2)};
+    size_t count;
+    *point = some_point();
+    uint32_t listed = wadlook_levels(wad, len, levels, 2, &count),
+             points = wadlook_points_at(wad, len, 0, wide, point, 1, place, 1);
+    bool is_doom = listed == WADLOOK_DONE && count && !levels[0].entry && levels[0].format == WADLOOK_DOOM;
+    must(is_doom == (points == WADLOOK_DONE || points == WADLOOK_UNSOUND), "points are told of listed levels");
+    uint32_t audit = wadlook_audit_at(wad, len, 0, wide, ROOM(wadlook_finding, 2), 2, &totals);
+    must((points == WADLOOK_DONE) == (audit == WADLOOK_DONE && totals.faults == 0), "a level is sound where points answers");
+    uint32_t ended = wadlook_under(wad, len, 0, wide, *point, &under);
+    must((ended == WADLOOK_DONE) == is_doom, "any level in Doom's format has places");
+    if (points == WADLOOK_DONE) must(under.ssector == place->ssector && under.sector == place->sector, "the same place");
+    uint32_t cells = wadlook_cells(wad, len, 0, wide, &view, ROOM(int32_t, 64), 64, &grid);
+    must(cells != WADLOOK_DONE || points == WADLOOK_DONE, "cells are told of sound levels");
+
+    wadlook_question question;
+    memset(&question, 0, sizeof question);
+    question.word = below(15);
+    question.number = below(45);
+    question.cells = below(9);
+    question.wide = wide;
+    question.map = below(2);
+    question.strict = below(2);
+    question.bases = below(2);
+    question.limit = below(3) ? 0 : below(300);
+    question.name = ROOM(uint8_t, 4);
+    question.name_len = 4;
+    memcpy((uint8_t *)question.name, "E1M1", 4);
+    wadlook_file *files = ROOM(wadlook_file, 2);
+    for (int k = 0; k < 2; k++) {
+        files[k].path = files[k].bytes = k ? wad : base;
+        files[k].path_len = k ? (len < 4 ? len : 4) : 3;
+        files[k].bytes_len = k ? len : size;
+    }
+    wadlook_told told;
+    size_t room_left = below(400);
+    uint8_t *answer = ROOM(uint8_t, room_left), *messages = ROOM(uint8_t, 9);
+    uint32_t first = below(2), many = first ? 1 : 1 + below(2);
+    if (question.word == WADLOOK_ASSEMBLE || question.word == WADLOOK_EXPLAIN) many = 0;
+    uint32_t end = wadlook_run(&question, files + first, many, wad, len, answer, room_left, messages, 9, &told);
+    must(end <= WADLOOK_MISTAKEN && end != WADLOOK_NO_MEMORY, "a run ends in one of these ways");
+    must(!question.limit || (told.answer <= question.limit && told.messages <= question.limit), "no more than the limit is told");
+}
+
 /* Nodes and sectors of any kind, each child's word an ssector or a node. */
 static void round_of_nodes(void) {
     used = 0;
@@ -128,6 +186,7 @@ int main(int argc, char **argv) {
     fclose(file);
     for (long k = atol(argv[2]); k-- > 0;) {
         round_of(base, size);
+        round_of_words(base, size);
         round_of_nodes();
     }
     return 0;

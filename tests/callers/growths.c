@@ -1,5 +1,6 @@
 /* growths BASE: each growth of memory that a call asks for is refused in turn, over the sample level. The call answers
- * WADLOOK_MEMORY, what it writes to is as it was, and nothing is kept; with all growths granted it answers. The program's own
+ * WADLOOK_MEMORY, or WADLOOK_NO_MEMORY where it does a word of `wadlens`; what it writes to is as it was, but for a front of the
+ * answer of such a word; and nothing is kept. With all growths granted it answers. The program's own
  * malloc and realloc stand before those of the C library, which the calls would reach. The last line is `N passed, M failed`. */
 #include "wadlook.h"
 #include <stdio.h>
@@ -59,6 +60,18 @@ static union {
         size_t written;
         uint8_t bytes[ROOM - sizeof(size_t)];
     } level;
+    struct {
+        wadlook_level levels[2];
+        size_t count;
+    } levels;
+    struct {
+        int32_t sectors[4];
+        wadlook_grid grid;
+    } cells;
+    struct {
+        wadlook_told told;
+        uint8_t answer[ROOM - sizeof(wadlook_told)];
+    } ran;
 } out;
 
 static uint32_t points(void) {
@@ -99,17 +112,59 @@ static uint32_t extract(void) {
 
 static bool level_is_right(void) { return out.level.written == SAMPLE && memcmp(out.level.bytes, wad, SAMPLE) == 0; }
 
+static uint32_t levels(void) { return wadlook_levels(wad, SAMPLE, out.levels.levels, 2, &out.levels.count); }
+
+static bool labels_are_right(void) { return out.levels.count == 1 && !memcmp(out.levels.levels[0].name, "E1M1", 4); }
+
+static uint32_t points_at(void) {
+    static const wadlook_point_at at[] = {{0, 5}, {1, 5}};
+    return wadlook_points_at(wad, SAMPLE, 0, false, at, 2, out.places, 2);
+}
+
+static uint32_t cells(void) {
+    static const wadlook_view view = {-2, 0, 1, 0, 4, true};
+    return wadlook_cells(wad, SAMPLE, 0, false, &view, out.cells.sectors, 4, &out.cells.grid);
+}
+
+static bool cells_are_right(void) { return out.cells.grid.columns == 4 && out.cells.sectors[1] == 1 && out.cells.sectors[3] == 0; }
+
+static uint32_t extract_at(void) {
+    return wadlook_extract_at(wad, SAMPLE, 0, out.level.bytes, sizeof out.level.bytes, &out.level.written);
+}
+
+/* A word over the sample. */
+static uint32_t run(uint32_t word) {
+    const wadlook_question question = {.name = (const uint8_t *)"E1M1", .name_len = 4, .word = word, .map = true};
+    const wadlook_file file = {(const uint8_t *)"a.wad", 5, wad, SAMPLE};
+    return wadlook_run(&question, &file, 1, NULL, 0, out.ran.answer, sizeof out.ran.answer, NULL, 0, &out.ran.told);
+}
+
+static uint32_t check(void) { return run(WADLOOK_CHECK); }
+
+static bool lines_are_right(void) { return out.ran.told.answer && !memcmp(out.ran.answer, "a.wad: E1M1: W1 sector 0: ", 26); }
+
+static uint32_t picture(void) { return run(WADLOOK_PICTURE); }
+
+static bool picture_is_right(void) { return !memcmp(out.ran.answer, "<svg", 4); }
+
 static const struct call {
     const char *name;
     uint32_t (*make)(void);
     bool (*is_right)(void);
+    uint32_t refused; /* how it ends where a growth is refused */
 } calls[] = {
-    {"points", points, points_are_right},
-    {"prepare", prepare, sectors_are_right},
-    {"census", census, counts_are_right},
-    {"audit", audit, totals_are_right},
-    {"find", find, lump_is_right},
-    {"extract", extract, level_is_right},
+    {"points", points, points_are_right, WADLOOK_MEMORY},
+    {"prepare", prepare, sectors_are_right, WADLOOK_MEMORY},
+    {"census", census, counts_are_right, WADLOOK_MEMORY},
+    {"audit", audit, totals_are_right, WADLOOK_MEMORY},
+    {"find", find, lump_is_right, WADLOOK_MEMORY},
+    {"extract", extract, level_is_right, WADLOOK_MEMORY},
+    {"levels", levels, labels_are_right, WADLOOK_MEMORY},
+    {"points_at", points_at, points_are_right, WADLOOK_MEMORY},
+    {"cells", cells, cells_are_right, WADLOOK_MEMORY},
+    {"extract_at", extract_at, level_is_right, WADLOOK_MEMORY},
+    {"check", check, lines_are_right, WADLOOK_NO_MEMORY},
+    {"picture", picture, picture_is_right, WADLOOK_NO_MEMORY},
 };
 
 /* Makes a call with growth n refused, with 0 none: its status. */
@@ -135,7 +190,7 @@ static bool stands(const struct call *call) {
     for (; n < MOST; n++) {
         uint32_t status = made(call, n);
         if (growths < n) break;
-        if (status != WADLOOK_MEMORY || held || !is_as_it_was()) return false;
+        if (status != call->refused || held || (status == WADLOOK_MEMORY && !is_as_it_was())) return false;
         if (made(call, 0) != WADLOOK_DONE || held || !call->is_right()) return false;
     }
     return 1 < n && n < MOST;

@@ -38,6 +38,26 @@ def of_names(wad: wadlook.Wad) -> None:
     size: int = wad.find(b"DEMO1").size + wad.find("MAP01", 7).size
     finding: wadlook.Finding = wad.level(b"MAP01").findings[0]
     place: Optional[wadlook.Place] = wad.level("MAP01").place(0, 5)
-    wad.level(1)  # type: ignore[arg-type]
+    wad.level(1.5)  # type: ignore[arg-type]
+    labels: list[wadlook.Label] = wad.levels
     place.sector  # type: ignore[union-attr]
-    print(size, finding.index + 1, place)
+    print(size, finding.index + 1, place, labels, wad.level(1))
+
+
+def of_words(listing: str) -> None:
+    found: wadlook.Found = wadlook.check("mine.wad", ["doom2.wad", b"PWAD", ("name.wad", b"PWAD")], ignore="N2,W7-W8")[0]
+    wadlook.check([("name.wad", bytearray(12))], wide=True, ignore=["notes"])
+    wadlook.check(5)  # type: ignore[arg-type]
+    rows: list[dict[str, object]] = wadlook.survey(["mine.wad"])
+    picture: str = wadlook.picture("MAP01", "mine.wad", frame=(0, 0, 64, 64))
+    level: bytes = wadlook.cut("mine.wad", 3) + wadlook.cut(b"PWAD", "MAP01") + wadlook.assemble(listing)
+    print(
+        found.at,
+        rows,
+        picture,
+        level,
+        wadlook.compare("a.lmp", b"", commands=True),
+        wadlook.listing("a.lmp"),
+        wadlook.explain("F3"),
+        wadlook.demos(b"m"),
+    )

@@ -71,8 +71,8 @@ fn write_demo<O: Write + Drop>(bytes: &[u8], out: &mut Output<O>) -> Result<Verd
     }
 }
 
-// `wadlens: standard input: line 5 is no line of a listing: a demo's header is wanted`
-fn write_wrong_line<E: Sink>(number: u64, wanted: Wanted, errors: &mut E) -> Result<(), IoFault>
+/// Writes which line is wrong: `wadlens: standard input: line 5 is no line of a listing: a demo's header is wanted`.
+pub fn write_wrong_line<E: Sink>(number: u64, wanted: Wanted, errors: &mut E) -> Result<(), IoFault>
     requires { (E.state errors.old).failed ≡ false }
     ensures { Writes (E.state errors.old) (E.state errors.new) (line_text number wanted) result }
 {

@@ -8,11 +8,14 @@ mod given;
 mod listing;
 mod picture;
 
-pub use assemble::run_assemble;
+pub use assemble::{run_assemble, write_wrong_line};
 pub use atlas::{
     AtlasFault, AtlasJob, AtlasRequest, Folder, FolderFault, FolderRefusal, KeepFault, run_atlas,
     write_atlas,
 };
 pub use compare::run_compare;
 pub use listing::run_listing;
-pub use picture::{PictureQuestion, marks_by, run_picture};
+pub use picture::{
+    PictureQuestion, drawn_verdict, format_at, marks_by, run_picture, verdict_of_format,
+    write_format, write_named,
+};

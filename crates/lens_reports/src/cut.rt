@@ -104,8 +104,8 @@ fn cut_named<O: Write + Drop, E: Sink>(
     }
 }
 
-// Writes that no entry of a file has a name: `wadlens: PATH: NAME: no level of this name`.
-fn write_no_name<E: Sink>(path: &[u8], name: &[u8], errors: &mut E) -> Result<(), IoFault>
+/// Writes that no entry of a file has a name: `wadlens: PATH: NAME: no level of this name`.
+pub fn write_no_name<E: Sink>(path: &[u8], name: &[u8], errors: &mut E) -> Result<(), IoFault>
     requires { (E.state errors.old).failed ≡ false }
     ensures { Writes (E.state errors.old) (E.state errors.new) (no_name_line path.now name.now) result }
 {

@@ -15,7 +15,7 @@ mod run;
 mod tell;
 
 pub use bases::{BaseFault, BasePaths, read_bases, refuse_base, wads_of};
-pub use cut::{CutAsked, run_cut, write_cut_line};
+pub use cut::{CutAsked, run_cut, write_cut_line, write_no_name};
 pub use end::{End, exit_status, status};
 pub use explain::run_explain;
 pub use files::{FileBytes, Held, ReadFault, RunFiles, Stored, read_input, read_path};

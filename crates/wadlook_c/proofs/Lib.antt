@@ -4,3 +4,8 @@ pub mod DescentLemmas
 pub mod LumpLemmas
 pub mod ListLemmas
 pub mod BlockLemmas
+pub mod LevelsLemmas
+pub mod QuestionLemmas
+pub mod RunLemmas
+pub mod SeenLemmas
+pub mod UnderLemmas

@@ -8,3 +8,11 @@ pub mod Counts
 pub mod Lumps
 pub mod Blocks
 pub mod Sights
+pub mod AtMost
+pub mod Question
+pub mod Run
+pub mod Entries
+pub mod Levels
+pub mod Seen
+pub mod Under
+pub mod Cut

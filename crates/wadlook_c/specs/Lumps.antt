@@ -47,3 +47,23 @@ RefusesLump wad name after (fault.Lump lump.NoSuch) = After wad name after (λ f
 RefusesLump wad name after (fault.Lump lump.Outside) =
     After wad name after (λ files g. (g < length (joined files)) × ((bytes : List ℕ) → ¬ IsLump files g bytes))
 RefusesLump wad name after why = RefusesFiles (wad ∷ []) why
+
+-- an entry of a file, and its lump
+pub record IsFoundAt (wad : List ℕ) (entry : ℕ) (told : WadlookLump) : Type 0 where
+  pub files : List Wad
+  pub read : AreRead (wad ∷ []) files
+  pub number : told.entry ≡ entry
+  pub lump : TellsLump wad files told
+
+-- what holds of an entry of a file
+pub record Of (wad : List ℕ) (entry : ℕ) (Holds : List Wad → ℕ → Type 0) : Type 0 where
+  pub files : List Wad
+  pub read : AreRead (wad ∷ []) files
+  pub holds : Holds files entry
+
+-- why there is none: the file has no directory, there are not so many entries, the entry has no lump
+abbrev pub RefusesLumpAt : List ℕ → ℕ → RunFault → Type 0
+RefusesLumpAt wad entry (fault.Lump lump.NoSuch) = Of wad entry (λ files g. length (joined files) ≤ g)
+RefusesLumpAt wad entry (fault.Lump lump.Outside) =
+    Of wad entry (λ files g. (g < length (joined files)) × ((bytes : List ℕ) → ¬ IsLump files g bytes))
+RefusesLumpAt wad entry why = RefusesFiles (wad ∷ []) why

@@ -66,8 +66,8 @@ fn found(alloc: Global, wad: &[u8], name: &[u8], after: usize) -> Result<Wadlook
     }
 }
 
-// The lump of the entry of a number, of a set of one file.
-fn lump_at<A: Allocator>(set: &Set<'_, A>, entry: usize) -> Option<WadlookLump>
+/// The lump of the entry of a number, of a set of one file.
+pub fn lump_at<A: Allocator>(set: &Set<'_, A>, entry: usize) -> Option<WadlookLump>
     requires { entry < length (joined set.now) }
     ensures some { (wad : List ℕ) → AreRead (wad ∷ []) set.now → IfSome result (λ told. (told.entry ≡ entry) × TellsLump wad set.now told) }
     ensures none { IfNone result ((lump : List ℕ) → ¬ IsLump set.now entry lump) }

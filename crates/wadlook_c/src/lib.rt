@@ -3,15 +3,28 @@
 //! says that all was done; the others are those of `status`.
 #![tactic(auto)]
 
+mod at_most;
 mod audit;
+mod audit_at;
 mod block;
+mod cells;
 mod census;
+mod census_at;
 mod demo;
+mod entry;
 mod extract;
+mod extract_at;
 mod find;
+mod find_at;
+mod levels;
 mod opening;
 mod point;
 mod points;
+mod points_at;
 mod prepare;
+mod prepare_at;
+mod question;
+mod run;
 mod sight;
 mod status;
+mod under;

@@ -49,8 +49,8 @@ fn place_in(nodes: &[u8], sectors: &[u16], point: Point) -> WadlookPlace
     }
 }
 
-// The leaf of a point by nodes that may be no tree: at most as many tests as there are nodes.
-fn leaf_in(nodes: &Table<'_, Node>, point: Point) -> Option<u16>
+/// The leaf of a point by nodes that may be no tree: at most as many tests as there are nodes.
+pub fn leaf_in(nodes: &Table<'_, Node>, point: Point) -> Option<u16>
     ensures { (level : Level) → IsSound level → level.nodes ≡ nodes.now → IsSomeAnd result (IsLeaf level point) }
 {
     let mut word = first_word(nodes.len())?;

@@ -87,8 +87,8 @@ fn places(
     Ok(())
 }
 
-// Writes the place of each point.
-fn put_places<A: Allocator>(
+/// Writes the place of each point.
+pub fn put_places<A: Allocator>(
     tree: &SectorTree<'_, '_, A>,
     points: &[WadlookPoint],
     out: &mut [WadlookPlace],

@@ -30,6 +30,22 @@ pub const NO_END: u32 = 22;
 pub const NO_SECTOR: u32 = 23;
 /// REJECT ends before the bit.
 pub const UNKNOWN: u32 = 24;
+/// The list of entries ends before a lump of the level.
+pub const LUMP_MISSING: u32 = 9;
+/// A growth was refused.
+pub const NO_MEMORY: u32 = 2;
+/// The level alone would have more than 2,147,483,647 bytes.
+pub const TOO_LARGE: u32 = 11;
+/// A lump of the level isn't inside its file.
+pub const LUMP_OUTSIDE: u32 = 10;
+/// No level starts at the entry.
+pub const NO_LEVEL: u32 = 28;
+/// The level is in a format that isn't judged.
+pub const OTHER_FORMAT: u32 = 29;
+/// A picture's bounds are no frame's, or it has no cells or more than 1024 along a side.
+pub const NO_VIEW: u32 = 30;
+/// No linedef of the level has both of its vertexes.
+pub const NOTHING_TO_DRAW: u32 = 31;
 
 /// The status for a fault.
 pub fn number_of(fault: RunFault) -> u32
@@ -52,8 +68,8 @@ pub fn number_of(fault: RunFault) -> u32
     }
 }
 
-// The status for why a file has no directory.
-fn wad_number_of(why: WadFault) -> u32
+/// The status for why a file has no directory.
+pub fn wad_number_of(why: WadFault) -> u32
     ensures { result ≡ wad_number_of why }
 {
     match why {

@@ -76,8 +76,8 @@ fn draw_at<O: Write + Drop, E: Sink>(
     }
 }
 
-// The verdict on a level that isn't drawn, the same as that of `check`.
-fn verdict_of_format(format: Format) -> Verdict
+/// The verdict on a level that isn't drawn, the same as that of `check`.
+pub fn verdict_of_format(format: Format) -> Verdict
     ensures { result ≡ verdict_of_format format }
 {
     format_totals(format).verdict()
@@ -106,8 +106,8 @@ fn draw_whole<O: Write + Drop, E: Sink>(
     }
 }
 
-// The verdict on a level, by whether it has a fault.
-fn drawn_verdict(faulty: bool) -> Verdict
+/// The verdict on a level, by whether it has a fault.
+pub fn drawn_verdict(faulty: bool) -> Verdict
     ensures { result ≡ drawn_verdict faulty }
 {
     if faulty {

@@ -1,0 +1,4 @@
+mod AnswerLemmas
+mod CompareLemmas
+mod FileLemmas
+mod TellLemmas

@@ -1,0 +1,12 @@
+pub mod Answer
+pub mod Asked
+pub mod Assembled
+pub mod Compared
+pub mod Cut
+pub mod Drawn
+pub mod Explained
+pub mod FileDemo
+pub mod Large
+pub mod Listed
+pub mod Told
+pub mod Why

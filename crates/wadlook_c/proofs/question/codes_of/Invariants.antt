@@ -1,0 +1,6 @@
+use Rattle.std.proofs.Common.{◌≡◌, ℕ, ◌<◌, get_or}
+use Rattle.wadlook_c.specs.Question.{bit_at}
+use Rattle.wadlook_c.proofs.question.codes_of.Given as goal
+
+abbrev pub invariant-loop-rank : goal.invariant-loop-rank
+invariant-loop-rank l = (k : ℕ) → k < l.rank → get_or l.counts k 0 ≡ bit_at l.bits k

@@ -1,0 +1,11 @@
+pub mod SoundLemmas
+pub mod SlotLemmas
+pub mod MarkLemmas
+pub mod WordLemmas
+pub mod PlaceLemmas
+pub mod LeafLemmas
+pub mod FaultLemmas
+pub mod DescentLemmas
+pub mod LawLemmas
+pub mod WiderLemmas
+pub mod WiderFaultLemmas

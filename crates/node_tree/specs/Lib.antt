@@ -1,0 +1,13 @@
+pub mod LaterShape
+pub mod Laws
+pub mod Leaf
+pub mod Line
+pub mod Marks
+pub mod Shape
+pub mod Slots
+pub mod Sound
+pub mod Steps
+pub mod TreeBounds
+pub mod TreeFaults
+pub mod WordCounts
+pub mod Wider

@@ -24,6 +24,10 @@ mod later_node_checks;
 #[cfg(test)]
 mod later_nodes;
 #[cfg(test)]
+mod later_tree_checks;
+#[cfg(test)]
+mod later_trees;
+#[cfg(test)]
 mod lines;
 #[cfg(test)]
 mod numbers;

@@ -1,12 +1,13 @@
 -- A tree has each node and ssector at which a code holds.
-use Rattle.std.proofs.Common.{◌≡◌, ℕ, ◌<◌, Option, Some, None, inl, inr, refl}
+use Rattle.std.proofs.Common.{◌≡◌, ℕ, ◌<◌, ◌≤◌, ◌↔◌, Option, Some, None, IsTrue, false, inl, inr, refl, arith}
 use Rattle.std.specs.Prelude.{IsSomeAnd}
-use Rattle.std.proofs.lemmas.Bool.{ltb-true}
+use Rattle.std.proofs.lemmas.Bool.{false≢true, ltb-true}
 use Rattle.map_geo.specs.Partition.{Partition}
 use Rattle.node_tree.specs.Shape.{Shape}
 use Rattle.map_tree.specs.Paths.{node, ssector}
 use Rattle.node_tree.specs.Shape.{node_count, ssector_count}
 use Rattle.node_tree.specs.TreeBounds.{NodeFound, SsectorFound}
+use Rattle.node_tree.specs.TreeFaults.{NodeNamedTwice, SsectorNamedTwice}
 use Rattle.node_tree.proofs.SoundLemmas.{child_there}
 
 -- a node of whose partition something holds
@@ -32,3 +33,16 @@ node_there shape n (inr (inr h)) = h.0
 pub ssector_there : (shape : Shape) (t : ℕ) → SsectorFound shape t → t < ssector_count shape
 ssector_there shape t (inl twice) = ltb-true t (ssector_count shape) (child_there shape twice.n twice.s (ssector t) twice.names)
 ssector_there shape t (inr h) = h.0
+
+-- behind the last one none is named twice
+pub node_past : (shape : Shape) (n : ℕ) → node_count shape ≤ n → IsTrue false ↔ NodeNamedTwice shape n
+node_past shape n past = (
+  (λ h. absurd (false≢true h)),
+  (λ twice. let within = node_there shape n (inr (inl twice)) in absurd (omega (arith, past, within))),
+)
+
+pub ssector_past : (shape : Shape) (t : ℕ) → ssector_count shape ≤ t → IsTrue false ↔ SsectorNamedTwice shape t
+ssector_past shape t past = (
+  (λ h. absurd (false≢true h)),
+  (λ twice. let within = ssector_there shape t (inl twice) in absurd (omega (arith, past, within))),
+)

@@ -5,8 +5,8 @@ use Rattle.std.proofs.lemmas.Bool.{lt-ltb, ltb-true, le-ltb, cond-true, cond-fal
 use Rattle.map_geo.specs.declared.sides.Side.{Side}
 use Rattle.map_geo.specs.declared.sides.Side.TheVariants.{Front, Back}
 use Rattle.node_tree.specs.Shape.{Shape}
-use Rattle.map_tree.specs.Paths.{Place, node}
-use Rattle.node_tree.specs.Shape.{node_count, has, child}
+use Rattle.map_tree.specs.Paths.{Place, node, ssector}
+use Rattle.node_tree.specs.Shape.{node_count, ssector_count, has, child}
 use Rattle.node_tree.specs.Slots.{slot, slot_count, child_slot}
 use Rattle.node_tree.specs.TreeFaults.{IsNamed, IsNamedTwice}
 use Rattle.map_tree.specs.WordCounts.{once_more, IsCounted, AreCounted}
@@ -245,3 +245,24 @@ node_counted shape counts n are within =
       (λ h. told.0 (ltb-true 0 (slice_index counts n) h)),
       (λ h. lt-ltb 0 (slice_index counts n) (told.1 h)),
     )
+
+-- what a count above 1 tells
+twice_counted : (shape : Shape) (counts : List ℕ) (p : Place) → AreWordCounts shape counts → IsTrue (has shape p)
+    → IsTrue (nat_lt 1 (slice_index counts (slot shape p))) ↔ IsNamedTwice shape p
+twice_counted shape counts p are there =
+    let told = are.twice p there in (
+      (λ h. told.0 (ltb-true 1 (slice_index counts (slot shape p)) h)),
+      (λ h. lt-ltb 1 (slice_index counts (slot shape p)) (told.1 h)),
+    )
+
+pub node_twice : (shape : Shape) (counts : List ℕ) (n : ℕ) → AreWordCounts shape counts
+    → n < node_count shape
+    → IsTrue (nat_lt 1 (slice_index counts n)) ↔ IsNamedTwice shape (node n)
+node_twice shape counts n are within =
+    twice_counted shape counts (node n) are (lt-ltb n (node_count shape) within)
+
+pub ssector_twice : (shape : Shape) (counts : List ℕ) (t : ℕ) → AreWordCounts shape counts
+    → t < ssector_count shape
+    → IsTrue (nat_lt 1 (slice_index counts (node_count shape + t))) ↔ IsNamedTwice shape (ssector t)
+ssector_twice shape counts t are within =
+    twice_counted shape counts (ssector t) are (lt-ltb t (ssector_count shape) within)

@@ -23,9 +23,9 @@ pub struct Bounds {
 
 /// The bounds of a tree's nodes and ssectors.
 pub fn bounds_of<T: Forked>(places: &Places<'_, T>, counts: &[u8], reached: &[bool]) -> Bounds
-    requires counts { AreWordCounts places.now counts.now }
-    requires reached { AreReached places.now reached.now }
-    ensures { AreBounds places.now result }
+    requires counts { AreWordCounts (T.shape places.now) counts.now }
+    requires reached { AreReached (T.shape places.now) reached.now }
+    ensures { AreBounds (T.shape places.now) result }
 {
     Bounds {
         nodes: node_bound(places, counts, reached),
@@ -34,18 +34,18 @@ pub fn bounds_of<T: Forked>(places: &Places<'_, T>, counts: &[u8], reached: &[bo
 }
 
 fn node_bound<T: Forked>(places: &Places<'_, T>, counts: &[u8], reached: &[bool]) -> u32
-    requires counts { AreWordCounts places.now counts.now }
-    requires reached { AreReached places.now reached.now }
-    ensures { (n : ℕ) → NodeFound places.now n → n < result }
+    requires counts { AreWordCounts (T.shape places.now) counts.now }
+    requires reached { AreReached (T.shape places.now) reached.now }
+    ensures { (n : ℕ) → NodeFound (T.shape places.now) n → n < result }
 {
     let count = places.nodes() as u32;
     bound_where(count, |n| is_node_found(places, counts, reached, n))
 }
 
 fn ssector_bound<T: Forked>(places: &Places<'_, T>, counts: &[u8], reached: &[bool]) -> u32
-    requires counts { AreWordCounts places.now counts.now }
-    requires reached { AreReached places.now reached.now }
-    ensures { (t : ℕ) → SsectorFound places.now t → t < result }
+    requires counts { AreWordCounts (T.shape places.now) counts.now }
+    requires reached { AreReached (T.shape places.now) reached.now }
+    ensures { (t : ℕ) → SsectorFound (T.shape places.now) t → t < result }
 {
     let count = places.ssectors() as u32;
     bound_where(count, |t| is_ssector_found(places, counts, reached, t))
@@ -54,16 +54,16 @@ fn ssector_bound<T: Forked>(places: &Places<'_, T>, counts: &[u8], reached: &[bo
 // Whether a code of nodes holds at one.
 #[inline(always)]
 fn is_node_found<T: Forked>(places: &Places<'_, T>, counts: &[u8], reached: &[bool], n: u32) -> bool
-    requires counts { AreWordCounts places.now counts.now }
-    requires reached { AreReached places.now reached.now }
-    ensures { IsTrue result ↔ NodeFound places.now n }
+    requires counts { AreWordCounts (T.shape places.now) counts.now }
+    requires reached { AreReached (T.shape places.now) reached.now }
+    ensures { IsTrue result ↔ NodeFound (T.shape places.now) n }
 {
     is_node_record_found(places, n) || is_node_place_found(places, counts, reached, n)
 }
 
 #[inline(always)]
 fn is_node_record_found<T: Forked>(places: &Places<'_, T>, n: u32) -> bool
-    ensures { IsTrue result ↔ NodeRecordFound places.now n }
+    ensures { IsTrue result ↔ NodeRecordFound (T.shape places.now) n }
 {
     child_names_nothing(places, n) || origin_outside(places, n) || no_direction(places, n)
 }
@@ -75,9 +75,9 @@ fn is_node_place_found<T: Forked>(
     reached: &[bool],
     n: u32,
 ) -> bool
-    requires counts { AreWordCounts places.now counts.now }
-    requires reached { AreReached places.now reached.now }
-    ensures { IsTrue result ↔ NodePlaceFound places.now n }
+    requires counts { AreWordCounts (T.shape places.now) counts.now }
+    requires reached { AreReached (T.shape places.now) reached.now }
+    ensures { IsTrue result ↔ NodePlaceFound (T.shape places.now) n }
 {
     node_named_twice(places, counts, n) || node_not_reached(places, reached, n)
 }
@@ -90,9 +90,9 @@ fn is_ssector_found<T: Forked>(
     reached: &[bool],
     t: u32,
 ) -> bool
-    requires counts { AreWordCounts places.now counts.now }
-    requires reached { AreReached places.now reached.now }
-    ensures { IsTrue result ↔ SsectorFound places.now t }
+    requires counts { AreWordCounts (T.shape places.now) counts.now }
+    requires reached { AreReached (T.shape places.now) reached.now }
+    ensures { IsTrue result ↔ SsectorFound (T.shape places.now) t }
 {
     ssector_named_twice(places, counts, t) || ssector_not_reached(places, reached, t)
 }

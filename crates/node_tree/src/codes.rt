@@ -47,24 +47,23 @@ pub struct Nodes<'t, T: Forked, A: Allocator = Global> {
 
 impl<'t, T: Forked, A: Allocator> Model for Nodes<'t, T, A> {
     ghost use Rattle.node_tree.specs.Marks.{AreReached};
-    ghost use Rattle.node_tree.specs.Shape.{Shape};
     ghost use Rattle.node_tree.specs.TreeBounds.{AreBounds};
     ghost use Rattle.node_tree.specs.WordCounts.{AreWordCounts};
 
-    ghost Value = { Shape };
+    ghost Value = { T };
 
     ghost view = { λ nodes. nodes.places };
 
-    ghost invariant = { λ nodes. AreWordCounts nodes.places nodes.counts.items
-        × AreReached nodes.places nodes.reached.items
-        × AreBounds nodes.places nodes.bounds };
+    ghost invariant = { λ nodes. AreWordCounts (T.shape nodes.places) nodes.counts.items
+        × AreReached (T.shape nodes.places) nodes.reached.items
+        × AreBounds (T.shape nodes.places) nodes.bounds };
 }
 
 impl<'t, T: Forked, A: Allocator + Copy> Nodes<'t, T, A> {
     /// The nodes of a tree. It takes two bytes for each node and ssector, and during the visits four for each place
     /// that waits.
     pub fn of(alloc: A, tree: &'t T) -> Result<Nodes<'t, T, A>, AllocError>
-        ensures { IfOk result (λ nodes. nodes ≡ T.shape tree.now) }
+        ensures { IfOk result (λ nodes. nodes ≡ tree.now) }
     {
         let places = Places::of(tree);
         let counts = word_counts(alloc, &places)?;
@@ -82,7 +81,7 @@ impl<'t, T: Forked, A: Allocator + Copy> Nodes<'t, T, A> {
 impl<'t, T: Forked, A: Allocator> Searched for Nodes<'t, T, A> {
     ghost use Rattle.node_tree.specs.TreeFaults.{TreeHolds};
 
-    ghost holds = { TreeHolds };
+    ghost holds = { λ tree. TreeHolds (T.shape tree) };
 }
 
 impl<'t, T: Forked, A: Allocator> Search for Nodes<'t, T, A> {
@@ -107,11 +106,11 @@ fn first_at<T: Forked>(
     code: Code,
     from: u32,
 ) -> Option<u32>
-    requires counts { AreWordCounts places.now counts.now }
-    requires reached { AreReached places.now reached.now }
-    requires bounds { AreBounds places.now bounds.now }
-    ensures some { IfSome result (IsFirst (TreeHolds places.now code) from) }
-    ensures none { IfNone result ((i : ℕ) → from ≤ i → ¬ TreeHolds places.now code i) }
+    requires counts { AreWordCounts (T.shape places.now) counts.now }
+    requires reached { AreReached (T.shape places.now) reached.now }
+    requires bounds { AreBounds (T.shape places.now) bounds.now }
+    ensures some { IfSome result (IsFirst (TreeHolds (T.shape places.now) code) from) }
+    ensures none { IfNone result ((i : ℕ) → from ≤ i → ¬ TreeHolds (T.shape places.now) code i) }
     ensures below { IfSome result (λ at. at + 1 < 2 ^ 32) }
 {
     let bound = index_bound(places, bounds, code);
@@ -122,8 +121,8 @@ fn first_at<T: Forked>(
 
 // A number above all indexes at which a code holds.
 fn index_bound<T: Forked>(_places: &Places<'_, T>, bounds: &Bounds, code: Code) -> u32
-    requires { AreBounds _places.now bounds.now }
-    ensures { (i : ℕ) → TreeHolds _places.now code i → i < result }
+    requires { AreBounds (T.shape _places.now) bounds.now }
+    ensures { (i : ℕ) → TreeHolds (T.shape _places.now) code i → i < result }
 {
     match code {
         Code::F11 | Code::F12 | Code::F13 | Code::F14 | Code::N7 => bounds.nodes,
@@ -141,9 +140,9 @@ fn holds_at<T: Forked>(
     code: Code,
     i: u32,
 ) -> bool
-    requires counts { AreWordCounts places.now counts.now }
-    requires reached { AreReached places.now reached.now }
-    ensures { IsTrue result ↔ TreeHolds places.now code i }
+    requires counts { AreWordCounts (T.shape places.now) counts.now }
+    requires reached { AreReached (T.shape places.now) reached.now }
+    ensures { IsTrue result ↔ TreeHolds (T.shape places.now) code i }
 {
     match code {
         Code::F11 => child_names_nothing(places, i),

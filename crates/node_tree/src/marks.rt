@@ -15,7 +15,7 @@ pub fn reached_places<T: Forked, A: Allocator + Copy>(
     alloc: A,
     places: &Places<'_, T>,
 ) -> Result<Vec<bool, A>, AllocError>
-    ensures { IfOk result (λ marks. AreReached places.now marks.items) }
+    ensures { IfOk result (λ marks. AreReached (T.shape places.now) marks.items) }
 {
     let count = places.nodes() + places.ssectors();
     let mut marks = vec![in alloc; false; count]?;
@@ -29,11 +29,11 @@ fn mark_reached<T: Forked, A: Allocator>(
     mut waits: Vec<u32, A>,
     places: &Places<'_, T>,
 ) -> Result<(), AllocError>
-    requires long { length marks.old ≡ slot_count places.now }
+    requires long { length marks.old ≡ slot_count (T.shape places.now) }
     requires few { length marks.old < 2 ^ 32 }
     requires off { (k : ℕ) → slice_index_or marks.old k false ≡ false }
     requires none { waits.items ≡ [] }
-    ensures { OnOk result (AreReached places.now marks.new) }
+    ensures { OnOk result (AreReached (T.shape places.now) marks.new) }
 {
     mark(marks, &mut waits, places.root())?;
     while let Some(k) = waits.pop() {

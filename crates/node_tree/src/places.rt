@@ -22,11 +22,11 @@ pub struct Places<'t, T: Forked> {
 
 impl<'t, T: Forked> Model for Places<'t, T> {
     ghost use Rattle.std.specs.Prelude.{◌≡◌, ◌<◌, ◌^◌};
-    ghost use Rattle.node_tree.specs.Shape.{Shape, node_count, ssector_count};
+    ghost use Rattle.node_tree.specs.Shape.{node_count, ssector_count};
 
-    ghost Value = { Shape };
+    ghost Value = { T };
 
-    ghost view = { λ places. T.shape places.tree.now };
+    ghost view = { λ places. places.tree.now };
 
     ghost invariant = { λ places.
         (places.nodes ≡ node_count (T.shape places.tree.now))
@@ -38,13 +38,13 @@ impl<'t, T: Forked> Model for Places<'t, T> {
 impl<'t, T: Forked> Searched for Places<'t, T> {
     ghost use Rattle.node_tree.specs.TreeFaults.{TreeHolds};
 
-    ghost holds = { TreeHolds };
+    ghost holds = { λ tree. TreeHolds (T.shape tree) };
 }
 
 impl<'t, T: Forked> Places<'t, T> {
     /// The places of a tree.
     pub fn of(tree: &'t T) -> Places<'t, T>
-        ensures { result ≡ T.shape tree.now }
+        ensures { result ≡ tree.now }
     {
         Places {
             tree,
@@ -56,7 +56,7 @@ impl<'t, T: Forked> Places<'t, T> {
     /// How many nodes there are.
     #[inline]
     pub fn nodes(&self) -> usize
-        ensures is { result ≡ node_count self.now }
+        ensures is { result ≡ node_count (T.shape self.now) }
         ensures few { result < 2 ^ 31 }
     {
         self.nodes
@@ -65,7 +65,7 @@ impl<'t, T: Forked> Places<'t, T> {
     /// How many ssectors there are.
     #[inline]
     pub fn ssectors(&self) -> usize
-        ensures is { result ≡ ssector_count self.now }
+        ensures is { result ≡ ssector_count (T.shape self.now) }
         ensures few { result < 2 ^ 31 }
     {
         self.ssectors
@@ -74,10 +74,10 @@ impl<'t, T: Forked> Places<'t, T> {
     /// The numbers of the two children of a place; None of an ssector.
     #[inline]
     pub fn children(&self, place: usize) -> Children
-        ensures front { result.front ≡ child_slot self.now place Front }
-        ensures back { result.back ≡ child_slot self.now place Back }
-        ensures front_in { IfSome result.front (λ k. k < slot_count self.now) }
-        ensures back_in { IfSome result.back (λ k. k < slot_count self.now) }
+        ensures front { result.front ≡ child_slot (T.shape self.now) place Front }
+        ensures back { result.back ≡ child_slot (T.shape self.now) place Back }
+        ensures front_in { IfSome result.front (λ k. k < slot_count (T.shape self.now)) }
+        ensures back_in { IfSome result.back (λ k. k < slot_count (T.shape self.now)) }
     {
         self.tree.children(place)
     }
@@ -85,15 +85,15 @@ impl<'t, T: Forked> Places<'t, T> {
     /// The partition line of a node, or None where there are fewer nodes.
     #[inline]
     pub fn line(&self, node: usize) -> Option<Line>
-        ensures { self.now.partition node ≡ option_map line_partition result }
+        ensures { (T.shape self.now).partition node ≡ option_map line_partition result }
     {
         self.tree.line(node)
     }
 
     /// The number of the root, or None where there are neither nodes nor ssectors.
     pub fn root(&self) -> Option<usize>
-        ensures is { result ≡ root_slot self.now }
-        ensures within { IfSome result (λ k. k < slot_count self.now) }
+        ensures is { result ≡ root_slot (T.shape self.now) }
+        ensures within { IfSome result (λ k. k < slot_count (T.shape self.now)) }
     {
         if self.nodes > 0 {
             Some(self.nodes - 1)

@@ -14,7 +14,7 @@ pub fn word_counts<T: Forked, A: Allocator>(
     alloc: A,
     places: &Places<'_, T>,
 ) -> Result<Vec<u8, A>, AllocError>
-    ensures { IfOk result (λ counts. AreWordCounts places.now counts.items) }
+    ensures { IfOk result (λ counts. AreWordCounts (T.shape places.now) counts.items) }
 {
     let count = places.nodes() + places.ssectors();
     let mut counts = vec![in alloc; 0; count]?;
@@ -24,9 +24,9 @@ pub fn word_counts<T: Forked, A: Allocator>(
 
 // Counts the child words of all nodes.
 fn count_words<T: Forked>(counts: &mut [u8], places: &Places<'_, T>)
-    requires long { length counts.old ≡ slot_count places.now }
+    requires long { length counts.old ≡ slot_count (T.shape places.now) }
     requires zeros { (k : ℕ) → slice_index counts.old k ≡ 0 }
-    ensures { AreWordCounts places.now counts.new }
+    ensures { AreWordCounts (T.shape places.now) counts.new }
 {
     for n in 0..places.nodes() {
         count_children(counts, places.children(n));

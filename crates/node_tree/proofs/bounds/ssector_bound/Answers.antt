@@ -6,6 +6,6 @@ use Rattle.node_tree.proofs.bounds.ssector_bound.Goals as goal
 
 pub returns : goal.returns
 returns g c =
-    bounded {P = SsectorFound c.args.places.now}
-    (λ n found. rw c.ssectors-count.ensures.is (ssector_there c.args.places.now n found))
+    bounded {P = SsectorFound (g.T.Forked.shape c.args.places.now)}
+    (λ n found. rw c.ssectors-count.ensures.is (ssector_there (g.T.Forked.shape c.args.places.now) n found))
     c.bound_where.ensures (λ n told found. search rules)

@@ -4,8 +4,8 @@ use Rattle.node_tree.proofs.places.Places.children.Goals as goal
 
 pub returns-clause-front_in : goal.returns-clause-front_in
 returns-clause-front_in g c =
-    child_slot_in c.args.self.now c.args.place Front _ (rw c.self.view_is at c.children.ensures.front)
+    child_slot_in (g.T.Forked.shape c.args.self.now) c.args.place Front _ (rw c.self.view_is at c.children.ensures.front)
 
 pub returns-clause-back_in : goal.returns-clause-back_in
 returns-clause-back_in g c =
-    child_slot_in c.args.self.now c.args.place Back _ (rw c.self.view_is at c.children.ensures.back)
+    child_slot_in (g.T.Forked.shape c.args.self.now) c.args.place Back _ (rw c.self.view_is at c.children.ensures.back)

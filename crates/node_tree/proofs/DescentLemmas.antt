@@ -1,5 +1,5 @@
 -- The loop of the descent, whose place stands on the way of the point.
-use Rattle.std.proofs.Common.{◌≡◌, ℕ, zero, suc, ◌+◌, ◌-◌, ◌<◌, ◌≤◌, refl, sym, ap, ◌∙◌, subst, Option, Some, None, inl, inr, IsTrue, arith}
+use Rattle.std.proofs.Common.{◌≡◌, ℕ, ◌+◌, ◌-◌, ◌<◌, ◌≤◌, refl, sym, ap, ◌∙◌, subst, Option, Some, None, inl, inr, IsTrue, arith}
 use Rattle.std.specs.Prelude.{IsSome, IsSomeAnd}
 use Rattle.std.specs.Option.{option_map}
 use Rattle.std.proofs.lemmas.Bool.{ltb-true}
@@ -12,7 +12,7 @@ use Rattle.map_tree.specs.Paths.{Place, node, ssector}
 use Rattle.node_tree.specs.declared.forked.Line.{Line}
 use Rattle.node_tree.specs.Leaf.{IsLeaf, CountsAncestors}
 use Rattle.node_tree.specs.Line.{line_partition}
-use Rattle.node_tree.specs.Shape.{Shape, node_count, ssector_count, has, child, root, side_at}
+use Rattle.node_tree.specs.Shape.{Shape, node_count, ssector_count, has, root}
 use Rattle.node_tree.specs.Slots.{slot, child_slot}
 use Rattle.node_tree.specs.Sound.{IsSound}
 use Rattle.node_tree.specs.Steps.{IsStep}

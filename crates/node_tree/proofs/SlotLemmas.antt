@@ -1,8 +1,8 @@
 -- Facts about the slots of a tree's places.
-use Rattle.std.proofs.Common.{◌≡◌, ℕ, ◌+◌, ◌<◌, inl, inr, sym, ap, ◌∙◌, subst, Option, Some, None, IsTrue, arith}
+use Rattle.std.proofs.Common.{◌≡◌, ℕ, ◌+◌, ◌<◌, inl, inr, sym, ap, ◌∙◌, Option, Some, None, IsTrue, arith}
 use Rattle.std.specs.Prelude.{IfSome}
 use Rattle.std.specs.Option.{option_map}
-use Rattle.std.proofs.lemmas.Bool.{lt-ltb, ltb-true, cond-true}
+use Rattle.std.proofs.lemmas.Bool.{ltb-true, cond-true}
 use Rattle.map_geo.specs.declared.sides.Side.{Side}
 use Rattle.node_tree.specs.Shape.{Shape}
 use Rattle.map_tree.specs.Paths.{Place, node, ssector}

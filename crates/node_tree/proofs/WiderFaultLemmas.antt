@@ -1,5 +1,5 @@
 -- A level's own nodes and the same written wider have the same findings.
-use Rattle.std.proofs.Common.{◌≡◌, ℕ, ◌<◌, ◌↔◌, inl, inr, sym, ◌∙◌, subst, pos, Option, Some, None, length, arith}
+use Rattle.std.proofs.Common.{◌≡◌, ℕ, ◌<◌, inl, inr, sym, ◌∙◌, subst, pos, Option, Some, None, length, arith}
 use Rattle.std.specs.Prelude.{IsSomeAnd}
 use Rattle.std.specs.List.{slice_get}
 use Rattle.std.specs.Option.{option_map}

@@ -1,5 +1,5 @@
 -- A level's own nodes and the same written wider: each word names the same place.
-use Rattle.std.proofs.Common.{◌≡◌, ◌≢◌, ℕ, zero, suc, ◌-◌, ◌<◌, ◌↔◌, inl, inr, refl, sym, ap, ◌∙◌, subst, Bool, true, false, Option, Some, None, IsTrue, List, length, map, arith}
+use Rattle.std.proofs.Common.{◌≡◌, ℕ, zero, suc, ◌-◌, inl, inr, refl, sym, ap, ◌∙◌, subst, Bool, Option, Some, None, IsTrue, List, length, arith}
 use Rattle.std.specs.Prelude.{IsSome, IsSomeAnd, nat_lt, option_and_then, if◌then◌else◌}
 use Rattle.std.specs.List.{slice_get}
 use Rattle.std.specs.Option.{option_map}
@@ -22,7 +22,7 @@ use Rattle.node_lumps.specs.declared.records.LaterNode.{LaterNode}
 use Rattle.node_tree.specs.LaterShape.{child_at, child_in, node_partition, partition_in, place_in, place_named, shape_of}
 use Rattle.node_tree.specs.Laws.{SameLeaf, SoundWider}
 use Rattle.node_tree.specs.Leaf.{IsLeaf}
-use Rattle.node_tree.specs.Shape.{Shape, is_place, root, side_at}
+use Rattle.node_tree.specs.Shape.{is_place, root, side_at}
 use Rattle.node_tree.specs.Sound.{IsNamedOnce, IsSound, IsTree}
 use Rattle.node_tree.specs.Wider.{AreWider, wider_child, wider_node}
 

@@ -1,5 +1,5 @@
 -- The loop that counts child words.
-use Rattle.std.proofs.Common.{◌≡◌, ◌≢◌, ℕ, ◌+◌, ◌<◌, ◌⊎◌, ◌↔◌, inl, inr, refl, sym, ap, ◌∙◌, List, length, Option, Some, None, IsTrue, arith}
+use Rattle.std.proofs.Common.{◌≡◌, ◌≢◌, ℕ, ◌+◌, ◌<◌, ◌⊎◌, ◌↔◌, inl, inr, refl, sym, ap, ◌∙◌, List, length, Some, None, IsTrue, arith}
 use Rattle.std.specs.Prelude.{slice_index, nat_lt}
 use Rattle.std.proofs.lemmas.Bool.{lt-ltb, ltb-true, le-ltb, cond-true, cond-false, cases_lt, cases_eq}
 use Rattle.map_geo.specs.declared.sides.Side.{Side}

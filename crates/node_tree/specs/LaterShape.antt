@@ -1,5 +1,5 @@
 -- The tree of nodes in a later format (P_LoadZNodes and P_LoadNodes_V4 of dsda-doom's p_setup.c).
-use Rattle.std.specs.Prelude.{◌≡◌, ℕ, ◌<◌, List, length, Option, Some, None, IsSome, IsTrue, option_and_then, pos, if◌then◌else◌}
+use Rattle.std.specs.Prelude.{◌≡◌, ℕ, ◌<◌, length, Option, Some, None, IsSome, IsTrue, option_and_then, pos, if◌then◌else◌}
 use Rattle.std.specs.List.{slice_get}
 use Rattle.std.specs.Option.{option_map}
 use Rattle.std.proofs.Common.{refl, subst, sym}

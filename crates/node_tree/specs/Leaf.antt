@@ -1,5 +1,5 @@
 -- The ssector of a point (R_PointInSubsector of r_main.c), and the nodes above an ssector.
-use Rattle.std.specs.Prelude.{◌≡◌, ◌≢◌, ℕ, ◌↔◌, List, [], ◌∷◌, length, AllPairs, Contains, Some}
+use Rattle.std.specs.Prelude.{◌≡◌, ◌≢◌, ℕ, ◌↔◌, List, length, AllPairs, Contains, Some}
 use Rattle.map_geo.specs.declared.sides.Side.{Side}
 use Rattle.map_geo.specs.Point.{Point}
 use Rattle.node_tree.specs.Shape.{Shape}

@@ -1,6 +1,6 @@
 //! The places of a tree, its nodes and ssectors, by their numbers in one row.
 
-ghost use Rattle.std.specs.Prelude.{◌≡◌, ◌<◌, ◌≤◌, ◌^◌, IfSome};
+ghost use Rattle.std.specs.Prelude.{◌≡◌, ◌<◌, ◌^◌, IfSome};
 ghost use Rattle.std.specs.Option.{option_map};
 ghost use Rattle.map_geo.specs.declared.sides.Side.TheVariants.{Front, Back};
 ghost use Rattle.node_tree.specs.Line.{line_partition};

@@ -64,8 +64,8 @@ pub(crate) fn check_leaf(
     check_leaf_of(rt, &nodes, point, expected);
 }
 
-// Checks that findings are these.
-fn check_list<A: Allocator>(rt: &impl Abort, found: &Findings<A>, expected: &[Pair]) {
+/// Checks that findings are these.
+pub(crate) fn check_list<A: Allocator>(rt: &impl Abort, found: &Findings<A>, expected: &[Pair]) {
     check_same(rt, found.len(), expected.len());
     for (i, (code, index)) in expected.iter().enumerate() {
         let finding = Finding {

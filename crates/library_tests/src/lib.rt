@@ -20,6 +20,8 @@ mod in_memory;
 #[cfg(test)]
 mod later_engines;
 #[cfg(test)]
+mod later_findings;
+#[cfg(test)]
 mod later_node_checks;
 #[cfg(test)]
 mod later_nodes;

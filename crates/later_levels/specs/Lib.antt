@@ -1,0 +1,10 @@
+pub mod Findings
+pub mod Laws
+pub mod LaterLevel
+pub mod Left
+pub mod SectorOf
+pub mod SegFaults
+pub mod Sound
+pub mod SsectorFaults
+pub mod TableBounds
+pub mod Wider

@@ -350,7 +350,7 @@ class Level:
 
     def shown(self, x: int, y: int) -> int | None:
         """The sector that a picture of a sound level shows at a point: its leaf's, where
-        no seg of the leaf has the point behind it."""
+        the point is behind the linedef of no seg of the leaf."""
         if not is_in_range(x, y):
             return None
         t = self.leaf(x, y)
@@ -359,7 +359,11 @@ class Level:
         return None if hidden else self.sector_of(t)
 
     def is_behind(self, seg: Seg, x: int, y: int) -> bool:
-        a, b = self.vertexes[seg.v1], self.vertexes[seg.v2]
+        """Whether a point is behind a seg's linedef, which is turned round where the seg's side is 1."""
+        linedef = self.linedefs[seg.linedef]
+        a, b = self.vertexes[linedef.v1], self.vertexes[linedef.v2]
+        if seg.side == 1:
+            a, b = b, a
         return (b.y - a.y) * (x - a.x) - (b.x - a.x) * (y - a.y) < 0
 
 

@@ -4,7 +4,7 @@ use Rattle.std.proofs.lemmas.Bool.{cases_lt}
 use Rattle.std.proofs.lemmas.Int.{ints}
 use Rattle.std.specs.Prelude.{int_lt}
 use Rattle.map_level.specs.Level.{Level}
-use Rattle.map_cells.specs.Ends.{seg_ends}
+use Rattle.map_cells.specs.Ends.{line_ends}
 use Rattle.map_cells.specs.Front.{IsCutBy, IsFrontOf, IsFrontOfRange, IsFrontOfSegs, IsIn, IsOneOf, IsThose}
 use Rattle.map_cells.specs.Row.{Row, point_of}
 use Rattle.map_cells.specs.Shown.{IsBehind, IsSegOf, cross}
@@ -155,7 +155,7 @@ cut_begin ends row span last column wide after to e before here f = record {
 }
 
 -- what the ends of a seg cut away is behind it
-pub front_known : (level : Level) (k : ℕ) (ends : Ends) (row : Row) (span those : Span) → seg_ends level k ≡ Some ends
+pub front_known : (level : Level) (k : ℕ) (ends : Ends) (row : Row) (span those : Span) → line_ends level k ≡ Some ends
     → IsCutBy ends row span those → IsFrontOf level k row span those
 front_known level k ends row span those is cut =
     subst (λ (found : Option Ends). IsThose (λ i. ¬ IsSomeAnd found (λ e. cross e (point_of row i) <ℤ pos 0)) span those) (sym is) cut

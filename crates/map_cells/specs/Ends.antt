@@ -1,6 +1,7 @@
 -- Where the linedefs and segs of a level start and end (maplinedef_t and mapseg_t of doomdata.h).
-use Rattle.std.specs.Prelude.{◌≡◌, ℕ, ◌<◌, ℤ, ◌⊎◌, Option, Some, None, IsSomeAnd, List, length, slice_index_or}
+use Rattle.std.specs.Prelude.{◌≡◌, ℕ, ◌<◌, ℤ, pos, ◌⊎◌, Option, Some, None, IsSomeAnd, if◌then◌else◌, List, length, slice_index_or}
 use Rattle.std.specs.List.{slice_get}
+use Rattle.std.specs.Ordering.{int_eq}
 use Rattle.le_rec.specs.declared.records.Vertex.{Vertex}
 use Rattle.map_level.specs.Level.{Level}
 use Rattle.map_level.specs.Links.{named, ◌>>=◌}
@@ -25,9 +26,21 @@ seg_ends level i = do
   seg ← slice_get level.segs.records i
   ends_named level seg.v1 seg.v2
 
--- a list has the ends of the first of a level's segs
+-- the ends of a linedef in the direction of a seg: exchanged where the seg's side is 1
+abbrev pub along : ℤ → Ends → Ends
+along side ends = if int_eq side (pos 1) then record { from = ends.to; to = ends.from } else ends
+
+-- the ends of the linedef along which a seg runs, in its direction, where both are there
+abbrev pub line_ends : Level → ℕ → Option Ends
+line_ends level i = do
+  seg ← slice_get level.segs.records i
+  linedef ← named level.linedefs.records (number_of level.reading seg.linedef)
+  ends ← ends_named level linedef.v1 linedef.v2
+  Some (along seg.side ends)
+
+-- a list has these ends for the first of a level's segs
 abbrev pub ListsEnds : Level → List (Option Ends) → Type 0
-ListsEnds level list = (i : ℕ) → i < length list → seg_ends level i ≡ slice_index_or list i None
+ListsEnds level list = (i : ℕ) → i < length list → line_ends level i ≡ slice_index_or list i None
 
 -- a vertex is the start or the end
 abbrev pub IsEither : Ends → Vertex → Type 0

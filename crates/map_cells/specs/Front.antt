@@ -18,7 +18,7 @@ pub record IsThose (Holds : ℕ → Type 0) (span those : Span) : Type 0 where
   pub to : those.end ≤ span.end
   pub exact : (i : ℕ) → IsIn span i → IsIn those i ↔ Holds i
 
--- those that aren't behind a seg of two ends, behind a level's seg k, and behind one of ssector t's segs
+-- those that aren't behind a line of two ends, behind a level's seg k, and behind one of ssector t's segs
 abbrev pub IsCutBy : Ends → Row → Span → Span → Type 0
 IsCutBy ends row span those = IsThose (λ i. ¬ (cross ends (point_of row i) <ℤ pos 0)) span those
 

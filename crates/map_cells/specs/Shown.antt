@@ -1,4 +1,4 @@
--- Which sector is shown at a point (ours): that of its leaf, but not behind the leaf's segs, which cut the void away.
+-- Which sector is shown at a point (ours): that of its leaf, but not behind the linedefs of the leaf's segs, which cut the void away.
 use Rattle.std.specs.Prelude.{◌≡◌, ℕ, ℤ, pos, ◌+ℤ◌, ◌-ℤ◌, ◌*ℤ◌, ◌≤ℤ◌, ◌<ℤ◌, Some, IsSomeAnd}
 use Rattle.std.specs.List.{slice_get}
 use Rattle.map_geo.specs.Point.{Point, IsInRange, point_at}
@@ -6,7 +6,7 @@ use Rattle.map_level.specs.Level.{Level}
 use Rattle.map_level.specs.Reading.{number_of}
 use Rattle.map_level.specs.SectorOf.{sector_of}
 use Rattle.map_tree.specs.Leaf.{IsLeaf}
-use Rattle.map_cells.specs.Ends.{seg_ends}
+use Rattle.map_cells.specs.Ends.{line_ends}
 use Rattle.map_cells.specs.declared.ends.Ends.{Ends}
 
 -- below 0 where the point is on the left of the way from start to end, behind it as R_PointOnSide of r_main.c has it
@@ -14,9 +14,9 @@ abbrev pub cross : Ends → Point → ℤ
 cross ends point =
     (ends.to.y -ℤ ends.from.y) *ℤ (point.x -ℤ ends.from.x) -ℤ (ends.to.x -ℤ ends.from.x) *ℤ (point.y -ℤ ends.from.y)
 
--- the point is behind a seg whose two ends are there
+-- the point is behind a seg: behind the linedef along which the seg runs, in the direction of the seg
 abbrev pub IsBehind : Level → ℕ → Point → Type 0
-IsBehind level i point = IsSomeAnd (seg_ends level i) (λ ends. cross ends point <ℤ pos 0)
+IsBehind level i point = IsSomeAnd (line_ends level i) (λ ends. cross ends point <ℤ pos 0)
 
 -- i is one of so many numbers from the first on
 abbrev pub IsFromOn : ℤ → ℤ → ℕ → Type 0

@@ -1,13 +1,13 @@
 //! The columns of a row that are in front of an ssector's segs.
 
 ghost use Rattle.std.specs.Prelude.{◌≡◌, ◌+◌, ◌<◌, ◌≤◌, length, pos, int_lt};
-ghost use Rattle.map_cells.specs.Ends.{ListsEnds, seg_ends};
+ghost use Rattle.map_cells.specs.Ends.{ListsEnds, line_ends};
 ghost use Rattle.map_cells.specs.Grid.{columns_of};
 ghost use Rattle.map_cells.specs.Shown.{cross};
 ghost use Rattle.map_cells.specs.Front.{IsCutBy, IsFrontOf, IsFrontOfRange, IsFrontOfSegs};
 
 use crate::change::{ColumnTest, change};
-use crate::ends::{Ends, seg_ends};
+use crate::ends::{Ends, line_ends};
 use crate::row::Row;
 use crate::shown::{SegRange, cross, is_before_segs, segs_of};
 use map_geo::Point;
@@ -94,7 +94,7 @@ fn front_of_others(level: &Level<'_>, segs: SegRange, row: Row, span: Span) -> S
         if left.first == left.end {
             return left;
         }
-        left = front_of_seg(level, i, seg_ends(level, i), row, left);
+        left = front_of_seg(level, i, line_ends(level, i), row, left);
     }
     left
 }
@@ -102,7 +102,7 @@ fn front_of_others(level: &Level<'_>, segs: SegRange, row: Row, span: Span) -> S
 // The columns that aren't behind the seg of a number, with these ends.
 #[inline]
 fn front_of_seg(level: &Level<'_>, i: usize, ends: Option<Ends>, row: Row, span: Span) -> Span
-    requires ends { seg_ends level.now i ≡ ends }
+    requires ends { line_ends level.now i ≡ ends }
     requires some { span.first < span.end }
     requires within { span.end ≤ columns_of row.grid }
     ensures { IsFrontOf level.now i row span result }

@@ -21,7 +21,7 @@ mod way;
 pub use block::Block;
 pub use cell_count::CellCount;
 pub use cells::Cells;
-pub use ends::{Ends, linedef_ends, seg_ends};
+pub use ends::{Ends, line_ends, linedef_ends, seg_ends};
 pub use frame::Frame;
 pub use grid::Grid;
 pub use groups::Groups;

@@ -8,7 +8,7 @@ ghost use Rattle.map_tree.specs.SectorList.{ListsSectors};
 ghost use Rattle.map_tree.specs.Sound.{IsSound};
 ghost use Rattle.map_cells.specs.Shown.{cross, IsBehind, IsFromOn, IsSegOf, IsShown};
 
-use crate::ends::{Ends, seg_ends};
+use crate::ends::{Ends, line_ends};
 use map_geo::Point;
 use map_level::{Level, number};
 use map_tree::{SectorTree, Tree};
@@ -65,7 +65,7 @@ impl<'l, 'a, A: Allocator> Shown<'l, 'a, A> {
     }
 
     /// The sector that is shown at the point (x, y): where both coordinates are in -16384..16383 that of the point's ssector, unless
-    /// the point is behind one of the ssector's segs. None elsewhere.
+    /// the point is behind the linedef of one of the ssector's segs. None elsewhere.
     #[inline(always)]
     pub fn at(&self, x: i32, y: i32) -> Option<u16>
         ensures sector { (s : ℕ) → (result ≡ Some s) ↔ IsShown self.now x y s }
@@ -133,12 +133,12 @@ fn index_of(level: &Level<'_>, word: &i16) -> i32
     number(*word, level.reading())
 }
 
-// Whether the point is behind the seg of a number.
+// Whether the point is behind the seg of a number, by the linedef along which that runs.
 #[inline]
 fn is_behind(level: &Level<'_>, i: usize, point: Point) -> bool
     ensures { IsTrue result ↔ IsBehind level.now i point }
 {
-    match seg_ends(level, i) {
+    match line_ends(level, i) {
         Some(ends) => cross(&ends, point) < 0,
         None => false,
     }

@@ -1,5 +1,5 @@
 -- A level as contracts see it (P_SetupLevel of p_setup.c).
-use Rattle.std.specs.Prelude.{ℕ, ◌-◌, ◌<◌, ◌^◌, List, [], length, slice_index_or, All}
+use Rattle.std.specs.Prelude.{ℕ, ◌-◌, ◌*◌, ◌<◌, ◌^◌, List, [], length, slice_index_or, slice_set, take, All}
 use Rattle.le_rec.specs.Record.{thing, linedef, sidedef, vertex, seg, ssector, node, sector}
 use Rattle.le_rec.specs.Table.{Rows, rows_of}
 use Rattle.le_rec.specs.declared.records.Thing.{Thing}
@@ -51,6 +51,25 @@ level_of label reading names lumps = record {
   reject = lump_of lumps 9;
   blockmap = lump_of lumps 10;
 }
+
+-- a table of these records, with nothing left over
+abbrev pub rows_alone : {R : Type 0} → List R → Rows R
+rows_alone records = record { records = records; rest = 0 }
+
+-- what a level has besides its nodes, where these stand in a later format: the first so many vertexes, with which they go,
+-- and no segs, ssectors and nodes; of these four lumps nothing is left over (P_LoadZNodes of dsda-doom's p_setup.c)
+abbrev pub bare_of : Level → ℕ → Level
+bare_of level count = record level {
+  vertexes = rows_alone (take count level.vertexes.records);
+  segs = rows_alone [];
+  ssectors = rows_alone [];
+  nodes = rows_alone [];
+}
+
+-- the lumps of such a level: four bytes of VERTEXES a vertex, and none of SEGS, SSECTORS and NODES
+abbrev pub bare_lumps_of : List (List ℕ) → ℕ → List (List ℕ)
+bare_lumps_of lumps count =
+    slice_set (slice_set (slice_set (slice_set lumps 3 (take (4 * count) (lump_of lumps 4))) 4 []) 5 []) 6 []
 
 -- lumps of fewer than 2 to the 31 bytes each, since a size has 31 bits
 abbrev pub AreShort : List (List ℕ) → Type 0

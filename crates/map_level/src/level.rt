@@ -4,6 +4,7 @@ ghost use Rattle.std.specs.Prelude.{◌≡◌, ◌+◌, ◌<◌, ◌≤◌, ◌^
 ghost use Rattle.std.specs.Prelude.{Some};
 ghost use Rattle.std.specs.List.{slice_get};
 ghost use Rattle.wad_dir.specs.Entries.{joined};
+ghost use Rattle.map_level.specs.Level.{bare_of};
 
 use crate::reading::Reading;
 use le_rec::{LineDef, Name8, Node, Record, SSector, Sector, Seg, SideDef, Table, Thing, Vertex};
@@ -98,6 +99,20 @@ impl<'a> Level<'a> {
         ensures { result ≡ self.now.reading }
     {
         self.reading
+    }
+
+    /// What the level has besides its nodes, where these stand in a later format: the first so many of its vertexes, and
+    /// neither segs nor ssectors nor nodes. Of these four lumps nothing is left over.
+    pub fn bare(&self, vertexes: usize) -> Level<'a>
+        requires { vertexes ≤ length self.now.vertexes.records }
+        ensures { result ≡ bare_of self.now vertexes }
+    {
+        Level {
+            label: self.label,
+            reading: self.reading,
+            names: self.names,
+            lumps: bare_lumps(&self.lumps, vertexes).bytes,
+        }
     }
 
     /// The number of the label's entry.
@@ -212,10 +227,29 @@ struct Lumps<'a> {
     bytes: [&'a [u8]; 10],
 }
 
-ghost use Rattle.map_level.specs.Level.{AreShort};
+ghost use Rattle.map_level.specs.Level.{AreShort, bare_lumps_of, lump_of};
 ghost use Rattle.le_rec.specs.Layout.{read_by};
 ghost use Rattle.le_rec.specs.Table.{rows_of};
 ghost use Rattle.map_level.specs.Opening.{AreLumps, AreNames, RefusesLevelAt};
+
+// The bytes of a record of `VERTEXES`.
+const VERTEX_SIZE: usize = 4;
+
+// Ten lumps without segs, ssectors and nodes, and with so many vertexes, which are there.
+fn bare_lumps<'a>(lumps: &[&'a [u8]; 10], vertexes: usize) -> Lumps<'a>
+    requires short { AreShort (map (λ lump. lump.now) lumps.now) }
+    requires there { 4 * vertexes ≤ length (lump_of (map (λ lump. lump.now) lumps.now) 4) }
+    ensures bytes { map (λ lump. lump.now) result.bytes ≡ bare_lumps_of (map (λ lump. lump.now) lumps.now) vertexes }
+    ensures short { AreShort (map (λ lump. lump.now) result.bytes) }
+{
+    let mut bytes = *lumps;
+    let kept = bytes[3];
+    bytes[3] = &kept[..VERTEX_SIZE * vertexes];
+    bytes[4] = &[];
+    bytes[5] = &[];
+    bytes[6] = &[];
+    Lumps { bytes }
+}
 
 // The lumps of the ten entries after a label, or the first that isn't there.
 fn lumps_after<'a, A: Allocator>(set: &Set<'a, A>, label: usize) -> Result<Lumps<'a>, LevelFault>

@@ -5,3 +5,4 @@ pub mod LinkedLemmas
 pub mod OneListLemmas
 pub mod OpeningLemmas
 pub mod BoundLemmas
+pub mod BareLemmas

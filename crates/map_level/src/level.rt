@@ -1,6 +1,6 @@
 //! A level: a label and the ten lumps after it.
 
-ghost use Rattle.std.specs.Prelude.{◌≡◌, ◌+◌, ◌<◌, ◌≤◌, ◌^◌, ◌↔◌, length, map, Ok, Err, IfOk, IfErr, OnOk};
+ghost use Rattle.std.specs.Prelude.{◌≡◌, ◌+◌, ◌*◌, ◌<◌, ◌≤◌, ◌^◌, ◌↔◌, length, map, Ok, Err, IfOk, IfErr, OnOk};
 ghost use Rattle.std.specs.Prelude.{Some};
 ghost use Rattle.std.specs.List.{slice_get};
 ghost use Rattle.wad_dir.specs.Entries.{joined};
@@ -237,9 +237,11 @@ const VERTEX_SIZE: usize = 4;
 
 // Ten lumps without segs, ssectors and nodes, and with so many vertexes, which are there.
 fn bare_lumps<'a>(lumps: &[&'a [u8]; 10], vertexes: usize) -> Lumps<'a>
+    requires ten { length lumps.now ≡ 10 }
     requires short { AreShort (map (λ lump. lump.now) lumps.now) }
     requires there { 4 * vertexes ≤ length (lump_of (map (λ lump. lump.now) lumps.now) 4) }
     ensures bytes { map (λ lump. lump.now) result.bytes ≡ bare_lumps_of (map (λ lump. lump.now) lumps.now) vertexes }
+    ensures ten { length result.bytes ≡ 10 }
     ensures short { AreShort (map (λ lump. lump.now) result.bytes) }
 {
     let mut bytes = *lumps;

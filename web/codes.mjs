@@ -475,8 +475,8 @@ const EXPLANATIONS = {
     text: 'limit of the game passed',
     parts: [
       'The level has more of something than the game has room for, or a texture of its files lacks a patch.',
-      "The game writes where nothing of its own is (P_SpawnSpecials), ends with an error (P_AddActivePlat, G_DoSaveGame), doesn't use what is too much (P_SpawnMapThing), or doesn't start (R_InitTextures).",
-      'Take away what is too much, or put it into another level.',
+      "The game writes past the end of its list, over memory of its own (P_SpawnSpecials), ends with an error (P_AddActivePlat, G_DoSaveGame), doesn't use what is too much (P_SpawnMapThing), or doesn't start (R_InitTextures).",
+      'Take away what is too much, or put it into another level. Give the texture patches that the files have.',
     ],
   },
   W23: {
@@ -499,7 +499,7 @@ const EXPLANATIONS = {
     text: 'flat not between its ends',
     parts: [
       "A sector's flat isn't between F_START and F_END, the last of each.",
-      'The game gives numbers to the flats between these two (R_InitFlats). The number of another one is outside its table, and the game writes there as it loads the level (R_PrecacheLevel).',
+      'The game gives numbers to the flats between these two (R_InitFlats). The number of another one is outside its table. The game writes there as it loads the level (R_PrecacheLevel). It reads there as it draws the flat (R_DrawPlanes), and mostly ends.',
       'Put the flats that are needed between one F_START and one F_END.',
     ],
   },

@@ -233,8 +233,8 @@ explanation_table =
     (codes "Delete the thing, or give it a skill. Place a thing of type 87 in each skill of" ∷ codes "the shooter." ∷ [])
     ∷ explained
     (codes "The level has more of something than the game has room for, or a texture of its" ∷ codes "files lacks a patch." ∷ [])
-    (codes "The game writes where nothing of its own is (P_SpawnSpecials), ends with an" ∷ codes "error (P_AddActivePlat, G_DoSaveGame), doesn't use what is too much" ∷ codes "(P_SpawnMapThing), or doesn't start (R_InitTextures)." ∷ [])
-    (codes "Take away what is too much, or put it into another level." ∷ [])
+    (codes "The game writes past the end of its list, over memory of its own" ∷ codes "(P_SpawnSpecials), ends with an error (P_AddActivePlat, G_DoSaveGame), doesn't" ∷ codes "use what is too much (P_SpawnMapThing), or doesn't start (R_InitTextures)." ∷ [])
+    (codes "Take away what is too much, or put it into another level. Give the texture" ∷ codes "patches that the files have." ∷ [])
     ∷ explained
     (codes "This number is kept for a later version, and no level is looked at for it." ∷ [])
     (codes "Nothing is told under it." ∷ [])
@@ -245,7 +245,7 @@ explanation_table =
     (codes "Nothing has to be done." ∷ [])
     ∷ explained
     (codes "A sector's flat isn't between F_START and F_END, the last of each." ∷ [])
-    (codes "The game gives numbers to the flats between these two (R_InitFlats). The number" ∷ codes "of another one is outside its table, and the game writes there as it loads the" ∷ codes "level (R_PrecacheLevel)." ∷ [])
+    (codes "The game gives numbers to the flats between these two (R_InitFlats). The number" ∷ codes "of another one is outside its table. The game writes there as it loads the" ∷ codes "level (R_PrecacheLevel). It reads there as it draws the flat (R_DrawPlanes), and" ∷ codes "mostly ends." ∷ [])
     (codes "Put the flats that are needed between one F_START and one F_END." ∷ [])
     ∷ []
 

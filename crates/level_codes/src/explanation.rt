@@ -419,10 +419,11 @@ const EXPLANATIONS: [Explanation; REPORT_COUNT] = [
     explained! { W22,
         b"The level has more of something than the game has room for, or a texture of its\n\
           files lacks a patch.\n",
-        b"The game writes where nothing of its own is (P_SpawnSpecials), ends with an\n\
-          error (P_AddActivePlat, G_DoSaveGame), doesn't use what is too much\n\
-          (P_SpawnMapThing), or doesn't start (R_InitTextures).\n",
-        b"Take away what is too much, or put it into another level.\n",
+        b"The game writes past the end of its list, over memory of its own\n\
+          (P_SpawnSpecials), ends with an error (P_AddActivePlat, G_DoSaveGame), doesn't\n\
+          use what is too much (P_SpawnMapThing), or doesn't start (R_InitTextures).\n",
+        b"Take away what is too much, or put it into another level. Give the texture\n\
+          patches that the files have.\n",
     },
     explained! { W23,
         b"This number is kept for a later version, and no level is looked at for it.\n",
@@ -437,8 +438,9 @@ const EXPLANATIONS: [Explanation; REPORT_COUNT] = [
     explained! { W25,
         b"A sector's flat isn't between F_START and F_END, the last of each.\n",
         b"The game gives numbers to the flats between these two (R_InitFlats). The number\n\
-          of another one is outside its table, and the game writes there as it loads the\n\
-          level (R_PrecacheLevel).\n",
+          of another one is outside its table. The game writes there as it loads the\n\
+          level (R_PrecacheLevel). It reads there as it draws the flat (R_DrawPlanes), and\n\
+          mostly ends.\n",
         b"Put the flats that are needed between one F_START and one F_END.\n",
     },
 ];

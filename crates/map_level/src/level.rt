@@ -107,11 +107,12 @@ impl<'a> Level<'a> {
         requires { vertexes ≤ length self.now.vertexes.records }
         ensures { result ≡ bare_of self.now vertexes }
     {
+        let Lumps { bytes: lumps } = bare_lumps(&self.lumps, vertexes);
         Level {
             label: self.label,
             reading: self.reading,
             names: self.names,
-            lumps: bare_lumps(&self.lumps, vertexes).bytes,
+            lumps,
         }
     }
 

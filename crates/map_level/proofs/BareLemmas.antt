@@ -1,16 +1,15 @@
 -- A level without its nodes is that of lumps that were cut.
-use Rattle.std.proofs.Common.{◌≡◌, ◌≢◌, ℕ, zero, suc, ◌+◌, ◌*◌, ◌/◌, ◌%◌, ◌<◌, ◌≤◌, List, [], ◌∷◌, length, get_or, take, drop, map, refl, sym, ap, ◌∙◌, arith}
+use Rattle.std.proofs.Common.{◌≡◌, ℕ, zero, suc, ◌+◌, ◌*◌, ◌/◌, ◌%◌, ◌<◌, ◌≤◌, List, length, take, drop, map, refl, sym, ap, ◌∙◌, arith}
 use Rattle.std.specs.List.{range_with_len}
 use Rattle.std.proofs.Math.Nat.{mul-div_cancel_left, mul-mod_right}
 use Rattle.std.proofs.lemmas.Nat.{le-div}
-use Rattle.std.specs.Prelude.{slice_set}
-use Rattle.std.proofs.lemmas.List.{drop-take, get_or-set_other, get_or-set_same, length-take-le, take-take}
-use Rattle.std.proofs.lemmas.List.FromFn.{take-map-range_with_len}
+use Rattle.std.proofs.lemmas.List.{drop-take, length-take-le, take-take}
+use Rattle.std.proofs.lemmas.List.FromFn.{length-map-range_with_len, take-map-range_with_len}
 use Rattle.le_rec.specs.Table.{Rows, piece, records_of, rows_of}
 use Rattle.le_rec.specs.Record.{vertex}
 use Rattle.le_rec.specs.declared.records.Vertex.{Vertex}
 use Rattle.std.proofs.Math.Nat.{div-mul-le_self}
-use Rattle.map_level.specs.Level.{Level, bare_lumps_of, bare_of, level_of, lump_of, rows_alone}
+use Rattle.map_level.specs.Level.{bare_lumps_of, bare_of, level_of, lump_of, rows_alone}
 use Rattle.map_level.specs.declared.reading.Reading.{Reading}
 
 -- functions that agree at some numbers give the same list of them
@@ -62,67 +61,19 @@ rows_of-take size count read bytes some there =
     (count_below size count (length bytes) some there) in
     rw (many, rest) (ap rows_alone (kept ∙ sym first))
 
--- what is told of ten lumps is told of ten that are the same
-same_ten : {Z : Type 0} (f : List ℕ → List ℕ → List ℕ → List ℕ → List ℕ → List ℕ → List ℕ → List ℕ → List ℕ → List ℕ → Z)
-    (a b c d e f' g h i j a' b' c' d' e' f'' g' h' i' j' : List ℕ) → a ≡ a' → b ≡ b' → c ≡ c' → d ≡ d' → e ≡ e' → f' ≡ f'' → g ≡ g' → h ≡ h' → i ≡ i'
-    → j ≡ j' → f a b c d e f' g h i j ≡ f a' b' c' d' e' f'' g' h' i' j'
-same_ten f a b c d e f' g h i j a' b' c' d' e' f'' g' h' i' j' p q r s t u v w x y = rw (p, q, r, s, t, u, v, w, x, y) refl
+-- vertexes that are there have their bytes there
+pub vertex_bytes : (bytes : List ℕ) (count : ℕ) → count ≤ length (records_of 4 vertex bytes) → 4 * count ≤ length bytes
+vertex_bytes bytes count there =
+    omega (
+      arith,
+      there,
+      length-map-range_with_len (λ i. vertex (piece 4 bytes i)) 0 (length bytes / 4),
+      div-mul-le_self (length bytes) 4,
+    )
 
--- the level of ten lumps
-abbrev level_by : ℕ → Reading → List (List ℕ) → List ℕ → List ℕ → List ℕ → List ℕ → List ℕ → List ℕ → List ℕ → List ℕ → List ℕ → List ℕ → Level
-level_by label reading names a b c d e f g h i j = level_of label reading names (a ∷ b ∷ c ∷ d ∷ e ∷ f ∷ g ∷ h ∷ i ∷ j ∷ [])
-
-module _ (lumps : List (List ℕ)) (count : ℕ) (ten : length lumps ≡ 10) where
-  -- the lumps that stay
-  stays : (i : ℕ) → i ≢ 3 → i ≢ 4 → i ≢ 5 → i ≢ 6 → get_or (bare_lumps_of lumps count) i [] ≡ get_or lumps i []
-  stays i a b c d =
-      get_or-set_other (slice_set (slice_set (slice_set lumps 3 (take (4 * count) (lump_of lumps 4))) 4 []) 5 []) 6 i [] [] d
-      ∙ get_or-set_other (slice_set (slice_set lumps 3 (take (4 * count) (lump_of lumps 4))) 4 []) 5 i [] [] c
-      ∙ get_or-set_other (slice_set lumps 3 (take (4 * count) (lump_of lumps 4))) 4 i [] [] b
-      ∙ get_or-set_other lumps 3 i (take (4 * count) (lump_of lumps 4)) [] a
-
-  -- the four that are cut
-  cut_vertexes : get_or (bare_lumps_of lumps count) 3 [] ≡ take (4 * count) (lump_of lumps 4)
-  cut_vertexes =
-      get_or-set_other (slice_set (slice_set (slice_set lumps 3 (take (4 * count) (lump_of lumps 4))) 4 []) 5 []) 6 3 [] [] (omega arith)
-      ∙ get_or-set_other (slice_set (slice_set lumps 3 (take (4 * count) (lump_of lumps 4))) 4 []) 5 3 [] [] (omega arith)
-      ∙ get_or-set_other (slice_set lumps 3 (take (4 * count) (lump_of lumps 4))) 4 3 [] [] (omega arith)
-      ∙ get_or-set_same lumps 3 (take (4 * count) (lump_of lumps 4)) [] (omega (arith, ten))
-
-  -- a list whose element was emptied has nothing there, however long it is
-  emptied : (xs : List (List ℕ)) (i : ℕ) → get_or (slice_set xs i []) i [] ≡ []
-  emptied [] zero = refl
-  emptied [] (suc i) = refl
-  emptied (x ∷ xs) zero = refl
-  emptied (x ∷ xs) (suc i) = emptied xs i
-
-  cut_segs : get_or (bare_lumps_of lumps count) 4 [] ≡ []
-  cut_segs =
-      get_or-set_other (slice_set (slice_set (slice_set lumps 3 (take (4 * count) (lump_of lumps 4))) 4 []) 5 []) 6 4 [] [] (omega arith)
-      ∙ get_or-set_other (slice_set (slice_set lumps 3 (take (4 * count) (lump_of lumps 4))) 4 []) 5 4 [] [] (omega arith)
-      ∙ emptied (slice_set lumps 3 (take (4 * count) (lump_of lumps 4))) 4
-
-  cut_ssectors : get_or (bare_lumps_of lumps count) 5 [] ≡ []
-  cut_ssectors =
-      get_or-set_other (slice_set (slice_set (slice_set lumps 3 (take (4 * count) (lump_of lumps 4))) 4 []) 5 []) 6 5 [] [] (omega arith)
-      ∙ emptied (slice_set (slice_set lumps 3 (take (4 * count) (lump_of lumps 4))) 4 []) 5
-
-  cut_nodes : get_or (bare_lumps_of lumps count) 6 [] ≡ []
-  cut_nodes = emptied (slice_set (slice_set (slice_set lumps 3 (take (4 * count) (lump_of lumps 4))) 4 []) 5 []) 6
-
-  -- the level of lumps that were cut
-  pub bare_is : (label : ℕ) (reading : Reading) (names : List (List ℕ)) → count ≤ length (lump_of lumps 4) / 4
-      → level_of label reading names (bare_lumps_of lumps count) ≡ bare_of (level_of label reading names lumps) count
-  bare_is label reading names there =
-      let kept : 4 * count ≤ length (lump_of lumps 4) = omega (arith, there, div-mul-le_self (length (lump_of lumps 4)) 4) in
-      same_ten (level_by label reading names) _ _ _ _ _ _ _ _ _ _ (lump_of lumps 1) (lump_of lumps 2) (lump_of lumps 3)
-      (take (4 * count) (lump_of lumps 4)) [] [] [] (lump_of lumps 8) (lump_of lumps 9) (lump_of lumps 10)
-      (stays 0 (omega arith) (omega arith) (omega arith) (omega arith))
-      (stays 1 (omega arith) (omega arith) (omega arith) (omega arith))
-      (stays 2 (omega arith) (omega arith) (omega arith) (omega arith))
-      cut_vertexes cut_segs cut_ssectors cut_nodes
-      (stays 7 (omega arith) (omega arith) (omega arith) (omega arith))
-      (stays 8 (omega arith) (omega arith) (omega arith) (omega arith))
-      (stays 9 (omega arith) (omega arith) (omega arith) (omega arith))
-      ∙ ap (λ (rows : Rows Vertex). record (bare_of (level_of label reading names lumps) count) { vertexes = rows })
-      (rows_of-take 4 count vertex (lump_of lumps 4) (omega arith) kept)
+-- the level of lumps that were cut
+pub bare_is : (label : ℕ) (reading : Reading) (names : List (List ℕ)) (lumps : List (List ℕ)) (count : ℕ) → 4 * count ≤ length (lump_of lumps 4)
+    → level_of label reading names (bare_lumps_of lumps count) ≡ bare_of (level_of label reading names lumps) count
+bare_is label reading names lumps count there =
+    ap (λ (rows : Rows Vertex). record (bare_of (level_of label reading names lumps) count) { vertexes = rows })
+    (rows_of-take 4 count vertex (lump_of lumps 4) (omega arith) there)

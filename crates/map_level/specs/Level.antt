@@ -1,5 +1,5 @@
 -- A level as contracts see it (P_SetupLevel of p_setup.c).
-use Rattle.std.specs.Prelude.{ℕ, ◌-◌, ◌*◌, ◌<◌, ◌^◌, List, [], length, slice_index_or, slice_set, take, All}
+use Rattle.std.specs.Prelude.{ℕ, ◌-◌, ◌*◌, ◌<◌, ◌^◌, List, [], ◌∷◌, length, slice_index_or, take, All}
 use Rattle.le_rec.specs.Record.{thing, linedef, sidedef, vertex, seg, ssector, node, sector}
 use Rattle.le_rec.specs.Table.{Rows, rows_of}
 use Rattle.le_rec.specs.declared.records.Thing.{Thing}
@@ -66,10 +66,11 @@ bare_of level count = record level {
   nodes = rows_alone [];
 }
 
--- the lumps of such a level: four bytes of VERTEXES a vertex, and none of SEGS, SSECTORS and NODES
+-- the ten lumps of such a level: of VERTEXES four bytes a vertex, and nothing of SEGS, SSECTORS and NODES
 abbrev pub bare_lumps_of : List (List ℕ) → ℕ → List (List ℕ)
 bare_lumps_of lumps count =
-    slice_set (slice_set (slice_set (slice_set lumps 3 (take (4 * count) (lump_of lumps 4))) 4 []) 5 []) 6 []
+    lump_of lumps 1 ∷ lump_of lumps 2 ∷ lump_of lumps 3 ∷ take (4 * count) (lump_of lumps 4) ∷ [] ∷ [] ∷ []
+    ∷ lump_of lumps 8 ∷ lump_of lumps 9 ∷ lump_of lumps 10 ∷ []
 
 -- lumps of fewer than 2 to the 31 bytes each, since a size has 31 bits
 abbrev pub AreShort : List (List ℕ) → Type 0

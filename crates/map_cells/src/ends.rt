@@ -46,15 +46,15 @@ pub fn line_ends(level: &Level<'_>, i: usize) -> Option<Ends>
     let seg = level.segs().get(i)?;
     let linedef = linedef_named(level, &seg.linedef)?;
     let ends = ends_named(level, &linedef.v1, &linedef.v2)?;
-    Some(along(seg.side, ends))
+    Some(along(&seg.side, ends))
 }
 
 // The ends of a linedef in the direction of a seg at that side of it.
 #[inline(always)]
-fn along(side: i16, ends: Ends) -> Ends
-    ensures { result ≡ along side ends }
+fn along(side: &i16, ends: Ends) -> Ends
+    ensures { result ≡ along side.now ends }
 {
-    if side == 1 {
+    if *side == 1 {
         Ends {
             from: ends.to,
             to: ends.from,

@@ -357,7 +357,9 @@ cases_of_warnings() {
     warns 'a closed room' '' 0 "${closed[@]}"
     warns 'W1, W7, W8 and W19 of the sample' \
         "$(two "$w1" 'W7 level: no player 2 start' 'W8 level: 0 deathmatch starts' 'W19 level: no exit')" 7
-    warns 'W1, of a linedef turned round' "$(two "W1 sector 0: isn't closed, at (0, 64)" "W1 sector 0: isn't closed, at (64, 64)")" 2 \
+    # Its seg still has side 0, so all things lie behind the linedef.
+    warns 'W1 and W3, of a linedef turned round' "$(two "W1 sector 0: isn't closed, at (0, 64)" "W1 sector 0: isn't closed, at (64, 64)" \
+        "$(for thing in {0..7}; do echo "W3 thing $thing: stands in the void, at (32, 32)"; done)")" 10 \
         "${closed[@]}" LINEDEFS "$(words 0 1 1 0 0 0 -1 2 1 1 0 0 1 -1 2 3 1 11 0 2 -1 3 0 1 0 0 3 -1)"
     notes=('N5 linedef 4: without length, from (64, 64) to (64, 64)')
     warns 'W1, of a linedef from a vertex to itself: none' '' 0 "${closed[@]}" \

@@ -71,6 +71,7 @@ export class LevelView {
     this.asked = null;
     /** @type {Asked | null} the level that was shown last, also where none is shown now */
     this.last = null;
+    this.isLacking = false; // whether something of it was stopped or couldn't be read: it's asked for anew where it's chosen again
     /** @type {Level | null} */
     this.level = null;
     /** @type {Uint8Array | null} the picture's text */
@@ -161,6 +162,7 @@ export class LevelView {
    */
   clear(why) {
     this.kept ??= this.level ? this.#inView() : null;
+    this.isLacking = !!why;
     this.level = null;
     this.svg = null;
     this.ends = undefined;
@@ -170,7 +172,7 @@ export class LevelView {
     this.unpin();
     this.#legend('found', false);
     this.map.show(null);
-    for (const name of ['drawn', 'sketched', 'fine', 'paths']) delete get('map').dataset[name];
+    for (const name of ['drawn', 'asked', 'sketched', 'fine', 'paths']) delete get('map').dataset[name];
     get('map').setAttribute('aria-label', 'Map');
     this.#none(why);
     get('counts').replaceChildren();
@@ -215,6 +217,7 @@ export class LevelView {
       .catch((error) => ({ why: whyNot(error) })); // the findings stay
     if (this.asked !== asked) return;
     this.svg = svg ?? null;
+    this.isLacking = !svg;
     get('save-svg').toggleAttribute('disabled', !svg);
     this.#none(why ?? '');
     this.map.show(picture ?? null, kept?.view);
@@ -406,6 +409,7 @@ export class LevelView {
     if (this.asked !== asked) return;
     this.map.linedefs = linedefs;
     this.record.take(lumps);
+    this.isLacking ||= !lumps;
     get('map').dataset.asked = asked.name; // for the tests
     if (!this.unshown) return;
     await this.#showOf(this.unshown);

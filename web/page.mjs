@@ -415,9 +415,9 @@ function tellNone(f, count, listed) {
   told.replaceChildren(why, ...(isUnjudged ? [goOn] : []));
 }
 
-/** @param {number} k */
+/** Shows a level; one that is shown already, or about to be, stays as it is. @param {number} k */
 function chooseLevel(k) {
-  if (!state.file) return;
+  if (!state.file || (state.file === state.of && k === state.shown && !view.isLacking)) return;
   state.of = state.file;
   state.shown = k;
   state.name = levelOf(state.of, k).level;

@@ -1,6 +1,6 @@
 // The cases of the page for those who see little, use keys, or hold a phone.
 import {
-  FINDING, browser, check, drawn, drawnAnew, dropRooms, fresh, hasInk, judged, pick, pinBy, pointTold, textOf, viewOf, written,
+  FINDING, browser, check, drawn, drawnAnew, dropRooms, fresh, hasInk, judged, pick, pinBy, pointTold, textOf, viewOf, withhold, written,
 } from './person.mjs';
 import { rooms, twoOverlooked, wad } from './wads.mjs';
 
@@ -94,8 +94,11 @@ export async function keysAlone() {
   await browser.key('ArrowDown');
   await drawn('MAP02');
   check('an arrow shows the next level, and the list of them stays', await at(), ['levels', 'levels']);
+  await withhold('look');
   await browser.key('Enter');
   check('Enter leads to the map', await at(), ['map', 'map']);
+  check('which is there, and not drawn anew', await browser.run("document.querySelector('#map').dataset.drawn"), 'MAP02');
+  await browser.run('free()');
   await browser.until("document.querySelector('#map').dataset.asked === 'MAP02'", 'its records');
   await show('notes');
   await browser.run("document.querySelector('#findings').focus()");

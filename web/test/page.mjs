@@ -15,9 +15,9 @@ import { offlines, unserved } from './page_offline.mjs';
 import { savedPictures } from './page_saved.mjs';
 import { unjudged } from './page_unjudged.mjs';
 import {
-  FINDING, browser, built, check, codes, drawn, drawnAnew, dropRooms, filterBy, found, fresh, hasInk, isHidden, isNative, judged, legend, options,
-  pick, pictures, pinAt, pinBy, placeOf, pointTold, printed, programs, room, roomsFile, root, saved, server, textOf, textsOf, twoRooms, valueOf,
-  viewOf, withhold, withoutHandles, written,
+  FINDING, answerLate, askable, browser, built, check, codes, comes, drawn, drawnAnew, dropRooms, filterBy, found, fresh, hasInk, inkComes, isHidden, isNative,
+  judged, legend, listen, marked, options, pick, pictures, pinAt, pinBy, placeOf, pointTold, printed, programs, room, roomsFile, root, saved, server,
+  textOf, textsOf, twoRooms, valueOf, viewOf, withhold, withoutHandles, written,
 } from './person.mjs';
 import { addUp, fail, skipped } from '../../tests/harness.mjs';
 import { pythonHost, runProgram, serve } from './server.mjs';
@@ -91,6 +91,7 @@ const groundOfRooms = async () => {
 };
 
 async function picture() {
+  await askable('MAP01');
   check('as many paths as the picture has', await browser.run("document.querySelector('#map').dataset.paths"), '4'); // two sectors, one-sided, two-sided
   await browser.mouse('mouseMoved', ...await placeOf(130, 100));
   check('what lies under the pointer', await textOf('#under'), 'sector 0 · floor 0 FLOOR0_1 · ceiling 128 CEIL1_1 · light 160 · special 0 · tag 0');
@@ -126,7 +127,7 @@ async function point() {
   await browser.press('#unpin');
   check('unpinned', await isHidden('#point'), true);
   await browser.press('#fit');
-  check('and the map is as before', (await groundOfRooms())[1], east);
+  check('and the map is as before', await comes(async () => (await groundOfRooms())[1], east), east);
 }
 
 /** What REJECT doesn't tell stays as it is, and is no answer of another kind. */
@@ -213,20 +214,14 @@ async function findings() {
   await browser.press(FINDING);
   await browser.until("document.querySelector('#map').dataset.view.startsWith('384.000 256.000')", 'the view at the finding');
   check('a finding moves the view to its place', before.slice(0, 2).join(' ') !== (await viewOf()).slice(0, 2).join(' '), true);
-  await drawnAnew();
-  check('and is marked there', await hasInk('fault', 384, 256, 19), true);
+  check('and is marked there', await inkComes('fault', 384, 256, 19), true);
 }
 
 /**
  * Whether the mark of a chosen finding is about a place: an arm of it stands above. A slow machine draws it only once the map stands still.
  * @param {number} x @param {number} y
  */
-const isMarked = async (x, y) => {
-  for (const end = Date.now() + 60000; Date.now() < end; await drawnAnew()) {
-    if (await hasInk('fault', x, y + 24 / (await viewOf())[2])) return true;
-  }
-  return false;
-};
+const isMarked = (x, y) => comes(async () => hasInk('fault', x, y + 24 / (await viewOf())[2]), true);
 
 /** What is chosen before the picture is there is marked in it. */
 async function early() {
@@ -241,9 +236,8 @@ async function early() {
   await browser.run('free()');
   await drawn('MAP02');
   await browser.until("document.querySelector('#map').dataset.view.startsWith('384.000 256.000')", 'the finding that was chosen');
-  await drawnAnew();
   check('a finding that was chosen before the picture is marked', await isMarked(384, 256), true);
-  check('and so is the point', await hasInk('ink', 300, 100), true);
+  check('and so is the point', await inkComes('ink', 300, 100), true);
   await browser.until("document.querySelector('#asked-title').textContent === 'Linedef 4' && !document.querySelector('#asked-part').hidden", 'what the finding is about');
   check('and told is what the finding is about', (await textOf('#under')).split('  –  ')[0], 'Linedef 4');
   check('what the picture tells of it', await textOf('#point-sector'), '1 · floor 24 FLOOR0_1 · ceiling 128 CEIL1_1 · light 224 · special 0 · tag 0');
@@ -280,8 +274,7 @@ async function late() {
   for (let k = 0; k < 2; k++) await browser.key('ArrowDown'); // past a heading
   await browser.until("document.querySelector('#map').dataset.view.startsWith('384.000 256.000')", 'the later finding');
   await browser.run('free()');
-  await browser.until("document.querySelector('#legend').classList.contains('found')", 'all places');
-  await drawnAnew();
+  await marked();
   check('the later of two choices is marked', [await isMarked(384, 256), (await viewOf()).slice(0, 2)], [true, [384, 256]]);
 }
 
@@ -312,7 +305,7 @@ async function edge() {
   await browser.drop(written('edge.wad', wad(rooms('MAP01', { damage }))));
   await drawn('MAP01');
   await judged();
-  await browser.until("document.querySelector('#map').dataset.asked === 'MAP01'", 'a level that can be asked');
+  await askable('MAP01');
   await countQuestions();
   const middle = await placeOf(6000, 128);
   // From 1.25 on cells of two units are coarse, too, which a slow machine is given on the way.
@@ -351,13 +344,14 @@ async function warnings() {
   check('their codes', await codes(), 'W2 1 · W3 1');
   check('each in words', await found(), ['W2', 'linedef 5', 'No middle texture in front, from (512, 256) to (512, 0)',
     'W3', 'thing 1', 'Stands in the void, at (536, 128)']);
-  await drawnAnew();
+  await askable('MAP01');
+  await marked();
   check('the legend tells of them', await legend(), ['findings']);
   check('where they are on the map', [await hasInk('fault', 512, 128), await hasInk('fault', 536, 128, 5), await hasInk('fault', 0, 128)], [true, true, false]);
   await pinBy('300 100');
   await browser.until("document.querySelector('#point-block .numbers')", 'a block whose list names them');
   await drawnAnew();
-  check('and over the lines of a block', await hasInk('fault', 512, 128), true);
+  check('and over the lines of a block', await inkComes('fault', 512, 128), true);
   await browser.mouse('mouseMoved', ...await placeOf(511, 40));
   check('a warning under the pointer', (await textOf('#under')).split('  –  '), ['W2 linedef 5 · No middle texture in front', 'linedef 5: one-sided', 'sector 1 · floor 24 FLOOR0_1 · ceiling 128 CEIL1_1 · light 224 · special 0 · tag 0']);
   await browser.press(FINDING);
@@ -470,9 +464,10 @@ async function saves() {
   await browser.press('#save-pwad');
   await pick('levels', 'MAP02');
   await drawn('MAP02');
+  await listen();
   await browser.run('free()');
-  await browser.until("/ saved$/.test(document.querySelector('#said').textContent)", 'a level that is left is saved');
-  check('a level that is left meanwhile is saved under its own name', await textOf('#said'), 'MAP01.wad saved');
+  await browser.until("window.heard.some((one) => one.endsWith(' saved'))", 'a level that is left is saved');
+  check('a level that is left meanwhile is saved under its own name', await browser.run("window.heard.filter((one) => one.endsWith(' saved'))"), ['MAP01.wad saved']);
 }
 
 async function markup() {
@@ -633,8 +628,7 @@ async function stop() {
   await pinBy('100 100');
   await pointTold('100 100');
   await browser.until("document.querySelector('#point-block .numbers')", 'the block');
-  await drawnAnew();
-  check('where linedefs lie is asked anew', await hasInk('accent', 0, 128), true);
+  check('where linedefs lie is asked anew', await inkComes('accent', 0, 128), true);
 }
 
 async function wide() {
@@ -674,6 +668,7 @@ async function engineless() {
   await browser.drop(roomsFile);
   await browser.until("document.querySelector('#files .row-state')?.textContent === 'refused'", 'a page without its module');
   check('a module that is not there', await textOf('#files .row-more'), "the engine of this page, wad_page.wasm, isn't beside its files");
+  await fresh(); // the page that is left asks and complains no more
   check('which the browser tells too', browser.complaints.splice(before).filter((told) => !/404.*wad_page\.wasm$/.test(told)), []);
   hosts.push(bare.address);
   bare.close();
@@ -718,6 +713,7 @@ if (!isThere) skipped("Chromium doesn't start here", 'the page');
 let at = 'the start';
 try {
   if (isThere) await withoutHandles();
+  if (isThere && valueOf('--late')) await answerLate(Number(valueOf('--late')));
   const all = [drops, follows, files, levels, picture, point, moves, finer, findings, reading, early, late, edge, unknown, warnings, games, judgings, asks,
     mapper, faults, unjudged, undrawn, demos, laterDemos, saves, savedPictures, markup, hostile, manyFindings, large, stop, stopAll, refusals, wide,
     contrast, labels, keys, keysAlone, phone, layout, unable, unserved, offline, engineless, anyHost, alone, policy];

@@ -1,6 +1,7 @@
 // The cases of the page for those who see little, use keys, or hold a phone.
 import {
-  FINDING, browser, check, drawn, drawnAnew, dropRooms, fresh, hasInk, judged, pick, pinBy, pointTold, textOf, viewOf, withhold, written,
+  FINDING, askable, browser, check, comes, drawn, drawnAnew, dropRooms, fresh, hasInk, judged, marked, pick, pinBy, pointTold, textOf, viewOf, withhold,
+  written,
 } from './person.mjs';
 import { rooms, twoOverlooked, wad } from './wads.mjs';
 
@@ -24,15 +25,16 @@ export async function contrast() {
   await fresh();
   await browser.drop(written('marked.wad', wad(rooms('MAP01', { damage: twoOverlooked }))));
   await drawn('MAP01');
+  await marked();
   for (const scheme of /** @type {const} */ (['dark', 'light'])) {
     await browser.screen(1440, 900, scheme);
-    await browser.until(`document.querySelector('${FINDING}')`, 'the findings');
     check(`contrast, ${scheme}`, await browser.run(script), []);
     await drawnAnew();
     const zoom = (await viewOf())[2];
-    check(`a finding's line and its case, ${scheme}`, [await hasInk('fault', 512, 100), await hasInk('void', 512, 100, 1, 4), await hasInk('void', 512, 100, -4, -1)], [true, true, true]);
-    check(`a start and its case, ${scheme}`, [await hasInk('start', 64, 64), await hasInk('void', 64, 64, 7 * zoom, 8 * zoom + 3)], [true, true]);
-    check(`a monster that looks east, ${scheme}`, [await hasInk('monster', 550, 128), await hasInk('monster', 522, 128)], [true, false]);
+    const inks = (/** @type {[string, number, number, number?, number?][]} */ ...at) => () => Promise.all(at.map((one) => hasInk(...one)));
+    check(`a finding's line and its case, ${scheme}`, await comes(inks(['fault', 512, 100], ['void', 512, 100, 1, 4], ['void', 512, 100, -4, -1]), [true, true, true]), [true, true, true]);
+    check(`a start and its case, ${scheme}`, await comes(inks(['start', 64, 64], ['void', 64, 64, 7 * zoom, 8 * zoom + 3]), [true, true]), [true, true]);
+    check(`a monster that looks east, ${scheme}`, await comes(inks(['monster', 550, 128], ['monster', 522, 128]), [true, false]), [true, false]);
   }
 }
 
@@ -99,7 +101,7 @@ export async function keysAlone() {
   check('Enter leads to the map', await at(), ['map', 'map']);
   check('which is there, and not drawn anew', await browser.run("document.querySelector('#map').dataset.drawn"), 'MAP02');
   await browser.run('free()');
-  await browser.until("document.querySelector('#map').dataset.asked === 'MAP02'", 'its records');
+  await askable('MAP02');
   await show('notes');
   await browser.run("document.querySelector('#findings').focus()");
   for (let k = 0; k < 2; k++) await browser.key('ArrowDown'); // past a heading

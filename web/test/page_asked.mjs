@@ -1,7 +1,8 @@
 // The cases of the page of what the map is asked: linedefs, things, sectors and vertexes.
 import { wait } from './browser.mjs';
 import {
-  FINDING, browser, check, drawn, drawnAnew, fresh, hasInk, inkComes, isHidden, pinBy, placeOf, pointTold, textOf, textsOf, viewOf, written,
+  FINDING, askable, browser, check, drawn, drawnAnew, fresh, hasInk, inkComes, isHidden, marked, pinBy, placeOf, pointTold, textOf, textsOf, viewOf,
+  written,
 } from './person.mjs';
 import { oneMistaken, rooms, twoOverlooked, wad, words } from './wads.mjs';
 
@@ -24,7 +25,7 @@ async function open(file, body) {
   await fresh();
   await browser.drop(written(file, body));
   await drawn('MAP01');
-  await browser.until("document.querySelector('#map').dataset.asked === 'MAP01'", 'a level that can be asked');
+  await askable('MAP01');
 }
 const goTo = async (/** @type {string} */ typed) => {
   await browser.run(`{ const e = document.querySelector('#at'); e.value = ${JSON.stringify(typed)}; e.dispatchEvent(new Event('input')); }`);
@@ -115,7 +116,7 @@ async function links() {
 /** A mark that is clicked chooses its finding, which tells what it is about. */
 async function marks() {
   await open('marks.wad', wad(rooms('MAP01', { damage: (lumps) => [twoOverlooked, oneMistaken].forEach((damage) => damage(lumps)) })));
-  await browser.until("document.querySelector('#legend').classList.contains('found')", 'the marks');
+  await marked();
   const view = await viewOf(), chosen = () => browser.run("document.querySelector('#findings [aria-selected=true] .row-name')?.textContent ?? ''");
   await browser.press('#findings .group-name'); // which folds the first
   await browser.click(...await placeOf(511, 128));

@@ -3,7 +3,7 @@ import { rmSync } from 'node:fs';
 import { join } from 'node:path';
 import { wait } from './browser.mjs';
 import {
-  FINDING, browser, check, codes, drawn, drawnAnew, fresh, hasInk, isHidden, pick, pinBy, pointTold, room, textOf, textsOf, viewOf, withHandles, written,
+  FINDING, browser, check, codes, drawn, drawnAnew, fresh, inkComes, isHidden, pick, pinBy, pointTold, room, textOf, textsOf, viewOf, withHandles, written,
 } from './person.mjs';
 import { oneMistaken, rooms, twoOverlooked, twoUnknown, wad, wallsOfRooms, zipped } from './wads.mjs';
 
@@ -33,8 +33,7 @@ async function saved() {
   await verdict('2 warnings, 1 note, otherwise sound');
   check('what came is told', await changes(), ['Saved: 1 came, 0 went', 'came: N3 linedef 4: Two-sided, without a back sidedef, from (256, 256) to (512, 256)']);
   check('and marked in the list', await browser.run("[...document.querySelectorAll('#findings .fresh')].map((e) => e.parentElement.firstChild.textContent)"), ['linedef 4']);
-  await drawnAnew();
-  check('the chosen finding stays chosen', [await chosen(), await hasInk('fault', 536, 128, 19)], ['thing 1', true]);
+  check('the chosen finding stays chosen', [await chosen(), await inkComes('fault', 536, 128, 19)], ['thing 1', true]);
   check('so do the view and the point', [await viewOf(), await textOf('#point-line')], [view, point]);
   check('and the level', await textOf('#title'), 'MAP01');
   written('saved.wad', level());

@@ -1,6 +1,6 @@
 // The cases of the page about how often a level is judged.
 import { wait } from './browser.mjs';
-import { browser, check, codes, drawn, fresh, isNative, judged, pick, textOf, written } from './person.mjs';
+import { askable, browser, check, codes, drawn, fresh, isNative, judged, pick, textOf, written } from './person.mjs';
 import { oneMistaken, rooms, wad, wallsOfRooms } from './wads.mjs';
 
 /** Lets the workers of the page that are there keep the names of the engine's calls. */
@@ -22,15 +22,15 @@ async function asked() {
 export async function judgings() {
   if (isNative) return;
   await fresh();
-  for (let k = 0; k < 500 && browser.workers.length < 3; k++) await wait(10);
+  for (let k = 0; k < 3000 && browser.workers.length < 3; k++) await wait(10);
   await Promise.all(browser.workers.map((one) => browser.run(COUNTING, one)));
   await browser.drop(written('twice.wad', wad([...rooms('MAP01'), ...rooms('MAP02', { damage: oneMistaken }), ...wallsOfRooms()])));
-  await drawn('MAP01');
+  await askable('MAP01');
   await judged();
   await asked();
   await pick('levels', 'MAP02');
   await drawn('MAP02');
-  await browser.until("document.querySelector('#legend').classList.contains('found')", 'its marks');
+  await askable('MAP02');
   check('a click cuts a level out, and judges it once beside its picture', await asked(), ['run_wadlens', 'run_wadlens', 'draw_picture', 'list_linedefs']);
   check('with the sums of the survey', [await textOf('#told'), await codes()], ['1 note, otherwise sound', 'N3 1']);
   await pick('levels', 'MAP01');

@@ -1,6 +1,7 @@
 // The cases of the page at sizes of windows, from a phone's to a desk's, and zoomed.
 import {
-  FINDING, browser, check, drawn, drawnAnew, fresh, isHidden, judged, legend, pinBy, placeOf, pointTold, textOf, textsOf, viewOf, withhold, written,
+  FINDING, askable, browser, check, drawn, drawnAnew, fresh, isHidden, judged, legend, marked, pinBy, placeOf, pointTold, textOf, textsOf, viewOf,
+  withhold, written,
 } from './person.mjs';
 import { demo, oneLost, oneMistaken, rooms, twoOverlooked, twoUnknown, wad } from './wads.mjs';
 
@@ -176,7 +177,8 @@ async function showCrowd(file, apart) {
   await browser.run(`{ document.body.style.letterSpacing = '${apart}'; }`);
   await browser.drop(file);
   await drawn('MAP01');
-  await browser.until("document.querySelector('#map').dataset.asked === 'MAP01' && document.querySelector('#legend').classList.contains('found')", 'a level that can be asked');
+  await askable('MAP01');
+  await marked();
   await browser.run("document.querySelector('.tabs [data-to=map]').click()");
   await browser.middle('#map'); // which brings it into view
   await drawnAnew();
@@ -296,7 +298,7 @@ async function forced() {
   await browser.drop(written('full.wad', full));
   await drawn('MAP01');
   await browser.press('.tabs [data-to=map]');
-  await browser.until("document.querySelector('#legend').classList.contains('found')", 'the legend');
+  await marked();
   const ink = await browser.run(`(() => { const style = getComputedStyle(document.querySelector('#legend .mark'), '::before'), e = document.createElement('i');
     e.style.cssText = 'forced-color-adjust: none; color: var(--fault)';
     document.body.append(e);

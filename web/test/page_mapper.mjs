@@ -3,8 +3,8 @@ import { readFileSync } from 'node:fs';
 import { join } from 'node:path';
 import { wait } from './browser.mjs';
 import {
-  FINDING, browser, check, codes, drawn, drawnAnew, filterBy, found, fresh, hasInk, isHidden, judged, legend, pick, pinBy, placeOf, pointTold,
-  printed, room, root, textOf, textsOf, viewOf, written,
+  FINDING, browser, check, codes, comes, drawn, drawnAnew, filterBy, found, fresh, hasInk, inkComes, isHidden, judged, legend, marked, pick, pinBy,
+  placeOf, pointTold, printed, room, root, sift, textOf, textsOf, viewOf, written,
 } from './person.mjs';
 import { demo, flats, lostLinedef, oneLost, oneMistaken, oneTwice, rooms, textures, twoOverlooked, twoUnknown, wad, wallsOfRooms, words } from './wads.mjs';
 
@@ -83,16 +83,15 @@ async function groups() {
 
 /** A filter leaves headings with what it passes. The level has 36 findings. */
 async function sifted() {
-  const sift = (/** @type {string} */ told) => browser.run(`{ const e = document.querySelector('#found-filter'); e.value = ${JSON.stringify(told)}; e.dispatchEvent(new Event('input')); }`);
-  await sift('start 38');
+  await sift('found-filter', 'start 38');
   check('a filter passes what has its words', await found(), ['F3', 'linedef 38', "Start vertex 4000 isn't there (6 vertexes)"]);
   check('and tells how many of how many', await codes(), 'F3 1 of 33');
-  await sift('n3');
+  await sift('found-filter', 'n3');
   check('a code passes all of it', await found(), ['N3', 'linedef 4', 'Two-sided, without a back sidedef, from (256, 256) to (512, 256)']);
   await browser.until("document.querySelector('#legend-found').textContent === '1 of 36 findings'", 'marks of what is passed');
-  await sift('nothing');
+  await sift('found-filter', 'nothing');
   check('what nothing has is told', [await codes(), await isHidden('#found-none')], ['', false]);
-  await sift('');
+  await sift('found-filter', '');
   check('without one all are there', [await codes(), await isHidden('#found-none')], ['N11 1 · F3 33 · F6 1 · N3 1', true]);
 }
 
@@ -103,13 +102,12 @@ async function hides() {
   await browser.drop(written('hides.wad', wad([...rooms('MAP01', { damage: damages }), ...rooms('MAP02', { damage: twoOverlooked })])));
   await drawn('MAP01');
   await judged();
-  await browser.until("document.querySelector('#legend').classList.contains('found')", 'the marks');
-  await drawnAnew();
-  check('what is found is marked', await hasInk('fault', 512, 128), true);
+  await marked();
+  check('what is found is marked', await inkComes('fault', 512, 128), true);
   await browser.press('#findings .shut');
   await browser.until("!document.querySelector('#hidden-codes').hidden", 'a hidden code');
-  await drawnAnew();
-  check('a cross hides a code', [await codes(), await textOf('#hidden-codes'), await hasInk('fault', 512, 128)], ['W3 1 · N3 1', 'Hidden in this file: W2, 1', false]);
+  check('a cross hides a code', [await codes(), await textOf('#hidden-codes'), await comes(() => hasInk('fault', 512, 128), false)],
+    ['W3 1 · N3 1', 'Hidden in this file: W2, 1', false]);
   check('in the verdict and beside the levels', [await textOf('#told'), await textsOf('#levels .row-state')], ['1 warning, 1 note, otherwise sound', ['1 warning, 1 note · W3 N3', '1 warning · W3']]);
   await pick('levels', 'MAP02');
   await drawn('MAP02');
@@ -246,9 +244,9 @@ async function sectors() {
   await browser.drop(file);
   await drawn('MAP01');
   check('findings with a sector and without a place', (await found()).filter((_, k) => k % 3 < 2), ['N11', 'level', 'W9', 'sidedef 5', 'W10', 'sector 1', 'W10', 'sector 4']);
-  await drawnAnew();
-  const outline = () => Promise.all([[256, 60], [400, 256], [512, 60], [400, 0], [100, 256]].map(([x, y]) => hasInk('fault', x, y)));
-  check('a sector is marked as the other findings are', await outline(), [true, true, true, true, false]);
+  await marked();
+  const outlined = [true, true, true, true, false], outline = () => Promise.all([[256, 60], [400, 256], [512, 60], [400, 0], [100, 256]].map(([x, y]) => hasInk('fault', x, y)));
+  check('a sector is marked as the other findings are', await comes(outline, outlined), outlined);
   await browser.mouse('mouseMoved', ...await placeOf(400, 254));
   check('and told under the pointer', (await textOf('#under')).split('  –  ')[0], "W10 sector 1 · Floor flat NOFLAT isn't there");
   await browser.run("document.querySelector('#findings').focus()");
@@ -258,17 +256,17 @@ async function sectors() {
   await browser.until("document.querySelector('#map').dataset.view.startsWith('384.000 128.000')", 'the view at the sector');
   await still();
   const [, , zoom] = await viewOf(), width = await browser.run("document.querySelector('#map').clientWidth");
-  check('a finding on a sector shows all of it', [await outline(), 256 * zoom < width, 256 * zoom > 60], [[true, true, true, true, false], true, true]);
-  check('with a line that is wider than the other marks', await hasInk('fault', 512 - 2 / zoom, 60), true);
+  check('a finding on a sector shows all of it', [await comes(outline, outlined), 256 * zoom < width, 256 * zoom > 60], [outlined, true, true]);
+  check('with a line that is wider than the other marks', await inkComes('fault', 512 - 2 / zoom, 60), true);
   for (let k = 0; k < 2; k++) await browser.key('ArrowUp'); // past a heading
   await browser.until("document.querySelector('#map').dataset.view.startsWith('512.000 128.000')", 'the view at the linedef');
   await still();
-  check('one on a linedef has a mark about it', await hasInk('fault', 512, 128, 19), true);
+  check('one on a linedef has a mark about it', await inkComes('fault', 512, 128, 19), true);
   const view = await viewOf();
   await browser.key('Home');
   await browser.key('ArrowDown');
   await still();
-  check('one without a place moves nothing, and takes that mark away', [await viewOf(), await hasInk('fault', 512, 128, 19)], [view, false]);
+  check('one without a place moves nothing, and takes that mark away', [await comes(() => hasInk('fault', 512, 128, 19), false), await viewOf()], [false, view]);
   check('and says so', await textOf('#under'), 'N11 level has no place on the map.');
 }
 
@@ -338,12 +336,12 @@ async function widths() {
 }
 
 /** All findings are marked, not those alone that are listed first. */
-async function marked() {
+async function manyMarks() {
   const twoSided = Buffer.concat(Array.from({ length: 99 }, (_, k) => words(0, 1, 4, 0, 0, k ? 0 : 7, -1)));
   await fresh();
   await browser.drop(written('marked.wad', wad(rooms('MAP01', { linedefs: twoSided }))));
   await drawn('MAP01');
-  await browser.until("document.querySelector('#legend').classList.contains('found')", 'the marks');
+  await marked();
   check('all of a group are told', (await codes()).split(' · ').at(-1), 'N3 99');
   check('and marked, which needs no number', await legend(), ['findings']);
 }
@@ -441,7 +439,7 @@ async function without() {
 }
 
 export async function mapper() {
-  for (const one of [silenced, groups, hides, others, again, sectors, outside, unjudged, widths, marked, meanings, without]) {
+  for (const one of [silenced, groups, hides, others, again, sectors, outside, unjudged, widths, manyMarks, meanings, without]) {
     await browser.screen(1440, 900, 'dark');
     await one();
   }

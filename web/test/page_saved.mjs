@@ -1,7 +1,7 @@
 // The case of the picture that is saved: the program's shapes, in the colours of the page, with its marks.
 import { writeFileSync } from 'node:fs';
 import { join } from 'node:path';
-import { browser, check, drawn, fresh, pick, pictures, printed, rm, saved, written } from './person.mjs';
+import { browser, check, drawn, fresh, marked, pick, pictures, printed, rm, saved, written } from './person.mjs';
 import { rooms, twoOverlooked, twoUnknown, wad } from './wads.mjs';
 
 /** A picture without what the page gives it: colours and marks. @param {string} svg */
@@ -28,7 +28,7 @@ export async function savedPictures() {
     await fresh();
     await browser.drop(written('colours.wad', file));
     await drawn('MAP01');
-    await browser.until("document.querySelector('#legend').classList.contains('found')", 'the marks');
+    await marked();
     const [dark, wall, step, fault] = await inks('void', 'wall', 'step', 'fault');
     rm('MAP01.svg');
     const svg = await saved('svg', 'MAP01.svg');

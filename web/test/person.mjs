@@ -32,6 +32,12 @@ export async function withHandles(act) {
   await withoutHandles();
 }
 
+/** Sends each question to its worker up to so many milliseconds late, in their order, as on a slow machine. @param {number} most */
+export const answerLate = (most) => browser.send('Page.addScriptToEvaluateOnNewDocument', { source: `{ const send = Worker.prototype.postMessage, last = new WeakMap();
+  Worker.prototype.postMessage = function (data, ...more) {
+    const kept = structuredClone(data), before = last.get(this) ?? Promise.resolve();
+    last.set(this, before.then(() => new Promise((go) => setTimeout(go, ${most} * Math.random()))).then(() => send.call(this, kept, ...more))); }; }` });
+
 // What a person sees and does ---------------------------------------------------------------------------------------------------
 
 export const textOf = (/** @type {string} */ selector) => browser.run(`document.querySelector(${JSON.stringify(selector)}).textContent`);
@@ -61,7 +67,17 @@ export const drawn = async (name) => {
   await browser.until(`document.querySelector('#map').dataset.drawn === ${JSON.stringify(name)}`, `the level ${name}`);
   await drawnAnew();
 };
-export const filterBy = (/** @type {string} */ words) => browser.run(`{ const e = document.querySelector('#filter'); e.value = ${JSON.stringify(words)}; e.dispatchEvent(new Event('input')); }`);
+/** Waits until a level's map can be asked what lies there. @param {string} name */
+export const askable = (name) => browser.until(`document.querySelector('#map').dataset.asked === ${JSON.stringify(name)}`, `${name}, to be asked`);
+/** Waits until what was found is marked on the map. */
+export const marked = async () => {
+  await browser.until("document.querySelector('#legend').classList.contains('found')", 'the marks');
+  await drawnAnew();
+};
+/** Types into a filter, and waits for a turn of the page's timers, which a slow machine takes on the way. @param {string} id @param {string} words */
+export const sift = (id, words) => browser.run(`{ const e = document.querySelector('#${id}'); e.value = ${JSON.stringify(words)}; e.dispatchEvent(new Event('input')); }
+  new Promise((go) => setTimeout(go))`);
+export const filterBy = (/** @type {string} */ words) => sift('filter', words);
 export const fresh = async (address = server.address) => {
   await browser.send('Page.navigate', { url: address });
   await browser.until("document.body?.dataset.ready === 'yes'", 'the page');
@@ -94,11 +110,17 @@ export const hasInk = async (ink, x, y, from = 0, to = from) => {
     for (let right = ${from}; right <= ${to}; right++) if (isIt(right)) return true;
     return false; })()`);
 };
-/** Waits for ink at a place, which comes with an answer of the engine. @param {string} ink @param {number} x @param {number} y */
-export const inkComes = async (ink, x, y, from = 0, to = from) => {
-  for (const end = Date.now() + 60000; Date.now() < end; await drawnAnew()) if (await hasInk(ink, x, y, from, to)) return true;
-  return false;
+/**
+ * Waits until what is asked is as it's wanted, and answers what it is then, or at last. A slow machine draws a map that moves once it rests.
+ * @template T @param {() => Promise<T>} ask @param {T} wanted @returns {Promise<T>}
+ */
+export const comes = async (ask, wanted) => {
+  let came = await ask();
+  for (const end = Date.now() + 30000; JSON.stringify(came) !== JSON.stringify(wanted) && Date.now() < end; came = await ask()) await drawnAnew();
+  return came;
 };
+/** Waits for ink at a place, which comes with an answer of the engine. @param {string} ink @param {number} x @param {number} y */
+export const inkComes = (ink, x, y, from = 0, to = from) => comes(() => hasInk(ink, x, y, from, to), true);
 /** What the legend tells. @returns {Promise<string[]>} */
 export const legend = () => browser.run("[...document.querySelectorAll('#legend li')].filter((e) => e.checkVisibility()).map((e) => e.textContent)");
 /** Pins a point by its numbers. @param {string} numbers */
@@ -127,13 +149,20 @@ export const withhold = (job, name = '') => browser.run(`{ const send = Worker.p
   Worker.prototype.postMessage = function (data, ...more) {
     if (data.job === '${job}' && ['', data.file.name].includes(${JSON.stringify(name)})) kept.push([this, data]); else send.call(this, data, ...more); }; }`);
 
+/** Keeps from now on all that the page says, also where it says the next thing soon. */
+export const listen = () => browser.run(`{ const said = document.querySelector('#said');
+  window.heard = [];
+  window.hearing?.disconnect();
+  window.hearing = new MutationObserver((all) => window.heard.push(...all.flatMap(({ addedNodes }) => [...addedNodes].map((node) => node.textContent))));
+  window.hearing.observe(said, { childList: true }); }`);
+
 /** Saves by a button, and reads what was saved under a name. @param {string} id @param {string} name */
 export async function saved(id, name) {
   await browser.send('Browser.setDownloadBehavior', { behavior: 'allow', downloadPath: room });
   rmSync(join(room, name), { force: true }); // so that no file of an earlier case is read
-  await browser.run("document.querySelector('#said').textContent = ''");
+  await listen();
   await browser.press(`#save-${id}`);
-  await browser.until("/ saved$/.test(document.querySelector('#said').textContent)", `${name} saved`);
+  await browser.until("window.heard.some((one) => one.endsWith(' saved'))", `${name} saved`);
   const isThere = () => existsSync(join(room, name)) && statSync(join(room, name)).size > 0; // its name may be taken before its bytes are there
   for (let k = 0; !isThere() && k < 500; k++) await wait(10);
   return readFileSync(join(room, name)).toString('latin1');

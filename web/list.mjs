@@ -10,6 +10,9 @@ import { make, Rows, WholeRows } from './rows.mjs';
  */
 /** @typedef {{ level: number, at: number, of: number, isOpen?: boolean }} Branch  a row of a tree: its place among its like; of a heading whether it's open */
 
+/** The row that something stands in. @param {EventTarget | null} target @returns {HTMLElement | null} */
+const rowOf = (target) => /** @type {Element} */ (target).closest('.row');
+
 /** @template T */
 export class ListBox {
   /**
@@ -35,10 +38,21 @@ export class ListBox {
     element.tabIndex = 0;
     this.rows = new (isShort ? WholeRows : Rows)(element, body, (k) => this.#row(k));
     element.addEventListener('keydown', (event) => this.#key(event));
-    element.addEventListener('click', (event) => {
-      const row = /** @type {HTMLElement | null} */ (/** @type {Element} */ (event.target).closest('.row'));
+    element.addEventListener('click', ({ target }) => {
+      const row = rowOf(target);
       if (row) this.pick(Number(row.dataset.at));
     });
+    /** @type {HTMLElement | null} */
+    this.pressed = null;
+    element.addEventListener('pointerdown', ({ target, button }) => { this.pressed = button ? null : rowOf(target); });
+    element.addEventListener('pointerup', (event) => this.#released(event));
+  }
+
+  /** A row that was made anew since a mouse pressed it has no click: what stands there now is clicked in its place. @param {PointerEvent} event */
+  #released({ target, pointerType }) {
+    const { pressed } = this, isIt = !!pressed && !pressed.isConnected && rowOf(target)?.dataset.at === pressed.dataset.at;
+    this.pressed = null;
+    if (isIt && pointerType === 'mouse') /** @type {HTMLElement} */ (target).click();
   }
 
   /**

@@ -223,6 +223,24 @@ async function findings() {
  */
 const isMarked = (x, y) => comes(async () => hasInk('fault', x, y + 24 / (await viewOf())[2]), true);
 
+/** A row that is pressed is chosen, also where an answer makes it anew before it is let go. */
+async function pressed() {
+  await fresh();
+  await withhold('survey');
+  await browser.drop(roomsFile);
+  await drawn('MAP01');
+  await browser.run("[...document.querySelectorAll('#levels .row')][1].id = 'pressed'");
+  const at = await browser.middle('#pressed');
+  await browser.mouse('mouseMoved', ...at);
+  await browser.mouse('mousePressed', ...at);
+  await browser.run('free()');
+  await judged();
+  check('a row is made anew', await browser.run("document.querySelector('#pressed')"), null);
+  await browser.mouse('mouseReleased', ...at);
+  await drawn('MAP02');
+  check('and chosen', await textOf('#levels [aria-selected=true] .row-name'), 'MAP02 doom');
+}
+
 /** What is chosen before the picture is there is marked in it. */
 async function early() {
   await dropRooms();
@@ -714,9 +732,9 @@ let at = 'the start';
 try {
   if (isThere) await withoutHandles();
   if (isThere && valueOf('--late')) await answerLate(Number(valueOf('--late')));
-  const all = [drops, follows, files, levels, picture, point, moves, finer, findings, reading, early, late, edge, unknown, warnings, games, judgings, asks,
-    mapper, faults, unjudged, undrawn, demos, laterDemos, saves, savedPictures, markup, hostile, manyFindings, large, stop, stopAll, refusals, wide,
-    contrast, labels, keys, keysAlone, phone, layout, unable, unserved, offline, engineless, anyHost, alone, policy];
+  const all = [drops, follows, files, levels, picture, point, moves, finer, findings, reading, pressed, early, late, edge, unknown, warnings, games,
+    judgings, asks, mapper, faults, unjudged, undrawn, demos, laterDemos, saves, savedPictures, markup, hostile, manyFindings, large, stop, stopAll,
+    refusals, wide, contrast, labels, keys, keysAlone, phone, layout, unable, unserved, offline, engineless, anyHost, alone, policy];
   const only = valueOf('--only').split(',');
   for (const one of all.filter(({ name }) => isThere && (!only[0] || only.includes(name)))) {
     at = one.name;

@@ -110,9 +110,13 @@ async function wraps() {
   for (const width of [320, 390, 1024, 1440]) {
     await browser.screen(width, 800, 'light');
     await fresh();
+    await withhold('survey');
     await browser.drop(written(LONG, full), notes);
     await drawn('MAP01');
     await browser.run("document.querySelector('.tabs [data-to=files]').click()");
+    check(`a long name is read whole while it is judged, ${width}`, [await isHidden('#work'), ...await cut('#crumbs, #files .row, #files .row-name, #files .row-more')], [false]);
+    await browser.run('free()');
+    await browser.until("document.querySelector('#work').hidden", 'the end of it');
     check(`the buttons of a file stand in a line, ${width}`, await browser.run("new Set([...document.querySelectorAll('.files .saves button')].map((e) => e.offsetTop)).size"), 1);
     check(`a long name is read whole, ${width}`, await cut('#crumbs, #files .row, #files .row-name, #files .row-more'), []);
     await browser.run("document.querySelector('.tabs [data-to=map]').click()");

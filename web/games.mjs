@@ -2,17 +2,8 @@
 
 /** @typedef {{ kind: string, heads: import('./lines.mjs').Lines }} Opened  a file as `lumps` tells it: its kind, and its levels' lines */
 
-/** Whether a file that isn't read yet begins as a game's does. @param {File} file */
-const isGame = (file) => file.slice(0, 4).text().then((text) => text === 'IWAD', () => false);
-
-/**
- * The games' among files, and the others.
- * @template {{ file: File }} F @param {F[]} files
- */
-export async function apart(files) {
-  const are = await Promise.all(files.map(({ file }) => isGame(file)));
-  return { games: files.filter((_, k) => are[k]), others: files.filter((_, k) => !are[k]) };
-}
+/** Whether a file begins as a game's does. @param {Uint8Array} begin its first four bytes */
+export const isGame = (begin) => String.fromCharCode(...begin) === 'IWAD';
 
 /** How a file names its levels, by the first of them: as E1M1, as MAP01, or otherwise. @param {Opened} opened */
 function namingOf({ heads }) {

@@ -11,7 +11,8 @@ import { Stopped } from './questions.mjs';
 import { Readout } from './readout.mjs';
 import { RecordView, askedBy } from './record_view.mjs';
 import { make } from './rows.mjs';
-import { partWords, textOf, whatIsThere, whatNext } from './sketch.mjs';
+import { textOf } from './sketch.mjs';
+import { partWords, whatIsThere, whatNext } from './sketch_words.mjs';
 import { adviceOf, get, field, inShort, isFatal, isNarrow, notJudged, say, sentence, toMap, unlookedWords, verdict, wordsOf } from './words.mjs';
 
 /** @typedef {import('./words.mjs').Level} Level */
@@ -129,7 +130,7 @@ export class LevelView {
     const again = this.last && isSame(this.last, asked), { known } = asked;
     this.before = this.last?.file; // which isn't another saving where only the reading is
     this.last = this.asked = asked;
-    this.finer.stop();
+    if (this.finer.open.size) this.finer.stop(); // else it stays, with all that it needs
     this.clear('');
     if (!again) this.kept = null;
     get('title').textContent = asked.name;

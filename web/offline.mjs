@@ -6,7 +6,7 @@ const KEPT = 'wadlook';
 const FILES = ['./', 'index.html', 'page.css', 'icon.svg', 'manifest.json', 'served.mjs', 'wad_page.wasm',
   ...['changes', 'codes', 'demo_table', 'demo_words', 'entries', 'facts', 'findings', 'follow', 'found_list', 'games', 'groups', 'inks',
     'level_view', 'linedefs', 'lines', 'links', 'list', 'map_view', 'notices', 'page', 'picture', 'questions', 'readout', 'record_view', 'records', 'rows',
-    'saved_picture', 'sketch', 'sources', 'specials', 'thing_kinds', 'wad_page', 'words', 'worker', 'zip'].map((name) => `${name}.mjs`)];
+    'saved_picture', 'sketch', 'sketch_words', 'sources', 'specials', 'thing_kinds', 'wad_page', 'words', 'worker', 'workers', 'zip'].map((name) => `${name}.mjs`)];
 const own = new Set(FILES.map((file) => new URL(file, location.href).href));
 
 /** @param {any} event of a life of a service worker, which is to last until something is done @param {() => Promise<unknown>} act */

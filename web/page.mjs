@@ -3,19 +3,20 @@ import { meaningOf } from './codes.mjs';
 import { DemoTable } from './demo_table.mjs';
 import { demoLine, optionsIn } from './demo_words.mjs';
 import { Follower, stampOf } from './follow.mjs';
-import { apart, gameOf } from './games.mjs';
+import { gameOf } from './games.mjs';
 import { byRank } from './groups.mjs';
 import { themeNow } from './inks.mjs';
 import { LevelView } from './level_view.mjs';
 import { Lines } from './lines.mjs';
 import { ListBox } from './list.mjs';
 import { forget, tell } from './notices.mjs';
-import { Questions, Stopped } from './questions.mjs';
+import { Stopped } from './questions.mjs';
 import { make } from './rows.mjs';
 import { savedPicture } from './saved_picture.mjs';
 import { droppedFiles, pickedOf, refusal, takeApart } from './sources.mjs';
 import { canRun } from './wad_page.mjs';
 import { field, get, helpOf, isFatal, isNarrow, notJudged, pane, plural, say, sizeOf, toMap, verdict, wordsOf } from './words.mjs';
+import { desk, finer, judge } from './workers.mjs';
 
 /** @typedef {import('./words.mjs').Level} Level @typedef {import('./sources.mjs').Source} Source */
 /** @typedef {import('./sources.mjs').Handle} Handle */
@@ -46,9 +47,7 @@ function changed() {
   get('work').hidden = !label;
   if (label) get('work-label').textContent = label;
 }
-const desk = new Questions(changed); // what is waited for
-const judge = new Questions(changed); // what takes longer: whole files
-const finer = new Questions(() => {}); // pictures of parts
+desk.changed = judge.changed = changed;
 
 /** What each question about a file has. @param {OpenFile} f */
 const asking = (f) => ({ key: f.key, file: f.file, wide: state.wide, game: f.game && { key: f.game.key, file: f.game.file } });
@@ -113,18 +112,18 @@ function reveal(f = state.seen) {
   if (f) files.rows.reveal(state.files.indexOf(f));
 }
 
+/** Shows the parts of the page that files have. */
+const unveil = () => document.body.classList.remove('empty');
+
 /** Files as they are opened. @param {Source[]} picked */
-async function apartOf(picked) {
-  const sources = [];
-  for await (const some of takeApart(picked, (file) => desk.ask('unpack', { file }, `Unpacking ${file.name}`))) sources.push(...some);
-  return sources;
-}
+const apartOf = (picked) => takeApart(picked, (file) => {
+  unveil();
+  return desk.ask('unpack', { file }, `Unpacking ${file.name}`);
+});
 
 /** Opens what was dropped or chosen, of which archives are taken apart. @param {Source[]} picked */
 async function take(picked) {
-  if (!picked.length) return;
-  document.body.classList.remove('empty');
-  open(await apartOf(picked));
+  if (picked.length) open(await apartOf(picked));
 }
 
 /** Lets the browser choose files: by handles, where it has them, so that they can be followed. */
@@ -161,12 +160,14 @@ async function open(sources) {
     key: `${performance.now()} ${k}`, file, handle, stamp, kind: '', refused, heads: none(), survey: null, demos: none(), stopped: false, failed: '', surveys: 0,
     game: null, wasGame: false,
   }));
+  const games = fresh.filter((_, k) => sources[k].isGame), others = fresh.filter((_, k) => !sources[k].isGame), all = [...games, ...others];
+  const first = all.length && read(all[0], false); // which is asked for before the page is laid out with it
+  unveil();
   list(fresh);
-  const { games, others } = await apart(fresh);
   let isShown = fresh.some(isAgain), isStopped = false;
-  for (const f of [...games, ...others]) {
+  for (const f of all) {
     if (!state.files.includes(f)) continue; // opened again meanwhile, or closed
-    isStopped = await read(f, isStopped);
+    isStopped = !!await (f === all[0] ? first : read(f, isStopped));
     if (!state.files.includes(f)) continue;
     setOnGames(f.kind === 'IWAD' || f.wasGame ? state.files : [f], f);
     if (isAgain(f)) showAgain(f);
@@ -175,10 +176,10 @@ async function open(sources) {
       showOf(f);
     }
     if (f === state.file) showFile(); else showFiles();
-    const first = [...others, ...games].find((one) => !one.refused && one !== state.of?.game);
-    if (!isShown && first?.kind) {
+    const shown = [...others, ...games].find((one) => !one.refused && one !== state.of?.game);
+    if (!isShown && shown?.kind) {
       isShown = true;
-      showFirst(first);
+      showFirst(shown);
     }
     survey(f);
   }
@@ -592,10 +593,8 @@ addEventListener('drop', async (event) => {
 });
 
 new Follower(() => state.files, openAgain);
-/** @type {any} */ (navigator).serviceWorker?.register('offline.mjs').catch(() => {}); // without one the page works while it is served
 pane('files');
 document.body.dataset.ready = 'yes';
-if (canRun()) for (const questions of [desk, judge, finer]) questions.start();
 if (!canRun()) {
   get('unable').hidden = false;
   get('unable').textContent = "This browser can't run the engine: it has no 64-bit WebAssembly memory. Chrome and Edge have it from 133 on, Firefox from 134 on.";

@@ -4,14 +4,15 @@
 export class Stopped extends Error {}
 
 export class Questions {
-  /** @param {() => void} changed called where what is under way may have changed */
-  constructor(changed) {
-    this.changed = changed;
+  constructor() {
+    this.changed = () => {}; // called where what is under way may have changed
     /** @type {Map<number, { resolve: (value: any) => void, reject: (why: Error) => void, label?: string }>} */
     this.open = new Map();
     this.next = 1;
     /** @type {Worker | null} */
     this.worker = null;
+    this.asked = -Infinity; // when it was asked last
+    this.started = () => {}; // called where the worker has answered first, or is ended
   }
 
   /**
@@ -21,6 +22,7 @@ export class Questions {
   ask(job, body, label) {
     this.#begin();
     const id = this.next++;
+    this.asked = performance.now();
     return new Promise((resolve, reject) => {
       this.open.set(id, { resolve, reject, label });
       this.worker?.postMessage({ id, job, ...body });
@@ -28,10 +30,11 @@ export class Questions {
     });
   }
 
-  /** Starts the worker before anything is asked, so that all that it needs is there. */
+  /** Starts the worker before anything is asked; ends where all that it needs is there. @returns {Promise<void>} */
   start() {
     this.#begin();
     this.tell('ready', {});
+    return new Promise((go) => { this.started = go; });
   }
 
   #begin() {
@@ -39,6 +42,11 @@ export class Questions {
     this.worker = new Worker(new URL('worker.mjs', import.meta.url), { type: 'module' });
     this.worker.onmessage = ({ data }) => this.#answered(data);
     this.worker.onerror = (event) => this.stop(new Error(event.message || 'the worker ended'));
+  }
+
+  /** Whether nothing is under way, and nothing was asked for so many milliseconds. @param {number} ms */
+  isAtRest(ms) {
+    return !this.open.size && performance.now() - this.asked > ms;
   }
 
   /** Tells the worker, if there is one, what has no answer. @param {string} job @param {object} body */
@@ -61,11 +69,13 @@ export class Questions {
     const open = [...this.open.values()];
     this.open.clear();
     for (const { reject } of open) reject(why);
+    this.started();
     this.changed();
   }
 
   /** @param {{ id: number, result?: any, fault?: string }} data */
   #answered({ id, result, fault }) {
+    this.started();
     const asked = this.open.get(id);
     if (!asked) return;
     this.open.delete(id);

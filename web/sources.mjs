@@ -1,11 +1,12 @@
 // What was dropped or chosen, as files: folders are taken apart, and archives are handed to `unpack`.
 import { stampOf } from './follow.mjs';
+import { isGame } from './games.mjs';
 import { isZip } from './zip.mjs';
 
 /**
  * @typedef {any} Handle  a FileSystemHandle, where the browser hands one out
- * @typedef {{ file: File, handle: Handle | null, stamp?: string, refused?: string }} Source  a file, by what it may be read again, of which saving it
- *   is, or why it isn't taken
+ * @typedef {{ file: File, handle: Handle | null, stamp?: string, refused?: string, isGame?: boolean }} Source  a file, by what it may be read again, of
+ *   which saving it is, or why it isn't taken; and whether it begins as a game's does
  * @typedef {{ file: File, handle: Handle | null }} Picked  a file as it was handed over: it may be an archive
  * @typedef {{ path: string, get: () => Promise<Picked> }} Found  a file of a folder
  * @typedef {(file: File) => Promise<{ files: { path: string, blob: Blob }[], refused: { path: string, why: string }[], others: number }>} Unpack
@@ -79,40 +80,43 @@ export async function droppedFiles(dropped) {
   const items = [...dropped.items].filter(({ kind }) => kind === 'file').map((/** @type {any} */ item) => ({
     handle: item.getAsFileSystemHandle?.().catch(() => null), entry: item.webkitGetAsEntry?.(), file: item.getAsFile(),
   }));
-  const sources = [];
-  for (const { handle: asked, entry, file } of items) {
+  const sources = await Promise.all(items.map(async ({ handle: asked, entry, file }) => {
     const handle = await asked;
-    if (handle?.kind === 'directory') sources.push(...await inFolder(below(handle, handle.name), handle.name));
-    else if (entry?.isDirectory) sources.push(...await inFolder(belowEntry(entry, entry.name), entry.name));
-    else if (handle) sources.push(...await pickedOf([handle]).catch(() => file ? [{ file, handle: null }] : []));
-    else if (file) sources.push({ file, handle: null });
-  }
-  return sources;
+    if (handle?.kind === 'directory') return inFolder(below(handle, handle.name), handle.name);
+    if (entry?.isDirectory) return inFolder(belowEntry(entry, entry.name), entry.name);
+    const alone = file ? [{ file, handle: null }] : [];
+    return handle ? pickedOf([handle]).catch(() => alone) : alone;
+  }));
+  return sources.flat();
 }
 
-/** Which other archive a file is; nothing where it is none. @param {File} file */
-async function otherArchive(file) {
-  const begin = new Uint8Array(await file.slice(0, 4).arrayBuffer());
-  return OTHERS.find(([, bytes]) => bytes.every((byte, k) => begin[k] === byte))?.[0] ?? '';
-}
+const BEGIN = 4; // bytes that tell what a file is
+
+/** How a file begins, which is read once. @param {Blob} file */
+const beginOf = async (file) => new Uint8Array(await file.slice(0, BEGIN).arrayBuffer());
+
+/** Which other archive begins so; nothing where none does. @param {Uint8Array} begin */
+const otherArchive = (begin) => OTHERS.find(([, bytes]) => bytes.every((byte, k) => begin[k] === byte))?.[0] ?? '';
 
 /**
  * Files as they are opened: those of an archive in its place.
- * @param {Source[]} picked @param {Unpack} unpack @returns {AsyncGenerator<Source[]>}
+ * @param {Source[]} picked @param {Unpack} unpack @returns {Promise<Source[]>}
  */
-export async function* takeApart(picked, unpack) {
-  for (const source of picked) yield source.refused ? [source] : await membersOf(source, unpack).catch(() => [source]); // the worker tells why it can't be read
+export async function takeApart(picked, unpack) {
+  const parts = picked.map((source) => source.refused ? [source] : membersOf(source, unpack).catch(() => [source])); // the worker tells why it can't be read
+  return (await Promise.all(parts)).flat();
 }
 
 /** The files of an archive, or a file itself. @param {Picked} source @param {Unpack} unpack @returns {Promise<Source[]>} */
 async function membersOf({ file, handle }, unpack) {
-  const { name, lastModified } = file, stamp = stampOf(file), other = await otherArchive(file);
+  const { name, lastModified } = file, stamp = stampOf(file), begin = await beginOf(file), other = otherArchive(begin);
   const refused = (/** @type {string} */ path, /** @type {string} */ why) => refusal(path, why, handle, stamp);
   if (other) return [refused(name, `${other}, which isn't read here: unpack it, and drop its files`)];
-  if (!IS_ARCHIVE.test(name) && !await isZip(file)) return [{ file, handle, stamp }];
+  if (!IS_ARCHIVE.test(name) && !isZip(begin, file.size)) return [{ file, handle, stamp, isGame: isGame(begin) }];
   let found;
   try { found = await unpack(file); } catch (error) { return [refused(name, error instanceof Error ? error.message : String(error))]; }
-  const { files, refused: bad, others } = found, all = [...files.map(({ path, blob }) => ({ file: under(blob, path, lastModified), handle, stamp })),
-    ...bad.map(({ path, why }) => refused(path, why))];
+  const { files, refused: bad, others } = found, taken = files.map(async ({ path, blob }) =>
+    ({ file: under(blob, path, lastModified), handle, stamp, isGame: await beginOf(blob).then(isGame, () => false) }));
+  const all = [...await Promise.all(taken), ...bad.map(({ path, why }) => refused(path, why))];
   return all.length ? all : [refused(name, `a ZIP without a WAD file or a demo${others ? `: it has ${others} other files` : ''}`)];
 }

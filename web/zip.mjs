@@ -26,11 +26,11 @@ const METHODS = /** @type {Record<number, string>} */ ({ 1: 'shrink', 6: 'implod
 
 const IS_ARCHIVE = /\.(zip|pk3)$/i, IS_WANTED = /\.(wad|lmp|zip|pk3)$/i;
 
-/** Whether a file begins as an archive does, or is an empty one. @param {Blob} file */
-export async function isZip(file) {
-  if (file.size < END_SIZE) return false;
-  const begin = (await viewOf(file, 0, 4)).getUint32(0, true);
-  return begin === LOCAL || begin === END;
+/** Whether a file begins as an archive does, or is an empty one. @param {Uint8Array} begin its first four bytes @param {number} size */
+export function isZip(begin, size) {
+  if (size < END_SIZE) return false;
+  const mark = new DataView(begin.buffer, begin.byteOffset).getUint32(0, true);
+  return mark === LOCAL || mark === END;
 }
 
 /** @param {Blob} file @param {number} from @param {number} to */

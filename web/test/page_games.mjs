@@ -62,7 +62,7 @@ async function later() {
 async function together() {
   await fresh();
   await browser.run(`{ const send = Worker.prototype.postMessage; window.asked = [];
-    Worker.prototype.postMessage = function (data, ...more) { window.asked.push(data.job + ' ' + data.file.name); send.call(this, data, ...more); }; }`);
+    Worker.prototype.postMessage = function (data, ...more) { window.asked.push(data.job + ' ' + data.file?.name); send.call(this, data, ...more); }; }`);
   await browser.drop(gameFile, written('notes.txt', 'notes about the rooms'), mineFile);
   await read(3);
   await drawn('MAP01');

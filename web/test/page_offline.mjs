@@ -41,13 +41,18 @@ async function offline() {
   return address;
 }
 
+/** How many of the page's workers have their engine. @returns {Promise<number>} */
+async function loaded() {
+  const has = (/** @type {string} */ one) => browser.run("performance.getEntriesByType('resource').some(({ name, responseEnd }) => name.endsWith('wad_page.wasm') && responseEnd)", one);
+  return (await Promise.all(browser.workers.map((one) => has(one).catch(() => false)))).filter(Boolean).length;
+}
+
 /** All that is needed is there before the first file is dropped, also where no service worker keeps it. */
 async function early() {
   const { identifier } = await browser.send('Page.addScriptToEvaluateOnNewDocument', { source: 'delete Navigator.prototype.serviceWorker' });
   const host = await serve(folder, room), { address } = host;
   await fresh(address);
-  for (let k = 0; k < 500 && browser.requests.filter((url) => url === `${address}wad_page.wasm`).length < 3; k++) await wait(10);
-  await wait(500);
+  for (let k = 0; k < 3000 && await loaded() < 3; k++) await wait(10);
   host.close();
   await withoutHost(async () => {
     await browser.drop(roomsFile);

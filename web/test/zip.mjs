@@ -6,6 +6,7 @@ import { filesIn, isZip, membersOf } from '../zip.mjs';
 
 const folder = process.argv[2], blob = (/** @type {Buffer} */ bytes) => new Blob(/** @type {BlobPart[]} */ ([bytes]));
 const read = (/** @type {string} */ name) => readFileSync(join(folder, name));
+const begins = (/** @type {Buffer} */ bytes) => isZip(bytes.subarray(0, 4), bytes.length);
 const whyOf = (/** @type {unknown} */ error) => error instanceof Error ? error.message : String(error);
 
 /** What is found in an archive: what is refused, the paths and the bytes of its files, and how many others there are. @param {Buffer} bytes */
@@ -28,12 +29,12 @@ function changed(name, change) {
 const ALL = ['A/maps/MAP01.wad: PWAD one 4008', 'A/maps/deep/E1M1.WAD: PWAD two 8', 'A/walk.lmp: \x6d\x02demo 6', '2 others'];
 for (const name of ['python.zip', 'python.pk3', 'stored.zip', 'infozip.zip', 'prefixed.zip', 'commented.zip']) {
   check(`the files of ${name}`, await told(read(name)), ALL);
-  check(`${name} begins as an archive`, await isZip(blob(read(name))), name !== 'prefixed.zip');
+  check(`${name} begins as an archive`, begins(read(name)), name !== 'prefixed.zip');
 }
 check('an archive within another', await told(read('nested.zip')), ['A/inner.zip/maps/MAP01.wad: PWAD one 4008', 'A/inner.zip/maps/deep/E1M1.WAD: PWAD two 8',
   'A/inner.zip/walk.lmp: \x6d\x02demo 6', 'A/own.wad: PWAD own 8', '2 others']);
 check('archives within archives end somewhere', await told(read('deep.zip')), ['A/3.zip/2.zip/1.zip: an archive within several others: unpack it, and drop its files']);
-check('an empty archive', [await told(read('empty.zip')), await isZip(blob(read('empty.zip')))], [[], true]);
+check('an empty archive', [await told(read('empty.zip')), begins(read('empty.zip'))], [[], true]);
 check('names that are none of UTF-8', await told(read('names.zip')), ['A/caf\u00e9.wad: PWAD own 8', 'A/na\u00efve.wad: PWAD own 8']);
 check('many members', (await membersOf(blob(read('many.zip')))).length, 3000);
 check('no more of them than a page opens', (await told(read('many.zip'))).length, 3000);
@@ -65,7 +66,7 @@ check('a directory that is none', await told(changed('python.zip', (bytes, entry
 check('a directory before the file', await told(changed('python.zip', (bytes, _, end) => bytes.writeUInt32LE(0x7ffffff0, end + 16))), 'a ZIP whose directory is damaged');
 check('a ZIP64', await told(changed('python.zip', (bytes, _, end) => bytes.writeUInt32LE(0xffffffff, end + 16))), "a ZIP64, which isn't read here: unpack it, and drop its files");
 check('a part of several', await told(changed('python.zip', (bytes, _, end) => bytes.writeUInt16LE(1, end + 4))), 'a part of a ZIP of several parts: put them together first');
-check('what is none', [await isZip(blob(Buffer.from('IWAD and more than twenty-two bytes'))), await isZip(blob(Buffer.from('PK')))], [false, false]);
+check('what is none', [begins(Buffer.from('IWAD and more than twenty-two bytes')), begins(Buffer.from('PK'))], [false, false]);
 
 // Each byte changed, one after the other: an answer or a reason, and never more than is stated.
 const small = read('small.zip');

@@ -22,6 +22,7 @@ import { CLASSES, THING } from './picture.mjs';
 
 const CLOSEST = 16; // pixels to a unit
 const FARTHEST = 32767; // a number of a place is no larger; cells may reach beyond
+const SOON = 30; // ms in which an answer is waited for, so that what it changes is drawn with it
 const SLOW = 30; // ms: a picture that takes longer is moved as it is, and drawn anew when it rests
 const RING = 24; // units about the only end of a linedef
 const NEAR = 7, NEAR_TOUCH = 16; // pixels in which a mark, a thing or a linedef is hit by a pointer, and by a finger
@@ -139,6 +140,8 @@ export class MapView {
     this.dragged = 0;
     this.took = 0; // ms that the last whole drawing took
     this.drawn = { ...this.view };
+    /** @type {ReturnType<typeof setTimeout> | undefined} */
+    this.soon = undefined;
     new ResizeObserver(() => this.#resize()).observe(frame);
     for (const query of ['(prefers-color-scheme: dark)', '(forced-colors: active)']) {
       matchMedia(query).addEventListener('change', () => this.#theme());
@@ -227,7 +230,7 @@ export class MapView {
   ask(asked, stays = false) {
     this.asked = asked;
     if (asked && !stays) this.#flyTo(asked.at);
-    this.#redraw();
+    this.#redrawSoon();
   }
 
   /** @param {number[]} place */
@@ -244,7 +247,7 @@ export class MapView {
       this.block = new Path2D();
       this.sight(-1, []);
     } else if (this.#outOfView(at.x, at.y)) this.#fly({ ...this.view, ...at });
-    this.#redraw();
+    this.#redrawSoon();
   }
 
   /** Draws a block's linedefs. @param {number[]} lines x y x y of each */
@@ -328,7 +331,14 @@ export class MapView {
   }
 
   #redraw() {
+    clearTimeout(this.soon);
+    this.soon = undefined;
     this.waiting ??= requestAnimationFrame(() => this.#drawNow());
+  }
+
+  /** Draws anew where an answer has it done, or else a little later: a drawing would keep the page from hearing the answer. */
+  #redrawSoon() {
+    if (!this.waiting) this.soon ??= setTimeout(() => this.#redraw(), SOON);
   }
 
   /** Draws what waits for the next frame. */

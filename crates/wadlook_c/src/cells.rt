@@ -1,14 +1,15 @@
 //! Which sectors the cells of a picture show.
 
-ghost use Rattle.std.specs.Prelude.{◌≡◌, ◌*◌, ◌<◌, ◌≤◌, IfErr, IfNone, IfOk, IfSome, drop, length};
+ghost use Rattle.std.specs.Prelude.{◌≡◌, ◌*◌, ◌<◌, ◌≤◌, IfErr, IfNone, IfOk, IfSome, drop, length, true};
 ghost use Rattle.map_cells.specs.Cells.{AreCells};
+ghost use Rattle.map_cells.specs.Frame.{IsFrame, frame_at};
 ghost use Rattle.map_cells.specs.Grid.{columns_of, rows_of};
 ghost use Rattle.map_level.specs.Level.{Level};
 ghost use Rattle.map_picture.specs.Drawing.{HasNothing, IsFrameOf};
 ghost use Rattle.map_tree.specs.Sound.{IsSound};
 ghost use Rattle.wadlook_c.specs.Ends.{reading_of};
 ghost use Rattle.wadlook_c.specs.declared.cells.SeenFault.TheVariants.{NoView};
-ghost use Rattle.wadlook_c.specs.Seen.{AreSeen, IsGrid, IsGridOf, RefusesSeen, RefusesView, SeesCells, SeesLevel, TellsGrid, cell_number, frame_of, seen_number_of};
+ghost use Rattle.wadlook_c.specs.Seen.{AreSeen, IsGrid, IsGridOf, IsView, RefusesSeen, RefusesView, SeesCells, SeesLevel, TellsGrid, cell_number, frame_of, seen_number_of};
 
 use crate::entry::{EntryFault, entry_number_of, open_accepted};
 use crate::opening::reading_of;
@@ -130,7 +131,8 @@ fn seen(
 // The frame that is asked for.
 fn framed_by(view: &WadlookView) -> Result<Option<Frame>, SeenFault>
     ensures ok { IfOk result (λ frame. frame ≡ frame_of view.now) }
-    ensures err { IfErr result (λ fault. fault ≡ NoView) }
+    ensures valid { IfOk result (λ _. view.now.framed ≡ true → IsFrame (frame_at view.now.x0 view.now.y0 view.now.x1 view.now.y1)) }
+    ensures err { IfErr result (λ fault. (fault ≡ NoView) × (¬ IsView view.now)) }
 {
     if !view.framed {
         return Ok(None);

@@ -98,6 +98,7 @@ enum wadlook_status {
 
 /* Each ends with a NUL and stays. NULL where the number is none's. */
 const char *wadlook_status_text(uint32_t status); /* one of wadlook_status, in words */
+const char *wadlook_end_text(uint32_t end);       /* one of wadlook_end, in words */
 const char *wadlook_code_name(uint32_t code);     /* one of wadlook_code, as "F3" */
 const char *wadlook_code_text(uint32_t code);     /* what it says, in few words */
 const char *wadlook_kind_text(uint32_t kind);     /* one of wadlook_kind, as "linedef" */
@@ -444,7 +445,8 @@ enum wadlook_kind {
     WADLOOK_THING = 7,
     WADLOOK_LUMP = 8,
     WADLOOK_BLOCK = 9,
-    WADLOOK_WHOLE = 10 /* the level */
+    WADLOOK_WHOLE = 10, /* the level */
+    WADLOOK_FILE = 11   /* a file that is refused */
 };
 
 /* Where it is on the map. */
@@ -464,7 +466,7 @@ typedef struct {
     size_t entry;        /* the entry of the level's label */
     const char *level;   /* the label's name, as it is shown; "" of a file that is refused */
     const char *message; /* what is wrong, in words */
-    int64_t index;       /* the number of the record; of a block its column; -1 of a level */
+    int64_t index;       /* the number of the record; of a block its column; -1 of a level and of a file */
     int64_t row;         /* of a block its row, and else -1 */
     uint32_t code;       /* one of wadlook_code, or WADLOOK_UNJUDGED */
     uint32_t kind;       /* one of wadlook_kind */

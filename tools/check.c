@@ -165,6 +165,7 @@ static bool tells(char *line, wadlook_found *found, char *words) {
         else if (is(name, "format")) format = string(&in);
         else if (is(name, "lump") || is(name, "tag")) decides = string(&in);
         else if (is(name, "message") || is(name, "refused")) {
+            if (is(name, "refused")) found->kind = WADLOOK_FILE;
             found->message = string(&in);
             told = true;
         } else {

@@ -104,6 +104,16 @@ static const char *const statuses[] = {
     "nothing to draw",
 };
 
+/* By the numbers of wadlook_end. */
+static const char *const ends[] = {
+    "nothing is wrong",
+    "a fault or a difference",
+    "a file is refused, or a level isn't judged",
+    "no memory left",
+    "stopped at the limit or by the callback",
+    "the question has no meaning, or isn't asked of so many files",
+};
+
 /* By the numbers of wadlook_kind. */
 static const char *const kinds[] = {
     "linedef",
@@ -117,6 +127,7 @@ static const char *const kinds[] = {
     "lump",
     "block",
     "level",
+    "file",
 };
 
 /* By the numbers of wadlook_format. */
@@ -125,6 +136,7 @@ static const char *const formats[] = {"doom", "hexen", "udmf", "extended", "inco
 #define COUNT(array) (sizeof(array) / sizeof *(array))
 
 const char *wadlook_status_text(uint32_t status) { return status < COUNT(statuses) ? statuses[status] : NULL; }
+const char *wadlook_end_text(uint32_t end) { return end < COUNT(ends) ? ends[end] : NULL; }
 const char *wadlook_code_name(uint32_t code) { return code < COUNT(codes) ? codes[code].name : NULL; }
 const char *wadlook_code_text(uint32_t code) { return code < COUNT(codes) ? codes[code].text : NULL; }
 const char *wadlook_kind_text(uint32_t kind) { return kind < COUNT(kinds) ? kinds[kind] : NULL; }

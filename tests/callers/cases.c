@@ -445,13 +445,79 @@ static void cells(void) {
     CHECK(wadlook_cells(wad, BASE, 0, false, &view, told, 8, &grid) == WADLOOK_NO_VIEW && grid.columns == 4);
 }
 
+/* The same of the calls by an entry, and of the words of `wadlens`. */
+static void nothing_at(void) {
+    const wadlook_point_at origin = {0, 5};
+    const wadlook_rect rect = {-1, 0, 1, 1};
+    const wadlook_view view = {-2, 0, 1, 0, 4, true};
+    wadlook_place place = {7, 7};
+    wadlook_totals totals = {9, 9};
+    wadlook_lump lump = {9, 9, 9};
+    wadlook_grid grid = {9, 9, 9, 9, 9};
+    size_t count = 9;
+    fresh();
+    CHECK(wadlook_levels(NULL, 0, NULL, 0, &count) == WADLOOK_SHORT && count == 9);
+    CHECK(wadlook_levels(wad, BASE, NULL, 0, &count) == WADLOOK_DONE && count == 1);
+    CHECK(wadlook_points_at(NULL, 0, 0, false, &origin, 1, &place, 1) == WADLOOK_SHORT && place.sector == 7);
+    CHECK(wadlook_points_at(wad, BASE, 0, false, NULL, 0, &place, 1) == WADLOOK_DONE && place.sector == 7);
+    CHECK(wadlook_points_at(wad, BASE, 0, false, NULL, 0, NULL, 0) == WADLOOK_DONE);
+    CHECK(wadlook_points_at(wad, BASE, 0, false, &origin, 1, NULL, 0) == WADLOOK_NO_ROOM);
+    count = 9;
+    CHECK(wadlook_prepare_at(NULL, 0, 0, false, NULL, 0, &count) == WADLOOK_SHORT && count == 9);
+    CHECK(wadlook_prepare_at(wad, BASE, 0, false, NULL, 0, &count) == WADLOOK_NO_ROOM && count == 2);
+    CHECK(wadlook_under(NULL, 0, 0, false, origin, &place) == WADLOOK_SHORT && place.sector == 7);
+    count = 9;
+    CHECK(wadlook_census_at(NULL, 0, 0, false, &rect, NULL, 0, &count) == WADLOOK_SHORT && count == 9);
+    CHECK(wadlook_census_at(wad, BASE, 0, false, &rect, NULL, 0, &count) == WADLOOK_DONE && count == 2);
+    CHECK(wadlook_cells(NULL, 0, 0, false, &view, NULL, 0, &grid) == WADLOOK_SHORT && grid.size == 9);
+    CHECK(wadlook_cells(wad, BASE, 0, false, &view, NULL, 0, &grid) == WADLOOK_NO_ROOM && grid.columns == 4);
+    CHECK(wadlook_audit_at(NULL, 0, 0, false, NULL, 0, &totals) == WADLOOK_SHORT && totals.faults == 9);
+    CHECK(wadlook_audit_at(wad, BASE, 0, false, NULL, 0, &totals) == WADLOOK_DONE && totals.faults == 0);
+    CHECK(wadlook_find_at(NULL, 0, 0, &lump) == WADLOOK_SHORT && lump.entry == 9);
+    count = 9;
+    CHECK(wadlook_extract_at(NULL, 0, 0, NULL, 0, &count) == WADLOOK_SHORT && count == 9);
+    CHECK(wadlook_extract_at(wad, BASE, 0, NULL, 0, &count) == WADLOOK_NO_ROOM && count == BASE);
+}
+
+static bool is_refused_file(void *own, const wadlook_found *found) {
+    *(bool *)own = found->code == WADLOOK_UNJUDGED && found->kind == WADLOOK_FILE && found->file == 0;
+    return true;
+}
+
+static void nothing_said(void) {
+    wadlook_question question;
+    memset(&question, 0, sizeof question);
+    const wadlook_file none = {NULL, 0, NULL, 0}, files[] = {none, none};
+    const wadlook_file sample = {NULL, 0, wad, BASE};
+    wadlook_told told = {9, 9};
+    bool is = false;
+    fresh();
+    CHECK(wadlook_run(&question, NULL, 0, NULL, 0, NULL, 0, NULL, 0, &told) == WADLOOK_MISTAKEN && told.answer == 0);
+    CHECK(wadlook_run(&question, &none, 1, NULL, 0, NULL, 0, NULL, 0, &told) == WADLOOK_REFUSED && told.messages > 0);
+    CHECK(wadlook_check(&question, NULL, 0, is_refused_file, &is) == WADLOOK_MISTAKEN);
+    CHECK(wadlook_check(&question, &none, 1, is_refused_file, &is) == WADLOOK_REFUSED && is);
+    question.word = WADLOOK_CUT_LEVEL;
+    CHECK(wadlook_run(&question, &sample, 1, NULL, 0, NULL, 0, NULL, 0, &told) == WADLOOK_REFUSED && told.answer == 0);
+    question.word = WADLOOK_PICTURE;
+    CHECK(wadlook_run(&question, &sample, 1, NULL, 0, NULL, 0, NULL, 0, &told) == WADLOOK_REFUSED && told.answer == 0);
+    question.word = WADLOOK_COMPARE;
+    CHECK(wadlook_run(&question, files, 2, NULL, 0, NULL, 0, NULL, 0, &told) == WADLOOK_REFUSED && told.messages > 0);
+    question.word = WADLOOK_ASSEMBLE;
+    CHECK(wadlook_run(&question, NULL, 0, NULL, 0, NULL, 0, NULL, 0, &told) == WADLOOK_REFUSED && told.messages > 0);
+    question.word = WADLOOK_EXPLAIN_ALL;
+    CHECK(wadlook_run(&question, NULL, 0, NULL, 0, NULL, 0, NULL, 0, &told) == WADLOOK_CLEAN && told.answer > 0);
+}
+
 static void texts(void) {
     uint64_t codes = 9;
     CHECK(!strcmp(wadlook_status_text(WADLOOK_NO_NAME), "no entry of this name") && !wadlook_status_text(25) &&
           !wadlook_status_text(99));
+    CHECK(!strcmp(wadlook_end_text(WADLOOK_NO_MEMORY), "no memory left") && wadlook_end_text(WADLOOK_MISTAKEN) &&
+          !wadlook_end_text(WADLOOK_MISTAKEN + 1));
     CHECK(!strcmp(wadlook_code_name(WADLOOK_W25), "W25") && !wadlook_code_name(WADLOOK_W25 + 1) && !wadlook_code_text(99));
     CHECK(!strcmp(wadlook_code_text(WADLOOK_N2), "bytes left over"));
-    CHECK(!strcmp(wadlook_kind_text(WADLOOK_WHOLE), "level") && !wadlook_kind_text(WADLOOK_WHOLE + 1));
+    CHECK(!strcmp(wadlook_kind_text(WADLOOK_WHOLE), "level") && !strcmp(wadlook_kind_text(WADLOOK_FILE), "file") &&
+          !wadlook_kind_text(WADLOOK_FILE + 1));
     CHECK(!strcmp(wadlook_format_text(WADLOOK_OUTSIDE), "outside") && !wadlook_format_text(WADLOOK_OUTSIDE + 1));
     CHECK(wadlook_codes("n2,W7-w8", &codes) &&
           codes == (WADLOOK_BIT(WADLOOK_N2) | WADLOOK_BIT(WADLOOK_W7) | WADLOOK_BIT(WADLOOK_W8)));
@@ -466,7 +532,8 @@ static bool count_found(void *own, const wadlook_found *found) {
     if (found->code == WADLOOK_W1)
         CHECK(found->kind == WADLOOK_SECTOR && found->where == WADLOOK_AT && !strcmp(found->message, "isn't closed"));
     if (found->code == WADLOOK_UNJUDGED)
-        CHECK(found->file == 1 && !*found->level && !strcmp(found->message, "shorter than a WAD header"));
+        CHECK(found->file == 1 && found->kind == WADLOOK_FILE && found->index == -1 && !*found->level &&
+              !strcmp(found->message, "shorter than a WAD header"));
     else CHECK(found->file == 0 && !strcmp(found->level, "E1M1") && found->entry == 0);
     return --*left != 0;
 }
@@ -582,6 +649,8 @@ int main(int argc, char **argv) {
     cuts();
     entries();
     cells();
+    nothing_at();
+    nothing_said();
     texts();
     words();
     unjudged();

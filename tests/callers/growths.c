@@ -8,7 +8,7 @@
 
 #define NAME(text) (const uint8_t *)(text), strlen(text)
 
-enum { SAMPLE = 409, ROOM = 1024, POISON = 0xA5, MOST = 100 };
+enum { SAMPLE = 409, ROOM = 1024, POISON = 0xA5, MOST = 1000 };
 
 void *__libc_malloc(size_t size);
 void *__libc_realloc(void *old, size_t size);
@@ -121,6 +121,24 @@ static uint32_t points_at(void) {
     return wadlook_points_at(wad, SAMPLE, 0, false, at, 2, out.places, 2);
 }
 
+static uint32_t prepare_at(void) { return wadlook_prepare_at(wad, SAMPLE, 0, false, out.listed.sectors, 8, &out.listed.count); }
+
+static uint32_t under(void) {
+    const wadlook_point_at at = {0, 5};
+    return wadlook_under(wad, SAMPLE, 0, false, at, out.places);
+}
+
+static bool place_is_right(void) { return out.places[0].sector == 1 && out.places[0].ssector == 1; }
+
+static uint32_t census_at(void) {
+    static const wadlook_rect rect = {-1, 0, 1, 1};
+    return wadlook_census_at(wad, SAMPLE, 0, false, &rect, out.census.counts, 4, &out.census.count);
+}
+
+static uint32_t audit_at(void) { return wadlook_audit_at(wad, SAMPLE, 0, false, out.audit.findings, 4, &out.audit.totals); }
+
+static uint32_t find_at(void) { return wadlook_find_at(wad, SAMPLE, 7, &out.lump); }
+
 static uint32_t cells(void) {
     static const wadlook_view view = {-2, 0, 1, 0, 4, true};
     return wadlook_cells(wad, SAMPLE, 0, false, &view, out.cells.sectors, 4, &out.cells.grid);
@@ -147,6 +165,29 @@ static uint32_t picture(void) { return run(WADLOOK_PICTURE); }
 
 static bool picture_is_right(void) { return !memcmp(out.ran.answer, "<svg", 4); }
 
+static uint32_t survey(void) { return run(WADLOOK_SURVEY); }
+
+static bool object_is_right(void) { return !memcmp(out.ran.answer, "{\"file\":\"a.wad\",\"level\":\"E1M1\",", 31); }
+
+static uint32_t cut(void) { return run(WADLOOK_CUT); }
+
+static bool cut_is_right(void) { return out.ran.told.answer == SAMPLE && !memcmp(out.ran.answer, wad, SAMPLE); }
+
+static bool add_found(void *own, const wadlook_found *found) {
+    *(size_t *)own += found->code == WADLOOK_W1;
+    return true;
+}
+
+/* A callback for each finding. */
+static uint32_t check_found(void) {
+    const wadlook_question question = {.map = true};
+    const wadlook_file file = {(const uint8_t *)"a.wad", 5, wad, SAMPLE};
+    out.listed.count = 0;
+    return wadlook_check(&question, &file, 1, add_found, &out.listed.count);
+}
+
+static bool findings_are_right(void) { return out.listed.count == 4; }
+
 static const struct call {
     const char *name;
     uint32_t (*make)(void);
@@ -161,10 +202,18 @@ static const struct call {
     {"extract", extract, level_is_right, WADLOOK_MEMORY},
     {"levels", levels, labels_are_right, WADLOOK_MEMORY},
     {"points_at", points_at, points_are_right, WADLOOK_MEMORY},
+    {"prepare_at", prepare_at, sectors_are_right, WADLOOK_MEMORY},
+    {"under", under, place_is_right, WADLOOK_MEMORY},
+    {"census_at", census_at, counts_are_right, WADLOOK_MEMORY},
     {"cells", cells, cells_are_right, WADLOOK_MEMORY},
+    {"audit_at", audit_at, totals_are_right, WADLOOK_MEMORY},
+    {"find_at", find_at, lump_is_right, WADLOOK_MEMORY},
     {"extract_at", extract_at, level_is_right, WADLOOK_MEMORY},
     {"check", check, lines_are_right, WADLOOK_NO_MEMORY},
     {"picture", picture, picture_is_right, WADLOOK_NO_MEMORY},
+    {"survey", survey, object_is_right, WADLOOK_NO_MEMORY},
+    {"cut", cut, cut_is_right, WADLOOK_NO_MEMORY},
+    {"wadlook_check", check_found, findings_are_right, WADLOOK_NO_MEMORY},
 };
 
 /* Makes a call with growth n refused, with 0 none: its status. */

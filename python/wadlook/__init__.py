@@ -112,7 +112,7 @@ class WadlookError(Exception):
 
     def __init__(self, status: int, what: str = "") -> None:
         self.status, self.what = Status(status), what
-        words = (_so.wadlook_status_text(status) or b"").decode()
+        words = _words_of(status)
         super().__init__(f"{what}: {words}" if what else words)
 
     def __reduce__(self) -> tuple[type[WadlookError], tuple[Status, str], dict[str, object]]:
@@ -336,7 +336,7 @@ def _library() -> ctypes.CDLL:
         call.argtypes = types
         call.restype = _Place if name == "point" else ctypes.c_uint32
     so.wadlook_codes.argtypes, so.wadlook_codes.restype = [ctypes.c_char_p, ctypes.c_void_p], ctypes.c_bool
-    for name in ("status_text", "code_name", "code_text", "kind_text", "format_text"):
+    for name in ("status_text", "end_text", "code_name", "code_text", "kind_text", "format_text"):
         call = getattr(so, f"wadlook_{name}")
         call.argtypes, call.restype = [ctypes.c_uint32], ctypes.c_char_p
     return so
@@ -354,7 +354,7 @@ def _listed(name: str) -> list[str]:
     return out
 
 
-_CODES, _FORMATS = _listed("code_name"), _listed("format_text")
+_CODES, _ENDS, _FORMATS, _KINDS = (_listed(name) for name in ("code_name", "end_text", "format_text", "kind_text"))
 _TEXTS = dict(zip(_CODES, _listed("code_text")))
 
 _MOST = 2 ** (8 * ctypes.sizeof(ctypes.c_size_t)) - 1
@@ -375,9 +375,14 @@ def _text_of(name: Name) -> str:
     return name if isinstance(name, str) else name.partition(b"\0")[0].decode("utf-8", "backslashreplace")
 
 
+def _words_of(status: int) -> str:
+    """What a status says."""
+    return (_so.wadlook_status_text(status) or b"").decode()
+
+
 def _stop_at(status: int, what: str = "") -> None:
     if status == Status.MEMORY:
-        raise MemoryError(f"{what}: no memory left" if what else "no memory left")
+        raise MemoryError(f"{what}: {_words_of(status)}" if what else _words_of(status))
     if status:
         raise WadlookError(status, what)
 
@@ -593,8 +598,15 @@ class Level:
 
     @property
     def entry(self) -> int:
-        """The entry of the level's label."""
-        return self._asked if isinstance(self._asked, int) else self._find(0).entry
+        """The entry of the level's label, of which no byte is asked: they may be outside the file."""
+        if isinstance(self._asked, int):
+            return self._asked
+        try:
+            return self._find(0).entry
+        except WadlookError as why:
+            if why.status != Status.LUMP_OUTSIDE:
+                raise
+            return self._find(1).entry - 1
 
     def _find(self, number: int) -> Lump:
         """The lump of this number behind the level's label."""

@@ -4,10 +4,12 @@ from __future__ import annotations
 
 import argparse
 import os
+import re
+import secrets
 import sys
-from typing import List
+from typing import Dict, List, Tuple
 
-from wadlook import Frame, __version__, _bytes_of, _frame_of
+from wadlook import _ENDS, Frame, __version__, _bytes_of, _frame_of
 from wadlook import _words as words
 from wadlook._words import End
 
@@ -138,6 +140,54 @@ def _paths(asked: argparse.Namespace) -> List[str]:
     return [*getattr(asked, "base", []), *getattr(asked, "files", [])]
 
 
+class _Files:
+    """The files of a run, as the library takes them.
+
+    One that can't be read is handed over without bytes, under a path that no other has: the library refuses it where the program
+    does, and `told` puts in the program's words.
+    """
+
+    def __init__(self, asked: argparse.Namespace) -> None:
+        self.held: List[words._Held] = []
+        self._unread: Dict[bytes, Tuple[bytes, bytes, bytes]] = {}
+        for path in _paths(asked):
+            try:
+                self.held.append(words._held(path))
+            except OSError as why:
+                without = self._without_bytes(os.fsencode(path), why)
+                if asked.command == "picture":
+                    # All files of a picture are read before one is looked at.
+                    self.held = [without]
+                    break
+                self.held.append(without)
+
+    def _without_bytes(self, path: bytes, why: OSError) -> words._Held:
+        # A folder can be opened, and what was raised by a read has no file's name.
+        is_opened = isinstance(why, IsADirectoryError) or why.filename is None
+        in_line, in_object = _shown_as(path)
+        alias = secrets.token_hex(16).encode()
+        self._unread[alias] = in_line, in_object, b"can't be read" if is_opened else b"can't be opened"
+        return words._held((alias, b""))
+
+    def told(self, text: bytes) -> bytes:
+        """What the library writes of the files, in the program's words."""
+        for alias, (in_line, in_object, why) in self._unread.items():
+            text = _put(b"wadlens: %s: .*" % alias, in_line + b": " + why, text)
+            text = _put(b'{"file":"%s","refused":"[^"]*"' % alias, in_object + b',"refused":"' + why + b'"', text)
+        return text
+
+
+def _put(pattern: bytes, words_of_it: bytes, text: bytes) -> bytes:
+    """The text with these words in the place of what fits a pattern."""
+    return re.sub(pattern, lambda _: words_of_it, text)
+
+
+def _shown_as(path: bytes) -> Tuple[bytes, bytes]:
+    """How a line begins that refuses a file, and an object: as the library shows the path of a file without bytes."""
+    ran = words._run(words._asked(words._SURVEY), [words._held((path, b""))])
+    return ran.messages.rpartition(b": ")[0], ran.answer.rpartition(b',"refused"')[0]
+
+
 def _ordered(arguments: List[str]) -> List[str]:
     """The command, its options, each with its value in one word, and then what it is asked of: they may stand in any order."""
     options: List[str] = []
@@ -159,26 +209,23 @@ def main(arguments: List[str]) -> int:
     """Does what the arguments ask, and returns the status of `wadlens`."""
     parser = _parser()
     asked = parser.parse_args(_ordered(arguments))
-    held: List[words._Held] = []
-    for path in _paths(asked):
-        try:
-            held.append(words._held(path))
-        except OSError as why:
-            sys.stderr.write(f"wadlook: {path}: {why.strerror}\n")
-            return End.REFUSED
-    given = sys.stdin.buffer.read() if asked.command == "assemble" else b""
     try:
-        ran = words._run(_question(asked), held, given)
+        question = _question(asked)
+        files = _Files(asked)
+        given = sys.stdin.buffer.read() if asked.command == "assemble" else b""
+        ran = words._run(question, files.held, given)
     except ValueError as why:
         parser.error(str(why))
     except MemoryError:
-        sys.stderr.write("wadlook: no memory left\n")
+        sys.stderr.write(f"wadlens: {_ENDS[End.NO_MEMORY]}\n")
         return End.NO_MEMORY
+    if ran.end == End.MISTAKEN:
+        parser.error(_ENDS[ran.end])
     try:
         if not getattr(asked, "quiet", False):
-            sys.stdout.buffer.write(ran.answer)
+            sys.stdout.buffer.write(files.told(ran.answer))
             sys.stdout.buffer.flush()
     except BrokenPipeError:
         os.dup2(os.open(os.devnull, os.O_WRONLY), sys.stdout.fileno())
-    sys.stderr.buffer.write(ran.messages)
-    return End.REFUSED if ran.end == End.MISTAKEN else ran.end
+    sys.stderr.buffer.write(files.told(ran.messages))
+    return ran.end

@@ -8,10 +8,11 @@ import json
 import operator
 import os
 import re
+import stat
 import struct
 from typing import TYPE_CHECKING, Any, Dict, Iterable, List, NamedTuple, Optional, Sequence, Tuple, Union, cast
 
-from wadlook import _CODES, _Lent, _so, Frame, Lump, Name, WadlookError, _bytes_of, _cells_of, _frame_of, _view_of
+from wadlook import _CODES, _ENDS, _Lent, _so, Frame, Lump, Name, WadlookError, _bytes_of, _cells_of, _frame_of, _view_of
 
 if TYPE_CHECKING:
     from wadlook import Buffer, Source
@@ -39,7 +40,7 @@ class Refusal(WadlookError):
     """A run was refused: the text says why, as `wadlens` tells it, and `end` how it ended."""
 
     def __init__(self, end: int, messages: str) -> None:
-        Exception.__init__(self, messages.rstrip("\n") or End(end).name.lower())
+        Exception.__init__(self, messages.rstrip("\n") or _ENDS[end])
         self.end, self.messages, self.what = End(end), messages, ""
 
     def __reduce__(self) -> Any:
@@ -126,13 +127,24 @@ class _Held(NamedTuple):
     lent: _Lent
 
 
+_LARGEST = 2**28
+"""The most bytes that a word reads of a file."""
+
+
+def _read(path: Path) -> bytes:
+    """A file's bytes; of one that is too large, as of a device without an end, only as many as show that."""
+    with open(path, "rb") as file:
+        about = os.fstat(file.fileno())
+        is_short = stat.S_ISREG(about.st_mode) and about.st_size <= _LARGEST
+        return file.read() if is_short else file.read(_LARGEST + 1)
+
+
 def _held(file: File) -> _Held:
     if isinstance(file, tuple):
         name, source = file
         return _Held(_bytes_of(name), _Lent(source))
     if isinstance(file, (str, os.PathLike)):
-        with open(file, "rb") as opened:
-            return _Held(os.fsencode(file), _Lent(opened.read()))
+        return _Held(os.fsencode(file), _Lent(_read(file)))
     return _Held(b"bytes", _Lent(file))
 
 
@@ -168,7 +180,7 @@ def _run(question: _Question, files: Sequence[_Held] = (), given: bytes = b"", r
             break
         room, notes = max(room, told.answer), max(notes, told.messages)
     if end == End.NO_MEMORY:
-        raise MemoryError("no memory left")
+        raise MemoryError(_ENDS[end])
     return Ran(ctypes.string_at(answer, told.answer), ctypes.string_at(messages, told.messages), End(end))
 
 
@@ -179,7 +191,7 @@ def _text(told: bytes) -> str:
 def _refuse(ran: Ran) -> Ran:
     """The same run, unless it was refused."""
     if ran.end == End.MISTAKEN:
-        raise ValueError("the question has no meaning, or isn't asked of so many files")
+        raise ValueError(_ENDS[ran.end])
     if ran.end != End.CLEAN and ran.messages and not ran.answer:
         raise Refusal(ran.end, _text(ran.messages))
     return ran

@@ -2,10 +2,14 @@
 
 import copy
 import ctypes
+import json
+import os
 import pickle
 import re
 import struct
+import subprocess
 import sys
+import tempfile
 from array import array
 
 import wadlook
@@ -89,8 +93,8 @@ def cases(path):
         (level.is_blocked, 1.0, 0),
         (level.wad.find, "E1M1", 1.0),
     ]
-    for call, *words in floats:
-        check(f"{call.__name__} of a number that is no integer", raises(TypeError, call, *words))
+    for call, *given in floats:
+        check(f"{call.__name__} of a number that is no integer", raises(TypeError, call, *given))
     check("places", level.places(asked) == [Place(0, 0), Place(1, 1), Place(1, 1), None])
     check("a place", level.place(0, 5) == Place(1, 1) and level.place(1, 5) == Place(0, 0) and level.place(0, 16384) is None)
     check("small letters and wide", Wad(base).level("e1m1", wide=True).sectors([(0, 5)]) == [1])
@@ -118,8 +122,8 @@ def cases(path):
     check("texts", twice.faults[0].text == "ssector named more than once")
     twice.findings.clear()
     check("faults stay, whatever is done to the list", len(twice.findings) == 2 and not twice.is_sound)
-    for call, words in ((twice.sectors, ([(0, 5)],)), (twice.place, (0, 5)), (twice.census, (0, 0, 1, 1))):
-        check("a level with faults", refused(Status.UNSOUND, call, *words))
+    for call, given in ((twice.sectors, ([(0, 5)],)), (twice.place, (0, 5)), (twice.census, (0, 0, 1, 1))):
+        check("a level with faults", refused(Status.UNSOUND, call, *given))
     for status, bytes_ in (
         (Status.SHORT, base[:11]),
         (Status.MAGIC, b"X" + base[1:]),
@@ -135,11 +139,13 @@ def cases(path):
     check("a missing lump", refused(Status.LUMP_MISSING, Wad(base).level("THINGS").sectors, [(0, 5)]))
     label = with_words(base, DIRECTORY, -1, -1, 1, 0)
     check("a label outside the file, of which no byte is asked", Wad(label).level("E1M1").sectors([(0, 5)]) == [1])
+    check("its entry", Wad(label).level("E1M1").entry == 0 and Wad(label).level("E1M1").under(0, 5) == Place(1, 1))
     check("a missing lump, audited", [it[:2] for it in Wad(base).level("THINGS").findings] == [("F1", 10)])
 
     names_in_bytes(base)
     entries(base)
     words(path, base)
+    program(path)
 
     last = many_sectors(base)
     check("a level of 65,536 sectors is sound", last.is_sound and [it.code for it in last.findings] == ["N8"])
@@ -175,6 +181,9 @@ def cases(path):
     check("the findings' texts", told_texts[: len(texts)] == list(texts.items()))
     check("the warnings' texts", len(told_texts) == 55 and wadlook._TEXTS["W9"] == "texture not there")
     check("the statuses", {it.name: str(it.value) for it in Status} == numbers_of("wadlook_status"))
+    check("the ends' texts", [len(wadlook._ENDS), wadlook._ENDS[3]] == [6, "no memory left"])
+    kinds = [name.lower() for name in numbers_of("wadlook_kind")]
+    check("the kinds", wadlook._KINDS == ["level" if name == "whole" else name for name in kinds])
     check("the ends", {it.name: str(it.value) for it in wadlook.End} == numbers_of("wadlook_end"))
     check("the codes' numbers", {code: str(number) for number, code in enumerate(wadlook._CODES)} == numbers_of("wadlook_code"))
     check("the words' numbers", [str(number) for number in range(14)] == list(numbers_of("wadlook_word").values()))
@@ -317,7 +326,7 @@ def words(path, base):
     check(
         "a picture of a part",
         wadlook.picture(b"E1M1", base, frame=(0, 0, 8, 8)).startswith(
-            '<svg xmlns="http://www.w3.org/2000/svg" viewBox="-32 -40 72 72">'
+            '<svg xmlns="http://www.w3.org/2000/svg" viewBox="-32 -40 72 72" '
         ),
     )
     check("no such picture", refusal(wadlook.picture, "E1M2", named) == (2, "wadlens: E1M2: no level of this name"))
@@ -333,6 +342,38 @@ def words(path, base):
     ordered = _program._ordered(["check", "a", "--max", "3", "--frame", "-1,0,1,0", "b", "--", "-c"])
     check("a program's words in any order", ordered == ["check", "--max=3", "--frame=-1,0,1,0", "--", "a", "b", "-c"])
     of_demos()
+
+
+def run(*given):
+    """How `python -m wadlook` ends, and what it writes to both ends."""
+    ran = subprocess.run([sys.executable, "-m", "wadlook", *given], capture_output=True, text=True, check=False)
+    return ran.returncode, ran.stdout, ran.stderr
+
+
+def program(path):
+    """`python -m wadlook` with files that can't be read, as `wadlens` tells of them."""
+    with tempfile.TemporaryDirectory() as folder:
+        absent = os.path.join(folder, "a\nb.wad")
+        shown = absent.replace("\n", "\\x0a")
+        lines = f"wadlens: {shown}: can't be opened\nwadlens: {folder}: can't be read\n"
+        check(
+            "files that can't be read, checked",
+            run("check", absent, path, folder) == (2, "1 levels in 3 files: 0 faults, 0 notes, 0 not judged\n", lines),
+        )
+        status, objects, told = run("survey", absent, path, folder)
+        rows = [json.loads(line) for line in objects.splitlines()]
+        check("files that can't be read, surveyed", (status, told) == (2, lines) and rows[1]["level"] == "E1M1")
+        reasons = {"file": absent, "refused": "can't be opened"}, {"file": folder, "refused": "can't be read"}
+        check("their objects", (rows[0], rows[2]) == reasons)
+        one = f"wadlens: {shown}: can't be opened\n"
+        for words_of_it in (["cut", "--entry=0", absent], ["listing", absent], ["picture", "E1M1", path, absent]):
+            check(f"a file that can't be read: {words_of_it[0]}", run(*words_of_it) == (2, "", one))
+        check("files that can't be read, compared", run("compare", absent, folder) == (2, "", lines))
+        check("a base file that can't be read", run("check", "--map", "--base", absent, path) == (2, "", one))
+        larger = os.path.join(folder, "large.wad")
+        with open(larger, "wb") as file:
+            file.truncate(2**40)
+        check("a file that is too large", run("check", larger)[2] == f"wadlens: {larger}: larger than 268435456 bytes\n")
 
 
 def of_demos():

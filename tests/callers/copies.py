@@ -237,12 +237,12 @@ def pickled_in_a_ring():
     for protocol in PROTOCOLS:
         for source in (whole(), bytearray(whole())):
             wad = Wad(source)
-            wad.levels = [wad.level("E1M1")]
+            wad.kept = [wad.level("E1M1")]
             for again in (pickle.loads(pickle.dumps(wad, protocol)), copy.deepcopy(wad)):
-                check(f"a file that names its levels, protocol {protocol}", again.levels[0].wad is again)
-                check(f"its level, protocol {protocol}", is_sample(again.levels[0]))
-            again = pickle.loads(pickle.dumps(wad.levels[0], protocol))
-            check(f"a level that its file names, protocol {protocol}", again.wad.levels[0] is again and is_sample(again))
+                check(f"a file that names its levels, protocol {protocol}", again.kept[0].wad is again)
+                check(f"its level, protocol {protocol}", is_sample(again.kept[0]))
+            again = pickle.loads(pickle.dumps(wad.kept[0], protocol))
+            check(f"a level that its file names, protocol {protocol}", again.wad.kept[0] is again and is_sample(again))
 
 
 def made_alike(wad, protocols):

@@ -11,6 +11,8 @@ pub struct Kind(pub u32);
 impl Kind {
     /// A level as a whole.
     pub const LEVEL: Kind = Kind(10);
+    /// A file that is refused.
+    pub const FILE: Kind = Kind(11);
 
     fn named(name: &str) -> Kind {
         (0..)
@@ -26,10 +28,11 @@ impl fmt::Display for Kind {
     }
 }
 
-/// The number of what something is found at.
+/// The number of what something is found at. Later versions may tell of more.
 #[derive(Clone, Copy, Debug, PartialEq, Eq, Hash)]
+#[non_exhaustive]
 pub enum Index {
-    /// A level has none.
+    /// A level has none, and neither has a file.
     Whole,
     /// That of a record.
     Record(u64),
@@ -51,8 +54,9 @@ impl fmt::Display for Spot {
     }
 }
 
-/// Where something is on the map. As text it is what a line ends with.
+/// Where something is on the map. As text it is what a line ends with. Later versions may tell of more.
 #[derive(Clone, Copy, Debug, PartialEq, Eq, Hash)]
+#[non_exhaustive]
 pub enum Where {
     /// No place is told.
     Nowhere,
@@ -124,7 +128,8 @@ impl Found {
                 found.index = Index::Block(column as u64, row as u64);
             }
             "index" => found.index = Index::Record(line.number() as u64),
-            "message" | "refused" => found.message = line.string(),
+            "message" => found.message = line.string(),
+            "refused" => (found.kind, found.message) = (Kind::FILE, line.string()),
             "place" => found.place = place(line),
             "format" => format = Some(line.string()),
             "lump" | "tag" => decides = line.string(),

@@ -41,24 +41,28 @@ extern crate alloc;
 use alloc::{vec, vec::Vec};
 use core::fmt;
 
+mod asked;
 mod code;
 mod found;
+mod hidden;
 mod label;
 mod line;
 mod name;
 mod question;
 mod raw;
 mod refused;
+mod run;
 mod texts;
+
+use asked::Asked;
 
 pub use code::{Code, Codes};
 pub use found::{Found, Index, Kind, Spot, Where};
 pub use label::{Cells, Format, Grid, Label, View};
 use name::Name;
-pub use question::{
-    assemble, compare, compare_commands, cut, cut_level, demos, explain, listing, End, File, Findings, Question, Ran, Stopped,
-};
+pub use question::{assemble, compare, compare_commands, cut, cut_level, demos, explain, listing, Findings, Question};
 pub use refused::{Error, Refused};
+pub use run::{End, File, Ran, Stopped, Word};
 
 /// A point, in map units from -16384 to 16383.
 #[repr(C)]
@@ -207,19 +211,19 @@ impl<'a> Wad<'a> {
     }
 
     /// The entry that many entries behind the last one of a name; behind a level's label 1 to 10 are its lumps.
-    pub fn find(self, name: &str, after: usize) -> Result<Lump, Error> {
-        self.entry(Name::of(name.as_bytes()), after)
+    pub fn find(self, name: impl AsRef<[u8]>, after: usize) -> Result<Lump, Error> {
+        self.entry(Name::of(name.as_ref()), after)
     }
 
     /// The bytes of that entry's lump.
-    pub fn lump(self, name: &str, after: usize) -> Result<&'a [u8], Error> {
-        self.lump_of(Name::of(name.as_bytes()), after)
+    pub fn lump(self, name: impl AsRef<[u8]>, after: usize) -> Result<&'a [u8], Error> {
+        self.find(name, after).map(|lump| self.bytes_of(lump))
     }
 
     /// The level of a name, of which the first eight bytes count and are kept; its indexes are read as signed. Each call
     /// looks it up, and answers where there is none.
-    pub fn level(self, name: &str) -> Level<'a> {
-        Level { wad: self, asked: Asked::Name(Name::of(name.as_bytes())), wide: false }
+    pub fn level(self, name: impl AsRef<[u8]>) -> Level<'a> {
+        Level { wad: self, asked: Asked::Name(Name::of(name.as_ref())), wide: false }
     }
 
     /// The level whose label is an entry. Each call looks whether it is in Doom's format.
@@ -248,7 +252,7 @@ impl<'a> Wad<'a> {
         let mut lump = Lump::default();
         // SAFETY: as in `entry`.
         let status = unsafe { raw::wadlook_find_at(self.bytes.as_ptr(), self.bytes.len(), entry, &mut lump) };
-        Error::of(status, None).map(|()| lump)
+        Error::of(status, Some(Asked::Entry(entry))).map(|()| lump)
     }
 
     fn entry(self, name: Name, after: usize) -> Result<Lump, Error> {
@@ -256,12 +260,11 @@ impl<'a> Wad<'a> {
         // SAFETY: each pointer and length are those of one slice that is borrowed for the call; `lump` is borrowed mutably.
         let status =
             unsafe { raw::wadlook_find(self.bytes.as_ptr(), self.bytes.len(), asked.as_ptr(), asked.len(), after, &mut lump) };
-        Error::of(status, Some(name)).map(|()| lump)
+        Error::of(status, Some(Asked::Name(name))).map(|()| lump)
     }
 
-    fn lump_of(self, name: Name, after: usize) -> Result<&'a [u8], Error> {
-        let lump = self.entry(name, after)?;
-        Ok(&self.bytes[lump.place..lump.place + lump.size])
+    fn bytes_of(self, lump: Lump) -> &'a [u8] {
+        &self.bytes[lump.place..lump.place + lump.size]
     }
 }
 
@@ -277,13 +280,6 @@ pub struct Level<'a> {
     wad: Wad<'a>,
     asked: Asked,
     wide: bool,
-}
-
-/// How a level is asked for.
-#[derive(Clone, Copy)]
-enum Asked {
-    Name(Name),
-    Entry(usize),
 }
 
 /// Calls the form of a call for the name of a level, or that for an entry.
@@ -337,7 +333,7 @@ impl<'a> Level<'a> {
 
     /// The place of one point, also of a level with faults: None where the walk down its nodes breaks off.
     pub fn under(&self, point: Point) -> Result<Option<Place>, Error> {
-        let (wad, entry, mut place) = (self.wad.bytes, self.entry(0)?.entry, Place::default());
+        let (wad, entry, mut place) = (self.wad.bytes, self.label()?, Place::default());
         // SAFETY: as in `ask`.
         let status = unsafe { raw::wadlook_under(wad.as_ptr(), wad.len(), entry, self.wide, point, &mut place) };
         self.ended(status).map(|()| place.somewhere())
@@ -345,7 +341,7 @@ impl<'a> Level<'a> {
 
     /// The sectors that the cells of a view show.
     pub fn cells(&self, view: View) -> Result<Cells, Error> {
-        let (wad, entry) = (self.wad.bytes, self.entry(0)?.entry);
+        let (wad, entry) = (self.wad.bytes, self.label()?);
         let (x0, y0, x1, y1) = view.frame.unwrap_or_default();
         let view = raw::View { x0, y0, x1, y1, cells: view.cells, framed: view.frame.is_some() };
         let mut sectors = Vec::new();
@@ -390,22 +386,41 @@ impl<'a> Level<'a> {
         }
     }
 
+    /// The entry of the label, of which no byte is asked: they may be outside the file.
+    fn label(&self) -> Result<usize, Error> {
+        match self.asked {
+            Asked::Name(name) => match self.wad.entry(name, 0) {
+                Err(error) if error.why() == Refused::LumpOutside => self.wad.entry(name, 1).map(|lump| lump.entry - 1),
+                found => found.map(|lump| lump.entry),
+            },
+            Asked::Entry(entry) => Ok(entry),
+        }
+    }
+
     /// The lump that stands so many entries behind the label.
     fn entry(&self, after: usize) -> Result<Lump, Error> {
         match self.asked {
             Asked::Name(name) => self.wad.entry(name, after),
-            Asked::Entry(entry) => self.wad.lump_at(entry + after),
+            Asked::Entry(entry) => self.wad.lump_at(entry.saturating_add(after)),
         }
     }
 
     /// Its bytes.
     fn lump(&self, after: usize) -> Result<&'a [u8], Error> {
-        let lump = self.entry(after)?;
-        Ok(&self.wad.bytes[lump.place..lump.place + lump.size])
+        self.entry(after).map(|lump| self.wad.bytes_of(lump))
+    }
+
+    /// Refuses a level that was asked for by its entry and isn't in Doom's format.
+    fn want_format(&self) -> Result<(), Error> {
+        match self.asked {
+            Asked::Name(_) => Ok(()),
+            Asked::Entry(_) => self.under(Point::default()).map(drop),
+        }
     }
 
     /// Whether REJECT refuses the sight from a sector to another; `Unknown` where it ends before their bit.
     pub fn is_blocked(&self, from: u32, to: u32) -> Result<bool, Error> {
+        self.want_format()?;
         let reject = self.lump(9)?;
         let sectors = self.entry(8)?.size / 26;
         let mut blocked = 0;
@@ -416,6 +431,7 @@ impl<'a> Level<'a> {
 
     /// The block that holds a point, and its list.
     pub fn block(&self, point: Point) -> Result<Block<'a>, Error> {
+        self.want_format()?;
         let lump = self.lump(10)?;
         let mut block = raw::Block::default();
         // SAFETY: as in `entry`.
@@ -459,13 +475,7 @@ impl<'a> Level<'a> {
 
     /// What the status of a call on this level says.
     fn ended(&self, status: u32) -> Result<(), Error> {
-        Error::of(
-            status,
-            match self.asked {
-                Asked::Name(name) => Some(name),
-                Asked::Entry(_) => None,
-            },
-        )
+        Error::of(status, Some(self.asked))
     }
 }
 

@@ -67,6 +67,31 @@ pub struct Question {
     pub game_ends: bool,
 }
 
+impl Default for Question {
+    fn default() -> Question {
+        Question {
+            name: core::ptr::null(),
+            name_len: 0,
+            number: 0,
+            ignored: 0,
+            failing: 0,
+            limit: 0,
+            bases: 0,
+            word: 0,
+            cells: 0,
+            x0: 0,
+            y0: 0,
+            x1: 0,
+            y1: 0,
+            framed: false,
+            wide: false,
+            map: false,
+            strict: false,
+            game_ends: false,
+        }
+    }
+}
+
 #[repr(C)]
 pub struct File {
     pub path: *const u8,
@@ -84,6 +109,7 @@ pub struct Told {
 
 extern "C" {
     pub fn wadlook_status_text(status: u32) -> *const c_char;
+    pub fn wadlook_end_text(end: u32) -> *const c_char;
     pub fn wadlook_code_name(code: u32) -> *const c_char;
     pub fn wadlook_code_text(code: u32) -> *const c_char;
     pub fn wadlook_kind_text(kind: u32) -> *const c_char;

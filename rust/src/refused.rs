@@ -1,6 +1,6 @@
 //! Why a call was refused, and of which name.
 
-use crate::{name::Name, texts};
+use crate::{asked::Asked, texts};
 use core::fmt;
 
 macro_rules! refusals {
@@ -66,11 +66,12 @@ refusals! {
 
 impl core::error::Error for Refused {}
 
-/// A call that was refused. As text it is the name that was asked for, if any, and the reason: `MAP99: no entry of this name`.
+/// A call that was refused. As text it is the name or the entry that was asked for, if any, and the reason:
+/// `MAP99: no entry of this name`.
 #[derive(Clone, Copy, Debug, PartialEq, Eq, Hash)]
 pub struct Error {
     why: Refused,
-    name: Option<Name>,
+    asked: Option<Asked>,
 }
 
 impl Error {
@@ -79,9 +80,20 @@ impl Error {
         self.why
     }
 
-    /// The name of a level or of an entry that was asked for: its first eight bytes, up to a NUL. None where bytes were asked alone.
+    /// The name of a level or of an entry that was asked for: its first eight bytes, up to a NUL. None where no name was asked for.
     pub fn name(&self) -> Option<&[u8]> {
-        self.name.as_ref().map(Name::text)
+        match &self.asked {
+            Some(Asked::Name(name)) => Some(name.text()),
+            _ => None,
+        }
+    }
+
+    /// The entry of a label that was asked for. None where no entry was asked for.
+    pub fn entry(&self) -> Option<usize> {
+        match self.asked {
+            Some(Asked::Entry(entry)) => Some(entry),
+            _ => None,
+        }
     }
 
     /// The same with another reason.
@@ -90,8 +102,8 @@ impl Error {
     }
 
     /// What a status says: `Ok` where it is 0.
-    pub(crate) fn of(status: u32, name: Option<Name>) -> Result<(), Error> {
-        Refused::of(status).map_or(Ok(()), |why| Err(Error { why, name }))
+    pub(crate) fn of(status: u32, asked: Option<Asked>) -> Result<(), Error> {
+        Refused::of(status).map_or(Ok(()), |why| Err(Error { why, asked }))
     }
 }
 
@@ -103,8 +115,8 @@ impl From<Error> for Refused {
 
 impl fmt::Display for Error {
     fn fmt(&self, f: &mut fmt::Formatter<'_>) -> fmt::Result {
-        match self.name {
-            Some(name) => write!(f, "{name}: {}", self.why),
+        match self.asked {
+            Some(asked) => write!(f, "{asked}: {}", self.why),
             None => self.why.fmt(f),
         }
     }

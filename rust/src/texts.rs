@@ -18,6 +18,12 @@ pub fn status(number: u32) -> Option<&'static str> {
     kept(unsafe { raw::wadlook_status_text(number) })
 }
 
+/// How a run ended.
+pub fn end(number: u32) -> Option<&'static str> {
+    // SAFETY: as above.
+    kept(unsafe { raw::wadlook_end_text(number) })
+}
+
 /// A code as it is printed, by its rank.
 pub fn code_name(rank: u32) -> Option<&'static str> {
     // SAFETY: as above.

@@ -3,7 +3,7 @@
 use std::collections::HashMap;
 use wadlook::{
     assemble, compare, compare_commands, cut, cut_level, explain, listing, read_demo, Code, Codes, Command, Count, End, Error,
-    File, Finding, Format, Found, Index, Level, Lump, Place, Point, Question, Rect, Refused, Spot, View, Wad, Where,
+    File, Finding, Format, Found, Index, Kind, Level, Lump, Place, Point, Question, Rect, Refused, Spot, View, Wad, Where, Word,
 };
 
 const TWO_COMMANDS: [u8; 23] = [109, 3, 1, 1, 0, 0, 0, 0, 0, 1, 0, 0, 0, 25, 0, 0, 0, 206, 128, 255, 128, 128, 7];
@@ -121,7 +121,21 @@ fn refusals_name_what_was_asked() {
     assert_eq!(told(read_demo(&[]).unwrap_err()), ("a demo of no bytes".to_string(), None));
     let error = wad.find("E2M9", 0).unwrap_err();
     assert_eq!(Refused::from(error), Refused::NoName);
-    assert_eq!(format!("{error:?}"), r#"Error { why: NoName, name: Some("E2M9") }"#);
+    assert_eq!(format!("{error:?}"), r#"Error { why: NoName, asked: Some(Name("E2M9")) }"#);
+    let error = wad.level_at(3).findings().unwrap_err();
+    assert_eq!((error.to_string(), error.name(), error.entry()), ("entry 3: no level starts at this entry".into(), None, Some(3)));
+}
+
+#[test]
+fn names_are_bytes() {
+    let mut wad = base();
+    wad[233 + 8..233 + 12].copy_from_slice(b"\xc9\xff1\0");
+    let file = Wad::new(&wad);
+    let labels = file.levels().unwrap();
+    assert_eq!(sector(file.level(labels[0].name()), 0, 5), Ok(Some(1)));
+    assert_eq!(file.find(b"\xc9\xff1", 7), Ok(Lump { entry: 7, place: 136, size: 28 }));
+    assert_eq!(file.lump(String::from("REJECT"), 0), Ok(&[0][..]));
+    assert!(cut_level(File::new("a.wad", &wad), labels[0].name()).is_ok());
 }
 
 #[test]
@@ -300,6 +314,25 @@ fn words_check() {
     assert_eq!(found(map, &files), told);
     let two = [File::new("a.wad", &wad), File::new("none.wad", b"")];
     assert_eq!(found(Question::default(), &two), ["wadlens: none.wad: shorter than a WAD header"]);
+    let refused = Question::default().check(&two).next().unwrap().unwrap();
+    assert_eq!((refused.kind, refused.kind.to_string(), refused.index), (Kind::FILE, "file".into(), Index::Whole));
+}
+
+#[test]
+fn words_run() {
+    let wad = base();
+    let files = [File::new("a.wad", &wad), File::new("b.wad", b"")];
+    let ran = Question::default().run(Word::Check { json: false }, &files);
+    assert_eq!(ran.answer, b"1 levels in 2 files: 0 faults, 0 notes, 0 not judged\n");
+    assert_eq!((&ran.messages[..], ran.end), (&b"wadlens: b.wad: shorter than a WAD header\n"[..], End::Refused));
+    let ran = Question { limit: 5, ..Question::default() }.run(Word::Check { json: false }, &files[..1]);
+    assert_eq!((&ran.answer[..], ran.end), (&b"1 lev"[..], End::Stopped));
+    let stopped = Question { limit: 5, map: true, ..Question::default() }.check(&files).next().unwrap().unwrap_err();
+    assert_eq!((stopped.end, stopped.to_string()), (End::Stopped, End::Stopped.to_string()));
+    let based = Question { base: &files[..1], ..Question::default() };
+    assert_eq!(based.run(Word::Cut(0), &files[..1]).answer, wad);
+    assert_eq!(based.run(Word::Survey, &[]).end, End::Mistaken);
+    assert_eq!(End::NoMemory.to_string(), "no memory left");
 }
 
 #[test]
@@ -369,4 +402,29 @@ fn by_entries() {
     assert_eq!((cells.grid.size, cells.grid.columns, cells.grid.rows, cells.sectors.len()), (1, 4, 1, 4));
     assert_eq!((cells.get(2, 0), cells.get(4, 0)), (Some(0), None));
     assert_eq!(why(level.cells(View { cells: 0, ..view })), Refused::NoView);
+    assert_eq!((level.is_blocked(0, 1), level.block(Point { x: 0, y: 5 }).map(|block| block.column)), (Ok(false), Ok(0)));
+}
+
+#[test]
+fn another_format_is_refused() {
+    let mut wad = base();
+    wad[136..140].copy_from_slice(b"XNOD");
+    let wad = Wad::new(&wad);
+    assert_eq!(wad.levels().unwrap()[0].format, Format::Extended(*b"XNOD"));
+    let level = wad.level_at(0);
+    let point = Point::default();
+    let rect = Rect { x0: 0, y0: 0, x1: 0, y1: 0 };
+    let all = [
+        why(level.findings()),
+        why(level.places(&[point])),
+        why(level.prepare()),
+        why(level.census(rect)),
+        why(level.under(point)),
+        why(level.cells(View::default())),
+        why(level.is_blocked(0, 0)),
+        why(level.block(point)),
+    ];
+    assert_eq!(all, [Refused::OtherFormat; 8]);
+    assert!(level.extract().is_ok());
+    assert_eq!(why(wad.level_at(usize::MAX).is_blocked(0, 0)), Refused::NoLevel);
 }

@@ -457,8 +457,9 @@ enum wadlook_where {
     WADLOOK_OF_LINEDEF = 3 /* at linedef x0 */
 };
 
-/* Stands for the code of what is no finding: a file that is refused, or a level that isn't judged; `message` says why. */
-#define WADLOOK_UNJUDGED UINT32_MAX
+/* Stands for the code of what has none, where `message` alone says what is wrong: a file is refused, a level isn't judged, its ten
+ * lumps stand in another order, or its nodes weren't built. */
+#define WADLOOK_NO_CODE UINT32_MAX
 
 /* A finding. The texts end with a NUL, and stay until the callback has returned. */
 typedef struct {
@@ -468,7 +469,7 @@ typedef struct {
     const char *message; /* what is wrong, in words */
     int64_t index;       /* the number of the record; of a block its column; -1 of a level and of a file */
     int64_t row;         /* of a block its row, and else -1 */
-    uint32_t code;       /* one of wadlook_code, or WADLOOK_UNJUDGED */
+    uint32_t code;       /* one of wadlook_code, or WADLOOK_NO_CODE */
     uint32_t kind;       /* one of wadlook_kind */
     uint32_t where;      /* one of wadlook_where */
     int32_t x0, y0, x1, y1;

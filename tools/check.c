@@ -59,7 +59,7 @@ static uint32_t code_of(const char *name) {
     const char *other;
     for (uint32_t code = 0; (other = wadlook_code_name(code)); code++)
         if (is(name, other)) return code;
-    return WADLOOK_UNJUDGED;
+    return WADLOOK_NO_CODE;
 }
 
 static uint32_t kind_of(const char *name) {
@@ -115,7 +115,7 @@ static void pass(reader *in) {
     }
 }
 
-/* Room for the words of a level that isn't judged. */
+/* Room for the words of a level that isn't judged, or has its lumps in another order. */
 #define WORDS 80
 
 /* Writes a text to a place of the words, and gives the place behind it. */
@@ -138,56 +138,83 @@ static void unjudged(char *words, const char *format, const char *decides) {
     join(words, join(words, join(words, words, before), decides), behind);
 }
 
-/* What one line tells: whether it is a finding, or why a file or a level isn't judged. */
-static bool tells(char *line, wadlook_found *found, char *words) {
+/* The words of `wadlens` for a level with its lumps in another order, by what is behind "order": the names of two, the second of which
+ * belongs before the first. */
+static void unordered(char *words, reader *in) {
+    take(in, '[');
+    char *end = join(words, join(words, words, "lumps in another order: "), string(in));
+    take(in, ',');
+    join(words, join(words, end, " before "), string(in));
+    take(in, ']');
+}
+
+/* What one line tells. */
+typedef struct {
+    wadlook_found found;
+    const char *format, *decides; /* of a level that isn't judged */
+    bool says;                    /* whether it says what is wrong */
+    char words[WORDS];
+} told_line;
+
+static void say(told_line *told, const char *message) {
+    told->found.message = message;
+    told->says = true;
+}
+
+/* Takes what the value of a member tells. */
+static void member(reader *in, const char *name, told_line *told) {
+    wadlook_found *found = &told->found;
+    if (is(name, "level") && *in->at == '"') found->level = string(in);
+    else if (is(name, "entry")) found->entry = (size_t)number(in);
+    else if (is(name, "code")) found->code = code_of(string(in));
+    else if (is(name, "kind")) found->kind = kind_of(string(in));
+    else if (is(name, "index") && *in->at == '[') pair(in, &found->index, &found->row);
+    else if (is(name, "index")) found->index = number(in);
+    else if (is(name, "place")) place(in, found);
+    else if (is(name, "format")) told->format = string(in);
+    else if (is(name, "lump") || is(name, "tag")) told->decides = string(in);
+    else if (is(name, "message")) say(told, string(in));
+    else if (is(name, "refused")) {
+        found->kind = WADLOOK_FILE;
+        say(told, string(in));
+    } else if (is(name, "order")) {
+        unordered(told->words, in);
+        say(told, told->words);
+    } else {
+        pass(in);
+    }
+}
+
+/* Reads a line on a file. */
+static void read_line(char *line, size_t file, told_line *told) {
     reader in = {line};
-    bool told = false;
-    const char *format = NULL, *decides = "";
-    *found = (wadlook_found){.file = found->file,
-        .level = "",
-        .message = "",
-        .index = -1,
-        .row = -1,
-        .code = WADLOOK_UNJUDGED,
-        .kind = WADLOOK_WHOLE,
-        .where = WADLOOK_NO_PLACE};
+    *told = (told_line){.decides = "",
+        .found = {.file = file,
+            .level = "",
+            .message = "",
+            .index = -1,
+            .row = -1,
+            .code = WADLOOK_NO_CODE,
+            .kind = WADLOOK_WHOLE,
+            .where = WADLOOK_NO_PLACE}};
     take(&in, '{');
     do {
         const char *name = string(&in);
         take(&in, ':');
-        if (is(name, "level") && *in.at == '"') found->level = string(&in);
-        else if (is(name, "entry")) found->entry = (size_t)number(&in);
-        else if (is(name, "code")) found->code = code_of(string(&in));
-        else if (is(name, "kind")) found->kind = kind_of(string(&in));
-        else if (is(name, "index") && *in.at == '[') pair(&in, &found->index, &found->row);
-        else if (is(name, "index")) found->index = number(&in);
-        else if (is(name, "place")) place(&in, found);
-        else if (is(name, "format")) format = string(&in);
-        else if (is(name, "lump") || is(name, "tag")) decides = string(&in);
-        else if (is(name, "message") || is(name, "refused")) {
-            if (is(name, "refused")) found->kind = WADLOOK_FILE;
-            found->message = string(&in);
-            told = true;
-        } else {
-            pass(&in);
-        }
+        member(&in, name, told);
     } while (take(&in, ','));
-    if (format) {
-        unjudged(words, format, decides);
-        found->message = words;
-        told = true;
-    }
-    return told;
+    if (!told->format) return;
+    unjudged(told->words, told->format, told->decides);
+    say(told, told->words);
 }
 
 /* Gives what the lines tell. Whether the callback wants more. */
 static bool give(char *lines, size_t file, wadlook_on_found on_found, void *own) {
-    wadlook_found found = {.file = file};
-    char words[WORDS];
+    told_line told;
     for (char *end; (end = strchr(lines, '\n')); lines = end + 1) {
         *end = 0;
-        if (tells(lines, &found, words) && !on_found(own, &found)) return false;
-        found.file = file;
+        read_line(lines, file, &told);
+        if (told.says && !on_found(own, &told.found)) return false;
     }
     return true;
 }

@@ -60,7 +60,8 @@ class Found(NamedTuple):
 
     `file` is the path that was given, as lines show it, `level` the label's name and `entry` the label's entry. `index` is the number of
     the record, a block's column and row, or None of a level. `at` is where it is, `to` the other end of what has two, and `linedef` the
-    linedef that it is found at. Of a file that is refused and of a level that isn't judged `code` is "", and `message` says why.
+    linedef that it is found at. Where `code` is "" the message alone says what is wrong: a file is refused, a level isn't judged, its ten
+    lumps stand in another order, or its nodes weren't built.
     """
 
     file: str
@@ -288,12 +289,22 @@ def _pair(numbers: Optional[List[int]]) -> Optional[Tuple[int, int]]:
     return (numbers[0], numbers[1]) if numbers else None
 
 
+def _uncoded(told: Dict[str, Any]) -> Optional[str]:
+    """What an object says of a level that has no code."""
+    if "format" in told:
+        return _unjudged(told)
+    if "order" in told:
+        return "lumps in another order: {} before {}".format(*told["order"])
+    return told["message"] if "empty" in told else None
+
+
 def _found(path: str, told: Dict[str, Any], labels: _Labels) -> Optional[Found]:
-    """What an object of `check --json` tells, if it is a finding or says why something isn't judged."""
+    """What an object of `check --json` tells, if it says what is wrong."""
     if "refused" in told:
         return Found(path, "", 0, "", "file", None, told["refused"])
-    if "format" in told:
-        return Found(path, told["level"], told["entry"], "", "level", None, _unjudged(told), hidden=labels.is_hidden(told["entry"]))
+    uncoded = _uncoded(told)
+    if uncoded is not None:
+        return Found(path, told["level"], told["entry"], "", "level", None, uncoded, hidden=labels.is_hidden(told["entry"]))
     if "message" not in told:
         return None
     index, place = told.get("index"), told.get("place", {})

@@ -91,7 +91,8 @@ pub struct Found {
     pub entry: usize,
     /// Whether the label's name, looked up, gives another entry.
     pub is_hidden: bool,
-    /// None of a file that is refused and of a level that isn't judged: the message says why.
+    /// None where the message alone says what is wrong: a file is refused, a level isn't judged, its ten lumps stand in another
+    /// order, or its nodes weren't built.
     pub code: Option<Code>,
     /// What it is found at.
     pub kind: Kind,
@@ -104,7 +105,7 @@ pub struct Found {
 }
 
 impl Found {
-    /// What a line of JSON tells, if that is a finding, or why something isn't judged.
+    /// What a line of JSON tells, if it says what is wrong.
     pub(crate) fn of(file: &str, line: &str) -> Option<Found> {
         let mut found = Found {
             file: file.into(),
@@ -131,6 +132,7 @@ impl Found {
             "message" => found.message = line.string(),
             "refused" => (found.kind, found.message) = (Kind::FILE, line.string()),
             "place" => found.place = place(line),
+            "order" => found.message = unordered(line),
             "format" => format = Some(line.string()),
             "lump" | "tag" => decides = line.string(),
             _ => line.pass(),
@@ -149,6 +151,16 @@ fn unjudged(format: &str, decides: &str) -> String {
         "extended" => format!("extended nodes {decides}: not read"),
         _ => format!("{format}: not read"),
     }
+}
+
+/// The words for the names of two lumps, the second of which belongs before the first.
+fn unordered(line: &mut Line<'_>) -> String {
+    line.take('[');
+    let first = line.string();
+    line.take(',');
+    let second = line.string();
+    line.take(']');
+    format!("lumps in another order: {first} before {second}")
 }
 
 fn spot(line: &mut Line<'_>) -> Spot {

@@ -319,6 +319,20 @@ fn words_check() {
 }
 
 #[test]
+fn words_without_codes() {
+    let mut wad = base();
+    wad[233 + 16 * 7 + 4] = 0; // NODES without bytes
+    let all = found(Question::default(), &[File::new("a.wad", &wad)]);
+    assert_eq!(all[0], "a.wad: E1M1: NODES is empty: 1 ssectors can't be reached; build the nodes");
+    let mut wad = base();
+    wad[233 + 16 * 3 + 8..][..8].copy_from_slice(b"SEGS\0\0\0\0");
+    wad[233 + 16 * 5 + 8..][..8].copy_from_slice(b"SIDEDEFS");
+    let told =
+        ["a.wad: E1M1: incomplete: no SIDEDEFS where it belongs", "a.wad: E1M1: lumps in another order: SEGS before SIDEDEFS"];
+    assert_eq!(found(Question::default(), &[File::new("a.wad", &wad)]), told);
+}
+
+#[test]
 fn words_run() {
     let wad = base();
     let files = [File::new("a.wad", &wad), File::new("b.wad", b"")];

@@ -480,7 +480,7 @@ static void nothing_at(void) {
 }
 
 static bool is_refused_file(void *own, const wadlook_found *found) {
-    *(bool *)own = found->code == WADLOOK_UNJUDGED && found->kind == WADLOOK_FILE && found->file == 0;
+    *(bool *)own = found->code == WADLOOK_NO_CODE && found->kind == WADLOOK_FILE && found->file == 0;
     return true;
 }
 
@@ -531,7 +531,7 @@ static bool count_found(void *own, const wadlook_found *found) {
     size_t *left = (size_t *)own;
     if (found->code == WADLOOK_W1)
         CHECK(found->kind == WADLOOK_SECTOR && found->where == WADLOOK_AT && !strcmp(found->message, "isn't closed"));
-    if (found->code == WADLOOK_UNJUDGED)
+    if (found->code == WADLOOK_NO_CODE)
         CHECK(found->file == 1 && found->kind == WADLOOK_FILE && found->index == -1 && !*found->level &&
               !strcmp(found->message, "shorter than a WAD header"));
     else CHECK(found->file == 0 && !strcmp(found->level, "E1M1") && found->entry == 0);
@@ -545,7 +545,13 @@ static bool keep_message(void *own, const wadlook_found *found) {
     return true;
 }
 
-/* What is told of levels that aren't judged: the words of the program. */
+/* Keeps that of what is found first, and wants no more. */
+static bool keep_first(void *own, const wadlook_found *found) {
+    keep_message(own, found);
+    return false;
+}
+
+/* What is told of levels without a code: the words of the program. */
 static void unjudged(void) {
     wadlook_question question;
     memset(&question, 0, sizeof question);
@@ -563,6 +569,15 @@ static void unjudged(void) {
     memcpy(wad + entry(1) + 8, "TEXTMAP\0", 8);
     CHECK(wadlook_check(&question, &file, 1, keep_message, kept) == WADLOOK_REFUSED);
     CHECK(!strcmp(kept, "E1M1: udmf: not read"));
+    fresh();
+    memcpy(wad + entry(3) + 8, "SEGS\0\0\0\0", 8);
+    memcpy(wad + entry(5) + 8, "SIDEDEFS", 8);
+    CHECK(wadlook_check(&question, &file, 1, keep_message, kept) == WADLOOK_FAULTY);
+    CHECK(!strcmp(kept, "E1M1: lumps in another order: SEGS before SIDEDEFS"));
+    fresh();
+    PUT(entry(7) + 4, 0, 0); /* NODES without bytes */
+    CHECK(wadlook_check(&question, &file, 1, keep_first, kept) == WADLOOK_STOPPED);
+    CHECK(!strcmp(kept, "E1M1: NODES is empty: 1 ssectors can't be reached; build the nodes"));
     fresh();
 }
 

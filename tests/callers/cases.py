@@ -308,6 +308,14 @@ def words(path, base):
         "a file that is refused",
         str(faults[-1]) == "wadlens: none.wad: shorter than a WAD header" and faults[-1].file == "none.wad",
     )
+    unbuilt = with_words(base, DIRECTORY + 16 * 7 + 4, 0, 0)  # NODES without bytes
+    told_first = "a.wad: E1M1: NODES is empty: 1 ssectors can't be reached; build the nodes"
+    check("nodes that weren't built", [str(it) for it in wadlook.check([("a.wad", unbuilt)], map=False)][0] == told_first)
+    unordered = bytearray(base)
+    for place, name in ((3, b"SEGS\0\0\0\0"), (5, b"SIDEDEFS")):
+        unordered[DIRECTORY + 16 * place + 8 : DIRECTORY + 16 * place + 16] = name
+    lines = ["incomplete: no SIDEDEFS where it belongs", "lumps in another order: SEGS before SIDEDEFS"]
+    check("lumps in another order", [(it.code, it.message) for it in wadlook.check(unordered)] == [("", line) for line in lines])
     check("a path with a control", str(wadlook.check([("a\n.wad", b"")])[0]) == "wadlens: a\\x0a.wad: shorter than a WAD header")
     with_base = [it.code for it in wadlook.check(named, base=[("game.wad", base)])]
     check("over a base file", with_base == [it.code for it in found])

@@ -1,7 +1,7 @@
-/* damaged BASE ROUNDS: hands each call that many damaged copies of the sample level, and checks that what the calls say fits
+/* damaged BASE ROUNDS [SEED]: hands each call that many damaged copies of the sample level, and checks that what the calls say fits
  * together. What is handed in and what is written to each end where a page begins that can't be touched, or begin behind one:
- * the archive isn't instrumented, so the sanitizers see this file alone, and a read or write outside faults. Compiled as C and
- * as C++. */
+ * the archive isn't instrumented, so the sanitizers see this file and tools/check.c alone, and a read or write outside faults.
+ * Compiled as C and as C++. */
 #define _DEFAULT_SOURCE /* MAP_ANONYMOUS */
 #include "wadlook.h"
 #include <stdio.h>
@@ -52,14 +52,21 @@ static void *room(size_t size) {
 }
 #define ROOM(type, count) (type *)room((count) * sizeof(type))
 
+/* A damaged copy of the sample level, and its length. */
+static uint8_t *damaged_copy(const uint8_t *base, uint32_t size, uint32_t *len) {
+    *len = below(8) ? size : below(size);
+    uint8_t *wad = ROOM(uint8_t, *len);
+    memcpy(wad, base, *len);
+    for (uint32_t k = below(6); *len && k-- > 0;) wad[below(*len)] = (uint8_t)below(256);
+    return wad;
+}
+
+/* What is asked by the name of a level. */
 static void round_of(const uint8_t *base, uint32_t size) {
     used = 0;
-    uint32_t len = below(8) ? size : below(size);
-    uint8_t *wad = ROOM(uint8_t, len), *name = ROOM(uint8_t, 4);
-    memcpy(wad, base, len);
+    uint32_t len;
+    uint8_t *wad = damaged_copy(base, size, &len), *name = ROOM(uint8_t, 4);
     memcpy(name, "E1M1", 4);
-    for (uint32_t k = below(6); len && k-- > 0;) wad[below(len)] = (uint8_t)below(256);
-
     bool wide = below(2);
     wadlook_point_at *point = ROOM(wadlook_point_at, 1);
     wadlook_place *place = ROOM(wadlook_place, 1), again;
@@ -107,14 +114,11 @@ static void round_of(const uint8_t *base, uint32_t size) {
         "bytes are a demo or are told why not");
 }
 
-/* What is asked by the entry of a label, and a word of `wadlens` over a damaged file, alone and over another one. */
-static void round_of_words(const uint8_t *base, uint32_t size) {
+/* What is asked by the entry of a label. */
+static void round_of_entries(const uint8_t *base, uint32_t size) {
     used = 0;
-    uint32_t len = below(8) ? size : below(size);
-    uint8_t *wad = ROOM(uint8_t, len);
-    memcpy(wad, base, len);
-    for (uint32_t k = below(6); len && k-- > 0;) wad[below(len)] = (uint8_t)below(256);
-
+    uint32_t len;
+    uint8_t *wad = damaged_copy(base, size, &len);
     bool wide = below(2);
     wadlook_level *levels = ROOM(wadlook_level, 2);
     wadlook_point_at *point = ROOM(wadlook_point_at, 1);
@@ -135,13 +139,48 @@ static void round_of_words(const uint8_t *base, uint32_t size) {
     if (points == WADLOOK_DONE) must(under.ssector == place->ssector && under.sector == place->sector, "the same place");
     uint32_t cells = wadlook_cells(wad, len, 0, wide, &view, ROOM(int32_t, 64), 64, &grid);
     must(cells != WADLOOK_DONE || points == WADLOOK_DONE, "cells are told of sound levels");
+    wadlook_lump lump;
+    uint32_t entry = below(13), found = wadlook_find_at(wad, len, entry, &lump);
+    must(found != WADLOOK_DONE || (lump.entry == entry && lump.place + lump.size <= len), "a lump lies in the file");
+    size_t out_len = below(600);
+    uint8_t *out = ROOM(uint8_t, out_len);
+    if (wadlook_extract_at(wad, len, 0, out, out_len, &count) == WADLOOK_DONE) must(!memcmp(out, "PWAD", 4), "a file");
+    uint16_t *sectors = ROOM(uint16_t, 4);
+    uint32_t prepared = wadlook_prepare_at(wad, len, 0, wide, sectors, 4, &count);
+    must(prepared == points || prepared == WADLOOK_NO_ROOM, "prepare and points refuse the same");
+    wadlook_rect rect = {point->x, point->y, point->x + (int32_t)below(40) - 2, point->y + (int32_t)below(40) - 2};
+    if (wadlook_census_at(wad, len, 0, wide, &rect, ROOM(wadlook_count, 2), 2, &count) == WADLOOK_DONE)
+        must(points == WADLOOK_DONE, "census answers for sound levels");
+}
 
+/* How many findings a callback was given, and after how many it wants no more. */
+typedef struct {
+    size_t given, most, files;
+    bool faulty; /* whether there was a fault */
+} told_found;
+
+static bool take_found(void *own, const wadlook_found *found) {
+    told_found *told = (told_found *)own;
+    bool is_file = found->kind == WADLOOK_FILE;
+    must(found->code == WADLOOK_NO_CODE || wadlook_code_text(found->code), "a code, or none");
+    must(wadlook_kind_text(found->kind) && found->where <= WADLOOK_OF_LINEDEF, "a kind and a way to tell a place");
+    must((!is_file || !*found->level) && *found->message && found->file < told->files, "words on a level, or on a file");
+    must(found->row < 0 || (found->kind == WADLOOK_BLOCK && found->index >= 0), "a row of a block");
+    told->faulty = told->faulty || found->code <= WADLOOK_F18;
+    return ++told->given < told->most;
+}
+
+/* A word of `wadlens` over a damaged file, alone and over another one, and the findings one by one. */
+static void round_of_words(const uint8_t *base, uint32_t size) {
+    used = 0;
+    uint32_t len;
+    uint8_t *wad = damaged_copy(base, size, &len);
     wadlook_question question;
     memset(&question, 0, sizeof question);
     question.word = below(15);
     question.number = below(45);
     question.cells = below(9);
-    question.wide = wide;
+    question.wide = below(2);
     question.map = below(2);
     question.strict = below(2);
     question.bases = below(2);
@@ -163,6 +202,13 @@ static void round_of_words(const uint8_t *base, uint32_t size) {
     uint32_t end = wadlook_run(&question, files + first, many, wad, len, answer, room_left, messages, 9, &told);
     must(end <= WADLOOK_MISTAKEN && end != WADLOOK_NO_MEMORY, "a run ends in one of these ways");
     must(!question.limit || (told.answer <= question.limit && told.messages <= question.limit), "no more than the limit is told");
+
+    told_found given = {0, 1 + below(20), many, false};
+    question.number = below(3);
+    end = wadlook_check(&question, files + first, many, take_found, &given);
+    must(end <= WADLOOK_MISTAKEN && end != WADLOOK_NO_MEMORY, "a check ends in one of these ways");
+    must((end == WADLOOK_STOPPED) == (given.given == given.most), "it is told that a callback wants no more");
+    must(!given.faulty || end == WADLOOK_FAULTY || end == WADLOOK_STOPPED, "a fault is the gravest");
 }
 
 /* Nodes and sectors of any kind, each child's word an ssector or a node. */
@@ -180,12 +226,15 @@ static void round_of_nodes(void) {
 
 int main(int argc, char **argv) {
     static uint8_t base[4096];
-    FILE *file = argc == 3 ? fopen(argv[1], "rb") : NULL;
+    FILE *file = argc == 3 || argc == 4 ? fopen(argv[1], "rb") : NULL;
     if (!file) return 2;
+    if (argc == 4) state ^= strtoull(argv[3], NULL, 10) * 0x9E3779B97F4A7C15u;
+    if (!state) state = 1;
     uint32_t size = (uint32_t)fread(base, 1, sizeof base, file);
     fclose(file);
     for (long k = atol(argv[2]); k-- > 0;) {
         round_of(base, size);
+        round_of_entries(base, size);
         round_of_words(base, size);
         round_of_nodes();
     }

@@ -1,5 +1,6 @@
 /* words COMMAND [OPTION]... FILE...: answers as the program `wadlens` does, by wadlook_run over files that it reads first. What it takes are
- * the words that make no files; it tells of no mistake in words. `found [OPTION]... FILE...` prints the findings that wadlook_check gives. */
+ * the words that make no files; it tells of no mistake in words. `found [OPTION]... FILE...` prints the findings that wadlook_check gives,
+ * each in the line of `wadlens check`. */
 #include <ctype.h>
 #include <inttypes.h>
 #include <stdio.h>
@@ -18,11 +19,14 @@ static void *room(size_t size) {
     return bytes;
 }
 
-/* All that is left of a stream. */
+/* The library looks at no more bytes of a file but their number. */
+#define LARGEST 268435456
+
+/* All that is left of a stream, or enough of it to show that this is too much. */
 static uint8_t *read_all(FILE *from, size_t *size) {
     size_t most = 1 << 16;
     uint8_t *bytes = (uint8_t *)room(most);
-    for (*size = 0; (*size += fread(bytes + *size, 1, most - *size, from)) == most;) {
+    for (*size = 0; (*size += fread(bytes + *size, 1, most - *size, from)) == most && most <= LARGEST;) {
         most *= 2;
         if (!(bytes = (uint8_t *)realloc(bytes, most))) stop("no memory left");
     }
@@ -152,15 +156,22 @@ static void take_words(char **words) {
     if (json) question.word = question.word == WADLOOK_DEMOS ? WADLOOK_DEMOS_JSON : WADLOOK_CHECK_JSON;
 }
 
+/* The line of a finding. Which label a look-up misses isn't told. */
 static bool print_found(void *own, const wadlook_found *found) {
     (void)own;
-    printf("%zu %s %zu", found->file, found->level, found->entry);
-    if (found->code == WADLOOK_UNJUDGED) printf(" -");
-    else printf(" %s %s", wadlook_code_name(found->code), wadlook_kind_text(found->kind));
-    printf(" %" PRId64 " %" PRId64 " %s", found->index, found->row, found->message);
-    if (found->where == WADLOOK_AT) printf(" at %d %d", found->x0, found->y0);
-    if (found->where == WADLOOK_BETWEEN) printf(" from %d %d to %d %d", found->x0, found->y0, found->x1, found->y1);
-    if (found->where == WADLOOK_OF_LINEDEF) printf(" linedef %d", found->x0);
+    const char *path = (const char *)files[found->file].path;
+    if (found->code == WADLOOK_NO_CODE) {
+        if (found->kind == WADLOOK_FILE) printf("wadlens: %s: %s\n", path, found->message);
+        else printf("%s: %s: %s\n", path, found->level, found->message);
+        return true;
+    }
+    printf("%s: %s: %s %s", path, found->level, wadlook_code_name(found->code), wadlook_kind_text(found->kind));
+    if (found->row >= 0) printf(" (%" PRId64 ", %" PRId64 ")", found->index, found->row);
+    else if (found->index >= 0) printf(" %" PRId64, found->index);
+    printf(": %s", found->message);
+    if (found->where == WADLOOK_AT) printf(", at (%d, %d)", found->x0, found->y0);
+    if (found->where == WADLOOK_BETWEEN) printf(", from (%d, %d) to (%d, %d)", found->x0, found->y0, found->x1, found->y1);
+    if (found->where == WADLOOK_OF_LINEDEF) printf(", of linedef %d", found->x0);
     putchar('\n');
     return true;
 }

@@ -1,9 +1,9 @@
 #!/usr/bin/env python3
 """words.py --wadlens PATH [--library out] [--rounds 15] FILE...: `check --map` of files, by the program and by callers of libwadlook.
 
-Each is a process that reads the files and checks them: the program, `tests/callers/words.c` with one call, and Python, which makes objects
-of what is found. They run in turn, with the least processor time of so many rounds told, and its ratio to the program's. The first two have
-to write the same bytes.
+Each is a process that reads the files and checks them: the program, `tests/callers/words.c` with one call, the same with a callback for each
+finding, and Python, which makes objects of what is found. They run in turn, with the least processor time of so many rounds told, and its
+ratio to the program's. The first two have to write the same bytes.
 """
 
 import argparse
@@ -51,6 +51,7 @@ def main():
         ways = {
             "program": [o.wadlens, "check", "--map", "--max=0", *o.files],
             "C": [built(o.library, folder), "check", "--map", "--max=0", *o.files],
+            "C, a callback": [f"{folder}/words", "found", "--map", *o.files],
             "Python": [sys.executable, "-c", FOUND, *o.files],
         }
         least, said = dict.fromkeys(ways, float("inf")), {}

@@ -28,7 +28,7 @@ import enum
 import operator
 import os
 from array import array
-from typing import TYPE_CHECKING, Any, Iterable, NamedTuple, Protocol, Union, cast, overload
+from typing import TYPE_CHECKING, Any, Iterable, NamedTuple, Protocol, Union, cast, get_type_hints, overload
 
 if TYPE_CHECKING:
     from mmap import mmap
@@ -800,3 +800,7 @@ from wadlook._words import (  # noqa: E402
     picture,
     survey,
 )
+
+for _tuple in (Place, Finding, Label, Cells, Lump, Block, Command, Demo, Found):
+    # Or `help` shows references in the place of types.
+    _tuple.__new__.__annotations__.update(get_type_hints(_tuple))

@@ -5,6 +5,7 @@ import ctypes
 import json
 import os
 import pickle
+import pydoc
 import re
 import struct
 import subprocess
@@ -200,6 +201,7 @@ def cases(path):
         if name[0] != "_" and (callable(it) or isinstance(it, property))
     ]
     check("docstrings", all(it.__doc__ for it in public + members))
+    check("what help shows", "ForwardRef" not in "".join(pydoc.render_doc(it) for it in public))
 
 
 def names_in_bytes(base):

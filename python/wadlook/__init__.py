@@ -138,12 +138,14 @@ class Label(NamedTuple):
     """A level of a file: the entry of its label, the label's name, and its format: doom, hexen, udmf, extended, incomplete or outside.
 
     Of `incomplete` and `outside` `lump` is the place after the label, from 1 to 10, of the lump that isn't there or isn't inside the file.
+    Of `extended` `tag` is how its nodes begin.
     """
 
     entry: int
     name: str
     format: str
-    lump: int
+    lump: int = 0
+    tag: str = ""
 
 
 class Cells(NamedTuple):
@@ -537,7 +539,8 @@ class Wad:
             if count.value <= room:
                 break
             room = count.value
-        return [Label(it.entry, _text_of(it.name), _FORMATS[it.format], it.lump) for it in labels[: count.value]]
+        listed = labels[: count.value]
+        return [Label(it.entry, _text_of(it.name), _FORMATS[it.format], it.lump, _text_of(it.tag)) for it in listed]
 
     def level(self, name: Union[Name, int], wide: bool = False) -> Level:
         """The level of a name, or the one whose label is an entry; its indexes are read as unsigned where `wide` says so."""

@@ -253,7 +253,11 @@ def entries(base):
     check("points of a level whose nodes break", ring.under(0, 5) is None)
     later = bytearray(base)
     later[NODES : NODES + 4] = b"XNOD"
-    check("a level in another format", Wad(later).levels == [Label(0, "E1M1", "extended", 0)])
+    check("a level in another format", Wad(later).levels == [Label(0, "E1M1", "extended", tag="XNOD")])
+    short = bytearray(base)
+    for place, lump in ((10, b"OTHERMAP"), (3, b"OTHERDEF")):
+        short[DIRECTORY + 16 * place + 8 : DIRECTORY + 16 * place + 16] = lump
+        check("a level that lacks a lump", Wad(short).levels == [Label(0, "E1M1", "incomplete", place)])
     check("it isn't judged", refused(Status.OTHER_FORMAT, Wad(later).level, 0))
     check("a file that is none", refused(Status.SHORT, lambda: Wad(b"").levels))
     cells = level.cells(4, (-2, 0, 1, 0))

@@ -1,5 +1,6 @@
 //! `words COMMAND [OPTION]... FILE...`: answers as the program `wadlens` does, by `Question::run` over files that it reads first. What it
-//! takes are the words that make no files; it tells of no mistake in words. `found [OPTION]... FILE...` prints what `Question::check` finds.
+//! takes are the words that make no files; it tells of no mistake in words. `found [OPTION]... FILE...` prints what `Question::check` finds. Its
+//! status is 8 where a file can't be read, and 9 at wrong words.
 
 use std::io::{self, BufWriter, Read, Write};
 use std::process::ExitCode;
@@ -133,7 +134,8 @@ fn files_of<'a>(paths: &'a [String], bytes: &'a [Vec<u8>]) -> Vec<File<'a>> {
 
 fn answer(asked: &Asked) -> Told<ExitCode> {
     let paths = &asked.rest[asked.named()..];
-    let (bytes, base_bytes, mut input) = (read_all(paths)?, read_all(&asked.bases)?, Vec::new());
+    let (Ok(bytes), Ok(base_bytes)) = (read_all(paths), read_all(&asked.bases)) else { return Ok(ExitCode::from(8)) };
+    let mut input = Vec::new();
     if asked.command == "assemble" {
         io::stdin().read_to_end(&mut input)?;
     }
@@ -151,7 +153,10 @@ fn answer(asked: &Asked) -> Told<ExitCode> {
     let mut out = BufWriter::new(io::stdout());
     if asked.command == "found" {
         for found in question.check(&files) {
-            writeln!(out, "{}", found?)?;
+            match found {
+                Ok(found) => writeln!(out, "{found}")?,
+                Err(stopped) => writeln!(out, "{stopped}")?,
+            }
         }
         return Ok(ExitCode::SUCCESS);
     }

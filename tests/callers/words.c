@@ -1,6 +1,6 @@
 /* words COMMAND [OPTION]... FILE...: answers as the program `wadlens` does, by wadlook_run over files that it reads first. What it takes are
  * the words that make no files; it tells of no mistake in words. `found [OPTION]... FILE...` prints the findings that wadlook_check gives,
- * each in the line of `wadlens check`. */
+ * each in the line of `wadlens check`. Its status is 8 where a file can't be opened, and 9 at wrong words. */
 #include <ctype.h>
 #include <inttypes.h>
 #include <stdio.h>
@@ -49,7 +49,7 @@ static bool json, quiet, is_found;
 
 static void take_file(size_t at, const char *path) {
     FILE *from = fopen(path, "rb");
-    if (!from) stop("a file can't be opened");
+    if (!from) exit(8);
     files[at].path = (const uint8_t *)path;
     files[at].path_len = strlen(path);
     files[at].bytes = read_all(from, &files[at].bytes_len);

@@ -272,8 +272,8 @@ cases_of_picture_words() {
     tells '--help of picture' '--frame <X0,Y0,X1,Y1>' picture --help
 }
 
-# Pictures of Freedoom 0.12.1's levels, where these are (FREEDOOM names their folder), by the sums of what a script made of the
-# answers of `show`, `audit` and `points`.
+# Pictures of Freedoom 0.12.1's levels, where these are (FREEDOOM names their folder), by the sums of what tests/plain draws, if it goes
+# down the nodes at each cell.
 cases_of_drawn_games() {
     local wad name sum games=${FREEDOOM:-/usr/share/games/doom}
     if [[ ! -e $games/freedoom1.wad || ! -e $games/freedoom2.wad ]]; then
@@ -286,10 +286,10 @@ cases_of_drawn_games() {
         mv sum output
         judge "picture: $name" 0 "$sum" ''
     done <<'END'
-freedoom1.wad E3M7 7cd147854d1c1e219f51807ba39127235459db5a07bbde7eea75c3e0623bb8f9
-freedoom2.wad MAP01 472c80cb397039bfaaf2bf68e5e95fa707cd389cc19f6cb42bb5fb97b38c8c7a
-freedoom2.wad MAP12 2d3d0bcdd7ca01aad014c404e9b0f3ef5ec51ab2615d0b817d26445db3619e88
-freedoom2.wad MAP28 7b25c9edf07a05a34e22031fc1872a8d7db9706e010f3546da7b695b61b5a6c1
+freedoom1.wad E3M7 951ca80e06e470865b7380f41cab58d84cc06c3decd1465053bc9499a63a9d54
+freedoom2.wad MAP01 009475c4ed8703cdb23ac52ec81bcbc529e04e56e1868f6b36b2534f6b881b7f
+freedoom2.wad MAP12 c294d85b3893bb5235a2ac24362b85a890e75ca26c07066e05be82111a94e741
+freedoom2.wad MAP28 f940f5db1c2e459fbe3231521b8c892099bfd6ed0eef4b78d7b4c6d5297db2ac
 END
     # E3M6 has bare sides and a twin: a picture marks those that `check` tells, at the places that it tells.
     timeout 60 "$program" check --map --max 0 "$games/freedoom1.wad" 2>error |

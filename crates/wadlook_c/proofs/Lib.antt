@@ -4,6 +4,7 @@ pub mod DescentLemmas
 pub mod LumpLemmas
 pub mod ListLemmas
 pub mod BlockLemmas
+pub mod CutLemmas
 pub mod LevelsLemmas
 pub mod QuestionLemmas
 pub mod RunLemmas

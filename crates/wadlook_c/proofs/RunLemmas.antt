@@ -19,10 +19,11 @@ as_many_parts files paths bytes have =
     )
 
 -- one file more
-pub parts_more : (files : List WadlookFile) (i : ℕ) (file : WadlookFile) (old new : Parts) → i < length files → file ≡ get_or files i file → AddsFile file old new
+pub parts_more : (files : List WadlookFile) (i : ℕ) (d : WadlookFile) (old new : Parts) → i < length files → AddsFile (get_or files i d) old new
     → AreParts (take i files) old → AreParts (take (i + 1) files) new
-parts_more files i file old new within is adds have =
-    let front : take (i + 1) files ≡ take i files ++ file ∷ [] = take_more files i file within ∙ ap (λ f. take i files ++ f ∷ []) (sym is) in
+parts_more files i d old new within adds have =
+    let file = get_or files i d in
+    let front : take (i + 1) files ≡ take i files ++ file ∷ [] = take_more files i d within in
     record {
       paths_are = ap (map (λ (path : Bor (List ℕ)). path.now)) adds.path ∙ map_push (λ (path : Bor (List ℕ)). path.now) old.paths.items file.path
           ∙ ap (λ ps. ps ++ file.path.now ∷ []) have.paths_are

@@ -1,5 +1,5 @@
 -- Where a block's list stands.
-use Rattle.std.proofs.Common.{◌≡◌, ℕ, ◌+◌, ◌≤◌, ℤ, pos, List, ◌∷◌, ◌++◌, length, take, drop, Some, refl, sym, ap, ◌∙◌, arith}
+use Rattle.std.proofs.Common.{◌≡◌, ℕ, ℤ, List, ◌∷◌, ◌++◌, length, take, drop, sym, ap, ◌∙◌, arith}
 use Rattle.std.proofs.lemmas.List.{length-append, length-drop, take_at}
 use Rattle.map_tables.specs.BlockMap.{BlockMap}
 use Rattle.map_tables.specs.Words.{HasOffset, IsBlockList}

@@ -1,5 +1,5 @@
 -- What is told of a block (ours).
-use Rattle.std.specs.Prelude.{◌≡◌, ℕ, ◌+◌, ◌<◌, ◌≤◌, List, length, take, drop}
+use Rattle.std.specs.Prelude.{ℕ, ◌+◌, ◌<◌, ◌≤◌, List, length, take, drop}
 use Rattle.map_geo.specs.Point.{IsInRange, Point, point_at}
 use Rattle.map_level.specs.declared.reading.Reading.{Reading}
 use Rattle.map_tables.specs.BlockMap.{BlockMap, IsBlockOf, block_map_of, block_number}

@@ -1,4 +1,4 @@
-use Rattle.std.proofs.Common.{◌≡◌, ◌+◌, length, ◌∙◌}
+use Rattle.std.proofs.Common.{◌≡◌, ◌+◌, length}
 use Rattle.wadlook_c.proofs.FindingLemmas.{all_counted}
 use Rattle.wadlook_c.proofs.audit.put_report.Goals as goal
 

@@ -1,4 +1,4 @@
-use Rattle.std.proofs.Common.{◌≡◌, ◌∙◌, length, arith}
+use Rattle.std.proofs.Common.{length, arith}
 use Rattle.std.specs.Prelude.{IsSomeAnd, Option, Some}
 use Rattle.std.specs.List.{slice_get}
 use Rattle.wadlook_c.specs.Places.{TellsPlace}

@@ -1,4 +1,4 @@
-use Rattle.std.proofs.Common.{◌∙◌, length, ap, inr, refl, rules}
+use Rattle.std.proofs.Common.{inr, refl, rules}
 use Rattle.wad_page.proofs.draw.draw.Goals as goal
 
 pub returns : goal.returns

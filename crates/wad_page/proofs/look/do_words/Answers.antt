@@ -1,9 +1,9 @@
-use Rattle.std.proofs.Common.{rules, ℕ, List, Bor, ◌≡◌, ◌∙◌, Err, Some, map, string_bytes, length, inl, inr, refl, sym, subst, ap, arith}
+use Rattle.std.proofs.Common.{rules, ℕ, List, Bor, ◌≡◌, ◌∙◌, Err, Some, map, string_bytes, length, inl, refl, sym, subst, ap, arith}
 use Rattle.std.proofs.lemmas.List.{length-map}
 use Rattle.std.proofs.lemmas.Option.{same_Some}
 use Rattle.std.proofs.lemmas.Result.{err_from_is_err_and}
 use Rattle.std.specs.Option.{option_map}
-use Rattle.look_engines.specs.Words.{IsJob, paths_of}
+use Rattle.look_engines.specs.Words.{paths_of}
 use Rattle.wad_page.specs.Parts.{AreWords, cut}
 use Rattle.wad_page.specs.declared.refusal.PageRefusal.TheVariants.{Usage}
 use Rattle.wad_page.proofs.LookLemmas.{refused_words, other_count}

@@ -1,5 +1,5 @@
 -- The list of codes: how many lines it has, and the line of a rank.
-use Rattle.std.proofs.Common.{◌≡◌, ℕ, ◌<◌, [], ap, ◌∙◌, arith, length, map}
+use Rattle.std.proofs.Common.{◌≡◌, ℕ, ◌<◌, [], ap, ◌∙◌, length}
 use Rattle.std.specs.Prelude.{slice_index_or}
 use Rattle.std.proofs.lemmas.List.{get_or-map, length-map}
 use Rattle.level_codes.proofs.CodeLemmas.{table_length}

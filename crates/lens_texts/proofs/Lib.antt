@@ -1,3 +1,4 @@
+mod BrokenLemmas
 pub mod CaseLevels
 pub mod EscapeLemmas
 mod ExplainLemmas

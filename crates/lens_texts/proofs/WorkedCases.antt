@@ -1,11 +1,11 @@
 -- The texts of findings, warnings, formats, labels and paths, computed on small levels: each is what stands here.
-use Rattle.std.proofs.Common.{◌≡◌, ℕ, ℤ, pos, negsuc, Bool, true, false, List, [], ◌∷◌, ◌++◌, replicate, refl}
+use Rattle.std.proofs.Common.{◌≡◌, ℕ, ℤ, pos, negsuc, Bool, true, false, List, [], ◌∷◌, ◌++◌, Some, None, replicate, refl}
 use lib.Utf8.{encode}
 use Rattle.std.specs.Fmt.{digits}
 use Rattle.std.specs.Prelude.{codes}
 use Rattle.std.specs.Str.{chars, is_utf8}
 use Rattle.std.specs.Str.Lossy.{utf8_error_len, utf8_lossy, utf8_valid_len}
-use Rattle.level_starts.specs.declared.format.Format.TheVariants.{Udmf, Incomplete, Hexen, Outside, Extended}
+use Rattle.level_starts.specs.declared.format.Format.TheVariants as format
 use Rattle.game_numbers.specs.declared.key.Key.TheVariants.{Blue}
 use Rattle.game_warnings.specs.declared.skill.Skills.{Skills}
 use Rattle.game_warnings.specs.declared.warning.Barrier.TheVariants.{NoBack, LetsNone}
@@ -37,6 +37,10 @@ use Rattle.lens_texts.specs.LevelObject.{level_members, other_members}
 use Rattle.lens_texts.specs.Place.{place_of, place_text}
 use Rattle.lens_texts.specs.RemarkLine.{lead_text, remark_line, remark_words}
 use Rattle.lens_texts.specs.declared.remark.Remark.TheVariants as remark
+use Rattle.lens_texts.specs.declared.unread.Unread.TheVariants.{Udmf, Incomplete, Hexen, Outside, Extended}
+use Rattle.node_lumps.specs.declared.broken.Broken.TheVariants as broken
+use Rattle.node_lumps.specs.declared.format.NodeLump.TheVariants as lump
+use Rattle.node_lumps.specs.declared.parts.Part.TheVariants as part
 use Rattle.lens_texts.specs.ShownPath.{shown_after, shown_path}
 use Rattle.lens_texts.specs.WarningMessage.{missing_text, texture_text, unknown_flat_text, unknown_thing_text, warning_message, warning_place}
 use Rattle.lens_texts.proofs.CaseLevels.{rows, sector, thing, level, shown}
@@ -422,8 +426,22 @@ hexen_told = refl
 outside_told : format_text (Outside 7) ≡ codes "outside: NODES\n"
 outside_told = refl
 
-extended_told : format_text (Extended (codes "XNOD")) ≡ codes "extended nodes XNOD: not read\n"
+extended_told : format_text (Extended (codes "ZNOD") None) ≡ codes "extended nodes ZNOD: not read\n"
 extended_told = refl
+
+cut_told : format_text (Extended (codes "XGLN") (Some (broken.EndsWithin lump.Ssectors part.Segs)))
+    ≡ codes "extended nodes XGLN: SSECTORS ends within its segs\n"
+cut_told = refl
+
+counted_told : format_text (Extended (codes "XNOD") (Some (broken.Segs 4294967298 2)))
+    ≡ codes "extended nodes XNOD: its ssectors have 4294967298 segs, 2 are there\n"
+unfolding digits
+counted_told = refl
+
+made_told : format_text (Extended (codes "XNOD") (Some (broken.Vertexes 3 2)))
+    ≡ codes "extended nodes XNOD: made for 3 vertexes, VERTEXES has 2\n"
+unfolding digits
+made_told = refl
 
 -- one name to unfold for strings and numbers
 unfoldable strings : Unit {0}
@@ -440,20 +458,26 @@ unfolding strings
 replaced_string = refl
 
 -- those of levels that aren't judged
-udmf_object : level_members (codes "a.wad") (codes "MAP01") 3 Udmf ++ other_members Udmf
+udmf_object : level_members (codes "a.wad") (codes "MAP01") 3 format.Udmf ++ other_members Udmf
     ≡ codes "{\"file\":\"a.wad\",\"level\":\"MAP01\",\"entry\":3,\"format\":\"udmf\"}\n"
 unfolding strings
 udmf_object = refl
 
-incomplete_object : level_members (codes "a.wad") (codes "MAP01") 12 (Incomplete 10) ++ other_members (Incomplete 10)
+incomplete_object : level_members (codes "a.wad") (codes "MAP01") 12 (format.Incomplete 10) ++ other_members (Incomplete 10)
     ≡ codes "{\"file\":\"a.wad\",\"level\":\"MAP01\",\"entry\":12,\"format\":\"incomplete\",\"lump\":\"BLOCKMAP\"}\n"
 unfolding strings
 incomplete_object = refl
 
-extended_object : level_members (codes "a.wad") (codes "MAP01") 0 (Extended (codes "XNOD")) ++ other_members (Extended (codes "XNOD"))
-    ≡ codes "{\"file\":\"a.wad\",\"level\":\"MAP01\",\"entry\":0,\"format\":\"extended\",\"tag\":\"XNOD\"}\n"
+extended_object : level_members (codes "a.wad") (codes "MAP01") 0 (format.Extended (codes "ZNOD")) ++ other_members (Extended (codes "ZNOD") None)
+    ≡ codes "{\"file\":\"a.wad\",\"level\":\"MAP01\",\"entry\":0,\"format\":\"extended\",\"tag\":\"ZNOD\"}\n"
 unfolding strings
 extended_object = refl
+
+broken_object : level_members (codes "a.wad") (codes "MAP01") 0 (format.Extended (codes "XNOD"))
+    ++ other_members (Extended (codes "XNOD") (Some (broken.EndsWithin lump.Nodes part.Vertexes)))
+    ≡ codes "{\"file\":\"a.wad\",\"level\":\"MAP01\",\"entry\":0,\"format\":\"extended\",\"tag\":\"XNOD\",\"broken\":\"NODES ends within its vertexes\"}\n"
+unfolding strings
+broken_object = refl
 
 -- a line's end, an escape, a control of eight bits and 127, between letters
 path_with_controls : shown_path (97 ∷ 10 ∷ 27 ∷ 91 ∷ 194 ∷ 133 ∷ 127 ∷ 98 ∷ [])

@@ -1,10 +1,14 @@
 -- What the objects of a level have in common (ours): the file, the label and the format.
-use Rattle.std.specs.Prelude.{ℕ, ◌-◌, ◌≤◌, List, [], ◌++◌, codes, decimal, slice_index_or}
+use Rattle.std.specs.Prelude.{ℕ, ◌-◌, List, [], ◌++◌, Option, Some, None, codes, decimal, slice_index_or}
 use Rattle.le_rec.specs.Name.{shown_name}
 use Rattle.level_starts.specs.declared.format.Format.{Format}
 use Rattle.level_starts.specs.declared.format.Format.TheVariants.{Udmf, Incomplete, Hexen, Outside, Extended, Doom}
 use Rattle.map_level.specs.LinkFaults.{usual_names}
+use Rattle.node_lumps.specs.Words.{broken_text}
+use Rattle.node_lumps.specs.declared.broken.Broken.{Broken}
 use Rattle.lens_texts.specs.JsonString.{json_string}
+use Rattle.lens_texts.specs.declared.unread.Unread.{Unread}
+use Rattle.lens_texts.specs.declared.unread.Unread.TheVariants as unread
 
 -- a name as a string, as it is shown
 abbrev pub name_string : List ℕ → List ℕ
@@ -42,21 +46,19 @@ level_members path name g format = file_member path ++ (label_members name g ++ 
 abbrev pub usual_name : ℕ → List ℕ
 usual_name k = slice_index_or usual_names (k - 1) []
 
--- what decides another format: the lump that isn't there or isn't inside its file, or the first bytes of the nodes
-abbrev pub telling_members : Format → List ℕ
-telling_members Udmf = []
-telling_members (Incomplete k) = codes ",\"lump\":" ++ name_string (usual_name k)
-telling_members Hexen = []
-telling_members (Outside k) = codes ",\"lump\":" ++ name_string (usual_name k)
-telling_members (Extended tag) = codes ",\"tag\":" ++ json_string tag
-telling_members Doom = []
+-- why extended nodes are broken, if they are
+abbrev pub broken_member : Option Broken → List ℕ
+broken_member None = []
+broken_member (Some why) = codes ",\"broken\":" ++ json_string (broken_text why)
 
--- what the object of a level of another format ends with
-abbrev pub other_members : Format → List ℕ
-other_members format = telling_members format ++ codes "}\n"
+-- what decides another format: the lump that isn't there or isn't inside its file; or the first bytes of the nodes, and why these are broken
+abbrev pub telling_members : Unread → List ℕ
+telling_members unread.Udmf = []
+telling_members (unread.Incomplete k) = codes ",\"lump\":" ++ name_string (usual_name k)
+telling_members unread.Hexen = []
+telling_members (unread.Outside k) = codes ",\"lump\":" ++ name_string (usual_name k)
+telling_members (unread.Extended tag why) = (codes ",\"tag\":" ++ json_string tag) ++ broken_member why
 
--- the lump that decides a format is one of the ten
-abbrev pub NamesLump : Format → Type 0
-NamesLump (Incomplete k) = (1 ≤ k) × (k ≤ 10)
-NamesLump (Outside k) = (1 ≤ k) × (k ≤ 10)
-NamesLump _ = Unit {0}
+-- what the object of a level that isn't judged ends with
+abbrev pub other_members : Unread → List ℕ
+other_members unread = telling_members unread ++ codes "}\n"

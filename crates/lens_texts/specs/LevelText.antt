@@ -1,7 +1,6 @@
 -- The text of a level, in the form that is asked for (ours).
 use Rattle.std.specs.Prelude.{ℕ, List, [], ◌∷◌, ◌++◌, codes}
 use Rattle.level_codes.specs.declared.code.ReportCode.{ReportCode}
-use Rattle.level_starts.specs.declared.format.Format.{Format}
 use Rattle.map_level.specs.Level.{Level}
 use Rattle.map_level.specs.declared.finding.Finding.{Finding}
 use Rattle.map_warnings.specs.declared.warning.Warning.{Warning}
@@ -10,8 +9,10 @@ use Rattle.lens_texts.specs.Head.{Head, by_form}
 use Rattle.lens_texts.specs.LevelObject.{level_members, other_members}
 use Rattle.lens_texts.specs.RemarkLine.{left_line, level_line, remark_line}
 use Rattle.lens_texts.specs.RemarkObject.{left_object, remark_object, wide_object}
+use Rattle.lens_texts.specs.Unread.{unread_format}
 use Rattle.lens_texts.specs.declared.remark.Remark.{Remark}
 use Rattle.lens_texts.specs.declared.remark.Remark.TheVariants as remark
+use Rattle.lens_texts.specs.declared.unread.Unread.{Unread}
 
 -- a remark
 abbrev pub remark_text : Head → Level → Remark → List ℕ
@@ -33,6 +34,6 @@ abbrev pub wide_text : Head → List ℕ
 wide_text head = by_form head.form (level_line head.path head.label (codes "sound with --wide" ++ 10 ∷ [])) (wide_object head.path head.label)
 
 -- that the level isn't judged
-abbrev pub unjudged_text : Head → Format → List ℕ
-unjudged_text head format = by_form head.form (level_line head.path head.label (format_text format))
-    (level_members head.path head.label.name head.label.entry format ++ other_members format)
+abbrev pub unjudged_text : Head → Unread → List ℕ
+unjudged_text head unread = by_form head.form (level_line head.path head.label (format_text unread))
+    (level_members head.path head.label.name head.label.entry (unread_format unread) ++ other_members unread)

@@ -20,4 +20,5 @@ pub mod RemarkLine
 pub mod RemarkObject
 pub mod ShownPath
 pub mod Unbuilt
+pub mod Unread
 pub mod WarningMessage

@@ -1,13 +1,13 @@
 -- That a level has its ten lumps in another order (ours).
-use Rattle.std.specs.Prelude.{ℕ, List, [], ◌∷◌, ◌++◌, Option, Some, None, codes}
+use Rattle.std.specs.Prelude.{ℕ, List, [], ◌∷◌, ◌++◌, Option, Some, codes}
 use Rattle.le_rec.specs.Name.{shown_name}
-use Rattle.level_starts.specs.declared.format.Format.{Format}
-use Rattle.level_starts.specs.declared.format.Format.TheVariants.{Incomplete}
 use Rattle.lens_texts.specs.Head.{Head, by_form}
 use Rattle.lens_texts.specs.LevelObject.{usual_name}
 use Rattle.lens_texts.specs.RemarkLine.{level_line}
 use Rattle.lens_texts.specs.RemarkObject.{object_front}
 use Rattle.lens_texts.specs.declared.label.LevelLabel.{LevelLabel}
+use Rattle.lens_texts.specs.declared.unread.Unread.{Unread}
+use Rattle.lens_texts.specs.declared.unread.Unread.TheVariants.{Incomplete}
 
 -- `lumps in another order: FIRST before SECOND`, before other bytes
 abbrev pub order_words : ℕ → ℕ → List ℕ → List ℕ
@@ -29,6 +29,6 @@ abbrev pub order_text : Head → ℕ → ℕ → List ℕ
 order_text head j k = by_form head.form (order_line head.path head.label j k) (order_object head.path head.label j k)
 
 -- of a level that lacks lump k in its place, by the lump that has this place, if all ten are there
-abbrev pub order_part : Head → Format → Option ℕ → List ℕ
+abbrev pub order_part : Head → Unread → Option ℕ → List ℕ
 order_part head (Incomplete k) (Some j) = order_text head j k
 order_part head _ _ = []

@@ -4,14 +4,19 @@ ghost use Rattle.std.specs.Prelude.{◌≡◌, ◌+◌, ◌≤◌, ◌++◌, cod
 ghost use Rattle.line_io.specs.Writes.{Writes};
 ghost use Rattle.line_io.specs.declared.text_line.TheConstants.{ROOM};
 ghost use Rattle.lens_texts.specs.JsonString.{json_string};
-ghost use Rattle.lens_texts.specs.LevelObject.{NamesLump, file_member, format_member, format_name, label_members, level_members};
+ghost use Rattle.lens_texts.specs.LevelObject.{broken_member, file_member, format_member, format_name, label_members, level_members};
 ghost use Rattle.lens_texts.specs.LevelObject.{name_string, number_member, other_members, telling_members, usual_name};
+ghost use Rattle.lens_texts.specs.Unread.{NamesLump};
+ghost use Rattle.node_lumps.specs.Words.{broken_text};
 
+use crate::broken::prepend_broken;
 use crate::json_string::write_string;
+use crate::unread::Unread;
 use le_rec::{Name8, Sink};
 use level_starts::Format;
 use line_io::{IoFault, TextLine, emit};
 use map_level::usual_name;
+use node_lumps::Broken;
 
 /// `{"file":<path>`
 pub fn write_file<W: Sink>(path: &[u8], out: &mut W) -> Result<(), IoFault>
@@ -108,26 +113,26 @@ pub fn format_name(format: Format) -> &'static [u8]
     }
 }
 
-/// Writes what the object of a level of another format than Doom's ends with.
-pub fn write_other<W: Sink>(format: Format, out: &mut W) -> Result<(), IoFault>
-    requires lump { NamesLump format }
+/// Writes what the object of a level that isn't judged ends with.
+pub fn write_other<W: Sink>(unread: Unread, out: &mut W) -> Result<(), IoFault>
+    requires lump { NamesLump unread }
     requires sound { (W.state out.old).failed ≡ false }
-    ensures { Writes (W.state out.old) (W.state out.new) (other_members format) result }
+    ensures { Writes (W.state out.old) (W.state out.new) (other_members unread) result }
 {
-    write_telling(format, out)?;
+    write_telling(unread, out)?;
     emit(out, b"}\n")
 }
 
-// Writes what decides a format.
-fn write_telling<W: Sink>(format: Format, out: &mut W) -> Result<(), IoFault>
-    requires lump { NamesLump format }
+// Writes what decides its format.
+fn write_telling<W: Sink>(unread: Unread, out: &mut W) -> Result<(), IoFault>
+    requires lump { NamesLump unread }
     requires sound { (W.state out.old).failed ≡ false }
-    ensures { Writes (W.state out.old) (W.state out.new) (telling_members format) result }
+    ensures { Writes (W.state out.old) (W.state out.new) (telling_members unread) result }
 {
-    match format {
-        Format::Incomplete(k) | Format::Outside(k) => write_lump(k, out),
-        Format::Extended(tag) => write_tag(&tag, out),
-        Format::Udmf | Format::Hexen | Format::Doom => Ok(()),
+    match unread {
+        Unread::Incomplete(k) | Unread::Outside(k) => write_lump(k, out),
+        Unread::Extended(tag, why) => write_nodes(&tag, why, out),
+        Unread::Udmf | Unread::Hexen => Ok(()),
     }
 }
 
@@ -139,6 +144,38 @@ fn write_lump<W: Sink>(k: u32, out: &mut W) -> Result<(), IoFault>
 {
     emit(out, b",\"lump\":")?;
     write_name(&usual_name(k as usize), out)
+}
+
+// `,"tag":<tag>`, and why the nodes are broken
+fn write_nodes<W: Sink>(tag: &[u8; 4], why: Option<Broken>, out: &mut W) -> Result<(), IoFault>
+    requires { (W.state out.old).failed ≡ false }
+    ensures { Writes (W.state out.old) (W.state out.new)
+        ((codes ",\"tag\":" ++ json_string tag.now) ++ broken_member why) result }
+{
+    write_tag(tag, out)?;
+    write_why(why, out)
+}
+
+// `,"broken":<words>`, where the nodes are broken
+fn write_why<W: Sink>(why: Option<Broken>, out: &mut W) -> Result<(), IoFault>
+    requires { (W.state out.old).failed ≡ false }
+    ensures { Writes (W.state out.old) (W.state out.new) (broken_member why) result }
+{
+    match why {
+        Some(why) => write_broken(why, out),
+        None => Ok(()),
+    }
+}
+
+// `,"broken":<words>`
+fn write_broken<W: Sink>(why: Broken, out: &mut W) -> Result<(), IoFault>
+    requires { (W.state out.old).failed ≡ false }
+    ensures { Writes (W.state out.old) (W.state out.new) (codes ",\"broken\":" ++ json_string (broken_text why)) result }
+{
+    let mut words = TextLine::new();
+    prepend_broken(&mut words, why);
+    emit(out, b",\"broken\":")?;
+    write_string(words.as_bytes(), out)
 }
 
 // `,"tag":<tag>`

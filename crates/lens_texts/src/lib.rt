@@ -3,6 +3,7 @@
 //! written by itself. An output that hands on what it holds back, and a watch over a run, stand here, too.
 #![tactic(auto)]
 
+mod broken;
 mod digits;
 pub mod escape;
 mod explain;
@@ -26,6 +27,7 @@ mod remark;
 mod remark_object;
 mod report;
 mod unbuilt;
+mod unread;
 mod warning_message;
 mod watch;
 
@@ -49,4 +51,5 @@ pub use remark::Remark;
 pub use remark_object::{write_front, write_wide_object};
 pub use report::{WriteRemarks, write_left, write_remark};
 pub use unbuilt::{EmptyLumps, write_unbuilt};
+pub use unread::Unread;
 pub use watch::{Unwatched, Watch};

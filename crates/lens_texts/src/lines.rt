@@ -6,11 +6,12 @@ ghost use Rattle.line_io.specs.declared.text_line.TheConstants.{ROOM};
 ghost use Rattle.lens_texts.specs.Escape.{escaped};
 ghost use Rattle.lens_texts.specs.RemarkLine.{block_text, body_text, heading_text, index_text, lead_text, left_line, level_line, remark_line, remark_words};
 ghost use Rattle.le_rec.specs.Name.{shown_name};
-ghost use Rattle.level_starts.specs.declared.format.Format.TheVariants as format;
-ghost use Rattle.lens_texts.specs.FormatLine.{format_text};
-ghost use Rattle.lens_texts.specs.LevelObject.{NamesLump};
+ghost use Rattle.lens_texts.specs.FormatLine.{format_text, why_text};
+ghost use Rattle.lens_texts.specs.Unread.{NamesLump};
+ghost use Rattle.lens_texts.specs.declared.unread.Unread.TheVariants as unread;
 ghost use Rattle.lens_texts.specs.Owners.{AreOwners};
 
+use crate::broken::prepend_broken;
 use crate::digits::{prepend_count, prepend_short};
 use crate::escape::write_escaped;
 use crate::form::Form;
@@ -19,12 +20,13 @@ use crate::parts::{TextParts, write_parts};
 use crate::path::write_after_path;
 use crate::place::prepend_place;
 use crate::remark::Remark;
+use crate::unread::Unread;
 use le_rec::Sink;
 use level_codes::{Kind, ReportCode};
-use level_starts::Format;
 use line_io::{IoFault, TextLine, emit};
 use map_level::{Level, usual_name};
 use map_tables::blocks_along;
+use node_lumps::Broken;
 
 /// What each line or object of a level begins with: its form, the file's path and the label.
 #[derive(Clone, Copy)]
@@ -179,44 +181,43 @@ pub fn write_left_line<W: Sink>(
 /// Writes the line of a level that isn't judged.
 pub fn write_format<W: Sink>(
     heading: &Heading<'_>,
-    format: Format,
+    unread: Unread,
     out: &mut W,
 ) -> Result<(), IoFault>
-    requires lump { NamesLump format }
+    requires lump { NamesLump unread }
     requires sound { (W.state out.old).failed ≡ false }
     ensures { Writes (W.state out.old) (W.state out.new)
-        (level_line heading.now.path.now heading.now.label (format_text format)) result }
+        (level_line heading.now.path.now heading.now.label (format_text unread)) result }
 {
     let mut line = TextLine::new();
-    prepend_format(&mut line, format);
+    prepend_format(&mut line, unread);
     write_line(heading, line.as_bytes(), out)
 }
 
-/// Writes the line of a format, without the path and the label before it.
-pub fn write_format_alone<W: Sink>(format: Format, out: &mut W) -> Result<(), IoFault>
-    requires lump { NamesLump format }
+/// Writes that line without the path and the label before it.
+pub fn write_format_alone<W: Sink>(unread: Unread, out: &mut W) -> Result<(), IoFault>
+    requires lump { NamesLump unread }
     requires sound { (W.state out.old).failed ≡ false }
-    ensures { Writes (W.state out.old) (W.state out.new) (format_text format) result }
+    ensures { Writes (W.state out.old) (W.state out.new) (format_text unread) result }
 {
     let mut line = TextLine::new();
-    prepend_format(&mut line, format);
+    prepend_format(&mut line, unread);
     emit(out, line.as_bytes())
 }
 
 // Puts the text for a level that isn't judged.
-fn prepend_format(line: &mut TextLine, format: Format)
-    requires lump { NamesLump format }
+fn prepend_format(line: &mut TextLine, unread: Unread)
+    requires lump { NamesLump unread }
     requires empty { line.old ≡ [] }
-    ensures text { line.new ≡ format_text format }
+    ensures text { line.new ≡ format_text unread }
     ensures length { length line.new ≤ 108 }
 {
-    match format {
-        Format::Udmf => line.prepend_bytes(b"udmf: not read\n"),
-        Format::Incomplete(k) => prepend_incomplete(line, k as usize),
-        Format::Hexen => line.prepend_bytes(b"hexen: not read\n"),
-        Format::Outside(k) => prepend_outside_file(line, k as usize),
-        Format::Extended(tag) => prepend_extended(line, &tag),
-        Format::Doom => {}
+    match unread {
+        Unread::Udmf => line.prepend_bytes(b"udmf: not read\n"),
+        Unread::Incomplete(k) => prepend_incomplete(line, k as usize),
+        Unread::Hexen => line.prepend_bytes(b"hexen: not read\n"),
+        Unread::Outside(k) => prepend_outside_file(line, k as usize),
+        Unread::Extended(tag, why) => prepend_extended(line, &tag, why),
     }
 }
 
@@ -224,7 +225,7 @@ fn prepend_incomplete(line: &mut TextLine, k: usize)
     requires from { 1 ≤ k }
     requires to { k ≤ 10 }
     requires empty { line.old ≡ [] }
-    ensures text { line.new ≡ format_text (format.Incomplete k) }
+    ensures text { line.new ≡ format_text (unread.Incomplete k) }
     ensures length { length line.new ≤ 108 }
 {
     line.prepend_bytes(b" where it belongs\n");
@@ -236,7 +237,7 @@ fn prepend_outside_file(line: &mut TextLine, k: usize)
     requires from { 1 ≤ k }
     requires to { k ≤ 10 }
     requires empty { line.old ≡ [] }
-    ensures text { line.new ≡ format_text (format.Outside k) }
+    ensures text { line.new ≡ format_text (unread.Outside k) }
     ensures length { length line.new ≤ 108 }
 {
     line.prepend_bytes(b"\n");
@@ -244,14 +245,28 @@ fn prepend_outside_file(line: &mut TextLine, k: usize)
     line.prepend_bytes(b"outside: ");
 }
 
-fn prepend_extended(line: &mut TextLine, tag: &[u8; 4])
+fn prepend_extended(line: &mut TextLine, tag: &[u8; 4], why: Option<Broken>)
     requires { line.old ≡ [] }
-    ensures text { line.new ≡ format_text (format.Extended tag.now) }
+    ensures text { line.new ≡ format_text (unread.Extended tag.now why) }
     ensures length { length line.new ≤ 108 }
 {
-    line.prepend_bytes(b": not read\n");
+    line.prepend_bytes(b"\n");
+    prepend_why(line, why);
+    line.prepend_bytes(b": ");
     line.prepend_bytes(tag);
     line.prepend_bytes(b"extended nodes ");
+}
+
+// Puts why extended nodes aren't judged.
+fn prepend_why(line: &mut TextLine, why: Option<Broken>)
+    requires { length line.old ≤ 1 }
+    ensures text { line.new ≡ why_text why ++ line.old }
+    ensures length { length line.new ≤ length line.old + 75 }
+{
+    match why {
+        Some(why) => prepend_broken(line, why),
+        None => line.prepend_bytes(b"not read"),
+    }
 }
 
 // `CODE KIND INDEX: `

@@ -5,37 +5,37 @@ ghost use Rattle.le_rec.specs.Name.{shown_name};
 ghost use Rattle.line_io.specs.Writes.{Writes};
 ghost use Rattle.line_io.specs.declared.text_line.TheConstants.{ROOM};
 ghost use Rattle.lens_texts.specs.Head.{head_of};
-ghost use Rattle.lens_texts.specs.LevelObject.{NamesLump, usual_name};
+ghost use Rattle.lens_texts.specs.LevelObject.{usual_name};
 ghost use Rattle.lens_texts.specs.Order.{order_line, order_member, order_object, order_part, order_text, order_words};
+ghost use Rattle.lens_texts.specs.Unread.{NamesLump};
 
 use crate::form::Form;
 use crate::label::prepend_name;
 use crate::lines::{Heading, write_line};
 use crate::remark_object::write_front;
+use crate::unread::Unread;
 use le_rec::Sink;
-use level_starts::Format;
 use line_io::{IoFault, TextLine, emit};
 use map_level::usual_name;
 
 /// Writes that a level that lacks a lump in its place has all ten, by the lump that has this place; nothing of another level.
 pub fn write_order<W: Sink>(
     heading: &Heading<'_>,
-    format: Format,
+    unread: Unread,
     order: Option<u32>,
     out: &mut W,
 ) -> Result<(), IoFault>
-    requires lump { NamesLump format }
+    requires lump { NamesLump unread }
     requires order { IfSome order (λ j. (1 ≤ j) × (j ≤ 10)) }
     requires sound { (W.state out.old).failed ≡ false }
-    ensures { Writes (W.state out.old) (W.state out.new) (order_part (head_of heading.now) format order) result }
+    ensures { Writes (W.state out.old) (W.state out.new) (order_part (head_of heading.now) unread order) result }
 {
-    match format {
-        Format::Incomplete(k) => match order {
+    match unread {
+        Unread::Incomplete(k) => match order {
             Some(j) => write_exchanged(heading, j as usize, k as usize, out),
             None => Ok(()),
         },
-        Format::Udmf | Format::Hexen | Format::Outside(_) | Format::Extended(_) | Format::Doom =>
-            Ok(()),
+        Unread::Udmf | Unread::Hexen | Unread::Outside(_) | Unread::Extended(..) => Ok(()),
     }
 }
 

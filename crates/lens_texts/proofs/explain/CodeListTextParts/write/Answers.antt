@@ -1,4 +1,4 @@
-use Rattle.std.proofs.Common.{◌≡◌, ◌<◌, ap, ◌∙◌, sym, arith, rules}
+use Rattle.std.proofs.Common.{◌≡◌, ◌<◌, arith, rules}
 use Rattle.level_codes.specs.declared.table.TheConstants.{REPORT_COUNT}
 use Rattle.lens_texts.specs.Explain.{list_line}
 use Rattle.lens_texts.proofs.ExplainLemmas.{line_at, lines_length}

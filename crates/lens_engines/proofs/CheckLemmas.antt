@@ -9,8 +9,7 @@ use Rattle.std.proofs.lemmas.List.Sums.{get_or-le-sum_by}
 use Rattle.le_rec.specs.Sink.{SinkState}
 use Rattle.level_starts.specs.Format.{IsFormat}
 use Rattle.level_starts.specs.Starts.{IsNextStart, NoneStartsFrom}
-use Rattle.level_starts.specs.declared.format.Format.{Format}
-use Rattle.level_starts.specs.declared.format.Format.TheVariants.{Udmf, Incomplete, Hexen, Outside, Extended, Doom}
+use Rattle.level_starts.specs.declared.format.Format.TheVariants.{Doom}
 use Rattle.line_io.specs.Writes.{Writes}
 use Rattle.line_io.specs.declared.fault.IoFault.{IoFault}
 use Rattle.map_audit.proofs.LawLemmas.{law_sound_is_no_fault}
@@ -30,7 +29,7 @@ use Rattle.map_tree.specs.Sound.{IsSound}
 use Rattle.wad_dir.specs.Entries.{names}
 use Rattle.wad_dir.specs.Wad.{IsRead, Wad}
 use Rattle.wad_dir.proofs.OneDirectoryLemmas.{one-has_directory}
-use Rattle.lens_engines.specs.Check.{CheckAsked, Checks, ChecksAll, ChecksDoom, ChecksFile, ChecksLevel, ChecksOrWants, ChecksSome, IsLevelText, IsOrder, IsSoundWideAlone, IsToldBy, RunsCheck, ToldTo, WritesText, at_start, head_in, ordered_text, with_level, text_end}
+use Rattle.lens_engines.specs.Check.{CheckAsked, Checks, ChecksAll, ChecksDoom, ChecksFile, ChecksLevel, ChecksOrWants, ChecksSome, IsLevelText, IsOrder, IsSoundWideAlone, RunsCheck, ToldTo, WritesText, at_start, head_in, ordered_text, with_level, text_end}
 use Rattle.lens_engines.specs.Counts.{AreCounts, IsCount, fault_total, finding_order}
 use Rattle.level_codes.specs.declared.code.ReportCode.TheVariants as report
 use Rattle.lens_engines.specs.Failing.{HasFailing}
@@ -44,8 +43,11 @@ use Rattle.lens_engines.specs.ReportCounts.{AreReportCounts}
 use Rattle.lens_engines.specs.Survey.{fault_after}
 use Rattle.lens_engines.specs.Totals.{format_totals, judged_totals, no_totals, totals_with, verdict_of_totals}
 use Rattle.lens_engines.specs.Unlisted.{AreUnlisted}
+use Rattle.lens_engines.specs.Unread.{IsUnread}
 use Rattle.lens_engines.specs.Warned.{Warned, known_files}
 use Rattle.lens_texts.specs.declared.label.LevelLabel.{LevelLabel}
+use Rattle.lens_texts.specs.declared.unread.Unread.{Unread}
+use Rattle.lens_texts.specs.declared.unread.Unread.TheVariants.{Udmf, Incomplete, Hexen, Outside, Extended}
 use Rattle.lens_engines.specs.declared.totals.Totals.{Totals}
 use Rattle.lens_engines.specs.declared.unlisted.Unlisted.{Unlisted}
 use Rattle.lens_engines.specs.declared.verdict.LevelsFault.{LevelsFault}
@@ -178,45 +180,39 @@ doom_text state asked files label g out out' result labelled is (inl wants) = in
 doom_text state asked files label g out out' result labelled is (inr wrote) = inr (record {
   text = wrote.text;
   totals = wrote.totals;
-  is = record { format = Doom; is = is; label = label; labelled = labelled; told = wrote.is };
+  is = record { label = label; labelled = labelled; told = inl (is, wrote.is) };
   outcome = wrote.outcome;
   writes = wrote.writes;
   ended = wrote.ended;
 })
 
 -- the lump of an order is one of the ten
-pub order_within : (names : List (List ℕ)) (g : ℕ) (format : Format) (order : Option ℕ) → IsOrder names g format order → IfSome order (λ j. (1 ≤ j) × (j ≤ 10))
-order_within names g format None is = tt
+pub order_within : (names : List (List ℕ)) (g : ℕ) (unread : Unread) (order : Option ℕ) → IsOrder names g unread order → IfSome order (λ j. (1 ≤ j) × (j ≤ 10))
+order_within names g unread None is = tt
 order_within names g (Incomplete k) (Some j) is = (is.from, is.to)
 order_within names g Udmf (Some j) is = absurd (let f : ⊥ = cc in f)
 order_within names g Hexen (Some j) is = absurd (let f : ⊥ = cc in f)
 order_within names g (Outside k) (Some j) is = absurd (let f : ⊥ = cc in f)
-order_within names g (Extended tag) (Some j) is = absurd (let f : ⊥ = cc in f)
-order_within names g Doom (Some j) is = absurd (let f : ⊥ = cc in f)
+order_within names g (Extended tag why) (Some j) is = absurd (let f : ⊥ = cc in f)
 
--- the lines of a level of another
-pub format_line : {W : Type 0} (state : W → SinkState) (asked : CheckAsked) (files : List Wad) (label : LevelLabel) (g : ℕ) (format : Format) (order : Option ℕ) (out out' : W)
+-- the lines of a level that isn't judged
+pub format_line : {W : Type 0} (state : W → SinkState) (asked : CheckAsked) (files : List Wad) (label : LevelLabel) (g : ℕ) (unread : Unread) (order : Option ℕ) (out out' : W)
     (wrote : Result (Unit {0}) IoFault) (result : Result Totals LevelsFault)
-    → IsLabelOf files g label → IsFormat files g format → (format ≡ Doom → ⊥) → IsOrder (names files) g format order
-    → Writes (state out) (state out') (ordered_text (head_in asked label) format order) wrote → result ≡ text_end (format_totals format) wrote
+    → IsLabelOf files g label → IsUnread files g unread → IsOrder (names files) g unread order
+    → Writes (state out) (state out') (ordered_text (head_in asked label) unread order) wrote → result ≡ text_end (format_totals unread) wrote
     → ChecksLevel state asked files g out out' result
-format_line state asked files label g format order out out' wrote result labelled is other ordered writes ended = inr (record {
-  text = ordered_text (head_in asked label) format order;
-  totals = format_totals format;
-  is = record { format = format; is = is; label = label; labelled = labelled; told = by format other ordered };
+format_line state asked files label g unread order out out' wrote result labelled is ordered writes ended = inr (record {
+  text = ordered_text (head_in asked label) unread order;
+  totals = format_totals unread;
+  is = record {
+    label = label;
+    labelled = labelled;
+    told = inr (record { unread = unread; of_level = is; order = order; ordered = ordered; is = refl; adds = refl });
+  };
   outcome = wrote;
   writes = writes;
   ended = ended;
 })
-  where
-    by : (format : Format) → (format ≡ Doom → ⊥) → IsOrder (names files) g format order
-        → IsToldBy format asked files g label (ordered_text (head_in asked label) format order) (format_totals format)
-    by Udmf other ordered = record { order = order; ordered = ordered; is = refl; adds = refl }
-    by (Incomplete k) other ordered = record { order = order; ordered = ordered; is = refl; adds = refl }
-    by Hexen other ordered = record { order = order; ordered = ordered; is = refl; adds = refl }
-    by (Outside k) other ordered = record { order = order; ordered = ordered; is = refl; adds = refl }
-    by (Extended tag) other ordered = record { order = order; ordered = ordered; is = refl; adds = refl }
-    by Doom other ordered = absurd (other refl)
 
 -- the text of a level was written
 pub record ToldLevel (asked : CheckAsked) (files : List Wad) (g : ℕ) (before after : SinkState) (totals : Totals) : Type 0 where

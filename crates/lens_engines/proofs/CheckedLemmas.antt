@@ -4,7 +4,6 @@ use Rattle.std.proofs.lemmas.Bool.{cases_eq, cases_lt}
 use Rattle.level_starts.proofs.FormatLemmas.{IsFormat-one}
 use Rattle.level_starts.specs.Format.{IsFormat}
 use Rattle.level_starts.specs.Starts.{LevelStartsAt}
-use Rattle.level_starts.specs.declared.format.Format.{Format}
 use Rattle.level_starts.specs.declared.format.Format.TheVariants.{Doom}
 use Rattle.map_level.proofs.LevelLemmas.{IsLevelAt-one}
 use Rattle.map_level.specs.Level.{Level}
@@ -12,10 +11,12 @@ use Rattle.map_level.specs.Opening.{IsLevelAt}
 use Rattle.map_tree.specs.Sound.{IsSound}
 use Rattle.wad_dir.specs.Entries.{names}
 use Rattle.wad_dir.specs.Wad.{Wad}
-use Rattle.lens_engines.specs.Check.{CheckAsked, IsJudged, IsLevelText, IsToldBy, ToldTo, at_start, with_level}
+use Rattle.lens_engines.specs.Check.{CheckAsked, IsJudged, IsLevelText, ToldTo, at_start, with_level}
 use Rattle.lens_engines.specs.Laws.{CheckedIsSound}
 use Rattle.lens_engines.specs.declared.totals.Totals.{Totals}
+use Rattle.lens_texts.specs.Unread.{unread_format}
 use Rattle.lens_engines.proofs.CheckLemmas.{kept_faultless, report_kept, sound_kept_faultless}
+use Rattle.lens_engines.proofs.UnreadLemmas.{format_of_unread, unread_is_other}
 
 -- all levels that start below an entry are sound
 abbrev AreSoundBelow : CheckAsked → List Wad → ℕ → Type 0
@@ -28,9 +29,11 @@ AreDoom files = (g : ℕ) → LevelStartsAt (names files) g → IsFormat files g
 -- a level of Doom's format is judged
 judged : (asked : CheckAsked) (files : List Wad) (g : ℕ) (text : List ℕ) (totals : Totals) → IsFormat files g Doom → (is : IsLevelText asked files g text totals)
     → IsJudged asked files g is.label text totals
-judged asked files g text totals doom is =
-    let same : is.format ≡ Doom = IsFormat-one files g is.format Doom is.is doom in
-    subst (λ (format : Format). IsToldBy format asked files g is.label text totals) same is.told
+judged asked files g text totals doom is = elim is.told [
+  | inl told ↦ told.1
+  | inr other ↦
+      absurd (unread_is_other other.unread (IsFormat-one files g (unread_format other.unread) Doom (format_of_unread files g other.unread other.of_level) doom))
+]
 
 -- its faults are none exactly where it is sound
 level_faultless : (asked : CheckAsked) (files : List Wad) (g : ℕ) (text : List ℕ) (totals : Totals) → IsFormat files g Doom → IsLevelText asked files g text totals

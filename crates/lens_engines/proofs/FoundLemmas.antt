@@ -1,5 +1,5 @@
 -- What is found and counted at a level that was looked over is that of its entry.
-use Rattle.std.proofs.Common.{◌≡◌, ◌↔◌, ℕ, List, refl, sym, ap, ◌∙◌, subst}
+use Rattle.std.proofs.Common.{◌↔◌, ℕ, List, sym, ap, ◌∙◌, subst}
 use Rattle.std.specs.Prelude.{IsTrue}
 use Rattle.level_codes.specs.declared.code.ReportCode.{ReportCode}
 use Rattle.map_level.specs.Level.{Level}

@@ -16,5 +16,6 @@ pub mod ShownLemmas
 pub mod SurveyLemmas
 mod WorkedCases
 pub mod UnlookedLemmas
+pub mod UnreadLemmas
 pub mod WarnedLemmas
 pub mod ReferenceLemmas

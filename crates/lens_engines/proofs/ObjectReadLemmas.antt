@@ -1,5 +1,5 @@
 -- The objects of a survey are read back as their members.
-use Rattle.std.proofs.Common.{◌≡◌, ℕ, ◌^◌, ◌<◌, Bool, true, false, List, [], ◌∷◌, ◌++◌, refl, sym, ap, subst, ◌∙◌, append_assoc}
+use Rattle.std.proofs.Common.{◌≡◌, ℕ, ◌^◌, ◌<◌, Bool, true, false, List, [], ◌∷◌, ◌++◌, Option, Some, None, refl, sym, ap, subst, ◌∙◌, append_assoc}
 use Rattle.std.specs.Prelude.{codes, map, ◌==◌, if◌then◌else◌}
 use Rattle.std.specs.List.{flat_map}
 use Rattle.std.specs.Str.Lossy.{utf8_lossy}
@@ -18,29 +18,34 @@ use Rattle.wad_dir.specs.declared.wad.WadFault.TheVariants as wad
 use Rattle.lens_texts.proofs.MemberLemmas.{ArePlain, IsPlain, Tells, Tells-bool, Tells-both, Tells-each, Tells-none, Tells-number, Tells-names, Tells-numbers, Tells-plain, Tells-string, read_line}
 use Rattle.lens_engines.specs.Counts.{fault_total, note_total}
 use Rattle.lens_engines.specs.Laws.{DoomIsRead, ObjectsAreRead, OtherIsRead, RefusedIsRead}
-use Rattle.lens_engines.specs.ObjectValues.{count_values, doom_value, found_values, label_values, other_value, size_values, sizes_of, telling_values, unlooked_values, warnings_values}
+use Rattle.lens_engines.specs.ObjectValues.{broken_values, count_values, doom_value, found_values, label_values, other_value, size_values, sizes_of, telling_values, unlooked_values, warnings_values}
 use Rattle.lens_texts.specs.Members.{IsLineOf, file_value, names_of, number_at, object_of, text_at}
 use Rattle.lens_engines.specs.Objects.{counts_text, found_members, lump_members, refusal_text, refused_object, warnings_member}
 use Rattle.lens_engines.specs.ReportCounts.{count_of}
-use Rattle.lens_texts.specs.LevelObject.{file_member, format_member, format_name, label_members, number_member, telling_members, usual_name}
+use Rattle.lens_texts.specs.LevelObject.{broken_member, file_member, format_member, format_name, label_members, number_member, telling_members, usual_name}
 use Rattle.lens_engines.specs.Unlooked.{codes_in, has_any, unlooked_member, unlooked_names}
+use Rattle.lens_texts.specs.Unread.{unread_format}
+use Rattle.lens_texts.specs.declared.unread.Unread.{Unread}
+use Rattle.lens_texts.specs.declared.unread.Unread.TheVariants as unread
+use Rattle.node_lumps.specs.Words.{broken_text}
+use Rattle.node_lumps.specs.declared.broken.Broken.{Broken}
 use Rattle.level_codes.specs.declared.set.CodeSet.{CodeSet}
 use Rattle.lens_engines.specs.declared.judging.Warnings.{Warnings}
 use Rattle.lens_engines.specs.declared.judging.Warnings.TheVariants.{Unasked, Told}
 use Rattle.lens_engines.specs.declared.object.FileRefusal.{FileRefusal}
 use Rattle.lens_engines.specs.declared.tables.Tables.{Tables}
-use Rattle.lens_engines.specs.declared.object.FileRefusal.TheVariants.{Unopened, Unread, TooLarge, NoWad}
+use Rattle.lens_engines.specs.declared.object.FileRefusal.TheVariants as refused
 
 -- ---- a refused file
 
 refusal_is_ascii : (refusal : FileRefusal) → are_ascii (refusal_text refusal) ≡ true
-refusal_is_ascii Unopened = refl
-refusal_is_ascii Unread = refl
-refusal_is_ascii TooLarge = refl
-refusal_is_ascii (NoWad wad.Short) = refl
-refusal_is_ascii (NoWad wad.Magic) = refl
-refusal_is_ascii (NoWad wad.Count) = refl
-refusal_is_ascii (NoWad wad.Directory) = refl
+refusal_is_ascii refused.Unopened = refl
+refusal_is_ascii refused.Unread = refl
+refusal_is_ascii refused.TooLarge = refl
+refusal_is_ascii (refused.NoWad wad.Short) = refl
+refusal_is_ascii (refused.NoWad wad.Magic) = refl
+refusal_is_ascii (refused.NoWad wad.Count) = refl
+refusal_is_ascii (refused.NoWad wad.Directory) = refl
 
 refusal_is_text : (refusal : FileRefusal) → utf8_lossy (refusal_text refusal) ≡ refusal_text refusal
 refusal_is_text refusal = utf8_lossy-IsUtf8 (refusal_text refusal) (IsUtf8-are_ascii (refusal_text refusal) (refusal_is_ascii refusal))
@@ -50,7 +55,7 @@ law_refused_is_read path refusal =
     subst (λ text. IsLineOf (object_of (file_value path ∷ (codes "refused", string text) ∷ [])) (refused_object path refusal)) (refusal_is_text refusal)
     (read_line path _ _ (Tells-string (codes "refused") (refusal_text refusal) refl))
 
--- ---- a level of another format
+-- ---- a level that isn't judged
 
 format_plain : (format : Format) → IsPlain (format_name format)
 format_plain Udmf = refl
@@ -66,22 +71,27 @@ label_tells name g format small =
     (Tells-both _ (number_member (codes "entry") g) _ _ (Tells-string (codes "level") (shown_name name) refl) (Tells-number (codes "entry") g refl small))
     (Tells-plain (codes "format") (format_name format) refl (format_plain format))
 
-telling_tells : (format : Format) → Tells (telling_members format) (telling_values format)
-telling_tells Udmf = Tells-none
-telling_tells (Incomplete k) = Tells-string (codes "lump") (shown_name (usual_name k)) refl
-telling_tells Hexen = Tells-none
-telling_tells (Outside k) = Tells-string (codes "lump") (shown_name (usual_name k)) refl
-telling_tells (Extended tag) = Tells-string (codes "tag") tag refl
-telling_tells Doom = Tells-none
+broken_tells : (why : Option Broken) → Tells (broken_member why) (broken_values why)
+broken_tells None = Tells-none
+broken_tells (Some why) = Tells-string (codes "broken") (broken_text why) refl
+
+telling_tells : (unread : Unread) → Tells (telling_members unread) (telling_values unread)
+telling_tells unread.Udmf = Tells-none
+telling_tells (unread.Incomplete k) = Tells-string (codes "lump") (shown_name (usual_name k)) refl
+telling_tells unread.Hexen = Tells-none
+telling_tells (unread.Outside k) = Tells-string (codes "lump") (shown_name (usual_name k)) refl
+telling_tells (unread.Extended tag why) =
+    Tells-both _ (broken_member why) (text_at (codes "tag") tag ∷ []) (broken_values why) (Tells-string (codes "tag") tag refl) (broken_tells why)
 
 -- the file's member, the label's and those behind them as one text of members
 regrouped : (file label others end : List ℕ) → (file ++ label) ++ (others ++ end) ≡ file ++ ((label ++ others) ++ end)
 regrouped file label others end = append_assoc file label (others ++ end) ∙ ap (λ t. file ++ t) (sym (append_assoc label others end))
 
 law_other_is_read : OtherIsRead
-law_other_is_read path name g format small =
-    subst (IsLineOf (other_value path name g format)) (sym (regrouped (file_member path) (label_members name g ++ format_member format) (telling_members format) (codes "}\n")))
-    (read_line path _ _ (Tells-both _ _ _ _ (label_tells name g format small) (telling_tells format)))
+law_other_is_read path name g unread small =
+    let format = unread_format unread in
+    subst (IsLineOf (other_value path name g unread)) (sym (regrouped (file_member path) (label_members name g ++ format_member format) (telling_members unread) (codes "}\n")))
+    (read_line path _ _ (Tells-both _ _ _ _ (label_tells name g format small) (telling_tells unread)))
 
 -- ---- a level of Doom's format
 

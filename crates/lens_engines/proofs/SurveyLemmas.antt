@@ -12,8 +12,7 @@ use Rattle.std.proofs.lemmas.List.Sums.{fold_push}
 use Rattle.le_rec.specs.Sink.{SinkState}
 use Rattle.level_starts.specs.Format.{IsFormat}
 use Rattle.level_starts.specs.Starts.{IsNextStart, LevelStartsAt, NoneStartsFrom}
-use Rattle.level_starts.specs.declared.format.Format.{Format}
-use Rattle.level_starts.specs.declared.format.Format.TheVariants.{Udmf, Incomplete, Hexen, Outside, Extended, Doom}
+use Rattle.level_starts.specs.declared.format.Format.TheVariants.{Doom}
 use Rattle.level_starts.proofs.StartLemmas.{start_within}
 use Rattle.line_io.specs.Writes.{Writes}
 use Rattle.line_io.specs.declared.fault.IoFault.{IoFault}
@@ -22,7 +21,6 @@ use Rattle.lens_engines.specs.declared.judging.Judging.{Judging}
 use Rattle.wad_dir.specs.Entries.{names}
 use Rattle.wad_dir.specs.Wad.{IsRead, Wad}
 use Rattle.wad_dir.proofs.OneDirectoryLemmas.{one-has_directory}
-use Rattle.lens_texts.specs.LevelObject.{NamesLump}
 use Rattle.lens_engines.specs.Survey.{AreStartsBelow, AreTold, AreToldBelow, IsTold, RunsSurvey, Surveys, SurveysAll, SurveysFile, SurveysLevel, SurveysOrWants, SurveysSome, ToldLevel, WritesLevel}
 use Rattle.lens_engines.specs.Survey.{fault_after, gravest, graver, line_end, lines_of}
 use Rattle.lens_engines.specs.declared.verdict.LevelsFault.{LevelsFault}
@@ -188,15 +186,6 @@ told_all path files judging before after from worst so_far none sound = record {
   sound = sound;
   says = so_far.says;
 }
-
--- the lump that tells a format is one of the ten
-pub lump_of_format : (files : List Wad) (g : ℕ) (format : Format) → IsFormat files g format → NamesLump format
-lump_of_format files g Udmf is = tt
-lump_of_format files g (Incomplete k) is = (omega (arith, is.1.from), is.1.to)
-lump_of_format files g Hexen is = tt
-lump_of_format files g (Outside k) is = (is.1.from, is.1.to)
-lump_of_format files g (Extended tag) is = tt
-lump_of_format files g Doom is = tt
 
 -- a level that was told was written
 pub level_told : {W : Type 0} (state : W → SinkState) (path : List ℕ) (files : List Wad) (judging : Judging) (g : ℕ) (out out' : W) (verdict : Verdict)

@@ -1,5 +1,5 @@
 -- Which warnings weren't looked for, and how their names are written.
-use Rattle.std.proofs.Common.{◌≡◌, ◌↔◌, ℕ, zero, suc, ◌+◌, ◌<◌, ◌≤◌, Bool, true, false, List, [], ◌∷◌, Option, Some, length, drop, get_or, refl, sym, ap, ◌∙◌, subst, arith}
+use Rattle.std.proofs.Common.{◌≡◌, ◌↔◌, ℕ, zero, suc, ◌+◌, ◌<◌, ◌≤◌, Bool, true, false, List, [], ◌∷◌, Option, Some, length, drop, get_or, refl, sym, ap, ◌∙◌, arith}
 use Rattle.std.specs.Prelude.{IsSomeAnd, IsTrue, ◌&&◌, filter, nat_eq, not, if◌then◌else◌}
 use Rattle.std.specs.List.{slice_get}
 use Rattle.std.proofs.lemmas.Bool.{and_from, and_parts, eqb-true, true≢false}
@@ -13,7 +13,6 @@ use Rattle.level_codes.specs.Kind.{are_met}
 use Rattle.level_codes.specs.Sets.{has, in_first_alone, is_unmet, unmet_codes, without_codes}
 use Rattle.level_codes.specs.declared.code.ReportCode.{ReportCode}
 use Rattle.level_codes.specs.declared.code.ReportCode.TheVariants as report
-use Rattle.level_codes.specs.declared.code.WarningCode.{WarningCode}
 use Rattle.level_codes.specs.declared.kind.Offer.{Offer}
 use Rattle.level_codes.specs.declared.kind.Wants.{Wants}
 use Rattle.level_codes.specs.declared.kind.Wants.TheVariants.{Lumps, References, Soundness, Textures, Flats, FlatEnds}

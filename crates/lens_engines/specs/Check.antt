@@ -5,8 +5,7 @@ use Rattle.le_rec.specs.Sink.{SinkState}
 use Rattle.level_starts.specs.Format.{IsFormat}
 use Rattle.level_starts.specs.Order.{IsInPlace}
 use Rattle.level_starts.specs.Starts.{IsNextStart, NoneStartsFrom}
-use Rattle.level_starts.specs.declared.format.Format.{Format}
-use Rattle.level_starts.specs.declared.format.Format.TheVariants.{Doom, Incomplete}
+use Rattle.level_starts.specs.declared.format.Format.TheVariants.{Doom}
 use Rattle.line_io.specs.Writes.{TakesFront, Writes}
 use Rattle.line_io.specs.declared.fault.IoFault.{IoFault}
 use Rattle.map_level.specs.Level.{Level}
@@ -30,6 +29,7 @@ use Rattle.lens_engines.specs.Survey.{graver}
 use Rattle.lens_engines.specs.Totals.{format_totals, judged_totals, no_totals, totals_with, verdict_of_totals}
 use Rattle.lens_engines.specs.Unlisted.{AreUnlisted}
 use Rattle.lens_engines.specs.Unlooked.{AreUnlookedFor}
+use Rattle.lens_engines.specs.Unread.{IsUnread}
 use Rattle.lens_engines.specs.declared.unlisted.Unlisted.{Unlisted}
 use Rattle.level_codes.specs.declared.set.CodeSet.{CodeSet}
 use Rattle.lens_engines.specs.Warned.{AreAskedFor, Warned, known_files}
@@ -37,6 +37,8 @@ use Rattle.lens_engines.specs.declared.check.Question.{Question}
 use Rattle.lens_texts.specs.declared.form.Form.{Form}
 use Rattle.lens_engines.specs.declared.judging.Judging.{Judging}
 use Rattle.lens_texts.specs.declared.label.LevelLabel.{LevelLabel}
+use Rattle.lens_texts.specs.declared.unread.Unread.{Unread}
+use Rattle.lens_texts.specs.declared.unread.Unread.TheVariants.{Incomplete}
 use Rattle.lens_engines.specs.declared.totals.Totals.{Totals}
 use Rattle.lens_engines.specs.declared.verdict.LevelsFault.{LevelsFault}
 use Rattle.lens_engines.specs.declared.verdict.LevelsFault.TheVariants.{NoWad, Write, Memory}
@@ -89,34 +91,34 @@ pub record IsJudged (asked : CheckAsked) (files : List Wad) (g : ℕ) (label : L
   pub adds : totals ≡ judged_totals counts fails unlooked unlisted
 
 -- the lump that has the place of the first that a level lacks in its place, if all ten are there; none of another format
-abbrev pub IsOrder : List (List ℕ) → ℕ → Format → Option ℕ → Type 0
+abbrev pub IsOrder : List (List ℕ) → ℕ → Unread → Option ℕ → Type 0
 IsOrder names g (Incomplete k) (Some j) = IsInPlace names g k j
 IsOrder names g (Incomplete k) None = (j : ℕ) → ¬ IsInPlace names g k j
-IsOrder names g format order = order ≡ None
+IsOrder names g unread order = order ≡ None
 
 -- the text of a level that isn't judged: its format, and that its lumps have another order, where they have
-abbrev pub ordered_text : Head → Format → Option ℕ → List ℕ
-ordered_text head format order = unjudged_text head format ++ order_part head format order
+abbrev pub ordered_text : Head → Unread → Option ℕ → List ℕ
+ordered_text head unread order = unjudged_text head unread ++ order_part head unread order
 
 -- that is told of the level that starts at an entry
-pub record IsUnjudged (asked : CheckAsked) (files : List Wad) (g : ℕ) (label : LevelLabel) (format : Format) (text : List ℕ) (totals : Totals) : Type 0 where
+pub record IsUnjudged (asked : CheckAsked) (files : List Wad) (g : ℕ) (label : LevelLabel) (text : List ℕ) (totals : Totals) : Type 0 where
+  pub unread : Unread
+  pub of_level : IsUnread files g unread
   pub order : Option ℕ
-  pub ordered : IsOrder (names files) g format order
-  pub is : text ≡ ordered_text (head_in asked label) format order
-  pub adds : totals ≡ format_totals format
+  pub ordered : IsOrder (names files) g unread order
+  pub is : text ≡ ordered_text (head_in asked label) unread order
+  pub adds : totals ≡ format_totals unread
 
--- the text of a level, by its format
-abbrev pub IsToldBy : Format → CheckAsked → List Wad → ℕ → LevelLabel → List ℕ → Totals → Type 0
-IsToldBy Doom asked files g label text totals = IsJudged asked files g label text totals
-IsToldBy format asked files g label text totals = IsUnjudged asked files g label format text totals
+-- the text of a level: one of Doom's format is judged, and of another it is told why it isn't
+abbrev pub IsToldBy : CheckAsked → List Wad → ℕ → LevelLabel → List ℕ → Totals → Type 0
+IsToldBy asked files g label text totals =
+    (IsFormat files g Doom × IsJudged asked files g label text totals) ⊎ IsUnjudged asked files g label text totals
 
 -- the text of the level that starts at an entry
 pub record IsLevelText (asked : CheckAsked) (files : List Wad) (g : ℕ) (text : List ℕ) (totals : Totals) : Type 0 where
-  pub format : Format
-  pub is : IsFormat files g format
   pub label : LevelLabel
   pub labelled : IsLabelOf files g label
-  pub told : IsToldBy format asked files g label text totals
+  pub told : IsToldBy asked files g label text totals
 
 -- the text of the levels that start below an entry, in order
 pub data ToldTo (asked : CheckAsked) (files : List Wad) : ℕ → List ℕ → Totals → Type 0 where

@@ -18,6 +18,7 @@ use Rattle.wad_dir.specs.Slice.{IsLump}
 use Rattle.wad_dir.specs.Wad.{IsRead, Wad}
 use Rattle.wad_dir.specs.declared.packer.TheConstants.{MAX_BYTES}
 use Rattle.lens_texts.specs.FormatLine.{format_text}
+use Rattle.lens_texts.specs.declared.unread.Unread.TheVariants as unread
 use Rattle.lens_texts.specs.Label.{IsLabelOf, label_text}
 use Rattle.lens_engines.specs.Objects.{refusal_text}
 use Rattle.lens_engines.specs.declared.cut.CutFault.{CutFault}
@@ -195,7 +196,7 @@ HasLump _ = Unit {0}
 
 -- why a level isn't cut out, in words, with the line's end
 abbrev pub uncut_text : Uncut → List ℕ
-uncut_text (Incomplete k) = format_text (format.Incomplete k)
+uncut_text (Incomplete k) = format_text (unread.Incomplete k)
 uncut_text (Outside name) = codes "outside: " ++ (shown_name name ++ codes "\n")
 uncut_text NoEndMap = codes "udmf: no ENDMAP\n"
 uncut_text TooLarge = codes "larger than 2147483647 bytes\n"

@@ -4,7 +4,6 @@ use Rattle.std.specs.List.{flat_map}
 use Rattle.le_rec.specs.Sink.{SinkState}
 use Rattle.level_starts.specs.Format.{IsFormat}
 use Rattle.level_starts.specs.Starts.{LevelStartsAt}
-use Rattle.level_starts.specs.declared.format.Format.{Format}
 use Rattle.level_starts.specs.declared.format.Format.TheVariants.{Doom}
 use Rattle.map_audit.specs.Findings.{AuditHolds}
 use Rattle.map_level.specs.Findings.{AreFindings, is_fault, rank}
@@ -24,6 +23,8 @@ use Rattle.lens_engines.specs.ObjectValues.{HasSmallNumbers, doom_value, other_v
 use Rattle.lens_texts.specs.Members.{IsLineOf}
 use Rattle.lens_engines.specs.Objects.{doom_members, refused_object}
 use Rattle.lens_texts.specs.LevelObject.{level_members, other_members}
+use Rattle.lens_texts.specs.Unread.{unread_format}
+use Rattle.lens_texts.specs.declared.unread.Unread.{Unread}
 use Rattle.lens_engines.specs.declared.level_counts.LevelCounts.{LevelCounts}
 use Rattle.lens_engines.specs.declared.object.FileRefusal.{FileRefusal}
 use Rattle.lens_engines.specs.declared.totals.Totals.{Totals}
@@ -55,11 +56,11 @@ LinesAreOfTheReport =
 abbrev pub RefusedIsRead : Type 0
 RefusedIsRead = (path : List ℕ) (refusal : FileRefusal) → IsLineOf (refused_value path refusal) (refused_object path refusal)
 
--- so is that of a level of another format
+-- so is that of a level that isn't judged
 abbrev pub OtherIsRead : Type 0
 OtherIsRead =
-    (path name : List ℕ) (g : ℕ) (format : Format) → g < 2 ^ 64
-    → IsLineOf (other_value path name g format) (level_members path name g format ++ other_members format)
+    (path name : List ℕ) (g : ℕ) (unread : Unread) → g < 2 ^ 64
+    → IsLineOf (other_value path name g unread) (level_members path name g (unread_format unread) ++ other_members unread)
 
 -- and that of a level of Doom's format
 abbrev pub DoomIsRead : Type 0

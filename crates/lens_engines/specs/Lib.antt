@@ -15,6 +15,7 @@ pub mod Survey
 pub mod Totals
 pub mod TotalsObject
 pub mod Unlisted
+pub mod Unread
 pub mod Unlooked
 pub mod UnlookedText
 pub mod Cut

@@ -1,16 +1,21 @@
 -- The members of a survey's objects and their values (ours), as a reader of JSON gives them.
-use Rattle.std.specs.Prelude.{ℕ, true, false, ◌<◌, ◌^◌, ◌==◌, nat_lt, All, List, [], ◌∷◌, ◌++◌, codes, filter, map, if◌then◌else◌}
+use Rattle.std.specs.Prelude.{ℕ, ◌<◌, ◌^◌, ◌==◌, nat_lt, All, List, [], ◌∷◌, ◌++◌, Option, Some, None, codes, filter, map, if◌then◌else◌}
 use Rattle.json.specs.Json.{Json, array, boolean, string}
 use Rattle.le_rec.specs.Name.{shown_name}
 use Rattle.level_codes.specs.Codes.{code_name, finding_codes, warning_codes}
 use Rattle.level_codes.specs.declared.code.ReportCode.{ReportCode}
 use Rattle.level_starts.specs.declared.format.Format.{Format}
-use Rattle.level_starts.specs.declared.format.Format.TheVariants.{Udmf, Incomplete, Hexen, Outside, Extended, Doom}
+use Rattle.level_starts.specs.declared.format.Format.TheVariants.{Doom}
 use Rattle.lens_engines.specs.Counts.{fault_total, note_total}
 use Rattle.lens_engines.specs.Objects.{refusal_text}
 use Rattle.lens_engines.specs.ReportCounts.{count_of}
 use Rattle.lens_texts.specs.LevelObject.{format_name, usual_name}
 use Rattle.lens_texts.specs.Members.{file_value, names_of, number_at, object_of, text_at}
+use Rattle.lens_texts.specs.Unread.{unread_format}
+use Rattle.lens_texts.specs.declared.unread.Unread.{Unread}
+use Rattle.lens_texts.specs.declared.unread.Unread.TheVariants.{Udmf, Incomplete, Hexen, Outside, Extended}
+use Rattle.node_lumps.specs.Words.{broken_text}
+use Rattle.node_lumps.specs.declared.broken.Broken.{Broken}
 use Rattle.lens_engines.specs.declared.judging.Warnings.{Warnings}
 use Rattle.lens_engines.specs.declared.judging.Warnings.TheVariants.{Unasked, Told}
 use Rattle.lens_engines.specs.declared.level_counts.LevelCounts.{LevelCounts}
@@ -24,14 +29,18 @@ abbrev pub label_values : List ℕ → ℕ → Format → List (List ℕ × Json
 label_values name g format =
     text_at (codes "level") (shown_name name) ∷ number_at (codes "entry") g ∷ (codes "format", string (format_name format)) ∷ []
 
+-- why extended nodes are broken, if they are
+abbrev pub broken_values : Option Broken → List (List ℕ × Json)
+broken_values None = []
+broken_values (Some why) = text_at (codes "broken") (broken_text why) ∷ []
+
 -- the members of another format
-abbrev pub telling_values : Format → List (List ℕ × Json)
+abbrev pub telling_values : Unread → List (List ℕ × Json)
 telling_values Udmf = []
 telling_values (Incomplete k) = text_at (codes "lump") (shown_name (usual_name k)) ∷ []
 telling_values Hexen = []
 telling_values (Outside k) = text_at (codes "lump") (shown_name (usual_name k)) ∷ []
-telling_values (Extended tag) = text_at (codes "tag") tag ∷ []
-telling_values Doom = []
+telling_values (Extended tag why) = text_at (codes "tag") tag ∷ broken_values why
 
 -- the ten lumps: how many records the tables have, and how many bytes the last two
 abbrev pub sizes_of : Tables → List (List ℕ × ℕ)
@@ -77,9 +86,9 @@ unlooked_values unlooked = if has_any unlooked then (codes "unlooked", array (na
 abbrev pub refused_value : List ℕ → FileRefusal → Json
 refused_value path refusal = object_of (file_value path ∷ (codes "refused", string (refusal_text refusal)) ∷ [])
 
--- the object of a level of another format
-abbrev pub other_value : List ℕ → List ℕ → ℕ → Format → Json
-other_value path name g format = object_of (file_value path ∷ (label_values name g format ++ telling_values format))
+-- the object of a level that isn't judged
+abbrev pub other_value : List ℕ → List ℕ → ℕ → Unread → Json
+other_value path name g unread = object_of (file_value path ∷ (label_values name g (unread_format unread) ++ telling_values unread))
 
 -- the object of a level of Doom's format
 abbrev pub doom_value : List ℕ → List ℕ → ℕ → LevelCounts → Json

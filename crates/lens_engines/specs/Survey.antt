@@ -1,12 +1,11 @@
 -- The survey of a file (ours): the line of each level, in the order of their labels, and what a survey says of the file.
-use Rattle.std.specs.Prelude.{◌≡◌, ◌⊎◌, ◌↔◌, ℕ, ◌<◌, ◌==◌, true, false, List, [], ◌∷◌, ◌++◌, AllPairs, Contains, IfOk, IfErr, Result, Ok, Err, Some, fold, length, if◌then◌else◌}
+use Rattle.std.specs.Prelude.{◌≡◌, ◌⊎◌, ◌↔◌, ℕ, ◌<◌, ◌==◌, true, false, List, [], ◌∷◌, ◌++◌, AllPairs, Contains, IfOk, IfErr, Result, Ok, Err, Some, None, fold, length, if◌then◌else◌}
 use Rattle.std.specs.Io.KnownBytes.{Appends}
 use Rattle.std.specs.List.{flat_map, slice_get}
 use Rattle.le_rec.specs.Sink.{SinkState}
 use Rattle.level_starts.specs.Format.{IsFormat}
 use Rattle.level_starts.specs.Starts.{IsNextStart, LevelStartsAt}
-use Rattle.level_starts.specs.declared.format.Format.{Format}
-use Rattle.level_starts.specs.declared.format.Format.TheVariants.{Udmf, Incomplete, Hexen, Outside, Extended, Doom}
+use Rattle.level_starts.specs.declared.format.Format.TheVariants.{Doom}
 use Rattle.line_io.specs.Writes.{TakesFront, Writes}
 use Rattle.line_io.specs.declared.fault.IoFault.{IoFault}
 use Rattle.wad_dir.specs.Entries.{names}
@@ -22,6 +21,8 @@ use Rattle.lens_engines.specs.declared.verdict.LevelsFault.{LevelsFault}
 use Rattle.lens_engines.specs.declared.verdict.LevelsFault.TheVariants.{NoWad, Write, Memory}
 use Rattle.lens_engines.specs.declared.verdict.Verdict.{Verdict}
 use Rattle.lens_engines.specs.declared.verdict.Verdict.TheVariants.{Clean, Unjudged, Faulty}
+use Rattle.lens_texts.specs.declared.unread.Unread.{Unread}
+use Rattle.lens_texts.specs.declared.unread.Unread.TheVariants.{Udmf, Incomplete, Hexen, Outside, Extended}
 
 -- the graver of two verdicts
 abbrev pub graver : Verdict → Verdict → Verdict
@@ -36,14 +37,15 @@ fault_after before (NoWad why) = NoWad why
 fault_after before (Write found) = Write (graver before found)
 fault_after before Memory = Memory
 
--- the verdict by a format alone: a lump that isn't there or isn't inside its file is a fault, and a format that isn't read isn't judged
-abbrev pub verdict_of_format : Format → Verdict
+-- the verdict on a level that isn't judged: a lump that isn't there or isn't inside its file is a fault, so are broken nodes, and a format that isn't read
+-- isn't judged
+abbrev pub verdict_of_format : Unread → Verdict
 verdict_of_format Udmf = Unjudged
 verdict_of_format (Incomplete k) = Faulty
 verdict_of_format Hexen = Unjudged
 verdict_of_format (Outside k) = Faulty
-verdict_of_format (Extended tag) = Unjudged
-verdict_of_format Doom = Clean
+verdict_of_format (Extended tag None) = Unjudged
+verdict_of_format (Extended tag (Some why)) = Faulty
 
 -- the verdict by a level's counts
 abbrev pub verdict_of_counts : List ℕ → Verdict
@@ -56,7 +58,7 @@ verdict_of_level counted = if counted.fails then Faulty else verdict_of_counts c
 -- the verdict on a level
 abbrev pub verdict_of : Surveyed → Verdict
 verdict_of (surveyed.Judged counted) = verdict_of_level counted
-verdict_of (surveyed.Unjudged unjudged) = verdict_of_format unjudged.format
+verdict_of (surveyed.Unjudged unjudged) = verdict_of_format unjudged.unread
 
 -- the report on a level
 pub record ToldLevel : Type 0 where

@@ -1,8 +1,6 @@
 -- What is counted over levels, files and a run (ours).
-use Rattle.std.specs.Prelude.{Bool, ◌&&◌, nat_lt, ℕ, ◌+◌, ◌-◌, ◌^◌, ◌==◌, List, [], ◌∷◌, ◌++◌, codes, min, if◌then◌else◌}
+use Rattle.std.specs.Prelude.{Bool, ◌&&◌, nat_lt, ℕ, ◌+◌, ◌-◌, ◌^◌, ◌==◌, List, ◌++◌, Some, None, codes, min, if◌then◌else◌}
 use Rattle.std.specs.Fmt.{decimal}
-use Rattle.level_starts.specs.declared.format.Format.{Format}
-use Rattle.level_starts.specs.declared.format.Format.TheVariants.{Udmf, Incomplete, Hexen, Outside, Extended, Doom}
 use Rattle.lens_engines.specs.Counts.{fault_total, note_total}
 use Rattle.lens_engines.specs.ReportCounts.{warning_total}
 use Rattle.level_codes.specs.Sets.{no_codes, with_codes}
@@ -17,6 +15,8 @@ use Rattle.lens_engines.specs.declared.surveyed.Surveyed.TheVariants as surveyed
 use Rattle.lens_engines.specs.declared.totals.Totals.{Totals}
 use Rattle.lens_engines.specs.declared.verdict.Verdict.{Verdict}
 use Rattle.lens_engines.specs.declared.verdict.Verdict.TheVariants.{Clean, Unjudged, Faulty}
+use Rattle.lens_texts.specs.declared.unread.Unread.{Unread}
+use Rattle.lens_texts.specs.declared.unread.Unread.TheVariants.{Udmf, Incomplete, Hexen, Outside, Extended}
 
 -- of no level
 abbrev pub no_totals : Totals
@@ -37,19 +37,19 @@ judged_totals counts fails unlooked unlisted = record {
   unlisted = unlisted;
 }
 
--- of a level of another format than Doom's: one that lacks a lump is broken, and the others aren't read
-abbrev pub format_totals : Format → Totals
+-- of a level that isn't judged: one that lacks a lump or has broken nodes is broken, and the others aren't read
+abbrev pub format_totals : Unread → Totals
 format_totals Udmf = record { levels = 1; faults = 0; notes = 0; warnings = 0; failing = 0; broken = 0; unread = 1; partly = 0; unlooked = no_codes; unlisted = none_unlisted }
 format_totals (Incomplete k) = record { levels = 1; faults = 0; notes = 0; warnings = 0; failing = 0; broken = 1; unread = 0; partly = 0; unlooked = no_codes; unlisted = none_unlisted }
 format_totals Hexen = record { levels = 1; faults = 0; notes = 0; warnings = 0; failing = 0; broken = 0; unread = 1; partly = 0; unlooked = no_codes; unlisted = none_unlisted }
 format_totals (Outside k) = record { levels = 1; faults = 0; notes = 0; warnings = 0; failing = 0; broken = 1; unread = 0; partly = 0; unlooked = no_codes; unlisted = none_unlisted }
-format_totals (Extended tag) = record { levels = 1; faults = 0; notes = 0; warnings = 0; failing = 0; broken = 0; unread = 1; partly = 0; unlooked = no_codes; unlisted = none_unlisted }
-format_totals Doom = record { levels = 1; faults = 0; notes = 0; warnings = 0; failing = 0; broken = 0; unread = 0; partly = 0; unlooked = no_codes; unlisted = none_unlisted }
+format_totals (Extended tag None) = record { levels = 1; faults = 0; notes = 0; warnings = 0; failing = 0; broken = 0; unread = 1; partly = 0; unlooked = no_codes; unlisted = none_unlisted }
+format_totals (Extended tag (Some why)) = record { levels = 1; faults = 0; notes = 0; warnings = 0; failing = 0; broken = 1; unread = 0; partly = 0; unlooked = no_codes; unlisted = none_unlisted }
 
 -- what a level adds
 abbrev pub totals_of : Surveyed → Totals
 totals_of (surveyed.Judged counted) = judged_totals counted.counts counted.fails counted.unlooked counted.unlisted
-totals_of (surveyed.Unjudged unjudged) = format_totals unjudged.format
+totals_of (surveyed.Unjudged unjudged) = format_totals unjudged.unread
 
 -- a sum in 64 bits, which stops at the greatest number
 abbrev pub capped : ℕ → ℕ → ℕ

@@ -10,7 +10,8 @@ ghost use Rattle.wad_dir.specs.Entries.{names};
 ghost use Rattle.lens_engines.specs.Check.{asked_of, head_in, text_end, Checks, ChecksDoom, ChecksLevel, ChecksOrWants, IsOrder, IsSoundWideAlone, RunsCheck, ordered_text};
 ghost use Rattle.lens_texts.specs.Head.{head_of};
 ghost use Rattle.lens_texts.specs.LevelText.{unjudged_text};
-ghost use Rattle.lens_texts.specs.LevelObject.{NamesLump, level_members, other_members};
+ghost use Rattle.lens_texts.specs.LevelObject.{level_members, other_members};
+ghost use Rattle.lens_texts.specs.Unread.{NamesLump, unread_format};
 ghost use Rattle.line_io.specs.Writes.{Writes};
 ghost use Rattle.lens_engines.specs.Warned.{known_files};
 
@@ -18,6 +19,7 @@ use crate::base::over_base;
 use crate::failing::has_failing;
 use crate::judged::Judged;
 use crate::judging::Judging;
+use crate::later::unread_at;
 use crate::level_lines::write_judged;
 use crate::totals::{Totals, format_totals, judged_totals};
 use crate::unlisted::Unlisted;
@@ -25,10 +27,10 @@ use crate::verdict::LevelsFault;
 use crate::warned::asked_resources;
 use le_rec::Sink;
 use lens_texts::{
-    Form, Heading, label_by, level_at, owners_of, write_format, write_level, write_order,
+    Form, Heading, Unread, label_by, level_at, owners_of, write_format, write_level, write_order,
     write_other,
 };
-use level_starts::{Format, Holders, LevelStarts, format_of, lump_in_place};
+use level_starts::{Holders, LevelStarts, lump_in_place};
 use line_io::IoFault;
 use map_level::{Level, Reading};
 use map_tree::is_sound;
@@ -136,74 +138,79 @@ fn check_level<A: Allocator + Copy, W: Sink>(
         path: question.path,
         label: label_by(set, holders, g),
     };
-    match format_of(set, g) {
-        Format::Doom => check_doom(alloc, question, &heading, set, resources, g, out),
-        format => {
-            let order = order_of(set, g, format);
-            let wrote = write_unjudged(&heading, format, order, out);
-            text_end(format_totals(format), wrote)
+    match unread_at(set, g) {
+        None => check_doom(alloc, question, &heading, set, resources, g, out),
+        Some(unread) => {
+            let order = order_of(set, g, unread);
+            let wrote = write_unjudged(&heading, unread, order, out);
+            text_end(format_totals(unread), wrote)
         }
     }
 }
 
 // The lump that has the place of the first that a level lacks in its place, if all ten are there.
-fn order_of<A: Allocator>(set: &Set<'_, A>, g: usize, format: Format) -> Option<u32>
+fn order_of<A: Allocator>(set: &Set<'_, A>, g: usize, unread: Unread) -> Option<u32>
     requires { LevelStartsAt (names set.now) g }
-    ensures { IsOrder (names set.now) g format result }
+    ensures { IsOrder (names set.now) g unread result }
 {
-    match format {
-        Format::Incomplete(k) => lump_in_place(set, g, k),
-        Format::Udmf | Format::Hexen | Format::Outside(_) | Format::Extended(_) | Format::Doom =>
-            None,
+    match unread {
+        Unread::Incomplete(k) => lump_in_place(set, g, k),
+        Unread::Udmf | Unread::Hexen | Unread::Outside(_) | Unread::Extended(..) => None,
     }
 }
 
 // Writes that a level isn't judged, and that its lumps have another order, where they have.
 fn write_unjudged<W: Sink>(
     heading: &Heading<'_>,
-    format: Format,
+    unread: Unread,
     order: Option<u32>,
     out: &mut W,
 ) -> Result<(), IoFault>
-    requires lump { NamesLump format }
+    requires lump { NamesLump unread }
     requires order { IfSome order (λ j. (1 ≤ j) × (j ≤ 10)) }
     requires sound { (W.state out.old).failed ≡ false }
-    ensures { Writes (W.state out.old) (W.state out.new) (ordered_text (head_of heading.now) format order) result }
+    ensures { Writes (W.state out.old) (W.state out.new) (ordered_text (head_of heading.now) unread order) result }
 {
-    write_format_told(heading, format, out)?;
-    write_order(heading, format, order, out)
+    write_format_told(heading, unread, out)?;
+    write_order(heading, unread, order, out)
 }
 
 // Writes that a level isn't judged.
 fn write_format_told<W: Sink>(
     heading: &Heading<'_>,
-    format: Format,
+    unread: Unread,
     out: &mut W,
 ) -> Result<(), IoFault>
-    requires lump { NamesLump format }
+    requires lump { NamesLump unread }
     requires sound { (W.state out.old).failed ≡ false }
-    ensures { Writes (W.state out.old) (W.state out.new) (unjudged_text (head_of heading.now) format) result }
+    ensures { Writes (W.state out.old) (W.state out.new) (unjudged_text (head_of heading.now) unread) result }
 {
     match heading.form {
-        Form::Lines => write_format(heading, format, out),
-        Form::Objects => write_format_object(heading, format, out),
+        Form::Lines => write_format(heading, unread, out),
+        Form::Objects => write_format_object(heading, unread, out),
     }
 }
 
 // Writes the object of a level that isn't judged, as a survey has it.
 fn write_format_object<W: Sink>(
     heading: &Heading<'_>,
-    format: Format,
+    unread: Unread,
     out: &mut W,
 ) -> Result<(), IoFault>
-    requires lump { NamesLump format }
+    requires lump { NamesLump unread }
     requires sound { (W.state out.old).failed ≡ false }
     ensures { Writes (W.state out.old) (W.state out.new)
-        (level_members heading.now.path.now heading.now.label.name heading.now.label.entry format ++ other_members format) result }
+        (level_members heading.now.path.now heading.now.label.name heading.now.label.entry (unread_format unread) ++ other_members unread) result }
 {
     let label = &heading.label;
-    write_level(heading.path, &label.name, label.entry as usize, format, out)?;
-    write_other(format, out)
+    write_level(
+        heading.path,
+        &label.name,
+        label.entry as usize,
+        unread.format(),
+        out,
+    )?;
+    write_other(unread, out)
 }
 
 // Writes the lines of a level of Doom's format.

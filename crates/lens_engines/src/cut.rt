@@ -15,7 +15,8 @@ ghost use Rattle.lens_texts.specs.Label.{IsLabelOf};
 use crate::object::FileRefusal;
 use le_rec::{Name8, Sink};
 use lens_texts::{
-    LevelLabel, label_looked_up, prepend_label, prepend_name, write_both, write_format_alone,
+    LevelLabel, Unread, label_looked_up, prepend_label, prepend_name, write_both,
+    write_format_alone,
 };
 use level_starts::{Format, format_of, is_named, next_start};
 use line_io::{IoFault, TextLine, emit};
@@ -339,7 +340,7 @@ fn write_reason<W: Sink>(why: Uncut, out: &mut W) -> Result<(), IoFault>
     ensures { Writes (W.state out.old) (W.state out.new) (uncut_text why) result }
 {
     match why {
-        Uncut::Incomplete(k) => write_format_alone(Format::Incomplete(k), out),
+        Uncut::Incomplete(k) => write_format_alone(Unread::Incomplete(k), out),
         Uncut::Outside(name) => write_outside(name, out),
         Uncut::NoEndMap => emit(out, b"udmf: no ENDMAP\n"),
         Uncut::TooLarge => emit(out, b"larger than 2147483647 bytes\n"),

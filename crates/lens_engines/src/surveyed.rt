@@ -11,14 +11,15 @@ ghost use Rattle.lens_engines.specs.Surveyed.{SurveyedAt, end_members, survey_li
 ghost use Rattle.lens_engines.specs.Warned.{known_files};
 
 use crate::judging::Judging;
+use crate::later::unread_at;
 use crate::level_counts::LevelCounts;
 use crate::object::write_doom;
 use crate::totals::{Totals, format_totals, judged_totals};
 use crate::unjudged::Unjudged;
 use crate::verdict::Verdict;
 use le_rec::{Name8, Sink};
-use lens_texts::{write_level, write_other};
-use level_starts::{Format, format_of};
+use lens_texts::{Unread, write_level, write_other};
+use level_starts::Format;
 use line_io::IoFault;
 use map_warnings::Resources;
 use std::alloc::{AllocError, Allocator};
@@ -29,7 +30,7 @@ use wad_dir::Set;
 pub enum Surveyed {
     /// It was judged.
     Judged(LevelCounts),
-    /// It is of another format than Doom's.
+    /// It isn't judged.
     Unjudged(Unjudged),
 }
 
@@ -52,12 +53,12 @@ impl Surveyed {
         ensures found { IfOk result (SurveyedAt set.now judging.entry g) }
         ensures doom { OnErr result (IsFormat set.now g format.Doom) }
     {
-        match format_of(set, g) {
-            Format::Doom => {
+        match unread_at(set, g) {
+            None => {
                 let counted = LevelCounts::at(alloc, set, resources, g, judging)?;
                 Ok(Surveyed::Judged(counted))
             }
-            format => Ok(Surveyed::Unjudged(Unjudged::new(format))),
+            Some(unread) => Ok(Surveyed::Unjudged(Unjudged::new(unread))),
         }
     }
 
@@ -67,7 +68,7 @@ impl Surveyed {
     {
         match self {
             Surveyed::Judged(counted) => counted.verdict(),
-            Surveyed::Unjudged(unjudged) => verdict_of_format(unjudged.format()),
+            Surveyed::Unjudged(unjudged) => verdict_of_format(unjudged.unread()),
         }
     }
 
@@ -82,7 +83,7 @@ impl Surveyed {
                 counted.unlooked,
                 counted.unlisted,
             ),
-            Surveyed::Unjudged(unjudged) => format_totals(unjudged.format()),
+            Surveyed::Unjudged(unjudged) => format_totals(unjudged.unread()),
         }
     }
 
@@ -92,7 +93,7 @@ impl Surveyed {
     {
         match self {
             Surveyed::Judged(_) => Format::Doom,
-            Surveyed::Unjudged(unjudged) => unjudged.format(),
+            Surveyed::Unjudged(unjudged) => unjudged.unread().format(),
         }
     }
 
@@ -107,14 +108,15 @@ impl Surveyed {
     }
 }
 
-// The verdict on a level, by its format alone.
-fn verdict_of_format(format: Format) -> Verdict
-    ensures { result ≡ verdict_of_format format }
+// The verdict on a level that isn't judged.
+fn verdict_of_format(unread: Unread) -> Verdict
+    ensures { result ≡ verdict_of_format unread }
 {
-    match format {
-        Format::Incomplete(_) | Format::Outside(_) => Verdict::Faulty,
-        Format::Udmf | Format::Hexen | Format::Extended(_) => Verdict::Unjudged,
-        Format::Doom => Verdict::Clean,
+    match unread {
+        Unread::Incomplete(_) | Unread::Outside(_) | Unread::Extended(_, Some(_)) => {
+            Verdict::Faulty
+        }
+        Unread::Udmf | Unread::Hexen | Unread::Extended(_, None) => Verdict::Unjudged,
     }
 }
 
@@ -140,6 +142,6 @@ fn write_end<W: Sink>(surveyed: &Surveyed, out: &mut W) -> Result<(), IoFault>
 {
     match surveyed {
         Surveyed::Judged(counted) => write_doom(counted, out),
-        Surveyed::Unjudged(unjudged) => write_other(unjudged.format(), out),
+        Surveyed::Unjudged(unjudged) => write_other(unjudged.unread(), out),
     }
 }

@@ -13,9 +13,8 @@ use crate::unlisted::Unlisted;
 use crate::unlooked::has_any;
 use crate::verdict::Verdict;
 use le_rec::Sink;
-use lens_texts::{Form, prepend_number, write_both, write_number};
+use lens_texts::{Form, Unread, prepend_number, write_both, write_number};
 use level_codes::CodeSet;
-use level_starts::Format;
 use line_io::{IoFault, TextLine, emit};
 
 /// How many levels there are, their faults, notes and warnings, and how many of the levels aren't judged. Each number stops at
@@ -29,7 +28,7 @@ pub struct Totals {
     pub warnings: u64,
     /// Levels with a finding or a warning that is as grave as a fault.
     pub failing: u64,
-    /// Levels that lack a lump, or one of whose lumps isn't inside the file.
+    /// Levels that lack a lump, one of whose lumps isn't inside the file, or whose nodes are broken.
     pub broken: u64,
     /// Levels in a format that isn't read.
     pub unread: u64,
@@ -65,14 +64,13 @@ pub fn judged_totals(
     }
 }
 
-/// The totals of a level of another format than Doom's.
-pub fn format_totals(format: Format) -> Totals
-    ensures { result ≡ format_totals format }
+/// The totals of a level that isn't judged.
+pub fn format_totals(told: Unread) -> Totals
+    ensures { result ≡ format_totals told }
 {
-    let (broken, unread) = match format {
-        Format::Incomplete(_) | Format::Outside(_) => (1, 0),
-        Format::Udmf | Format::Hexen | Format::Extended(_) => (0, 1),
-        Format::Doom => (0, 0),
+    let (broken, unread) = match told {
+        Unread::Incomplete(_) | Unread::Outside(_) | Unread::Extended(_, Some(_)) => (1, 0),
+        Unread::Udmf | Unread::Hexen | Unread::Extended(_, None) => (0, 1),
     };
     Totals {
         levels: 1,
@@ -127,7 +125,8 @@ impl Totals {
         }
     }
 
-    /// The verdict by them. A fault, what is as grave, or a level that lacks a lump goes before a level that isn't read.
+    /// The verdict by them. A fault, what is as grave, or a level that lacks a lump or has broken nodes goes before a
+    /// level that isn't read.
     pub fn verdict(&self) -> Verdict
         ensures { result ≡ verdict_of_totals self.now }
     {

@@ -3,32 +3,32 @@
 ghost use Rattle.std.specs.Prelude.{IsTrue};
 ghost use Rattle.lens_engines.specs.Unjudged.{names_lump};
 
-use level_starts::Format;
+use lens_texts::Unread;
 
-/// A level that isn't judged, by its format.
+/// A level that isn't judged, by what is told of it.
 #[derive(Clone, Copy)]
 pub struct Unjudged {
-    format: Format,
-    ghost placed: { IsTrue (names_lump format) },
+    unread: Unread,
+    ghost placed: { IsTrue (names_lump unread) },
 }
 
 impl Unjudged {
     ghost use Rattle.std.specs.Prelude.{◌≡◌};
-    ghost use Rattle.lens_texts.specs.LevelObject.{NamesLump};
+    ghost use Rattle.lens_texts.specs.Unread.{NamesLump};
 
-    /// A level of this format. If the format has a lump's number, it is one of the ten.
-    pub fn new(format: Format) -> Unjudged
-        requires { NamesLump format }
-        ensures { result.format ≡ format }
+    /// A level of which this is told. If its format has a lump's number, it is one of the ten.
+    pub fn new(unread: Unread) -> Unjudged
+        requires { NamesLump unread }
+        ensures { result.unread ≡ unread }
     {
-        Unjudged { format }
+        Unjudged { unread }
     }
 
-    /// Its format.
-    pub fn format(&self) -> Format
-        ensures format { result ≡ self.now.format }
+    /// What is told of it.
+    pub fn unread(&self) -> Unread
+        ensures unread { result ≡ self.now.unread }
         ensures lump { NamesLump result }
     {
-        self.format
+        self.unread
     }
 }

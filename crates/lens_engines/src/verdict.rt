@@ -10,7 +10,8 @@ pub enum Verdict {
     Clean,
     /// A level is in a format that isn't judged.
     Unjudged,
-    /// A level has a fault or what is as grave, or a lump of it isn't there or isn't inside the file. It goes before `Unjudged`.
+    /// A level has a fault or what is as grave, a lump of it isn't there or isn't inside the file, or its nodes are broken. It goes
+    /// before `Unjudged`.
     Faulty,
 }
 

@@ -1,4 +1,3 @@
-use Rattle.std.proofs.Common.{rules}
 use Rattle.map_warnings.proofs.ToldLemmas.{told_some}
 use Rattle.lens_engines.specs.Ignored.{WarnsUnlessIgnored}
 use Rattle.lens_engines.proofs.warned.push_code.Goals as goal

@@ -419,7 +419,7 @@ typedef struct {
 /* How a run ended: the program's statuses, and two more. */
 enum wadlook_end {
     WADLOOK_CLEAN = 0,   /* nothing is wrong */
-    WADLOOK_FAULTY = 1,  /* a fault, a missing lump, or what `failing`, `strict` or `game_ends` ask for; of COMPARE a difference */
+    WADLOOK_FAULTY = 1,  /* a fault, a lost lump, broken nodes, what `failing`, `strict` or `game_ends` ask for; or a difference */
     WADLOOK_REFUSED = 2, /* a file is refused, or a level isn't judged: the messages say why */
     WADLOOK_NO_MEMORY = 3, /* malloc or realloc gave none; a front of the answer was made */
     WADLOOK_STOPPED = 4,   /* the limit was reached, or the callback stopped; a front of the answer was made */

@@ -116,7 +116,7 @@ static void pass(reader *in) {
 }
 
 /* Room for the words of a level that isn't judged, or has its lumps in another order. */
-#define WORDS 80
+#define WORDS 112
 
 /* Writes a text to a place of the words, and gives the place behind it. */
 static char *join(const char *words, char *at, const char *text) {
@@ -125,17 +125,17 @@ static char *join(const char *words, char *at, const char *text) {
     return at;
 }
 
-/* The words of `wadlens` for a level that isn't judged, by its format and the lump or the tag that decides it. */
-static void unjudged(char *words, const char *format, const char *decides) {
-    static const char *const told[][3] = {
-        {"incomplete", "incomplete: no ", " where it belongs"},
-        {"outside", "outside: ", ""},
-        {"extended", "extended nodes ", ": not read"},
+/* The words of `wadlens` for a level that isn't judged, by its format, the lump or the tag that decides it, and why it isn't read. */
+static void unjudged(char *words, const char *format, const char *decides, const char *why) {
+    const char *const told[][4] = {
+        {"incomplete", "incomplete: no ", " where it belongs", ""},
+        {"outside", "outside: ", "", ""},
+        {"extended", "extended nodes ", ": ", why},
     };
-    const char *before = format, *behind = ": not read";
+    const char *before = format, *behind = ": ", *end = why;
     for (size_t k = 0; k < sizeof told / sizeof *told; k++)
-        if (is(format, told[k][0])) before = told[k][1], behind = told[k][2];
-    join(words, join(words, join(words, words, before), decides), behind);
+        if (is(format, told[k][0])) before = told[k][1], behind = told[k][2], end = told[k][3];
+    join(words, join(words, join(words, join(words, words, before), decides), behind), end);
 }
 
 /* The words of `wadlens` for a level with its lumps in another order, by what is behind "order": the names of two, the second of which
@@ -151,8 +151,8 @@ static void unordered(char *words, reader *in) {
 /* What one line tells. */
 typedef struct {
     wadlook_found found;
-    const char *format, *decides; /* of a level that isn't judged */
-    bool says;                    /* whether it says what is wrong */
+    const char *format, *decides, *why; /* of a level that isn't judged */
+    bool says;                          /* whether it says what is wrong */
     char words[WORDS];
 } told_line;
 
@@ -173,6 +173,7 @@ static void member(reader *in, const char *name, told_line *told) {
     else if (is(name, "place")) place(in, found);
     else if (is(name, "format")) told->format = string(in);
     else if (is(name, "lump") || is(name, "tag")) told->decides = string(in);
+    else if (is(name, "broken")) told->why = string(in);
     else if (is(name, "message")) say(told, string(in));
     else if (is(name, "refused")) {
         found->kind = WADLOOK_FILE;
@@ -189,6 +190,7 @@ static void member(reader *in, const char *name, told_line *told) {
 static void read_line(char *line, size_t file, told_line *told) {
     reader in = {line};
     *told = (told_line){.decides = "",
+        .why = "not read",
         .found = {.file = file,
             .level = "",
             .message = "",
@@ -204,7 +206,7 @@ static void read_line(char *line, size_t file, told_line *told) {
         member(&in, name, told);
     } while (take(&in, ','));
     if (!told->format) return;
-    unjudged(told->words, told->format, told->decides);
+    unjudged(told->words, told->format, told->decides, told->why);
     say(told, told->words);
 }
 

@@ -351,7 +351,7 @@ const levels = new ListBox(get('levels'), ({ level }) => {
   const { format, faults } = level, doom = format === 'doom', hidden = view.hiddenIn(state.file?.file.name ?? '');
   const codes = byRank(Object.keys({ ...level.findings, ...level.warnings }).filter((code) => !hidden.has(code)), (code) => code);
   const told = doom ? `${verdict(level, hidden)}${codes.length ? ` · ${codes.join(' ')}` : ''}` : format || state.file?.failed ? 'not judged' : state.file?.stopped ? 'stopped' : '…';
-  const isFault = faults || isFatal(level, hidden) || format === 'incomplete' || format === 'outside';
+  const isFault = faults || isFatal(level, hidden) || format === 'incomplete' || format === 'outside' || level.broken;
   const found = make('span', `row-state${isFault ? ' fault' : codes.length ? ' noted' : ''}`, told);
   found.title = [told, ...codes.map(meaningOf)].join('\n'); // it may be cut off
   const more = doom ? `${level.linedefs} linedefs · ${level.sectors} sectors · ${level.things} things` : format ? notJudged(level) : `entry ${level.entry}`;

@@ -42,12 +42,16 @@ function ofIncomplete(lump, { lumps, form }, parts) {
   return `Its nodes weren't built. “zdbsp -o built.wad file.wad” builds SEGS to BLOCKMAP, and so does an editor that saves it with a node builder.${hexen}`;
 }
 
+/** What to do about nodes that are broken. @param {string} tag */
+const ofBroken = (tag) => `Its nodes, ${NODES[tag] ?? tag}, are broken: they were cut short, or VERTEXES was changed after they were built. Build them anew, as by `
+  + '“zdbsp -o copy.wad file.wad”.';
+
 /** Why a level isn't judged, and what to do next. @param {Level} level @param {Sketch} sketch @param {Part[]} parts */
-export function whatNext({ format, tag = '', lump = '' }, sketch, parts) {
+export function whatNext({ format, tag = '', lump = '', broken }, sketch, parts) {
   switch (format) {
     case 'udmf': return `A level of UDMF is a text. What is judged here are Doom's own records and nodes. ${IN_DOOM_FORMAT}`;
     case 'hexen': return `Hexen's records are drawn here, and not judged: their specials and scripts are others than Doom's. ${IN_DOOM_FORMAT}`;
-    case 'extended': return `Its nodes are of a later format, ${NODES[tag] ?? tag}, and aren't read here. To have it judged, build Doom's own nodes into a copy, as by `
+    case 'extended': return broken ? ofBroken(tag) : `Its nodes are of a later format, ${NODES[tag] ?? tag}, and aren't read here. To have it judged, build Doom's own nodes into a copy, as by `
       + '“zdbsp -o copy.wad file.wad”. Of a level that is too large for these, read the copy with wide indexes.';
     case 'outside': return `The file ends before ${lump} does, or its directory is wrong: get the file anew, or save it again.`;
     default: return ofIncomplete(lump, sketch, parts);

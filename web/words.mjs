@@ -3,7 +3,7 @@ import { endsGame, isMixed } from './codes.mjs';
 import { runsOf } from './groups.mjs';
 
 /**
- * @typedef {{ level: string, entry: number, format?: string, tag?: string, lump?: string, sound?: boolean, faults?: number, notes?: number,
+ * @typedef {{ level: string, entry: number, format?: string, tag?: string, lump?: string, broken?: string, sound?: boolean, faults?: number, notes?: number,
  *   findings?: Record<string, number>, warnings?: Record<string, number>, unlooked?: string[], things?: number, linedefs?: number, sidedefs?: number,
  *   vertexes?: number, segs?: number, ssectors?: number, nodes?: number, sectors?: number, reject?: number, blockmap?: number }} Level
  *   an object of `survey`; before the level was judged it has its name and entry alone
@@ -44,11 +44,11 @@ export function toMap() {
 }
 
 /** Why a level isn't judged. @param {Level} level */
-export function notJudged({ format, tag, lump }) {
+export function notJudged({ format, tag, lump, broken }) {
   switch (format) {
     case 'incomplete': return `incomplete: no ${lump} where it belongs`;
     case 'outside': return `outside: ${lump}`;
-    case 'extended': return `extended nodes ${tag}: not read`;
+    case 'extended': return `extended nodes ${tag}: ${broken ?? 'not read'}`;
     default: return `${format}: not read`;
   }
 }

@@ -282,7 +282,9 @@ def _unjudged(told: Dict[str, Any]) -> str:
         return f"incomplete: no {told['lump']} where it belongs"
     if kind == "outside":
         return f"outside: {told['lump']}"
-    return f"extended nodes {told['tag']}: not read" if kind == "extended" else f"{kind}: not read"
+    if kind == "extended":
+        return f"extended nodes {told['tag']}: {told.get('broken', 'not read')}"
+    return f"{kind}: not read"
 
 
 def _pair(numbers: Optional[List[int]]) -> Optional[Tuple[int, int]]:

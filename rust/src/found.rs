@@ -118,7 +118,7 @@ impl Found {
             message: String::new(),
             place: Where::Nowhere,
         };
-        let (mut format, mut decides) = (None, String::new());
+        let (mut format, mut decides, mut broken) = (None, String::new(), None);
         Line::of(line).object(|name, line| match name {
             "level" if line.is_at('"') => found.level = line.string(),
             "entry" => found.entry = line.number() as usize,
@@ -135,21 +135,22 @@ impl Found {
             "order" => found.message = unordered(line),
             "format" => format = Some(line.string()),
             "lump" | "tag" => decides = line.string(),
+            "broken" => broken = Some(line.string()),
             _ => line.pass(),
         });
         if let Some(format) = format {
-            found.message = unjudged(&format, &decides);
+            found.message = unjudged(&format, &decides, broken.as_deref().unwrap_or("not read"));
         }
         (!found.message.is_empty()).then_some(found)
     }
 }
 
-fn unjudged(format: &str, decides: &str) -> String {
+fn unjudged(format: &str, decides: &str, why: &str) -> String {
     match format {
         "incomplete" => format!("incomplete: no {decides} where it belongs"),
         "outside" => format!("outside: {decides}"),
-        "extended" => format!("extended nodes {decides}: not read"),
-        _ => format!("{format}: not read"),
+        "extended" => format!("extended nodes {decides}: {why}"),
+        _ => format!("{format}: {why}"),
     }
 }
 

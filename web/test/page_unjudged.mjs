@@ -81,10 +81,14 @@ async function hexen() {
 
 /** Levels with later nodes, in text, and with a lump outside the file. */
 async function others() {
-  const later = wad(rooms('MAP01', { damage: (all) => { all.NODES = Buffer.from('XNOD'); } }));
-  await open('later.wad', later, 'MAP01');
+  const nodes = (/** @type {string} */ tag) => wad(rooms('MAP01', { damage: (all) => { all.NODES = Buffer.from(tag); } }));
+  await open('broken.wad', nodes('XNOD'), 'MAP01');
+  check('broken nodes', [await textOf('#told'), (await textOf('#advice')).split('. ')[0]], ['extended nodes XNOD: NODES ends within its vertexes',
+    "Its nodes, ZDoom's extended nodes, are broken: they were cut short, or VERTEXES was changed after they were built"]);
+  check('are a fault', [await textOf('#levels .row-state.fault'), await textOf('#levels .row-more')], ['not judged', 'extended nodes XNOD: NODES ends within its vertexes']);
+  await open('later.wad', nodes('ZNOD'), 'MAP01');
   check('later nodes', [await textOf('#told'), (await textOf('#advice')).split('. ')[0]],
-    ['extended nodes XNOD: not read', "Its nodes are of a later format, ZDoom's extended nodes, and aren't read here"]);
+    ['extended nodes ZNOD: not read', "Its nodes are of a later format, ZDoom's extended nodes, compressed, and aren't read here"]);
   check('are drawn without them', [await hasInk('wall', 512, 128), await isOff('save-pwad')], [true, false]);
   /** @type {[string, Buffer][]} */
   const text = [['MAP01', Buffer.alloc(0)], ['TEXTMAP', Buffer.from('namespace = "zdoom";')], ['ZNODES', Buffer.alloc(3)], ['ENDMAP', Buffer.alloc(0)]];

@@ -1,8 +1,9 @@
 -- Texts of the page, computed on small rows: each is what stands here.
-use Rattle.std.proofs.Common.{◌≡◌, ℕ, Bool, true, false, List, [], ◌∷◌, ◌++◌, refl, ap, ◌∙◌}
+use Rattle.std.proofs.Common.{◌≡◌, ℕ, Bool, true, false, List, [], ◌∷◌, ◌++◌, Some, refl, ap, ◌∙◌}
 use Rattle.std.specs.Fmt.{digits}
 use Rattle.std.specs.Prelude.{codes}
-use Rattle.level_starts.specs.declared.format.Format.TheVariants.{Incomplete}
+use Rattle.lens_texts.specs.declared.unread.Unread.TheVariants.{Incomplete, Extended}
+use Rattle.node_lumps.specs.declared.broken.Broken.TheVariants as broken
 use Rattle.map_level.specs.declared.finding.Code.TheVariants.{F4, F5}
 use Rattle.map_level.specs.declared.reading.Reading.TheVariants.{Signed}
 use Rattle.lens_texts.proofs.CaseLevels.{level}
@@ -112,13 +113,23 @@ sound_row row file path entry name messages found = rw (file, ap path_text path 
 
 -- the last lump isn't there
 broken_row : (row : Row) (unjudged : Unjudged) → row.file ≡ 1 → row.path.now ≡ codes "a.wad" → row.entry ≡ 3 → row.name ≡ codes "MAP01"
-    → unjudged.format ≡ Incomplete 10 → row.found ≡ surveyed.Unjudged unjudged
+    → unjudged.unread ≡ Incomplete 10 → row.found ≡ surveyed.Unjudged unjudged
     → row_text row
     ≡ codes "<li class=\"faulty\">\n<p class=\"map\">no picture</p>\n"
     ++ (codes "<div>\n<h2>MAP01</h2>\n<p class=\"where\">a.wad <span>entry 3, incomplete</span></p>\n"
     ++ codes "<p class=\"told\">incomplete: no BLOCKMAP where it belongs\n</p>\n</div>\n</li>\n")
 unfolding digits
-broken_row row unjudged file path entry name format found = rw (file, ap path_text path ∙ plain_path, entry, name, found, format) refl
+broken_row row unjudged file path entry name told found = rw (file, ap path_text path ∙ plain_path, entry, name, found, told) refl
+
+-- the nodes are broken
+broken_nodes_row : (row : Row) (unjudged : Unjudged) → row.file ≡ 1 → row.path.now ≡ codes "a.wad" → row.entry ≡ 3 → row.name ≡ codes "MAP01"
+    → unjudged.unread ≡ Extended (codes "XNOD") (Some (broken.Vertexes 3 2)) → row.found ≡ surveyed.Unjudged unjudged
+    → row_text row
+    ≡ codes "<li class=\"faulty\">\n<p class=\"map\">no picture</p>\n"
+    ++ (codes "<div>\n<h2>MAP01</h2>\n<p class=\"where\">a.wad <span>entry 3, extended</span></p>\n"
+    ++ codes "<p class=\"told\">extended nodes XNOD: made for 3 vertexes, VERTEXES has 2\n</p>\n</div>\n</li>\n")
+unfolding digits
+broken_nodes_row row unjudged file path entry name told found = rw (file, ap path_text path ∙ plain_path, entry, name, found, told) refl
 
 -- a row with a fault stands before one without, and each once
 faulty_first : (a b : Row) → is_faulty a ≡ false → is_faulty b ≡ true → faulty_rows (a ∷ b ∷ []) ++ other_rows (a ∷ b ∷ []) ≡ (row_text b ++ []) ++ (row_text a ++ [])

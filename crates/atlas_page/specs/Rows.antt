@@ -1,8 +1,7 @@
 -- The rows of the page (ours): a level, with its picture where it has one.
-use Rattle.std.specs.Prelude.{ℕ, Bool, true, false, not, List, [], ◌∷◌, codes, filter, fold, map, nat_eq, if◌then◌else◌}
+use Rattle.std.specs.Prelude.{ℕ, Bool, true, false, not, List, [], ◌∷◌, codes, filter, fold, map, if◌then◌else◌}
 use Rattle.std.specs.Fmt.{decimal}
 use Rattle.le_rec.specs.Name.{shown_name}
-use Rattle.level_starts.specs.declared.format.Format.{Format}
 use Rattle.lens_texts.specs.Escape.{escaped}
 use Rattle.lens_texts.specs.Parts.{joined}
 use Rattle.atlas_page.specs.Items.{code_items, table_items}
@@ -11,6 +10,7 @@ use Rattle.atlas_page.specs.PictureName.{picture_name}
 use Rattle.atlas_page.specs.Text.{path_text}
 use Rattle.atlas_page.specs.declared.row.Row.{Row}
 use Rattle.lens_texts.specs.FormatLine.{format_text}
+use Rattle.lens_texts.specs.declared.unread.Unread.{Unread}
 use Rattle.lens_texts.specs.LevelObject.{format_name}
 use Rattle.lens_engines.specs.Survey.{verdict_of_level}
 use Rattle.lens_engines.specs.Surveyed.{format_of, is_drawn}
@@ -69,13 +69,13 @@ judged_parts judged messages =
     ∷ codes "<ul class=\"counts\">\n" ∷ joined (table_items judged.tables) ∷ codes "</ul>\n" ∷ []
 
 -- why another isn't judged
-abbrev pub unjudged_parts : Format → List (List ℕ)
-unjudged_parts format = codes "<p class=\"told\">" ∷ format_text format ∷ codes "</p>\n" ∷ []
+abbrev pub unjudged_parts : Unread → List (List ℕ)
+unjudged_parts unread = codes "<p class=\"told\">" ∷ format_text unread ∷ codes "</p>\n" ∷ []
 
 -- what was found at a level
 abbrev pub found_part : Surveyed → List ℕ → List ℕ
 found_part (surveyed.Judged judged) messages = joined (judged_parts judged messages)
-found_part (surveyed.Unjudged unjudged) messages = joined (unjudged_parts unjudged.format)
+found_part (surveyed.Unjudged unjudged) messages = joined (unjudged_parts unjudged.unread)
 
 -- a row
 abbrev pub row_parts : Row → List (List ℕ)

@@ -10,9 +10,9 @@ ghost use Rattle.wad_dir.specs.Entries.{names};
 
 use crate::messages::{MessageItems, Messages};
 use crate::row::Row;
-use lens_engines::{Judged, Judging, LevelCounts, Surveyed, Unjudged};
+use lens_engines::{Judged, Judging, LevelCounts, Surveyed, Unjudged, unread_at};
 use lens_texts::{label_of, level_at};
-use level_starts::{Format, LevelStarts, format_of};
+use level_starts::LevelStarts;
 use map_warnings::Resources;
 use std::alloc::{AllocError, Allocator, Global};
 use wad_dir::Set;
@@ -83,14 +83,14 @@ fn row_at<'p, A: Allocator + Copy>(
     requires starts { LevelStartsAt (names set.now) g }
     ensures { IfOk result (IsRow origin.now set.now g) }
 {
-    match format_of(set, g) {
-        Format::Doom => judged_row(alloc, global, origin, set, resources, g),
-        format => Ok(Row {
+    match unread_at(set, g) {
+        None => judged_row(alloc, global, origin, set, resources, g),
+        Some(unread) => Ok(Row {
             file: origin.file,
             path: origin.path,
             entry: g as u64,
             name: label_of(set, g),
-            found: Surveyed::Unjudged(Unjudged::new(format)),
+            found: Surveyed::Unjudged(Unjudged::new(unread)),
             messages: Messages::none(global),
         }),
     }

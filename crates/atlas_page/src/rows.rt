@@ -133,7 +133,7 @@ struct UnjudgedParts<'r> {
 impl TextParts for UnjudgedParts<'_> {
     ghost use Rattle.atlas_page.specs.Rows.{unjudged_parts};
 
-    ghost parts = { λ parts. unjudged_parts parts.unjudged.now.format };
+    ghost parts = { λ parts. unjudged_parts parts.unjudged.now.unread };
 
     fn count(&self) -> usize {
         3
@@ -142,7 +142,7 @@ impl TextParts for UnjudgedParts<'_> {
     fn write<W: Sink>(&self, number: usize, out: &mut W) -> Result<(), IoFault> {
         match number {
             0 => emit(out, b"<p class=\"told\">"),
-            1 => write_format_alone(self.unjudged.format(), out),
+            1 => write_format_alone(self.unjudged.unread(), out),
             _ => emit(out, b"</p>\n"),
         }
     }

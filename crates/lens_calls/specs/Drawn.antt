@@ -7,7 +7,7 @@ use Rattle.le_rec.specs.Sink.{SinkState}
 use Rattle.lens_calls.specs.Large.{AreSmall, IsFirstLarge}
 use Rattle.lens_calls.specs.Why.{TellsWhy}
 use Rattle.lens_commands.specs.Picture.{IsFound}
-use Rattle.lens_commands.specs.PictureFormat.{IsFormatAt}
+use Rattle.lens_commands.specs.PictureFormat.{IsDoomAt, IsUnreadAt}
 use Rattle.lens_commands.specs.PictureTold.{named_line}
 use Rattle.lens_commands.specs.declared.picture.draw.PictureQuestion.{PictureQuestion}
 use Rattle.lens_engines.specs.Survey.{verdict_of_format}
@@ -17,8 +17,7 @@ use Rattle.lens_engines.specs.declared.verdict.Verdict.{Verdict}
 use Rattle.lens_engines.specs.declared.verdict.Verdict.TheVariants.{Unjudged}
 use Rattle.lens_reports.specs.Run.{refusal_line}
 use Rattle.lens_texts.specs.FormatLine.{format_text}
-use Rattle.level_starts.specs.declared.format.Format.{Format}
-use Rattle.level_starts.specs.declared.format.Format.TheVariants.{Doom}
+use Rattle.lens_texts.specs.declared.unread.Unread.{Unread}
 use Rattle.map_level.specs.Level.{Level}
 use Rattle.map_level.specs.Opening.{IsLevelAt}
 use Rattle.map_picture.specs.Drawing.{HasNothing, IsPicture, TakesWhole}
@@ -45,16 +44,15 @@ abbrev pub DrawsLevel : PictureQuestion → Level → SinkState → SinkState �
 DrawsLevel question level out out' errors errors' verdict =
     DrawsNothing question level out out' errors errors' verdict ⊎ DrawsWhole question.drawn level out out' errors errors' verdict
 
--- the level at an entry is in a format that isn't read, or it isn't whole, and this was reported
+-- the level at an entry is in a format that isn't read, it isn't whole or its nodes are broken, and this was reported
 pub record DrawsOther (name : List ℕ) (files : List Wad) (g : ℕ) (out out' errors errors' : SinkState) (verdict : Verdict) : Type 0 where
-  pub format : Format
-  pub is : IsFormatAt files g format
-  pub other : format ≢ Doom
-  pub tells : TellsWhy (named_line name (format_text format)) (verdict_of_format format) out out' errors errors' verdict
+  pub unread : Unread
+  pub is : IsUnreadAt files g unread
+  pub tells : TellsWhy (named_line name (format_text unread)) (verdict_of_format unread) out out' errors errors' verdict
 
 -- a level in Doom's format starts at an entry
 pub record DrawsDoom (question : PictureQuestion) (files : List Wad) (g : ℕ) (out out' errors errors' : SinkState) (verdict : Verdict) : Type 0 where
-  pub is : IsFormatAt files g Doom
+  pub is : IsDoomAt files g
   pub level : Level
   pub there : IsLevelAt files g question.reading level
   pub draws : DrawsLevel question level out out' errors errors' verdict

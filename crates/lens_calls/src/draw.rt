@@ -8,11 +8,10 @@ ghost use Rattle.lens_calls.specs.declared.asked.LensFault.TheVariants.{Full};
 use crate::asked::LensFault;
 use le_rec::{Name8, Sink};
 use lens_commands::{
-    PictureQuestion, drawn_verdict, format_at, verdict_of_format, write_format, write_named,
+    PictureQuestion, drawn_verdict, undrawn_at, verdict_of_format, write_format, write_named,
 };
 use lens_engines::Verdict;
 use lens_texts::level_at;
-use level_starts::Format;
 use map_level::Level;
 use map_picture::{DrawFault, draw_level};
 use std::alloc::Allocator;
@@ -52,13 +51,13 @@ fn draw_at<A: Allocator + Copy, W: Sink, E: Sink>(
     ensures drawn { IfOk result (DrawsAt question.now set.now g (W.state out.old) (W.state out.new) (E.state errors.old) (E.state errors.new)) }
     ensures full { IfErr result (λ fault. fault ≡ Full) }
 {
-    match format_at(set, g) {
-        Format::Doom => {
+    match undrawn_at(set, g) {
+        None => {
             let level = level_at(set, g, question.reading);
             draw_whole(alloc, question, &level, out, errors)
         }
-        format => match write_format(question.name, format, errors) {
-            Ok(()) => Ok(verdict_of_format(format)),
+        Some(unread) => match write_format(question.name, unread, errors) {
+            Ok(()) => Ok(verdict_of_format(unread)),
             Err(_) => Err(LensFault::Full),
         },
     }

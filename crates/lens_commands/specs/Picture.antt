@@ -5,7 +5,7 @@ use Rattle.le_rec.specs.Name.{query_of}
 use Rattle.le_rec.specs.Sink.{SinkState}
 use Rattle.line_io.specs.Storage.{AreHeld}
 use Rattle.lens_commands.specs.PictureFiles.{IsFirstUnread}
-use Rattle.lens_commands.specs.PictureFormat.{IsFormatAt}
+use Rattle.lens_commands.specs.PictureFormat.{IsDoomAt, IsUnreadAt}
 use Rattle.lens_commands.specs.PictureTold.{TellsRefused, named_line}
 use Rattle.lens_commands.specs.declared.picture.draw.PictureQuestion.{PictureQuestion}
 use Rattle.lens_reports.specs.Job.{TellsRest, WantsMemory}
@@ -13,8 +13,6 @@ use Rattle.lens_reports.specs.Run.{IsTold}
 use Rattle.lens_reports.specs.declared.end.End.{End}
 use Rattle.lens_reports.specs.declared.end.End.TheVariants as end
 use Rattle.lens_reports.specs.declared.output.Output.{Output}
-use Rattle.level_starts.specs.declared.format.Format.{Format}
-use Rattle.level_starts.specs.declared.format.Format.TheVariants.{Doom}
 use Rattle.map_level.specs.Level.{Level}
 use Rattle.map_level.specs.Opening.{IsLevelAt}
 use Rattle.map_picture.specs.Drawing.{HasNothing, IsPicture}
@@ -26,6 +24,7 @@ use Rattle.wad_dir.specs.Refusal.{IsFirstRefused}
 use Rattle.wad_dir.specs.Winner.{Wins}
 use Rattle.wad_dir.specs.declared.wad.WadFault.{WadFault}
 use Rattle.lens_texts.specs.FormatLine.{format_text}
+use Rattle.lens_texts.specs.declared.unread.Unread.{Unread}
 use Rattle.lens_engines.specs.Survey.{verdict_of_format}
 use Rattle.lens_engines.specs.declared.object.FileRefusal.{FileRefusal}
 use Rattle.lens_engines.specs.declared.object.FileRefusal.TheVariants.{NoWad}
@@ -68,16 +67,15 @@ DrawsLevel level question contents old new errors errors' result =
     WantsMemory old new errors errors' result ⊎ DrawsNothing level question old new errors errors' result
     ⊎ DrawsWhole level question.drawn contents old new errors errors' result
 
--- the level at an entry is in a format that isn't read, or it isn't whole, and this was reported
+-- the level at an entry is in a format that isn't read, it isn't whole or its nodes are broken, and this was reported
 pub record DrawsOther {W : Type 0} (files : List Wad) (g : ℕ) (name : List ℕ) (old new : Output W) (errors errors' : SinkState) (result : Result Verdict End) : Type 0 where
-  pub format : Format
-  pub is : IsFormatAt files g format
-  pub other : format ≢ Doom
-  pub tells : TellsAlone (named_line name (format_text format)) (Ok (verdict_of_format format)) old new errors errors' result
+  pub unread : Unread
+  pub is : IsUnreadAt files g unread
+  pub tells : TellsAlone (named_line name (format_text unread)) (Ok (verdict_of_format unread)) old new errors errors' result
 
 -- a level in Doom's format starts at an entry
 pub record DrawsDoom {W : Type 0} (files : List Wad) (g : ℕ) (question : PictureQuestion) (contents : W → Option (List ℕ)) (old new : Output W) (errors errors' : SinkState) (result : Result Verdict End) : Type 0 where
-  pub is : IsFormatAt files g Doom
+  pub is : IsDoomAt files g
   pub level : Level
   pub there : IsLevelAt files g question.reading level
   pub draws : DrawsLevel level question contents old new errors errors' result

@@ -16,6 +16,6 @@ pub use atlas::{
 pub use compare::run_compare;
 pub use listing::run_listing;
 pub use picture::{
-    PictureQuestion, drawn_verdict, format_at, marks_by, run_picture, verdict_of_format,
+    PictureQuestion, drawn_verdict, marks_by, run_picture, undrawn_at, verdict_of_format,
     write_format, write_named,
 };

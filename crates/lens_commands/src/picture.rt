@@ -7,7 +7,7 @@ mod run;
 mod told;
 
 pub use draw::{PictureQuestion, drawn_verdict, verdict_of_format};
-pub use format::format_at;
+pub use format::undrawn_at;
 pub use marks::marks_by;
 pub use run::run_picture;
 pub use told::{write_format, write_named};

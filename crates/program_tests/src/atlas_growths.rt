@@ -8,8 +8,8 @@ use lens_engines::{
     Base, FileRefusal, Judging, LevelCounts, Rules, Surveyed, Tables, Warnings, asked_resources,
     over_base,
 };
+use lens_texts::Unread;
 use level_codes::{CodeSet, ReportCode};
-use level_starts::Format;
 use line_io::IoFault;
 use map_level::Reading;
 use map_level::search::CODE_COUNT;
@@ -121,7 +121,7 @@ fn check_row(rt: &impl Abort, row: &Row<'_>, entry: u64) {
         }
         Surveyed::Unjudged(unjudged) => {
             check_same(rt, (row.name, entry), (Name8::query(b"MAP01"), 11));
-            check_same(rt, unjudged.format(), Format::Udmf);
+            check_same(rt, unjudged.unread(), Unread::Udmf);
             check_bytes(rt, row.messages.items(), b"");
         }
     }

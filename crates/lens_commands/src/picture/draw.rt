@@ -7,13 +7,12 @@ ghost use Rattle.lens_reports.specs.Output.{is_closed, output_state};
 ghost use Rattle.lens_reports.specs.Run.{AreSound};
 ghost use Rattle.lens_engines.specs.Survey.{verdict_of_format};
 
-use crate::picture::format::format_at;
+use crate::picture::format::undrawn_at;
 use crate::picture::told::{write_format, write_named};
 use le_rec::{Name8, Sink};
 use lens_engines::{Verdict, format_totals};
 use lens_reports::{End, Output, output_end, write_rest};
-use lens_texts::level_at;
-use level_starts::Format;
+use lens_texts::{Unread, level_at};
 use map_level::{Level, Reading};
 use map_picture::{DrawFault, View, draw_level};
 use std::alloc::Global;
@@ -63,24 +62,24 @@ fn draw_at<O: Write + Drop, E: Sink>(
     requires sound { AreSound (output_state O.contents out.old) (E.state errors.old) }
     ensures { DrawsAt set.now g question.now O.contents out.old out.new (E.state errors.old) (E.state errors.new) result }
 {
-    match format_at(set, g) {
-        Format::Doom => {
+    match undrawn_at(set, g) {
+        None => {
             let level = level_at(set, g, question.reading);
             draw_whole(alloc, question, &level, out, errors)
         }
-        format => {
+        Some(unread) => {
             // As above.
-            let _ = write_format(question.name, format, errors);
-            Ok(verdict_of_format(format))
+            let _ = write_format(question.name, unread, errors);
+            Ok(verdict_of_format(unread))
         }
     }
 }
 
 /// The verdict on a level that isn't drawn, the same as that of `check`.
-pub fn verdict_of_format(format: Format) -> Verdict
-    ensures { result ≡ verdict_of_format format }
+pub fn verdict_of_format(unread: Unread) -> Verdict
+    ensures { result ≡ verdict_of_format unread }
 {
-    format_totals(format).verdict()
+    format_totals(unread).verdict()
 }
 
 // Draws a level.

@@ -1,25 +1,28 @@
-//! The format of a level whose label wins a name.
+//! What is told of a level whose label wins a name, where it isn't drawn.
 
-ghost use Rattle.std.specs.Prelude.{◌↔◌, IsTrue};
-ghost use Rattle.lens_commands.specs.PictureFormat.{IsFormatAt};
+ghost use Rattle.std.specs.Prelude.{◌↔◌, IfNone, IfSome, IsTrue};
+ghost use Rattle.lens_commands.specs.PictureFormat.{IsDoomAt, IsUnreadAt};
 ghost use Rattle.level_starts.specs.Starts.{LevelStartsAt};
 ghost use Rattle.wad_dir.specs.Entries.{names};
-ghost use Rattle.lens_texts.specs.LevelObject.{NamesLump};
+ghost use Rattle.lens_texts.specs.Unread.{NamesLump};
 
-use level_starts::{Format, format_of, next_start};
+use lens_engines::unread_at;
+use lens_texts::Unread;
+use level_starts::next_start;
 use std::alloc::Allocator;
 use wad_dir::Set;
 
-/// The format of the level whose label is an entry. If no level starts there, its first lump is the one that
-/// it lacks.
-pub fn format_at<A: Allocator>(set: &Set<'_, A>, g: usize) -> Format
-    ensures format { IsFormatAt set.now g result }
-    ensures lump { NamesLump result }
+/// What is told of the level whose label is an entry, if it isn't judged; None of a level of Doom's format. If no level
+/// starts there, its first lump is the one that it lacks.
+pub fn undrawn_at<A: Allocator>(set: &Set<'_, A>, g: usize) -> Option<Unread>
+    ensures doom { IfNone result (IsDoomAt set.now g) }
+    ensures unread { IfSome result (IsUnreadAt set.now g) }
+    ensures lump { IfSome result NamesLump }
 {
     if starts_at(set, g) {
-        format_of(set, g)
+        unread_at(set, g)
     } else {
-        Format::Incomplete(1)
+        Some(Unread::Incomplete(1))
     }
 }
 

@@ -4,13 +4,12 @@ ghost use Rattle.std.specs.Prelude.{◌≡◌, ◌<◌, ◌++◌, codes, false, 
 ghost use Rattle.lens_commands.specs.PictureTold.{TellsRefused, name_head, named_line};
 ghost use Rattle.line_io.specs.Writes.{Writes};
 ghost use Rattle.lens_texts.specs.FormatLine.{format_text};
-ghost use Rattle.lens_texts.specs.LevelObject.{NamesLump};
+ghost use Rattle.lens_texts.specs.Unread.{NamesLump};
 
 use le_rec::Sink;
 use lens_engines::FileRefusal;
 use lens_reports::write_refusal;
-use lens_texts::{write_format_alone, write_path};
-use level_starts::Format;
+use lens_texts::{Unread, write_format_alone, write_path};
 use line_io::{IoFault, emit};
 
 /// Reports that the file of an index is refused, and why. If standard error fails, the message is lost.
@@ -31,14 +30,14 @@ pub fn write_named<E: Sink>(name: &[u8], text: &[u8], errors: &mut E) -> Result<
     emit(errors, text)
 }
 
-/// Writes the format of a level that isn't drawn, by the name that was asked for.
-pub fn write_format<E: Sink>(name: &[u8], format: Format, errors: &mut E) -> Result<(), IoFault>
-    requires lump { NamesLump format }
+/// Writes why a level isn't drawn, by the name that was asked for.
+pub fn write_format<E: Sink>(name: &[u8], unread: Unread, errors: &mut E) -> Result<(), IoFault>
+    requires lump { NamesLump unread }
     requires sound { (E.state errors.old).failed ≡ false }
-    ensures { Writes (E.state errors.old) (E.state errors.new) (named_line name.now (format_text format)) result }
+    ensures { Writes (E.state errors.old) (E.state errors.new) (named_line name.now (format_text unread)) result }
 {
     write_head(name, errors)?;
-    write_format_alone(format, errors)
+    write_format_alone(unread, errors)
 }
 
 // `wadlens: NAME: `

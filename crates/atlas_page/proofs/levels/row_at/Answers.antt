@@ -1,10 +1,8 @@
-use Rattle.std.proofs.Common.{refl}
-use Rattle.level_starts.specs.declared.format.Format.TheVariants.{Doom}
-use Rattle.lens_engines.proofs.SurveyLemmas.{lump_of_format}
+use Rattle.lens_engines.proofs.UnreadLemmas.{lump_of_unread}
 use Rattle.atlas_page.proofs.levels.row_at.Goals as goal
 
 pub new-requires : goal.new-requires
-new-requires g c = lump_of_format c.args.set.now c.args.g c.format_of.result ((c.format_of.ensures c.format_of.result).0 refl)
+new-requires g c = lump_of_unread c.args.set.now c.args.g c.in-Some.unread c.in-Some.ensures.unread
 
 pub judged_row-requires-clause-is : goal.judged_row-requires-clause-is
-judged_row-requires-clause-is g c = (c.in-Doom.ensures Doom).0 refl
+judged_row-requires-clause-is g c = c.in-None.ensures.doom

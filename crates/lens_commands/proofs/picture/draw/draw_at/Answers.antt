@@ -1,11 +1,10 @@
-use Rattle.std.proofs.Common.{Ok, ap, inl, refl, rules}
+use Rattle.std.proofs.Common.{Ok, ap, inl, refl}
 use Rattle.lens_commands.proofs.picture.draw.draw_at.Goals as goal
 
-pub returns-in_default : goal.returns-in_default
-returns-in_default g c = inl (record {
-  format = c.format_at.result;
-  is = search rules;
-  other = search rules;
+pub returns-in-Some : goal.returns-in-Some
+returns-in-Some g c = inl (record {
+  unread = c.in-Some.unread;
+  is = c.in-Some.ensures.unread;
   tells = record {
     told = (c.write_format.result, c.write_format.ensures);
     untouched = refl;

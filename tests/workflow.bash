@@ -94,7 +94,7 @@ change() {
     commit_all "$at"
 }
 
-# make_repositories: a sound one, four that end the game, one of extended nodes, one without WAD files, and others. What makes levels has the
+# make_repositories: a sound one, four that end the game, two of extended nodes, one without WAD files, and others. What makes levels has the
 # names of commands.
 make_repositories() (
     # shellcheck source=tests/wads.bash
@@ -105,7 +105,8 @@ make_repositories() (
     level SIDEDEFS "$none$(sidedef 1)" | change no_texture maps/changed.wad
     level SECTORS "$(sector)$(sector_of 0 128 NOSUCH)" | change no_flat maps/changed.wad
     level THINGS "${own[THINGS]}$(words 8 16 0 9999 7)" | change no_thing maps/changed.wad
-    level NODES "$(bytes "'X" "'N" "'O" "'D")" | change extended maps/changed.wad
+    level NODES "$(bytes "'Z" "'N" "'O" "'D")" | change extended maps/changed.wad
+    level NODES "$(bytes "'X" "'N" "'O" "'D")" | change broken maps/changed.wad
     level NODES "$(node 16384 0 0 64 32768 32769)" | change fault maps/changed.wad
     level THINGS '' | change named 'maps/a:b, 100%.Wad'
     head -c 11 "$sample" | change short maps/changed.wad
@@ -170,8 +171,11 @@ cases_of_ends() {
 
 # Nobody takes what isn't judged for sound.
 cases_of_unjudged() {
-    check 'the workflow, over extended nodes' over '[12]' extended './maps/changed.wad: E1M1: extended nodes XNOD: *' \
-        '::error file=maps/changed.wad::./maps/changed.wad: E1M1: extended nodes XNOD: *, 1 not judged*' \
+    check 'the workflow, over extended nodes' over '[12]' extended './maps/changed.wad: E1M1: extended nodes ZNOD: not read' \
+        '::error file=maps/changed.wad::./maps/changed.wad: E1M1: extended nodes ZNOD: not read*, 1 not judged*' \
+        '2 levels in 2 files: *, 1 not judged*'
+    check 'the workflow, over broken nodes' over 1 broken './maps/changed.wad: E1M1: extended nodes XNOD: NODES ends within its vertexes' \
+        '::error file=maps/changed.wad::./maps/changed.wad: E1M1: extended nodes XNOD: NODES ends within its vertexes*, 1 not judged*' \
         '2 levels in 2 files: *, 1 not judged*'
     check 'the workflow, over a file that is cut short' over 2 short 'wadlens: ./maps/changed.wad: shorter than a WAD header' \
         '::error file=maps/changed.wad::*wadlens: ./maps/changed.wad: shorter than a WAD header%0A*'

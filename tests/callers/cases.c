@@ -558,9 +558,13 @@ static void unjudged(void) {
     const wadlook_file file = {NULL, 0, wad, BASE};
     char kept[80] = "";
     fresh();
-    memcpy(wad + NODES, "XNOD", 4);
+    memcpy(wad + NODES, "ZNOD", 4);
     CHECK(wadlook_check(&question, &file, 1, keep_message, kept) == WADLOOK_REFUSED);
-    CHECK(!strcmp(kept, "E1M1: extended nodes XNOD: not read"));
+    CHECK(!strcmp(kept, "E1M1: extended nodes ZNOD: not read"));
+    fresh();
+    memcpy(wad + NODES, "XNOD", 4); /* where the box of the front begins stands how many new vertexes there are: 64 */
+    CHECK(wadlook_check(&question, &file, 1, keep_message, kept) == WADLOOK_FAULTY);
+    CHECK(!strcmp(kept, "E1M1: extended nodes XNOD: NODES ends within its vertexes"));
     fresh();
     memcpy(wad + entry(10) + 8, "OTHERMAP", 8);
     CHECK(wadlook_check(&question, &file, 1, keep_message, kept) == WADLOOK_FAULTY);

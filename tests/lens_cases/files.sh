@@ -265,7 +265,7 @@ cases_of_survey() {
         survey hole.wad
     says 'hexen' 2 '{"file":"hexen.wad","level":"MAP01","entry":0,"format":"hexen"}\n' '' survey hexen.wad
     says 'udmf' 2 '{"file":"udmf.wad","level":"MAP03","entry":0,"format":"udmf"}\n' '' survey udmf.wad
-    says 'extended' 2 '{"file":"extended.wad","level":"E1M1","entry":0,"format":"extended","tag":"XNOD"}\n' '' \
+    says 'extended' 2 '{"file":"extended.wad","level":"E1M1","entry":0,"format":"extended","tag":"ZNOD"}\n' '' \
         survey extended.wad
     says 'a hidden label' 0 "$(sound hidden.wad MAP02 0)$(sound hidden.wad MAP02 11)" '' survey hidden.wad
     says '1 goes before 2' 1 '{"file":"udmf.wad","level":"MAP03","entry":0,"format":"udmf"}\n'"$faulty" '' \
@@ -399,15 +399,15 @@ cases_of_formats_by_places() {
     before_byte_0 7
     starts 'outside_and_other_formats: incomplete' 1 '0 incomplete BLOCKMAP'
     behind=()
-    starts_with 'outside_and_extended_nodes: inside' 2 '0 extended XNOD' NODES "$(letters XNOD)${own[NODES]:16}"
+    starts_with 'outside_and_extended_nodes: inside' 2 '0 extended ZNOD' NODES "$(letters ZNOD)${own[NODES]:16}"
     before_byte_0 1
     starts outside_and_extended_nodes 1 '0 outside THINGS'
 }
 
-# A level of Doom's format has no node here, and so a fault.
+# A level of Doom's format has no node here, and so a fault. A tag alone is one of broken nodes, where these are read.
 cases_of_tagged_nodes() {
     local name=nodes_of_later_formats tag
-    starts_with "$name: XNOD" 2 '0 extended XNOD' NODES "$(letters XNOD)"
+    starts_with "$name: XNOD" 1 '0 extended XNOD' NODES "$(letters XNOD)"
     starts_with "$name: ZNOD" 2 '0 extended ZNOD' NODES "$(letters ZNOD)$(bytes 120 156)"
     starts_with "$name: xNd4" 2 '0 extended xNd4' NODES "$(letters xNd4)$(bytes 0 0 0 0 1)"
     starts_with "$name: xNd4 and no zero" 1 '0 doom' NODES "$(letters xNd4)"
@@ -416,12 +416,11 @@ cases_of_tagged_nodes() {
     for tag in XNO XGLN ''; do starts_with "$name: '$tag'" 1 '0 doom' NODES "$(letters "$tag")"; done
 }
 
-# A level of Doom's format has no such segs here, and so a fault.
+# A level of Doom's format has no such segs here, and so a fault. So has one whose nodes are read, and broken.
 cases_of_tagged_ssectors() {
     local name=ssectors_of_later_formats tag
-    for tag in XGLN ZGLN XGL2 ZGL2 XGL3 ZGL3; do
-        starts_with "$name: $tag" 2 "0 extended $tag" SSECTORS "$(letters "$tag")"
-    done
+    for tag in XGLN XGL2; do starts_with "$name: $tag" 1 "0 extended $tag" SSECTORS "$(letters "$tag")"; done
+    for tag in ZGLN ZGL2 XGL3 ZGL3; do starts_with "$name: $tag" 2 "0 extended $tag" SSECTORS "$(letters "$tag")"; done
     starts_with "$name: a byte behind the tag" 2 '0 extended ZGLN' SSECTORS "$(letters ZGLN)$(bytes 0)"
     for tag in XGL4 XNOD; do starts_with "$name: $tag" 1 '0 doom' SSECTORS "$(letters "$tag")"; done
     starts_with "$name: a tag of NODES goes first" 2 '0 extended ZNOD' SSECTORS "$(letters XGLN)" NODES "$(letters ZNOD)"

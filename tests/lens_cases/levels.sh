@@ -30,7 +30,7 @@ cases_of_check() {
     says 'a fault and a note' 1 "${faults_of_faulty}1 levels in 1 files: 1 faults, 1 notes, 0 not judged\\n" '' check faulty.wad
     says 'what is not judged' 1 "$(
         printf '%s' 'hole.wad: MAP01: incomplete: no BLOCKMAP where it belongs\n' 'hexen.wad: MAP01: hexen: not read\n' \
-            'udmf.wad: MAP03: udmf: not read\n' 'extended.wad: E1M1: extended nodes XNOD: not read\n' \
+            'udmf.wad: MAP03: udmf: not read\n' 'extended.wad: E1M1: extended nodes ZNOD: not read\n' \
             '4 levels in 4 files: 0 faults, 0 notes, 4 not judged\n'
     )" '' check hole.wad hexen.wad udmf.wad extended.wad
     cases_of_labels
@@ -120,7 +120,7 @@ cases_of_json() {
         refused no.wad "$missing"
         told_of hole.wad MAP01 '"format":"incomplete","lump":"BLOCKMAP"'
         told_of udmf.wad MAP03 '"format":"udmf"'
-        told_of extended.wad E1M1 '"format":"extended","tag":"XNOD"'
+        told_of extended.wad E1M1 '"format":"extended","tag":"ZNOD"'
         totals_of 3 4 0 0 3
     )" "$(told no.wad "$missing")" check --json no.wad hole.wad udmf.wad extended.wad
     local three="${own[LINEDEFS]}"
@@ -684,7 +684,7 @@ cases_of_formats() {
 
 cases_of_tags() {
     local tag
-    for tag in XNOD ZNOD XGLN ZGLN XGL2 ZGL2 XGL3 ZGL3; do
+    for tag in ZNOD ZGLN ZGL2 XGL3 ZGL3; do
         lumps 10
         if [[ $tag == ?NOD ]]; then begins NODES "$(name8 "$tag")"; else begins SSECTORS "$(name8 "$tag")"; fi
         pack MAP01 '' "${parts[@]}" >format.wad
@@ -697,4 +697,82 @@ cases_of_tags() {
     not_judged 'extended, both: that of NODES' 2 'extended nodes xNd4: not read' '"extended","tag":"xNd4"'
     finds 'xNd4 and no four zeros' 'F12 node 0: origin (20088, 13412) is outside -16384 to 16383' 1 0 \
         NODES "$(node 20088 13412 1 0 32768 32769)"
+}
+
+# longs NUMBER...: numbers of 32 bits.
+longs() {
+    local number
+    for number; do words "$number" $((number >> 16)); done
+}
+
+# The parts of a lump that has all nodes of the sample level: the vertexes, two ssectors of a seg each, the segs and the node.
+later_vertexes=$(longs 2 0)
+later_ssectors=$(longs 2 1 1)
+later_segs=$(longs 2 0 1)$(words 0)$(bytes 0)$(longs 1 0)$(words 0)$(bytes 1)
+later_node=$(longs 1)$(words 0 0 0 64)$(longs 0 0 0 0 2147483648 2147483649)
+
+# breaks NAME TAG WORDS [LUMP BYTES]...: what `check`, `survey` and `picture` tell of the sample level with these lumps, whose nodes
+# are broken.
+breaks() {
+    local told="extended nodes $2: $3" object
+    object=$(told_of broken.wad E1M1 '"format":"extended","tag":"'"$2"'","broken":"'"$3"'"')
+    level "${@:4}" >broken.wad
+    says "broken nodes: $1" 1 "broken.wad: E1M1: $told\\n1 levels in 1 files: 0 faults, 0 notes, 1 not judged\\n" '' check broken.wad
+    says "broken nodes, in objects: $1" 1 "$object$(totals_of 1 1 0 0 1)" '' check --json broken.wad
+    says "broken nodes, surveyed: $1" 1 "$object" '' survey broken.wad
+    says "broken nodes, drawn: $1" 1 '' "wadlens: E1M1: $told\\n" picture E1M1 broken.wad
+}
+
+# reads NAME TAG [LUMP BYTES]...: the nodes of the sample level with these lumps aren't broken.
+reads() {
+    level "${@:3}" >whole.wad
+    says "whole nodes: $1" 2 "whole.wad: E1M1: extended nodes $2: not read\\n1 levels in 1 files: 0 faults, 0 notes, 1 not judged\\n" '' \
+        check whole.wad
+    says "whole nodes, surveyed: $1" 2 "$(told_of whole.wad E1M1 '"format":"extended","tag":"'"$2"'"')" '' survey whole.wad
+}
+
+# Why nodes are broken is told by the first reason that holds.
+cases_of_broken_nodes() {
+    local tag xnod xgln tables=$later_ssectors$later_segs$later_node
+    xnod=$(letters XNOD) xgln=$(letters XGLN)
+    cases_of_cut_nodes "$xnod$later_vertexes$tables"
+    breaks 'the tag alone' XNOD 'NODES ends within its vertexes' NODES "$xnod"
+    breaks 'more new vertexes than bytes' XNOD 'NODES ends within its vertexes' NODES "$xnod$(longs 2 4294967295 0)"
+    breaks 'one seg of no ssector' XNOD 'its ssectors have 1 segs, 2 are there' \
+        NODES "$xnod$later_vertexes$(longs 2 1 0)$later_segs$later_node"
+    breaks 'counts that wrap in 32 bits' XNOD 'its ssectors have 4294967298 segs, 2 are there' \
+        NODES "$xnod$later_vertexes$(longs 2 4294967295 3)$later_segs$later_node"
+    breaks 'made for another VERTEXES' XNOD 'made for 3 vertexes, VERTEXES has 2' NODES "$xnod$(longs 3 0)$tables"
+    breaks 'half a record of VERTEXES' XNOD 'made for 2 vertexes, VERTEXES has 1' \
+        VERTEXES "${own[VERTEXES]:0:24}" NODES "$xnod$later_vertexes$tables"
+    breaks 'an end goes before other vertexes' XNOD 'NODES ends within its nodes' NODES "$xnod$(longs 3 0)${tables:0:${#tables}-4}"
+    breaks 'segs go before other vertexes' XNOD 'its ssectors have 1 segs, 2 are there' \
+        NODES "$xnod$(longs 3 0 2 1 0)$later_segs$later_node"
+    breaks 'GL nodes stand in SSECTORS' XGLN 'SSECTORS ends within its ssectors' SSECTORS "$xgln$later_vertexes$(longs 2 1)"
+    breaks 'segs of 13 bytes' XGL2 'SSECTORS ends within its segs' SSECTORS "$(letters XGL2)$later_vertexes$later_ssectors$later_segs"
+    reads 'all of them' XNOD NODES "$xnod$later_vertexes$tables"
+    reads 'bytes behind them' XNOD NODES "$xnod$later_vertexes$tables$(bytes 0 0 0)"
+    reads 'a third record of VERTEXES' XNOD VERTEXES "${own[VERTEXES]}$(words 5 5)" NODES "$xnod$later_vertexes$tables"
+    reads 'XNOD goes before XGLN' XNOD NODES "$xnod$later_vertexes$tables" SSECTORS "$xgln"
+    reads 'ZNOD goes before XGLN' ZNOD NODES "$(letters ZNOD)$(bytes 120 156)" SSECTORS "$xgln"
+    reads 'GL nodes' XGLN SSECTORS "$xgln$later_vertexes$tables" NODES ''
+    reads 'nodes of DeePBSP are never broken' xNd4 NODES "$(letters xNd4)$(longs 0)" SEGS "$(bytes 1)" SSECTORS "$(bytes 1 2)"
+    for tag in XGL3 ZGLN; do reads "$tag" "$tag" SSECTORS "$(letters "$tag")"; done
+}
+
+# cases_of_cut_nodes NODES: of each front of NODES the part within which it ends, a level each.
+cases_of_cut_nodes() {
+    local all=() part parts size text=''
+    lumps 10
+    for ((size = 4; 4 * size < ${#1}; size++)); do
+        part=vertexes
+        ((size < 12)) || part=ssectors
+        ((size < 24)) || part=segs
+        ((size < 50)) || part=nodes
+        parts[13]=${1:0:4*size}
+        all+=("CUT$size" '' "${parts[@]}")
+        text+="fronts.wad: CUT$size: extended nodes XNOD: NODES ends within its $part\\n"
+    done
+    pack "${all[@]}" >fronts.wad
+    says 'broken nodes: each front' 1 "${text}82 levels in 1 files: 0 faults, 0 notes, 82 not judged\\n" '' check fronts.wad
 }

@@ -178,7 +178,7 @@ cases_of_undrawn() {
     says 'picture: the last entry' 1 '' 'wadlens: BLOCKMAP: incomplete: no THINGS where it belongs\n' picture BLOCKMAP base.wad
     says 'picture: hexen' 2 '' 'wadlens: MAP01: hexen: not read\n' picture MAP01 hexen.wad
     says 'picture: udmf' 2 '' 'wadlens: MAP03: udmf: not read\n' picture MAP03 udmf.wad
-    says 'picture: extended' 2 '' 'wadlens: E1M1: extended nodes XNOD: not read\n' picture E1M1 extended.wad
+    says 'picture: extended' 2 '' 'wadlens: E1M1: extended nodes ZNOD: not read\n' picture E1M1 extended.wad
     for tag in THINGS BLOCKMAP; do
         lumps 10
         pack MAP01 '' "${parts[@]}" >format.wad
@@ -629,7 +629,11 @@ cases_of_atlas() {
     into_new 'atlas: a level with nothing to draw' 1 '' 'index.html survey.jsonl' bare.wad
     shows 'atlas: its row' index.html '<p class="map">no picture</p>' '<h2>E1M1</h2>' '<b>0</b> linedefs'
     into_new 'atlas: levels that are not judged' 2 '' 'index.html survey.jsonl' hexen.wad udmf.wad extended.wad
-    shows 'atlas: their rows' index.html 'hexen: not read' 'udmf: not read' 'extended nodes XNOD: not read'
+    shows 'atlas: their rows' index.html 'hexen: not read' 'udmf: not read' 'extended nodes ZNOD: not read'
+    level NODES "$(letters XNOD)" >broken.wad
+    into_new 'atlas: broken nodes' 1 '' 'index.html survey.jsonl' udmf.wad broken.wad
+    shows 'atlas: their row, among the faulty' index.html 'broken.wad <span>entry 0, extended' \
+        'extended nodes XNOD: NODES ends within its vertexes' 'udmf: not read'
     lumps 10
     pack '<i>&"' '' "${parts[@]}" >'<b>&".wad'
     into_new 'atlas: names that are markup' 0 '' '1-0.svg index.html survey.jsonl' '<b>&".wad'

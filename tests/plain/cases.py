@@ -433,6 +433,10 @@ def of_formats(random: Random) -> Case:
             case 5:
                 k = random.randrange(1, 11)
                 own[k] = random.choice((USUAL[k - 1].lower(), b"GL_NODES")), own[k][1]
+            case 6:
+                tag = random.choice((b"XNOD", b"XGLN", b"XGL2"))
+                k = 7 if tag == b"XNOD" else 6
+                own[k] = own[k][0], harm.later_nodes(random, make.later(tag, draft))
         lumps += own
     data = make.file(random, lumps)
     if random.random() < 0.3:

@@ -242,6 +242,20 @@ def lumps(random: Random, found: Lumps) -> None:
             found[i] = name, random.choice(TAGS) + data
 
 
+def later_nodes(random: Random, data: bytes) -> bytes:
+    """A lump of all nodes of a level, mostly with one damage: it ends within them, or a count in front is another."""
+    match random.randrange(4):
+        case 0:
+            return data[: random.randrange(4, len(data) + 1)]
+        case 1 | 2:
+            at = random.choice((4, 8, 12, 16, 20))
+            count = int.from_bytes(data[at : at + 4], "little")
+            number = random.choice((0, count - 1, count + 1, 2147483648, 4294967295)) & 0xFFFFFFFF
+            return data[:at] + number.to_bytes(4, "little") + data[at + 4 :]
+        case _:
+            return data
+
+
 def file(random: Random, data: bytes) -> bytes:
     """One damage to a file, mostly to its header or its directory."""
     chance = random.random()

@@ -6,6 +6,7 @@ from collections.abc import Iterator
 from typing import NamedTuple
 
 from plain import later
+from plain.later_nodes import why_broken
 from plain.levels import Level, LineDef, Seg
 from plain.look import Answer
 from plain.picture import CELLS, Frame
@@ -128,21 +129,22 @@ def lines(texts: list[str]) -> bytes:
 
 
 class Format(NamedTuple):
-    """A level's format, and what tells it."""
+    """A level's format, what tells it, and why its extended nodes are broken."""
 
     name: str
     told_by: str = ""
+    broken: str = ""
 
     @property
     def verdict(self) -> int:
-        return FAULTY if self.name in ("incomplete", "outside") else UNJUDGED
+        return FAULTY if self.name in ("incomplete", "outside") or self.broken else UNJUDGED
 
     @property
     def words(self) -> str:
         return {
             "incomplete": f"incomplete: no {self.told_by} where it belongs",
             "outside": f"outside: {self.told_by}",
-            "extended": f"extended nodes {self.told_by}: not read",
+            "extended": f"extended nodes {self.told_by}: {self.broken or 'not read'}",
         }.get(self.name, f"{self.name}: not read")
 
 
@@ -167,13 +169,16 @@ def format_of(listed: list[Entry], g: int) -> Format:
             return Format("incomplete", USUAL[k - 1].decode())
     if found[10:] == [b"BEHAVIOR"]:
         return Format("hexen")
-    lumps = [lump(entry) for entry in listed[g + 1 : g + 11]]
-    for k in range(1, 11):
-        if lumps[k - 1] is None:
-            return Format("outside", USUAL[k - 1].decode())
+    lumps: list[bytes] = []
+    for k, entry in enumerate(listed[g + 1 : g + 11]):
+        data = lump(entry)
+        if data is None:
+            return Format("outside", USUAL[k].decode())
+        lumps.append(data)
     for data, tags in ((lumps[6], NODE_TAGS), (lumps[5], SSECTOR_TAGS)):
-        if data is not None and data.startswith(tags):
-            return Format("extended", data[:4].decode())
+        if data.startswith(tags):
+            tag = data[:4].decode()
+            return Format("extended", tag, why_broken(tag, *lumps[3:7]))
     return Format("doom")
 
 
@@ -628,7 +633,7 @@ def level_front(path: str, name: str, g: int, form: Format) -> dict[str, object]
     members["format"] = form.name
     if form.told_by:
         members["tag" if form.name == "extended" else "lump"] = form.told_by
-    return members
+    return members | ({"broken": form.broken} if form.broken else {})
 
 
 def survey_file(run: Run, asked: Asked, path: str, listed: list[Entry]) -> None:

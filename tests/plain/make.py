@@ -45,6 +45,29 @@ class Draft:
         return [*found, self.reject, blockmap]
 
 
+def long(value: int) -> bytes:
+    return (value & 0xFFFFFFFF).to_bytes(4, "little")
+
+
+def later_child(value: int) -> bytes:
+    """The word of a child, with the ssector's mark in its highest bit."""
+    return long((value & 32767) + 2**31 * (value & 65535 > 32767))
+
+
+def later(tag: bytes, draft: Draft) -> bytes:
+    """All nodes of a draft, as a lump of XNOD, XGLN or XGL2."""
+    linedef = long if tag == b"XGL2" else word
+    parts: list[list[bytes]] = [[], [], [], []]
+    for count, _ in draft.tables[SSECTORS]:
+        parts[1].append(long(count))
+    for v1, v2, _, line, side, _ in draft.tables[SEGS]:
+        parts[2].append(long(v1) + long(v2) + linedef(line) + bytes([side & 255]))
+    for node in draft.tables[NODES]:
+        parts[3].append(b"".join([word(value) for value in node[:12]] + [later_child(value) for value in node[12:]]))
+    front = tag + long(len(draft.tables[VERTEXES]))
+    return front + b"".join(long(len(part)) + b"".join(part) for part in parts)
+
+
 # ---- Rooms ---------------------------------------------------------------------------
 
 

@@ -17,6 +17,7 @@ import tempfile
 sys.dont_write_bytecode = True
 
 import hostile_demos as demos  # noqa: E402
+import hostile_nodes as later  # noqa: E402
 from hostile_files import FILES, INPUT, NAMES, OWN, SAMPLE, again, big_level, entry, head, level, w, whole  # noqa: E402
 
 A = argparse.ArgumentParser()
@@ -475,6 +476,8 @@ for word in ("check", "survey") if o.wadlens else ():
         )
     job(word + ": all lumps over the same bytes 255", word + " F", one_byte, ends=1)
     job(word + ": 8 levels, all lumps over the same bytes 255", word + " F", levels_over(8, b"\xff"), ends=1)
+    for told, fill, ends in later.LEVELS:
+        job("%s: %s" % (word, told), word + " F", later.extended(fill), ends=ends)
     word += " --map"
     job(word + ": 19 million linedefs at one place", word + " F", linedefs(STEP, [(0, 1, 0, 1)]))
     job(

@@ -193,7 +193,7 @@ int main(int count, char **words) {
     for (size_t k = 0; k < path_count; k++) take_file(base_count + k, paths[k]);
     if (is_found) return (int)wadlook_check(&question, files, file_count, print_found, NULL);
     uint8_t *input = question.word == WADLOOK_ASSEMBLE ? read_all(stdin, &input_len) : NULL, *answer, *messages;
-    wadlook_told told = {1 << 16, 1 << 12};
+    wadlook_told told = {1 << 20, 1 << 16};
     for (;;) {
         size_t answer_len = told.answer, messages_len = told.messages;
         answer = (uint8_t *)room(answer_len);

@@ -5,8 +5,9 @@ bytes() { printf '\\x%02x' "$@"; }
 
 # words WORD...: numbers of 16 bits.
 words() {
-    local word
-    for word; do bytes $((word & 255)) $((word >> 8 & 255)); done
+    local word all=()
+    for word; do all+=($((word & 255)) $((word >> 8 & 255))); done
+    ((${#all[@]} == 0)) || bytes "${all[@]}"
 }
 
 # times COUNT BYTES
@@ -17,28 +18,36 @@ times() {
 
 # name8 NAME: eight bytes, with NULs at the end.
 name8() {
-    local i
-    for ((i = 0; i < 8; i++)); do
-        if ((i < ${#1})); then bytes "'${1:i:1}"; else bytes 0; fi
-    done
+    local i all=()
+    for ((i = 0; i < 8; i++)); do if ((i < ${#1})); then all+=("'${1:i:1}"); else all+=(0); fi; done
+    bytes "${all[@]}"
 }
 
 # shellcheck disable=SC2046  # each number is a word
 bytes_of() { printf '\\x%s' $(od -An -v -tx1 "$1"); }
 
-# pack [NAME BYTES]...: a PWAD of these lumps, from byte 12 on without gaps, and then its directory.
+# pack [NAME BYTES]...: a PWAD of these lumps, from byte 12 on without gaps, and then its directory. No process is started for an entry.
 pack() {
-    local lumps='' directory='' count=0 at=12 size
+    local lumps='' rows=() count=0 at=12 size
     for (( ; $#; count++)); do
         size=$((${#2} / 4))
-        directory+=$(words $at $((at >> 16)) $size $((size >> 16)))$(name8 "$1")
+        rows+=("$at" "$size" "$1")
         lumps+=$2
         at=$((at + size))
         shift 2
     done
     printf "PWAD$(words $count 0 $at $((at >> 16)))"
     printf "$lumps"
-    printf "$directory"
+    printf "$(directory "${rows[@]}")"
+}
+
+# directory [PLACE SIZE NAME]...: the entries of lumps.
+directory() {
+    for (( ; $#; )); do
+        words "$1" $(($1 >> 16)) "$2" $(($2 >> 16))
+        name8 "$3"
+        shift 3
+    done
 }
 
 # node X Y DX DY CHILD0 CHILD1

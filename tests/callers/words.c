@@ -22,11 +22,12 @@ static void *room(size_t size) {
 /* The library looks at no more bytes of a file but their number. */
 #define LARGEST 268435456
 
-/* Room for all of a file and a byte, or some where it doesn't tell its length. */
+/* Room for all of a file and a byte, or some where it doesn't tell its length; never for more than shows that it is too much. */
 static size_t room_for(FILE *from) {
     long end = fseek(from, 0, SEEK_END) ? 0 : ftell(from);
     rewind(from);
-    return end > 0 && end <= LARGEST ? (size_t)end + 1 : 1 << 16;
+    if (end > LARGEST) return LARGEST + 1;
+    return end > 0 ? (size_t)end + 1 : 1 << 16;
 }
 
 /* All that a stream has, or enough of it to show that this is too much. */
@@ -34,7 +35,7 @@ static uint8_t *read_all(FILE *from, size_t *size) {
     size_t most = room_for(from);
     uint8_t *bytes = (uint8_t *)room(most);
     for (*size = 0; (*size += fread(bytes + *size, 1, most - *size, from)) == most && most <= LARGEST;) {
-        most *= 2;
+        most = most < LARGEST / 2 ? 2 * most : LARGEST + 1;
         if (!(bytes = (uint8_t *)realloc(bytes, most))) stop("no memory left");
     }
     return bytes;

@@ -3,9 +3,8 @@
 
 # many_segs: in wide.wad the sample level, an ssector of which begins with seg 32768.
 many_segs() {
-    local i
     [[ ! -e wide.wad ]] || return
-    level SEGS "$(for ((i = 0; i < 32768; i++)); do words 0 1 16384 0 0 0; done)$(words 1 0 -16384 0 1 0)" \
+    level SEGS "$(times 32768 "$(words 0 1 16384 0 0 0)")$(words 1 0 -16384 0 1 0)" \
         SSECTORS "$(words 1 0 1 -32768)" >wide.wad
 }
 
@@ -326,7 +325,7 @@ rooms=(THINGS "$starts" VERTEXES "$(words 0 0 0 64 64 64 64 0 128 64 128 0)" SEC
 # aren't looked for without is told at last.
 notes=()
 warns() {
-    local line text='' status=0 codes='' code lacking=$neither member=',"unlooked":["W9","W10","W25"]'
+    local line text='' status=0 codes='' code seen=() lacking=$neither member=',"unlooked":["W9","W10","W25"]'
     case " ${behind[*]} " in
         *' TEXTURE1 '*) lacking=$no_flats member=',"unlooked":["W10","W25"]' ;;
         *' F_START '*) lacking=$no_textures member=',"unlooked":["W9"]' ;;
@@ -338,10 +337,8 @@ warns() {
     says "$1" 0 "$text" "$lacking" check --map --max 0 warned.wad
     (($3 == 0)) || status=1
     says "$1, strict" "$status" "$text" "$lacking" check --strict --max 0 --map warned.wad
-    for code in W{1..25}; do
-        line=$(grep -c "^$code " <<<"$2")
-        ((line == 0)) || codes+=",\"$code\":$line"
-    done
+    while read -r code _; do [[ -z $code ]] || seen[${code#W}]=$((${seen[${code#W}]-0} + 1)); done <<<"$2"
+    for code in "${!seen[@]}"; do codes+=",\"W$code\":${seen[code]}"; done
     run_on '' survey --map warned.wad
     [[ $(<output) != *"},\"warnings\":{${codes#,}}$member}" ]] || : >output
     judge "$1, surveyed" 0 '' ''
